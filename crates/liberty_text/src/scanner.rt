@@ -1,0 +1,316 @@
+//! Liberty text to tokens, byte by byte.
+
+ghost use Rattle.std.specs.Prelude.{◌≡◌, ◌++◌, ◌+◌, ◌<◌, ◌^◌, length, OnOk, IfOk, IfErr};
+ghost use Rattle.std.specs.Prelude.{[], ◌∷◌};
+ghost use Rattle.liberty_text.specs.Scanner.{class_of, token, slash_at, opened, in_word_by, comment_in_word, in_text, in_comment, in_continuation, step, closing, scan_of};
+ghost use Rattle.liberty_text.specs.Tokens.{AreTokensOf, IsFaultOf};
+
+use crate::token::{Memory, Scan, Stop, TextFault, Token, TokenKind};
+use std::alloc::Global;
+
+/// What a byte is outside texts and comments.
+#[derive(Clone, Copy, Debug, PartialEq, Eq)]
+enum Class {
+    LineEnd,
+    Blank,
+    Mark(TokenKind),
+    Quote,
+    Backslash,
+    WordByte,
+    Bad,
+}
+
+/// What stands open at a place of the text. `line_before` is that of the token to come.
+#[derive(Clone, Copy, Debug, PartialEq, Eq)]
+enum Mode {
+    Between {
+        line_before: bool,
+    },
+    /// `slash` is the offset of the byte before the place, where that is a slash of this word.
+    InWord {
+        at: usize,
+        line_before: bool,
+        slash: Option<usize>,
+    },
+    /// `escaped` says that the byte before the place is a backslash.
+    InText {
+        at: usize,
+        line_before: bool,
+        escaped: bool,
+    },
+    /// `star` says that the byte before the place is a star which may close the comment.
+    InComment {
+        at: usize,
+        line_before: bool,
+        star: bool,
+    },
+    /// After a backslash and blanks, where only blanks and a line end may follow.
+    InContinuation {
+        at: usize,
+        line_before: bool,
+    },
+    /// After a byte with which no token begins. Nothing more is read.
+    Stopped {
+        at: usize,
+    },
+}
+
+#[derive(Drop)]
+struct Scanner {
+    tokens: Vec<Token>,
+    mode: Mode,
+}
+
+fn class_of(byte: u8) -> Class
+    ensures { result ≡ class_of byte }
+{
+    match byte {
+        b'\n' => Class::LineEnd,
+        b' ' | b'\t' | b'\r' => Class::Blank,
+        b'{' | b'}' | b'(' | b')' => Class::Mark(TokenKind::Brace(byte)),
+        b':' => Class::Mark(TokenKind::Colon),
+        b';' => Class::Mark(TokenKind::Semicolon),
+        b',' => Class::Mark(TokenKind::Comma),
+        b'"' => Class::Quote,
+        b'\\' => Class::Backslash,
+        b'!'..=b'~' => Class::WordByte,
+        _ => Class::Bad,
+    }
+}
+
+impl Scanner {
+    fn push(
+        &mut self,
+        kind: TokenKind,
+        at: usize,
+        end: usize,
+        line_before: bool,
+    ) -> Result<(), Memory>
+        ensures tokens { OnOk result (self.new.tokens.items ≡ self.old.tokens.items ++ token kind at end line_before ∷ []) }
+        ensures mode { self.new.mode ≡ self.old.mode }
+    {
+        self.tokens.push(Token {
+            kind,
+            at,
+            end,
+            line_before,
+        })?;
+        Ok(())
+    }
+
+    /// A byte between tokens.
+    fn open(&mut self, line_before: bool, at: usize, byte: u8) -> Result<(), Memory>
+        requires { at + 1 < 2 ^ 64 }
+        ensures mode { OnOk result (self.new.mode ≡ (opened line_before at byte).0) }
+        ensures tokens { OnOk result (self.new.tokens.items ≡ self.old.tokens.items ++ (opened line_before at byte).1) }
+    {
+        self.mode = match class_of(byte) {
+            Class::LineEnd => Mode::Between { line_before: true },
+            Class::Blank => Mode::Between { line_before },
+            Class::Mark(kind) => {
+                self.push(kind, at, at + 1, line_before)?;
+                Mode::Between { line_before: false }
+            }
+            Class::Quote => Mode::InText {
+                at,
+                line_before,
+                escaped: false,
+            },
+            Class::Backslash => Mode::InContinuation { at, line_before },
+            Class::WordByte => Mode::InWord {
+                at,
+                line_before,
+                slash: slash_at(at, byte),
+            },
+            Class::Bad => Mode::Stopped { at },
+        };
+        Ok(())
+    }
+
+    /// A byte after those of the word that begins at `begun`.
+    fn go_on(&mut self, begun: usize, line_before: bool, at: usize, byte: u8) -> Result<(), Memory>
+        requires { at + 1 < 2 ^ 64 }
+        ensures mode { OnOk result (self.new.mode ≡ (in_word_by begun line_before at byte (class_of byte)).0) }
+        ensures tokens { OnOk result (self.new.tokens.items ≡ self.old.tokens.items ++ (in_word_by begun line_before at byte (class_of byte)).1) }
+    {
+        if class_of(byte) == Class::WordByte {
+            self.mode = Mode::InWord {
+                at: begun,
+                line_before,
+                slash: slash_at(at, byte),
+            };
+            return Ok(());
+        }
+        self.push(TokenKind::Word, begun, at, line_before)?;
+        self.open(false, at, byte)
+    }
+
+    /// The word that begins at `begun` ends before the slash of a comment.
+    fn begin_comment(&mut self, begun: usize, line_before: bool, slash: usize) -> Result<(), Memory>
+        ensures mode { OnOk result (self.new.mode ≡ (comment_in_word begun line_before slash).0) }
+        ensures tokens { OnOk result (self.new.tokens.items ≡ self.old.tokens.items ++ (comment_in_word begun line_before slash).1) }
+    {
+        let is_word = begun != slash;
+        if is_word {
+            self.push(TokenKind::Word, begun, slash, line_before)?;
+        }
+        self.mode = Mode::InComment {
+            at: slash,
+            line_before: line_before && !is_word,
+            star: false,
+        };
+        Ok(())
+    }
+
+    /// A byte of the text that begins at `begun`.
+    fn go_on_text(
+        &mut self,
+        begun: usize,
+        line_before: bool,
+        escaped: bool,
+        at: usize,
+        byte: u8,
+    ) -> Result<(), Memory>
+        requires { at + 1 < 2 ^ 64 }
+        ensures mode { OnOk result (self.new.mode ≡ (in_text begun line_before escaped at byte).0) }
+        ensures tokens { OnOk result (self.new.tokens.items ≡ self.old.tokens.items ++ (in_text begun line_before escaped at byte).1) }
+    {
+        if byte == b'"' && !escaped {
+            self.push(TokenKind::Text, begun, at + 1, line_before)?;
+            self.mode = Mode::Between { line_before: false };
+        } else {
+            self.mode = Mode::InText {
+                at: begun,
+                line_before,
+                escaped: byte == b'\\',
+            };
+        }
+        Ok(())
+    }
+
+    /// The byte at an offset, after those before it.
+    fn step(&mut self, at: usize, byte: u8) -> Result<(), Memory>
+        requires { at + 1 < 2 ^ 64 }
+        ensures mode { OnOk result (self.new.mode ≡ (step self.old.mode at byte).0) }
+        ensures tokens { OnOk result (self.new.tokens.items ≡ self.old.tokens.items ++ (step self.old.mode at byte).1) }
+    {
+        match self.mode {
+            Mode::Between { line_before } => self.open(line_before, at, byte)?,
+            Mode::InWord {
+                at: begun,
+                line_before,
+                slash: Some(slash),
+            } if byte == b'*' => self.begin_comment(begun, line_before, slash)?,
+            Mode::InWord {
+                at: begun,
+                line_before,
+                ..
+            } => self.go_on(begun, line_before, at, byte)?,
+            Mode::InText {
+                at: begun,
+                line_before,
+                escaped,
+            } => self.go_on_text(begun, line_before, escaped, at, byte)?,
+            Mode::InComment {
+                at: begun,
+                line_before,
+                star,
+            } => self.mode = after_comment_byte(begun, line_before, star, byte),
+            Mode::InContinuation {
+                at: begun,
+                line_before,
+            } => self.mode = after_continuation_byte(begun, line_before, byte),
+            Mode::Stopped { .. } => {}
+        }
+        Ok(())
+    }
+
+    /// What there is where the bytes end, at an offset.
+    fn finish(mut self, at: usize) -> Result<Scan, Memory>
+        ensures tokens { IfOk result (λ found. found.tokens.items ≡ self.tokens.items ++ (closing self.mode at).0) }
+        ensures stop { IfOk result (λ found. found.stop ≡ (closing self.mode at).1) }
+    {
+        let stop = match self.mode {
+            Mode::Between { .. } => Stop::End,
+            Mode::InWord {
+                at: begun,
+                line_before,
+                ..
+            } => {
+                self.push(TokenKind::Word, begun, at, line_before)?;
+                Stop::End
+            }
+            Mode::InText { at: begun, .. } => Stop::OpenText(begun),
+            Mode::InComment { at: begun, .. } => Stop::OpenComment(begun),
+            Mode::InContinuation { at: begun, .. } => Stop::OpenContinuation(begun),
+            Mode::Stopped { at: begun } => Stop::BadByte(begun),
+        };
+        let Scanner { tokens, .. } = self;
+        Ok(Scan { tokens, stop })
+    }
+}
+
+/// What stands open after a byte of the comment that begins at `begun`.
+fn after_comment_byte(begun: usize, line_before: bool, star: bool, byte: u8) -> Mode
+    ensures { result ≡ (in_comment begun line_before star byte).0 }
+{
+    if byte == b'/' && star {
+        Mode::Between { line_before }
+    } else {
+        Mode::InComment {
+            at: begun,
+            line_before: line_before || byte == b'\n',
+            star: byte == b'*',
+        }
+    }
+}
+
+/// What stands open after a byte behind the backslash at `begun` and blanks.
+fn after_continuation_byte(begun: usize, line_before: bool, byte: u8) -> Mode
+    ensures { result ≡ (in_continuation begun line_before (class_of byte)).0 }
+{
+    match class_of(byte) {
+        Class::LineEnd => Mode::Between { line_before },
+        Class::Blank => Mode::InContinuation {
+            at: begun,
+            line_before,
+        },
+        _ => Mode::Stopped { at: begun },
+    }
+}
+
+/// The offset of a slash, where the byte there is one.
+fn slash_at(at: usize, byte: u8) -> Option<usize>
+    ensures { result ≡ slash_at at byte }
+{
+    if byte == b'/' { Some(at) } else { None }
+}
+
+/// The tokens of a text up to the place where it stops, and what stops it there.
+pub fn scan(alloc: Global, bytes: &[u8]) -> Result<Scan, Memory>
+    ensures tokens { IfOk result (λ found. found.tokens.items ≡ (scan_of bytes.now).0) }
+    ensures stop { IfOk result (λ found. found.stop ≡ (scan_of bytes.now).1) }
+{
+    let mut scanner = Scanner {
+        tokens: Vec::new(alloc),
+        mode: Mode::Between { line_before: false },
+    };
+    for (at, byte) in bytes.iter().enumerate() {
+        scanner.step(at, *byte)?;
+    }
+    scanner.finish(bytes.len())
+}
+
+/// The tokens of a text, or its first fault.
+pub fn tokens(alloc: Global, bytes: &[u8]) -> Result<Vec<Token>, TextFault>
+    ensures read { IfOk result (λ found. AreTokensOf found.items bytes.now) }
+    ensures fault { IfErr result (λ fault. IsFaultOf fault bytes.now) }
+{
+    let Scan { tokens, stop } = scan(alloc, bytes)?;
+    match stop {
+        Stop::End => Ok(tokens),
+        Stop::BadByte(at) | Stop::OpenContinuation(at) => Err(TextFault::BadByte(at)),
+        Stop::OpenText(at) => Err(TextFault::OpenText(at)),
+        Stop::OpenComment(at) => Err(TextFault::OpenComment(at)),
+    }
+}

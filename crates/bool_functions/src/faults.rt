@@ -1,0 +1,58 @@
+use std::alloc::{AllocError, AllocFailed};
+use thiserror::Error;
+
+/// Why a function text was not read.
+#[derive(Debug, Drop, Error)]
+pub enum FunctionFault {
+    /// The text has more than 4,096 bytes.
+    #[error("longer than 4096 bytes")]
+    TooLong,
+    /// The offset, from 0, of the first token with which no function text goes on, or the text's length.
+    #[error("malformed at {0}")]
+    Malformed(usize),
+    /// The offset, from 0, of the first name that is not in the list.
+    #[error("unknown name at {0}")]
+    UnknownName(usize),
+    /// Memory was wanted and not there.
+    #[error("out of memory")]
+    Memory,
+}
+
+/// Memory was wanted and not there.
+#[derive(Debug, Drop, Error)]
+#[error("out of memory")]
+pub struct Memory;
+
+impl From<AllocError> for FunctionFault {
+    ghost use Rattle.std.specs.Prelude.{◌≡◌};
+    ghost use Rattle.bool_functions.specs.declared.faults.FunctionFault.TheVariants as fault;
+
+    ghost from_gives = { λ _ e. e ≡ fault.Memory };
+
+    fn from(_: AllocError) -> FunctionFault {
+        FunctionFault::Memory
+    }
+}
+
+impl<T: Drop> From<AllocFailed<T>> for FunctionFault {
+    ghost use Rattle.std.specs.Prelude.{◌≡◌};
+    ghost use Rattle.bool_functions.specs.declared.faults.FunctionFault.TheVariants as fault;
+
+    ghost from_gives = { λ _ e. e ≡ fault.Memory };
+
+    fn from(_: AllocFailed<T>) -> FunctionFault {
+        FunctionFault::Memory
+    }
+}
+
+impl From<AllocError> for Memory {
+    fn from(_: AllocError) -> Memory {
+        Memory
+    }
+}
+
+impl<T: Drop> From<AllocFailed<T>> for Memory {
+    fn from(_: AllocFailed<T>) -> Memory {
+        Memory
+    }
+}

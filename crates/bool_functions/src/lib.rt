@@ -1,0 +1,10 @@
+//! Function texts of a cell library: their trees, their values, and lists of names.
+#![tactic(auto)]
+
+mod faults;
+mod name_list;
+mod tree;
+
+pub use faults::{FunctionFault, Memory};
+pub use name_list::Names;
+pub use tree::{Function, Node};

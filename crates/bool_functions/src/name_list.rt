@@ -1,0 +1,76 @@
+//! An ordered list of distinct names.
+ghost use Rattle.std.specs.Prelude.{◌≡◌, [], ◌∷◌, ◌++◌, ◌<◌, length, slice_get, IfOk, OnErr};
+ghost use Rattle.bool_functions.specs.NameList.{number_of, Adds, AreDistinct};
+
+use crate::faults::Memory;
+use indexmap::IndexSet;
+use std::alloc::Global;
+use std::marker::Model;
+
+/// Distinct names, numbered from 0 in the order in which they were added. Contracts see the list of their bytes.
+#[derive(Drop)]
+pub struct Names {
+    alloc: Global,
+    set: IndexSet<Vec<u8>>,
+}
+
+impl Model for Names {
+    ghost use Rattle.std.specs.Prelude.{List, ℕ, map};
+    ghost use Rattle.bool_functions.specs.NameBytes.{bytes_of};
+    ghost use Rattle.bool_functions.specs.NameList.{AreDistinct};
+
+    ghost Value = { List (List ℕ) };
+
+    ghost view = { λ n. map bytes_of n.set.keys };
+
+    ghost invariant = { λ n. AreDistinct (map bytes_of n.set.keys) };
+}
+
+impl Names {
+    /// The list without names. Takes no memory.
+    pub fn new(alloc: Global) -> Names
+        ensures { result ≡ [] }
+    {
+        Names {
+            alloc,
+            set: IndexSet::new(alloc),
+        }
+    }
+
+    pub fn len(&self) -> usize
+        ensures { result ≡ length self.now }
+    {
+        self.set.len()
+    }
+
+    /// The name with the number `i`.
+    pub fn name(&self, i: usize) -> &[u8]
+        requires { i < length self.now }
+        ensures { slice_get self.now i ≡ Some result.now }
+    {
+        let name = &self.set[i];
+        name.as_slice()
+    }
+
+    /// The number of a name, and nothing where it is not in the list.
+    pub fn number(&self, name: &[u8]) -> Option<usize>
+        ensures { result ≡ number_of self.now name.now }
+    {
+        self.set.get_index_of(name)
+    }
+
+    /// Adds a name at the end and answers its number, which is the length before. Nothing is answered exactly where
+    /// the name is in the list already. Then, and where memory is wanting, the list is as before.
+    pub fn add(&mut self, name: &[u8]) -> Result<Option<usize>, Memory>
+        ensures added { IfOk result (λ number. Adds self.old name.now number self.new) }
+        ensures err { OnErr result (self.new ≡ self.old) }
+    {
+        if self.set.contains(name) {
+            return Ok(None);
+        }
+        let number = self.set.len();
+        let kept = Vec::from_slice(self.alloc, name)?;
+        self.set.insert(kept)?;
+        Ok(Some(number))
+    }
+}

@@ -1,0 +1,12 @@
+//! The desk: all that a command asks of the world outside it. Words are read, files are bound, read and written
+//! through it, and nothing else reaches out. Three desks keep the one trait: over memory, over memory without
+//! failures, and over real files.
+#![tactic(auto)]
+
+mod outside;
+mod slots;
+mod writing;
+
+pub use outside::{Desk, Failed};
+pub use slots::{InSlot, OutSlot, Slot};
+pub use writing::{write_pieces, write_whole};

@@ -1,0 +1,10 @@
+use Rattle.std.proofs.Common.{◌≤◌, length, arith}
+use Rattle.trit_cubes.proofs.WordLemmas.{fixed_word-below, value_word-below}
+use Rattle.trit_cubes.specs.Words.{fixed_word, value_word}
+use Rattle.trit_cubes.proofs.cubes.Cube.words.Goals as goal
+
+pub returns-clause-fixed_below : goal.returns-clause-fixed_below
+returns-clause-fixed_below c = rw c.self.invariant.2 (fixed_word-below _ (omega (arith, c.self.invariant.0, c.self.invariant.1)))
+
+pub returns-clause-values_below : goal.returns-clause-values_below
+returns-clause-values_below c = rw c.self.invariant.3 (value_word-below _ (omega (arith, c.self.invariant.0, c.self.invariant.1)))

@@ -1,0 +1,5 @@
+pub mod Filling
+pub mod Resolution
+pub mod Sets
+pub mod Prime
+pub mod Words

@@ -1,0 +1,33 @@
+ghost use Rattle.std.specs.Prelude.{◌≡◌};
+ghost use Rattle.trit_cubes.specs.Filling.{is_unknown};
+ghost use Rattle.trit_cubes.specs.Resolution.{agreed};
+
+/// A truth value of a pin or a state.
+#[derive(Clone, Copy, Debug, PartialEq, Eq)]
+pub enum Trit {
+    /// 0.
+    Zero,
+    /// 1.
+    One,
+    /// Not known to be 0 or 1; at a place of a cube, free.
+    Unknown,
+}
+
+impl Trit {
+    /// Whether this is neither 0 nor 1.
+    pub fn is_unknown(self) -> bool
+        ensures { result ≡ is_unknown self }
+    {
+        match self {
+            Trit::Unknown => true,
+            _ => false,
+        }
+    }
+
+    /// The value of both where they are equal, else unknown.
+    pub fn agreed(self, other: Trit) -> Trit
+        ensures { result ≡ agreed self other }
+    {
+        if self == other { self } else { Trit::Unknown }
+    }
+}

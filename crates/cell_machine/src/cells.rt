@@ -1,0 +1,34 @@
+//! A cell as data.
+ghost use Rattle.std.specs.Prelude.{IsTrue};
+ghost use Rattle.cell_machine.specs.CellRules.{is_cell};
+
+use crate::arcs::Arc;
+use crate::checks::Check;
+use crate::groups::StateGroup;
+use crate::outputs::OutputPin;
+use crate::pins::Pin;
+use sqlite_items::Items;
+
+/// A cell: its pins, its states, its outputs and its timing.
+///
+/// The names of its functions are numbered. With P pins the name i below P is pin i, the name P + 2g is the state of
+/// group g, and P + 2g + 1 is the group's second variable. An internal pin stands as the state that it names.
+#[derive(Debug, Drop)]
+pub struct Cell {
+    /// The name, in bytes.
+    pub name: Items<u8>,
+    /// The cell's place among all cells of its library.
+    pub number: usize,
+    /// The pins, in their order.
+    pub pins: Items<Pin>,
+    /// The groups that hold a state, in their order.
+    pub groups: Items<StateGroup>,
+    /// One for each output pin, in the order of the pins.
+    pub outputs: Items<OutputPin>,
+    /// The timing checks.
+    pub checks: Items<Check>,
+    /// The delay arcs, in the order of the output pins where they end.
+    pub arcs: Items<Arc>,
+    /// What holds of every cell.
+    pub ghost sound: { IsTrue (is_cell name pins groups outputs checks arcs) },
+}

@@ -1,2 +1,6 @@
 pub mod Symbols
 pub mod Step
+pub mod Text
+pub mod Written
+pub mod Reading
+pub mod Shown

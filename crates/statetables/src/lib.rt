@@ -2,8 +2,14 @@
 //! give.
 #![tactic(auto)]
 
+mod fault;
+mod read;
 mod symbols;
 mod table;
+mod text;
+mod written;
 
+pub use fault::TableFault;
+pub use read::read_table;
 pub use symbols::{CurrentSymbol, InSymbol, NextSymbol};
 pub use table::{StateTable, TableRow};

@@ -1,2 +1,3 @@
 pub mod Scanner
+pub mod TokenLaws
 pub mod Tokens

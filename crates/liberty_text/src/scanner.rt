@@ -3,7 +3,7 @@
 ghost use Rattle.std.specs.Prelude.{◌≡◌, ◌++◌, ◌+◌, ◌<◌, ◌^◌, length, OnOk, IfOk, IfErr};
 ghost use Rattle.std.specs.Prelude.{[], ◌∷◌};
 ghost use Rattle.liberty_text.specs.Scanner.{class_of, token, slash_at, opened, in_word_by, comment_in_word, in_text, in_comment, in_continuation, step, closing, scan_of};
-ghost use Rattle.liberty_text.specs.Tokens.{AreTokensOf, IsFaultOf};
+ghost use Rattle.liberty_text.specs.Tokens.{Reads, AreTokensOf, IsFaultOf};
 
 use crate::token::{Memory, Scan, Stop, TextFault, Token, TokenKind};
 use std::alloc::Global;
@@ -286,8 +286,18 @@ fn slash_at(at: usize, byte: u8) -> Option<usize>
     if byte == b'/' { Some(at) } else { None }
 }
 
+#[tactic(auto, using(crate::proofs::Sound::reads))]
 /// The tokens of a text up to the place where it stops, and what stops it there.
 pub fn scan(alloc: Global, bytes: &[u8]) -> Result<Scan, Memory>
+    ensures grammar { IfOk result (λ found. Reads bytes.now found.tokens.items found.stop) }
+    ensures tokens { IfOk result (λ found. found.tokens.items ≡ (scan_of bytes.now).0) }
+    ensures stop { IfOk result (λ found. found.stop ≡ (scan_of bytes.now).1) }
+{
+    scan_bytes(alloc, bytes)
+}
+
+/// `scan`, step by step.
+fn scan_bytes(alloc: Global, bytes: &[u8]) -> Result<Scan, Memory>
     ensures tokens { IfOk result (λ found. found.tokens.items ≡ (scan_of bytes.now).0) }
     ensures stop { IfOk result (λ found. found.stop ≡ (scan_of bytes.now).1) }
 {

@@ -1,1 +1,3 @@
 pub mod Wrote
+pub mod Took
+pub mod Fronts

@@ -1,3 +1,4 @@
 pub mod Slots
 pub mod Plan
 pub mod Desk
+pub mod Read

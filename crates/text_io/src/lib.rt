@@ -4,9 +4,11 @@
 #![tactic(auto)]
 
 mod outside;
+mod reading;
 mod slots;
 mod writing;
 
 pub use outside::{Desk, Failed};
+pub use reading::{ReadFault, Taken, read_all};
 pub use slots::{InSlot, OutSlot, Slot};
 pub use writing::{write_pieces, write_whole};

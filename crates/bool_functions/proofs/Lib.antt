@@ -1,1 +1,5 @@
 pub mod NameLists
+pub mod Elements
+pub mod Supports
+pub mod Trees
+pub mod Tables

@@ -1,3 +1,5 @@
 pub mod Tree
+pub mod Support
+pub mod Point
 pub mod NameBytes
 pub mod NameList

@@ -1,6 +1,7 @@
 -- What the tree of a function stands for.
-use Rattle.std.specs.Prelude.{ℕ, ◌+◌, max, Bool, true, false, not, ◌&&◌, ◌||◌, List, [], ◌∷◌, ◌++◌, slice_index_or}
+use Rattle.std.specs.Prelude.{ℕ, ◌+◌, max, Bool, true, false, not, ◌&&◌, ◌||◌, List, [], ◌∷◌, ◌++◌, slice_index, slice_index_or, Contains}
 use Rattle.bool_functions.specs.declared.tree.Node.{Node}
+use Rattle.bool_functions.specs.declared.tree.Node.TheVariants as node
 use Rattle.bool_functions.specs.declared.tree.Node.TheOpen.{Node-F}
 use Rattle.bool_functions.specs.declared.tree.Node.TheFolds.{fold-Node}
 
@@ -53,3 +54,21 @@ bound_step (Node-F.Or f g) = max f g
 -- the least number that is above the number of each written name
 abbrev pub name_bound : Node → ℕ
 name_bound = fold-Node ℕ bound_step
+
+-- the name i is written in the tree
+abbrev pub Has : Node → ℕ → Type 0
+Has f i = Contains (names_of f) i
+
+-- One operator over the renamed parts, and the new number for a name.
+abbrev pub renamed_step : List ℕ → Node-F Node → Node
+renamed_step to Node-F.Zero = node.Zero
+renamed_step to Node-F.One = node.One
+renamed_step to (Node-F.Name i) = node.Name (slice_index to i)
+renamed_step to (Node-F.Not f) = node.Not f
+renamed_step to (Node-F.Xor f g) = node.Xor f g
+renamed_step to (Node-F.And f g) = node.And f g
+renamed_step to (Node-F.Or f g) = node.Or f g
+
+-- the tree in which entry i of the list stands for each name i
+abbrev pub renamed_by : List ℕ → Node → Node
+renamed_by to = fold-Node Node (renamed_step to)

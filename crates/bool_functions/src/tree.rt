@@ -1,9 +1,15 @@
 //! A function as the tree of its operators.
-ghost use Rattle.std.specs.Prelude.{◌≡◌, ◌≤◌, ◌↔◌, IsTrue, Contains, length};
-ghost use Rattle.bool_functions.specs.Tree.{value_of, name_bound, names_of};
+ghost use Rattle.std.specs.Prelude.{◌≡◌, ◌≤◌, ◌^◌, ◌↔◌, ◌==◌, ℕ, IsTrue, IfOk, OnOk, Contains, EachIndex, length, slice_get};
+ghost use Rattle.std.specs.List.{list_any};
+ghost use Rattle.std.specs.List.Sorted.{IsStrictlyIncreasing};
+ghost use Rattle.bool_functions.specs.Tree.{value_of, value_by, name_bound, names_of, Has, renamed_by};
+ghost use Rattle.bool_functions.specs.Support.{inserted, insert_all, support_of};
+ghost use Rattle.bool_functions.specs.Point.{entry_of, IsTable, HasValues};
 ghost use Rattle.bool_functions.specs.declared.tree.Node.TheVariants as node;
 
+use crate::faults::Memory;
 use sqlite_items::Boxed;
+use std::alloc::{AllocError, Global};
 use std::marker::Model;
 
 /// An operator of a function with its parts, or one of its leaves. A name is a number that a list of names gives it.
@@ -57,6 +63,50 @@ impl Function {
     {
         value(&self.node, bits)
     }
+
+    /// Whether the two trees are equal.
+    pub fn same(&self, other: &Function) -> bool
+        ensures { IsTrue result ↔ (self.now ≡ other.now) }
+    {
+        same(&self.node, &other.node)
+    }
+
+    /// Whether the name `i` is written in the tree.
+    pub fn has(&self, i: usize) -> bool
+        ensures { IsTrue result ↔ Has self.now i }
+    {
+        has(&self.node, i)
+    }
+
+    /// The tree in which `to[i]` stands for each name `i`.
+    pub fn renamed(&self, alloc: Global, to: &[usize]) -> Result<Function, Memory>
+        requires { name_bound self.now ≤ length to.now }
+        ensures { IfOk result (λ f. f ≡ renamed_by to.now self.now) }
+    {
+        Ok(Function {
+            node: renamed(&self.node, alloc, to)?,
+        })
+    }
+
+    /// The numbers of the written names, each once, in ascending order.
+    pub fn support(&self, alloc: Global) -> Result<Vec<usize>, Memory>
+        ensures ascending { IfOk result (λ v. IsStrictlyIncreasing v.items) }
+        ensures written { IfOk result (λ v. (i : ℕ) → Contains v.items i ↔ Has self.now i) }
+        ensures list { IfOk result (λ v. v.items ≡ support_of self.now) }
+    {
+        support(&self.node, alloc)
+    }
+
+    /// The value at each point over these places, at the point's number, in which place `i` weighs 2 to the power `i`.
+    pub fn table(&self, alloc: Global, places: &[usize]) -> Result<Vec<bool>, Memory>
+        requires few { length places.now ≤ 10 }
+        requires inside { (i : ℕ) → Has self.now i → Contains places.now i }
+        ensures len { IfOk result (λ v. length v.items ≡ 2 ^ length places.now) }
+        ensures points { IfOk result (λ v. IsTable places.now self.now v.items) }
+        ensures values { IfOk result (λ v. HasValues places.now self.now v.items) }
+    {
+        table(&self.node, alloc, places)
+    }
 }
 
 fn value(node: &Node, bits: &[bool]) -> bool
@@ -72,4 +122,143 @@ fn value(node: &Node, bits: &[bool]) -> bool
         Node::And(left, right) => value(left.get(), bits) && value(right.get(), bits),
         Node::Or(left, right) => value(left.get(), bits) || value(right.get(), bits),
     }
+}
+
+fn same(node: &Node, other: &Node) -> bool
+    ensures { IsTrue result ↔ (node.now ≡ other.now) }
+{
+    match (node, other) {
+        (Node::Zero, Node::Zero) | (Node::One, Node::One) => true,
+        (Node::Name(i), Node::Name(j)) => i == j,
+        (Node::Not(part), Node::Not(like)) => same(part.get(), like.get()),
+        (Node::Xor(left, right), Node::Xor(first, second))
+        | (Node::And(left, right), Node::And(first, second))
+        | (Node::Or(left, right), Node::Or(first, second)) => {
+            same(left.get(), first.get()) && same(right.get(), second.get())
+        }
+        _ => false,
+    }
+}
+
+#[tactic(auto, using(crate::proofs::Trees::names_by_top))]
+fn has(node: &Node, i: usize) -> bool
+    ensures { result ≡ list_any (λ j. j == i) (names_of node.now) }
+{
+    match node {
+        Node::Zero | Node::One => false,
+        Node::Name(j) => *j == i,
+        Node::Not(part) => has(part.get(), i),
+        Node::Xor(left, right) | Node::And(left, right) | Node::Or(left, right) => {
+            has(left.get(), i) || has(right.get(), i)
+        }
+    }
+}
+
+fn renamed(node: &Node, alloc: Global, to: &[usize]) -> Result<Node, AllocError>
+    requires { name_bound node.now ≤ length to.now }
+    ensures { IfOk result (λ f. f ≡ renamed_by to.now node.now) }
+{
+    Ok(match node {
+        Node::Zero => Node::Zero,
+        Node::One => Node::One,
+        Node::Name(i) => Node::Name(to[*i]),
+        Node::Not(part) => Node::Not(Boxed::new(alloc, renamed(part.get(), alloc, to)?)?),
+        Node::Xor(left, right) => Node::Xor(
+            Boxed::new(alloc, renamed(left.get(), alloc, to)?)?,
+            Boxed::new(alloc, renamed(right.get(), alloc, to)?)?,
+        ),
+        Node::And(left, right) => Node::And(
+            Boxed::new(alloc, renamed(left.get(), alloc, to)?)?,
+            Boxed::new(alloc, renamed(right.get(), alloc, to)?)?,
+        ),
+        Node::Or(left, right) => Node::Or(
+            Boxed::new(alloc, renamed(left.get(), alloc, to)?)?,
+            Boxed::new(alloc, renamed(right.get(), alloc, to)?)?,
+        ),
+    })
+}
+
+fn support(node: &Node, alloc: Global) -> Result<Vec<usize>, Memory>
+    ensures { IfOk result (λ v. v.items ≡ support_of node.now) }
+{
+    let mut found = Vec::new(alloc);
+    collect(node, &mut found)?;
+    Ok(found)
+}
+
+#[tactic(auto, using(crate::proofs::Trees::names_by_top))]
+fn collect(node: &Node, found: &mut Vec<usize>) -> Result<(), Memory>
+    ensures { OnOk result (found.new.items ≡ insert_all found.old.items (names_of node.now)) }
+{
+    match node {
+        Node::Zero | Node::One => Ok(()),
+        Node::Name(i) => insert(found, *i),
+        Node::Not(part) => collect(part.get(), found),
+        Node::Xor(left, right) | Node::And(left, right) | Node::Or(left, right) => {
+            collect(left.get(), found)?;
+            collect(right.get(), found)
+        }
+    }
+}
+
+fn insert(found: &mut Vec<usize>, i: usize) -> Result<(), Memory>
+    ensures { OnOk result (found.new.items ≡ inserted i found.old.items) }
+{
+    for at in 0..found.len() {
+        if found[at] == i {
+            return Ok(());
+        }
+        if i < found[at] {
+            found.insert(at, i)?;
+            return Ok(());
+        }
+    }
+    found.push(i)?;
+    Ok(())
+}
+
+fn table(node: &Node, alloc: Global, places: &[usize]) -> Result<Vec<bool>, Memory>
+    requires { length places.now ≤ 10 }
+    ensures len { IfOk result (λ v. length v.items ≡ 2 ^ length places.now) }
+    ensures entries { IfOk result (λ v. EachIndex v.items (λ k. slice_get v.items k ≡ Some (value_by (entry_of places.now k) node.now))) }
+{
+    let count = 1 << places.len();
+    let mut values = Vec::with_capacity(alloc, count)?;
+    for point in 0..count {
+        values.push(value_at(node, places, point))?;
+    }
+    Ok(values)
+}
+
+fn value_at(node: &Node, places: &[usize], point: usize) -> bool
+    ensures { result ≡ value_by (entry_of places.now point) node.now }
+{
+    match node {
+        Node::Zero => false,
+        Node::One => true,
+        Node::Name(i) => entry_of(places, point, *i),
+        Node::Not(part) => !value_at(part.get(), places, point),
+        Node::Xor(left, right) => {
+            value_at(left.get(), places, point) != value_at(right.get(), places, point)
+        }
+        Node::And(left, right) => {
+            value_at(left.get(), places, point) && value_at(right.get(), places, point)
+        }
+        Node::Or(left, right) => {
+            value_at(left.get(), places, point) || value_at(right.get(), places, point)
+        }
+    }
+}
+
+fn entry_of(places: &[usize], point: usize, i: usize) -> bool
+    ensures { result ≡ entry_of places.now point i }
+{
+    let mut rest = point;
+    for place in places {
+        if *place == i {
+            return rest % 2 == 1;
+        }
+        rest /= 2;
+    }
+    false
 }

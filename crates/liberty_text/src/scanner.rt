@@ -3,6 +3,9 @@
 ghost use Rattle.std.specs.Prelude.{◌≡◌, ◌++◌, ◌+◌, ◌<◌, ◌^◌, length, OnOk, IfOk, IfErr};
 ghost use Rattle.std.specs.Prelude.{[], ◌∷◌};
 ghost use Rattle.liberty_text.specs.Scanner.{class_of, token, slash_at, opened, in_word_by, comment_in_word, in_text, in_comment, in_continuation, step, closing, scan_of};
+ghost use Rattle.std.specs.Prelude.{All};
+ghost use Rattle.liberty_text.specs.declared.token.Stop.TheVariants.{End};
+ghost use Rattle.liberty_text.specs.TokenLaws.{HaveOneReading, IsInside, AreInOrder};
 ghost use Rattle.liberty_text.specs.Tokens.{Reads, AreTokensOf, IsFaultOf};
 
 use crate::token::{Memory, Scan, Stop, TextFault, Token, TokenKind};
@@ -286,12 +289,14 @@ fn slash_at(at: usize, byte: u8) -> Option<usize>
     if byte == b'/' { Some(at) } else { None }
 }
 
-#[tactic(auto, using(crate::proofs::Sound::reads))]
+#[tactic(auto, using(crate::proofs::Sound::reads, crate::proofs::Places::all_inside, crate::proofs::Places::all_in_order))]
 /// The tokens of a text up to the place where it stops, and what stops it there.
 pub fn scan(alloc: Global, bytes: &[u8]) -> Result<Scan, Memory>
     ensures grammar { IfOk result (λ found. Reads bytes.now found.tokens.items found.stop) }
     ensures tokens { IfOk result (λ found. found.tokens.items ≡ (scan_of bytes.now).0) }
     ensures stop { IfOk result (λ found. found.stop ≡ (scan_of bytes.now).1) }
+    ensures inside { IfOk result (λ found. All (IsInside (length bytes.now)) found.tokens.items) }
+    ensures in_order { IfOk result (λ found. AreInOrder 0 found.tokens.items) }
 {
     scan_bytes(alloc, bytes)
 }
@@ -315,6 +320,9 @@ fn scan_bytes(alloc: Global, bytes: &[u8]) -> Result<Scan, Memory>
 pub fn tokens(alloc: Global, bytes: &[u8]) -> Result<Vec<Token>, TextFault>
     ensures read { IfOk result (λ found. AreTokensOf found.items bytes.now) }
     ensures fault { IfErr result (λ fault. IsFaultOf fault bytes.now) }
+    ensures exact { IfOk result (λ found. scan_of bytes.now ≡ (found.items, End)) }
+    ensures inside { IfOk result (λ found. All (IsInside (length bytes.now)) found.items) }
+    ensures in_order { IfOk result (λ found. AreInOrder 0 found.items) }
 {
     let Scan { tokens, stop } = scan(alloc, bytes)?;
     match stop {
@@ -324,3 +332,9 @@ pub fn tokens(alloc: Global, bytes: &[u8]) -> Result<Vec<Token>, TextFault>
         Stop::OpenComment(at) => Err(TextFault::OpenComment(at)),
     }
 }
+
+/// A law: each list of bytes has exactly one reading by the lexical grammar, the one that `scan` finds.
+#[tactic(auto, using(crate::proofs::Complete::one_reading))]
+pub fn one_reading(bytes: &[u8])
+    ensures { HaveOneReading bytes.now }
+{}

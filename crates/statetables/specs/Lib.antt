@@ -4,3 +4,4 @@ pub mod Text
 pub mod Written
 pub mod Reading
 pub mod Shown
+pub mod Laws

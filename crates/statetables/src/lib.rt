@@ -3,6 +3,7 @@
 #![tactic(auto)]
 
 mod fault;
+mod laws;
 mod read;
 mod symbols;
 mod table;
@@ -10,6 +11,10 @@ mod text;
 mod written;
 
 pub use fault::TableFault;
+pub use laws::tables_read_are_rectangular;
 pub use read::read_table;
 pub use symbols::{CurrentSymbol, InSymbol, NextSymbol};
 pub use table::{StateTable, TableRow};
+
+#[cfg(test)]
+mod tests;

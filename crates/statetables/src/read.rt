@@ -2,6 +2,7 @@
 ghost use Rattle.std.specs.Prelude.{◌≡◌, ◌+◌, ◌<◌, ◌^◌, length, map, IfOk, vec_len};
 ghost use Rattle.std.specs.Option.{option_map};
 ghost use Rattle.statetables.specs.Reading.{symbols_of, row_symbols, row_words as row_words_of, has_widths, rows_of_row, read_rows as read_rows_of, table_of, Gives};
+ghost use Rattle.statetables.specs.Step.{IsRectangular};
 ghost use Rattle.statetables.specs.Shown.{shown};
 
 use crate::fault::TableFault;
@@ -22,7 +23,12 @@ pub fn read_table(
     inputs: usize,
     nodes: usize,
 ) -> Result<StateTable, TableFault>
-    ensures { Gives result (table_of text.now inputs nodes) }
+    ensures table { Gives result (table_of text.now inputs nodes) }
+
+    // So `step` may be called on the table, with values of so many inputs and a node below so many.
+    ensures inputs { IfOk result (λ table. table.inputs ≡ inputs) }
+    ensures nodes { IfOk result (λ table. table.nodes ≡ nodes) }
+    ensures rectangular { IfOk result IsRectangular }
 {
     let texts = parts(alloc, without_end_comma(text), b',')?;
     let rows = read_rows(alloc, &texts, inputs, nodes)?;

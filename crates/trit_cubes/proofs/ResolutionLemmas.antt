@@ -3,7 +3,6 @@ use Rattle.std.proofs.Common.{◌≡◌, ℕ, ◌+◌, ◌*◌, Bool, true, fals
 use Rattle.std.proofs.lemmas.List.{nil_from_length}
 use Rattle.trit_cubes.specs.declared.trits.Trit.{Trit}
 use Rattle.trit_cubes.specs.declared.trits.Trit.TheVariants.{Zero, One, Unknown}
-use Rattle.trit_cubes.specs.Filling.{IsFilling, number}
 use Rattle.trit_cubes.specs.Resolution.{agreed, res, Computes}
 
 -- the results of a closure at the points whose last places have the weight w and whose first ones give the number `at`

@@ -1,5 +1,5 @@
 -- The two words of a list of trits: their size, their bits, and the test of covering by them.
-use Rattle.std.proofs.Common.{◌≡◌, ℕ, zero, suc, ◌+◌, ◌*◌, ◌/◌, ◌%◌, ◌^◌, ◌<◌, ◌≤◌, Bool, true, false, ◌&&◌, ◌||◌, nat_eq, bit_and, List, [], ◌∷◌, length, slice_get, Some, refl, sym, ◌∙◌, ap, inl, inr, arith, pow-suc, add-one}
+use Rattle.std.proofs.Common.{◌≡◌, ℕ, zero, suc, ◌+◌, ◌*◌, ◌/◌, ◌^◌, ◌<◌, ◌≤◌, Bool, true, false, ◌&&◌, ◌||◌, nat_eq, bit_and, List, [], ◌∷◌, length, slice_get, Some, refl, sym, ◌∙◌, ap, inl, inr, arith, pow-suc}
 use Rattle.std.proofs.Math.Pow.{pow_mono}
 use Rattle.std.proofs.lemmas.Bool.{cases_eq, eq-eqb, ne_eqb, and_left, and_right, and_from}
 use Rattle.std.proofs.lemmas.Nat.{and_block, and_le_l}

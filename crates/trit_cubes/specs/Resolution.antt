@@ -2,7 +2,7 @@
 use Rattle.std.specs.Prelude.{◌≡◌, ◌≢◌, ◌↔◌, ℕ, Bool, true, false, List, [], ◌∷◌}
 use Rattle.trit_cubes.specs.declared.trits.Trit.{Trit}
 use Rattle.trit_cubes.specs.declared.trits.Trit.TheVariants.{Zero, One, Unknown}
-use Rattle.trit_cubes.specs.Filling.{IsFilling, number, same}
+use Rattle.trit_cubes.specs.Filling.{IsFilling, number}
 
 -- the value of both where they are equal, else unknown
 abbrev pub agreed : Trit → Trit → Trit

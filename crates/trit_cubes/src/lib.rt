@@ -3,10 +3,17 @@
 
 mod covering;
 mod cubes;
+pub mod laws;
+mod memory;
+mod merging;
 mod resolution;
+mod splitting;
 mod trits;
 
 pub use covering::covers;
 pub use cubes::Cube;
+pub use memory::Memory;
+pub use merging::merge_primes;
 pub use resolution::resolve;
+pub use splitting::primes;
 pub use trits::Trit;

@@ -1,4 +1,3 @@
-use Rattle.std.proofs.Common.{◌∙◌}
 use Rattle.trit_cubes.proofs.ResolutionLemmas.{step-none, step-zero, step-one, step-unknown}
 use Rattle.trit_cubes.proofs.resolution.+resolve_from.Goals as goal
 

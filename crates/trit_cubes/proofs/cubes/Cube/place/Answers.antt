@@ -1,5 +1,3 @@
-use Rattle.std.proofs.Common.{◌<◌, length, arith}
-use Rattle.trit_cubes.specs.Words.{trits_of}
 use Rattle.trit_cubes.proofs.WordLemmas.{place-free, place-zero, place-one}
 use Rattle.trit_cubes.proofs.cubes.Cube.place.Goals as goal
 

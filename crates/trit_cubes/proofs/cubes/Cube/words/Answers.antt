@@ -1,6 +1,5 @@
-use Rattle.std.proofs.Common.{◌≤◌, length, arith}
+use Rattle.std.proofs.Common.{arith}
 use Rattle.trit_cubes.proofs.WordLemmas.{fixed_word-below, value_word-below}
-use Rattle.trit_cubes.specs.Words.{fixed_word, value_word}
 use Rattle.trit_cubes.proofs.cubes.Cube.words.Goals as goal
 
 pub returns-clause-fixed_below : goal.returns-clause-fixed_below

@@ -1,0 +1,65 @@
+ghost use Rattle.std.specs.Prelude.{◌≡◌, ◌+◌, ◌*◌, ◌/◌, ◌^◌, ◌<◌, ◌≤◌, Bool, List, ◌∷◌, ◌&&◌, length, IfOk, vec_len};
+ghost use Rattle.trit_cubes.specs.Sets.{has, common};
+ghost use Rattle.trit_cubes.specs.Prime.{prime_list};
+
+use crate::cubes::Cube;
+use crate::memory::Memory;
+use crate::merging::merge;
+use std::alloc::Global;
+
+/// The primes over `n` places of the set that the table tells, ordered place by place with 0 before 1 before free. Entry k
+/// of the table says whether the point with the number k is in the set, place i weighing 2 to the power i.
+pub fn primes(alloc: Global, n: usize, set: &[bool]) -> Result<Vec<Cube>, Memory>
+    requires short { n ≤ 10 }
+    requires entries { length set.now ≡ 2 ^ n }
+    ensures { IfOk result (λ found. found.items ≡ prime_list n (has set.now)) }
+{
+    if n == 0 {
+        return of_no_places(alloc, set[0]);
+    }
+    let zero_half = half(alloc, set, false)?;
+    let one_half = half(alloc, set, true)?;
+    let both_halves = common(alloc, &zero_half, &one_half)?;
+    let zero = primes(alloc, n - 1, &zero_half)?;
+    let one = primes(alloc, n - 1, &one_half)?;
+    let both = primes(alloc, n - 1, &both_halves)?;
+    let found = merge(alloc, &zero, &one, &both)?;
+    Ok(found)
+}
+
+// The primes of a set over no places, which has the one point or not.
+fn of_no_places(alloc: Global, whole: bool) -> Result<Vec<Cube>, Memory>
+    ensures { IfOk result (λ found. found.items ≡ prime_list 0 (λ _. whole)) }
+{
+    let mut found = Vec::new(alloc);
+    if whole {
+        found.push(Cube::empty())?;
+    }
+    Ok(found)
+}
+
+// The points with this value at place 0, without that place.
+fn half(alloc: Global, set: &[bool], first: bool) -> Result<Vec<bool>, Memory>
+    ensures entries { IfOk result (λ points. vec_len points ≡ length set.now / 2) }
+    ensures values { IfOk result (λ points. (p : List Bool) → 2 * vec_len points ≡ length set.now → has points.items p ≡ has set.now (first ∷ p)) }
+{
+    let offset = usize::from(first);
+    let mut points = Vec::new(alloc);
+    for k in 0..set.len() / 2 {
+        points.push(set[2 * k + offset])?;
+    }
+    Ok(points)
+}
+
+// The points in both sets.
+fn common(alloc: Global, one: &[bool], other: &[bool]) -> Result<Vec<bool>, Memory>
+    requires { length one.now ≡ length other.now }
+    ensures entries { IfOk result (λ points. vec_len points ≡ length one.now) }
+    ensures values { IfOk result (λ points. (p : List Bool) → has points.items p ≡ common (has one.now) (has other.now) p) }
+{
+    let mut points = Vec::new(alloc);
+    for k in 0..one.len() {
+        points.push(one[k] && other[k])?;
+    }
+    Ok(points)
+}

@@ -1,5 +1,6 @@
 //! A state table, and its step.
 ghost use Rattle.std.specs.Prelude.{◌≡◌, ◌<◌, length};
+ghost use Rattle.statetables.specs.Step.{inputs_match as inputs_match_of};
 
 use crate::symbols::{CurrentSymbol, InSymbol, NextSymbol};
 use sqlite_items::Items;
@@ -72,8 +73,6 @@ impl StateTable {
         None
     }
 }
-
-ghost use Rattle.statetables.specs.Step.{inputs_match as inputs_match_of};
 
 /// Whether each input matches its symbol.
 fn inputs_match(symbols: &[InSymbol], before: &[bool], after: &[bool]) -> bool

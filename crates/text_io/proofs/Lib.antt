@@ -1,3 +1,5 @@
 pub mod Wrote
 pub mod Took
 pub mod Fronts
+pub mod NamedFilesLemmas
+pub mod MemoryLemmas

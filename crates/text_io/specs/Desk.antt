@@ -1,7 +1,6 @@
 -- What is known of a desk at a moment, and how a call changes it. This project's rule.
-use Rattle.std.specs.Prelude.{◌≡◌, ℕ, ◌+◌, ◌-◌, ◌^◌, ◌≤◌, min, Bool, true, ◌||◌, List, [], ◌++◌, drop, Option, Some, Result, IfSome, OnOk, OnErr, slice_get}
+use Rattle.std.specs.Prelude.{◌≡◌, ℕ, ◌+◌, ◌-◌, ◌^◌, ◌≤◌, min, Bool, true, ◌||◌, List, [], ◌∷◌, ◌++◌, drop, Option, Some, None, Result, IfSome, OnOk, OnErr, slice_get, if◌then◌else◌}
 use Rattle.std.specs.Option.{option_map, option_and_then}
-use Rattle.std.specs.List.{find}
 use Rattle.std.specs.Str.{bytes_eq}
 use Rattle.text_io.specs.declared.outside.Failed.{Failed}
 use Rattle.text_io.specs.declared.slots.InSlot.{InSlot}
@@ -17,7 +16,8 @@ Folder = List (List ℕ × List ℕ)
 
 -- the bytes of the first file of this name
 abbrev pub file_of : Folder → List ℕ → Option (List ℕ)
-file_of folder name = option_map (λ file. file.1) (find (λ file. bytes_eq file.0 name) folder)
+file_of [] name = None
+file_of (file ∷ files) name = if bytes_eq file.0 name then Some file.1 else file_of files name
 
 -- what is known of a desk: its words, the folder where it tells it, which slots are bound, and for each slot the
 -- bytes that are left to read and the bytes that were written, where it tells them

@@ -2,3 +2,6 @@ pub mod Slots
 pub mod Plan
 pub mod Desk
 pub mod Read
+pub mod EachSlot
+pub mod NamedFiles
+pub mod Memory

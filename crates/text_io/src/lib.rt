@@ -3,11 +3,19 @@
 //! failures, and over real files.
 #![tactic(auto)]
 
+mod each_slot;
+mod memory;
+mod named_files;
 mod outside;
+mod piece;
 mod reading;
+mod sink;
+mod sinks;
 mod slots;
 mod writing;
 
+pub use memory::{Memory, MemoryDesk};
+pub use named_files::NamedFile;
 pub use outside::{Desk, Failed};
 pub use reading::{ReadFault, Taken, read_all};
 pub use slots::{InSlot, OutSlot, Slot};

@@ -1,0 +1,8 @@
+ghost use Rattle.std.specs.Prelude.{◌<◌};
+
+/// How many bytes a read or a write moves at most, which is some.
+#[derive(Drop)]
+pub(crate) struct Piece {
+    pub(crate) bytes: usize,
+    ghost some: { 0 < bytes },
+}

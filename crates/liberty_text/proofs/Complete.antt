@@ -1,20 +1,20 @@
 -- A reading by the lexical grammar is what is found byte by byte.
-use Rattle.std.proofs.Common.{◌≡◌, ◌⊎◌, ℕ, ◌+◌, ◌<◌, ◌++◌, Bool, true, false, not, List, [], ◌∷◌, Option, Some, None, length, ◌==◌, ◌||◌, ◌&&◌, refl, sym, ◌∙◌, ap, subst, inl, inr, arith, cond}
+use Rattle.std.proofs.Common.{◌≡◌, ℕ, ◌+◌, ◌<◌, ◌++◌, Bool, true, false, not, List, [], ◌∷◌, Option, Some, None, length, ◌==◌, ◌||◌, ◌&&◌, refl, sym, ◌∙◌, ap, subst, arith, cond}
 use Rattle.std.proofs.lemmas.Bool.Decides.{nat_tests}
 use Rattle.std.specs.List.{list_any}
 use Rattle.std.proofs.lemmas.List.{append-nil}
 use Rattle.liberty_text.specs.declared.token.TokenKind.TheVariants.{Word, Text}
 use Rattle.liberty_text.specs.declared.token.Token.{Token}
 use Rattle.liberty_text.specs.declared.token.Stop.{Stop}
-use Rattle.liberty_text.specs.declared.token.Stop.TheVariants.{End, BadByte, OpenText, OpenComment, OpenContinuation}
+use Rattle.liberty_text.specs.declared.token.Stop.TheVariants.{BadByte}
 use Rattle.liberty_text.specs.declared.scanner.Class.{Class}
 use Rattle.liberty_text.specs.declared.scanner.Class.TheVariants.{LineEnd, Blank, Mark, Quote, Backslash, WordByte, Bad}
 use Rattle.liberty_text.specs.declared.scanner.Mode.{Mode}
 use Rattle.liberty_text.specs.declared.scanner.Mode.TheVariants.{Between, InWord, InText, InComment, InContinuation, Stopped}
-use Rattle.liberty_text.specs.Scanner.{class_of, token, slash_at, opened_by, opened, in_word_by, comment_in_word, in_word, in_text, in_comment, in_continuation, step, closing, after_token, after_tokens, run, scan_of}
+use Rattle.liberty_text.specs.Scanner.{class_of, token, slash_at, opened_by, in_word_by, comment_in_word, in_continuation, after_tokens, run}
 use Rattle.liberty_text.specs.Tokens.{is_word_class, opens_comment, ends_word, WordBytes, TextBytes, CommentBytes, AreBlanks, IsNoBlank, Lexes, Reads}
 use Rattle.liberty_text.specs.Tokens as lex
-use Rattle.liberty_text.proofs.Sound.{or_assoc, both, is_false, no_slash, no_star, sound, reads}
+use Rattle.liberty_text.proofs.Sound.{or_assoc, both, reads}
 use Rattle.liberty_text.specs.TokenLaws.{HaveOneReading}
 
 -- the rest of a reading behind what a step gives

@@ -1,3 +1,5 @@
 pub mod Complete
 pub mod Places
+pub mod Quoting
 pub mod Sound
+pub mod TextValues

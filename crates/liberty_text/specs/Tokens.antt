@@ -1,6 +1,6 @@
 -- What the tokens of a Liberty text are: its lexical grammar (Liberty Reference Manual, general syntax).
 -- Each token is the longest that can begin where it begins.
-use Rattle.std.specs.Prelude.{◌≡◌, ◌⊎◌, ℕ, ◌+◌, ◌++◌, Bool, true, false, not, List, [], ◌∷◌, length, IsTrue, ◌==◌, ◌&&◌, ◌||◌}
+use Rattle.std.specs.Prelude.{◌≡◌, ◌⊎◌, ℕ, ◌+◌, ◌++◌, Bool, true, false, not, List, [], ◌∷◌, length, ◌==◌, ◌&&◌, ◌||◌}
 use Rattle.std.specs.List.{list_any}
 use Rattle.liberty_text.specs.declared.token.TokenKind.{TokenKind}
 use Rattle.liberty_text.specs.declared.token.TokenKind.TheVariants.{Word, Text}
@@ -10,7 +10,7 @@ use Rattle.liberty_text.specs.declared.token.Stop.TheVariants.{End, BadByte, Ope
 use Rattle.liberty_text.specs.declared.token.TextFault.{TextFault}
 use Rattle.liberty_text.specs.declared.token.TextFault.TheVariants as fault
 use Rattle.liberty_text.specs.declared.scanner.Class.{Class}
-use Rattle.liberty_text.specs.declared.scanner.Class.TheVariants.{LineEnd, Blank, Mark, Quote, Backslash, WordByte, Bad}
+use Rattle.liberty_text.specs.declared.scanner.Class.TheVariants.{LineEnd, Blank, Mark, WordByte, Bad}
 use Rattle.liberty_text.specs.Scanner.{class_of, token}
 
 -- the byte may stand in a Word

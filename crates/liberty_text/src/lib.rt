@@ -3,7 +3,9 @@
 #![tactic(auto)]
 
 mod scanner;
+mod text;
 mod token;
 
-pub use scanner::{scan, tokens};
+pub use scanner::{one_reading, scan, tokens};
+pub use text::{one_value, quotes_read_back, text_value};
 pub use token::{Memory, Scan, Stop, TextFault, Token, TokenKind};

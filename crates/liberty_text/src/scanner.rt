@@ -13,7 +13,7 @@ use std::alloc::Global;
 
 /// What a byte is outside texts and comments.
 #[derive(Clone, Copy, Debug, PartialEq, Eq)]
-enum Class {
+pub enum Class {
     LineEnd,
     Blank,
     Mark(TokenKind),
@@ -64,7 +64,7 @@ struct Scanner {
     mode: Mode,
 }
 
-fn class_of(byte: u8) -> Class
+pub fn class_of(byte: u8) -> Class
     ensures { result ≡ class_of byte }
 {
     match byte {

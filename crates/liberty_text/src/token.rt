@@ -83,6 +83,12 @@ impl From<Memory> for TextFault {
     }
 }
 
+impl From<AllocError> for Memory {
+    fn from(_e: AllocError) -> Memory {
+        Memory
+    }
+}
+
 impl<T: Drop> From<AllocFailed<T>> for Memory {
     fn from(_e: AllocFailed<T>) -> Memory {
         Memory

@@ -3,3 +3,4 @@ pub mod Elements
 pub mod Supports
 pub mod Trees
 pub mod Tables
+pub mod Runs

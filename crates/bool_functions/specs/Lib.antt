@@ -3,3 +3,4 @@ pub mod Support
 pub mod Point
 pub mod NameBytes
 pub mod NameList
+pub mod Token

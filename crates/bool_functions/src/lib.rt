@@ -3,6 +3,8 @@
 
 mod faults;
 mod name_list;
+mod symbol;
+mod tokens;
 mod tree;
 
 pub use faults::{FunctionFault, Memory};

@@ -4,3 +4,5 @@ pub mod Point
 pub mod NameBytes
 pub mod NameList
 pub mod Token
+pub mod Grammar
+pub mod Machine

@@ -3,6 +3,7 @@
 
 mod faults;
 mod name_list;
+mod reader;
 mod symbol;
 mod tokens;
 mod tree;

@@ -6,3 +6,4 @@ pub mod NameList
 pub mod Token
 pub mod Grammar
 pub mod Machine
+pub mod State

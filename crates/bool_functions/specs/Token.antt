@@ -1,5 +1,5 @@
 -- The tokens of a function text.
-use Rattle.std.specs.Prelude.{ℕ, ◌+◌, Bool, true, false, not, ◌&&◌, ◌||◌, ◌==◌, List, [], ◌∷◌, length, map, filter, slice_range, codes, Option, None, Some, unwrap_or, All, ◌<◌, ◌≤◌, slice_get, if◌then◌else◌}
+use Rattle.std.specs.Prelude.{ℕ, ◌+◌, Bool, false, not, ◌&&◌, ◌||◌, ◌==◌, List, [], ◌∷◌, length, map, filter, slice_range, codes, Option, None, Some, unwrap_or, All, ◌<◌, ◌≤◌, slice_get, if◌then◌else◌}
 use Rattle.std.specs.Char.{is_ascii_digit, is_ascii_alphanumeric, char_set_contains}
 use Rattle.bool_functions.specs.declared.tokens.Span.{Span}
 use Rattle.bool_functions.specs.declared.symbol.Symbol.{Symbol}

@@ -1,6 +1,7 @@
 //! The tree of a list of symbols, read from left to right with a pile in place of recursion.
 ghost use Rattle.std.specs.Prelude.{◌≡◌, ◌≤◌, ◌↔◌, [], ◌∷◌, Ok, None, Some, IsTrue, IfOk, OnOk, MatchOption, MatchBool};
-ghost use Rattle.bool_functions.specs.Machine.{binds, joined, settled, begin, go_on, step, finished, run, start, Gives, Steps, Holds, IsClosed};
+ghost use Rattle.bool_functions.specs.declared.reader.Pending.TheVariants as pending;
+ghost use Rattle.bool_functions.specs.Machine.{held, binds, joined, settled, begin, go_on, step, finished, run, start, Gives, Steps, Holds, IsClosed};
 
 use crate::symbol::Symbol;
 use crate::tree::Node;
@@ -75,6 +76,17 @@ impl Pile {
         self.items.pop()
     }
 
+    /// Gives the operand to all that binds at least so tightly, for its right side.
+    fn settle(&mut self, alloc: Global, least: u8, operand: Node) -> Result<Node, AllocError>
+        ensures { IfOk result (λ whole. settled least self.old operand ≡ (self.new, whole)) }
+    {
+        let mut whole = operand;
+        while let Some(top) = self.pop_from(least) {
+            whole = top.joined(alloc, whole)?;
+        }
+        Ok(whole)
+    }
+
     /// Closes the innermost open group, where nothing waits inside it.
     fn close(&mut self) -> bool
         ensures { MatchBool result (IsClosed self.old self.new) (self.old ≡ []) }
@@ -115,5 +127,123 @@ impl Pending {
             Pending::Xor(left) => Node::Xor(Boxed::new(alloc, left)?, right),
             Pending::Not => Node::Not(right),
         })
+    }
+}
+
+/// What is on the pile, and the operand that stands before the next symbol.
+#[derive(Drop)]
+struct Reader {
+    alloc: Global,
+    pile: Pile,
+    operand: Option<Node>,
+}
+
+impl Reader {
+    ghost use Rattle.bool_functions.specs.State.{state_of};
+
+    /// Whether the symbol may stand here.
+    fn step(&mut self, symbol: Symbol) -> Result<bool, AllocError>
+        ensures { IfOk result (λ fits. Steps (step (state_of self.old) symbol) fits (state_of self.new)) }
+    {
+        match self.operand.take() {
+            None => self.begin(symbol),
+            Some(operand) => self.go_on(operand, symbol),
+        }
+    }
+
+    fn begin(&mut self, symbol: Symbol) -> Result<bool, AllocError>
+        requires { self.old.operand ≡ None }
+        ensures { IfOk result (λ fits. Steps (begin self.old.pile symbol) fits (state_of self.new)) }
+    {
+        match symbol {
+            Symbol::Name(i) => self.operand = Some(Node::Name(i)),
+            Symbol::Zero => self.operand = Some(Node::Zero),
+            Symbol::One => self.operand = Some(Node::One),
+            Symbol::Bang => self.pile.push(Pending::Not)?,
+            Symbol::Open => self.pile.push(Pending::Group)?,
+            _ => return Ok(false),
+        }
+        Ok(true)
+    }
+
+    fn go_on(&mut self, operand: Node, symbol: Symbol) -> Result<bool, AllocError>
+        requires { self.old.operand ≡ None }
+        ensures { IfOk result (λ fits. Steps (go_on self.old.pile operand symbol) fits (state_of self.new)) }
+    {
+        match symbol {
+            Symbol::Quote => self.operand = Some(Node::Not(Boxed::new(self.alloc, operand)?)),
+            Symbol::Caret => {
+                let left = self.pile.settle(self.alloc, 3, operand)?;
+                self.pile.push(Pending::Xor(left))?;
+            }
+            Symbol::Times => self.hold_and(operand)?,
+            Symbol::Plus => {
+                let left = self.pile.settle(self.alloc, 1, operand)?;
+                self.pile.push(Pending::Or(left))?;
+            }
+            Symbol::Close => {
+                let inner = self.pile.settle(self.alloc, 1, operand)?;
+                if !self.pile.close() {
+                    return Ok(false);
+                }
+                self.operand = Some(inner);
+            }
+            Symbol::Stray => return Ok(false),
+            _ => {
+                self.hold_and(operand)?;
+                return self.begin(symbol);
+            }
+        }
+        Ok(true)
+    }
+
+    fn hold_and(&mut self, operand: Node) -> Result<(), AllocError>
+        ensures held { OnOk result (self.new.pile ≡ held pending.And (settled 2 self.old.pile operand)) }
+        ensures operand { self.new.operand ≡ self.old.operand }
+    {
+        let left = self.pile.settle(self.alloc, 2, operand)?;
+        self.pile.push(Pending::And(left))
+    }
+
+    /// The tree, where the symbols were a whole function text.
+    fn finish(self) -> Result<Option<Node>, AllocError>
+        ensures { IfOk result (λ tree. tree ≡ finished (state_of self)) }
+    {
+        let Reader {
+            alloc,
+            mut pile,
+            operand,
+        } = self;
+        let Some(operand) = operand else {
+            return Ok(None);
+        };
+        let whole = pile.settle(alloc, 1, operand)?;
+        if pile.is_empty() {
+            Ok(Some(whole))
+        } else {
+            Ok(None)
+        }
+    }
+}
+
+/// The tree of the symbols, or the place of the first with which no function text goes on.
+fn run(alloc: Global, symbols: &[Symbol]) -> Result<Node, ReadFault>
+    ensures { Gives result symbols.now (run start symbols.now) }
+{
+    let mut reader = Reader {
+        alloc,
+        pile: Pile {
+            items: Vec::new(alloc),
+        },
+        operand: None,
+    };
+    for (at, symbol) in symbols.iter().enumerate() {
+        if !reader.step(*symbol)? {
+            return Err(ReadFault::Misplaced(at));
+        }
+    }
+    match reader.finish()? {
+        Some(tree) => Ok(tree),
+        None => Err(ReadFault::Misplaced(symbols.len())),
     }
 }

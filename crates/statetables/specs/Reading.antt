@@ -32,7 +32,7 @@ is_halved (written.Halves first second) = true
 
 -- The symbol that stands in the first or in the second of the rows that a row with a halved symbol stands for.
 abbrev pub half_of : {S : Type 0} → Half → Written S → S
-half_of side (written.Whole symbol) = symbol
+half_of half (written.Whole symbol) = symbol
 half_of side.First (written.Halves first second) = first
 half_of side.Second (written.Halves first second) = second
 

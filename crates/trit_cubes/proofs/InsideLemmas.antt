@@ -33,7 +33,7 @@ fillings-is_inside set (Unknown ∷ ts) h =
     (fillings-is_inside (λ q. set (true ∷ q)) ts (λ p fill. h (true ∷ p) (tt, fill)))
 
 -- what holds of each cube got by freeing a fixed place holds at each such place
-all_freed-at : (p : List Trit → Bool) (ts : List Trit) → list_all p (freed ts) ≡ true
+pub all_freed-at : (p : List Trit → Bool) (ts : List Trit) → list_all p (freed ts) ≡ true
     → (i : ℕ) → i < length ts → slice_index_or ts i Unknown ≢ Unknown → p (slice_set ts i Unknown) ≡ true
 all_freed-at p [] h i l fixed = absurd (omega arith)
 all_freed-at p (Unknown ∷ ts) h zero l fixed = absurd (fixed refl)
@@ -52,7 +52,7 @@ zero≢unknown e = cc
 one≢unknown : One ≢ Unknown
 one≢unknown e = cc
 
-at-all_freed : (p : List Trit → Bool) (ts : List Trit)
+pub at-all_freed : (p : List Trit → Bool) (ts : List Trit)
     → ((i : ℕ) → i < length ts → slice_index_or ts i Unknown ≢ Unknown → p (slice_set ts i Unknown) ≡ true)
     → list_all p (freed ts) ≡ true
 at-all_freed p [] h = refl

@@ -5,3 +5,5 @@ pub mod SplitLemmas
 pub mod InsideLemmas
 pub mod OrderLemmas
 pub mod HalvesLemmas
+pub mod TryingLemmas
+pub mod RowLemmas

@@ -25,6 +25,11 @@ abbrev pub number : List Bool → ℕ
 number [] = 0
 number (b ∷ bs) = bit b + 2 * number bs
 
+-- the trit of a known value
+abbrev pub trit_of : Bool → Trit
+trit_of false = Zero
+trit_of true = One
+
 -- whether this trit is not known
 abbrev pub is_unknown : Trit → Bool
 is_unknown Unknown = true

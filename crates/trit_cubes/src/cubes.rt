@@ -100,22 +100,15 @@ impl Cube {
         ensures { result ≡ first ∷ self }
     {
         let (fixed, values) = self.words();
-        match first {
-            Trit::Zero => Cube {
-                len: self.len + 1,
-                fixed: 2 * fixed + 1,
-                values: 2 * values,
-            },
-            Trit::One => Cube {
-                len: self.len + 1,
-                fixed: 2 * fixed + 1,
-                values: 2 * values + 1,
-            },
-            Trit::Unknown => Cube {
-                len: self.len + 1,
-                fixed: 2 * fixed,
-                values: 2 * values,
-            },
+        let (fixed_bit, value_bit) = match first {
+            Trit::Zero => (1, 0),
+            Trit::One => (1, 1),
+            Trit::Unknown => (0, 0),
+        };
+        Cube {
+            len: self.len + 1,
+            fixed: 2 * fixed + fixed_bit,
+            values: 2 * values + value_bit,
         }
     }
 }

@@ -8,7 +8,11 @@ mod memory;
 mod merging;
 mod resolution;
 mod splitting;
+#[cfg(test)]
+mod tests;
 mod trits;
+#[cfg(test)]
+mod trying;
 
 pub use covering::covers;
 pub use cubes::Cube;

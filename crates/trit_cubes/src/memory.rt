@@ -1,17 +1,19 @@
 use std::alloc::{AllocError, AllocFailed};
+use thiserror::Error;
 
-/// Memory was not found.
-#[derive(Clone, Copy, Debug, PartialEq, Eq)]
+/// Memory was wanted and not there.
+#[derive(Debug, Drop, Error)]
+#[error("out of memory")]
 pub struct Memory;
 
 impl From<AllocError> for Memory {
-    fn from(_error: AllocError) -> Memory {
+    fn from(_: AllocError) -> Memory {
         Memory
     }
 }
 
 impl<T: Drop> From<AllocFailed<T>> for Memory {
-    fn from(_failed: AllocFailed<T>) -> Memory {
+    fn from(_: AllocFailed<T>) -> Memory {
         Memory
     }
 }

@@ -44,7 +44,7 @@ pub(crate) fn merge(
 }
 
 // Adds the cubes with one more place in front.
-fn add_all(found: &mut Vec<Cube>, first: Trit, cubes: &[Cube]) -> Result<(), Memory>
+pub(crate) fn add_all(found: &mut Vec<Cube>, first: Trit, cubes: &[Cube]) -> Result<(), Memory>
     requires { All (λ cube. length cube < 10) cubes.now }
     ensures { OnOk result (found.new.items ≡ found.old.items ++ map (λ cube. first ∷ cube) cubes.now) }
 {

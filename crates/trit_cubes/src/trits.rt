@@ -1,5 +1,5 @@
 ghost use Rattle.std.specs.Prelude.{◌≡◌};
-ghost use Rattle.trit_cubes.specs.Filling.{is_unknown};
+ghost use Rattle.trit_cubes.specs.Filling.{is_unknown, trit_of};
 ghost use Rattle.trit_cubes.specs.Resolution.{agreed};
 
 /// A truth value of a pin or a state.
@@ -29,5 +29,13 @@ impl Trit {
         ensures { result ≡ agreed self other }
     {
         if self == other { self } else { Trit::Unknown }
+    }
+}
+
+impl From<bool> for Trit {
+    ghost from_gives = { λ known trit. trit ≡ trit_of known };
+
+    fn from(known: bool) -> Trit {
+        if known { Trit::One } else { Trit::Zero }
     }
 }

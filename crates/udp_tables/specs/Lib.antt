@@ -1,0 +1,4 @@
+pub mod Tables
+pub mod Primitive
+pub mod PortNames
+pub mod Generated

@@ -1,0 +1,35 @@
+ghost use Rattle.std.specs.Prelude.{◌≡◌, IfOk};
+ghost use Rattle.udp_tables.specs.PortNames.{output_name, input_name, input_names};
+
+use crate::faults::Memory;
+use itoa::Buffer;
+use sqlite_items::Items;
+use std::alloc::Global;
+
+// The name of the output.
+pub(crate) fn output_name(alloc: Global) -> Result<Items<u8>, Memory>
+    ensures { IfOk result (λ name. name ≡ output_name) }
+{
+    Ok(Items::from_slice(alloc, b"q")?)
+}
+
+// The names of the first inputs.
+pub(crate) fn input_names(alloc: Global, count: usize) -> Result<Items<Items<u8>>, Memory>
+    ensures { IfOk result (λ names. names ≡ input_names count) }
+{
+    let mut names = Items::new(alloc);
+    for k in 0..count {
+        names.push(input_name(alloc, k + 1)?)?;
+    }
+    Ok(names)
+}
+
+// The name of the input with this number from 1.
+fn input_name(alloc: Global, number: usize) -> Result<Items<u8>, Memory>
+    ensures { IfOk result (λ name. name ≡ input_name number) }
+{
+    let mut buffer = Buffer::new();
+    let mut name = Vec::from_slice(alloc, b"i")?;
+    name.extend_from_slice(buffer.format(number).as_bytes())?;
+    Ok(Items::from_vec(name))
+}

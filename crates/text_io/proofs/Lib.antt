@@ -3,3 +3,4 @@ pub mod Took
 pub mod Fronts
 pub mod NamedFilesLemmas
 pub mod MemoryLemmas
+pub mod HostLemmas

@@ -5,3 +5,4 @@ pub mod Read
 pub mod EachSlot
 pub mod NamedFiles
 pub mod Memory
+pub mod Host

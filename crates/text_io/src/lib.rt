@@ -4,6 +4,8 @@
 #![tactic(auto)]
 
 mod each_slot;
+mod file_words;
+mod host;
 mod memory;
 mod named_files;
 mod outside;
@@ -14,6 +16,7 @@ mod sinks;
 mod slots;
 mod writing;
 
+pub use host::FileDesk;
 pub use memory::{Memory, MemoryDesk};
 pub use named_files::NamedFile;
 pub use outside::{Desk, Failed};

@@ -7,7 +7,7 @@ ghost use Rattle.text_io.specs.NamedFiles.{folder_of, file_at};
 ghost use Rattle.text_io.specs.Memory.{memory_of, fresh_memory, after_call, after_fault, next_fails, is_missing, is_full, room_left, CountsCall};
 
 use crate::each_slot::{Inputs, Outputs};
-use crate::named_files::{NamedFile, Place, find_file, read_on};
+use crate::named_files::{NamedFile, Place, file_of_word, read_on};
 use crate::outside::{Desk, Failed};
 use crate::piece::Piece;
 use crate::sink::Sink;
@@ -110,8 +110,7 @@ impl MemoryDesk {
         ensures file { option_and_then (file_at (folder_of self.now.folder.items)) result ≡ option_and_then (file_of (folder_of self.now.folder.items)) (slice_get (map string_bytes self.now.words.items) place) }
         ensures within { IfSome result (λ file. file < length self.now.folder.items) }
     {
-        let word = self.words.get(place)?;
-        find_file(self.folder.as_slice(), word.as_str())
+        file_of_word(self.words.as_slice(), self.folder.as_slice(), place)
     }
 
     /// Counts a call, and fails where its number is among those that fail.

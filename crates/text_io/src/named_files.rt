@@ -1,4 +1,4 @@
-ghost use Rattle.std.specs.Prelude.{◌≡◌, ◌<◌, length, min, take, drop, IfSome};
+ghost use Rattle.std.specs.Prelude.{◌≡◌, ◌<◌, length, min, take, drop, map, slice_get, string_bytes, IfSome};
 ghost use Rattle.std.specs.Option.{option_and_then};
 ghost use Rattle.text_io.specs.Desk.{file_of};
 ghost use Rattle.text_io.specs.NamedFiles.{folder_of, file_at, rest_of};
@@ -28,6 +28,15 @@ pub(crate) fn find_file(files: &[NamedFile], name: &str) -> Option<usize>
         }
     }
     None
+}
+
+/// The place in the folder of the file that the word at this place names.
+pub(crate) fn file_of_word(words: &[String], files: &[NamedFile], place: usize) -> Option<usize>
+    ensures file { option_and_then (file_at (folder_of files.now)) result ≡ option_and_then (file_of (folder_of files.now)) (slice_get (map string_bytes words.now) place) }
+    ensures within { IfSome result (λ file. file < length files.now) }
+{
+    let word = words.get(place)?;
+    find_file(files, word.as_str())
 }
 
 /// Copies the bytes that come next into the front of `into`, moves the place past them, and answers how many.

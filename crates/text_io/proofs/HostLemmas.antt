@@ -1,12 +1,11 @@
 -- How a desk changes that tells no content.
-use Rattle.std.proofs.Common.{◌≡◌, ℕ, Bool, true, List, [], Option, Some, None, is_some, refl, sym, ◌∙◌, ap}
-use Rattle.std.specs.Prelude.{if◌then◌else◌}
+use Rattle.std.proofs.Common.{◌≡◌, ℕ, Bool, true, List, Option, Some, None, is_some, refl, sym, ◌∙◌, ap}
 use Rattle.text_io.specs.declared.slots.InSlot.{InSlot}
 use Rattle.text_io.specs.declared.slots.OutSlot.{OutSlot}
 use Rattle.text_io.specs.declared.slots.Slot.{Slot}
 use Rattle.text_io.specs.declared.slots.Slot.TheVariants.{Input, Output}
 use Rattle.text_io.specs.Slots.{same_in, same_out, put_in, put_out, put_slot}
-use Rattle.text_io.specs.Desk.{DeskState, IsFileAt, opened, created, took, wrote}
+use Rattle.text_io.specs.Desk.{IsFileAt, opened, created, took, wrote}
 use Rattle.text_io.specs.Host.{open_slots, reads_files}
 use Rattle.text_io.proofs.MemoryLemmas.{push_if, if_same}
 
@@ -30,7 +29,7 @@ files-opened words held held' outputs slot file bytes set = ap (λ h. reads_file
   folder = None;
   bound = λ other. (ap (λ held_now. open_slots held_now outputs other) (λ j t. push_if is_some (same_in slot t) (Some file) (held t) j) ∙ opened_by (λ t. is_some (held t)) outputs slot other) i;
   left = λ other. sym (if_same (same_in slot other) None) i;
-  written = λ _. None
+  written = λ _. None;
 }
 
 -- no content is told of a file that is bound
@@ -47,7 +46,7 @@ files-took words inputs outputs slot count = λ i. record {
   folder = None;
   bound = open_slots inputs outputs;
   left = λ other. sym (if_same (same_in slot other) None) i;
-  written = λ _. None
+  written = λ _. None;
 }
 
 -- a slot that is bound for writing
@@ -60,7 +59,7 @@ files-created words inputs held held' slot file set = ap (λ h. reads_files word
   folder = None;
   bound = λ other. (ap (λ held_now. open_slots inputs held_now other) (λ j t. push_if is_some (same_out slot t) (Some file) (held t) j) ∙ created_by inputs (λ t. is_some (held t)) slot other) i;
   left = λ _. None;
-  written = λ other. sym (if_same (same_out slot other) None) i
+  written = λ other. sym (if_same (same_out slot other) None) i;
 }
 
 -- a slot that is written
@@ -72,5 +71,5 @@ files-wrote words inputs outputs slot bytes = λ i. record {
   folder = None;
   bound = open_slots inputs outputs;
   left = λ _. None;
-  written = λ other. sym (if_same (same_out slot other) None) i
+  written = λ other. sym (if_same (same_out slot other) None) i;
 }

@@ -200,3 +200,27 @@ pub folder_told : (words : List (List ℕ)) (folder : Folder) (places : InSlot �
     → (reads_memory words folder places flags written).folder ≡ Some folder
 unfolding reads_memory
 folder_told words folder places flags written = refl
+
+-- the same where the bytes written are not told
+
+pub sure-created : (words : List (List ℕ)) (folder : Folder) (places : InSlot → Option Place) (flags flags' : OutSlot → Bool) (slot : OutSlot) → flags' ≡ put_out flags slot true
+    → reads_memory words folder places flags' (λ _. None) ≡ created (reads_memory words folder places flags (λ _. None)) slot
+unfolding reads_memory created
+sure-created words folder places flags flags' slot set = ap (λ f. reads_memory words folder places f (λ _. None)) set ∙ λ i. record {
+  words = words;
+  folder = Some folder;
+  bound = λ other. bound_by_flag places flags slot other i;
+  left = λ other. Some (left_at folder (places other));
+  written = λ other. sym (if_same (same_out slot other) None) i;
+}
+
+pub sure-wrote : (words : List (List ℕ)) (folder : Folder) (places : InSlot → Option Place) (flags : OutSlot → Bool) (slot : OutSlot) (bytes : List ℕ)
+    → reads_memory words folder places flags (λ _. None) ≡ wrote (reads_memory words folder places flags (λ _. None)) slot bytes
+unfolding reads_memory wrote
+sure-wrote words folder places flags slot bytes = λ i. record {
+  words = words;
+  folder = Some folder;
+  bound = bound_slots places flags;
+  left = λ other. Some (left_at folder (places other));
+  written = λ other. sym (if_same (same_out slot other) None) i;
+}

@@ -20,7 +20,7 @@ reads_files words inputs outputs = record {
   folder = None;
   bound = open_slots inputs outputs;
   left = λ _. None;
-  written = λ _. None
+  written = λ _. None;
 }
 
 -- a desk that tells no content, at which nothing is open

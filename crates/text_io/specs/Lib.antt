@@ -6,3 +6,5 @@ pub mod EachSlot
 pub mod NamedFiles
 pub mod Memory
 pub mod Host
+pub mod Found
+pub mod Sure

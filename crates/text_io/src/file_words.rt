@@ -1,6 +1,9 @@
 ghost use Rattle.std.specs.Prelude.{◌≡◌, map, string_bytes};
 ghost use Rattle.text_io.specs.Plan.{slots_of, is_among, are_file_words, planned_slots};
+ghost use Rattle.text_io.specs.NamedFiles.{folder_of};
+ghost use Rattle.text_io.specs.Found.{has_file, inputs_found};
 
+use crate::named_files::{NamedFile, file_of_word};
 use crate::slots::{InSlot, OutSlot, Slot};
 
 /// The slots of the files that a command's words name, in the order of the words.
@@ -63,5 +66,28 @@ pub(crate) fn planned_slots(words: &[String]) -> &'static [Slot]
         slots
     } else {
         &[]
+    }
+}
+
+/// Whether every file that the plan of these words has for reading is among the files.
+pub(crate) fn inputs_found(words: &[String], files: &[NamedFile]) -> bool
+    ensures { result ≡ inputs_found (map string_bytes words.now) (folder_of files.now) }
+{
+    let slots = planned_slots(words);
+    for (index, slot) in slots.iter().enumerate() {
+        if !has_file(words, files, *slot, index + 1) {
+            return false;
+        }
+    }
+    true
+}
+
+/// Whether the word at this place names a file, where the slot is for reading.
+fn has_file(words: &[String], files: &[NamedFile], slot: Slot, place: usize) -> bool
+    ensures { result ≡ has_file (map string_bytes words.now) (folder_of files.now) slot place }
+{
+    match slot {
+        Slot::Input(_) => file_of_word(words, files, place).is_some(),
+        Slot::Output(_) => true,
     }
 }

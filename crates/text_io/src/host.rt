@@ -31,8 +31,18 @@ impl FileDesk {
         FileDesk {
             rt,
             words,
-            inputs: Inputs { library: None, verilog: None, vital: None, stimulus: None },
-            outputs: Outputs { verilog_text: None, vital_text: None, report: None, faults: None },
+            inputs: Inputs {
+                library: None,
+                verilog: None,
+                vital: None,
+                stimulus: None,
+            },
+            outputs: Outputs {
+                verilog_text: None,
+                vital_text: None,
+                report: None,
+                faults: None,
+            },
             faults: 0,
         }
     }

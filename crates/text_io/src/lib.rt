@@ -14,6 +14,7 @@ mod reading;
 mod sink;
 mod sinks;
 mod slots;
+mod sure;
 mod writing;
 
 pub use host::FileDesk;
@@ -22,4 +23,5 @@ pub use named_files::NamedFile;
 pub use outside::{Desk, Failed};
 pub use reading::{ReadFault, Taken, read_all};
 pub use slots::{InSlot, OutSlot, Slot};
+pub use sure::SureDesk;
 pub use writing::{write_pieces, write_whole};

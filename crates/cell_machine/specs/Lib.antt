@@ -1,2 +1,14 @@
 pub mod Names
 pub mod CellRules
+pub mod Edges
+pub mod History
+pub mod Report
+pub mod Lines
+pub mod Machine
+pub mod Values
+pub mod Step
+pub mod Outputs
+pub mod Delay
+pub mod CellTrace
+pub mod Fillings
+pub mod Laws

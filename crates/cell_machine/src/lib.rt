@@ -6,9 +6,13 @@ mod arcs;
 mod cells;
 mod changes;
 mod checks;
+mod fillings;
 mod groups;
 mod outputs;
 mod pins;
+mod simulators;
+mod steps;
+mod values;
 
 pub use arcs::Arc;
 pub use cells::Cell;
@@ -17,3 +21,4 @@ pub use checks::{Check, CheckKind, Edge, Event};
 pub use groups::{Both, Clocked, Gated, GroupKind, StateGroup};
 pub use outputs::{OutputPin, Source};
 pub use pins::{Direction, Pin};
+pub use simulators::CellSim;

@@ -1,0 +1,153 @@
+//! Steps over values that may be unknown: a group's step is tried on each filling.
+ghost use Rattle.std.specs.Prelude.{◌≡◌, ◌<◌, Bool, true, false, List, length, slice_set};
+ghost use Rattle.trit_cubes.specs.Resolution.{agreed, res};
+ghost use Rattle.cell_machine.specs.Machine.{around, over};
+ghost use Rattle.cell_machine.specs.Values.{no_values, written, picked};
+ghost use Rattle.cell_machine.specs.Step.{kind_step, KindIsBounded};
+ghost use Rattle.cell_machine.specs.Fillings.{state_filled, others_filled, change_filled, both_states, forced_after};
+
+use crate::groups::GroupKind;
+use crate::values::Values;
+use trit_cubes::Trit;
+
+
+// The step for each filling of the state.
+fn state_filled(kind: &GroupKind, name: usize, before: &Values, after: &Values, state: Trit) -> Trit
+    requires name { name < 96 }
+    requires bounded { KindIsBounded kind.now }
+    ensures { result ≡ state_filled kind.now name before.now after.now state }
+{
+    match state {
+        Trit::Zero => kind.step(name, before, after, false),
+        Trit::One => kind.step(name, before, after, true),
+        Trit::Unknown => {
+            let zero = kind.step(name, before, after, false);
+            zero.agreed(kind.step(name, before, after, true))
+        }
+    }
+}
+
+// The step for each filling of the inputs under these names, the same before and after, and of the state.
+fn others_filled(kind: &GroupKind, name: usize, names: &[usize], trits: &[Trit], before: Values, after: Values, state: Trit) -> Trit
+    requires name { name < 96 }
+    requires bounded { KindIsBounded kind.now }
+    requires one_each { length names.now ≡ length trits.now }
+    ensures { result ≡ others_filled kind.now name names.now trits.now before after state }
+{
+    let (Some((first, names)), Some((trit, trits))) = (names.split_first(), trits.split_first()) else {
+        return state_filled(kind, name, &before, &after, state);
+    };
+    let first = *first;
+    match *trit {
+        Trit::Zero => others_filled(kind, name, names, trits, before.with(first, false), after.with(first, false), state),
+        Trit::One => others_filled(kind, name, names, trits, before.with(first, true), after.with(first, true), state),
+        Trit::Unknown => {
+            let zero = others_filled(kind, name, names, trits, before.with(first, false), after.with(first, false), state);
+            zero.agreed(others_filled(kind, name, names, trits, before.with(first, true), after.with(first, true), state))
+        }
+    }
+}
+
+// The step for each filling of the changed input's new value too.
+fn new_filled(kind: &GroupKind, name: usize, changed: usize, new: Trit, names: &[usize], trits: &[Trit], before: Values, state: Trit) -> Trit
+    requires name { name < 96 }
+    requires bounded { KindIsBounded kind.now }
+    requires one_each { length names.now ≡ length trits.now }
+    ensures { result ≡ over (λ b. others_filled kind.now name names.now trits.now before (slice_set no_values changed b) state) new }
+{
+    let none = Values::new();
+    match new {
+        Trit::Zero => others_filled(kind, name, names, trits, before, none.with(changed, false), state),
+        Trit::One => others_filled(kind, name, names, trits, before, none.with(changed, true), state),
+        Trit::Unknown => {
+            let zero = others_filled(kind, name, names, trits, before, none.with(changed, false), state);
+            zero.agreed(others_filled(kind, name, names, trits, before, none.with(changed, true), state))
+        }
+    }
+}
+
+/// The step at a change of the input `changed` from `old` to `new`, for each filling of both, of the inputs under
+/// `names`, and of the state.
+pub fn change_filled(kind: &GroupKind, name: usize, changed: usize, old: Trit, new: Trit, names: &[usize], trits: &[Trit], state: Trit) -> Trit
+    requires name { name < 96 }
+    requires bounded { KindIsBounded kind.now }
+    requires one_each { length names.now ≡ length trits.now }
+    ensures { result ≡ change_filled kind.now name changed old new names.now trits.now state }
+{
+    let none = Values::new();
+    match old {
+        Trit::Zero => new_filled(kind, name, changed, new, names, trits, none.with(changed, false), state),
+        Trit::One => new_filled(kind, name, changed, new, names, trits, none.with(changed, true), state),
+        Trit::Unknown => {
+            let zero = new_filled(kind, name, changed, new, names, trits, none.with(changed, false), state);
+            zero.agreed(new_filled(kind, name, changed, new, names, trits, none.with(changed, true), state))
+        }
+    }
+}
+
+// The step for both states.
+fn both_states(kind: &GroupKind, name: usize, before: &Values, after: &Values) -> Trit
+    requires name { name < 96 }
+    requires bounded { KindIsBounded kind.now }
+    ensures { result ≡ both_states kind.now name before.now after.now }
+{
+    let zero = kind.step(name, before, after, false);
+    zero.agreed(kind.step(name, before, after, true))
+}
+
+// The values with those of `from` for these names.
+fn copied(values: Values, names: &[usize], from: &Values) -> Values
+    ensures { result ≡ written values names.now (picked from.now names.now) }
+{
+    let mut values = values;
+    for name in names {
+        values = values.with(*name, from.get(*name));
+    }
+    values
+}
+
+// The common step for both states, from the inputs after a change and each that differ from them in one of the names.
+fn forced_around(kind: &GroupKind, name: usize, rest: &[usize], before: Values, after: &Values) -> Trit
+    requires name { name < 96 }
+    requires bounded { KindIsBounded kind.now }
+    ensures { result ≡ around (λ q. both_states kind.now name (written before rest.now q) after.now) (picked after.now rest.now) }
+{
+    let Some((first, rest)) = rest.split_first() else {
+        return both_states(kind, name, &before, after);
+    };
+    let value = after.get(*first);
+    let same = forced_around(kind, name, rest, before.with(*first, value), after);
+    let other = copied(before.with(*first, !value), rest, after);
+    same.agreed(both_states(kind, name, &other, after))
+}
+
+// The forced value for each filling of the inputs under `rest`.
+fn forced_from(kind: &GroupKind, name: usize, support: &[usize], rest: &[usize], trits: &[Trit], after: Values) -> Trit
+    requires name { name < 96 }
+    requires bounded { KindIsBounded kind.now }
+    requires one_each { length rest.now ≡ length trits.now }
+    ensures { result ≡ res (λ p. forced_after kind.now name support.now (written after rest.now p)) trits.now }
+{
+    let (Some((first, rest)), Some((trit, trits))) = (rest.split_first(), trits.split_first()) else {
+        return forced_around(kind, name, support, Values::new(), &after);
+    };
+    let first = *first;
+    match *trit {
+        Trit::Zero => forced_from(kind, name, support, rest, trits, after.with(first, false)),
+        Trit::One => forced_from(kind, name, support, rest, trits, after.with(first, true)),
+        Trit::Unknown => {
+            let zero = forced_from(kind, name, support, rest, trits, after.with(first, false));
+            zero.agreed(forced_from(kind, name, support, rest, trits, after.with(first, true)))
+        }
+    }
+}
+
+/// The value to which the inputs under `support` force the state.
+pub fn forced_filled(kind: &GroupKind, name: usize, support: &[usize], trits: &[Trit]) -> Trit
+    requires name { name < 96 }
+    requires bounded { KindIsBounded kind.now }
+    requires one_each { length support.now ≡ length trits.now }
+    ensures { result ≡ res (λ p. forced_after kind.now name support.now (written no_values support.now p)) trits.now }
+{
+    forced_from(kind, name, support, support, trits, Values::new())
+}

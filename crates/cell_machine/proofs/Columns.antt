@@ -1,6 +1,5 @@
 -- The columns of a table's row.
-use Rattle.std.proofs.Common.{◌≡◌, ◌≢◌, ℕ, Bool, true, false, ◌&&◌, List, [], ◌∷◌, length, map, refl, sym, ap, ◌∙◌, suc, add-one}
-use Rattle.std.proofs.lemmas.Bool.{and_cases}
+use Rattle.std.proofs.Common.{◌≡◌, ◌≢◌, ℕ, Bool, true, false, ◌&&◌, List, [], ◌∷◌, length, refl, ap, ◌∙◌, suc}
 use Rattle.statetables.specs.declared.symbols.InSymbol.{InSymbol}
 use Rattle.statetables.specs.Symbols.{matches_in}
 use Rattle.std.proofs.Common.{slice_index_or}
@@ -30,4 +29,4 @@ pub inputs_match-picked :
     → length symbols ≢ length inputs → inputs_match symbols (picked before inputs) (picked after inputs) ≡ false
 inputs_match-picked symbols inputs before after h =
     inputs_match-unequal symbols (picked before inputs) (picked after inputs)
-        (λ e. h (e ∙ length-map {A = ℕ} {B = Bool} inputs (λ i. slice_index_or before i false)))
+    (λ e. h (e ∙ length-map {A = ℕ} {B = Bool} inputs (λ i. slice_index_or before i false)))

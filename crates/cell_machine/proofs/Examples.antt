@@ -1,11 +1,10 @@
 -- The definitions computed on small examples.
-use Rattle.std.proofs.Common.{◌≡◌, ℕ, List, [], ◌∷◌, refl, Option, Some, None, Bool, true, false, not, ◌&&◌, if◌then◌else◌}
+use Rattle.std.proofs.Common.{◌≡◌, ℕ, List, [], ◌∷◌, refl, Bool, true, false, not, ◌&&◌, if◌then◌else◌}
 use Rattle.trit_cubes.specs.declared.trits.Trit.{Trit}
 use Rattle.trit_cubes.specs.declared.trits.Trit.TheVariants.{Zero, One, Unknown}
 use Rattle.statetables.specs.declared.symbols.InSymbol.TheVariants as in_symbol
 use Rattle.statetables.specs.declared.symbols.CurrentSymbol.TheVariants as current_symbol
 use Rattle.statetables.specs.declared.symbols.NextSymbol.TheVariants as next_symbol
-use Rattle.statetables.specs.declared.table.StateTable.{StateTable}
 use Rattle.cell_machine.specs.declared.groups.GroupKind.TheVariants as kind
 use Rattle.cell_machine.specs.declared.groups.StateGroup.{StateGroup}
 use Rattle.cell_machine.specs.declared.checks.CheckKind.TheVariants as check_kind
@@ -58,34 +57,35 @@ abbrev toggle : StateGroup
 toggle =
     record {
       kind =
-        kind.Table
+          kind.Table
           (record {
-            inputs = 2; nodes = 1;
+            inputs = 2;
+            nodes = 1;
             rows =
-              record {
-                inputs = in_symbol.Any ∷ in_symbol.High ∷ [];
-                current = current_symbol.Any ∷ [];
-                next = next_symbol.Low ∷ []
-              }
-              ∷ record {
-                inputs = in_symbol.Rise ∷ in_symbol.Low ∷ [];
-                current = current_symbol.Low ∷ [];
-                next = next_symbol.High ∷ []
-              }
-              ∷ record {
-                inputs = in_symbol.Rise ∷ in_symbol.Low ∷ [];
-                current = current_symbol.High ∷ [];
-                next = next_symbol.Low ∷ []
-              }
-              ∷ record {
-                inputs = in_symbol.NotRise ∷ in_symbol.Low ∷ [];
-                current = current_symbol.Any ∷ [];
-                next = next_symbol.Keep ∷ []
-              }
-              ∷ []
+                record {
+                  inputs = in_symbol.Any ∷ in_symbol.High ∷ [];
+                  current = current_symbol.Any ∷ [];
+                  next = next_symbol.Low ∷ [];
+                }
+                ∷ record {
+                  inputs = in_symbol.Rise ∷ in_symbol.Low ∷ [];
+                  current = current_symbol.Low ∷ [];
+                  next = next_symbol.High ∷ [];
+                }
+                ∷ record {
+                  inputs = in_symbol.Rise ∷ in_symbol.Low ∷ [];
+                  current = current_symbol.High ∷ [];
+                  next = next_symbol.Low ∷ [];
+                }
+                ∷ record {
+                  inputs = in_symbol.NotRise ∷ in_symbol.Low ∷ [];
+                  current = current_symbol.Any ∷ [];
+                  next = next_symbol.Keep ∷ [];
+                }
+                ∷ [];
           })
           0 (0 ∷ 1 ∷ []);
-      support = 0 ∷ 1 ∷ []
+      support = 0 ∷ 1 ∷ [];
     }
 
 toggle_rises : machine_step (group_step 3 toggle) 0 Zero One (Zero ∷ []) Zero ≡ One
@@ -116,7 +116,7 @@ setup on =
       first = record { pin = 1; edge = edge.Any };
       second = record { pin = 0; edge = edge.Rise };
       limit = 50;
-      holds = λ _. on
+      holds = λ _. on;
     }
 
 -- a distance of 49 is a violation, one of 50 is none, and none counts without the condition
@@ -137,7 +137,7 @@ width =
       first = record { pin = 0; edge = edge.Rise };
       second = record { pin = 0; edge = edge.Fall };
       limit = 100;
-      holds = λ _. true
+      holds = λ _. true;
     }
 
 width_reports : report 2 width (set_at 450 0 Zero ∷ set_at 400 0 One ∷ set_at 200 0 Zero ∷ set_at 10 1 One ∷ []) ≡ true
@@ -151,7 +151,7 @@ period =
       first = record { pin = 0; edge = edge.Any };
       second = record { pin = 0; edge = edge.Any };
       limit = 100;
-      holds = λ _. true
+      holds = λ _. true;
     }
 
 abbrev clock_until_60 : List Change
@@ -169,16 +169,16 @@ falls_are_near_again = refl
 -- the least over the active paths, and 0 where none is
 least_of_two :
     least_delay Zero One
-      (record { active = true; rise = 7; fall = 9 }
-      ∷ record { active = false; rise = 1; fall = 1 }
-      ∷ record { active = true; rise = 5; fall = 11 }
-      ∷ [])
+    (record { active = true; rise = 7; fall = 9 }
+    ∷ record { active = false; rise = 1; fall = 1 }
+    ∷ record { active = true; rise = 5; fall = 11 }
+    ∷ [])
     ≡ 5
 least_of_two = refl
 
 least_of_falls :
     least_delay One Unknown
-      (record { active = true; rise = 7; fall = 9 } ∷ record { active = true; rise = 5; fall = 11 } ∷ []) ≡ 9
+    (record { active = true; rise = 7; fall = 9 } ∷ record { active = true; rise = 5; fall = 11 } ∷ []) ≡ 9
 least_of_falls = refl
 
 least_of_none : least_delay Zero One (record { active = false; rise = 1; fall = 1 } ∷ []) ≡ 0

@@ -1,2 +1,5 @@
 mod Examples
 pub mod Columns
+pub mod StepLemmas
+pub mod CellFacts
+pub mod GroupSteps

@@ -1,10 +1,11 @@
 -- What holds of every cell: the rules on its pins, groups, outputs, checks and arcs, and its limits. Each rule is a
 -- test, so that a reader of cells can establish it by itself.
-use Rattle.std.specs.Prelude.{ℕ, ◌+◌, Bool, true, false, not, ◌&&◌, ◌||◌, List, [], ◌∷◌, ◌++◌, length, map, nat_eq, nat_lt, nat_le, Option, Some, None, slice_get, bytes_eq, flat_map, if◌then◌else◌}
+use Rattle.std.specs.Prelude.{◌≡◌, ℕ, ◌<◌, ◌+◌, Bool, true, false, not, ◌&&◌, ◌||◌, List, [], ◌∷◌, ◌++◌, length, map, nat_eq, nat_lt, nat_le, Option, Some, None, slice_get, bytes_eq, flat_map, if◌then◌else◌}
 use Rattle.std.specs.List.{list_all, list_any}
 use Rattle.std.specs.Option.{option_map_or}
 use Rattle.bool_functions.specs.declared.tree.Node.{Node}
 use Rattle.bool_functions.specs.Tree.{names_of}
+use Rattle.bool_functions.specs.Support.{support_of}
 use Rattle.statetables.specs.declared.symbols.CurrentSymbol.{CurrentSymbol}
 use Rattle.statetables.specs.declared.symbols.CurrentSymbol.TheVariants as current_symbol
 use Rattle.statetables.specs.declared.table.TableRow.{TableRow}
@@ -26,7 +27,7 @@ use Rattle.cell_machine.specs.declared.checks.Edge.{Edge}
 use Rattle.cell_machine.specs.declared.checks.Edge.TheVariants as edge
 use Rattle.cell_machine.specs.declared.checks.Check.{Check}
 use Rattle.cell_machine.specs.declared.arcs.Arc.{Arc}
-use Rattle.cell_machine.specs.Names.{source_name, has, names_below, names_of_optional}
+use Rattle.cell_machine.specs.Names.{source_name, has, names_of_optional}
 
 -- Limits (this project's): the longest time, limit or delay, in picoseconds.
 abbrev pub longest_time : ℕ
@@ -202,10 +203,9 @@ are_outputs pins groups outputs =
 abbrev pub is_condition : List Pin → List ℕ → Option Node → Bool
 is_condition pins apart None = true
 is_condition pins apart (Some f) =
-    let names : List ℕ = names_below (length pins) f in
-    nat_lt 0 (length names)
-    && (nat_le (length names) 10
-    && (list_all (λ i. is_input_pin pins i && not (has apart i)) (names_of f)))
+    nat_lt 0 (length (support_of f))
+    && (nat_le (length (support_of f)) 10
+    && list_all (λ i. is_input_pin pins i && not (has apart i)) (support_of f))
 
 -- an edge of one kind
 abbrev pub is_one_edge : Edge → Bool
@@ -266,3 +266,10 @@ is_cell name pins groups outputs checks arcs =
     is_name name
     && (are_pins pins
     && (are_groups pins groups && (are_outputs pins groups outputs && (are_checks pins checks && are_arcs pins arcs))))
+
+-- Arcs between the same two pins have conditions that differ as trees, none of them written counting as one.
+abbrev pub AreApart : List Arc → Type 0
+AreApart arcs =
+    (i j : ℕ) (arc other : Arc)
+    → i < j → slice_get arcs i ≡ Some arc → slice_get arcs j ≡ Some other
+    → arc.from ≡ other.from → arc.to ≡ other.to → arc.condition ≡ other.condition → ⊥

@@ -1,8 +1,10 @@
 -- The machine of a cell: its states, its outputs, its reports and its delays after each history of its inputs.
-use Rattle.std.specs.Prelude.{◌≡◌, ℕ, ◌+◌, ◌*◌, Bool, true, false, not, ◌&&◌, ◌||◌, List, [], ◌∷◌, length, map, filter, count_by, take, nat_eq, Option, Some, None, position, slice_index_or, slice_set, if◌then◌else◌}
-use Rattle.std.specs.List.{list_all, zip}
+use Rattle.std.specs.Prelude.{ℕ, ◌+◌, Bool, true, false, not, ◌&&◌, ◌||◌, List, [], ◌∷◌, length, map, filter, count_by, take, nat_eq, Option, Some, None, position, slice_get, slice_index_or, slice_set, if◌then◌else◌}
+use Rattle.std.specs.List.{list_all}
+use Rattle.std.specs.Option.{option_map_or}
+use Rattle.cell_machine.specs.Names.{state_name}
 use Rattle.trit_cubes.specs.declared.trits.Trit.{Trit}
-use Rattle.trit_cubes.specs.declared.trits.Trit.TheVariants.{Zero, One, Unknown}
+use Rattle.trit_cubes.specs.declared.trits.Trit.TheVariants.{Unknown}
 use Rattle.trit_cubes.specs.Filling.{same}
 use Rattle.trit_cubes.specs.Resolution.{res}
 use Rattle.bool_functions.specs.declared.tree.Node.{Node}
@@ -16,7 +18,7 @@ use Rattle.cell_machine.specs.declared.checks.Check.{Check}
 use Rattle.cell_machine.specs.declared.arcs.Arc.{Arc}
 use Rattle.cell_machine.specs.declared.changes.Change.{Change}
 use Rattle.cell_machine.specs.declared.cells.Cell.{Cell}
-use Rattle.cell_machine.specs.Names.{names_below}
+use Rattle.bool_functions.specs.Support.{support_of}
 use Rattle.cell_machine.specs.CellRules.{is_input}
 use Rattle.cell_machine.specs.History.{inputs_after, value_before, is_event}
 use Rattle.cell_machine.specs.Report.{InputCheck, reports, any_true}
@@ -47,7 +49,7 @@ pin_values pins v support = map (pin_value pins v) support
 -- The value of a condition at values of the inputs: its resolution over the pins that it names.
 abbrev pub condition_value : List Pin → List Trit → Node → Trit
 condition_value pins v f =
-    res (condition_at (names_below (length pins) f) f) (pin_values pins v (names_below (length pins) f))
+    res (condition_at (support_of f) f) (pin_values pins v (support_of f))
 
 -- whether a check's condition is 1, or there is none
 abbrev pub condition_holds : List Pin → List Trit → Option Node → Bool
@@ -65,7 +67,7 @@ input_check pins k =
       first = input_event pins k.first;
       second = input_event pins k.second;
       limit = k.limit;
-      holds = λ v. condition_holds pins v k.condition
+      holds = λ v. condition_holds pins v k.condition;
     }
 
 abbrev pub input_checks : Cell → List InputCheck
@@ -90,6 +92,16 @@ named_groups cell = named_from (length cell.pins) cell.groups
 
 abbrev pub step_of : NamedGroup → Step
 step_of g = group_step g.name g.group
+
+-- the support of group i, none where there is no such group
+abbrev pub support_at : Cell → ℕ → List ℕ
+support_at cell i = option_map_or (λ (group : StateGroup). group.support) (slice_get cell.groups i) []
+
+-- the step of group i over points of its support, X where there is no such group
+abbrev pub step_at : Cell → ℕ → Step
+step_at cell i before after s =
+    option_map_or (λ (group : StateGroup). group_step (state_name (length cell.pins) i) group before after s)
+    (slice_get cell.groups i) Unknown
 
 -- the place of a changed input in a support, where it is there
 abbrev pub place_in : List Pin → List ℕ → Change → Option ℕ
@@ -160,7 +172,7 @@ is_active pins arcs v arc (Some f) = not (is_zero (condition_value pins v f))
 abbrev pub paths_between : List Pin → List Arc → List Trit → ℕ → ℕ → List Path
 paths_between pins arcs v input output =
     map (λ (arc : Arc). record { active = is_active pins arcs v arc arc.condition; rise = arc.rise; fall = arc.fall })
-        (filter (λ (arc : Arc). nat_eq (input_number pins arc.from) input && nat_eq arc.to output) arcs)
+    (filter (λ (arc : Arc). nat_eq (input_number pins arc.from) input && nat_eq arc.to output) arcs)
 
 -- the delay of an output that goes from a to b at a change, where it does change; v are the inputs after
 abbrev pub delay_at : List Pin → List Arc → List Trit → Change → OutputPin → Trit → Trit → Option ℕ
@@ -172,7 +184,7 @@ abbrev pub delay_after : Cell → List Change → OutputPin → Option ℕ
 delay_after cell [] output = None
 delay_after cell (c ∷ h) output =
     delay_at cell.pins cell.arcs (inputs_after (inputs_of cell) (c ∷ h)) c output
-        (output_after cell h output) (output_after cell (c ∷ h) output)
+    (output_after cell h output) (output_after cell (c ∷ h) output)
 
 -- What a cell shows after a history of its inputs.
 abbrev pub cell_line : Cell → List Change → Line
@@ -180,7 +192,7 @@ cell_line cell h =
     record {
       values = map (output_after cell h) cell.outputs;
       delays = map (delay_after cell h) cell.outputs;
-      reports = reports_of cell h
+      reports = reports_of cell h;
     }
 
 -- The trace of a cell on changes of its inputs, the oldest first.
@@ -194,5 +206,5 @@ cell_machine_of cell =
       inputs = inputs_of cell;
       outputs = length cell.outputs;
       checks = length cell.checks;
-      line = cell_line cell
+      line = cell_line cell;
     }

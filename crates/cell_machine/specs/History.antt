@@ -1,6 +1,6 @@
 -- Lists of changes of the inputs. A history has the newest change first; a list in the order of time is read from its
 -- front.
-use Rattle.std.specs.Prelude.{◌≡◌, ℕ, ◌<◌, Bool, not, List, [], ◌∷◌, replicate, slice_index_or, slice_set, ⊤}
+use Rattle.std.specs.Prelude.{ℕ, ◌<◌, Bool, not, List, [], ◌∷◌, replicate, slice_index_or, slice_set, ⊤}
 use Rattle.trit_cubes.specs.declared.trits.Trit.{Trit}
 use Rattle.trit_cubes.specs.declared.trits.Trit.TheVariants.{Unknown}
 use Rattle.trit_cubes.specs.Filling.{same}

@@ -11,4 +11,5 @@ pub mod Outputs
 pub mod Delay
 pub mod CellTrace
 pub mod Fillings
+pub mod Supports
 pub mod Laws

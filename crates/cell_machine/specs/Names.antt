@@ -1,6 +1,6 @@
 -- The numbered names of a cell's functions. With P pins the name i below P is pin i, the name P + 2g is the state of
 -- group g, and the name P + 2g + 1 is the second variable of group g (this project's rule).
-use Rattle.std.specs.Prelude.{ℕ, zero, suc, ◌+◌, ◌*◌, Bool, List, [], ◌∷◌, ◌++◌, filter, nat_eq, Option, Some, None}
+use Rattle.std.specs.Prelude.{ℕ, ◌+◌, ◌*◌, ◌==◌, Bool, List, [], Option, Some, None}
 use Rattle.std.specs.List.{list_any}
 use Rattle.bool_functions.specs.declared.tree.Node.{Node}
 use Rattle.bool_functions.specs.Tree.{names_of}
@@ -18,16 +18,7 @@ source_name pins (source.State g) = state_name pins g
 
 -- whether the list holds this number
 abbrev pub has : List ℕ → ℕ → Bool
-has xs i = list_any (nat_eq i) xs
-
--- the numbers below n, ascending
-abbrev pub below : ℕ → List ℕ
-below zero = []
-below (suc n) = below n ++ n ∷ []
-
--- the names below n that a function names, ascending, each once
-abbrev pub names_below : ℕ → Node → List ℕ
-names_below n f = filter (has (names_of f)) (below n)
+has xs i = list_any (λ j. j == i) xs
 
 -- the names that a function names where there is one
 abbrev pub names_of_optional : Option Node → List ℕ

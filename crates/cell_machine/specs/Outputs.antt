@@ -1,5 +1,5 @@
 -- The value of an output, and of a condition.
-use Rattle.std.specs.Prelude.{ℕ, ◌+◌, ◌*◌, Bool, true, false, not, ◌&&◌, List, [], ◌∷◌, length, map, Option, Some, None, slice_get, slice_index_or, if◌then◌else◌}
+use Rattle.std.specs.Prelude.{ℕ, ◌+◌, Bool, true, false, not, ◌&&◌, List, [], ◌∷◌, map, Option, slice_get, slice_index_or, if◌then◌else◌}
 use Rattle.std.specs.Option.{option_map_or}
 use Rattle.trit_cubes.specs.declared.trits.Trit.{Trit}
 use Rattle.trit_cubes.specs.declared.trits.Trit.TheVariants.{Zero, One, Unknown}
@@ -13,7 +13,7 @@ use Rattle.cell_machine.specs.declared.groups.StateGroup.{StateGroup}
 use Rattle.cell_machine.specs.declared.outputs.Source.{Source}
 use Rattle.cell_machine.specs.declared.outputs.Source.TheVariants as source
 use Rattle.cell_machine.specs.declared.outputs.OutputPin.{OutputPin}
-use Rattle.cell_machine.specs.Names.{state_name, source_name, names_below}
+use Rattle.cell_machine.specs.Names.{state_name, source_name}
 use Rattle.cell_machine.specs.Values.{no_values, written, is_on}
 use Rattle.cell_machine.specs.Step.{trit_of, both_value}
 
@@ -33,8 +33,8 @@ second_of (kind.Table table node inputs) values s = trit_of (not s)
 abbrev pub second_value : ℕ → List StateGroup → List Bool → ℕ → Trit
 second_value pins groups values g =
     option_map_or
-        (λ (group : StateGroup). second_of group.kind values (slice_index_or values (state_name pins g) false))
-        (slice_get groups g) Unknown
+    (λ (group : StateGroup). second_of group.kind values (slice_index_or values (state_name pins g) false))
+    (slice_get groups g) Unknown
 
 -- the names of the second variables of the states in a support
 abbrev pub second_names : ℕ → List Source → List ℕ
@@ -54,7 +54,7 @@ second_trits pins groups values (source.State g ∷ sources) =
 abbrev pub chosen_value : ℕ → List StateGroup → OutputPin → List Bool → Trit
 chosen_value pins groups output values =
     res (λ choice. trit_of (value_of (written values (second_names pins output.support) choice) output.function))
-        (second_trits pins groups values output.support)
+    (second_trits pins groups values output.support)
 
 -- the value of an output at a point of its support
 abbrev pub output_at : ℕ → List StateGroup → OutputPin → List Bool → Trit

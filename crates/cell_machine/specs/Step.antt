@@ -1,5 +1,5 @@
 -- The step of a group over points: its next state, given the inputs before and after a change and the state, all known.
-use Rattle.std.specs.Prelude.{ℕ, ◌+◌, Bool, true, false, not, ◌&&◌, List, Option, Some, None, if◌then◌else◌, ◌≤◌, ⊤}
+use Rattle.std.specs.Prelude.{ℕ, Bool, true, false, not, ◌&&◌, List, Option, Some, None, if◌then◌else◌, ◌≤◌, ⊤}
 use Rattle.trit_cubes.specs.declared.trits.Trit.{Trit}
 use Rattle.trit_cubes.specs.declared.trits.Trit.TheVariants.{Zero, One, Unknown}
 use Rattle.bool_functions.specs.declared.tree.Node.{Node}

@@ -1,6 +1,6 @@
 //! A cell as data.
 ghost use Rattle.std.specs.Prelude.{IsTrue};
-ghost use Rattle.cell_machine.specs.CellRules.{is_cell};
+ghost use Rattle.cell_machine.specs.CellRules.{is_cell, AreApart};
 
 use crate::arcs::Arc;
 use crate::checks::Check;
@@ -31,4 +31,30 @@ pub struct Cell {
     pub arcs: Items<Arc>,
     /// What holds of every cell.
     pub ghost sound: { IsTrue (is_cell name pins groups outputs checks arcs) },
+    /// No two arcs have the same two pins and the same condition.
+    pub ghost apart: { AreApart arcs },
+}
+
+impl Cell {
+    ghost use Rattle.std.specs.Prelude.{◌≡◌, ◌+◌, ◌*◌, ◌<◌, length, slice_get, Some};
+    ghost use Rattle.cell_machine.specs.Names.{state_name};
+    ghost use Rattle.cell_machine.specs.Supports.{GroupFacts};
+
+    /// The group with this number.
+    pub(crate) fn group(&self, i: usize) -> &StateGroup
+        requires { i < length self.now.groups }
+        ensures is { slice_get self.now.groups i ≡ Some result.now }
+        ensures facts { GroupFacts (length self.now.pins + 2 * i) result.now }
+    {
+        &self.groups.as_slice()[i]
+    }
+
+    /// The name of the state of a group.
+    pub(crate) fn state_name(&self, i: usize) -> usize
+        requires { i < length self.now.groups }
+        ensures name { result ≡ state_name (length self.now.pins) i }
+        ensures small { result + 1 < 96 }
+    {
+        self.pins.len() + 2 * i
+    }
 }

@@ -10,7 +10,6 @@ use crate::groups::GroupKind;
 use crate::values::Values;
 use trit_cubes::Trit;
 
-
 // The step for each filling of the state.
 fn state_filled(kind: &GroupKind, name: usize, before: &Values, after: &Values, state: Trit) -> Trit
     requires name { name < 96 }
@@ -28,28 +27,78 @@ fn state_filled(kind: &GroupKind, name: usize, before: &Values, after: &Values, 
 }
 
 // The step for each filling of the inputs under these names, the same before and after, and of the state.
-fn others_filled(kind: &GroupKind, name: usize, names: &[usize], trits: &[Trit], before: Values, after: Values, state: Trit) -> Trit
+fn others_filled(
+    kind: &GroupKind,
+    name: usize,
+    names: &[usize],
+    trits: &[Trit],
+    before: Values,
+    after: Values,
+    state: Trit,
+) -> Trit
     requires name { name < 96 }
     requires bounded { KindIsBounded kind.now }
     requires one_each { length names.now ≡ length trits.now }
     ensures { result ≡ others_filled kind.now name names.now trits.now before after state }
 {
-    let (Some((first, names)), Some((trit, trits))) = (names.split_first(), trits.split_first()) else {
+    let (Some((first, names)), Some((trit, trits))) = (names.split_first(), trits.split_first())
+    else {
         return state_filled(kind, name, &before, &after, state);
     };
     let first = *first;
     match *trit {
-        Trit::Zero => others_filled(kind, name, names, trits, before.with(first, false), after.with(first, false), state),
-        Trit::One => others_filled(kind, name, names, trits, before.with(first, true), after.with(first, true), state),
+        Trit::Zero => others_filled(
+            kind,
+            name,
+            names,
+            trits,
+            before.with(first, false),
+            after.with(first, false),
+            state,
+        ),
+        Trit::One => others_filled(
+            kind,
+            name,
+            names,
+            trits,
+            before.with(first, true),
+            after.with(first, true),
+            state,
+        ),
         Trit::Unknown => {
-            let zero = others_filled(kind, name, names, trits, before.with(first, false), after.with(first, false), state);
-            zero.agreed(others_filled(kind, name, names, trits, before.with(first, true), after.with(first, true), state))
+            let zero = others_filled(
+                kind,
+                name,
+                names,
+                trits,
+                before.with(first, false),
+                after.with(first, false),
+                state,
+            );
+            zero.agreed(others_filled(
+                kind,
+                name,
+                names,
+                trits,
+                before.with(first, true),
+                after.with(first, true),
+                state,
+            ))
         }
     }
 }
 
 // The step for each filling of the changed input's new value too.
-fn new_filled(kind: &GroupKind, name: usize, changed: usize, new: Trit, names: &[usize], trits: &[Trit], before: Values, state: Trit) -> Trit
+fn new_filled(
+    kind: &GroupKind,
+    name: usize,
+    changed: usize,
+    new: Trit,
+    names: &[usize],
+    trits: &[Trit],
+    before: Values,
+    state: Trit,
+) -> Trit
     requires name { name < 96 }
     requires bounded { KindIsBounded kind.now }
     requires one_each { length names.now ≡ length trits.now }
@@ -57,18 +106,59 @@ fn new_filled(kind: &GroupKind, name: usize, changed: usize, new: Trit, names: &
 {
     let none = Values::new();
     match new {
-        Trit::Zero => others_filled(kind, name, names, trits, before, none.with(changed, false), state),
-        Trit::One => others_filled(kind, name, names, trits, before, none.with(changed, true), state),
+        Trit::Zero => others_filled(
+            kind,
+            name,
+            names,
+            trits,
+            before,
+            none.with(changed, false),
+            state,
+        ),
+        Trit::One => others_filled(
+            kind,
+            name,
+            names,
+            trits,
+            before,
+            none.with(changed, true),
+            state,
+        ),
         Trit::Unknown => {
-            let zero = others_filled(kind, name, names, trits, before, none.with(changed, false), state);
-            zero.agreed(others_filled(kind, name, names, trits, before, none.with(changed, true), state))
+            let zero = others_filled(
+                kind,
+                name,
+                names,
+                trits,
+                before,
+                none.with(changed, false),
+                state,
+            );
+            zero.agreed(others_filled(
+                kind,
+                name,
+                names,
+                trits,
+                before,
+                none.with(changed, true),
+                state,
+            ))
         }
     }
 }
 
 /// The step at a change of the input `changed` from `old` to `new`, for each filling of both, of the inputs under
 /// `names`, and of the state.
-pub fn change_filled(kind: &GroupKind, name: usize, changed: usize, old: Trit, new: Trit, names: &[usize], trits: &[Trit], state: Trit) -> Trit
+pub fn change_filled(
+    kind: &GroupKind,
+    name: usize,
+    changed: usize,
+    old: Trit,
+    new: Trit,
+    names: &[usize],
+    trits: &[Trit],
+    state: Trit,
+) -> Trit
     requires name { name < 96 }
     requires bounded { KindIsBounded kind.now }
     requires one_each { length names.now ≡ length trits.now }
@@ -76,11 +166,47 @@ pub fn change_filled(kind: &GroupKind, name: usize, changed: usize, old: Trit, n
 {
     let none = Values::new();
     match old {
-        Trit::Zero => new_filled(kind, name, changed, new, names, trits, none.with(changed, false), state),
-        Trit::One => new_filled(kind, name, changed, new, names, trits, none.with(changed, true), state),
+        Trit::Zero => new_filled(
+            kind,
+            name,
+            changed,
+            new,
+            names,
+            trits,
+            none.with(changed, false),
+            state,
+        ),
+        Trit::One => new_filled(
+            kind,
+            name,
+            changed,
+            new,
+            names,
+            trits,
+            none.with(changed, true),
+            state,
+        ),
         Trit::Unknown => {
-            let zero = new_filled(kind, name, changed, new, names, trits, none.with(changed, false), state);
-            zero.agreed(new_filled(kind, name, changed, new, names, trits, none.with(changed, true), state))
+            let zero = new_filled(
+                kind,
+                name,
+                changed,
+                new,
+                names,
+                trits,
+                none.with(changed, false),
+                state,
+            );
+            zero.agreed(new_filled(
+                kind,
+                name,
+                changed,
+                new,
+                names,
+                trits,
+                none.with(changed, true),
+                state,
+            ))
         }
     }
 }
@@ -107,7 +233,13 @@ fn copied(values: Values, names: &[usize], from: &Values) -> Values
 }
 
 // The common step for both states, from the inputs after a change and each that differ from them in one of the names.
-fn forced_around(kind: &GroupKind, name: usize, rest: &[usize], before: Values, after: &Values) -> Trit
+fn forced_around(
+    kind: &GroupKind,
+    name: usize,
+    rest: &[usize],
+    before: Values,
+    after: &Values,
+) -> Trit
     requires name { name < 96 }
     requires bounded { KindIsBounded kind.now }
     ensures { result ≡ around (λ q. both_states kind.now name (written before rest.now q) after.now) (picked after.now rest.now) }
@@ -122,13 +254,21 @@ fn forced_around(kind: &GroupKind, name: usize, rest: &[usize], before: Values, 
 }
 
 // The forced value for each filling of the inputs under `rest`.
-fn forced_from(kind: &GroupKind, name: usize, support: &[usize], rest: &[usize], trits: &[Trit], after: Values) -> Trit
+fn forced_from(
+    kind: &GroupKind,
+    name: usize,
+    support: &[usize],
+    rest: &[usize],
+    trits: &[Trit],
+    after: Values,
+) -> Trit
     requires name { name < 96 }
     requires bounded { KindIsBounded kind.now }
     requires one_each { length rest.now ≡ length trits.now }
     ensures { result ≡ res (λ p. forced_after kind.now name support.now (written after rest.now p)) trits.now }
 {
-    let (Some((first, rest)), Some((trit, trits))) = (rest.split_first(), trits.split_first()) else {
+    let (Some((first, rest)), Some((trit, trits))) = (rest.split_first(), trits.split_first())
+    else {
         return forced_around(kind, name, support, Values::new(), &after);
     };
     let first = *first;

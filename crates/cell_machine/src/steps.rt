@@ -33,7 +33,14 @@ pub fn both_value(both: Both, state: bool) -> Trit
 }
 
 // The lines on clear and preset, with `otherwise` where both are 0.
-fn cleared_step(clear: &Option<Function>, preset: &Option<Function>, both: Both, after: &Values, state: bool, otherwise: Trit) -> Trit
+fn cleared_step(
+    clear: &Option<Function>,
+    preset: &Option<Function>,
+    both: Both,
+    after: &Values,
+    state: bool,
+    otherwise: Trit,
+) -> Trit
     requires clear { IsBounded clear.now }
     requires preset { IsBounded preset.now }
     ensures { result ≡ cleared_step clear.now preset.now both after.now state otherwise }
@@ -66,7 +73,14 @@ fn clocked_step(kind: &Clocked, name: usize, before: &Values, after: &Values, st
     ensures { result ≡ clocked_step kind.now name before.now after.now state }
 {
     let otherwise = clocked_value(kind, name, before, after, state);
-    cleared_step(&kind.clear, &kind.preset, kind.both1, after, state, otherwise)
+    cleared_step(
+        &kind.clear,
+        &kind.preset,
+        kind.both1,
+        after,
+        state,
+        otherwise,
+    )
 }
 
 fn gated_value(kind: &Gated, name: usize, after: &Values, state: bool) -> Trit
@@ -87,7 +101,14 @@ fn gated_step(kind: &Gated, name: usize, after: &Values, state: bool) -> Trit
     ensures { result ≡ gated_step kind.now name after.now state }
 {
     let otherwise = gated_value(kind, name, after, state);
-    cleared_step(&kind.clear, &kind.preset, kind.both1, after, state, otherwise)
+    cleared_step(
+        &kind.clear,
+        &kind.preset,
+        kind.both1,
+        after,
+        state,
+        otherwise,
+    )
 }
 
 // Whether each column's symbol matches the values of the column's pin.
@@ -106,7 +127,14 @@ fn columns_match(symbols: &[InSymbol], inputs: &[usize], before: &Values, after:
 }
 
 // Whether the row's columns match, and the symbol of the node's present state.
-fn row_matches(row: &TableRow, node: usize, inputs: &[usize], before: &Values, after: &Values, state: bool) -> bool
+fn row_matches(
+    row: &TableRow,
+    node: usize,
+    inputs: &[usize],
+    before: &Values,
+    after: &Values,
+    state: bool,
+) -> bool
     ensures { result ≡ row_matches node (picked before.now inputs.now) (picked after.now inputs.now) state row.now }
 {
     if !columns_match(row.inputs.as_slice(), inputs, before, after) {
@@ -119,7 +147,14 @@ fn row_matches(row: &TableRow, node: usize, inputs: &[usize], before: &Values, a
 }
 
 // The next state of a node by the first row that matches.
-fn table_step(table: &StateTable, node: usize, inputs: &[usize], before: &Values, after: &Values, state: bool) -> Option<bool>
+fn table_step(
+    table: &StateTable,
+    node: usize,
+    inputs: &[usize],
+    before: &Values,
+    after: &Values,
+    state: bool,
+) -> Option<bool>
     ensures { result ≡ table_step table.now node (picked before.now inputs.now) (picked after.now inputs.now) state }
 {
     for row in table.rows.as_slice() {

@@ -41,7 +41,11 @@ impl Values {
     pub fn get(&self, name: usize) -> bool
         ensures { result ≡ slice_index_or self.now name false }
     {
-        if name < Values::NAMES { self.bits[name] } else { false }
+        if name < Values::NAMES {
+            self.bits[name]
+        } else {
+            false
+        }
     }
 
     /// The values with another one for a name.

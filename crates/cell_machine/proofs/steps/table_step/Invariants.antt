@@ -1,5 +1,4 @@
-use Rattle.std.proofs.Common.{◌≡◌, drop, true, false}
-use Rattle.std.specs.Prelude.{find}
+use Rattle.std.proofs.Common.{◌≡◌, drop}
 use Rattle.statetables.specs.Step.{row_of}
 use Rattle.cell_machine.specs.Values.{picked}
 use Rattle.cell_machine.proofs.steps.table_step.Given as goal

@@ -1,7 +1,7 @@
 ghost use Rattle.std.specs.Prelude.{◌≡◌, ◌≤◌, ◌+◌, ◌-◌, ◌^◌, min, length, map, string_bytes, IsTrue, IsSome, IfOk};
 ghost use Rattle.text_io.specs.declared.slots.Slot.TheVariants.{Output};
 ghost use Rattle.text_io.specs.Desk.{is_bound};
-ghost use Rattle.text_io.specs.Host.{file_state, untold};
+ghost use Rattle.text_io.specs.Host.{file_state, file_faults, untold};
 
 use crate::each_slot::{Inputs, Outputs};
 use crate::outside::{Desk, Failed};
@@ -26,7 +26,7 @@ impl FileDesk {
     #[tactic(auto, unfolding(crate::specs::Host::reads_files))]
     pub fn new(rt: HostRuntime, words: Vec<String>) -> FileDesk
         ensures state { file_state result ≡ untold (map string_bytes words.items) }
-        ensures faults { result.faults ≡ 0 }
+        ensures faults { file_faults result ≡ 0 }
     {
         FileDesk {
             rt,
@@ -110,7 +110,7 @@ fn write_file(file: &Option<File>, bytes: &[u8]) -> io::Result<usize>
 impl Desk for FileDesk {
     ghost state = { file_state };
 
-    ghost faults = { λ d. d.faults };
+    ghost faults = { file_faults };
 
     #[tactic(auto, unfolding(crate::specs::Host::reads_files))]
     fn word(&self, place: usize) -> Option<&str> {

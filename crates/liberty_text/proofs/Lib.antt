@@ -1,4 +1,5 @@
 pub mod Complete
+pub mod Numbers
 pub mod Places
 pub mod Quoting
 pub mod Sound

@@ -1,3 +1,4 @@
+pub mod Number
 pub mod Scanner
 pub mod TextValue
 pub mod TokenLaws

@@ -1,5 +1,5 @@
 -- The rows that this project writes for a function, from the primes of the points at which it gives 1 and 0.
-use Rattle.std.specs.Prelude.{◌≡◌, ℕ, Bool, false, List, [], ◌∷◌, ◌++◌, map, replicate, length}
+use Rattle.std.specs.Prelude.{◌≡◌, ℕ, zero, suc, Bool, false, List, [], ◌∷◌, ◌++◌, map, replicate, length}
 use Rattle.trit_cubes.specs.declared.trits.Trit.{Trit}
 use Rattle.trit_cubes.specs.declared.trits.Trit.TheVariants as trit
 use Rattle.trit_cubes.specs.Filling.{trit_of}
@@ -54,6 +54,11 @@ tree_value f p = trit_of (value_of p f)
 -- the primitive of a function text with n names: input k is the name with the number k - 1
 abbrev pub function_primitive : List ℕ → Node → ℕ → Udp
 function_primitive name f n = primitive_of name n (tree_value f)
+
+-- the numbers from 0 on
+abbrev pub numbers_below : ℕ → List ℕ
+numbers_below zero = []
+numbers_below (suc n) = numbers_below n ++ n ∷ []
 
 -- the generated rows give the resolution of the function, for every list of trits
 abbrev pub RowsGiveResolution : Type 0

@@ -1,5 +1,5 @@
 -- The names of a primitive's ports (this project's choice): `q`, and `i1`, `i2` and so on.
-use Rattle.std.specs.Prelude.{ℕ, zero, suc, ◌+◌, List, [], ◌∷◌, ◌++◌, codes, decimal}
+use Rattle.std.specs.Prelude.{ℕ, zero, suc, List, [], ◌∷◌, ◌++◌, codes, decimal}
 
 -- the output
 abbrev pub output_name : List ℕ

@@ -1,5 +1,5 @@
 -- What the symbols of a primitive's table match and what its rows give, by IEEE 1364-2005, clause 8.
-use Rattle.std.specs.Prelude.{◌≡◌, ℕ, Bool, true, false, not, ◌&&◌, ◌||◌, IsTrue, All, List, length}
+use Rattle.std.specs.Prelude.{◌≡◌, Bool, true, false, not, ◌&&◌, ◌||◌, IsTrue, All, List, length}
 use Rattle.std.specs.List.{list_all}
 use Rattle.trit_cubes.specs.declared.trits.Trit.{Trit}
 use Rattle.trit_cubes.specs.declared.trits.Trit.TheVariants.{Zero, One, Unknown}

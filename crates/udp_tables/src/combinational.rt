@@ -24,6 +24,7 @@ pub fn udp_level(udp: &Udp, inputs: &[Trit]) -> Trit
 impl UdpRow {
     // Whether each entry matches its input, where no input changes.
     fn matches(&self, inputs: &[Trit]) -> bool
+        requires { length self.now.inputs ≡ length inputs.now }
         ensures { result ≡ inputs_match inputs.now self.now }
     {
         entries_match(self.inputs.as_slice(), inputs)
@@ -31,13 +32,15 @@ impl UdpRow {
 }
 
 fn entries_match(entries: &[Entry], inputs: &[Trit]) -> bool
+    requires { length entries.now ≡ length inputs.now }
     ensures { result ≡ columns_match entry_matches entries.now inputs.now inputs.now }
 {
-    match (entries.split_first(), inputs.split_first()) {
-        (None, None) => true,
-        (Some((entry, entries)), Some((input, inputs))) => entry.matches(*input) && entries_match(entries, inputs),
-        _ => false,
+    for (i, entry) in entries.iter().enumerate() {
+        if !entry.matches(inputs[i]) {
+            return false;
+        }
     }
+    true
 }
 
 impl Entry {

@@ -1,8 +1,9 @@
-ghost use Rattle.std.specs.Prelude.{◌≡◌, ◌++◌, ◌≤◌, ◌<◌, List, map, replicate, length, IfOk, OnOk};
+ghost use Rattle.std.specs.Prelude.{◌≡◌, ℕ, ◌++◌, ◌^◌, ◌≤◌, ◌<◌, not, map, length, replicate, IfOk, OnOk};
 ghost use Rattle.trit_cubes.specs.declared.trits.Trit.TheVariants as trit;
-ghost use Rattle.bool_functions.specs.Tree.{name_bound};
+ghost use Rattle.bool_functions.specs.Tree.{Has};
+ghost use Rattle.bool_functions.specs.Point.{HasValues};
 ghost use Rattle.udp_tables.specs.Tables.{value_rows, or_row};
-ghost use Rattle.udp_tables.specs.Generated.{level_entry, next_to, level_row, function_primitive, function_rows, tree_value};
+ghost use Rattle.udp_tables.specs.Generated.{level_entry, next_to, level_row, function_primitive, function_rows, tree_value, numbers_below};
 
 use crate::faults::Memory;
 use crate::port_names::{input_names, output_name};
@@ -15,10 +16,15 @@ use trit_cubes::{Cube, Trit, primes};
 /// The primitive of a function of `names` names: its ports are `q` and `i1`, `i2` and so on, input k standing for the name
 /// with the number k - 1. Its rows are the primes of the points at which the function is 1, then of those at which it is
 /// 0.
-pub fn function_udp(alloc: Global, name: &[u8], function: &Function, names: usize) -> Result<Udp, Memory>
+pub fn function_udp(
+    alloc: Global,
+    name: &[u8],
+    function: &Function,
+    names: usize,
+) -> Result<Udp, Memory>
     requires some { 1 ≤ names }
     requires few { names ≤ 10 }
-    requires numbered { name_bound function.now ≤ names }
+    requires numbered { (i : ℕ) → Has function.now i → i < names }
     ensures { IfOk result (λ udp. udp ≡ function_primitive name.now function.now names) }
 {
     Ok(Udp {
@@ -28,4 +34,129 @@ pub fn function_udp(alloc: Global, name: &[u8], function: &Function, names: usiz
         sequential: false,
         rows: function_rows(alloc, function, names)?,
     })
+}
+
+// The rows of the function over its first names.
+fn function_rows(alloc: Global, function: &Function, names: usize) -> Result<Items<UdpRow>, Memory>
+    requires few { names ≤ 10 }
+    requires numbered { (i : ℕ) → Has function.now i → i < names }
+    ensures { IfOk result (λ rows. rows ≡ function_rows names (tree_value function.now)) }
+{
+    let ones = value_table(alloc, function, names)?;
+    let zeros = inverted(alloc, &ones)?;
+    let one_cubes = primes(alloc, names, &ones)?;
+    let zero_cubes = primes(alloc, names, &zeros)?;
+    let rows = table_rows(alloc, names, &one_cubes, &zero_cubes)?;
+    Ok(rows)
+}
+
+// The values of the function at all points over its first names.
+fn value_table(alloc: Global, function: &Function, names: usize) -> Result<Vec<bool>, Memory>
+    requires few { names ≤ 10 }
+    requires numbered { (i : ℕ) → Has function.now i → i < names }
+    ensures entries { IfOk result (λ values. length values.items ≡ 2 ^ names) }
+    ensures values { IfOk result (λ values. HasValues (numbers_below names) function.now values.items) }
+{
+    let places = first_numbers(alloc, names)?;
+    let values = function.table(alloc, &places)?;
+    Ok(values)
+}
+
+// The numbers from 0 on.
+fn first_numbers(alloc: Global, count: usize) -> Result<Vec<usize>, Memory>
+    ensures { IfOk result (λ numbers. numbers.items ≡ numbers_below count) }
+{
+    let mut numbers = Vec::new(alloc);
+    for number in 0..count {
+        numbers.push(number)?;
+    }
+    Ok(numbers)
+}
+
+fn inverted(alloc: Global, values: &[bool]) -> Result<Vec<bool>, Memory>
+    ensures { IfOk result (λ inverses. inverses.items ≡ map not values.now) }
+{
+    Ok(values.iter().map(|value| !*value).collect(alloc)?)
+}
+
+// The rows for the primes of two sets of points, or the row that stands where there is none.
+fn table_rows(
+    alloc: Global,
+    places: usize,
+    ones: &[Cube],
+    zeros: &[Cube],
+) -> Result<Items<UdpRow>, Memory>
+    ensures { IfOk result (λ rows. rows ≡ or_row (level_row trit.Unknown (replicate places trit.Unknown)) (value_rows level_row ones.now zeros.now)) }
+{
+    let mut rows = Items::new(alloc);
+    add_rows(alloc, &mut rows, Trit::One, ones)?;
+    add_rows(alloc, &mut rows, Trit::Zero, zeros)?;
+    if rows.is_empty() {
+        rows.push(free_row(alloc, places)?)?;
+    }
+    Ok(rows)
+}
+
+// Adds a row with this value for each cube.
+fn add_rows(
+    alloc: Global,
+    rows: &mut Items<UdpRow>,
+    value: Trit,
+    cubes: &[Cube],
+) -> Result<(), Memory>
+    ensures { OnOk result (rows.new ≡ rows.old ++ map (level_row value) cubes.now) }
+{
+    for cube in cubes {
+        rows.push(level_row(alloc, value, cube)?)?;
+    }
+    Ok(())
+}
+
+fn level_row(alloc: Global, value: Trit, cube: &Cube) -> Result<UdpRow, Memory>
+    ensures { IfOk result (λ row. row ≡ level_row value cube.now) }
+{
+    let mut inputs = Items::new(alloc);
+    for i in 0..cube.len() {
+        inputs.push(Entry::from(cube.place(i)))?;
+    }
+    Ok(UdpRow {
+        inputs,
+        state: Level::Any,
+        next: Next::from(value),
+    })
+}
+
+// The row of free places that gives x.
+fn free_row(alloc: Global, places: usize) -> Result<UdpRow, Memory>
+    ensures { IfOk result (λ row. row ≡ level_row trit.Unknown (replicate places trit.Unknown)) }
+{
+    Ok(UdpRow {
+        inputs: Items::from_vec(vec![in alloc; Entry::Level(Level::Any); places]?),
+        state: Level::Any,
+        next: Next::Unknown,
+    })
+}
+
+impl From<Trit> for Entry {
+    ghost from_gives = { λ place entry. entry ≡ level_entry place };
+
+    fn from(place: Trit) -> Entry {
+        match place {
+            Trit::Zero => Entry::Level(Level::Zero),
+            Trit::One => Entry::Level(Level::One),
+            Trit::Unknown => Entry::Level(Level::Any),
+        }
+    }
+}
+
+impl From<Trit> for Next {
+    ghost from_gives = { λ value next. next ≡ next_to value };
+
+    fn from(value: Trit) -> Next {
+        match value {
+            Trit::Zero => Next::Zero,
+            Trit::One => Next::One,
+            Trit::Unknown => Next::Unknown,
+        }
+    }
 }

@@ -5,11 +5,9 @@ ghost use Rattle.udp_tables.specs.Generated.{RowsGiveResolution, PrimitiveIsComb
 /// The generated rows of a function give its resolution, for every list of trits.
 pub fn rows_give_resolution()
     ensures { RowsGiveResolution }
-{
-}
+{}
 
 /// The generated primitive of a function is a combinational one.
 pub fn primitive_is_combinational()
     ensures { PrimitiveIsCombinational }
-{
-}
+{}

@@ -1,0 +1,10 @@
+use Rattle.std.proofs.Common.{◌≡◌, drop}
+use Rattle.std.specs.Prelude.{None}
+use Rattle.std.specs.Option.{option_map}
+use Rattle.timing_arcs.specs.Attributes.{attributes_named, last_or}
+use Rattle.timing_arcs.specs.Shown.{shown}
+use Rattle.timing_arcs.proofs.attributes.last_attribute.Given as goal
+
+-- the last of the attributes from here on, or else the last so far, is the last of all
+abbrev pub invariant-loop-item : goal.invariant-loop-item
+invariant-loop-item l = last_or (option_map shown l.found) (attributes_named l.name (drop l.item-index l.group.items)) ≡ last_or None (attributes_named l.name l.group.items)

@@ -1,0 +1,10 @@
+pub mod Attributes
+pub mod Texts
+pub mod TimingTypes
+pub mod RelatedPins
+pub mod Conditions
+pub mod Tables
+pub mod Making
+pub mod Merging
+pub mod Timing
+pub mod Shown

@@ -1,0 +1,61 @@
+-- Arcs with the same ends and the same condition are one arc (this project's rule).
+use Rattle.std.specs.Prelude.{ℕ, Bool, true, false, ◌&&◌, not, ◌==◌, List, [], ◌∷◌, map, filter, Option, Some, None, if◌then◌else◌}
+use Rattle.std.specs.List.{list_any}
+use Rattle.bool_functions.specs.declared.tree.Node.{Node, out-Node}
+use Rattle.bool_functions.specs.declared.tree.Node.TheOpen.{Node-F}
+use Rattle.bool_functions.specs.declared.tree.Node.TheFolds.{fold-Node}
+use Rattle.cell_machine.specs.declared.arcs.Arc.{Arc}
+use Rattle.timing_arcs.specs.Tables.{greatest}
+
+-- Whether an operator over parts, each of which tells the trees that equal it, equals that of a tree.
+abbrev pub same_step : Node-F (Node → Bool) → Node-F Node → Bool
+same_step Node-F.Zero Node-F.Zero = true
+same_step Node-F.One Node-F.One = true
+same_step (Node-F.Name i) (Node-F.Name j) = i == j
+same_step (Node-F.Not f) (Node-F.Not g) = f g
+same_step (Node-F.Xor f h) (Node-F.Xor g k) = f g && h k
+same_step (Node-F.And f h) (Node-F.And g k) = f g && h k
+same_step (Node-F.Or f h) (Node-F.Or g k) = f g && h k
+same_step _ _ = false
+
+-- Whether two trees are equal.
+abbrev pub same_tree : Node → Node → Bool
+same_tree = fold-Node (Node → Bool) (λ layer other. same_step layer (out-Node other))
+
+-- Whether two conditions are equal: the same tree, or none.
+abbrev pub same_condition : Option Node → Option Node → Bool
+same_condition None None = true
+same_condition None (Some g) = false
+same_condition (Some f) None = false
+same_condition (Some f) (Some g) = same_tree f g
+
+-- Whether two arcs have the same ends and the same condition.
+abbrev pub same_path : Arc → Arc → Bool
+same_path a b = a.from == b.from && (a.to == b.to && same_condition a.condition b.condition)
+
+-- An arc, and the offset of the timing group that made it.
+pub record Placed : Type 0 where
+  pub arc : Arc
+  pub at : ℕ
+
+-- Of arcs with the same ends and the same condition the first, after these.
+abbrev pub firsts_after : List Arc → List Placed → List Placed
+firsts_after earlier [] = []
+firsts_after earlier (p ∷ ps) =
+    if list_any (same_path p.arc) earlier then firsts_after earlier ps else p ∷ firsts_after (p.arc ∷ earlier) ps
+
+abbrev pub firsts : List Placed → List Placed
+firsts made = firsts_after [] made
+
+-- All arcs with its ends and its condition in one: the greatest rise and the greatest fall of them.
+abbrev pub merged_into : List Placed → Arc → Arc
+merged_into made arc =
+    record arc { rise = greatest (map (λ (p : Placed). p.arc.rise) (filter (λ (p : Placed). same_path arc p.arc) made)); fall = greatest (map (λ (p : Placed). p.arc.fall) (filter (λ (p : Placed). same_path arc p.arc) made)) }
+
+-- The arcs that are left, each in the place of the first of those that it stands for.
+abbrev pub merged : List Placed → List Arc
+merged made = map (λ (p : Placed). merged_into made p.arc) (firsts made)
+
+-- The offset of the timing group that first made each.
+abbrev pub merged_at : List Placed → List ℕ
+merged_at made = map (λ (p : Placed). p.at) (firsts made)

@@ -1,0 +1,175 @@
+-- The timing of one pin: what its timing groups and its pulse widths make (Liberty Reference Manual, `timing` group,
+-- `min_pulse_width_high` and `min_pulse_width_low`).
+use Rattle.std.specs.Prelude.{◌≡◌, ℕ, ◌+◌, min, Bool, true, false, ◌&&◌, List, [], ◌∷◌, ◌++◌, map, flat_map, codes, slice_get, Option, Some, None, is_none, unwrap_or, Result, Ok, Err, if◌then◌else◌}
+use Rattle.std.specs.Option.{option_map_or}
+use Rattle.std.specs.List.{list_any}
+use Rattle.liberty_groups.specs.declared.tree.Item.{Item, out-Item}
+use Rattle.liberty_groups.specs.declared.tree.Group.{Group}
+use Rattle.cell_machine.specs.declared.checks.CheckKind.TheVariants as kind
+use Rattle.cell_machine.specs.declared.checks.Edge.{Edge}
+use Rattle.cell_machine.specs.declared.checks.Edge.TheVariants.{Rise, Fall}
+use Rattle.cell_machine.specs.declared.checks.Check.{Check}
+use Rattle.cell_machine.specs.CellRules.{is_input_pin}
+use Rattle.timing_arcs.specs.declared.fault.TimingFault.{TimingFault}
+use Rattle.timing_arcs.specs.declared.fault.TimingFault.TheVariants as fault
+use Rattle.timing_arcs.specs.declared.subject.Subject.{Subject}
+use Rattle.timing_arcs.specs.declared.subject.PinTiming.{PinTiming}
+use Rattle.timing_arcs.specs.Attributes.{Attribute, attribute_of, group_named, groups_named, place_of}
+use Rattle.timing_arcs.specs.Texts.{time_of}
+use Rattle.timing_arcs.specs.TimingTypes.{type_of, rise_table, fall_table, is_used}
+use Rattle.timing_arcs.specs.RelatedPins.{related_of, inputs_of, is_unknown, is_read, is_left_out}
+use Rattle.timing_arcs.specs.Conditions.{condition_of, is_malformed, has_unknown, names_one, is_wide}
+use Rattle.timing_arcs.specs.Tables.{bad_numbers_at}
+use Rattle.timing_arcs.specs.Making.{event, check, checks_in, arcs_in}
+use Rattle.timing_arcs.specs.Merging.{Placed, merged, merged_at}
+
+-- The least of some offsets.
+abbrev pub lesser : Option ℕ → Option ℕ → Option ℕ
+lesser None other = other
+lesser (Some x) None = Some x
+lesser (Some x) (Some y) = Some (min x y)
+
+abbrev pub least : List ℕ → Option ℕ
+least [] = None
+least (x ∷ xs) = lesser (Some x) (least xs)
+
+-- The timing groups of a pin, in order.
+abbrev pub timing_groups : Group → List Group
+timing_groups pin = groups_named (codes "timing") pin.items
+
+-- What a text of a group is wrong, by the offset of its statement. A condition that is not read is not judged.
+
+-- A condition that does not read.
+abbrev pub malformed_in : Subject → Group → List ℕ
+malformed_in subject group =
+    if is_read subject group && is_malformed (condition_of subject group) then place_of (attribute_of group (codes "when")) else []
+
+-- A related pin that is no pin, and a condition with a name that is no input pin.
+abbrev pub unknown_in : Subject → Group → List ℕ
+unknown_in subject group =
+    (if is_used subject group && list_any is_unknown (related_of subject group) then place_of (attribute_of group (codes "related_pin")) else [])
+    ++ (if is_read subject group && has_unknown (condition_of subject group) then place_of (attribute_of group (codes "when")) else [])
+
+-- A condition that names the pin of a check or a pin that the group is related to.
+abbrev pub own_in : Subject → Group → List ℕ
+own_in subject group =
+    if is_read subject group && names_one (subject.place ∷ inputs_of subject group) (condition_of subject group) then place_of (attribute_of group (codes "when")) else []
+
+-- A condition with more names than the limit.
+abbrev pub wide_in : Subject → Group → List ℕ
+wide_in subject group =
+    if is_read subject group && is_wide (condition_of subject group) then place_of (attribute_of group (codes "when")) else []
+
+-- What is wrong in the tables that a group uses.
+abbrev pub bad_numbers_in : Subject → Group → List ℕ
+bad_numbers_in subject group =
+    if is_read subject group
+    then bad_numbers_at subject.unit (rise_table (type_of group)) group ++ bad_numbers_at subject.unit (fall_table (type_of group)) group
+    else []
+
+-- The two attributes of an input pin that give the least width of a pulse. Those of another pin are not read.
+abbrev pub pulse_attribute : Subject → Group → List ℕ → Option Attribute
+pulse_attribute subject pin name = if is_input_pin subject.pins subject.place then attribute_of pin name else None
+
+-- The check of a pulse that begins and ends with these edges. It has no condition.
+abbrev pub pulse_check : Subject → Edge → Edge → Attribute → List Check
+pulse_check subject begins ends attribute =
+    check kind.Width (event subject.place begins) (event subject.place ends) (unwrap_or (time_of subject.unit attribute.text) 0) None
+
+abbrev pub pulse_checks : Subject → Edge → Edge → Option Attribute → List Check
+pulse_checks subject begins ends attribute = option_map_or (pulse_check subject begins ends) attribute []
+
+-- The width of a pulse that is no time.
+abbrev pub bad_pulse : Subject → Option Attribute → List ℕ
+bad_pulse subject attribute = option_map_or (λ (a : Attribute). if is_none (time_of subject.unit a.text) then a.at ∷ [] else []) attribute []
+
+abbrev pub pulse_high : Subject → Group → Option Attribute
+pulse_high subject pin = pulse_attribute subject pin (codes "min_pulse_width_high")
+
+abbrev pub pulse_low : Subject → Group → Option Attribute
+pulse_low subject pin = pulse_attribute subject pin (codes "min_pulse_width_low")
+
+-- These at the offset.
+abbrev pub at_each : {A : Type 0} → ℕ → List A → List ℕ
+at_each at xs = map (λ x. at) xs
+
+-- The checks of the pin: of its timing groups in order, then the high pulse and the low pulse.
+abbrev pub checks_of : Subject → Group → List Check
+checks_of subject pin =
+    flat_map (checks_in subject) (timing_groups pin)
+    ++ (pulse_checks subject Rise Fall (pulse_high subject pin) ++ pulse_checks subject Fall Rise (pulse_low subject pin))
+
+-- For each check the offset of the group or attribute that made it.
+abbrev pub pulse_check_at : Subject → Edge → Edge → Option Attribute → List ℕ
+pulse_check_at subject begins ends attribute = option_map_or (λ (a : Attribute). at_each a.at (pulse_check subject begins ends a)) attribute []
+
+abbrev pub check_at_of : Subject → Group → List ℕ
+check_at_of subject pin =
+    flat_map (λ (group : Group). at_each group.at (checks_in subject group)) (timing_groups pin)
+    ++ (pulse_check_at subject Rise Fall (pulse_high subject pin) ++ pulse_check_at subject Fall Rise (pulse_low subject pin))
+
+-- The arcs that the pin's timing groups make, in order, each with the offset of its group.
+abbrev pub placed_arcs_in : Subject → Group → List Placed
+placed_arcs_in subject group = map (λ arc. record { arc = arc; at = group.at }) (arcs_in subject group)
+
+abbrev pub placed_arcs : Subject → Group → List Placed
+placed_arcs subject pin = flat_map (placed_arcs_in subject) (timing_groups pin)
+
+-- The places of the left-out timing groups among the pin's statements, where the first has this place.
+abbrev pub left_out_at : Subject → ℕ → Option Group → List ℕ
+left_out_at subject place None = []
+left_out_at subject place (Some group) = if is_left_out subject group then place ∷ [] else []
+
+abbrev pub left_out_from : Subject → ℕ → List Item → List ℕ
+left_out_from subject place [] = []
+left_out_from subject place (item ∷ items) =
+    left_out_at subject place (group_named (codes "timing") (out-Item item)) ++ left_out_from subject (place + 1) items
+
+-- The offsets of what is wrong in the pin's timing, kind by kind.
+abbrev pub malformed_at : Subject → Group → List ℕ
+malformed_at subject pin = flat_map (malformed_in subject) (timing_groups pin)
+
+abbrev pub unknown_names_at : Subject → Group → List ℕ
+unknown_names_at subject pin = flat_map (unknown_in subject) (timing_groups pin)
+
+abbrev pub own_conditions_at : Subject → Group → List ℕ
+own_conditions_at subject pin = flat_map (own_in subject) (timing_groups pin)
+
+abbrev pub numbers_at : Subject → Group → List ℕ
+numbers_at subject pin =
+    flat_map (bad_numbers_in subject) (timing_groups pin)
+    ++ (bad_pulse subject (pulse_high subject pin) ++ bad_pulse subject (pulse_low subject pin))
+
+-- The conditions that are read and have more names than the limit.
+abbrev pub wide_at : Subject → Group → List ℕ
+wide_at subject pin = flat_map (wide_in subject) (timing_groups pin)
+
+-- The timing of the pin.
+abbrev pub timing_of : Subject → Group → PinTiming
+timing_of subject pin = record {
+  checks = checks_of subject pin;
+  arcs = merged (placed_arcs subject pin);
+  left_out = left_out_from subject 0 pin.items;
+  check_at = check_at_of subject pin;
+  arc_at = merged_at (placed_arcs subject pin);
+  wide = least (wide_at subject pin);
+}
+
+-- A timing, unless something is wrong: the first kind that there is decides, and of it the least offset.
+abbrev pub unless_at : (ℕ → TimingFault) → Option ℕ → Result PinTiming TimingFault → Result PinTiming TimingFault
+unless_at wrong None answer = answer
+unless_at wrong (Some at) answer = Err (wrong at)
+
+-- What reading the timing of the pin answers.
+abbrev pub reading_answer : Subject → Group → Result PinTiming TimingFault
+reading_answer subject pin =
+    unless_at fault.Malformed (least (malformed_at subject pin))
+    (unless_at fault.UnknownName (least (unknown_names_at subject pin))
+    (unless_at fault.OwnCondition (least (own_conditions_at subject pin))
+    (unless_at fault.Number (least (numbers_at subject pin)) (Ok (timing_of subject pin)))))
+
+-- The answer of a call is this one, unless memory was not found.
+abbrev pub Gives : Result PinTiming TimingFault → Result PinTiming TimingFault → Type 0
+Gives (Ok timing) answer = answer ≡ Ok timing
+Gives (Err fault.Memory) answer = Unit {0}
+Gives (Err wrong) answer = answer ≡ Err wrong

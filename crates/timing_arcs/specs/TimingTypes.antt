@@ -1,0 +1,85 @@
+-- The types of timing groups: under which pins each stands, and which tables it uses (Liberty Reference Manual,
+-- `timing` group, `timing_type`).
+use Rattle.std.specs.Prelude.{ℕ, Bool, true, false, ◌&&◌, ◌||◌, not, ◌==◌, List, [], ◌∷◌, length, codes, find, bytes_eq, unwrap_or, slice_get}
+use Rattle.std.specs.Option.{option_map, option_map_or}
+use Rattle.liberty_groups.specs.declared.tree.Group.{Group}
+use Rattle.cell_machine.specs.declared.checks.Edge.TheVariants.{Rise, Fall}
+use Rattle.cell_machine.specs.declared.pins.Direction.{Direction}
+use Rattle.cell_machine.specs.declared.pins.Pin.{Pin}
+use Rattle.cell_machine.specs.CellRules.{is_input, is_output}
+use Rattle.timing_arcs.specs.declared.timing_type.TimingType.{TimingType}
+use Rattle.timing_arcs.specs.declared.timing_type.TimingType.TheVariants.{Delay, Setup, Hold, Recovery, Removal, Width, Other}
+use Rattle.timing_arcs.specs.declared.subject.Subject.{Subject}
+use Rattle.timing_arcs.specs.Attributes.{Attribute, attribute_of, groups_named}
+
+-- The words of `timing_type`, and what each stands for. (Liberty Reference Manual, `timing_type`.)
+abbrev pub type_words : List (List ℕ × TimingType)
+type_words = (codes "combinational", Delay)
+    ∷ (codes "combinational_rise", Delay)
+    ∷ (codes "combinational_fall", Delay)
+    ∷ (codes "rising_edge", Delay)
+    ∷ (codes "falling_edge", Delay)
+    ∷ (codes "clear", Delay)
+    ∷ (codes "preset", Delay)
+    ∷ (codes "setup_rising", Setup Rise)
+    ∷ (codes "setup_falling", Setup Fall)
+    ∷ (codes "hold_rising", Hold Rise)
+    ∷ (codes "hold_falling", Hold Fall)
+    ∷ (codes "recovery_rising", Recovery Rise)
+    ∷ (codes "recovery_falling", Recovery Fall)
+    ∷ (codes "removal_rising", Removal Rise)
+    ∷ (codes "removal_falling", Removal Fall)
+    ∷ (codes "min_pulse_width", Width)
+    ∷ []
+
+-- The type that a text stands for. Every other text is another type, of which nothing is made.
+abbrev pub type_named : List ℕ → TimingType
+type_named text = unwrap_or (option_map (λ entry. entry.1) (find (λ entry. bytes_eq entry.0 text) type_words)) Other
+
+-- The type of a timing group. One without `timing_type` is combinational. (Liberty Reference Manual, `timing_type`.)
+abbrev pub type_of : Group → TimingType
+type_of group = option_map_or (λ (attribute : Attribute). type_named attribute.text) (attribute_of group (codes "timing_type")) Delay
+
+-- Whether a timing group of this type stands under pins of this direction: a delay where it ends, under an output, and
+-- a check under an input. (Liberty Reference Manual, `timing` group.)
+abbrev pub stands_under : TimingType → Direction → Bool
+stands_under Delay direction = is_output direction
+stands_under (Setup edge) direction = is_input direction
+stands_under (Hold edge) direction = is_input direction
+stands_under (Recovery edge) direction = is_input direction
+stands_under (Removal edge) direction = is_input direction
+stands_under Width direction = is_input direction
+stands_under Other direction = false
+
+-- The table groups of the two edges: of a delay `cell_rise` and `cell_fall`, else `rise_constraint` and
+-- `fall_constraint`. (Liberty Reference Manual, `timing` group.)
+abbrev pub rise_table : TimingType → List ℕ
+rise_table Delay = codes "cell_rise"
+rise_table (Setup edge) = codes "rise_constraint"
+rise_table (Hold edge) = codes "rise_constraint"
+rise_table (Recovery edge) = codes "rise_constraint"
+rise_table (Removal edge) = codes "rise_constraint"
+rise_table Width = codes "rise_constraint"
+rise_table Other = codes "rise_constraint"
+
+abbrev pub fall_table : TimingType → List ℕ
+fall_table Delay = codes "cell_fall"
+fall_table (Setup edge) = codes "fall_constraint"
+fall_table (Hold edge) = codes "fall_constraint"
+fall_table (Recovery edge) = codes "fall_constraint"
+fall_table (Removal edge) = codes "fall_constraint"
+fall_table Width = codes "fall_constraint"
+fall_table Other = codes "fall_constraint"
+
+-- Whether the group has a table that its type uses.
+abbrev pub has_table : Group → Bool
+has_table group =
+    not (length (groups_named (rise_table (type_of group)) group.items) == 0)
+    || not (length (groups_named (fall_table (type_of group)) group.items) == 0)
+
+-- Whether a timing group of the subject's pin can make something: its type stands under pins of this direction, and it
+-- has a table that the type uses. Of any other group nothing is read. (This project's rule.)
+abbrev pub is_used : Subject → Group → Bool
+is_used subject group =
+    option_map_or (λ (pin : Pin). stands_under (type_of group) pin.direction) (slice_get subject.pins subject.place) false
+    && has_table group

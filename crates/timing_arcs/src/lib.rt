@@ -1,0 +1,14 @@
+//! The timing checks and delay arcs of one pin of a Liberty cell.
+#![tactic(auto)]
+
+mod attributes;
+mod condition;
+mod fault;
+mod number;
+mod related;
+mod subject;
+mod timing_type;
+
+pub use attributes::{Attribute, inner_group, last_attribute, simple_attribute};
+pub use fault::{Memory, TimingFault};
+pub use subject::{PinTiming, Subject};

@@ -1,0 +1,35 @@
+//! What the timing of a pin is read from, and what it is.
+use crate::number::Unit;
+use bool_functions::Names;
+use cell_machine::{Arc, Check, Pin};
+use sqlite_items::Items;
+
+/// The pin whose timing is read, in its cell.
+#[derive(Drop)]
+pub struct Subject {
+    /// The names of the pins, in their order.
+    pub names: Names,
+    /// The pins of the cell.
+    pub pins: Items<Pin>,
+    /// The number of the pin.
+    pub place: usize,
+    /// The library's time unit, where it is a known one.
+    pub unit: Option<Unit>,
+}
+
+/// The timing of a pin.
+#[derive(Debug, Drop)]
+pub struct PinTiming {
+    /// The checks: of the timing groups in order, then that of the high pulse and that of the low pulse.
+    pub checks: Items<Check>,
+    /// The delay arcs, of the timing groups in order. Those with the same ends and the same condition are one.
+    pub arcs: Items<Arc>,
+    /// The places of the left-out timing groups among the pin's items.
+    pub left_out: Items<usize>,
+    /// For each check the offset of the timing group or attribute that made it.
+    pub check_at: Items<usize>,
+    /// For each arc the offset of the timing group that first made it.
+    pub arc_at: Items<usize>,
+    /// The least offset of a `when` statement that is read and has more than 10 names in its support.
+    pub wide: Option<usize>,
+}

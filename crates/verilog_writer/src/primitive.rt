@@ -42,7 +42,16 @@ fn write_opening<D: Desk>(desk: &mut D, slot: OutSlot, udp: &Udp) -> Result<(), 
     ensures text { WritesText (D.state desk.old) (D.state desk.new) slot (opening_text udp.now) result }
     ensures cause { HasCause (D.faults desk.old) (D.faults desk.new) result }
 {
-    write_pieces(desk, slot, &[b"primitive ", udp.name.as_slice(), b" (", udp.output.as_slice()])
+    write_pieces(
+        desk,
+        slot,
+        &[
+            b"primitive ",
+            udp.name.as_slice(),
+            b" (",
+            udp.output.as_slice(),
+        ],
+    )
 }
 
 /// The inputs in the header.
@@ -75,7 +84,11 @@ fn write_output<D: Desk>(desk: &mut D, slot: OutSlot, udp: &Udp) -> Result<(), F
 {
     let output = udp.output.as_slice();
     if udp.sequential {
-        write_pieces(desk, slot, &[b"  output ", output, b";\n  reg ", output, b";\n"])
+        write_pieces(
+            desk,
+            slot,
+            &[b"  output ", output, b";\n  reg ", output, b";\n"],
+        )
     } else {
         write_pieces(desk, slot, &[b"  output ", output, b";\n"])
     }

@@ -21,7 +21,12 @@ pub(crate) fn write_table<D: Desk>(desk: &mut D, slot: OutSlot, udp: &Udp) -> Re
 }
 
 /// The rows, in order.
-fn write_rows<D: Desk>(desk: &mut D, slot: OutSlot, sequential: bool, rows: &[UdpRow]) -> Result<(), Failed>
+fn write_rows<D: Desk>(
+    desk: &mut D,
+    slot: OutSlot,
+    sequential: bool,
+    rows: &[UdpRow],
+) -> Result<(), Failed>
     requires { IsTrue (is_bound (D.state desk.old) (Output slot)) }
     ensures text { WritesText (D.state desk.old) (D.state desk.new) slot (flat_map (row_text sequential) rows.now) result }
     ensures cause { HasCause (D.faults desk.old) (D.faults desk.new) result }
@@ -34,7 +39,12 @@ fn write_rows<D: Desk>(desk: &mut D, slot: OutSlot, sequential: bool, rows: &[Ud
 
 /// A row's line.
 #[tactic(auto, unfolding(text_io::specs::Desk::wrote))]
-fn write_row<D: Desk>(desk: &mut D, slot: OutSlot, sequential: bool, row: &UdpRow) -> Result<(), Failed>
+fn write_row<D: Desk>(
+    desk: &mut D,
+    slot: OutSlot,
+    sequential: bool,
+    row: &UdpRow,
+) -> Result<(), Failed>
     requires { IsTrue (is_bound (D.state desk.old) (Output slot)) }
     ensures text { WritesText (D.state desk.old) (D.state desk.new) slot (row_text sequential row.now) result }
     ensures cause { HasCause (D.faults desk.old) (D.faults desk.new) result }
@@ -66,7 +76,11 @@ fn write_entry<D: Desk>(desk: &mut D, slot: OutSlot, entry: Entry) -> Result<(),
     match entry {
         Entry::Level(level) => write_pieces(desk, slot, &[level_text(level), b" "]),
         Entry::Pair(before, after) => {
-            write_pieces(desk, slot, &[b"(", level_text(before), level_text(after), b") "])
+            write_pieces(
+                desk,
+                slot,
+                &[b"(", level_text(before), level_text(after), b") "],
+            )
         }
         Entry::R => write_whole(desk, slot, b"r "),
         Entry::F => write_whole(desk, slot, b"f "),
@@ -78,14 +92,23 @@ fn write_entry<D: Desk>(desk: &mut D, slot: OutSlot, entry: Entry) -> Result<(),
 
 /// What stands after the entries of a row.
 #[tactic(auto, unfolding(crate::specs::Primitive::outcome_text))]
-fn write_outcome<D: Desk>(desk: &mut D, slot: OutSlot, sequential: bool, row: &UdpRow) -> Result<(), Failed>
+fn write_outcome<D: Desk>(
+    desk: &mut D,
+    slot: OutSlot,
+    sequential: bool,
+    row: &UdpRow,
+) -> Result<(), Failed>
     requires { IsTrue (is_bound (D.state desk.old) (Output slot)) }
     ensures text { WritesText (D.state desk.old) (D.state desk.new) slot (outcome_text sequential row.now) result }
     ensures cause { HasCause (D.faults desk.old) (D.faults desk.new) result }
 {
     let next = next_text(row.next);
     if sequential {
-        write_pieces(desk, slot, &[b": ", level_text(row.state), b" : ", next, b";\n"])
+        write_pieces(
+            desk,
+            slot,
+            &[b": ", level_text(row.state), b" : ", next, b";\n"],
+        )
     } else {
         write_pieces(desk, slot, &[b": ", next, b";\n"])
     }

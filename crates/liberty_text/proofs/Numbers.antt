@@ -1,7 +1,11 @@
 -- The digits of a number, and what they come to.
-use Rattle.std.proofs.Common.{◌≡◌, ℕ, ◌+◌, ◌-◌, ◌*◌, ◌<◌, ◌≤◌, suc, List, [], ◌∷◌, length, drop, get_or, sym, subst, arith}
+use Rattle.std.proofs.Common.{◌≡◌, ℕ, ◌+◌, ◌-◌, ◌*◌, ◌^◌, ◌<◌, ◌≤◌, ◌++◌, suc, Bool, true, false, List, [], ◌∷◌, length, drop, get_or, refl, sym, ◌∙◌, ap, subst, arith, cond, ◌==◌, add-one}
+use Rattle.std.specs.Prelude.{nat_lt}
 use Rattle.std.proofs.Math.Seq.{drop-cons}
-use Rattle.liberty_text.specs.Number.{digits_value}
+use Rattle.std.proofs.lemmas.Bool.Decides.{nat_tests}
+use Rattle.std.proofs.lemmas.List.{length-append}
+use Rattle.std.proofs.Math.Nat.{pow-suc, pow-le-pow_right}
+use Rattle.liberty_text.specs.Number.{digits_value, significant, is_digit, AreDigits}
 
 -- digits behind a number make it no less
 pub digits_grow : (before : ℕ) (ds : List ℕ) → before ≤ digits_value before ds
@@ -15,3 +19,105 @@ pub next_fits : (value : ℕ) (ds : List ℕ) (i : ℕ) → i < length ds → va
 next_fits value ds i h =
     let first : drop i ds ≡ get_or ds i 0 ∷ drop (suc i) ds = drop-cons ds i 0 h in
     subst (λ l. value * 10 + (get_or ds i 0 - 48) ≤ digits_value value l) (sym first) (digits_grow (value * 10 + (get_or ds i 0 - 48)) (drop (suc i) ds))
+
+-- digits behind digits
+pub value_append : (before : ℕ) (ds es : List ℕ) → digits_value before (ds ++ es) ≡ digits_value (digits_value before ds) es
+value_append before [] es = refl
+value_append before (d ∷ ds) es = value_append (before * 10 + (d - 48)) ds es
+
+-- digits behind leading zeros, in two parts
+pub significant_append : (ds es : List ℕ) → significant (ds ++ es) ≡ cond (significant ds == 0) (significant es) (significant ds + length es)
+significant_append [] es = refl
+significant_append (d ∷ ds) es = by_test (significant_append ds es) (d == 48)
+  where
+    by_test : (significant (ds ++ es) ≡ cond (significant ds == 0) (significant es) (significant ds + length es)) → (q : Bool) →
+        cond q (significant (ds ++ es)) (length (d ∷ ds ++ es)) ≡ cond (cond q (significant ds) (length (d ∷ ds)) == 0) (significant es) (cond q (significant ds) (length (d ∷ ds)) + length es)
+    by_test next true = next
+    by_test next false =
+        let some : (length (d ∷ ds) == 0) ≡ false = grind (arith, nat_tests) in
+        length-append (d ∷ ds) es ∙ sym (ap (λ q. cond q (significant es) (length (d ∷ ds) + length es)) some)
+
+pub pow_next : (k : ℕ) → 10 ^ (k + 1) ≡ 10 ^ k * 10
+pow_next k = rw add-one (pow-suc 10 k)
+
+-- a digit is below ten
+pub digit_below : (d : ℕ) → is_digit d ≡ true → d - 48 ≤ 9
+digit_below d e = grind (arith, nat_tests)
+
+-- the digits behind a number below a power of ten
+pub value_below : (k before : ℕ) (ds : List ℕ) → AreDigits ds → before < 10 ^ k → digits_value before ds < 10 ^ (k + length ds)
+value_below k before [] all h =
+    let same : k ≡ k + 0 = omega arith in
+    subst (λ n. before < 10 ^ n) same h
+value_below k before (d ∷ ds) (e, all) h =
+    let digit = digit_below d e in
+    let power : 10 ^ (k + 1) ≡ 10 ^ k * 10 = pow_next k in
+    let next : before * 10 + (d - 48) < 10 ^ (k + 1) = omega (arith, power, h, digit) in
+    let same : k + 1 + length ds ≡ k + length (d ∷ ds) = omega arith in
+    subst (λ n. digits_value (before * 10 + (d - 48)) ds < 10 ^ n) same (value_below (k + 1) (before * 10 + (d - 48)) ds all next)
+
+-- they come to less than ten to their count
+pub value_fits : (ds : List ℕ) → AreDigits ds → digits_value 0 ds < 10 ^ significant ds
+value_fits [] all = omega arith
+value_fits (d ∷ ds) (e, all) = by_test (value_fits ds all) (d == 48) refl
+  where
+    by_test : digits_value 0 ds < 10 ^ significant ds → (q : Bool) → (d == 48) ≡ q → digits_value (0 * 10 + (d - 48)) ds < 10 ^ cond q (significant ds) (length (d ∷ ds))
+    by_test next true f =
+        let zero_is : 0 ≡ 0 * 10 + (d - 48) = grind (arith, nat_tests, f) in
+        subst (λ v. digits_value v ds < 10 ^ significant ds) zero_is next
+    by_test next false f =
+        let digit = digit_below d e in
+        let first : 0 * 10 + (d - 48) < 10 ^ 1 = omega arith in
+        let same : 1 + length ds ≡ length (d ∷ ds) = omega arith in
+        subst (λ n. digits_value (0 * 10 + (d - 48)) ds < 10 ^ n) same (value_below 1 (0 * 10 + (d - 48)) ds all first)
+
+-- a number behind which two digits stand
+pub two_more : (before : ℕ) (ds : List ℕ) → 0 < before → 1 < length ds → 30 < digits_value before ds
+two_more before [] h long = absurd (omega arith)
+two_more before (a ∷ []) h long = absurd (omega arith)
+two_more before (a ∷ b ∷ ds) h long =
+    let grown = digits_grow ((before * 10 + (a - 48)) * 10 + (b - 48)) ds in
+    omega (arith, grown, h)
+
+-- three digits behind leading zeros come to more than 30
+pub value_exceeds : (ds : List ℕ) → AreDigits ds → 2 < significant ds → 30 < digits_value 0 ds
+value_exceeds [] all long = absurd (omega arith)
+value_exceeds (d ∷ ds) (e, all) long = by_test (value_exceeds ds all) (d == 48) refl long
+  where
+    by_test : (2 < significant ds → 30 < digits_value 0 ds) → (q : Bool) → (d == 48) ≡ q → 2 < cond q (significant ds) (length (d ∷ ds)) → 30 < digits_value (0 * 10 + (d - 48)) ds
+    by_test next true f h =
+        let zero_is : 0 ≡ 0 * 10 + (d - 48) = grind (arith, nat_tests, f) in
+        subst (λ v. 30 < digits_value v ds) zero_is (next h)
+    by_test next false f h =
+        let some : 0 < 0 * 10 + (d - 48) = grind (arith, nat_tests, e, f) in
+        let more : 1 < length ds = omega (arith, h) in
+        two_more (0 * 10 + (d - 48)) ds some more
+
+-- so many digits behind leading zeros come to less than ten to this count
+pub value_within : (count : ℕ) (ds : List ℕ) → AreDigits ds → significant ds ≤ count → digits_value 0 ds < 10 ^ count
+value_within count ds all few =
+    let ten : 0 < 10 = omega arith in
+    let power : 10 ^ significant ds ≤ 10 ^ count = pow-le-pow_right ten few in
+    let fits = value_fits ds all in
+    omega (arith, power, fits)
+
+pub short_value : (ds : List ℕ) → AreDigits ds → significant ds ≤ 2 → digits_value 0 ds < 2 ^ 63
+short_value ds all few = let fits = value_within 2 ds all few in omega (arith, fits)
+
+pub digits_append : (ds es : List ℕ) → AreDigits ds → AreDigits es → AreDigits (ds ++ es)
+digits_append [] es all more = more
+digits_append (d ∷ ds) es (e, all) more = (e, digits_append ds es all more)
+
+-- eighteen digits behind leading zeros fit a signed number of 64 bits
+pub long_value : (ds es : List ℕ) → AreDigits ds → AreDigits es → nat_lt 18 (significant (ds ++ es)) ≡ false → digits_value (digits_value 0 ds) es < 2 ^ 63
+long_value ds es all more e =
+    let few : significant (ds ++ es) ≤ 18 = grind (arith, nat_tests, e) in
+    let fits = value_within 18 (ds ++ es) (digits_append ds es all more) few in
+    let same = value_append 0 ds es in
+    omega (arith, fits, same)
+
+pub first_value : (ds es : List ℕ) → AreDigits ds → AreDigits es → nat_lt 18 (significant (ds ++ es)) ≡ false → digits_value 0 ds < 2 ^ 63
+first_value ds es all more e =
+    let fits = long_value ds es all more e in
+    let grown = digits_grow (digits_value 0 ds) es in
+    omega (arith, fits, grown)

@@ -1,6 +1,9 @@
 -- The numbers of a Liberty text: an optional sign, digits with an optional point, and an optional
 -- exponent (Liberty Reference Manual, floating-point values). The bounds are this project's rule.
-use Rattle.std.specs.Prelude.{◌≡◌, ◌⊎◌, ◌↔◌, ℕ, ◌+◌, ◌-◌, ◌*◌, ◌<◌, ◌++◌, Bool, true, false, List, [], ◌∷◌, length, take, drop, Option, Some, None, if◌then◌else◌, ◌==◌, nat_le, nat_lt, ◌&&◌, ◌||◌, ℤ, pos, neg_ℤ}
+use Rattle.std.specs.Prelude.{◌≡◌, ◌⊎◌, ◌↔◌, ℕ, ◌+◌, ◌-◌, ◌*◌, ◌^◌, ◌<◌, ◌++◌, Bool, true, false, List, [], ◌∷◌, length, take, drop, Option, Some, None, Result, Ok, Err, if◌then◌else◌, ◌==◌, nat_le, nat_lt, ◌&&◌, ◌||◌, ℤ, pos, neg_ℤ, ◌+ℤ◌, ◌-ℤ◌, ◌*ℤ◌}
+use Rattle.liberty_text.specs.declared.decimal.Fixed.{Fixed}
+use Rattle.liberty_text.specs.declared.decimal.NumberFault.{NumberFault}
+use Rattle.liberty_text.specs.declared.decimal.NumberFault.TheVariants.{NotNumber, TooManyDigits, TooLarge}
 
 -- a number as it is written: its sign, the digits before and behind its point, and its exponent
 pub record Written : Type 0 where
@@ -112,13 +115,52 @@ signed true n = neg_ℤ (pos n)
 abbrev pub exponent_written : Written → ℤ
 exponent_written n = signed n.exponent_negative (digits_value 0 n.exponent)
 
--- more than 18 digits behind the leading zeros
+-- more than 18 digits behind the leading zeros, the point taken out
 abbrev pub HasTooManyDigits : Written → Type 0
 HasTooManyDigits n = 18 < significant (n.whole ++ n.fraction)
 
 -- an exponent outside -30 to 30, or more than 30 digits behind the point
 abbrev pub IsTooLarge : Written → Type 0
 IsTooLarge n = (30 < digits_value 0 n.exponent) ⊎ (30 < length n.fraction)
+
+-- The mantissa times ten to the exponent is the number that is written, which is, but for its sign,
+-- the digits before the point, and the digits behind it over ten to their count, times ten to the
+-- written exponent. Both sides are times a power of ten that makes them whole.
+abbrev pub IsValueOf : Written → Fixed → Type 0
+IsValueOf n f =
+    (a b : ℕ) → (f.exponent +ℤ pos b) ≡ ((exponent_written n -ℤ pos (length n.fraction)) +ℤ pos a) →
+    (f.mantissa *ℤ pos (10 ^ a)) ≡ (signed n.negative (digits_value 0 n.whole * 10 ^ length n.fraction + digits_value 0 n.fraction) *ℤ pos (10 ^ b))
+
+-- a text is a number within the bounds, and its value is this
+abbrev pub IsFixedOf : List ℕ → Fixed → Type 0
+IsFixedOf text f = (n : Written) × IsNumber text n × (HasTooManyDigits n → ⊥) × (IsTooLarge n → ⊥) × IsValueOf n f
+
+-- why a text gives no number
+abbrev pub IsNumberFaultOf : List ℕ → NumberFault → Type 0
+IsNumberFaultOf text NotNumber = (n : Written) → IsNumber text n → ⊥
+IsNumberFaultOf text TooManyDigits = (n : Written) × IsNumber text n × HasTooManyDigits n
+IsNumberFaultOf text TooLarge = (n : Written) × IsNumber text n × (HasTooManyDigits n → ⊥) × IsTooLarge n
+
+-- the digits as they are written, and the exponent less the digits behind the point
+abbrev pub fixed_written : Written → Fixed
+fixed_written n = record {
+  mantissa = signed n.negative (digits_value (digits_value 0 n.whole) n.fraction);
+  exponent = exponent_written n -ℤ pos (length n.fraction);
+}
+
+abbrev pub fixed_with : Written → Result Fixed NumberFault
+fixed_with n =
+    if nat_lt 18 (significant (n.whole ++ n.fraction)) then Err TooManyDigits
+    else (if nat_lt 30 (digits_value 0 n.exponent) || nat_lt 30 (length n.fraction) then Err TooLarge
+    else Ok (fixed_written n))
+
+abbrev pub fixed_found : Option Written → Result Fixed NumberFault
+fixed_found None = Err NotNumber
+fixed_found (Some n) = fixed_with n
+
+-- the number of a text, or why it gives none
+abbrev pub fixed_of : List ℕ → Result Fixed NumberFault
+fixed_of text = fixed_found (written_of text)
 
 -- what the spelling of a number shows of it
 abbrev pub IsSpelled : Bool → List ℕ → List ℕ → Bool → List ℕ → Option Written → Type 0

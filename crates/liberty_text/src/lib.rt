@@ -2,12 +2,14 @@
 //! times that they spell.
 #![tactic(auto)]
 
+mod decimal;
 mod number;
 mod scanner;
 mod text;
 mod token;
 
-pub use number::{Fixed, NumberFault};
+pub use decimal::{Fixed, NumberFault};
+pub use number::fixed;
 pub use scanner::{one_reading, scan, tokens};
 pub use text::{one_value, quotes_read_back, text_value};
 pub use token::{Memory, Scan, Stop, TextFault, Token, TokenKind};

@@ -1,30 +1,9 @@
 //! The numbers of a Liberty text.
 
-ghost use Rattle.std.specs.Prelude.{◌≡◌, ◌+◌, ◌≤◌, ◌<◌, ◌^◌, length, take, drop, Some, None, MatchOption, ◌++◌};
-ghost use Rattle.liberty_text.specs.Number.{digit_run, sign_of, fraction_of, exponent_of, is_run, written_of, IsSpelled, significant, digits_value};
+ghost use Rattle.std.specs.Prelude.{◌≡◌, ◌+◌, ◌≤◌, ◌<◌, ◌^◌, length, take, drop, Some, None, MatchOption, ◌++◌, nat_lt, IfSome, IfOk, IfErr, pos, ◌-ℤ◌};
+ghost use Rattle.liberty_text.specs.Number.{digit_run, sign_of, fraction_of, exponent_of, is_run, written_of, IsSpelled, significant, digits_value, signed, AreDigits, Written, fixed_with, fixed_of, IsFixedOf, IsNumberFaultOf};
 
-use thiserror::Error;
-
-/// A number as a mantissa and an exponent of ten: `mantissa` times 10 to the `exponent`.
-#[derive(Clone, Copy, Debug, PartialEq, Eq)]
-pub struct Fixed {
-    pub mantissa: i64,
-    pub exponent: i8,
-}
-
-/// Why a text gives no number, tried in this order.
-#[derive(Clone, Copy, Debug, PartialEq, Eq, Error)]
-pub enum NumberFault {
-    /// The text is no number.
-    #[error("not a number")]
-    NotNumber,
-    /// More than 18 digits stand behind the leading zeros, the point taken out.
-    #[error("too many digits")]
-    TooManyDigits,
-    /// The exponent lies outside -30 to 30, or more than 30 digits stand behind the point.
-    #[error("too large an exponent")]
-    TooLarge,
-}
+use crate::decimal::{Fixed, NumberFault};
 
 /// A number as it is written, in bytes of its text.
 #[derive(Clone, Copy)]
@@ -142,4 +121,96 @@ fn digits_value(before: u64, digits: &[u8]) -> u64
         value = value * 10 + u64::from(digit.saturating_sub(b'0'));
     }
     value
+}
+
+/// Whether more than 18 digits stand behind the leading zeros, the point taken out.
+#[tactic(auto, using(crate::proofs::Numbers::significant_append))]
+fn has_too_many(whole: &[u8], fraction: &[u8]) -> bool
+    ensures { result ≡ nat_lt 18 (significant (whole.now ++ fraction.now)) }
+{
+    match significant(whole) {
+        0 => significant(fraction) > 18,
+        found => found > 18 || fraction.len() > 18 - found,
+    }
+}
+
+/// The number that the digits of an exponent are, up to 30.
+#[tactic(auto, using(crate::proofs::Numbers::short_value, crate::proofs::Numbers::value_exceeds))]
+fn exponent_value(digits: &[u8]) -> Option<u8>
+    requires { AreDigits digits.now }
+    ensures { MatchOption result (30 < digits_value 0 digits.now) (λ value. (value ≡ digits_value 0 digits.now) × (value ≤ 30)) }
+{
+    if significant(digits) > 2 {
+        return None;
+    }
+    let value = digits_value(0, digits);
+    if value > 30 { None } else { Some(value as u8) }
+}
+
+/// The digits with their sign.
+fn signed_mantissa(negative: bool, digits: u64) -> i64
+    requires { digits < 2 ^ 63 }
+    ensures { result ≡ signed negative digits }
+{
+    let mantissa = digits as i64;
+    if negative { -mantissa } else { mantissa }
+}
+
+/// The exponent with its sign, less the digits behind the point.
+fn signed_exponent(negative: bool, written: u8, digits: u8) -> i8
+    requires written { written ≤ 30 }
+    requires digits { digits ≤ 30 }
+    ensures { result ≡ (signed negative written -ℤ pos digits) }
+{
+    let exponent = written as i8;
+    let exponent = if negative { -exponent } else { exponent };
+    exponent - digits as i8
+}
+
+impl Spelling<'_> {
+    /// The number, or why it is out of bounds.
+    #[tactic(auto, using(crate::proofs::Numbers::long_value, crate::proofs::Numbers::first_value))]
+    fn value(&self) -> Result<Fixed, NumberFault>
+        requires whole { AreDigits self.now.whole.now }
+        requires fraction { AreDigits self.now.fraction.now }
+        requires exponent { AreDigits self.now.exponent.now }
+        ensures { result ≡ fixed_with (record { negative = self.now.negative; whole = self.now.whole.now; fraction = self.now.fraction.now; exponent_negative = self.now.exponent_negative; exponent = self.now.exponent.now }) }
+    {
+        if has_too_many(self.whole, self.fraction) {
+            return Err(NumberFault::TooManyDigits);
+        }
+        let Some(written) = exponent_value(self.exponent) else {
+            return Err(NumberFault::TooLarge);
+        };
+        let behind = self.fraction.len();
+        if behind > 30 {
+            return Err(NumberFault::TooLarge);
+        }
+        let digits = digits_value(digits_value(0, self.whole), self.fraction);
+        Ok(Fixed {
+            mantissa: signed_mantissa(self.negative, digits),
+            exponent: signed_exponent(self.exponent_negative, written, behind as u8),
+        })
+    }
+}
+
+/// `fixed`, as it is computed.
+fn number(text: &[u8]) -> Result<Fixed, NumberFault>
+    ensures { result ≡ fixed_of text.now }
+{
+    match spelled(text) {
+        None => Err(NumberFault::NotNumber),
+        Some(spelling) => spelling.value(),
+    }
+}
+
+/// The number that a text is: an optional sign, digits with an optional point, one digit at least,
+/// and an optional exponent. Takes no memory.
+#[tactic(auto, using(crate::proofs::Fixeds::fixed_number, crate::proofs::Fixeds::fixed_fault))]
+pub fn fixed(text: &[u8]) -> Result<Fixed, NumberFault>
+    ensures number { IfOk result (λ number. IsFixedOf text.now number) }
+    ensures fault { IfErr result (λ fault. IsNumberFaultOf text.now fault) }
+    ensures exact { result ≡ fixed_of text.now }
+{
+    number(text)
 }

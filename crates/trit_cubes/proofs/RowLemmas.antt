@@ -1,6 +1,5 @@
 -- The definitions at small sets, by computing.
-use Rattle.std.proofs.Common.{◌≡◌, Bool, true, false, List, [], ◌∷◌, refl}
-use Rattle.trit_cubes.specs.declared.trits.Trit.{Trit}
+use Rattle.std.proofs.Common.{◌≡◌, true, false, [], ◌∷◌, refl}
 use Rattle.trit_cubes.specs.declared.trits.Trit.TheVariants.{Zero, One, Unknown}
 use Rattle.trit_cubes.specs.Sets.{has}
 use Rattle.trit_cubes.specs.Prime.{merged, prime_list}

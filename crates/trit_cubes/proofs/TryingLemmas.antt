@@ -1,7 +1,7 @@
 -- What the code that tries each list of trits needs.
-use Rattle.std.proofs.Common.{◌≡◌, ◌≢◌, ℕ, suc, ◌+◌, ◌<◌, ◌≤◌, Bool, true, false, not, ◌&&◌, ◌||◌, List, [], ◌∷◌, ◌++◌, length, take, slice_index_or, slice_set, slice_get, Some, refl, sym, ◌∙◌, ap, subst, arith}
+use Rattle.std.proofs.Common.{◌≡◌, ◌≢◌, ℕ, ◌+◌, ◌<◌, Bool, true, false, not, ◌&&◌, ◌||◌, List, [], ◌∷◌, ◌++◌, length, take, slice_index_or, slice_set, slice_get, Some, refl, sym, ◌∙◌, ap, arith}
 use Rattle.std.specs.List.{All, list_all}
-use Rattle.std.proofs.lemmas.Bool.{cases_Bool, true≢false, and_left, and_right, not-true}
+use Rattle.std.proofs.lemmas.Bool.{true≢false, and_left, and_right}
 use Rattle.std.proofs.lemmas.List.{take_more_set, take_more}
 use Rattle.std.proofs.lemmas.List.Elements.{Contains-get_or}
 use Rattle.std.proofs.lemmas.Option.{get_or_from_slice_get}
@@ -10,7 +10,6 @@ use Rattle.trit_cubes.specs.declared.trits.Trit.{Trit}
 use Rattle.trit_cubes.specs.declared.trits.Trit.TheVariants.{Zero, One, Unknown}
 use Rattle.trit_cubes.specs.Filling.{is_unknown, same, trit_of}
 use Rattle.trit_cubes.specs.Resolution.{res}
-use Rattle.trit_cubes.specs.Sets.{gives}
 use Rattle.trit_cubes.specs.Prime.{is_inside, is_prime, freed, cubes_of}
 use Rattle.trit_cubes.proofs.ListLemmas.{contains-among}
 use Rattle.trit_cubes.proofs.SplitLemmas.{cubes_of-length, is_inside-gives}

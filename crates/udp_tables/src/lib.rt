@@ -12,3 +12,6 @@ pub use combinational::udp_level;
 pub use faults::Memory;
 pub use generation::function_udp;
 pub use table::{Entry, Level, Next, Udp, UdpRow};
+
+#[cfg(test)]
+mod tests;

@@ -1,4 +1,4 @@
-use Rattle.std.proofs.Common.{◌∙◌, ◌<◌, true, false, [], ◌∷◌, arith}
+use Rattle.std.proofs.Common.{◌∙◌, true, false, [], ◌∷◌, arith}
 use Rattle.trit_cubes.specs.Sets.{has}
 use Rattle.trit_cubes.proofs.tests.primes_merge.Goals as goal
 

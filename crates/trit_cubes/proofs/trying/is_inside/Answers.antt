@@ -1,4 +1,3 @@
-use Rattle.std.proofs.Common.{ap, ◌∙◌}
 use Rattle.trit_cubes.specs.Sets.{has}
 use Rattle.trit_cubes.proofs.TryingLemmas.{is_inside-resolved}
 use Rattle.trit_cubes.proofs.trying.is_inside.Goals as goal

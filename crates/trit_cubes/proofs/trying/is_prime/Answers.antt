@@ -1,4 +1,4 @@
-use Rattle.std.proofs.Common.{sym, ◌∙◌, length, arith}
+use Rattle.std.proofs.Common.{sym, ◌∙◌, arith}
 use Rattle.trit_cubes.specs.Sets.{has}
 use Rattle.trit_cubes.proofs.TryingLemmas.{is_prime-stays, is_prime-leaves}
 use Rattle.trit_cubes.proofs.trying.is_prime.Goals as goal

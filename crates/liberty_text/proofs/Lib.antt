@@ -6,3 +6,4 @@ pub mod Quoting
 pub mod Sound
 pub mod Spelling
 pub mod TextValues
+pub mod Times

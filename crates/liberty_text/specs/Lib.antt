@@ -1,5 +1,6 @@
 pub mod Number
 pub mod Scanner
 pub mod TextValue
+pub mod Time
 pub mod TokenLaws
 pub mod Tokens

@@ -6,10 +6,12 @@ mod decimal;
 mod number;
 mod scanner;
 mod text;
+mod time;
 mod token;
 
 pub use decimal::{Fixed, NumberFault};
 pub use number::fixed;
 pub use scanner::{one_reading, scan, tokens};
 pub use text::{one_value, quotes_read_back, text_value};
+pub use time::{Unit, picoseconds};
 pub use token::{Memory, Scan, Stop, TextFault, Token, TokenKind};

@@ -1,0 +1,109 @@
+//! Times in whole picoseconds.
+
+ghost use Rattle.std.specs.Prelude.{◌≡◌, ◌^◌, ◌≤◌, ◌<◌, ◌*◌, pos, negsuc, MatchOption, IfSome};
+ghost use Rattle.liberty_text.specs.Time.{IsRoundedUp, IsTooLong, picoseconds_of, unit_exponent, scaled, bounded};
+
+use crate::decimal::Fixed;
+
+/// A library's unit of time.
+#[derive(Clone, Copy, Debug, PartialEq, Eq)]
+pub enum Unit {
+    /// 1 picosecond.
+    Ps1,
+    /// 10 picoseconds.
+    Ps10,
+    /// 100 picoseconds.
+    Ps100,
+    /// 1,000 picoseconds.
+    Ns1,
+}
+
+/// The greatest time, in picoseconds.
+const GREATEST: u64 = 999_999_999_999_999;
+
+/// The exponent of ten of a unit in picoseconds.
+fn unit_exponent(unit: Unit) -> i16
+    ensures { result ≡ pos (unit_exponent unit) }
+{
+    match unit {
+        Unit::Ps1 => 0,
+        Unit::Ps10 => 1,
+        Unit::Ps100 => 2,
+        Unit::Ns1 => 3,
+    }
+}
+
+/// Ten to a number.
+#[tactic(auto, using(crate::proofs::Times::power_step))]
+fn power_of_ten(exponent: u16) -> u64
+    requires { exponent ≤ 18 }
+    ensures { result ≡ 10 ^ exponent }
+{
+    let mut power = 1;
+    for _place in 0..exponent {
+        power *= 10;
+    }
+    power
+}
+
+/// A number, where it is a time that is not above the greatest.
+fn bounded(time: u64) -> Option<u64>
+    ensures { result ≡ bounded time }
+{
+    if time <= GREATEST { Some(time) } else { None }
+}
+
+/// A product, where it is a time that is not above the greatest.
+#[tactic(auto, using(crate::proofs::Times::product_fits, crate::proofs::Times::product_bounded, crate::proofs::Times::product_exceeds))]
+fn product(mantissa: u64, power: u64) -> Option<u64>
+    requires { 0 < power }
+    ensures { result ≡ bounded (mantissa * power) }
+{
+    if mantissa > GREATEST / power {
+        None
+    } else {
+        Some(mantissa * power)
+    }
+}
+
+/// A positive number times ten to an exponent, rounded up, where that is not above the greatest time.
+#[tactic(auto, using(crate::proofs::Times::far_up, crate::proofs::Times::far_down, crate::proofs::Times::scaled_up, crate::proofs::Times::scaled_down, crate::proofs::Times::power_some))]
+fn scaled(mantissa: u64, exponent: i16) -> Option<u64>
+    requires some { 0 < mantissa }
+    requires fits { mantissa < 2 ^ 63 }
+    ensures { result ≡ bounded (scaled mantissa exponent) }
+{
+    if exponent > 15 {
+        return None;
+    }
+    if exponent < -18 {
+        return Some(1);
+    }
+    let power = power_of_ten(exponent.unsigned_abs());
+    if exponent < 0 {
+        bounded(mantissa.div_ceil(power))
+    } else {
+        product(mantissa, power)
+    }
+}
+
+/// A time in picoseconds: the least whole number that is not below `value` times the unit, and so 0
+/// where it is negative. None where that is above 999,999,999,999,999. Takes no memory.
+pub fn picoseconds(value: Fixed, unit: Unit) -> Option<u64>
+    ensures rounded_up { MatchOption result (IsTooLong value unit) (IsRoundedUp value unit) }
+    ensures bounded { IfSome result (λ time. time ≤ 999999999999999) }
+    ensures exact { result ≡ picoseconds_of value unit }
+{
+    whole_time(value, unit)
+}
+
+/// `picoseconds`, as it is computed.
+fn whole_time(value: Fixed, unit: Unit) -> Option<u64>
+    ensures { result ≡ picoseconds_of value unit }
+{
+    if value.mantissa <= 0 {
+        return Some(0);
+    }
+    let exponent = i16::from(value.exponent) + unit_exponent(unit);
+    scaled(value.mantissa.unsigned_abs(), exponent)
+}

@@ -1,0 +1,69 @@
+//! A cursor over the tokens of a text.
+
+ghost use Rattle.std.specs.Prelude.{◌≡◌, ◌<◌, length};
+ghost use Rattle.liberty_groups.specs.Lexeme.{lexemes_of, LieInside, next_token, next_bytes, rest};
+
+use liberty_text::Token;
+use std::marker::Model;
+
+/// The tokens of a text that are not read yet.
+#[derive(Drop)]
+pub struct Cursor<'a> {
+    text: &'a [u8],
+    left: &'a [Token],
+}
+
+impl<'a> Model for Cursor<'a> {
+    ghost use Rattle.std.specs.Prelude.{List};
+    ghost use Rattle.liberty_groups.specs.Lexeme.{Lexeme};
+
+    ghost Value = { List Lexeme };
+
+    ghost use Rattle.liberty_groups.specs.Cursor.{lexemes_left, IsInside};
+
+    ghost view = { lexemes_left };
+
+    ghost invariant = { IsInside };
+}
+
+impl<'a> Cursor<'a> {
+    pub fn new(text: &'a [u8], tokens: &'a [Token]) -> Cursor<'a>
+        requires { LieInside text.now tokens.now }
+        ensures { result ≡ lexemes_of text.now tokens.now }
+    {
+        Cursor { text, left: tokens }
+    }
+
+    pub fn left(&self) -> usize
+        ensures { result ≡ length self.now }
+    {
+        self.left.len()
+    }
+
+    pub fn peek(&self) -> Option<Token>
+        ensures { result ≡ next_token self.now }
+    {
+        match self.left {
+            [first, ..] => Some(*first),
+            [] => None,
+        }
+    }
+
+    pub fn skip(&mut self)
+        ensures { self.new ≡ rest self.old }
+    {
+        if let [_, rest @ ..] = self.left {
+            self.left = rest;
+        }
+    }
+
+    /// The bytes of the next token.
+    pub fn bytes(&self) -> &'a [u8]
+        ensures { result.now ≡ next_bytes self.now }
+    {
+        match self.left {
+            [first, ..] => &self.text[first.at..first.end],
+            [] => &[],
+        }
+    }
+}

@@ -1,0 +1,363 @@
+//! What stands between the tokens of a Liberty text: values, arguments and statements, by recursive descent.
+
+ghost use Rattle.std.specs.Prelude.{◌≡◌, ◌++◌, ℕ, [], OnOk, OnErr, IfOk};
+ghost use Rattle.grammar_rules.specs.Reading.{read};
+ghost use Rattle.liberty_groups.specs.Lexeme.{next_token, next_bytes, rest};
+ghost use Rattle.liberty_groups.specs.Grammar as spec;
+ghost use Rattle.liberty_groups.specs.Grammar.{Reads, next_part, next_start, next_at};
+
+use crate::cursor::Cursor;
+use crate::fault::{Expected, Refusal, Stop};
+use crate::tree::{Group, Item, Value};
+use liberty_text::{Token, TokenKind};
+use sqlite_items::Items;
+use std::alloc::{AllocError, Global};
+
+/// Where a list of values stands.
+#[derive(Clone, Copy, Debug, PartialEq, Eq)]
+pub enum Place {
+    /// In the brackets of a statement.
+    Arguments,
+    /// Right after the colon of a simple attribute.
+    ValueStart,
+    /// After the first token of a value.
+    Value,
+}
+
+/// A mark of one byte.
+#[derive(Clone, Copy, Debug, PartialEq, Eq)]
+pub enum Mark {
+    Open,
+    Close,
+    Begin,
+    End,
+    Colon,
+}
+
+/// What a token begins among the statements of a group.
+#[derive(Clone, Copy, Debug, PartialEq, Eq)]
+pub enum Start {
+    /// A statement, by its name.
+    Named,
+    /// An empty statement.
+    Empty,
+    Other,
+}
+
+fn start_by(kind: TokenKind) -> Start
+    ensures { result ≡ spec.start_by kind }
+{
+    match kind {
+        TokenKind::Word => Start::Named,
+        TokenKind::Semicolon => Start::Empty,
+        _ => Start::Other,
+    }
+}
+
+pub fn is_mark(mark: Mark, kind: TokenKind) -> bool
+    ensures { result ≡ spec.is_mark mark kind }
+{
+    match (mark, kind) {
+        (Mark::Open, TokenKind::Brace(byte)) => byte == b'(',
+        (Mark::Close, TokenKind::Brace(byte)) => byte == b')',
+        (Mark::Begin, TokenKind::Brace(byte)) => byte == b'{',
+        (Mark::End, TokenKind::Brace(byte)) => byte == b'}',
+        (Mark::Colon, TokenKind::Colon) => true,
+        _ => false,
+    }
+}
+
+fn is_argument(kind: TokenKind) -> bool
+    ensures { result ≡ spec.is_argument kind }
+{
+    match kind {
+        TokenKind::Word | TokenKind::Text | TokenKind::Comma => true,
+        _ => false,
+    }
+}
+
+fn is_value(kind: TokenKind) -> bool
+    ensures { result ≡ spec.is_value kind }
+{
+    match kind {
+        TokenKind::Word | TokenKind::Text | TokenKind::Comma | TokenKind::Colon => true,
+        TokenKind::Brace(byte) => byte == b'(' || byte == b')',
+        TokenKind::Semicolon => false,
+    }
+}
+
+fn goes_on(place: Place, token: Token) -> bool
+    ensures { result ≡ spec.goes_on place token }
+{
+    match place {
+        Place::Arguments => is_argument(token.kind),
+        Place::ValueStart => is_value(token.kind),
+        Place::Value => is_value(token.kind) && !token.line_before,
+    }
+}
+
+fn ends_by(kind: TokenKind) -> bool
+    ensures { result ≡ spec.ends_by kind }
+{
+    match kind {
+        TokenKind::Semicolon => true,
+        TokenKind::Brace(byte) => byte == b'}',
+        _ => false,
+    }
+}
+
+fn ends_value(place: Place, token: Token) -> bool
+    ensures { result ≡ spec.ends_value place token }
+{
+    match place {
+        Place::Value => ends_by(token.kind) || token.line_before,
+        _ => ends_by(token.kind),
+    }
+}
+
+impl Cursor<'_> {
+    /// A mark that must stand next.
+    pub fn expect(&mut self, mark: Mark, expected: Expected) -> Result<(), Stop>
+        ensures { Reads (read (spec.expect mark (Refusal.Syntax expected)) self.old) result self.new }
+    {
+        match self.peek() {
+            Some(token) if is_mark(mark, token.kind) => {
+                self.skip();
+                Ok(())
+            }
+            _ => Err(Stop::Refused(Refusal::Syntax(expected))),
+        }
+    }
+
+    /// Whether a mark stands next.
+    pub fn sees(&self, mark: Mark) -> bool
+        ensures { result ≡ spec.sees mark self.now }
+    {
+        match self.peek() {
+            Some(token) => is_mark(mark, token.kind),
+            None => false,
+        }
+    }
+
+    /// The offset of the next token.
+    fn at(&self) -> usize
+        ensures { result ≡ next_at self.now }
+    {
+        match self.peek() {
+            Some(token) => token.at,
+            None => 0,
+        }
+    }
+
+    /// Takes the next token, and adds what it is in a list of values.
+    fn add_part(&mut self, alloc: Global, found: &mut Items<Value>) -> Result<(), Stop>
+        ensures found { OnOk result (found.new ≡ found.old ++ next_part self.old) }
+        ensures left { OnOk result (self.new ≡ rest self.old) }
+        ensures memory { OnErr result (result ≡ Err Stop.Memory) }
+    {
+        let Some(token) = self.peek() else {
+            return Ok(());
+        };
+        match token.kind {
+            TokenKind::Word => found.push(Value {
+                bytes: Items::from_slice(alloc, self.bytes())?,
+                quoted: false,
+            })?,
+            TokenKind::Text => found.push(Value {
+                bytes: Items::from_slice(alloc, self.bytes())?,
+                quoted: true,
+            })?,
+            _ => {}
+        }
+        self.skip();
+        Ok(())
+    }
+
+    /// The values from here on, behind those that there are.
+    fn parts(
+        &mut self,
+        alloc: Global,
+        place: Place,
+        mut found: Items<Value>,
+    ) -> Result<Items<Value>, Stop>
+        ensures { Reads (read (spec.parts place found) self.old) result self.new }
+    {
+        for _turn in 0..self.left() {
+            match self.peek() {
+                Some(token) if goes_on(place, token) => self.add_part(alloc, &mut found)?,
+                _ => break,
+            }
+        }
+        Ok(found)
+    }
+
+    /// The arguments up to the closing bracket, and the bracket.
+    #[tactic(auto, unfolding(crate::specs::Grammar::arguments))]
+    pub fn arguments(&mut self, alloc: Global) -> Result<Items<Value>, Stop>
+        ensures { Reads (read spec.arguments self.old) result self.new }
+    {
+        let found = self.parts(alloc, Place::Arguments, Items::new(alloc))?;
+        self.expect(Mark::Close, Expected::Argument)?;
+        Ok(found)
+    }
+
+    /// The end of a value, which is not taken.
+    fn value_end(&self, place: Place) -> Result<(), Stop>
+        ensures { Reads (read (spec.value_end place) self.now) result self.now }
+    {
+        match self.peek() {
+            Some(token) if ends_value(place, token) => Ok(()),
+            _ => Err(Stop::Refused(Refusal::Syntax(Expected::Value))),
+        }
+    }
+
+    /// The value of a simple attribute, after its colon.
+    #[tactic(auto, unfolding(crate::specs::Grammar::value, crate::specs::Grammar::more_value, crate::specs::Grammar::no_value))]
+    fn value(&mut self, alloc: Global) -> Result<Items<Value>, Stop>
+        ensures { Reads (read spec.value self.old) result self.new }
+    {
+        let mut found = Items::new(alloc);
+        match self.peek() {
+            Some(token) if goes_on(Place::ValueStart, token) => {
+                self.add_part(alloc, &mut found)?;
+                let found = self.parts(alloc, Place::Value, found)?;
+                self.value_end(Place::Value)?;
+                Ok(found)
+            }
+            _ => {
+                self.value_end(Place::ValueStart)?;
+                Ok(found)
+            }
+        }
+    }
+
+    /// A simple attribute, after its colon.
+    #[tactic(auto, unfolding(crate::specs::Grammar::simple))]
+    fn simple(&mut self, alloc: Global, name: Items<u8>, at: usize) -> Result<Item, Stop>
+        ensures { Reads (read (spec.simple name at) self.old) result self.new }
+    {
+        let value = self.value(alloc)?;
+        Ok(Item::Simple { name, value, at })
+    }
+
+    /// What the next token begins among the statements of a group.
+    pub fn start(&self) -> Start
+        ensures { result ≡ next_start self.now }
+    {
+        match self.peek() {
+            Some(token) => start_by(token.kind),
+            None => Start::Other,
+        }
+    }
+
+    /// The bytes and the offset of the next token, which is taken.
+    pub fn name(&mut self, alloc: Global) -> Result<(Items<u8>, usize), Stop>
+        ensures name { IfOk result (λ found. found ≡ (next_bytes self.old, next_at self.old)) }
+        ensures left { OnOk result (self.new ≡ rest self.old) }
+        ensures memory { OnErr result (result ≡ Err Stop.Memory) }
+    {
+        let at = self.at();
+        let bytes = Items::from_slice(alloc, self.bytes())?;
+        self.skip();
+        Ok((bytes, at))
+    }
+
+    /// What follows the name of a statement, where groups may be open to `levels` more levels.
+    #[cycle(nest)]
+    pub fn statement(
+        &mut self,
+        alloc: Global,
+        levels: usize,
+        name: Items<u8>,
+        at: usize,
+    ) -> Result<Item, Stop>
+        ensures { Reads (read (spec.statement levels name at) self.old) result self.new }
+    {
+        if self.sees(Mark::Colon) {
+            self.skip();
+            self.simple(alloc, name, at)
+        } else {
+            self.bracketed(alloc, levels, name, at)
+        }
+    }
+
+    /// The arguments of a statement, and the statements of a group if it is one.
+    #[cycle(nest)]
+    #[tactic(auto, unfolding(crate::specs::Grammar::bracketed))]
+    fn bracketed(
+        &mut self,
+        alloc: Global,
+        levels: usize,
+        name: Items<u8>,
+        at: usize,
+    ) -> Result<Item, Stop>
+        ensures { Reads (read (spec.bracketed levels (spec.body levels) name at) self.old) result self.new }
+    {
+        self.expect(Mark::Open, Expected::AfterName)?;
+        let arguments = self.arguments(alloc)?;
+        self.complex_or_group(alloc, levels, name, arguments, at)
+    }
+
+    /// The group, if a brace opens it; otherwise the complex attribute that was read.
+    #[cycle(nest)]
+    #[tactic(auto, unfolding(crate::specs::Grammar::complex_or_group), using(crate::proofs::Statements::inner))]
+    fn complex_or_group(
+        &mut self,
+        alloc: Global,
+        levels: usize,
+        name: Items<u8>,
+        arguments: Items<Value>,
+        at: usize,
+    ) -> Result<Item, Stop>
+        ensures { Reads (read (spec.complex_or_group levels (spec.body levels) name arguments at) self.old) result self.new }
+    {
+        if !self.sees(Mark::Begin) {
+            return Ok(Item::Complex {
+                name,
+                arguments,
+                at,
+            });
+        }
+        if levels == 0 {
+            return Err(Stop::Refused(Refusal::TooDeep));
+        }
+        self.skip();
+        let items = self.statements(alloc, levels - 1)?;
+        Ok(Item::Inner(Group {
+            name,
+            arguments,
+            items,
+            at,
+        }))
+    }
+
+    /// The statements of a group up to its closing brace, and the brace.
+    #[cycle(nest)]
+    fn statements(&mut self, alloc: Global, levels: usize) -> Result<Items<Item>, Stop>
+        ensures { Reads (read (spec.statements (spec.statement levels)) self.old) result self.new }
+    {
+        let items = self.some_statements(alloc, levels)?;
+        self.expect(Mark::End, Expected::Statement)?;
+        Ok(items)
+    }
+
+    /// The statements from here on.
+    #[cycle(nest)]
+    #[tactic(auto, using(crate::proofs::Statements::empty_turn, crate::proofs::Statements::named_turn, crate::proofs::Statements::failed_turn, crate::proofs::Statements::no_turn))]
+    fn some_statements(&mut self, alloc: Global, levels: usize) -> Result<Items<Item>, Stop>
+        ensures { Reads (read (spec.some_statements (spec.statement levels) []) self.old) result self.new }
+    {
+        let mut items = Items::new(alloc);
+        for _turn in 0..self.left() {
+            match self.start() {
+                Start::Empty => self.skip(),
+                Start::Named => {
+                    let (name, at) = self.name(alloc)?;
+                    items.push(self.statement(alloc, levels, name, at)?)?;
+                }
+                Start::Other => break,
+            }
+        }
+        Ok(items)
+    }
+}

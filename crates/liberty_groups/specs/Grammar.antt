@@ -1,9 +1,10 @@
 -- The grammar of Liberty texts over tokens (Liberty Reference Manual, general syntax of a library file).
-use Rattle.std.specs.Prelude.{◌≡◌, ℕ, zero, suc, ◌++◌, Bool, true, false, not, ◌||◌, ◌&&◌, ◌==◌, if◌then◌else◌, List, [], ◌∷◌, Option, Some, None, Result, Ok, Err, codes}
+use Rattle.std.specs.Prelude.{◌≡◌, ℕ, zero, suc, ◌++◌, Bool, true, false, not, ◌||◌, ◌&&◌, ◌==◌, ◌-◌, length, slice_range, if◌then◌else◌, List, [], ◌∷◌, Option, Some, None, Result, Ok, Err, codes}
 use Rattle.std.specs.Str.{bytes_eq}
 use Rattle.liberty_text.specs.declared.token.Token.{Token}
 use Rattle.liberty_text.specs.declared.token.TokenKind.{TokenKind}
 use Rattle.liberty_text.specs.declared.token.TokenKind.TheVariants as kind
+use Rattle.liberty_text.specs.TextValue.{value_of}
 use Rattle.grammar_rules.specs.Rule.{Rule, Verdict, Fits, Misfit, Takes}
 use Rattle.grammar_rules.specs.Rule as r
 use Rattle.grammar_rules.specs.Reading.{Outcome}
@@ -48,11 +49,15 @@ only_mark m k x = if is_mark m x.token.kind then Fits tt else Misfit k
 abbrev pub expect : {K : Type 0} → Mark → K → Rule Lexeme K (Unit {0})
 expect m k = r.Token (only_mark m k) k
 
+-- the bytes of a quoted text between its quotes
+abbrev pub between_quotes : List ℕ → List ℕ
+between_quotes bytes = slice_range bytes 1 (length bytes - 1)
+
 -- The part of a list of values that a token is: a Word or a quoted text is a value, and no other token
 -- leaves a trace.
 abbrev pub part_by : TokenKind → List ℕ → List Value
 part_by kind.Word bytes = record { bytes = bytes; quoted = false } ∷ []
-part_by kind.Text bytes = record { bytes = bytes; quoted = true } ∷ []
+part_by kind.Text bytes = record { bytes = value_of (between_quotes bytes); quoted = true } ∷ []
 part_by _ bytes = []
 
 abbrev pub part_of : Lexeme → List Value

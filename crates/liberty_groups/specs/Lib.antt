@@ -1,3 +1,4 @@
 pub mod Cursor
 pub mod Grammar
 pub mod Lexeme
+pub mod Library

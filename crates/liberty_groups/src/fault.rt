@@ -3,6 +3,7 @@
 ghost use Rattle.std.specs.Prelude.{◌≡◌};
 ghost use Rattle.liberty_groups.specs.declared.fault.Stop.TheVariants.{Memory as NoMemory};
 
+use liberty_text::Memory;
 use std::alloc::{AllocError, AllocFailed};
 
 /// What stood to be read at the place of a syntax fault.
@@ -36,6 +37,14 @@ pub enum Stop {
     /// At the next token, or at the end of the tokens.
     Refused(Refusal),
     Memory,
+}
+
+impl From<Memory> for Stop {
+    ghost from_gives = { λ _ e. e ≡ NoMemory };
+
+    fn from(_e: Memory) -> Stop {
+        Stop::Memory
+    }
 }
 
 impl From<AllocError> for Stop {

@@ -1,10 +1,13 @@
 //! Liberty text to trees of groups, and back.
 #![tactic(auto)]
 
+mod contents;
 mod cursor;
 mod fault;
+mod library;
 mod reader;
 mod tree;
 
+pub use contents::UnitLine;
 pub use fault::Expected;
 pub use tree::{Group, Item, Value};

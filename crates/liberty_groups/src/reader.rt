@@ -9,7 +9,7 @@ ghost use Rattle.liberty_groups.specs.Grammar.{Reads, next_part, next_start, nex
 use crate::cursor::Cursor;
 use crate::fault::{Expected, Refusal, Stop};
 use crate::tree::{Group, Item, Value};
-use liberty_text::{Token, TokenKind};
+use liberty_text::{Token, TokenKind, text_value};
 use sqlite_items::Items;
 use std::alloc::{AllocError, Global};
 
@@ -115,6 +115,16 @@ fn ends_value(place: Place, token: Token) -> bool
     }
 }
 
+/// The bytes of a quoted text between its quotes.
+fn between_quotes(bytes: &[u8]) -> &[u8]
+    ensures { result.now ≡ spec.between_quotes bytes.now }
+{
+    match bytes {
+        [_, inner @ .., _] => inner,
+        _ => &[],
+    }
+}
+
 impl Cursor<'_> {
     /// A mark that must stand next.
     pub fn expect(&mut self, mark: Mark, expected: Expected) -> Result<(), Stop>
@@ -164,7 +174,7 @@ impl Cursor<'_> {
                 quoted: false,
             })?,
             TokenKind::Text => found.push(Value {
-                bytes: Items::from_slice(alloc, self.bytes())?,
+                bytes: text_value(alloc, between_quotes(self.bytes()))?,
                 quoted: true,
             })?,
             _ => {}

@@ -1,0 +1,92 @@
+//! What is kept of a library.
+
+ghost use Rattle.std.specs.Prelude.{◌≡◌, OnOk, OnErr, IfOk};
+ghost use Rattle.liberty_groups.specs.Library.{nothing_found, found_of, one_text, counted, with_named};
+
+use crate::fault::Stop;
+use crate::tree::{Group, Item, Value};
+use sqlite_items::Items;
+use std::alloc::Global;
+
+/// A time unit of a library: the text of a simple attribute `time_unit`, which is that of its one
+/// value, and empty with no value or with several. `at` is the offset of the statement.
+#[derive(Debug, Drop)]
+pub struct UnitLine {
+    pub value: Items<u8>,
+    pub at: usize,
+}
+
+/// The cells, the time units, and the offsets of `include_file` statements.
+#[derive(Drop)]
+pub struct Contents {
+    pub cells: Vec<Group>,
+    pub units: Vec<UnitLine>,
+    pub left_out: Vec<usize>,
+}
+
+/// The text of a simple attribute with these values.
+fn one_text(alloc: Global, mut values: Items<Value>) -> Items<u8>
+    ensures { result ≡ one_text values }
+{
+    let last = values.pop();
+    match last {
+        Some(value) if values.is_empty() => value.bytes,
+        _ => Items::new(alloc),
+    }
+}
+
+impl Contents {
+    pub fn new(alloc: Global) -> Contents
+        ensures { found_of result ≡ nothing_found }
+    {
+        Contents {
+            cells: Vec::new(alloc),
+            units: Vec::new(alloc),
+            left_out: Vec::new(alloc),
+        }
+    }
+
+    /// A statement that is neither cell nor time unit.
+    fn count_named(&mut self, name: &[u8], at: usize) -> Result<(), Stop>
+        ensures ok { OnOk result (found_of self.new ≡ with_named name.now at (found_of self.old)) }
+        ensures memory { OnErr result (result ≡ Err Stop.Memory) }
+    {
+        if name == b"include_file".as_slice() {
+            self.left_out.push(at)?;
+        }
+        Ok(())
+    }
+
+    /// A group of the library.
+    #[tactic(auto, unfolding(crate::specs::Library::counted))]
+    fn count_group(&mut self, group: Group) -> Result<(), Stop>
+        ensures ok { OnOk result (found_of self.new ≡ counted (found_of self.old) (Item.Inner group)) }
+        ensures memory { OnErr result (result ≡ Err Stop.Memory) }
+    {
+        if group.name.as_slice() == b"cell".as_slice() {
+            self.cells.push(group)?;
+            return Ok(());
+        }
+        self.count_named(group.name.as_slice(), group.at)
+    }
+
+    /// A statement of the library.
+    #[tactic(auto, unfolding(crate::specs::Library::counted))]
+    pub fn count(&mut self, alloc: Global, item: Item) -> Result<(), Stop>
+        ensures ok { OnOk result (found_of self.new ≡ counted (found_of self.old) item) }
+        ensures memory { OnErr result (result ≡ Err Stop.Memory) }
+    {
+        match item {
+            Item::Simple { name, value, at } => {
+                if name.as_slice() == b"time_unit".as_slice() {
+                    let value = one_text(alloc, value);
+                    self.units.push(UnitLine { value, at })?;
+                    return Ok(());
+                }
+                self.count_named(name.as_slice(), at)
+            }
+            Item::Complex { name, at, .. } => self.count_named(name.as_slice(), at),
+            Item::Inner(group) => self.count_group(group),
+        }
+    }
+}

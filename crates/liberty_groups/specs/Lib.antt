@@ -2,3 +2,4 @@ pub mod Cursor
 pub mod Grammar
 pub mod Lexeme
 pub mod Library
+pub mod Outline

@@ -5,6 +5,7 @@ mod contents;
 mod cursor;
 mod fault;
 mod library;
+mod outline;
 mod reader;
 mod tree;
 

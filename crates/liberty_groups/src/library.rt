@@ -14,11 +14,11 @@ use sqlite_items::Items;
 use std::alloc::Global;
 
 /// Groups inside the library may be open to this many levels: the library itself is the first of 32.
-const LEVELS_INSIDE: usize = 31;
+pub const LEVELS_INSIDE: usize = 31;
 
 impl Cursor<'_> {
     /// Whether the next token is the name of a library.
-    fn sees_library(&self) -> bool
+    pub fn sees_library(&self) -> bool
         ensures { result ≡ next_is_library self.now }
     {
         match self.peek() {

@@ -44,7 +44,7 @@ pub enum Start {
     Other,
 }
 
-fn start_by(kind: TokenKind) -> Start
+pub fn start_by(kind: TokenKind) -> Start
     ensures { result ≡ spec.start_by kind }
 {
     match kind {
@@ -67,7 +67,7 @@ pub fn is_mark(mark: Mark, kind: TokenKind) -> bool
     }
 }
 
-fn is_argument(kind: TokenKind) -> bool
+pub fn is_argument(kind: TokenKind) -> bool
     ensures { result ≡ spec.is_argument kind }
 {
     match kind {
@@ -76,7 +76,7 @@ fn is_argument(kind: TokenKind) -> bool
     }
 }
 
-fn is_value(kind: TokenKind) -> bool
+pub fn is_value(kind: TokenKind) -> bool
     ensures { result ≡ spec.is_value kind }
 {
     match kind {
@@ -86,7 +86,7 @@ fn is_value(kind: TokenKind) -> bool
     }
 }
 
-fn goes_on(place: Place, token: Token) -> bool
+pub fn goes_on(place: Place, token: Token) -> bool
     ensures { result ≡ spec.goes_on place token }
 {
     match place {
@@ -96,7 +96,7 @@ fn goes_on(place: Place, token: Token) -> bool
     }
 }
 
-fn ends_by(kind: TokenKind) -> bool
+pub fn ends_by(kind: TokenKind) -> bool
     ensures { result ≡ spec.ends_by kind }
 {
     match kind {
@@ -106,7 +106,7 @@ fn ends_by(kind: TokenKind) -> bool
     }
 }
 
-fn ends_value(place: Place, token: Token) -> bool
+pub fn ends_value(place: Place, token: Token) -> bool
     ensures { result ≡ spec.ends_value place token }
 {
     match place {

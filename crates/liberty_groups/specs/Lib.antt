@@ -1,4 +1,5 @@
 pub mod Cursor
+pub mod Fault
 pub mod Grammar
 pub mod Lexeme
 pub mod Library

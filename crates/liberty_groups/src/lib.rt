@@ -10,5 +10,5 @@ mod reader;
 mod tree;
 
 pub use contents::UnitLine;
-pub use fault::Expected;
+pub use fault::{Expected, LibraryFault, Memory};
 pub use tree::{Group, Item, Value};

@@ -19,8 +19,8 @@ part_turn_suc p n found [] t e h = absurd cc
 part_turn_suc p n found (x ∷ s) t e h =
     let i : goes_on p x.token ≡ true = ap (goes_on p) (some_is e) ∙ h in rw i refl
   where
-  some_is : {a b : Token} → Some a ≡ Some b → a ≡ b
-  some_is e = cc
+    some_is : {a b : Token} → Some a ≡ Some b → a ≡ b
+    some_is e = cc
 
 pub part_turn : (p : Place) (n i : ℕ) (found : List Value) (s : List Lexeme) (t : Token) → i < n → next_token s ≡ Some t → goes_on p t ≡ true →
     part_turns p (n - i) found s ≡ part_turns p (n - (i + 1)) (found ++ next_part s) (rest s)
@@ -35,8 +35,8 @@ part_end p (suc n) found [] t e h = refl
 part_end p (suc n) found (x ∷ s) t e h =
     let i : goes_on p x.token ≡ false = ap (goes_on p) (some_is e) ∙ h in rw i refl
   where
-  some_is : {a b : Token} → Some a ≡ Some b → a ≡ b
-  some_is e = cc
+    some_is : {a b : Token} → Some a ≡ Some b → a ≡ b
+    some_is e = cc
 
 pub part_none : (p : Place) (n : ℕ) (found : List Value) (s : List Lexeme) → next_token s ≡ None → part_turns p n found s ≡ Ok (found, s)
 part_none p zero found s e = refl

@@ -217,7 +217,6 @@ abbrev pub next_part : List Lexeme → List Value
 next_part [] = []
 next_part (x ∷ s) = part_of x
 
-
 -- a mark stands next
 abbrev pub sees : Mark → List Lexeme → Bool
 sees m [] = false

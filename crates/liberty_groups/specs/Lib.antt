@@ -1,3 +1,4 @@
+pub mod Answer
 pub mod Cursor
 pub mod Fault
 pub mod Grammar

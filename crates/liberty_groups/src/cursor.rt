@@ -2,6 +2,7 @@
 
 ghost use Rattle.std.specs.Prelude.{◌≡◌, ◌<◌, length};
 ghost use Rattle.liberty_groups.specs.Lexeme.{lexemes_of, LieInside, next_token, next_bytes, rest};
+ghost use Rattle.liberty_groups.specs.Answer.{is_last};
 
 use liberty_text::Token;
 use std::marker::Model;
@@ -47,6 +48,13 @@ impl<'a> Cursor<'a> {
             [first, ..] => Some(*first),
             [] => None,
         }
+    }
+
+    /// Whether exactly one token is left.
+    pub fn is_last(&self) -> bool
+        ensures { result ≡ is_last self.now }
+    {
+        matches!(self.left, [_])
     }
 
     pub fn skip(&mut self)

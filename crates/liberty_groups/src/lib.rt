@@ -6,9 +6,11 @@ mod cursor;
 mod fault;
 mod library;
 mod outline;
+mod read;
 mod reader;
 mod tree;
 
 pub use contents::UnitLine;
 pub use fault::{Expected, LibraryFault, Memory};
+pub use read::{End, Reading, read_library};
 pub use tree::{Group, Item, Value};

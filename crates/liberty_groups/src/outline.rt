@@ -6,7 +6,9 @@ ghost use Rattle.liberty_groups.specs.Outline.{has_outline};
 
 use crate::cursor::Cursor;
 use crate::library::LEVELS_INSIDE;
-use crate::reader::{Mark, Place, Start, ends_by, ends_value, goes_on, is_argument, is_mark, is_value, start_by};
+use crate::reader::{
+    Mark, Place, Start, ends_by, ends_value, goes_on, is_argument, is_mark, is_value, start_by,
+};
 use liberty_text::{Token, TokenKind};
 
 /// Where a token of a library stands. A depth counts the groups that are open inside the library.

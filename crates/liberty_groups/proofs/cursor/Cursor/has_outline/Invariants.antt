@@ -6,5 +6,5 @@ use Rattle.liberty_groups.proofs.cursor.Cursor.has_outline.Given as goal
 abbrev pub invariant-loop-turn : goal.invariant-loop-turn
 invariant-loop-turn l = record {
   left : l._turn + length l.self ≡ l._turn-end;
-  stands : stands l.here l.self ≡ stands Start l.initial.self
+  stands : stands l.here l.self ≡ stands Start l.initial.self;
 }

@@ -7,4 +7,4 @@ loop-turn-preserved c =
     let ok = c.in_ok-add_part-in-Some.ensures in
     rw (ok.found, ok.left)
     (sym (part_turn c.args.place c.left-turn-end.result c.loop-turn._turn c.loop-turn.found c.loop-turn.self c.in-Some.token c.loop-turn-test.true (search rules) (search rules))
-     ∙ c.loop-turn.invariant)
+    ∙ c.loop-turn.invariant)

@@ -1,0 +1,211 @@
+//! A Liberty text, or the front of one, to its groups.
+
+ghost use Rattle.std.specs.Prelude.{◌≡◌, IfOk};
+ghost use Rattle.std.specs.Prelude.{length, OnOk};
+ghost use Rattle.grammar_rules.specs.Reading.{read};
+ghost use Rattle.liberty_text.specs.Scanner.{scan_of};
+ghost use Rattle.liberty_groups.specs.Lexeme.{lexemes_of, LieInside};
+ghost use Rattle.liberty_groups.specs.Library.{nothing_found, found_of, library};
+ghost use Rattle.liberty_groups.specs.Answer.{found_in_reading, found_of_bytes, end_of_bytes, halt_of, found_in, outcome_of, may_become_other, closed_has_outline, goes_on_after, may_go_on, fault_of, is_last, is_unfinished_next, end_of};
+
+use crate::contents::{Contents, UnitLine};
+use crate::cursor::Cursor;
+use crate::fault::{LibraryFault, Memory, Refusal, Stop, fault_at, lexical_fault};
+use crate::tree::Group;
+use liberty_text::{Scan, Stop as TextStop, Token, TokenKind, scan};
+use std::alloc::Global;
+
+/// What is kept of a library text.
+#[derive(Debug, Drop)]
+pub struct Reading {
+    /// The groups `cell` of the library that ended before the place of the fault, in order.
+    pub cells: Vec<Group>,
+    /// The simple attributes `time_unit` of the library, in order.
+    pub units: Vec<UnitLine>,
+    /// The offsets of the statements `include_file` of the library, in order.
+    pub left_out: Vec<usize>,
+    pub end: End,
+}
+
+/// How a reading ended.
+#[derive(Clone, Copy, Debug, PartialEq, Eq)]
+pub enum End {
+    /// The bytes are a library text.
+    Whole,
+    /// The bytes are the front of a file, and some library text begins with them.
+    Cut,
+    Fault(LibraryFault),
+}
+
+/// Where the tokens of a library halt.
+#[derive(Clone, Copy, Debug, PartialEq, Eq)]
+enum Halt {
+    /// They are a library.
+    Whole,
+    /// They end too early.
+    Short(Refusal),
+    /// The token at an offset is refused. It may be unfinished, the front of another one.
+    Refused {
+        refusal: Refusal,
+        at: usize,
+        unfinished: bool,
+    },
+}
+
+/// Whether a refused word at the end of the bytes may be the front of a token that is not refused.
+fn may_become_other(refusal: Refusal, word: &[u8]) -> bool
+    ensures { result ≡ may_become_other refusal word.now }
+{
+    word == b"/".as_slice()
+        || (refusal == Refusal::NotLibrary && b"library/".as_slice().starts_with(word))
+}
+
+impl Cursor<'_> {
+    /// Whether the next token is refused only because the bytes, of this length, end in it.
+    fn is_unfinished(&self, len: usize, refusal: Refusal) -> bool
+        ensures { result ≡ is_unfinished_next len refusal self.now }
+    {
+        match self.peek() {
+            Some(token) => {
+                self.is_last()
+                    && token.kind == TokenKind::Word
+                    && token.end == len
+                    && may_become_other(refusal, self.bytes())
+            }
+            None => false,
+        }
+    }
+}
+
+/// Where the tokens of a text halt, of which `found` keeps what is kept.
+#[tactic(auto, unfolding(crate::specs::Answer::outcome_of))]
+fn read_tokens(
+    alloc: Global,
+    bytes: &[u8],
+    tokens: &[Token],
+    found: &mut Contents,
+) -> Result<Halt, Memory>
+    requires inside { LieInside bytes.now tokens.now }
+    requires nothing { found_of found.old ≡ nothing_found }
+    ensures halt { IfOk result (λ halt. halt ≡ halt_of (length bytes.now) (read library (lexemes_of bytes.now tokens.now))) }
+    ensures found { OnOk result (found_of found.new ≡ found_in (read library (lexemes_of bytes.now tokens.now))) }
+{
+    let mut cursor = Cursor::new(bytes, tokens);
+    let refusal = match cursor.library(alloc, found) {
+        Ok(()) => return Ok(Halt::Whole),
+        Err(Stop::Memory) => return Err(Memory),
+        Err(Stop::Refused(refusal)) => refusal,
+    };
+    Ok(match cursor.peek() {
+        None => Halt::Short(refusal),
+        Some(token) => Halt::Refused {
+            refusal,
+            at: token.at,
+            unfinished: cursor.is_unfinished(bytes.len(), refusal),
+        },
+    })
+}
+
+/// The tokens of a text up to the place where it stops, and what stops it there.
+#[tactic(auto, using(crate::proofs::Inside::lie_inside))]
+fn tokens_of(alloc: Global, bytes: &[u8]) -> Result<Scan, Memory>
+    ensures tokens { IfOk result (λ found. found.tokens.items ≡ (scan_of bytes.now).0) }
+    ensures stop { IfOk result (λ found. found.stop ≡ (scan_of bytes.now).1) }
+    ensures inside { IfOk result (λ found. LieInside bytes.now found.tokens.items) }
+{
+    Ok(scan(alloc, bytes)?)
+}
+
+/// Whether the bytes, which end in an open text, are the front of a library once it is closed.
+fn closed_has_outline(alloc: Global, bytes: &[u8]) -> Result<bool, Memory>
+    ensures { IfOk result (λ is. is ≡ closed_has_outline bytes.now) }
+{
+    let mut closed = Vec::from_slice(alloc, bytes)?;
+    closed.extend_from_slice(b" \"")?;
+    let Scan { tokens, .. } = tokens_of(alloc, &closed)?;
+    Ok(Cursor::new(&closed, &tokens).has_outline())
+}
+
+/// Whether some library text begins with bytes whose tokens are the front of a library.
+fn goes_on_after(alloc: Global, bytes: &[u8], stop: TextStop) -> Result<bool, Memory>
+    ensures { IfOk result (λ does. does ≡ goes_on_after bytes.now stop) }
+{
+    match stop {
+        TextStop::BadByte(_) => Ok(false),
+        TextStop::OpenText(_) => closed_has_outline(alloc, bytes),
+        _ => Ok(true),
+    }
+}
+
+/// Whether some library text begins with the bytes.
+fn may_go_on(alloc: Global, bytes: &[u8], halt: Halt, stop: TextStop) -> Result<bool, Memory>
+    ensures { IfOk result (λ may. may ≡ may_go_on bytes.now halt stop) }
+{
+    match halt {
+        Halt::Refused { unfinished, .. } => Ok(unfinished),
+        _ => goes_on_after(alloc, bytes, stop),
+    }
+}
+
+fn fault_of(len: usize, halt: Halt, stop: TextStop) -> Option<LibraryFault>
+    ensures { result ≡ fault_of len halt stop }
+{
+    match halt {
+        Halt::Whole => lexical_fault(stop),
+        Halt::Short(refusal) => Some(lexical_fault(stop).unwrap_or(fault_at(refusal, len))),
+        Halt::Refused { refusal, at, .. } => Some(fault_at(refusal, at)),
+    }
+}
+
+fn end_of(
+    alloc: Global,
+    bytes: &[u8],
+    whole: bool,
+    halt: Halt,
+    stop: TextStop,
+) -> Result<End, Memory>
+    ensures { IfOk result (λ end. end ≡ end_of bytes.now whole halt stop) }
+{
+    if !whole && may_go_on(alloc, bytes, halt, stop)? {
+        return Ok(End::Cut);
+    }
+    Ok(match fault_of(bytes.len(), halt, stop) {
+        None => End::Whole,
+        Some(fault) => End::Fault(fault),
+    })
+}
+
+/// `read_library`, step by step.
+#[tactic(auto, unfolding(crate::specs::Answer::outcome_of))]
+fn read_exactly(alloc: Global, bytes: &[u8], whole: bool) -> Result<Reading, Memory>
+    ensures found { IfOk result (λ r. found_in_reading r ≡ found_of_bytes bytes.now) }
+    ensures end { IfOk result (λ r. r.end ≡ end_of_bytes bytes.now whole) }
+{
+    let mut contents = Contents::new(alloc);
+    let Scan { tokens, stop } = tokens_of(alloc, bytes)?;
+    let halt = read_tokens(alloc, bytes, &tokens, &mut contents)?;
+    drop(tokens);
+    let end = end_of(alloc, bytes, whole, halt, stop)?;
+    let Contents {
+        cells,
+        units,
+        left_out,
+    } = contents;
+    Ok(Reading {
+        cells,
+        units,
+        left_out,
+        end,
+    })
+}
+
+/// The groups of a Liberty text. With `whole` false the bytes are only the front of a file.
+pub fn read_library(alloc: Global, bytes: &[u8], whole: bool) -> Result<Reading, Memory>
+    ensures found { IfOk result (λ r. found_in_reading r ≡ found_of_bytes bytes.now) }
+    ensures end { IfOk result (λ r. r.end ≡ end_of_bytes bytes.now whole) }
+{
+    read_exactly(alloc, bytes, whole)
+}
+
+#[cfg(test)]
+mod tests;

@@ -4,3 +4,4 @@ pub mod Supports
 pub mod Trees
 pub mod Tables
 pub mod Runs
+pub mod Complete

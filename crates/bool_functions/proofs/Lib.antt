@@ -5,3 +5,5 @@ pub mod Trees
 pub mod Tables
 pub mod Runs
 pub mod Complete
+pub mod Sound
+pub mod Fronts

@@ -1,5 +1,5 @@
 -- The reader goes over a phrase of the grammar, and has its tree afterwards.
-use Rattle.std.proofs.Common.{◌≡◌, ℕ, ◌<◌, Bool, true, false, nat_lt, List, [], ◌∷◌, ◌++◌, Option, None, Some, Ok, Err, if◌then◌else◌, refl, sym, ap, subst, ◌∙◌, arith, lit<}
+use Rattle.std.proofs.Common.{◌≡◌, ℕ, true, nat_lt, List, [], ◌∷◌, None, Some, Ok, refl, ap, ◌∙◌, arith, lit<}
 use Rattle.std.proofs.lemmas.Bool.Decides.{nat_tests}
 use Rattle.bool_functions.specs.declared.symbol.Symbol.{Symbol}
 use Rattle.bool_functions.specs.declared.symbol.Symbol.TheVariants as symbol
@@ -8,7 +8,7 @@ use Rattle.bool_functions.specs.declared.tree.Node.TheVariants as node
 use Rattle.bool_functions.specs.declared.reader.Pending.{Pending}
 use Rattle.bool_functions.specs.declared.reader.Pending.TheVariants as pending
 use Rattle.bool_functions.specs.Grammar.{Rule, AtOr, AtAnd, AtXor, AtNot, AtPost, Takes, IsText}
-use Rattle.bool_functions.specs.Machine.{binds, joined, settled, Holds, held, run, start}
+use Rattle.bool_functions.specs.Machine.{binds, settled, Holds, held, run, start}
 
 -- what is innermost on the pile binds looser than the rule's operators
 abbrev pub Under : Rule → List Pending → Type 0
@@ -93,6 +93,7 @@ skip_or ps h f (symbol.Plus ∷ s) e = refl
 skip_or ps h f (symbol.Open ∷ s) e = absurd e
 skip_or ps h f (symbol.Close ∷ s) e = refl
 skip_or ps h f (symbol.Stray ∷ s) e = refl
+
 -- all that binds looser stays on the pile
 pub settled_under : (least : ℕ) (ps : List Pending) (f : Node) → Holds least ps → settled least ps f ≡ (ps, f)
 settled_under least [] f h = refl

@@ -1,13 +1,14 @@
 -- Where the reader stops is the first place with which no function text goes on.
-use Rattle.std.proofs.Common.{◌≡◌, ℕ, suc, ◌+◌, ◌-◌, ◌<◌, ◌≤◌, Bool, true, false, List, [], ◌∷◌, ◌++◌, length, take, drop, Option, None, Some, Result, Ok, Err, refl, sym, ap, subst, ◌∙◌, arith, append_assoc, length-append, length-drop}
+use Rattle.std.proofs.Common.{◌≡◌, ℕ, ◌+◌, ◌<◌, ◌≤◌, List, [], ◌∷◌, ◌++◌, length, take, drop, Option, None, Some, Ok, Err, refl, sym, ap, subst, ◌∙◌, arith, append_assoc, length-append, length-drop}
+use Rattle.std.proofs.Math.Seq.{take-append_seam, take-append-add}
 use Rattle.bool_functions.specs.declared.symbol.Symbol.{Symbol}
 use Rattle.bool_functions.specs.declared.symbol.Symbol.TheVariants as symbol
 use Rattle.bool_functions.specs.declared.tree.Node.{Node}
 use Rattle.bool_functions.specs.declared.tree.Node.TheVariants as node
 use Rattle.bool_functions.specs.declared.reader.Pending.{Pending}
 use Rattle.bool_functions.specs.declared.reader.Pending.TheVariants as pending
-use Rattle.bool_functions.specs.Grammar.{Rule, AtOr, AtAnd, AtXor, AtNot, AtPost, Takes, IsText, IsFront, IsFault}
-use Rattle.bool_functions.specs.Machine.{binds, joined, settled, Holds, held, closed, alone, finished, ended, next, step, State, run, start}
+use Rattle.bool_functions.specs.Grammar.{AtOr, IsText, IsFront, IsFault}
+use Rattle.bool_functions.specs.Machine.{finished, ended, next, step, State, run, start}
 use Rattle.bool_functions.proofs.Complete.{Ends, ends_and, ends_xor, ends_not, skip_not, skip_xor, skip_and, skip_or, text_read}
 use Rattle.bool_functions.proofs.Sound.{read_text}
 
@@ -89,3 +90,40 @@ at_symbol st x s m (Some a) e k later = let r = later a k in record {
 stops : (st : State) (t m : List Symbol) → run st t ≡ Err m → Stops st t m
 stops st [] m e = at_end st m (finished st) refl e
 stops st (x ∷ s) m e = at_symbol st x s m (step st x) refl e (λ a k. stops a s m k)
+
+front_taken : (s front m : List Symbol) (at : ℕ) → s ≡ front ++ m → length front ≡ at → take at s ≡ front
+front_taken s front m at e l = ap (λ n. take n s) (sym l) ∙ ap (take (length front)) e ∙ take-append_seam front m
+
+longer_taken : (s front : List Symbol) (x : Symbol) (m : List Symbol) (at : ℕ) → s ≡ front ++ x ∷ m → length front ≡ at → take (at + 1) s ≡ front ++ x ∷ []
+longer_taken s front x m at e l = ap (λ n. take (n + 1) s) (sym l) ∙ ap (take (length front + 1)) e ∙ take-append-add front (x ∷ m) 1
+
+-- with the symbol at which the reader stops no text goes on
+no_front : (s : List Symbol) (at : ℕ) (front : List Symbol) (after : State) (m : List Symbol) → s ≡ front ++ m → length front ≡ at
+    → ((rest : List Symbol) → run start (front ++ rest) ≡ run after rest) → Bad after m → at < length s → IsFront (take (at + 1) s) → ⊥
+unfolding Bad
+no_front s at front after [] e l reads bad lt fronts = omega (arith, ap length e, length-append front [])
+no_front s at front after (x ∷ m) e l reads bad lt (more, f, t) =
+    let text : run start ((front ++ x ∷ []) ++ more) ≡ Ok f =
+    ap (λ u. run start (u ++ more)) (sym (longer_taken s front x m at e l)) ∙ text_read (take (at + 1) s ++ more) f t in
+    let joined_up : run start ((front ++ x ∷ []) ++ more) ≡ run start (front ++ x ∷ more) = ap (run start) (append_assoc front (x ∷ []) more) in
+    let ends : run after (x ∷ more) ≡ Err (x ∷ more) = ap (λ o. next o (x ∷ more) (λ b. run b more)) bad in
+    let known : run start (front ++ x ∷ more) ≡ run after (x ∷ more) = reads (x ∷ more) in
+    absurd cc
+
+no_text : (s m : List Symbol) (f : Node) → run start s ≡ Err m → IsText s f → ⊥
+no_text s m f e t = let k : run start s ≡ Ok f = text_read s f t in absurd cc
+
+of_stop : (s : List Symbol) (at : ℕ) → at ≤ length s → run start s ≡ Err (drop at s) → Stops start s (drop at s) → IsFault s at
+of_stop s at le e r =
+    let l : length r.front ≡ at = omega (arith, ap length r.splits, length-append r.front (drop at s), length-drop at s) in
+    let (more, f, k) = goes_on r.after in
+    record {
+      within = le;
+      before = subst IsFront (sym (front_taken s r.front (drop at s) at r.splits l)) (more, f, read_text (r.front ++ more) f (r.reads more ∙ k));
+      first = no_front s at r.front r.after (drop at s) r.splits l r.reads r.bad;
+      short = λ _ g t. no_text s (drop at s) g e t;
+    }
+
+-- the place where the reader stops is the fault
+pub stop_is_fault : (s : List Symbol) (at : ℕ) → at ≤ length s → run start s ≡ Err (drop at s) → IsFault s at
+stop_is_fault s at le e = of_stop s at le e (stops start s (drop at s) e)

@@ -7,3 +7,4 @@ pub mod Runs
 pub mod Complete
 pub mod Sound
 pub mod Fronts
+pub mod Alike

@@ -1,5 +1,5 @@
 -- What the reader takes for a text is one, with this tree.
-use Rattle.std.proofs.Common.{◌≡◌, ℕ, ◌<◌, Bool, true, false, nat_lt, List, [], ◌∷◌, ◌++◌, Option, None, Some, Result, Ok, Err, if◌then◌else◌, refl, sym, ap, subst, ◌∙◌, arith, lit<, ◌⊎◌, inl, inr}
+use Rattle.std.proofs.Common.{◌≡◌, ℕ, List, [], ◌∷◌, None, Some, Ok, refl, sym, subst, arith, lit<, ◌⊎◌, inl, inr}
 use Rattle.bool_functions.specs.declared.symbol.Symbol.{Symbol}
 use Rattle.bool_functions.specs.declared.symbol.Symbol.TheVariants as symbol
 use Rattle.bool_functions.specs.declared.tree.Node.{Node}
@@ -7,7 +7,7 @@ use Rattle.bool_functions.specs.declared.tree.Node.TheVariants as node
 use Rattle.bool_functions.specs.declared.reader.Pending.{Pending}
 use Rattle.bool_functions.specs.declared.reader.Pending.TheVariants as pending
 use Rattle.bool_functions.specs.Grammar.{Rule, AtOr, AtAnd, AtXor, AtNot, AtPost, Takes, IsText}
-use Rattle.bool_functions.specs.Machine.{binds, joined, settled, Holds, held, closed, alone, ended, next, State, run, start}
+use Rattle.bool_functions.specs.Machine.{settled, Holds, held, closed, alone, ended, next, State, run, start}
 use Rattle.bool_functions.proofs.Complete.{settled_under}
 
 -- A phrase may begin at t, where what was taken of a before waits on the pile.
@@ -128,13 +128,13 @@ module _ (a : List Symbol) (f : Node) where
   sound (ps, Some g) (symbol.Stray ∷ s) (u, r, x) e = absurd cc
   sound (ps, Some g) (symbol.Name i ∷ s) (u, r, x) e =
       sound (held pending.And (settled 2 ps g), Some (node.Name i)) s
-        (symbol.Name i ∷ s, after_and (settled 2 ps g) (symbol.Name i ∷ s) (xor_2 a (symbol.Name i ∷ s) ps u g r (Takes.post x)), Takes.name) e
+      (symbol.Name i ∷ s, after_and (settled 2 ps g) (symbol.Name i ∷ s) (xor_2 a (symbol.Name i ∷ s) ps u g r (Takes.post x)), Takes.name) e
   sound (ps, Some g) (symbol.Zero ∷ s) (u, r, x) e =
       sound (held pending.And (settled 2 ps g), Some node.Zero) s
-        (symbol.Zero ∷ s, after_and (settled 2 ps g) (symbol.Zero ∷ s) (xor_2 a (symbol.Zero ∷ s) ps u g r (Takes.post x)), Takes.zero) e
+      (symbol.Zero ∷ s, after_and (settled 2 ps g) (symbol.Zero ∷ s) (xor_2 a (symbol.Zero ∷ s) ps u g r (Takes.post x)), Takes.zero) e
   sound (ps, Some g) (symbol.One ∷ s) (u, r, x) e =
       sound (held pending.And (settled 2 ps g), Some node.One) s
-        (symbol.One ∷ s, after_and (settled 2 ps g) (symbol.One ∷ s) (xor_2 a (symbol.One ∷ s) ps u g r (Takes.post x)), Takes.one) e
+      (symbol.One ∷ s, after_and (settled 2 ps g) (symbol.One ∷ s) (xor_2 a (symbol.One ∷ s) ps u g r (Takes.post x)), Takes.one) e
   sound (ps, Some g) (symbol.Bang ∷ s) (u, r, x) e =
       sound (pending.Not ∷ held pending.And (settled 2 ps g), None) s (after_and (settled 2 ps g) (symbol.Bang ∷ s) (xor_2 a (symbol.Bang ∷ s) ps u g r (Takes.post x))) e
   sound (ps, Some g) (symbol.Open ∷ s) (u, r, x) e =

@@ -8,3 +8,4 @@ pub mod Complete
 pub mod Sound
 pub mod Fronts
 pub mod Alike
+pub mod Appearances

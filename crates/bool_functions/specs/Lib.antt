@@ -7,3 +7,4 @@ pub mod Token
 pub mod Grammar
 pub mod Machine
 pub mod State
+pub mod FunctionText

@@ -50,17 +50,17 @@ LieIn text ts = All (λ t. (t.start < t.end) × (t.end ≤ length text)) ts
 abbrev pub bytes_at : List ℕ → Span → List ℕ
 bytes_at text t = slice_range text t.start t.end
 
-abbrev pub tokens : List ℕ → List (List ℕ)
-tokens text = map (bytes_at text) (spans text)
-
 -- name = (letter | "_") { letter | digit | "_" }
 abbrev pub is_name : List ℕ → Bool
 is_name [] = false
 is_name (b ∷ s) = is_word_byte b && not (is_ascii_digit b)
 
 -- the names in a text, in its order
+abbrev pub words_of : List ℕ → List Span → List (List ℕ)
+words_of text ts = filter is_name (map (bytes_at text) ts)
+
 abbrev pub words : List ℕ → List (List ℕ)
-words text = filter is_name (tokens text)
+words text = words_of text (spans text)
 
 -- what a single byte stands for
 abbrev pub mark_of : ℕ → Symbol
@@ -82,8 +82,9 @@ symbol_of names (b ∷ s) =
     if is_ascii_digit b then digit_of b s
     else (if is_word_byte b then symbol.Name (unwrap_or (number_of names (b ∷ s)) (length names)) else mark_of b)
 
+-- the symbols of a text over a list of names
 abbrev pub symbols : List (List ℕ) → List ℕ → List Symbol
-symbols names text = map (symbol_of names) (tokens text)
+symbols names text = map (λ t. symbol_of names (bytes_at text t)) (spans text)
 
 -- the offset of a token by its number, or the text's length where there is none
 abbrev pub offset_of : List ℕ → ℕ → ℕ

@@ -45,6 +45,17 @@ impl<T: Drop> From<AllocFailed<T>> for FunctionFault {
     }
 }
 
+impl From<Memory> for FunctionFault {
+    ghost use Rattle.std.specs.Prelude.{◌≡◌};
+    ghost use Rattle.bool_functions.specs.declared.faults.FunctionFault.TheVariants as fault;
+
+    ghost from_gives = { λ _ e. e ≡ fault.Memory };
+
+    fn from(_: Memory) -> FunctionFault {
+        FunctionFault::Memory
+    }
+}
+
 impl From<AllocError> for Memory {
     fn from(_: AllocError) -> Memory {
         Memory

@@ -5,9 +5,12 @@ mod faults;
 mod name_list;
 mod reader;
 mod symbol;
+mod texts;
 mod tokens;
 mod tree;
+mod words;
 
 pub use faults::{FunctionFault, Memory};
 pub use name_list::Names;
+pub use texts::MAX_LEN;
 pub use tree::{Function, Node};

@@ -227,7 +227,7 @@ impl Reader {
 }
 
 /// The tree of the symbols, or the place of the first with which no function text goes on.
-fn run(alloc: Global, symbols: &[Symbol]) -> Result<Node, ReadFault>
+pub(crate) fn run(alloc: Global, symbols: &[Symbol]) -> Result<Node, ReadFault>
     ensures { Gives result symbols.now (run start symbols.now) }
 {
     let mut reader = Reader {

@@ -1,0 +1,150 @@
+-- The names of a text by their first appearances.
+use Rattle.std.proofs.Common.{◌≡◌, ℕ, Bool, true, false, cond, not, ◌&&◌, ◌||◌, List, [], ◌∷◌, ◌++◌, map, filter, bytes_eq, Option, None, Some, is_none, if◌then◌else◌, refl, sym, ap, subst, ◌∙◌, append_assoc}
+use Rattle.std.specs.List.{list_any}
+use Rattle.std.proofs.lemmas.List.Folds.{list_any-append}
+use Rattle.std.proofs.lemmas.Slice.Eq.{bytes_eq-Decides}
+use Rattle.bool_functions.specs.declared.tokens.Span.{Span}
+use Rattle.bool_functions.specs.NameList.{number_of, Adds}
+use Rattle.bool_functions.specs.Token.{is_name, bytes_at, words_of, words, spans}
+use Rattle.bool_functions.specs.FunctionText.{first_appearances, first_unknown, unknown_in, free_names}
+use Rattle.bool_functions.proofs.NameLists.{position-none, position-some}
+
+-- the names that are not in a list
+abbrev pub fresh : List (List ℕ) → List (List ℕ) → List (List ℕ)
+fresh names ws = filter (λ w. is_none (number_of names w)) ws
+
+-- the names other than one
+abbrev without : List ℕ → List (List ℕ) → List (List ℕ)
+without w ws = filter (λ v. not (bytes_eq v w)) ws
+
+keeps : {X : Type 0} (p : X → Bool) (x : X) (xs : List X) → p x ≡ true → filter p (x ∷ xs) ≡ x ∷ filter p xs
+keeps p x xs e = ap (λ b. cond b (x ∷ filter p xs) (filter p xs)) e
+
+drops : {X : Type 0} (p : X → Bool) (x : X) (xs : List X) → p x ≡ false → filter p (x ∷ xs) ≡ filter p xs
+drops p x xs e = ap (λ b. cond b (x ∷ filter p xs) (filter p xs)) e
+
+none_of : (o : Option ℕ) → (o ≡ None → ⊥) → is_none o ≡ false
+none_of None h = absurd (h refl)
+none_of (Some i) h = refl
+
+absent_by : (names : List (List ℕ)) (w : List ℕ) (b : Bool) → list_any (bytes_eq w) names ≡ b → is_none (number_of names w) ≡ not b
+absent_by names w true e = none_of (number_of names w) (position-some (bytes_eq w) names e)
+absent_by names w false e = ap is_none (position-none (bytes_eq w) names e)
+
+-- a name is absent where no name of the list is equal to it
+absent : (names : List (List ℕ)) (w : List ℕ) → is_none (number_of names w) ≡ not (list_any (bytes_eq w) names)
+absent names w = absent_by names w (list_any (bytes_eq w) names) refl
+
+fresh_nothing : (ws : List (List ℕ)) → fresh [] ws ≡ ws
+fresh_nothing [] = refl
+fresh_nothing (w ∷ ws) = ap (λ vs. w ∷ vs) (fresh_nothing ws)
+
+module _ (names : List (List ℕ)) (w : List ℕ) where
+  absent_push : (x : List ℕ) (a b : Bool) → list_any (bytes_eq x) names ≡ a → bytes_eq x w ≡ b → is_none (number_of (names ++ w ∷ []) x) ≡ not (a || (b || false))
+  absent_push x a b e f =
+      absent (names ++ w ∷ []) x ∙ ap not (list_any-append (bytes_eq x) names (w ∷ []) ∙ ap (λ c. c || (bytes_eq x w || false)) e ∙ ap (λ c. a || (c || false)) f)
+
+  push_at : (x : List ℕ) (xs : List (List ℕ)) (a b : Bool) → list_any (bytes_eq x) names ≡ a → bytes_eq x w ≡ b
+      → fresh (names ++ w ∷ []) xs ≡ fresh names (without w xs) → fresh (names ++ w ∷ []) (x ∷ xs) ≡ fresh names (without w (x ∷ xs))
+  push_at x xs true true e f h =
+      drops _ x xs (absent_push x true true e f) ∙ h ∙ ap (fresh names) (sym (drops (λ v. not (bytes_eq v w)) x xs (ap not f)))
+  push_at x xs false true e f h =
+      drops _ x xs (absent_push x false true e f) ∙ h ∙ ap (fresh names) (sym (drops (λ v. not (bytes_eq v w)) x xs (ap not f)))
+  push_at x xs true false e f h =
+      drops _ x xs (absent_push x true false e f) ∙ h ∙ sym (drops _ x (without w xs) (absent_by names x true e))
+      ∙ ap (fresh names) (sym (keeps (λ v. not (bytes_eq v w)) x xs (ap not f)))
+  push_at x xs false false e f h =
+      keeps _ x xs (absent_push x false false e f) ∙ ap (λ ys. x ∷ ys) h ∙ sym (keeps _ x (without w xs) (absent_by names x false e))
+      ∙ ap (fresh names) (sym (keeps (λ v. not (bytes_eq v w)) x xs (ap not f)))
+
+  fresh-push : (xs : List (List ℕ)) → fresh (names ++ w ∷ []) xs ≡ fresh names (without w xs)
+  fresh-push [] = refl
+  fresh-push (x ∷ xs) = push_at x xs (list_any (bytes_eq x) names) (bytes_eq x w) refl refl (fresh-push xs)
+
+  there_at : (x : List ℕ) (xs : List (List ℕ)) (a b : Bool) → list_any (bytes_eq x) names ≡ a → bytes_eq x w ≡ b → list_any (bytes_eq w) names ≡ true
+      → fresh names (without w xs) ≡ fresh names xs → fresh names (without w (x ∷ xs)) ≡ fresh names (x ∷ xs)
+  there_at x xs a true e f known h =
+      let same : x ≡ w = (bytes_eq-Decides x w).0 f in
+      let found : list_any (bytes_eq x) names ≡ true = ap (λ v. list_any (bytes_eq v) names) same ∙ known in
+      ap (fresh names) (drops (λ v. not (bytes_eq v w)) x xs (ap not f)) ∙ h ∙ sym (drops _ x xs (absent_by names x true found))
+  there_at x xs true false e f known h =
+      ap (fresh names) (keeps (λ v. not (bytes_eq v w)) x xs (ap not f)) ∙ drops _ x (without w xs) (absent_by names x true e) ∙ h ∙ sym (drops _ x xs (absent_by names x true e))
+  there_at x xs false false e f known h =
+      ap (fresh names) (keeps (λ v. not (bytes_eq v w)) x xs (ap not f)) ∙ keeps _ x (without w xs) (absent_by names x false e) ∙ ap (λ ys. x ∷ ys) h ∙ sym (keeps _ x xs (absent_by names x false e))
+
+  fresh-there : (xs : List (List ℕ)) → list_any (bytes_eq w) names ≡ true → fresh names (without w xs) ≡ fresh names xs
+  fresh-there [] known = refl
+  fresh-there (x ∷ xs) known = there_at x xs (list_any (bytes_eq x) names) (bytes_eq x w) refl refl known (fresh-there xs known)
+
+found_by : (names : List (List ℕ)) (w : List ℕ) (b : Bool) → list_any (bytes_eq w) names ≡ b → (number_of names w ≡ None → ⊥) → list_any (bytes_eq w) names ≡ true
+found_by names w true e h = e
+found_by names w false e h = absurd (h (position-none (bytes_eq w) names e))
+
+-- adding the next name leaves what the names and the rest come to
+pub adds_word : (old new : List (List ℕ)) (w : List ℕ) (ws : List (List ℕ)) (number : Option ℕ) → Adds old w number new
+    → new ++ fresh new (first_appearances ws) ≡ old ++ fresh old (first_appearances (w ∷ ws))
+adds_word old new w ws (Some i) (absent_now, _, is) =
+    ap (λ l. l ++ fresh l (first_appearances ws)) is ∙ append_assoc old (w ∷ []) (fresh (old ++ w ∷ []) (first_appearances ws))
+    ∙ ap (λ l. old ++ w ∷ l) (fresh-push old w (first_appearances ws))
+    ∙ ap (λ l. old ++ l) (sym (keeps (λ v. is_none (number_of old v)) w (without w (first_appearances ws)) (ap is_none absent_now)))
+adds_word old new w ws None (there, is) =
+    ap (λ l. l ++ fresh l (first_appearances ws)) is
+    ∙ ap (λ l. old ++ l) (sym (fresh-there old w (first_appearances ws) (found_by old w (list_any (bytes_eq w) old) refl there))
+        ∙ sym (drops (λ v. is_none (number_of old v)) w (without w (first_appearances ws)) (none_of (number_of old w) there)))
+
+-- at the beginning nothing is in the list
+pub begins_fresh : (names ws : List (List ℕ)) → names ≡ [] → names ++ fresh names ws ≡ ws
+begins_fresh names ws e = ap (λ l. l ++ fresh l ws) e ∙ fresh_nothing ws
+
+kept_at : (w v x : List ℕ) (xs : List (List ℕ)) (b c : Bool) → bytes_eq w x ≡ b → bytes_eq x v ≡ c → bytes_eq w v ≡ false
+    → (list_any (bytes_eq w) xs ≡ true → list_any (bytes_eq w) (without v xs) ≡ true) → (b || list_any (bytes_eq w) xs) ≡ true → list_any (bytes_eq w) (without v (x ∷ xs)) ≡ true
+kept_at w v x xs true true e f other h k = let same : w ≡ x = (bytes_eq-Decides w x).0 e in absurd (let g : bytes_eq w v ≡ true = ap (λ u. bytes_eq u v) same ∙ f in cc)
+kept_at w v x xs true false e f other h k =
+    ap (list_any (bytes_eq w)) (keeps (λ u. not (bytes_eq u v)) x xs (ap not f)) ∙ ap (λ d. d || list_any (bytes_eq w) (without v xs)) e
+kept_at w v x xs false true e f other h k = ap (list_any (bytes_eq w)) (drops (λ u. not (bytes_eq u v)) x xs (ap not f)) ∙ h k
+kept_at w v x xs false false e f other h k =
+    ap (list_any (bytes_eq w)) (keeps (λ u. not (bytes_eq u v)) x xs (ap not f)) ∙ ap (λ d. d || list_any (bytes_eq w) (without v xs)) e ∙ h k
+
+kept : (w v : List ℕ) (xs : List (List ℕ)) → bytes_eq w v ≡ false → list_any (bytes_eq w) xs ≡ true → list_any (bytes_eq w) (without v xs) ≡ true
+kept w v [] other h = h
+kept w v (x ∷ xs) other h = kept_at w v x xs (bytes_eq w x) (bytes_eq x v) refl refl other (kept w v xs other) h
+
+appears_at : (w v : List ℕ) (ws : List (List ℕ)) (b : Bool) → bytes_eq w v ≡ b → (list_any (bytes_eq w) ws ≡ true → list_any (bytes_eq w) (first_appearances ws) ≡ true)
+    → (b || list_any (bytes_eq w) ws) ≡ true → (b || list_any (bytes_eq w) (without v (first_appearances ws))) ≡ true
+appears_at w v ws true e h k = refl
+appears_at w v ws false e h k = kept w v (first_appearances ws) e (h k)
+
+-- each name appears among the first appearances
+appears : (w : List ℕ) (ws : List (List ℕ)) → list_any (bytes_eq w) ws ≡ true → list_any (bytes_eq w) (first_appearances ws) ≡ true
+appears w [] h = h
+appears w (v ∷ ws) h = appears_at w v ws (bytes_eq w v) refl (appears w ws) h
+
+Known : List (List ℕ) → List (List ℕ) → Type 0
+Known names ws = (w : List ℕ) → list_any (bytes_eq w) ws ≡ true → list_any (bytes_eq w) names ≡ true
+
+known_at : (names : List (List ℕ)) (text : List ℕ) (t : Span) (ts : List Span) (b : Bool) → is_name (bytes_at text t) ≡ b → Known names (words_of text (t ∷ ts))
+    → (Known names (words_of text ts) → first_unknown names text ts ≡ None) → first_unknown names text (t ∷ ts) ≡ None
+unfolding Known
+known_at names text t ts true e h k =
+    let w = bytes_at text t in
+    let all : words_of text (t ∷ ts) ≡ w ∷ words_of text ts = keeps is_name w (map (bytes_at text) ts) e in
+    let itself : bytes_eq w w ≡ true = (bytes_eq-Decides w w).1 refl in
+    let found : list_any (bytes_eq w) names ≡ true = h w (ap (list_any (bytes_eq w)) all ∙ ap (λ d. d || list_any (bytes_eq w) (words_of text ts)) itself) in
+    ap (λ d. if d then Some t.start else first_unknown names text ts) (ap (λ d. d && is_none (number_of names w)) e ∙ absent_by names w true found)
+    ∙ k (λ v in_rest. h v (ap (list_any (bytes_eq v)) all ∙ later (bytes_eq v w) _ in_rest))
+  where
+    later : (a b : Bool) → b ≡ true → (a || b) ≡ true
+    later true b q = refl
+    later false b q = q
+known_at names text t ts false e h k =
+    ap (λ d. if d then Some t.start else first_unknown names text ts) (ap (λ d. d && is_none (number_of names (bytes_at text t))) e)
+    ∙ k (λ v in_rest. h v (ap (list_any (bytes_eq v)) (drops is_name (bytes_at text t) (map (bytes_at text) ts) e) ∙ in_rest))
+
+all_known : (names : List (List ℕ)) (text : List ℕ) (ts : List Span) → Known names (words_of text ts) → first_unknown names text ts ≡ None
+all_known names text [] h = refl
+all_known names text (t ∷ ts) h = known_at names text t ts (is_name (bytes_at text t)) refl h (all_known names text ts)
+
+-- over a text's own names none is unknown
+pub own_names_known : (text : List ℕ) → unknown_in (free_names text) text ≡ None
+unfolding Known
+own_names_known text = all_known (free_names text) text (spans text) (λ w h. appears w (words text) h)

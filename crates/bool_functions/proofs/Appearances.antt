@@ -1,5 +1,5 @@
 -- The names of a text by their first appearances.
-use Rattle.std.proofs.Common.{◌≡◌, ℕ, Bool, true, false, cond, not, ◌&&◌, ◌||◌, List, [], ◌∷◌, ◌++◌, map, filter, bytes_eq, Option, None, Some, is_none, if◌then◌else◌, refl, sym, ap, subst, ◌∙◌, append_assoc}
+use Rattle.std.proofs.Common.{◌≡◌, ℕ, Bool, true, false, cond, not, ◌&&◌, ◌||◌, List, [], ◌∷◌, ◌++◌, map, filter, bytes_eq, Option, None, Some, is_none, if◌then◌else◌, refl, sym, ap, subst, ◌∙◌, append_assoc, ◌+◌, ◌<◌, length, drop, slice_index_or, add-one, drop-cons}
 use Rattle.std.specs.List.{list_any}
 use Rattle.std.proofs.lemmas.List.Folds.{list_any-append}
 use Rattle.std.proofs.lemmas.Slice.Eq.{bytes_eq-Decides}
@@ -148,3 +148,27 @@ all_known names text (t ∷ ts) h = known_at names text t ts (is_name (bytes_at 
 pub own_names_known : (text : List ℕ) → unknown_in (free_names text) text ≡ None
 unfolding Known
 own_names_known text = all_known (free_names text) text (spans text) (λ w h. appears w (words text) h)
+
+first_of_drop : (tokens : List Span) (i : ℕ) (d : Span) → i < length tokens → drop i tokens ≡ slice_index_or tokens i d ∷ drop (i + 1) tokens
+first_of_drop tokens i d lt = rw (add-one, drop-cons tokens i d)
+
+-- a token further, where what it adds is known for all tokens after it
+pub moved_names : (text : List ℕ) (tokens : List Span) (i : ℕ) (d : Span) (old new all : List (List ℕ)) → i < length tokens
+    → old ++ fresh old (first_appearances (words_of text (drop i tokens))) ≡ all
+    → ((ts : List Span) → new ++ fresh new (first_appearances (words_of text ts)) ≡ old ++ fresh old (first_appearances (words_of text (slice_index_or tokens i d ∷ ts))))
+    → new ++ fresh new (first_appearances (words_of text (drop (i + 1) tokens))) ≡ all
+moved_names text tokens i d old new all lt inv step =
+    step (drop (i + 1) tokens) ∙ ap (λ ts. old ++ fresh old (first_appearances (words_of text ts))) (sym (first_of_drop tokens i d lt)) ∙ inv
+
+-- what one token adds
+pub by_name : (text : List ℕ) (t : Span) (old new : List (List ℕ)) (number : Option ℕ) → is_name (bytes_at text t) ≡ true → Adds old (bytes_at text t) number new
+    → (ts : List Span) → new ++ fresh new (first_appearances (words_of text ts)) ≡ old ++ fresh old (first_appearances (words_of text (t ∷ ts)))
+by_name text t old new number e adds ts =
+    adds_word old new (bytes_at text t) (words_of text ts) number adds
+    ∙ ap (λ ws. old ++ fresh old (first_appearances ws)) (sym (keeps is_name (bytes_at text t) (map (bytes_at text) ts) e))
+
+pub by_other : (text : List ℕ) (t : Span) (old new : List (List ℕ)) → is_name (bytes_at text t) ≡ false → new ≡ old
+    → (ts : List Span) → new ++ fresh new (first_appearances (words_of text ts)) ≡ old ++ fresh old (first_appearances (words_of text (t ∷ ts)))
+by_other text t old new e same ts =
+    ap (λ l. l ++ fresh l (first_appearances (words_of text ts))) same
+    ∙ ap (λ ws. old ++ fresh old (first_appearances ws)) (sym (drops is_name (bytes_at text t) (map (bytes_at text) ts) e))

@@ -90,7 +90,7 @@ adds_word old new w ws (Some i) (absent_now, _, is) =
 adds_word old new w ws None (there, is) =
     ap (λ l. l ++ fresh l (first_appearances ws)) is
     ∙ ap (λ l. old ++ l) (sym (fresh-there old w (first_appearances ws) (found_by old w (list_any (bytes_eq w) old) refl there))
-        ∙ sym (drops (λ v. is_none (number_of old v)) w (without w (first_appearances ws)) (none_of (number_of old w) there)))
+    ∙ sym (drops (λ v. is_none (number_of old v)) w (without w (first_appearances ws)) (none_of (number_of old w) there)))
 
 -- at the beginning nothing is in the list
 pub begins_fresh : (names ws : List (List ℕ)) → names ≡ [] → names ++ fresh names ws ≡ ws

@@ -1,6 +1,6 @@
 -- Where the reader stops is the first place with which no function text goes on.
-use Rattle.std.proofs.Common.{◌≡◌, ℕ, ◌+◌, ◌<◌, ◌≤◌, List, [], ◌∷◌, ◌++◌, length, take, drop, Option, None, Some, Ok, Err, refl, sym, ap, subst, ◌∙◌, arith, append_assoc, length-append, length-drop}
-use Rattle.std.proofs.Math.Seq.{take-append_seam, take-append-add}
+use Rattle.std.proofs.Common.{◌≡◌, ℕ, ◌+◌, ◌-◌, ◌<◌, ◌≤◌, List, [], ◌∷◌, ◌++◌, length, take, drop, Option, None, Some, Ok, Err, refl, sym, ap, subst, ◌∙◌, arith, append_assoc, length-append, length-drop}
+use Rattle.std.proofs.Math.Seq.{take-append_seam, take-append-add, drop-append_seam}
 use Rattle.bool_functions.specs.declared.symbol.Symbol.{Symbol}
 use Rattle.bool_functions.specs.declared.symbol.Symbol.TheVariants as symbol
 use Rattle.bool_functions.specs.declared.tree.Node.{Node}
@@ -127,3 +127,11 @@ of_stop s at le e r =
 -- the place where the reader stops is the fault
 pub stop_is_fault : (s : List Symbol) (at : ℕ) → at ≤ length s → run start s ≡ Err (drop at s) → IsFault s at
 stop_is_fault s at le e = of_stop s at le e (stops start s (drop at s) e)
+
+-- what the reader leaves is the rest of the symbols from one on
+pub stop_splits : (s m : List Symbol) → run start s ≡ Err m → (length m ≤ length s) × (m ≡ drop (length s - length m) s)
+stop_splits s m e =
+    let r = stops start s m e in
+    let n : length s ≡ length r.front + length m = ap length r.splits ∙ length-append r.front m in
+    let l : length s - length m ≡ length r.front = omega (arith, n) in
+    (omega (arith, n), sym (ap (λ k. drop k s) l ∙ ap (drop (length r.front)) r.splits ∙ drop-append_seam r.front m))

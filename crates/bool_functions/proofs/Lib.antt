@@ -9,3 +9,4 @@ pub mod Sound
 pub mod Fronts
 pub mod Alike
 pub mod Appearances
+pub mod Readings

@@ -93,3 +93,14 @@ OrMemoryFree (Err (UnknownName at)) text = ⊥
 abbrev pub FaultOrMemory : List (List ℕ) → List ℕ → FunctionFault → Type 0
 FaultOrMemory names text Memory = Unit {0}
 FaultOrMemory names text e = HasFault names text e
+
+-- the answer is this tree, or memory was wanted
+abbrev pub Answers : Result Node FunctionFault → Node → Type 0
+Answers (Ok g) f = g ≡ f
+Answers (Err Memory) f = Unit {0}
+Answers (Err e) f = ⊥
+
+abbrev pub AnswersFree : Result (Node × List (List ℕ)) FunctionFault → Node → Type 0
+AnswersFree (Ok r) f = r.0 ≡ f
+AnswersFree (Err Memory) f = Unit {0}
+AnswersFree (Err e) f = ⊥

@@ -12,5 +12,5 @@ mod words;
 
 pub use faults::{FunctionFault, Memory};
 pub use name_list::Names;
-pub use texts::MAX_LEN;
+pub use texts::{MAX_LEN, read_free, read_function};
 pub use tree::{Function, Node};

@@ -1,9 +1,9 @@
 //! Function texts, read over a list of names or over their own.
-ghost use Rattle.std.specs.Prelude.{◌≡◌, ◌≤◌, [], ℕ, Ok, Err, IfOk, IfErr, length, map};
+ghost use Rattle.std.specs.Prelude.{◌≡◌, ◌≢◌, ◌≤◌, [], ℕ, Ok, Err, IfOk, IfErr, length, map};
 ghost use Rattle.bool_functions.specs.Tree.{name_bound};
 ghost use Rattle.bool_functions.specs.Token.{bytes_at, spans, symbol_of, symbols, offset_of, LieIn};
 ghost use Rattle.bool_functions.specs.Machine.{run, start};
-ghost use Rattle.bool_functions.specs.FunctionText.{FunctionText, HasFault, free_names, reading_of, OrMemory, OrMemoryFree, FaultOrMemory, TreeOf};
+ghost use Rattle.bool_functions.specs.FunctionText.{FunctionText, HasFault, free_names, reading_of, OrMemory, OrMemoryFree, FaultOrMemory, TreeOf, Answers, AnswersFree};
 
 use crate::faults::FunctionFault;
 use crate::name_list::Names;
@@ -16,6 +16,59 @@ use std::alloc::{AllocError, Global};
 
 /// The greatest number of bytes of a function text.
 pub const MAX_LEN: usize = 4096;
+
+/// Reads a text whose names are in a list, by which the tree numbers them. A text of more than 4,096 bytes is
+/// `TooLong`. Any other is `Malformed` at the first token with which no function text goes on, or at its length. A
+/// function text is `UnknownName` at its first name that is not in the list. The first of these in this order is answered.
+pub fn read_function(alloc: Global, text: &[u8], names: &Names) -> Result<Function, FunctionFault>
+    ensures exact { OrMemory result (reading_of names.now text.now) }
+    ensures tree { IfOk result (FunctionText names.now text.now) }
+    ensures only { (f : Node) → FunctionText names.now text.now f → Answers result f }
+    ensures fault { IfErr result (FaultOrMemory names.now text.now) }
+    ensures bound { IfOk result (λ f. name_bound f ≤ length names.now) }
+{
+    read_over(alloc, text, names)
+}
+
+/// Reads a text with its own names, which are numbered by their first appearances. The faults are those of
+/// `read_function`, and none of them is `UnknownName`.
+pub fn read_free(alloc: Global, text: &[u8]) -> Result<(Function, Names), FunctionFault>
+    ensures exact { OrMemoryFree result text.now }
+    ensures names { IfOk result (λ r. r.1 ≡ free_names text.now) }
+    ensures tree { IfOk result (λ r. FunctionText (free_names text.now) text.now r.0) }
+    ensures only { (f : Node) → FunctionText (free_names text.now) text.now f → AnswersFree result f }
+    ensures fault { IfErr result (FaultOrMemory (free_names text.now) text.now) }
+    ensures known { (at : ℕ) → result ≢ Err (FunctionFault.UnknownName at) }
+    ensures bound { IfOk result (λ r. name_bound r.0 ≤ length r.1) }
+{
+    read_own(alloc, text)
+}
+
+fn read_over(alloc: Global, text: &[u8], names: &Names) -> Result<Function, FunctionFault>
+    ensures { OrMemory result (reading_of names.now text.now) }
+{
+    if text.len() > MAX_LEN {
+        return Err(FunctionFault::TooLong);
+    }
+    let tokens = spans(alloc, text)?;
+    let tree = read_tree(alloc, text, &tokens, names)?;
+    match first_unknown(text, &tokens, names) {
+        Some(at) => Err(FunctionFault::UnknownName(at)),
+        None => Ok(Function::new(tree)),
+    }
+}
+
+fn read_own(alloc: Global, text: &[u8]) -> Result<(Function, Names), FunctionFault>
+    ensures { OrMemoryFree result text.now }
+{
+    if text.len() > MAX_LEN {
+        return Err(FunctionFault::TooLong);
+    }
+    let tokens = spans(alloc, text)?;
+    let names = names_in(alloc, text, &tokens)?;
+    let tree = read_tree(alloc, text, &tokens, &names)?;
+    Ok((Function::new(tree), names))
+}
 
 fn read_tree(
     alloc: Global,

@@ -5,7 +5,7 @@ ghost use Rattle.std.specs.List.Sorted.{IsStrictlyIncreasing};
 ghost use Rattle.bool_functions.specs.Tree.{value_of, value_by, name_bound, names_of, Has, renamed_by};
 ghost use Rattle.bool_functions.specs.Support.{inserted, insert_all, support_of};
 ghost use Rattle.bool_functions.specs.Point.{entry_of, IsTable, HasValues};
-ghost use Rattle.bool_functions.specs.declared.tree.Node.TheVariants as node;
+ghost use Rattle.bool_functions.specs.declared.tree.Node.TheVariants as tree;
 
 use crate::faults::Memory;
 use sqlite_items::Boxed;
@@ -38,18 +38,24 @@ impl Model for Function {
 
     ghost Value = { Node };
 
-    ghost use Rattle.bool_functions.specs.contracts.tree.Node as tree;
+    ghost use Rattle.bool_functions.specs.contracts.tree.Node as nodes;
     ghost use Rattle.std.specs.Coded.{codes};
 
-    ghost coded = { Prim.hlevel (codes, tree.the_row.coded) };
+    ghost coded = { Prim.hlevel (codes, nodes.the_row.coded) };
 
     ghost view = { λ f. f.node };
 }
 
 impl Function {
+    pub(crate) fn new(node: Node) -> Function
+        ensures { result ≡ node }
+    {
+        Function { node }
+    }
+
     /// The function that is the name `i`.
     pub fn of_name(i: usize) -> Function
-        ensures { result ≡ node.Name i }
+        ensures { result ≡ tree.Name i }
     {
         Function {
             node: Node::Name(i),

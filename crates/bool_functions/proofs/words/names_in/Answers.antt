@@ -14,9 +14,9 @@ loop-token-preserved c =
     let tested = sym (ap is_name c.bytes_at-bytes.ensures) ∙ sym c.is_name.ensures in
     moved_names c.args.text.now c.args.tokens.now c.loop-token.token-index (span 0 0) c.loop-token.names c.if-is_name.names _ c.loop-token-test.true c.loop-token.invariant
     (elim c.if-is_name.branch [
-      then-is_name+in_ok-add w ↦
-        by_name c.args.text.now t c.loop-token.names c.if-is_name.names w.in_ok-add.field-0 (tested ∙ w.if-is_name.true)
-            (subst (λ (l : List (List ℕ)). Adds c.loop-token.names (bytes_at c.args.text.now t) w.in_ok-add.field-0 l) (sym w.names-is)
-                (subst (λ (b : List ℕ). Adds c.loop-token.names b w.in_ok-add.field-0 w.add.new.self) c.bytes_at-bytes.ensures w.in_ok-add.ensures.added))
-    | else-is_name w ↦ by_other c.args.text.now t c.loop-token.names c.if-is_name.names (tested ∙ w.if-is_name.false) w.names-is
+      | then-is_name+in_ok-add w ↦
+          by_name c.args.text.now t c.loop-token.names c.if-is_name.names w.in_ok-add.field-0 (tested ∙ w.if-is_name.true)
+          (subst (λ (l : List (List ℕ)). Adds c.loop-token.names (bytes_at c.args.text.now t) w.in_ok-add.field-0 l) (sym w.names-is)
+          (subst (λ (b : List ℕ). Adds c.loop-token.names b w.in_ok-add.field-0 w.add.new.self) c.bytes_at-bytes.ensures w.in_ok-add.ensures.added))
+      | else-is_name w ↦ by_other c.args.text.now t c.loop-token.names c.if-is_name.names (tested ∙ w.if-is_name.false) w.names-is
     ])

@@ -1,0 +1,144 @@
+-- What reading a text answers, by the grammar.
+use Rattle.std.proofs.Common.{◌≡◌, ℕ, zero, suc, ◌+◌, ◌-◌, ◌<◌, ◌≤◌, Bool, true, false, nat_lt, List, [], ◌∷◌, ◌++◌, length, take, drop, map, Option, None, Some, Result, Ok, Err, if◌then◌else◌, refl, sym, ap, subst, ◌∙◌, arith, append_assoc, length-append, length-drop, unwrap_or, ◌⊎◌, inl, inr, ltb-true, ltb-false, lt-ltb}
+use Rattle.std.proofs.Math.Seq.{drop-append_seam}
+use Rattle.std.proofs.lemmas.List.{length-map, take-append-drop}
+use Rattle.std.proofs.lemmas.Bool.Decides.{nat_tests}
+use Rattle.std.specs.Char.{is_ascii_digit}
+use Rattle.bool_functions.specs.declared.symbol.Symbol.{Symbol}
+use Rattle.bool_functions.specs.declared.symbol.Symbol.TheVariants as symbol
+use Rattle.bool_functions.specs.declared.tokens.Span.{Span}
+use Rattle.bool_functions.specs.declared.tree.Node.{Node}
+use Rattle.bool_functions.specs.declared.faults.FunctionFault.{FunctionFault}
+use Rattle.bool_functions.specs.declared.faults.FunctionFault.TheVariants.{TooLong, Malformed, UnknownName, Memory}
+use Rattle.bool_functions.specs.declared.texts.TheConstants.{MAX_LEN}
+use Rattle.bool_functions.specs.NameList.{number_of}
+use Rattle.bool_functions.specs.Token.{is_word_byte, digit_of, mark_of, symbol_of, symbols, spans, bytes_at, offset_of}
+use Rattle.bool_functions.specs.Grammar.{IsText, IsFront, IsFault}
+use Rattle.bool_functions.specs.Machine.{run, start}
+use Rattle.bool_functions.specs.FunctionText.{FunctionText, MalformedAt, IsFunction, HasFault, unknown_in, reading, reading_of}
+use Rattle.bool_functions.proofs.Complete.{text_read}
+use Rattle.bool_functions.proofs.Sound.{read_text}
+use Rattle.bool_functions.proofs.Fronts.{stop_is_fault, stop_splits}
+use Rattle.bool_functions.proofs.Alike.{Alike, alike_text, alike_back, alike_fault}
+
+alike_by : (names : List (List ℕ)) (b : ℕ) (s : List ℕ) (digit word : Bool) {t u : List Symbol} → Alike t u
+    → Alike ((if digit then digit_of b s else (if word then symbol.Name (unwrap_or (number_of names (b ∷ s)) (length names)) else mark_of b)) ∷ t)
+            ((if digit then digit_of b s else (if word then symbol.Name (unwrap_or (number_of [] (b ∷ s)) 0) else mark_of b)) ∷ u)
+alike_by names b s true word a = Alike.equal a
+alike_by names b s false true a = Alike.names a
+alike_by names b s false false a = Alike.equal a
+
+alike_symbol : (names : List (List ℕ)) (w : List ℕ) {t u : List Symbol} → Alike t u → Alike (symbol_of names w ∷ t) (symbol_of [] w ∷ u)
+alike_symbol names [] a = Alike.equal a
+alike_symbol names (b ∷ s) a = alike_by names b s (is_ascii_digit b) (is_word_byte b) a
+
+alike_each : (names : List (List ℕ)) (text : List ℕ) (ts : List Span) → Alike (map (λ t. symbol_of names (bytes_at text t)) ts) (map (λ t. symbol_of [] (bytes_at text t)) ts)
+alike_each names text [] = Alike.none
+alike_each names text (t ∷ ts) = alike_symbol names (bytes_at text t) (alike_each names text ts)
+
+-- the symbols of a text differ over two lists in the numbers of names alone
+pub alike_symbols : (names : List (List ℕ)) (text : List ℕ) → Alike (symbols names text) (symbols [] text)
+alike_symbols names text = alike_each names text (spans text)
+
+symbols_length : (names : List (List ℕ)) (text : List ℕ) → length (symbols names text) ≡ length (spans text)
+symbols_length names text = length-map (spans text) (λ t. symbol_of names (bytes_at text t))
+
+take_twice : (n m : ℕ) (s : List Symbol) → n ≤ m → take n (take m s) ≡ take n s
+take_twice zero m s le = refl
+take_twice (suc n) zero s le = absurd (omega (arith, le))
+take_twice (suc n) (suc m) [] le = refl
+take_twice (suc n) (suc m) (x ∷ s) le = ap (λ u. x ∷ u) (take_twice n m s (omega (arith, le)))
+
+-- a text's front is one, where a longer front is
+shorter_front : (s : List Symbol) (n m : ℕ) → n ≤ m → IsFront (take m s) → IsFront (take n s)
+shorter_front s n m le (more, f, t) =
+    let split : take m s ≡ take n s ++ drop n (take m s) = sym (take-append-drop n (take m s)) ∙ ap (λ u. u ++ drop n (take m s)) (take_twice n m s le) in
+    (drop n (take m s) ++ more, f, subst (λ u. IsText u f) (ap (λ u. u ++ more) split ∙ append_assoc (take n s) (drop n (take m s)) more) t)
+
+own_front : (s : List Symbol) (f : Node) → IsText s f → (n : ℕ) → IsFront (take n s)
+own_front s f t n = (drop n s, f, subst (λ u. IsText u f) (sym (take-append-drop n s)) t)
+
+not_before : (s : List Symbol) (n m : ℕ) → IsFault s n → IsFault s m → n < m → ⊥
+not_before s n m a b lt = a.first (omega (arith, b.within)) (shorter_front s (n + 1) m (omega arith) b.before)
+
+-- a fault has one place
+pub fault_place : (s : List Symbol) (n m : ℕ) → IsFault s n → IsFault s m → n ≡ m
+fault_place s n m a b = let l : n < m → ⊥ = not_before s n m a b in let r : m < n → ⊥ = not_before s m n b a in omega (arith, l, r)
+
+no_fault_at : (s : List Symbol) (f : Node) (n : ℕ) → IsText s f → IsFault s n → (n < length s) ⊎ (n ≡ length s) → ⊥
+no_fault_at s f n t a (inl lt) = a.first lt (own_front s f t (n + 1))
+no_fault_at s f n t a (inr is) = a.short is f t
+
+below_or_at : (n m : ℕ) → n ≤ m → (n < m) ⊎ (n ≡ m)
+below_or_at n m le = by (nat_lt n m) refl
+  where
+    by : (b : Bool) → nat_lt n m ≡ b → (n < m) ⊎ (n ≡ m)
+    by true e = inl (ltb-true n m e)
+    by false e = inr (let k : m ≤ n = ltb-false n m e in omega (arith, le, k))
+
+-- a text has no fault
+pub no_fault : (s : List Symbol) (f : Node) (n : ℕ) → IsText s f → IsFault s n → ⊥
+no_fault s f n t a = no_fault_at s f n t a (below_or_at n (length s) a.within)
+
+module _ (names : List (List ℕ)) (text : List ℕ) where
+  fitting : length text ≤ MAX_LEN → reading_of names text ≡ reading text (unknown_in names text) (run start (symbols names text))
+  fitting le = ap (λ b. if b then Err TooLong else reading text (unknown_in names text) (run start (symbols names text))) (let e : nat_lt MAX_LEN (length text) ≡ false = grind (arith, nat_tests) in e)
+
+  too_long : MAX_LEN < length text → reading_of names text ≡ Err TooLong
+  too_long lt = ap (λ b. if b then Err TooLong else reading text (unknown_in names text) (run start (symbols names text))) (lt-ltb MAX_LEN (length text) lt)
+
+  -- what `reading` answers, by the grammar
+  of_tree : (f : Node) (u : Option ℕ) (r : Result Node (List Symbol)) → length text ≤ MAX_LEN → unknown_in names text ≡ u → run start (symbols names text) ≡ r → reading text u r ≡ Ok f → FunctionText names text f
+  of_tree f u (Err m) le a b e = absurd cc
+  of_tree f None (Ok g) le a b e = let same : g ≡ f = cc in record { fits = le; tree = subst (IsText (symbols names text)) same (read_text (symbols names text) g b); known = a }
+  of_tree f (Some at) (Ok g) le a b e = absurd cc
+
+  malformed : (m : List Symbol) → run start (symbols names text) ≡ Err m → MalformedAt text (offset_of text (length (spans text) - length m))
+  malformed m b =
+      let cut = stop_splits (symbols names text) m b in
+      let n = length (symbols names text) - length m in
+      let fault : IsFault (symbols names text) n = stop_is_fault (symbols names text) n (omega arith) (b ∙ ap Err cut.1) in
+      (n, alike_fault n (alike_symbols names text) fault, ap (λ k. offset_of text (k - length m)) (symbols_length names text))
+
+  of_fault : (e : FunctionFault) (u : Option ℕ) (r : Result Node (List Symbol)) → length text ≤ MAX_LEN → unknown_in names text ≡ u → run start (symbols names text) ≡ r → reading text u r ≡ Err e → HasFault names text e
+  of_fault e u (Err m) le a b k = let same : Malformed (offset_of text (length (spans text) - length m)) ≡ e = cc in subst (HasFault names text) same (le, malformed m b)
+  of_fault e None (Ok g) le a b k = absurd cc
+  of_fault e (Some at) (Ok g) le a b k =
+      let same : UnknownName at ≡ e = cc in subst (HasFault names text) same (le, alike_text (alike_symbols names text) g (read_text (symbols names text) g b), a)
+
+  by_length : (P : Type 0) → (MAX_LEN < length text → P) → (length text ≤ MAX_LEN → P) → P
+  by_length P long short = by (nat_lt MAX_LEN (length text)) refl
+    where
+      by : (b : Bool) → nat_lt MAX_LEN (length text) ≡ b → P
+      by true e = long (ltb-true MAX_LEN (length text) e)
+      by false e = short (ltb-false MAX_LEN (length text) e)
+
+  -- a tree is read exactly where the text is a function text with it
+  pub reading_tree : (f : Node) → reading_of names text ≡ Ok f → FunctionText names text f
+  reading_tree f e = by_length (FunctionText names text f)
+      (λ lt. absurd (let l = too_long lt in cc))
+      (λ le. of_tree f (unknown_in names text) (run start (symbols names text)) le refl refl (sym (fitting le) ∙ e))
+
+  pub tree_reading : (f : Node) → FunctionText names text f → reading_of names text ≡ Ok f
+  tree_reading f t =
+      fitting t.fits ∙ ap (λ u. reading text u (run start (symbols names text))) t.known ∙ ap (reading text None) (text_read (symbols names text) f t.tree)
+
+  -- and a fault exactly where the text has it
+  pub reading_fault : (e : FunctionFault) → reading_of names text ≡ Err e → HasFault names text e
+  reading_fault e k = by_length (HasFault names text e)
+      (λ lt. let l = too_long lt in let same : TooLong ≡ e = cc in subst (HasFault names text) same lt)
+      (λ le. of_fault e (unknown_in names text) (run start (symbols names text)) le refl refl (sym (fitting le) ∙ k))
+
+  stopped : (n at : ℕ) (r : Result Node (List Symbol)) → IsFault (symbols [] text) n → offset_of text n ≡ at → run start (symbols names text) ≡ r → reading text (unknown_in names text) r ≡ Err (Malformed at)
+  stopped n at (Ok f) a off b = let t = alike_text (alike_symbols names text) f (read_text (symbols names text) f b) in absurd (no_fault (symbols [] text) t.0 n t.1 a)
+  stopped n at (Err m) a off b =
+      let (k, fault, is) = malformed m b in
+      ap (λ o. Err (Malformed o)) (sym is ∙ ap (offset_of text) (fault_place (symbols [] text) k n fault a) ∙ off)
+
+  pub fault_reading : (e : FunctionFault) → HasFault names text e → reading_of names text ≡ Err e
+  fault_reading TooLong lt = too_long lt
+  fault_reading (Malformed at) (le, (n, fault, off)) = fitting le ∙ stopped n at (run start (symbols names text)) fault off refl
+  fault_reading (UnknownName at) (le, (f, t), u) =
+      let (g, k) = alike_text (alike_back (alike_symbols names text)) f t in
+      fitting le ∙ ap (λ o. reading text o (run start (symbols names text))) u ∙ ap (reading text (Some at)) (text_read (symbols names text) g k)
+  fault_reading Memory h = absurd h

@@ -10,3 +10,5 @@ pub mod Fronts
 pub mod Alike
 pub mod Appearances
 pub mod Readings
+pub mod Bounds
+pub mod Renamings

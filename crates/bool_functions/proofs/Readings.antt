@@ -1,6 +1,5 @@
 -- What reading a text answers, by the grammar.
-use Rattle.std.proofs.Common.{◌≡◌, ℕ, zero, suc, ◌+◌, ◌-◌, ◌<◌, ◌≤◌, Bool, true, false, nat_lt, List, [], ◌∷◌, ◌++◌, length, take, drop, map, Option, None, Some, Result, Ok, Err, if◌then◌else◌, refl, sym, ap, subst, ◌∙◌, arith, append_assoc, length-append, length-drop, unwrap_or, ◌⊎◌, inl, inr, ltb-true, ltb-false, lt-ltb}
-use Rattle.std.proofs.Math.Seq.{drop-append_seam}
+use Rattle.std.proofs.Common.{◌≡◌, ℕ, zero, suc, ◌+◌, ◌-◌, ◌<◌, ◌≤◌, Bool, true, false, nat_lt, List, [], ◌∷◌, ◌++◌, length, take, drop, map, Option, None, Some, Result, Ok, Err, if◌then◌else◌, refl, sym, ap, subst, ◌∙◌, arith, append_assoc, length-drop, unwrap_or, IfOk, IfErr, ◌⊎◌, inl, inr, ltb-true, ltb-false, lt-ltb}
 use Rattle.std.proofs.lemmas.List.{length-map, take-append-drop}
 use Rattle.std.proofs.lemmas.Bool.Decides.{nat_tests}
 use Rattle.std.specs.Char.{is_ascii_digit}
@@ -12,18 +11,21 @@ use Rattle.bool_functions.specs.declared.faults.FunctionFault.{FunctionFault}
 use Rattle.bool_functions.specs.declared.faults.FunctionFault.TheVariants.{TooLong, Malformed, UnknownName, Memory}
 use Rattle.bool_functions.specs.declared.texts.TheConstants.{MAX_LEN}
 use Rattle.bool_functions.specs.NameList.{number_of}
+use Rattle.bool_functions.specs.Tree.{name_bound}
 use Rattle.bool_functions.specs.Token.{is_word_byte, digit_of, mark_of, symbol_of, symbols, spans, bytes_at, offset_of}
 use Rattle.bool_functions.specs.Grammar.{IsText, IsFront, IsFault}
 use Rattle.bool_functions.specs.Machine.{run, start}
-use Rattle.bool_functions.specs.FunctionText.{FunctionText, MalformedAt, IsFunction, HasFault, unknown_in, reading, reading_of}
+use Rattle.bool_functions.specs.FunctionText.{FunctionText, MalformedAt, HasFault, unknown_in, free_names, reading, reading_of, TreeOf, OrMemory, OrMemoryFree, FaultOrMemory, Answers, AnswersFree}
 use Rattle.bool_functions.proofs.Complete.{text_read}
 use Rattle.bool_functions.proofs.Sound.{read_text}
 use Rattle.bool_functions.proofs.Fronts.{stop_is_fault, stop_splits}
+use Rattle.bool_functions.proofs.Bounds.{text_bound}
+use Rattle.bool_functions.proofs.Appearances.{own_names_known}
 use Rattle.bool_functions.proofs.Alike.{Alike, alike_text, alike_back, alike_fault}
 
 alike_by : (names : List (List ℕ)) (b : ℕ) (s : List ℕ) (digit word : Bool) {t u : List Symbol} → Alike t u
     → Alike ((if digit then digit_of b s else (if word then symbol.Name (unwrap_or (number_of names (b ∷ s)) (length names)) else mark_of b)) ∷ t)
-            ((if digit then digit_of b s else (if word then symbol.Name (unwrap_or (number_of [] (b ∷ s)) 0) else mark_of b)) ∷ u)
+    ((if digit then digit_of b s else (if word then symbol.Name (unwrap_or (number_of [] (b ∷ s)) 0) else mark_of b)) ∷ u)
 alike_by names b s true word a = Alike.equal a
 alike_by names b s false true a = Alike.names a
 alike_by names b s false false a = Alike.equal a
@@ -142,3 +144,69 @@ module _ (names : List (List ℕ)) (text : List ℕ) where
       let (g, k) = alike_text (alike_back (alike_symbols names text)) f t in
       fitting le ∙ ap (λ o. reading text o (run start (symbols names text))) u ∙ ap (reading text (Some at)) (text_read (symbols names text) g k)
   fault_reading Memory h = absurd h
+
+module _ (names : List (List ℕ)) (text : List ℕ) where
+  -- a fault at a symbol is that of the text
+  pub placed : (n : ℕ) (at : ℕ) → length text ≤ MAX_LEN → n ≤ length (symbols names text) → run start (symbols names text) ≡ Err (drop n (symbols names text)) → offset_of text n ≡ at
+      → reading_of names text ≡ Err (Malformed at)
+  placed n at le within e off =
+      let k : length (spans text) - length (drop n (symbols names text)) ≡ n = omega (arith, length-drop n (symbols names text), symbols_length names text, within) in
+      fitting names text le ∙ ap (reading text (unknown_in names text)) e ∙ ap (λ m. Err (Malformed (offset_of text m))) k ∙ ap (λ o. Err (Malformed o)) off
+
+  -- over a text's own names
+  pub own_fault : (e : FunctionFault) → names ≡ free_names text → length text ≤ MAX_LEN → TreeOf names text (Err e) → OrMemoryFree (Err e) text
+  own_fault TooLong own le h = absurd h
+  own_fault (Malformed at) own le (n, within, e, off) = ap (λ l. reading_of l text) (sym own) ∙ placed n at le within e off
+  own_fault (UnknownName at) own le h = absurd h
+  own_fault Memory own le h = tt
+
+  pub own_tree : (f : Node) → names ≡ free_names text → length text ≤ MAX_LEN → run start (symbols names text) ≡ Ok f → reading_of (free_names text) text ≡ Ok f
+  own_tree f own le e =
+      ap (λ l. reading_of l text) (sym own) ∙ fitting names text le
+      ∙ ap (λ u. reading text u (run start (symbols names text))) (ap (λ l. unknown_in l text) own ∙ own_names_known text) ∙ ap (reading text None) e
+
+  -- what an answer says, where it is that of the text or memory was wanted
+  pub tree_clause : (r : Result Node FunctionFault) → OrMemory r (reading_of names text) → IfOk r (FunctionText names text)
+  tree_clause (Ok f) h = reading_tree names text f h
+  tree_clause (Err e) h = tt
+
+  pub only_clause : (r : Result Node FunctionFault) → OrMemory r (reading_of names text) → (f : Node) → FunctionText names text f → Answers r f
+  only_clause (Ok g) h f t = let k : reading_of names text ≡ Ok f = tree_reading names text f t in cc
+  only_clause (Err TooLong) h f t = absurd (let k : reading_of names text ≡ Ok f = tree_reading names text f t in cc)
+  only_clause (Err (Malformed at)) h f t = absurd (let k : reading_of names text ≡ Ok f = tree_reading names text f t in cc)
+  only_clause (Err (UnknownName at)) h f t = absurd (let k : reading_of names text ≡ Ok f = tree_reading names text f t in cc)
+  only_clause (Err Memory) h f t = tt
+
+  pub fault_clause : (r : Result Node FunctionFault) → OrMemory r (reading_of names text) → IfErr r (FaultOrMemory names text)
+  fault_clause (Ok f) h = tt
+  fault_clause (Err TooLong) h = reading_fault names text TooLong h
+  fault_clause (Err (Malformed at)) h = reading_fault names text (Malformed at) h
+  fault_clause (Err (UnknownName at)) h = reading_fault names text (UnknownName at) h
+  fault_clause (Err Memory) h = tt
+
+  pub bound_clause : (r : Result Node FunctionFault) → OrMemory r (reading_of names text) → IfOk r (λ f. name_bound f ≤ length names)
+  bound_clause (Ok f) h = text_bound names text f (reading_tree names text f h)
+  bound_clause (Err e) h = tt
+
+module _ (text : List ℕ) where
+  pub own_tree_clause : (r : Result (Node × List (List ℕ)) FunctionFault) → OrMemoryFree r text → IfOk r (λ p. FunctionText (free_names text) text p.0)
+  own_tree_clause (Ok p) h = reading_tree (free_names text) text p.0 h.1
+  own_tree_clause (Err e) h = tt
+
+  pub own_only_clause : (r : Result (Node × List (List ℕ)) FunctionFault) → OrMemoryFree r text → (f : Node) → FunctionText (free_names text) text f → AnswersFree r f
+  own_only_clause (Ok p) h f t = let k : reading_of (free_names text) text ≡ Ok f = tree_reading (free_names text) text f t in let j = h.1 in cc
+  own_only_clause (Err TooLong) h f t = absurd (let k : reading_of (free_names text) text ≡ Ok f = tree_reading (free_names text) text f t in cc)
+  own_only_clause (Err (Malformed at)) h f t = absurd (let k : reading_of (free_names text) text ≡ Ok f = tree_reading (free_names text) text f t in cc)
+  own_only_clause (Err (UnknownName at)) h f t = absurd h
+  own_only_clause (Err Memory) h f t = tt
+
+  pub own_fault_clause : (r : Result (Node × List (List ℕ)) FunctionFault) → OrMemoryFree r text → IfErr r (FaultOrMemory (free_names text) text)
+  own_fault_clause (Ok f) h = tt
+  own_fault_clause (Err TooLong) h = reading_fault (free_names text) text TooLong h
+  own_fault_clause (Err (Malformed at)) h = reading_fault (free_names text) text (Malformed at) h
+  own_fault_clause (Err (UnknownName at)) h = absurd h
+  own_fault_clause (Err Memory) h = tt
+
+  pub own_bound_clause : (r : Result (Node × List (List ℕ)) FunctionFault) → OrMemoryFree r text → IfOk r (λ p. name_bound p.0 ≤ length p.1)
+  own_bound_clause (Ok p) h = rw h.0 (text_bound (free_names text) text p.0 (reading_tree (free_names text) text p.0 h.1))
+  own_bound_clause (Err e) h = tt

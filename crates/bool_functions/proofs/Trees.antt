@@ -56,6 +56,12 @@ module _ (P : Node → Type 0) (cases : Cases P) where
   every_tree = ind-Node P (λ x y is. subst (λ z. P (roll-Node z)) is (rolled y))
 
 -- the names that are written in a tree, by its top
+pub names_Zero : names_of node.Zero ≡ []
+names_Zero = fold-Zero (List ℕ) names_step
+
+pub names_One : names_of node.One ≡ []
+names_One = fold-One (List ℕ) names_step
+
 pub names_Name : (i : ℕ) → names_of (node.Name i) ≡ i ∷ []
 names_Name i = fold-Name (List ℕ) names_step i
 

@@ -8,3 +8,4 @@ pub mod Grammar
 pub mod Machine
 pub mod State
 pub mod FunctionText
+pub mod Laws

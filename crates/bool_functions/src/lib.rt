@@ -2,6 +2,7 @@
 #![tactic(auto)]
 
 mod faults;
+mod laws;
 mod name_list;
 mod reader;
 mod symbol;
@@ -11,6 +12,7 @@ mod tree;
 mod words;
 
 pub use faults::{FunctionFault, Memory};
+pub use laws::{bound_is_least, one_tree, read_by_grammar, renamed_values};
 pub use name_list::Names;
 pub use texts::{MAX_LEN, read_free, read_function};
 pub use tree::{Function, Node};

@@ -1,4 +1,4 @@
-use Rattle.std.proofs.Common.{◌≡◌, ℕ, List, Option, sym, ap, subst, ◌∙◌, slice_index_or, true, false}
+use Rattle.std.proofs.Common.{ℕ, List, sym, ap, subst, ◌∙◌, slice_index_or}
 use Rattle.bool_functions.specs.NameList.{Adds}
 use Rattle.bool_functions.specs.Token.{span, is_name, bytes_at}
 use Rattle.bool_functions.proofs.Appearances.{begins_fresh, moved_names, by_name, by_other}

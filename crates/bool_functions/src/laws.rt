@@ -1,0 +1,22 @@
+//! Laws of the definitions that the contracts cite.
+ghost use Rattle.bool_functions.specs.Laws.{OneTree, ReadByGrammar, BoundIsLeast, RenamedValues};
+
+/// No text has two trees over one list of names.
+pub fn one_tree()
+    ensures { OneTree }
+{}
+
+/// What the definition of reading gives is told by the grammar: each text has exactly one tree or one fault.
+pub fn read_by_grammar()
+    ensures { ReadByGrammar }
+{}
+
+/// The bound of a tree is the least number above those of all names that are written in it.
+pub fn bound_is_least()
+    ensures { BoundIsLeast }
+{}
+
+/// A renamed function has the value that the function has where each name has the value of its new name.
+pub fn renamed_values()
+    ensures { RenamedValues }
+{}

@@ -153,9 +153,12 @@ sign_skips n.minus rest e = refl
 -- a digit is no sign
 pub digit_plain : (b : ℕ) (bs : List ℕ) → is_digit b ≡ true → sign_of (b ∷ bs) ≡ (false, b ∷ bs)
 digit_plain b bs e =
+    let other : Bool × List ℕ = cond (b == 43) (false, bs) (false, b ∷ bs) in
     let no_minus : (b == 45) ≡ false = grind (arith, nat_tests, e) in
     let no_plus : (b == 43) ≡ false = grind (arith, nat_tests, e) in
-    ap (λ q. cond q (true, bs) (cond (b == 43) (false, bs) (false, b ∷ bs))) no_minus ∙ ap (λ q. cond q (false, bs) (false, b ∷ bs)) no_plus
+    let first : sign_of (b ∷ bs) ≡ other = ap (λ q. cond q (true, bs) other) no_minus in
+    let second : other ≡ (false, b ∷ bs) = ap (λ q. cond q (false, bs) (false, b ∷ bs)) no_plus in
+    first ∙ second
 
 pub run_skips : (ds rest : List ℕ) → AreDigits ds → digit_run rest ≡ 0 → digit_run (ds ++ rest) ≡ length ds
 run_skips [] rest all e = e

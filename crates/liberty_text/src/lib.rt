@@ -15,3 +15,6 @@ pub use scanner::{one_reading, scan, tokens};
 pub use text::{one_value, quotes_read_back, text_value};
 pub use time::{Unit, picoseconds};
 pub use token::{Memory, Scan, Stop, TextFault, Token, TokenKind};
+
+#[cfg(test)]
+mod tests;

@@ -11,7 +11,6 @@ use Rattle.grammar_rules.specs.Rule.{Takes, Refuses, Front}
 use Rattle.grammar_rules.specs.Reading.{Outcome, read}
 use Rattle.liberty_groups.specs.declared.fault.LibraryFault.{LibraryFault}
 use Rattle.liberty_groups.specs.declared.fault.Refusal.{Refusal}
-use Rattle.liberty_groups.specs.declared.fault.Refusal.TheVariants.{Syntax, TooDeep, NotLibrary}
 use Rattle.liberty_groups.specs.declared.read.End.{End}
 use Rattle.liberty_groups.specs.declared.read.End.TheVariants.{Whole, Cut, Fault}
 use Rattle.liberty_groups.specs.declared.read.Halt.{Halt}
@@ -68,38 +67,32 @@ found_in_reading r = record { cells = r.cells.items; units = r.units.items; left
 
 -- Below: the same as a function of the bytes.
 
--- a refused token at the end of the bytes may be the front of one that is not: a slash, with which a
--- comment may begin, and what may become the name of the library
-abbrev pub is_not_library : Refusal → Bool
-is_not_library NotLibrary = true
-is_not_library _ = false
-
-abbrev pub may_become_other : Refusal → List ℕ → Bool
-may_become_other k bytes = bytes_eq bytes (codes "/") || (is_not_library k && starts_with nat_eq (codes "library/") bytes)
+-- A refused word at the end of the bytes may be the front of a token that is not refused: a slash, with
+-- which a comment may begin, and what may become the name of the library, where it is the only token.
+abbrev pub may_become_other : Bool → List ℕ → Bool
+may_become_other is_only bytes = bytes_eq bytes (codes "/") || (is_only && starts_with nat_eq (codes "library/") bytes)
 
 abbrev pub is_nil : {T : Type 0} → List T → Bool
 is_nil [] = true
 is_nil (x ∷ s) = false
 
-abbrev pub is_unfinished : ℕ → Refusal → Lexeme → List Lexeme → Bool
-is_unfinished len k x m = is_nil m && (is_word x.token.kind && (x.token.end == len && may_become_other k x.bytes))
-
-abbrev pub is_unfinished_next : ℕ → Refusal → List Lexeme → Bool
-is_unfinished_next len k [] = false
-is_unfinished_next len k (x ∷ m) = is_unfinished len k x m
-
 abbrev pub is_last : List Lexeme → Bool
 is_last [] = false
 is_last (x ∷ m) = is_nil m
 
--- where a reading of a text of this length halts
-abbrev pub halt_at : ℕ → Refusal → List Lexeme → Halt
-halt_at len k [] = halt.Short k
-halt_at len k (x ∷ m) = halt.Refused k x.token.at (is_unfinished len k x m)
+-- the next token is a refused word up to the end of a text of this length
+abbrev pub is_unfinished : ℕ → Bool → List Lexeme → Bool
+is_unfinished len is_only [] = false
+is_unfinished len is_only (x ∷ m) = is_nil m && (is_word x.token.kind && (x.token.end == len && may_become_other is_only x.bytes))
 
-abbrev pub halt_of : ℕ → Outcome Lexeme (Found × Refusal) Found → Halt
-halt_of len (Ok p) = halt.Whole
-halt_of len (Err e) = halt_at len e.0.1 e.1
+-- where a reading of a text of this length halts
+abbrev pub halt_at : ℕ → Bool → Refusal → List Lexeme → Halt
+halt_at len is_only k [] = halt.Short k
+halt_at len is_only k (x ∷ m) = halt.Refused k x.token.at (is_unfinished len is_only (x ∷ m))
+
+abbrev pub halt_of : ℕ → Bool → Outcome Lexeme (Found × Refusal) Found → Halt
+halt_of len is_only (Ok p) = halt.Whole
+halt_of len is_only (Err e) = halt_at len is_only e.0.1 e.1
 
 abbrev pub found_in : Outcome Lexeme (Found × Refusal) Found → Found
 found_in (Ok p) = p.0
@@ -143,4 +136,4 @@ abbrev pub found_of_bytes : List ℕ → Found
 found_of_bytes bytes = found_in (outcome_of bytes)
 
 abbrev pub end_of_bytes : List ℕ → Bool → End
-end_of_bytes bytes whole = end_of bytes whole (halt_of (length bytes) (outcome_of bytes)) (scan_of bytes).1
+end_of_bytes bytes whole = end_of bytes whole (halt_of (length bytes) (is_last (lexemes_of bytes (scan_of bytes).0)) (outcome_of bytes)) (scan_of bytes).1

@@ -6,7 +6,7 @@ ghost use Rattle.grammar_rules.specs.Reading.{read};
 ghost use Rattle.liberty_text.specs.Scanner.{scan_of};
 ghost use Rattle.liberty_groups.specs.Lexeme.{lexemes_of, LieInside};
 ghost use Rattle.liberty_groups.specs.Library.{nothing_found, found_of, library};
-ghost use Rattle.liberty_groups.specs.Answer.{found_in_reading, found_of_bytes, end_of_bytes, halt_of, found_in, outcome_of, may_become_other, closed_has_outline, goes_on_after, may_go_on, fault_of, is_last, is_unfinished_next, end_of};
+ghost use Rattle.liberty_groups.specs.Answer.{found_in_reading, found_of_bytes, end_of_bytes, halt_of, found_in, outcome_of, may_become_other, closed_has_outline, goes_on_after, may_go_on, fault_of, is_last, is_unfinished, end_of};
 
 use crate::contents::{Contents, UnitLine};
 use crate::cursor::Cursor;
@@ -53,24 +53,23 @@ enum Halt {
 }
 
 /// Whether a refused word at the end of the bytes may be the front of a token that is not refused.
-fn may_become_other(refusal: Refusal, word: &[u8]) -> bool
-    ensures { result ≡ may_become_other refusal word.now }
+fn may_become_other(is_only: bool, word: &[u8]) -> bool
+    ensures { result ≡ may_become_other is_only word.now }
 {
-    word == b"/".as_slice()
-        || (refusal == Refusal::NotLibrary && b"library/".as_slice().starts_with(word))
+    word == b"/".as_slice() || (is_only && b"library/".as_slice().starts_with(word))
 }
 
 impl Cursor<'_> {
     /// Whether the next token is refused only because the bytes, of this length, end in it.
-    fn is_unfinished(&self, len: usize, refusal: Refusal) -> bool
-        ensures { result ≡ is_unfinished_next len refusal self.now }
+    fn is_unfinished(&self, len: usize, is_only: bool) -> bool
+        ensures { result ≡ is_unfinished len is_only self.now }
     {
         match self.peek() {
             Some(token) => {
                 self.is_last()
                     && token.kind == TokenKind::Word
                     && token.end == len
-                    && may_become_other(refusal, self.bytes())
+                    && may_become_other(is_only, self.bytes())
             }
             None => false,
         }
@@ -87,10 +86,11 @@ fn read_tokens(
 ) -> Result<Halt, Memory>
     requires inside { LieInside bytes.now tokens.now }
     requires nothing { found_of found.old ≡ nothing_found }
-    ensures halt { IfOk result (λ halt. halt ≡ halt_of (length bytes.now) (read library (lexemes_of bytes.now tokens.now))) }
+    ensures halt { IfOk result (λ halt. halt ≡ halt_of (length bytes.now) (is_last (lexemes_of bytes.now tokens.now)) (read library (lexemes_of bytes.now tokens.now))) }
     ensures found { OnOk result (found_of found.new ≡ found_in (read library (lexemes_of bytes.now tokens.now))) }
 {
     let mut cursor = Cursor::new(bytes, tokens);
+    let is_only = cursor.is_last();
     let refusal = match cursor.library(alloc, found) {
         Ok(()) => return Ok(Halt::Whole),
         Err(Stop::Memory) => return Err(Memory),
@@ -101,7 +101,7 @@ fn read_tokens(
         Some(token) => Halt::Refused {
             refusal,
             at: token.at,
-            unfinished: cursor.is_unfinished(bytes.len(), refusal),
+            unfinished: cursor.is_unfinished(bytes.len(), is_only),
         },
     })
 }

@@ -1,4 +1,5 @@
 pub mod Complete
+pub mod Covered
 pub mod Fixeds
 pub mod Numbers
 pub mod Places

@@ -1,3 +1,4 @@
+pub mod Cover
 pub mod Number
 pub mod Scanner
 pub mod TextValue

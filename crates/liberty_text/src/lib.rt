@@ -3,6 +3,7 @@
 #![tactic(auto)]
 
 mod decimal;
+mod laws;
 mod number;
 mod scanner;
 mod text;
@@ -10,8 +11,9 @@ mod time;
 mod token;
 
 pub use decimal::{Fixed, NumberFault};
+pub use laws::{one_reading, tokens_cover};
 pub use number::fixed;
-pub use scanner::{one_reading, scan, tokens};
+pub use scanner::{scan, tokens};
 pub use text::{one_value, quotes_read_back, text_value};
 pub use time::{Unit, picoseconds};
 pub use token::{Memory, Scan, Stop, TextFault, Token, TokenKind};

@@ -5,7 +5,7 @@ ghost use Rattle.std.specs.Prelude.{[], ◌∷◌};
 ghost use Rattle.liberty_text.specs.Scanner.{class_of, token, slash_at, opened, in_word_by, comment_in_word, in_text, in_comment, in_continuation, step, closing, scan_of};
 ghost use Rattle.std.specs.Prelude.{All};
 ghost use Rattle.liberty_text.specs.declared.token.Stop.TheVariants.{End};
-ghost use Rattle.liberty_text.specs.TokenLaws.{HaveOneReading, IsInside, AreInOrder};
+ghost use Rattle.liberty_text.specs.TokenLaws.{IsInside, AreInOrder};
 ghost use Rattle.liberty_text.specs.Tokens.{Reads, AreTokensOf, IsFaultOf};
 
 use crate::token::{Memory, Scan, Stop, TextFault, Token, TokenKind};
@@ -332,9 +332,3 @@ pub fn tokens(alloc: Global, bytes: &[u8]) -> Result<Vec<Token>, TextFault>
         Stop::OpenComment(at) => Err(TextFault::OpenComment(at)),
     }
 }
-
-/// A law: each list of bytes has exactly one reading by the lexical grammar, the one that `scan` finds.
-#[tactic(auto, using(crate::proofs::Complete::one_reading))]
-pub fn one_reading(bytes: &[u8])
-    ensures { HaveOneReading bytes.now }
-{}

@@ -7,3 +7,4 @@ pub mod OrderLemmas
 pub mod HalvesLemmas
 pub mod TryingLemmas
 pub mod RowLemmas
+pub mod PointLemmas

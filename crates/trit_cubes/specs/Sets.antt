@@ -1,11 +1,25 @@
 -- Sets of points, as tests of a point.
-use Rattle.std.specs.Prelude.{Bool, true, false, ◌&&◌, List, [], ◌∷◌, slice_index_or}
+use Rattle.std.specs.Prelude.{◌≡◌, ◌==◌, ℕ, zero, suc, ◌/◌, ◌%◌, ◌^◌, Bool, true, false, ◌&&◌, List, [], ◌∷◌, length, slice_index_or}
 use Rattle.trit_cubes.specs.declared.trits.Trit.{Trit}
 use Rattle.trit_cubes.specs.Filling.{number, same}
 
 -- whether the table, whose entry k stands for the point with the number k, has this point
 abbrev pub has : List Bool → List Bool → Bool
 has table p = slice_index_or table (number p) false
+
+-- the table has an entry for each point of n places, and each says whether the point is in the set
+pub record IsTableOf (n : ℕ) (set : List Bool → Bool) (table : List Bool) : Type 0 where
+  pub entries : length table ≡ 2 ^ n
+  pub values : (p : List Bool) → length p ≡ n → has table p ≡ set p
+
+-- a closure that returns this tests whether a point of n places is in the set
+pub record Tests (returns : List Bool → Bool → Type 0) (n : ℕ) (set : List Bool → Bool) : Type 0 where
+  pub at_point : (p : List Bool) → length p ≡ n → (b : Bool) → returns p b → b ≡ set p
+
+-- the first n places of the point with this number
+abbrev pub point_of : ℕ → ℕ → List Bool
+point_of zero k = []
+point_of (suc n) k = (k % 2 == 1) ∷ point_of n (k / 2)
 
 -- the points in both sets
 abbrev pub common : (List Bool → Bool) → (List Bool → Bool) → List Bool → Bool

@@ -8,6 +8,7 @@ mod memory;
 mod merging;
 mod resolution;
 mod splitting;
+mod tabulation;
 #[cfg(test)]
 mod tests;
 mod trits;
@@ -20,4 +21,5 @@ pub use memory::Memory;
 pub use merging::merge_primes;
 pub use resolution::resolve;
 pub use splitting::primes;
+pub use tabulation::table_of;
 pub use trits::Trit;

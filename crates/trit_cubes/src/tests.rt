@@ -1,6 +1,7 @@
 use crate::cubes::Cube;
 use crate::merging::merge_primes;
 use crate::splitting::primes;
+use crate::tabulation::table_of;
 use crate::trits::Trit;
 use crate::trying::primes_by_trying;
 use std::alloc::Global;
@@ -49,11 +50,11 @@ fn primes_merge(rt: HostRuntime) -> Result<(), Fail> {
 #[test]
 fn each_odd_point_of_ten_places_is_a_prime(rt: HostRuntime) -> Result<(), Fail> {
     let alloc = rt.alloc();
-    let mut odd = Vec::new(alloc);
-    for k in 0..1024u32 {
-        odd.push(k.count_ones() % 2 == 1)?;
-    }
-    assert_eq!(rt; odd.len(), 1024);
+    let odd = table_of(
+        alloc,
+        10,
+        &|point: &[bool]| point.iter().filter(|bit| **bit).count() % 2 == 1,
+    )?;
     let found = primes(alloc, 10, &odd)?;
     assert_eq!(rt; found.len(), 512);
     Ok(())

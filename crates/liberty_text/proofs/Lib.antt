@@ -1,6 +1,7 @@
 pub mod Complete
 pub mod Covered
 pub mod Fixeds
+pub mod Joined
 pub mod Numbers
 pub mod Places
 pub mod Quoting

@@ -37,8 +37,10 @@ impl Names {
         }
     }
 
+    /// How many names there are.
     pub fn len(&self) -> usize
-        ensures { result ≡ length self.now }
+        ensures len { result ≡ length self.now }
+        ensures distinct { AreDistinct self.now }
     {
         self.set.len()
     }
@@ -64,6 +66,7 @@ impl Names {
     pub fn add(&mut self, name: &[u8]) -> Result<Option<usize>, Memory>
         ensures added { IfOk result (λ number. Adds self.old name.now number self.new) }
         ensures err { OnErr result (self.new ≡ self.old) }
+        ensures distinct { AreDistinct self.new }
     {
         if self.set.contains(name) {
             return Ok(None);

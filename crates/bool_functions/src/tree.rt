@@ -62,6 +62,13 @@ impl Function {
         }
     }
 
+    /// The tree.
+    pub fn node(&self) -> &Node
+        ensures { result.now ≡ self.now }
+    {
+        &self.node
+    }
+
     /// The value where `bits[i]` is the value of the name `i`.
     pub fn value(&self, bits: &[bool]) -> bool
         requires { name_bound self.now ≤ length bits.now }

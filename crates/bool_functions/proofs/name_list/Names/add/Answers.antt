@@ -37,3 +37,6 @@ returns-clause-added c = (
       ∙ ap (λ bytes. map bytes_of c.self.inside.set.keys ++ bytes ∷ []) c.in_ok-kept.ensures.items
       ∙ ap (λ names. names ++ c.args.name.now ∷ []) c.self.view_is,
 )
+
+pub returns-clause-distinct : goal.returns-clause-distinct
+returns-clause-distinct c = IsDistinct-map bytes_of bytes_eq _ c.insert.ensures.unique

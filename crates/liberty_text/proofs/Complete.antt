@@ -7,8 +7,8 @@ use Rattle.liberty_text.specs.declared.token.TokenKind.TheVariants.{Word, Text}
 use Rattle.liberty_text.specs.declared.token.Token.{Token}
 use Rattle.liberty_text.specs.declared.token.Stop.{Stop}
 use Rattle.liberty_text.specs.declared.token.Stop.TheVariants.{BadByte}
-use Rattle.liberty_text.specs.declared.scanner.Class.{Class}
-use Rattle.liberty_text.specs.declared.scanner.Class.TheVariants.{LineEnd, Blank, Mark, Quote, Backslash, WordByte, Bad}
+use Rattle.liberty_text.specs.declared.class.Class.{Class}
+use Rattle.liberty_text.specs.declared.class.Class.TheVariants.{LineEnd, Blank, Mark, Quote, Backslash, WordByte, Bad}
 use Rattle.liberty_text.specs.declared.scanner.Mode.{Mode}
 use Rattle.liberty_text.specs.declared.scanner.Mode.TheVariants.{Between, InWord, InText, InComment, InContinuation, Stopped}
 use Rattle.liberty_text.specs.Scanner.{class_of, token, slash_at, opened_by, in_word_by, comment_in_word, in_continuation, after_tokens, run}

@@ -1,14 +1,14 @@
 -- The tokens of a reading, with the separators between them, are the bytes before the stop.
-use Rattle.std.proofs.Common.{◌≡◌, ℕ, ◌+◌, ◌<◌, ◌++◌, Bool, true, false, List, [], ◌∷◌, length, ◌==◌, ◌||◌, refl, sym, ◌∙◌, ap, subst, arith, append_assoc}
+use Rattle.std.proofs.Common.{◌≡◌, ℕ, ◌+◌, ◌++◌, Bool, true, false, List, [], ◌∷◌, length, ◌==◌, ◌||◌, refl, sym, ◌∙◌, ap, subst, arith, append_assoc}
 use Rattle.std.specs.List.{list_any}
 use Rattle.std.proofs.lemmas.Bool.Decides.{nat_tests}
-use Rattle.std.proofs.lemmas.List.{length-append, append-nil}
+use Rattle.std.proofs.lemmas.List.{length-append}
 use Rattle.liberty_text.specs.declared.token.TokenKind.{TokenKind}
 use Rattle.liberty_text.specs.declared.token.TokenKind.TheVariants.{Word, Text, Brace, Colon, Semicolon, Comma}
 use Rattle.liberty_text.specs.declared.token.Token.{Token}
 use Rattle.liberty_text.specs.declared.token.Stop.{Stop}
 use Rattle.liberty_text.specs.declared.token.Stop.TheVariants.{End, BadByte, OpenText, OpenComment, OpenContinuation}
-use Rattle.liberty_text.specs.declared.scanner.Class.TheVariants.{LineEnd, Blank, Mark}
+use Rattle.liberty_text.specs.declared.class.Class.TheVariants.{Mark}
 use Rattle.liberty_text.specs.Scanner.{class_of, token, scan_of}
 use Rattle.liberty_text.specs.Tokens.{AreBlanks, CommentBytes, TextBytes, WordBytes, Lexes}
 use Rattle.liberty_text.specs.Tokens as lex

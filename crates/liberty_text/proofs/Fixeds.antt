@@ -1,13 +1,13 @@
 -- The number that a text gives, or why it gives none.
-use Rattle.std.proofs.Common.{◌≡◌, ◌⊎◌, ℕ, ◌+◌, ◌-◌, ◌*◌, ◌^◌, ◌<◌, ◌≤◌, ◌++◌, suc, Bool, true, false, List, [], ◌∷◌, Option, Some, None, Result, Ok, Err, length, refl, sym, ◌∙◌, ap, subst, arith, cond, inl, inr, ◌||◌}
+use Rattle.std.proofs.Common.{◌≡◌, ℕ, ◌+◌, ◌-◌, ◌*◌, ◌^◌, ◌++◌, Bool, true, false, List, [], ◌∷◌, Option, Some, None, Result, Ok, Err, length, refl, ◌∙◌, ap, subst, arith, cond, inl, inr, ◌||◌}
 use Rattle.std.specs.Prelude.{nat_lt, ℤ, pos, ◌+ℤ◌, ◌-ℤ◌, ◌*ℤ◌}
 use Rattle.std.proofs.lemmas.Bool.Decides.{nat_tests}
 use Rattle.std.proofs.lemmas.Int.{ints}
 use Rattle.std.proofs.Math.Nat.{pow-suc}
 use Rattle.liberty_text.specs.declared.decimal.Fixed.{Fixed}
 use Rattle.liberty_text.specs.declared.decimal.NumberFault.{NumberFault}
-use Rattle.liberty_text.specs.declared.decimal.NumberFault.TheVariants.{NotNumber, TooManyDigits, TooLarge}
-use Rattle.liberty_text.specs.Number.{Written, IsNumber, written_of, digits_value, significant, signed, exponent_written, HasTooManyDigits, IsTooLarge, IsValueOf, IsFixedOf, IsNumberFaultOf, fixed_written, fixed_with, fixed_found, fixed_of}
+use Rattle.liberty_text.specs.declared.decimal.NumberFault.TheVariants.{TooManyDigits, TooLarge}
+use Rattle.liberty_text.specs.Number.{Written, IsNumber, written_of, digits_value, significant, signed, exponent_written, IsTooLarge, IsValueOf, IsFixedOf, IsNumberFaultOf, fixed_written, fixed_found, fixed_of}
 use Rattle.liberty_text.proofs.Spelling.{number_sound, number_complete}
 
 -- digits behind a number are those times ten to their count

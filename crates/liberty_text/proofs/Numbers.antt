@@ -1,5 +1,5 @@
 -- The digits of a number, and what they come to.
-use Rattle.std.proofs.Common.{◌≡◌, ℕ, ◌+◌, ◌-◌, ◌*◌, ◌^◌, ◌<◌, ◌≤◌, ◌++◌, suc, Bool, true, false, List, [], ◌∷◌, length, drop, get_or, refl, sym, ◌∙◌, ap, subst, arith, cond, ◌==◌, add-one}
+use Rattle.std.proofs.Common.{◌≡◌, ℕ, ◌+◌, ◌-◌, ◌*◌, ◌^◌, ◌<◌, ◌≤◌, ◌++◌, zero, suc, Bool, true, false, List, [], ◌∷◌, length, drop, get_or, refl, sym, ◌∙◌, ap, subst, arith, cond, ◌==◌, add-one}
 use Rattle.std.specs.Prelude.{nat_lt}
 use Rattle.std.proofs.Math.Seq.{drop-cons}
 use Rattle.std.proofs.lemmas.Bool.Decides.{nat_tests}
@@ -43,6 +43,12 @@ pow_next k = rw add-one (pow-suc 10 k)
 -- a digit is below ten
 pub digit_below : (d : ℕ) → is_digit d ≡ true → d - 48 ≤ 9
 digit_below d e = grind (arith, nat_tests)
+
+-- a digit among digits
+pub digit_at : (ds : List ℕ) (i : ℕ) → AreDigits ds → i < length ds → 48 ≤ get_or ds i 0
+digit_at [] i all h = absurd (omega arith)
+digit_at (d ∷ ds) zero (e, all) h = grind (arith, nat_tests, e)
+digit_at (d ∷ ds) (suc i) (e, all) h = digit_at ds i all (omega arith)
 
 -- the digits behind a number below a power of ten
 pub value_below : (k before : ℕ) (ds : List ℕ) → AreDigits ds → before < 10 ^ k → digits_value before ds < 10 ^ (k + length ds)

@@ -9,7 +9,7 @@ use Rattle.liberty_text.specs.declared.token.TokenKind.{TokenKind}
 use Rattle.liberty_text.specs.declared.token.TokenKind.TheVariants.{Word, Text}
 use Rattle.liberty_text.specs.declared.token.Token.{Token}
 use Rattle.liberty_text.specs.declared.token.Stop.{Stop}
-use Rattle.liberty_text.specs.declared.scanner.Class.TheVariants.{Mark}
+use Rattle.liberty_text.specs.declared.class.Class.TheVariants.{Mark}
 use Rattle.liberty_text.specs.Scanner.{class_of, token, scan_of}
 use Rattle.liberty_text.specs.Tokens.{Lexes, Reads}
 use Rattle.liberty_text.specs.Tokens as lex

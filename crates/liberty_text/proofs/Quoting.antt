@@ -2,8 +2,8 @@
 use Rattle.std.proofs.Common.{◌≡◌, ℕ, ◌+◌, ◌++◌, zero, suc, Bool, true, false, not, List, [], ◌∷◌, Option, Some, None, length, drop, ◌==◌, ◌&&◌, ◌||◌, refl, sym, ◌∙◌, ap, subst, arith, cond}
 use Rattle.std.proofs.lemmas.Bool.Decides.{nat_tests}
 use Rattle.std.specs.List.{list_any}
-use Rattle.liberty_text.specs.declared.scanner.Class.{Class}
-use Rattle.liberty_text.specs.declared.scanner.Class.TheVariants.{LineEnd, Blank, Mark, Quote, Backslash, WordByte, Bad}
+use Rattle.liberty_text.specs.declared.class.Class.{Class}
+use Rattle.liberty_text.specs.declared.class.Class.TheVariants.{LineEnd, Blank, Mark, Quote, Backslash, WordByte, Bad}
 use Rattle.liberty_text.specs.Scanner.{class_of}
 use Rattle.liberty_text.specs.Tokens.{AreBlanks, TextBytes}
 use Rattle.liberty_text.specs.Tokens as lex

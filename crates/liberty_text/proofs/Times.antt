@@ -1,14 +1,14 @@
 -- Times in picoseconds, rounded up.
-use Rattle.std.proofs.Common.{◌≡◌, ℕ, ◌+◌, ◌-◌, ◌*◌, ◌/◌, ◌%◌, ◌^◌, ◌<◌, ◌≤◌, suc, zero, Bool, true, false, Option, Some, None, refl, sym, ◌∙◌, ap, subst, arith, cond, add-one, min}
-use Rattle.std.specs.Prelude.{nat_le, ℤ, pos, negsuc, neg_ℤ, nat_abs, ◌+ℤ◌, ◌*ℤ◌, ◌≤ℤ◌, ◌<ℤ◌, MatchOption, IfSome}
+use Rattle.std.proofs.Common.{◌≡◌, ℕ, ◌+◌, ◌*◌, ◌/◌, ◌%◌, ◌^◌, ◌<◌, ◌≤◌, suc, Bool, true, false, Option, Some, None, refl, sym, ap, subst, arith, cond, add-one}
+use Rattle.std.specs.Prelude.{nat_le, ℤ, pos, negsuc, neg_ℤ, nat_abs, ◌*ℤ◌, ◌≤ℤ◌, ◌<ℤ◌, MatchOption, IfSome}
 use Rattle.std.specs.Int.{div_ceil}
 use Rattle.std.proofs.lemmas.Bool.Decides.{nat_tests}
 use Rattle.std.proofs.lemmas.Int.{ints}
 use Rattle.std.proofs.lemmas.Grind.{div_ceil_times}
-use Rattle.std.proofs.Math.Nat.{pow-suc, pow-le-pow_right, one-le-pow, mul-le-mul_right, mul-le-mul_left, lt_of_mul-lt-mul_right, lt-div-mul-add, div-add-mod}
+use Rattle.std.proofs.Math.Nat.{pow-suc, pow-le-pow_right, one-le-pow, mul-le-mul_right, lt_of_mul-lt-mul_right, lt-div-mul-add, div-add-mod}
 use Rattle.liberty_text.specs.declared.decimal.Fixed.{Fixed}
 use Rattle.liberty_text.specs.declared.time.Unit.{Unit}
-use Rattle.liberty_text.specs.Time.{unit_exponent, time_exponent, times_ten, over_ten, IsAtMost, IsRoundedUp, IsTooLong, bounded, scaled, rounded_up, picoseconds_of}
+use Rattle.liberty_text.specs.Time.{time_exponent, times_ten, over_ten, IsRoundedUp, IsTooLong, bounded, scaled, rounded_up, picoseconds_of}
 
 -- one more power of ten is below 2 to the 64 up to the nineteenth
 pub power_step : (i n : ℕ) → i < n → n ≤ 18 → (10 ^ i * 10 < 2 ^ 64) × (10 ^ (i + 1) ≡ 10 ^ i * 10)

@@ -6,7 +6,7 @@ use Rattle.liberty_text.specs.declared.token.TokenKind.TheVariants.{Word, Text}
 use Rattle.liberty_text.specs.declared.token.Token.{Token}
 use Rattle.liberty_text.specs.declared.token.Stop.{Stop}
 use Rattle.liberty_text.specs.declared.token.Stop.TheVariants.{End, BadByte, OpenText, OpenComment, OpenContinuation}
-use Rattle.liberty_text.specs.declared.scanner.Class.TheVariants.{LineEnd, Blank, Mark}
+use Rattle.liberty_text.specs.declared.class.Class.TheVariants.{LineEnd, Blank, Mark}
 use Rattle.liberty_text.specs.Scanner.{class_of, scan_of}
 use Rattle.liberty_text.specs.Tokens.{AreBlanks, CommentBytes, TextBytes, WordBytes}
 

@@ -1,8 +1,8 @@
 -- What a quoted text stands for (Liberty Reference Manual, general syntax: strings and line continuation).
 use Rattle.std.specs.Prelude.{◌≡◌, ◌≢◌, ◌↔◌, ℕ, ◌+◌, ◌++◌, zero, suc, Bool, true, false, List, [], ◌∷◌, Option, Some, None, if◌then◌else◌, ◌==◌}
 use Rattle.std.specs.List.{list_any}
-use Rattle.liberty_text.specs.declared.scanner.Class.{Class}
-use Rattle.liberty_text.specs.declared.scanner.Class.TheVariants.{LineEnd, Blank}
+use Rattle.liberty_text.specs.declared.class.Class.{Class}
+use Rattle.liberty_text.specs.declared.class.Class.TheVariants.{LineEnd, Blank}
 use Rattle.liberty_text.specs.Scanner.{class_of}
 use Rattle.liberty_text.specs.Tokens.{AreBlanks, TextBytes}
 

@@ -9,8 +9,8 @@ use Rattle.liberty_text.specs.declared.token.Stop.{Stop}
 use Rattle.liberty_text.specs.declared.token.Stop.TheVariants.{End, BadByte, OpenText, OpenComment, OpenContinuation}
 use Rattle.liberty_text.specs.declared.token.TextFault.{TextFault}
 use Rattle.liberty_text.specs.declared.token.TextFault.TheVariants as fault
-use Rattle.liberty_text.specs.declared.scanner.Class.{Class}
-use Rattle.liberty_text.specs.declared.scanner.Class.TheVariants.{LineEnd, Blank, Mark, WordByte, Bad}
+use Rattle.liberty_text.specs.declared.class.Class.{Class}
+use Rattle.liberty_text.specs.declared.class.Class.TheVariants.{LineEnd, Blank, Mark, WordByte, Bad}
 use Rattle.liberty_text.specs.Scanner.{class_of, token}
 
 -- the byte may stand in a Word

@@ -2,6 +2,7 @@
 //! times that they spell.
 #![tactic(auto)]
 
+mod class;
 mod decimal;
 mod laws;
 mod number;

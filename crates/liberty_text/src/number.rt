@@ -111,14 +111,15 @@ fn significant(digits: &[u8]) -> usize
 }
 
 /// The digits as a number, behind digits that are `before`.
-#[tactic(auto, using(crate::proofs::Numbers::next_fits))]
+#[tactic(auto, using(crate::proofs::Numbers::next_fits, crate::proofs::Numbers::digit_at))]
 fn digits_value(before: u64, digits: &[u8]) -> u64
-    requires { digits_value before digits.now < 2 ^ 63 }
+    requires digits { AreDigits digits.now }
+    requires fits { digits_value before digits.now < 2 ^ 63 }
     ensures { result ≡ digits_value before digits.now }
 {
     let mut value = before;
     for digit in digits {
-        value = value * 10 + u64::from(digit.saturating_sub(b'0'));
+        value = value * 10 + u64::from(*digit - b'0');
     }
     value
 }

@@ -8,20 +8,9 @@ ghost use Rattle.liberty_text.specs.declared.token.Stop.TheVariants.{End};
 ghost use Rattle.liberty_text.specs.TokenLaws.{IsInside, AreInOrder};
 ghost use Rattle.liberty_text.specs.Tokens.{Reads, AreTokensOf, IsFaultOf};
 
+use crate::class::{Class, class_of};
 use crate::token::{Memory, Scan, Stop, TextFault, Token, TokenKind};
 use std::alloc::Global;
-
-/// What a byte is outside texts and comments.
-#[derive(Clone, Copy, Debug, PartialEq, Eq)]
-pub enum Class {
-    LineEnd,
-    Blank,
-    Mark(TokenKind),
-    Quote,
-    Backslash,
-    WordByte,
-    Bad,
-}
 
 /// What stands open at a place of the text. `line_before` is that of the token to come.
 #[derive(Clone, Copy, Debug, PartialEq, Eq)]
@@ -62,23 +51,6 @@ enum Mode {
 struct Scanner {
     tokens: Vec<Token>,
     mode: Mode,
-}
-
-pub fn class_of(byte: u8) -> Class
-    ensures { result ≡ class_of byte }
-{
-    match byte {
-        b'\n' => Class::LineEnd,
-        b' ' | b'\t' | b'\r' => Class::Blank,
-        b'{' | b'}' | b'(' | b')' => Class::Mark(TokenKind::Brace(byte)),
-        b':' => Class::Mark(TokenKind::Colon),
-        b';' => Class::Mark(TokenKind::Semicolon),
-        b',' => Class::Mark(TokenKind::Comma),
-        b'"' => Class::Quote,
-        b'\\' => Class::Backslash,
-        b'!'..=b'~' => Class::WordByte,
-        _ => Class::Bad,
-    }
 }
 
 impl Scanner {

@@ -3,7 +3,7 @@
 ghost use Rattle.std.specs.Prelude.{◌≡◌, ◌<◌, ◌≤◌, ◌+◌, length, IfOk, IfSome, [], ◌∷◌, OnOk, ◌++◌};
 ghost use Rattle.liberty_text.specs.TextValue.{blank_line, piece, behind_backslash, begins_with_quote, value_of, HaveOneValue, QuotesReadBack};
 
-use crate::scanner::{Class, class_of};
+use crate::class::{Class, class_of};
 use crate::token::Memory;
 use sqlite_items::Items;
 use std::alloc::Global;

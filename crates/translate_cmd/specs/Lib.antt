@@ -1,0 +1,4 @@
+pub mod Status
+pub mod Reading
+pub mod Outcome
+pub mod Runs

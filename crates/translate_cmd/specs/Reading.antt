@@ -1,0 +1,39 @@
+-- What words ask for. This project's rule; names are kept as in Verilog text, and function texts are Liberty's.
+use Rattle.std.specs.Prelude.{ℕ, ◌&&◌, List, [], ◌∷◌, length, nat_le, codes, Option, Some, None, Result, Ok, Err, if◌then◌else◌}
+use Rattle.std.specs.Str.{bytes_eq}
+use Rattle.bool_functions.specs.declared.tree.Node.{Node}
+use Rattle.bool_functions.specs.declared.faults.FunctionFault.{FunctionFault}
+use Rattle.bool_functions.specs.FunctionText.{free_names, reading_of}
+use Rattle.udp_tables.specs.declared.table.Udp.{Udp}
+use Rattle.udp_tables.specs.Generated.{function_primitive}
+use Rattle.verilog_names.specs.Kept.{is_kept_cell_name}
+use Rattle.translate_cmd.specs.declared.asked.Command.{Command}
+use Rattle.translate_cmd.specs.declared.asked.Command.TheVariants as command
+
+-- the primitive of a function text that was read, where it has 1 to 10 names
+abbrev pub primitive_read : List ℕ → ℕ → Result Node FunctionFault → Option Udp
+primitive_read name count (Ok tree) = if nat_le 1 count && nat_le count 10 then Some (function_primitive name tree count) else None
+primitive_read name count (Err fault) = None
+
+-- The primitive that a name and a function text ask for: the name is one that Verilog text keeps for a cell, and the text
+-- reads as a function of 1 to 10 names, which are numbered by their first appearances.
+unfoldable pub asked_primitive : List ℕ → List ℕ → Option Udp
+asked_primitive name text =
+    if is_kept_cell_name name then primitive_read name (length (free_names text)) (reading_of (free_names text) text) else None
+
+-- the command that prints this primitive, where there is one
+abbrev pub udp_command : Option Udp → Command
+udp_command None = command.Usage
+udp_command (Some udp) = command.Udp udp
+
+-- what the words after `udp` ask for: a name and a function text
+abbrev pub udp_reading : List (List ℕ) → Command
+udp_reading [] = command.Usage
+udp_reading (name ∷ []) = command.Usage
+udp_reading (name ∷ (text ∷ [])) = udp_command (asked_primitive name text)
+udp_reading (name ∷ (text ∷ (more ∷ others))) = command.Usage
+
+-- what words ask for; usage where they have no reading
+abbrev pub reading : List (List ℕ) → Command
+reading [] = command.Usage
+reading (first ∷ words) = if bytes_eq first (codes "udp") then udp_reading words else command.Usage

@@ -1,0 +1,50 @@
+ghost use Rattle.std.specs.Prelude.{◌≡◌, ◌≤◌, IsTrue, MatchResult};
+ghost use Rattle.text_io.specs.Desk.{Folder, HasCause, Rose};
+ghost use Rattle.translate_cmd.specs.Status.{is_decided};
+ghost use Rattle.translate_cmd.specs.Outcome.{outcome};
+ghost use Rattle.translate_cmd.specs.Runs.{Runs};
+
+use crate::asked::{Command, Memory, asked};
+use crate::status::Status;
+use std::alloc::Global;
+use text_io::{Desk, Failed, OutSlot, SureDesk, write_whole};
+use verilog_writer::write_udp;
+
+/// The line that tells of words without a reading.
+const USAGE: &[u8] = b"lib2sim: usage\n";
+
+/// Runs the command that the desk's words ask for.
+///
+/// Words without a reading are usage. The status and the bytes appended to the report and the faults are those of the
+/// outcome of the words, `Outside` and `Memory` aside: `Outside` comes only where a call on the desk failed in this
+/// call, and `Memory` where there was none. Also after these two, what was appended is a prefix of the outcome's.
+/// Nothing is bound but what the words name.
+pub fn run<D: Desk>(alloc: Global, desk: &mut D) -> Status
+    ensures writes { (files : Folder) → Runs files (D.state desk.old) (D.state desk.new) result }
+    ensures status { (files : Folder) → IsTrue (is_decided result) → result ≡ (outcome (D.state desk.old).words files).status }
+    ensures outside { result ≡ Status.Outside → Rose (D.faults desk.old) (D.faults desk.new) }
+    ensures later { D.faults desk.old ≤ D.faults desk.new }
+{
+    match asked(alloc, desk) {
+        Ok(Command::Udp(udp)) => ended(write_udp(desk, OutSlot::Report, &udp), Status::Done),
+        Ok(Command::Usage) => ended(write_whole(desk, OutSlot::Faults, USAGE), Status::Usage),
+        Err(Memory) => Status::Memory,
+    }
+}
+
+/// As `run`, over a desk on which no call fails.
+pub fn run_sure(alloc: Global, desk: &mut SureDesk) -> Status
+    ensures { result ≡ Status.Outside → ⊥ }
+{
+    run(alloc, desk)
+}
+
+/// The status of a run whose last writing ended so.
+fn ended(written: Result<(), Failed>, status: Status) -> Status
+    ensures { MatchResult written (λ _. result ≡ status) (λ _. result ≡ Status.Outside) }
+{
+    match written {
+        Ok(()) => status,
+        Err(Failed) => Status::Outside,
+    }
+}

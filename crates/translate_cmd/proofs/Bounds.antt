@@ -29,7 +29,7 @@ every_name = every_tree IsBelow (record {
   not_of = λ f p i has. rw (fold-Not ℕ bound_step f) (p i (subst (λ l. Contains l i) (fold-Not (List ℕ) names_step f) has));
   xor_of = λ f g. of_both f g _ _ (fold-Xor (List ℕ) names_step f g) (fold-Xor ℕ bound_step f g);
   and_of = λ f g. of_both f g _ _ (fold-And (List ℕ) names_step f g) (fold-And ℕ bound_step f g);
-  or_of = λ f g. of_both f g _ _ (fold-Or (List ℕ) names_step f g) (fold-Or ℕ bound_step f g)
+  or_of = λ f g. of_both f g _ _ (fold-Or (List ℕ) names_step f g) (fold-Or ℕ bound_step f g);
 })
 
 -- every name of a tree is below a number that its bound does not pass

@@ -33,7 +33,7 @@ udp_runs files old new udp (Ok x) result e w r = record {
   report_part = rw e ([], append-nil (primitive_text udp));
   report_whole = λ _. rw e refl;
   faults_part = nothing _;
-  faults_whole = λ _. rw e refl
+  faults_whole = λ _. rw e refl;
 }
 udp_runs files old new udp (Err y) result e w r = record {
   report = w.part.0;
@@ -42,7 +42,7 @@ udp_runs files old new udp (Err y) result e w r = record {
   report_part = rw e w.part.1;
   report_whole = λ d. undecided result r d;
   faults_part = nothing _;
-  faults_whole = λ d. undecided result r d
+  faults_whole = λ d. undecided result r d;
 }
 
 -- the line of usage was written to the faults
@@ -55,7 +55,7 @@ usage_runs files old new (Ok x) result e w r = record {
   report_part = nothing _;
   report_whole = λ _. rw e refl;
   faults_part = rw e ([], refl);
-  faults_whole = λ _. rw e refl
+  faults_whole = λ _. rw e refl;
 }
 usage_runs files old new (Err y) result e w r = record {
   report = [];
@@ -64,7 +64,7 @@ usage_runs files old new (Err y) result e w r = record {
   report_part = nothing _;
   report_whole = λ d. undecided result r d;
   faults_part = rw e w.part.1;
-  faults_whole = λ d. undecided result r d
+  faults_whole = λ d. undecided result r d;
 }
 
 -- nothing was written, for want of memory
@@ -76,5 +76,5 @@ nothing_runs files old = record {
   report_part = nothing _;
   report_whole = λ d. absurd cc;
   faults_part = nothing _;
-  faults_whole = λ d. absurd cc
+  faults_whole = λ d. absurd cc;
 }

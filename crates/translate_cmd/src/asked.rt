@@ -72,7 +72,12 @@ fn asked_primitive(alloc: Global, name: &str, text: &str) -> Result<Option<Udp>,
 }
 
 /// The primitive of a function text that was read, where it has 1 to 10 names.
-fn primitive_read(alloc: Global, name: &str, function: &Function, count: usize) -> Result<Option<Udp>, Memory>
+fn primitive_read(
+    alloc: Global,
+    name: &str,
+    function: &Function,
+    count: usize,
+) -> Result<Option<Udp>, Memory>
     requires { name_bound function.now ≤ count }
     ensures { IfOk result (λ udp. udp ≡ primitive_read name.now count (Ok function.now)) }
 {

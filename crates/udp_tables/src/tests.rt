@@ -1,31 +1,53 @@
-use crate::combinational::udp_level;
 use crate::generation::function_udp;
-use crate::table::{Entry, Level, Next};
-use bool_functions::Function;
+use crate::table::{Entry, Level, Next, UdpRow};
+use bool_functions::read_free;
+use std::alloc::Global;
 use std::test::Fail;
-use trit_cubes::Trit;
+
+// The rows as they are written, with a comma after each.
+fn shown(alloc: Global, rows: &[UdpRow]) -> Result<String, Fail> {
+    let mut text = String::new(alloc);
+    for row in rows {
+        for entry in row.inputs.as_slice() {
+            text.push(match entry {
+                Entry::Level(Level::Zero) => '0',
+                Entry::Level(Level::One) => '1',
+                Entry::Level(Level::Any) => '?',
+                _ => '#',
+            })?;
+        }
+        text.push_str(match row.next {
+            Next::Zero => ":0,",
+            Next::One => ":1,",
+            _ => ":#,",
+        })?;
+    }
+    Ok(text)
+}
 
 #[test]
-fn a_name_has_two_rows(rt: HostRuntime) -> Result<(), Fail> {
+fn a_multiplexer_has_six_rows(rt: HostRuntime) -> Result<(), Fail> {
     let alloc = rt.alloc();
-    let udp = function_udp(alloc, b"BUF", &Function::of_name(0), 1)?;
-    assert_eq!(rt; udp.name.as_slice(), b"BUF".as_slice());
+    let (function, names) = read_free(alloc, b"(A*!S)+(B*S)")?;
+    assert_eq!(rt; names.len(), 3);
+    let udp = function_udp(alloc, b"MUX2", &function, 3)?;
+    assert_eq!(rt; udp.name.as_slice(), b"MUX2".as_slice());
     assert_eq!(rt; udp.output.as_slice(), b"q".as_slice());
-    assert!(rt; !udp.sequential);
-    for input in udp.inputs.as_slice() {
-        assert_eq!(rt; input.as_slice(), b"i1".as_slice());
-    }
-    let rows = udp.rows.as_slice();
-    assert_eq!(rt; rows.len(), 2);
+    assert_eq!(rt; udp.inputs.len(), 3);
+    assert_eq!(rt; udp.inputs.as_slice()[2].as_slice(), b"i3".as_slice());
     assert_eq!(rt;
-        rows[0].inputs.as_slice(),
-        [Entry::Level(Level::One)].as_slice()
+        shown(alloc, udp.rows.as_slice())?.as_str(),
+        "10?:1,1?1:1,?11:1,00?:0,0?0:0,?10:0,"
     );
-    assert_eq!(rt; rows[0].next, Next::One);
-    assert_eq!(rt;
-        rows[1].inputs.as_slice(),
-        [Entry::Level(Level::Zero)].as_slice()
-    );
-    assert_eq!(rt; rows[1].next, Next::Zero);
+    Ok(())
+}
+
+#[test]
+fn an_exclusive_or_of_ten_names_has_a_row_a_point(rt: HostRuntime) -> Result<(), Fail> {
+    let alloc = rt.alloc();
+    let (function, names) = read_free(alloc, b"A^B^C^D^E^F^G^H^I^J")?;
+    assert_eq!(rt; names.len(), 10);
+    let udp = function_udp(alloc, b"XOR10", &function, 10)?;
+    assert_eq!(rt; udp.rows.len(), 1024);
     Ok(())
 }

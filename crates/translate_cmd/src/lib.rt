@@ -4,6 +4,8 @@
 mod asked;
 mod command;
 mod status;
+#[cfg(test)]
+mod tests;
 
 pub use command::{run, run_sure};
 pub use status::Status;

@@ -1,6 +1,6 @@
-ghost use Rattle.std.specs.Prelude.{◌≡◌, ◌++◌, ◌^◌, ◌≤◌, not, map, length, replicate, IfOk, OnOk};
+ghost use Rattle.std.specs.Prelude.{◌≡◌, ℕ, ◌++◌, ◌^◌, ◌≤◌, ◌<◌, not, map, length, replicate, IfOk, OnOk};
 ghost use Rattle.trit_cubes.specs.declared.trits.Trit.TheVariants as trit;
-ghost use Rattle.bool_functions.specs.Tree.{name_bound};
+ghost use Rattle.bool_functions.specs.Tree.{Has};
 ghost use Rattle.bool_functions.specs.Point.{HasValues};
 ghost use Rattle.udp_tables.specs.Tables.{value_rows, or_row};
 ghost use Rattle.udp_tables.specs.Generated.{level_entry, next_to, level_row, function_primitive, function_rows, tree_value, numbers_below};
@@ -24,7 +24,7 @@ pub fn function_udp(
 ) -> Result<Udp, Memory>
     requires some { 1 ≤ names }
     requires few { names ≤ 10 }
-    requires numbered { name_bound function.now ≤ names }
+    requires numbered { (i : ℕ) → Has function.now i → i < names }
     ensures { IfOk result (λ udp. udp ≡ function_primitive name.now function.now names) }
 {
     Ok(Udp {
@@ -39,7 +39,7 @@ pub fn function_udp(
 // The rows of the function over its first names.
 fn function_rows(alloc: Global, function: &Function, names: usize) -> Result<Items<UdpRow>, Memory>
     requires few { names ≤ 10 }
-    requires numbered { name_bound function.now ≤ names }
+    requires numbered { (i : ℕ) → Has function.now i → i < names }
     ensures { IfOk result (λ rows. rows ≡ function_rows names (tree_value function.now)) }
 {
     let ones = value_table(alloc, function, names)?;
@@ -53,7 +53,7 @@ fn function_rows(alloc: Global, function: &Function, names: usize) -> Result<Ite
 // The values of the function at all points over its first names.
 fn value_table(alloc: Global, function: &Function, names: usize) -> Result<Vec<bool>, Memory>
     requires few { names ≤ 10 }
-    requires numbered { name_bound function.now ≤ names }
+    requires numbered { (i : ℕ) → Has function.now i → i < names }
     ensures entries { IfOk result (λ values. length values.items ≡ 2 ^ names) }
     ensures values { IfOk result (λ values. HasValues (numbers_below names) function.now values.items) }
 {

@@ -1,5 +1,5 @@
 use crate::generation::function_udp;
-use crate::table::{Entry, Level, Next, UdpRow};
+use crate::table::{Entry, Level, Next, Udp, UdpRow};
 use bool_functions::read_free;
 use std::alloc::Global;
 use std::test::Fail;
@@ -25,12 +25,21 @@ fn shown(alloc: Global, rows: &[UdpRow]) -> Result<String, Fail> {
     Ok(text)
 }
 
+// The primitive of a text with one to ten names.
+fn primitive(alloc: Global, name: &[u8], text: &[u8]) -> Result<Udp, Fail> {
+    let (function, names) = read_free(alloc, text)?;
+    let count = names.len();
+    if count < 1 || count > 10 {
+        Err("not one to ten names")?;
+    }
+    let udp = function_udp(alloc, name, &function, count)?;
+    Ok(udp)
+}
+
 #[test]
 fn a_multiplexer_has_six_rows(rt: HostRuntime) -> Result<(), Fail> {
     let alloc = rt.alloc();
-    let (function, names) = read_free(alloc, b"(A*!S)+(B*S)")?;
-    assert_eq!(rt; names.len(), 3);
-    let udp = function_udp(alloc, b"MUX2", &function, 3)?;
+    let udp = primitive(alloc, b"MUX2", b"(A*!S)+(B*S)")?;
     assert_eq!(rt; udp.name.as_slice(), b"MUX2".as_slice());
     assert_eq!(rt; udp.output.as_slice(), b"q".as_slice());
     assert_eq!(rt; udp.inputs.len(), 3);
@@ -44,10 +53,7 @@ fn a_multiplexer_has_six_rows(rt: HostRuntime) -> Result<(), Fail> {
 
 #[test]
 fn an_exclusive_or_of_ten_names_has_a_row_a_point(rt: HostRuntime) -> Result<(), Fail> {
-    let alloc = rt.alloc();
-    let (function, names) = read_free(alloc, b"A^B^C^D^E^F^G^H^I^J")?;
-    assert_eq!(rt; names.len(), 10);
-    let udp = function_udp(alloc, b"XOR10", &function, 10)?;
+    let udp = primitive(rt.alloc(), b"XOR10", b"A^B^C^D^E^F^G^H^I^J")?;
     assert_eq!(rt; udp.rows.len(), 1024);
     Ok(())
 }

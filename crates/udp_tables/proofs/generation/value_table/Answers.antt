@@ -1,5 +1,4 @@
 use Rattle.std.proofs.Common.{◌≡◌, ◌^◌, length, ap, ◌∙◌, arith}
-use Rattle.bool_functions.proofs.Bounds.{has_below}
 use Rattle.udp_tables.specs.Generated.{numbers_below}
 use Rattle.udp_tables.proofs.GenerationLemmas.{numbers_below-contains, length-numbers_below}
 use Rattle.udp_tables.proofs.generation.value_table.Goals as goal
@@ -12,7 +11,7 @@ table-requires-clause-few c =
 pub table-requires-clause-inside : goal.table-requires-clause-inside
 table-requires-clause-inside c = λ i h.
     let is : c.deref.result.now ≡ numbers_below c.args.names = c.deref.ensures.value ∙ c.in_ok-places.ensures in
-    rw is (numbers_below-contains c.args.names i (omega (arith, has_below c.args.function.now i h, c.requires.numbered)))
+    rw is (numbers_below-contains c.args.names i (c.requires.numbered i h))
 
 pub returns-clause-entries : goal.returns-clause-entries
 returns-clause-entries c =

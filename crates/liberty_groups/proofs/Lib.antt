@@ -4,3 +4,4 @@ pub mod Inside
 pub mod Outlines
 pub mod Parts
 pub mod Statements
+pub mod Texts

@@ -5,3 +5,4 @@ pub mod Grammar
 pub mod Lexeme
 pub mod Library
 pub mod Outline
+pub mod Writing

@@ -9,8 +9,10 @@ mod outline;
 mod read;
 mod reader;
 mod tree;
+mod write;
 
 pub use contents::UnitLine;
 pub use fault::{Expected, LibraryFault, Memory};
 pub use read::{End, Reading, read_library};
 pub use tree::{Group, Item, Value};
+pub use write::write_group;

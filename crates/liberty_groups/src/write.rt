@@ -1,0 +1,110 @@
+//! Groups to Liberty text.
+
+ghost use Rattle.std.specs.Prelude.{◌≡◌, ◌++◌, true, OnOk, IfOk};
+ghost use Rattle.liberty_text.specs.TextValue.{quoted};
+ghost use Rattle.liberty_groups.specs.Writing.{value_text, values_text, simple_text, complex_text, head_text, item_text, items_text, group_text};
+
+use crate::fault::Memory;
+use crate::tree::{Group, Item, Value};
+use std::alloc::Global;
+
+/// The text of a value between quotes, with a backslash before each quote in it.
+fn push_value(out: &mut Vec<u8>, value: &Value) -> Result<(), Memory>
+    ensures { OnOk result (out.new.items ≡ out.old.items ++ value_text value.now) }
+{
+    out.push(b'"')?;
+    for byte in value.bytes.as_slice() {
+        if *byte == b'"' {
+            out.push(b'\\')?;
+        }
+        out.push(*byte)?;
+    }
+    out.push(b'"')?;
+    Ok(())
+}
+
+fn push_values(out: &mut Vec<u8>, values: &[Value]) -> Result<(), Memory>
+    ensures { OnOk result (out.new.items ≡ out.old.items ++ values_text true values.now) }
+{
+    let mut first = true;
+    for value in values {
+        if !first {
+            out.extend_from_slice(b", ")?;
+        }
+        push_value(out, value)?;
+        first = false;
+    }
+    Ok(())
+}
+
+fn push_simple(out: &mut Vec<u8>, name: &[u8], value: &[Value]) -> Result<(), Memory>
+    ensures { OnOk result (out.new.items ≡ out.old.items ++ simple_text name.now value.now) }
+{
+    out.extend_from_slice(name)?;
+    out.extend_from_slice(b" : ")?;
+    push_values(out, value)?;
+    out.extend_from_slice(b";\n")?;
+    Ok(())
+}
+
+fn push_complex(out: &mut Vec<u8>, name: &[u8], arguments: &[Value]) -> Result<(), Memory>
+    ensures { OnOk result (out.new.items ≡ out.old.items ++ complex_text name.now arguments.now) }
+{
+    out.extend_from_slice(name)?;
+    out.extend_from_slice(b" (")?;
+    push_values(out, arguments)?;
+    out.extend_from_slice(b");\n")?;
+    Ok(())
+}
+
+fn push_head(out: &mut Vec<u8>, name: &[u8], arguments: &[Value]) -> Result<(), Memory>
+    ensures { OnOk result (out.new.items ≡ out.old.items ++ head_text name.now arguments.now) }
+{
+    out.extend_from_slice(name)?;
+    out.extend_from_slice(b" (")?;
+    push_values(out, arguments)?;
+    out.extend_from_slice(b") {\n")?;
+    Ok(())
+}
+
+#[cycle(writing)]
+fn push_item(out: &mut Vec<u8>, item: &Item) -> Result<(), Memory>
+    ensures { OnOk result (out.new.items ≡ out.old.items ++ item_text item.now) }
+{
+    match item {
+        Item::Simple { name, value, .. } => push_simple(out, name.as_slice(), value.as_slice()),
+        Item::Complex {
+            name, arguments, ..
+        } => push_complex(out, name.as_slice(), arguments.as_slice()),
+        Item::Inner(group) => push_group(out, group),
+    }
+}
+
+#[cycle(writing)]
+fn push_items(out: &mut Vec<u8>, items: &[Item]) -> Result<(), Memory>
+    ensures { OnOk result (out.new.items ≡ out.old.items ++ items_text items.now) }
+{
+    for item in items {
+        push_item(out, item)?;
+    }
+    Ok(())
+}
+
+#[cycle(writing)]
+fn push_group(out: &mut Vec<u8>, group: &Group) -> Result<(), Memory>
+    ensures { OnOk result (out.new.items ≡ out.old.items ++ group_text group.now) }
+{
+    push_head(out, group.name.as_slice(), group.arguments.as_slice())?;
+    push_items(out, group.items.as_slice())?;
+    out.extend_from_slice(b"}\n")?;
+    Ok(())
+}
+
+/// The text of a group, one statement per line, every value quoted.
+pub fn write_group(alloc: Global, group: &Group) -> Result<Vec<u8>, Memory>
+    ensures { IfOk result (λ text. text.items ≡ group_text group.now) }
+{
+    let mut out = Vec::new(alloc);
+    push_group(&mut out, group)?;
+    Ok(out)
+}

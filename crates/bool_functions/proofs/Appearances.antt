@@ -1,12 +1,13 @@
 -- The names of a text by their first appearances.
-use Rattle.std.proofs.Common.{◌≡◌, ℕ, Bool, true, false, cond, not, ◌&&◌, ◌||◌, List, [], ◌∷◌, ◌++◌, map, filter, bytes_eq, Option, None, Some, is_none, if◌then◌else◌, refl, sym, ap, ◌∙◌, append_assoc, ◌+◌, ◌<◌, length, drop, slice_index_or, add-one, drop-cons}
-use Rattle.std.specs.List.{list_any}
+use Rattle.std.proofs.Common.{◌≡◌, ℕ, Bool, true, false, cond, not, ◌&&◌, ◌||◌, List, [], ◌∷◌, ◌++◌, map, filter, bytes_eq, Option, None, Some, is_none, if◌then◌else◌, refl, sym, ap, subst, ◌∙◌, append_assoc, ◌+◌, ◌<◌, length, drop, slice_index_or, add-one, drop-cons, Contains, ◌↔◌, ◌⊎◌, inl, inr}
+use Rattle.std.specs.List.{list_any, AllByRecursion, IsDistinct}
 use Rattle.std.proofs.lemmas.List.Folds.{list_any-append}
 use Rattle.std.proofs.lemmas.Slice.Eq.{bytes_eq-Decides}
 use Rattle.bool_functions.specs.declared.tokens.Span.{Span}
-use Rattle.bool_functions.specs.NameList.{number_of, Adds}
+use Rattle.bool_functions.specs.NameList.{number_of, Adds, AreDistinct}
 use Rattle.bool_functions.specs.Token.{is_name, bytes_at, words_of, words, spans}
 use Rattle.bool_functions.specs.FunctionText.{first_appearances, first_unknown, unknown_in, free_names}
+use Rattle.bool_functions.proofs.Elements.{contains_here, contains_later, contains_cases, contains_none}
 use Rattle.bool_functions.proofs.NameLists.{position-none, position-some}
 
 -- the names that are not in a list
@@ -172,3 +173,89 @@ pub by_other : (text : List ℕ) (t : Span) (old new : List (List ℕ)) → is_n
 by_other text t old new e same ts =
     ap (λ l. l ++ fresh l (first_appearances (words_of text ts))) same
     ∙ ap (λ ws. old ++ fresh old (first_appearances ws)) (sym (drops is_name (bytes_at text t) (map (bytes_at text) ts) e))
+
+-- a name of a list, and the test that finds it
+found_at : (w x : List ℕ) (ws : List (List ℕ)) (b : Bool) → bytes_eq w x ≡ b → (list_any (bytes_eq w) ws ≡ true → Contains ws w) → (b || list_any (bytes_eq w) ws) ≡ true → Contains (x ∷ ws) w
+found_at w x ws true e k h = subst (λ v. Contains (x ∷ ws) v) (sym ((bytes_eq-Decides w x).0 e)) (contains_here x ws)
+found_at w x ws false e k h = contains_later x ws w (k h)
+
+contains_found : (w : List ℕ) (ws : List (List ℕ)) → list_any (bytes_eq w) ws ≡ true → Contains ws w
+contains_found w [] h = absurd cc
+contains_found w (x ∷ ws) h = found_at w x ws (bytes_eq w x) refl (contains_found w ws) h
+
+either : (a b : Bool) → b ≡ true → (a || b) ≡ true
+either true b h = refl
+either false b h = h
+
+found_contained : (w : List ℕ) (ws : List (List ℕ)) → Contains ws w → list_any (bytes_eq w) ws ≡ true
+found_contained w [] h = absurd (contains_none w h)
+found_contained w (x ∷ ws) h =
+    elim (contains_cases x ws w h) [
+      | inl same ↦ ap (λ b. b || list_any (bytes_eq w) ws) ((bytes_eq-Decides w x).1 (sym same))
+      | inr later ↦ either (bytes_eq w x) (list_any (bytes_eq w) ws) (found_contained w ws later)
+    ]
+
+whole_at : (w v x : List ℕ) (xs : List (List ℕ)) (b c : Bool) → bytes_eq w x ≡ b → not (bytes_eq x v) ≡ c
+    → (list_any (bytes_eq w) (without v xs) ≡ true → list_any (bytes_eq w) xs ≡ true) → list_any (bytes_eq w) (without v (x ∷ xs)) ≡ true → (b || list_any (bytes_eq w) xs) ≡ true
+whole_at w v x xs true c e f k h = refl
+whole_at w v x xs false true e f k h =
+    k (ap (λ d. d || list_any (bytes_eq w) (without v xs)) (sym e) ∙ sym (ap (list_any (bytes_eq w)) (keeps (λ u. not (bytes_eq u v)) x xs f)) ∙ h)
+whole_at w v x xs false false e f k h = k (sym (ap (list_any (bytes_eq w)) (drops (λ u. not (bytes_eq u v)) x xs f)) ∙ h)
+
+in_whole : (w v : List ℕ) (xs : List (List ℕ)) → list_any (bytes_eq w) (without v xs) ≡ true → list_any (bytes_eq w) xs ≡ true
+in_whole w v [] h = h
+in_whole w v (x ∷ xs) h = whole_at w v x xs (bytes_eq w x) (not (bytes_eq x v)) refl refl (in_whole w v xs) h
+
+appeared_at : (w v : List ℕ) (ws : List (List ℕ)) (b : Bool) → (list_any (bytes_eq w) (first_appearances ws) ≡ true → list_any (bytes_eq w) ws ≡ true)
+    → (b || list_any (bytes_eq w) (without v (first_appearances ws))) ≡ true → (b || list_any (bytes_eq w) ws) ≡ true
+appeared_at w v ws true k h = refl
+appeared_at w v ws false k h = k (in_whole w v (first_appearances ws) h)
+
+appeared : (w : List ℕ) (ws : List (List ℕ)) → list_any (bytes_eq w) (first_appearances ws) ≡ true → list_any (bytes_eq w) ws ≡ true
+appeared w [] h = h
+appeared w (v ∷ ws) h = appeared_at w v ws (bytes_eq w v) (appeared w ws) h
+
+-- the first appearances are those of the names, and of no others
+pub same_names : (ws : List (List ℕ)) (w : List ℕ) → Contains (first_appearances ws) w ↔ Contains ws w
+same_names ws w =
+    (λ h. contains_found w ws (appeared w ws (found_contained w (first_appearances ws) h)), λ h. contains_found w (first_appearances ws) (appears w ws (found_contained w ws h)))
+
+other_way : (w x : List ℕ) (b : Bool) → bytes_eq w x ≡ b → bytes_eq x w ≡ false → bytes_eq w x ≡ false
+other_way w x true e f = absurd (let g : bytes_eq x w ≡ true = (bytes_eq-Decides x w).1 (sym ((bytes_eq-Decides w x).0 e)) in cc)
+other_way w x false e f = e
+
+module _ (P : List ℕ → Type 0) where
+  all_kept_at : (q : List ℕ → Bool) (x : List ℕ) (xs : List (List ℕ)) (b : Bool) → q x ≡ b → (b ≡ true → P x) → AllByRecursion P (filter q xs) → AllByRecursion P (filter q (x ∷ xs))
+  all_kept_at q x xs true e p h = subst (AllByRecursion P) (sym (keeps q x xs e)) (p refl, h)
+  all_kept_at q x xs false e p h = subst (AllByRecursion P) (sym (drops q x xs e)) h
+
+  all_kept : (q : List ℕ → Bool) (xs : List (List ℕ)) → AllByRecursion P xs → AllByRecursion P (filter q xs)
+  all_kept q [] h = h
+  all_kept q (x ∷ xs) h = all_kept_at q x xs (q x) refl (λ _. h.0) (all_kept q xs h.1)
+
+others_differ : (w : List ℕ) (xs : List (List ℕ)) → AllByRecursion (λ y. bytes_eq w y ≡ false) (without w xs)
+others_differ w [] = tt
+others_differ w (x ∷ xs) =
+    all_kept_at (λ y. bytes_eq w y ≡ false) (λ v. not (bytes_eq v w)) x xs (not (bytes_eq x w)) refl
+    (λ e. other_way w x (bytes_eq w x) refl (unnot (bytes_eq x w) e)) (others_differ w xs)
+  where
+    unnot : (b : Bool) → not b ≡ true → b ≡ false
+    unnot true e = absurd cc
+    unnot false e = refl
+
+distinct_at : (q : List ℕ → Bool) (x : List ℕ) (xs : List (List ℕ)) (b : Bool) → q x ≡ b → AllByRecursion (λ y. bytes_eq x y ≡ false) xs → IsDistinct bytes_eq (filter q xs)
+    → IsDistinct bytes_eq (filter q (x ∷ xs))
+unfolding IsDistinct
+distinct_at q x xs true e all h = subst (IsDistinct bytes_eq) (sym (keeps q x xs e)) (all_kept (λ y. bytes_eq x y ≡ false) q xs all, h)
+distinct_at q x xs false e all h = subst (IsDistinct bytes_eq) (sym (drops q x xs e)) h
+
+distinct_kept : (q : List ℕ → Bool) (xs : List (List ℕ)) → IsDistinct bytes_eq xs → IsDistinct bytes_eq (filter q xs)
+unfolding IsDistinct
+distinct_kept q [] h = h
+distinct_kept q (x ∷ xs) h = distinct_at q x xs (q x) refl h.0 (distinct_kept q xs h.1)
+
+-- and each is there once
+pub distinct_appearances : (ws : List (List ℕ)) → AreDistinct (first_appearances ws)
+unfolding IsDistinct
+distinct_appearances [] = tt
+distinct_appearances (w ∷ ws) = (others_differ w (first_appearances ws), distinct_kept (λ v. not (bytes_eq v w)) (first_appearances ws) (distinct_appearances ws))

@@ -1,7 +1,9 @@
 -- The values at all points, by the numbers of the points.
-use Rattle.std.proofs.Common.{◌≡◌, ℕ, suc, ◌+◌, ◌*◌, ◌/◌, ◌%◌, ◌^◌, ◌<◌, Bool, true, false, not, ◌&&◌, ◌||◌, ◌==◌, if◌then◌else◌, List, [], ◌∷◌, ◌++◌, length, slice_get, slice_index_or, EachIndex, Contains, refl, sym, ap, subst, ◌∙◌, arith, inl, inr, eqb-true, eq-eqb, Some, IfOk, Result, Ok, Err}
+use Rattle.std.proofs.Common.{◌≡◌, ℕ, suc, ◌+◌, ◌*◌, ◌/◌, ◌%◌, ◌^◌, ◌<◌, Bool, true, false, not, ◌&&◌, ◌||◌, ◌==◌, if◌then◌else◌, List, [], ◌∷◌, ◌++◌, length, map, slice_get, slice_index_or, EachIndex, Contains, refl, sym, ap, subst, ◌∙◌, arith, inl, inr, eqb-true, eq-eqb, Some, IfOk, Result, Ok, Err, append_assoc, length-append}
 use Rattle.std.proofs.lemmas.List.{length-map}
 use Rattle.std.proofs.lemmas.List.Elements.{Contains-append_left, Contains-append_right}
+use Rattle.std.specs.List.{range_with_len}
+use Rattle.std.proofs.Math.Seq.{get_or-append_seam}
 use Rattle.bool_functions.specs.declared.tree.Node.{Node}
 use Rattle.bool_functions.specs.declared.tree.Node.TheVariants as node
 use Rattle.bool_functions.specs.Tree.{value_step, value_by, value_of, names_of, xor, Has}
@@ -94,3 +96,17 @@ points_values places f values inside points bits =
 pub IfOk-both : {X E : Type 0} (P Q R : X → Type 0) → ((x : X) → P x → Q x → R x) → (r : Result X E) → IfOk r P → IfOk r Q → IfOk r R
 IfOk-both P Q R k (Ok x) p q = k x p q
 IfOk-both P Q R k (Err e) p q = p
+
+-- where the places are all names in their order, the point is the list of bits itself
+bits_from : (before bits : List Bool) → map (λ i. slice_index_or (before ++ bits) i false) (range_with_len (length before) (length bits)) ≡ bits
+bits_from before [] = refl
+bits_from before (b ∷ bits) =
+    let longer : (before ++ b ∷ []) ++ bits ≡ before ++ b ∷ bits = append_assoc before (b ∷ []) bits in
+    let len : length (before ++ b ∷ []) ≡ length before + 1 = length-append before (b ∷ []) in
+    let rest : map (λ i. slice_index_or (before ++ b ∷ bits) i false) (range_with_len (length before + 1) (length bits)) ≡ bits =
+    ap (λ n. map (λ i. slice_index_or (before ++ b ∷ bits) i false) (range_with_len n (length bits))) (sym len)
+    ∙ ap (λ l. map (λ i. slice_index_or l i false) (range_with_len (length (before ++ b ∷ [])) (length bits))) (sym longer) ∙ bits_from (before ++ b ∷ []) bits in
+    ap (λ x. x ∷ map (λ i. slice_index_or (before ++ b ∷ bits) i false) (range_with_len (length before + 1) (length bits))) (get_or-append_seam before b bits false) ∙ ap (λ l. b ∷ l) rest
+
+pub bits_at-range : (bits : List Bool) → bits_at (range_with_len 0 (length bits)) bits ≡ bits
+bits_at-range bits = bits_from [] bits

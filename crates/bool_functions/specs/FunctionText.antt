@@ -1,4 +1,5 @@
--- Function texts over lists of names: Liberty's function syntax, with names numbered by a list.
+-- Function texts over lists of names. That a text has at most 4,096 bytes, the order of its faults and their places are
+-- this project's rules.
 use Rattle.std.specs.Prelude.{◌≡◌, ℕ, ◌-◌, ◌<◌, ◌≤◌, not, ◌&&◌, nat_lt, List, [], ◌∷◌, length, drop, filter, bytes_eq, Option, None, Some, is_none, Result, Ok, Err, if◌then◌else◌}
 use Rattle.bool_functions.specs.declared.tokens.Span.{Span}
 use Rattle.bool_functions.specs.declared.symbol.Symbol.{Symbol}

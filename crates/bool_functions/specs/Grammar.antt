@@ -1,4 +1,6 @@
--- Liberty's grammar of function texts, and with which token no function text goes on.
+-- The grammar of function texts, and with which token no function text goes on. The operators, and how tightly they
+-- bind, are those of the Liberty Reference Manual, attribute `function`: inversion first, then exclusive or, then and,
+-- then or, each from left to right, and two operands side by side are an and.
 use Rattle.std.specs.Prelude.{◌≡◌, ℕ, ◌+◌, ◌<◌, ◌≤◌, List, [], ◌∷◌, ◌++◌, length, take}
 use Rattle.bool_functions.specs.declared.symbol.Symbol.{Symbol}
 use Rattle.bool_functions.specs.declared.symbol.Symbol.TheVariants as symbol

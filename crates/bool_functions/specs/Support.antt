@@ -13,6 +13,6 @@ abbrev pub insert_all : List ℕ → List ℕ → List ℕ
 insert_all js [] = js
 insert_all js (i ∷ is) = insert_all (inserted i js) is
 
--- Liberty's support of a function: the names that are written in it, each once, in ascending order
+-- the support of a function: the names that are written in it, each once, in ascending order
 abbrev pub support_of : Node → List ℕ
 support_of f = insert_all [] (names_of f)

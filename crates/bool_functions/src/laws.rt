@@ -1,5 +1,5 @@
 //! Laws of the definitions that the contracts cite.
-ghost use Rattle.bool_functions.specs.Laws.{OneTree, ReadByGrammar, BoundIsLeast, RenamedValues};
+ghost use Rattle.bool_functions.specs.Laws.{OneTree, ReadByGrammar, BoundIsLeast, RenamedValues, OwnNames};
 
 /// No text has two trees over one list of names.
 pub fn one_tree()
@@ -19,4 +19,9 @@ pub fn bound_is_least()
 /// A renamed function has the value that the function has where each name has the value of its new name.
 pub fn renamed_values()
     ensures { RenamedValues }
+{}
+
+/// The names that a text is read with by itself are distinct, and are the names that stand in it.
+pub fn own_names()
+    ensures { OwnNames }
 {}

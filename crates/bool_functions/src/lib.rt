@@ -14,7 +14,7 @@ mod tree;
 mod words;
 
 pub use faults::{FunctionFault, Memory};
-pub use laws::{bound_is_least, one_tree, read_by_grammar, renamed_values};
+pub use laws::{bound_is_least, one_tree, own_names, read_by_grammar, renamed_values};
 pub use name_list::Names;
 pub use texts::{MAX_LEN, read_free, read_function};
 pub use tree::{Function, Node};

@@ -7,7 +7,8 @@ use indexmap::IndexSet;
 use std::alloc::Global;
 use std::marker::Model;
 
-/// Distinct names, numbered from 0 in the order in which they were added. Contracts see the list of their bytes.
+/// Distinct names, numbered from 0 in the order in which they were added. Contracts see the list of their bytes. The
+/// list keeps its allocator.
 #[derive(Drop)]
 pub struct Names {
     alloc: Global,
@@ -37,7 +38,7 @@ impl Names {
         }
     }
 
-    /// How many names there are.
+    /// How many names there are, no two of which are equal.
     pub fn len(&self) -> usize
         ensures len { result ≡ length self.now }
         ensures distinct { AreDistinct self.now }
@@ -45,7 +46,7 @@ impl Names {
         self.set.len()
     }
 
-    /// The name with the number `i`.
+    /// The name with the number `i`, which needs to be below `len`.
     pub fn name(&self, i: usize) -> &[u8]
         requires { i < length self.now }
         ensures { slice_get self.now i ≡ Some result.now }

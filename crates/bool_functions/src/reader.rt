@@ -9,6 +9,17 @@ use sqlite_items::Boxed;
 use std::alloc::{AllocError, AllocFailed, Global};
 use std::marker::Model;
 
+/// How tightly an operator binds: the tighter, the greater. An open group holds all that is outside it.
+const GROUP: u8 = 0;
+
+const OR: u8 = 1;
+
+const AND: u8 = 2;
+
+const XOR: u8 = 3;
+
+const INVERSION: u8 = 4;
+
 /// What waits for its right side: an open group, an inversion, or an operator with its left side.
 #[derive(Debug, Drop)]
 pub(crate) enum Pending {
@@ -58,6 +69,7 @@ impl Model for Pile {
 }
 
 impl Pile {
+    /// Adds the innermost.
     fn push(&mut self, pending: Pending) -> Result<(), AllocError>
         ensures { OnOk result (self.new ≡ pending ∷ self.old) }
     {
@@ -94,6 +106,7 @@ impl Pile {
         self.items.pop().is_some()
     }
 
+    /// Whether nothing waits.
     fn is_empty(&self) -> bool
         ensures { IsTrue result ↔ (self.now ≡ []) }
     {
@@ -102,16 +115,16 @@ impl Pile {
 }
 
 impl Pending {
-    /// How tightly it binds: an open group holds all that is outside it.
+    /// How tightly it binds.
     fn binds(&self) -> u8
         ensures { result ≡ binds self.now }
     {
         match self {
-            Pending::Group => 0,
-            Pending::Or(_) => 1,
-            Pending::And(_) => 2,
-            Pending::Xor(_) => 3,
-            Pending::Not => 4,
+            Pending::Group => GROUP,
+            Pending::Or(_) => OR,
+            Pending::And(_) => AND,
+            Pending::Xor(_) => XOR,
+            Pending::Not => INVERSION,
         }
     }
 
@@ -151,6 +164,7 @@ impl Reader {
         }
     }
 
+    /// Begins an operand, where the symbol can.
     fn begin(&mut self, symbol: Symbol) -> Result<bool, AllocError>
         requires { self.old.operand ≡ None }
         ensures { IfOk result (λ fits. Steps (begin self.old.pile symbol) fits (state_of self.new)) }
@@ -166,6 +180,7 @@ impl Reader {
         Ok(true)
     }
 
+    /// Goes on after an operand, where the symbol can.
     fn go_on(&mut self, operand: Node, symbol: Symbol) -> Result<bool, AllocError>
         requires { self.old.operand ≡ None }
         ensures { IfOk result (λ fits. Steps (go_on self.old.pile operand symbol) fits (state_of self.new)) }
@@ -173,16 +188,16 @@ impl Reader {
         match symbol {
             Symbol::Quote => self.operand = Some(Node::Not(Boxed::new(self.alloc, operand)?)),
             Symbol::Caret => {
-                let left = self.pile.settle(self.alloc, 3, operand)?;
+                let left = self.pile.settle(self.alloc, XOR, operand)?;
                 self.pile.push(Pending::Xor(left))?;
             }
             Symbol::Times => self.hold_and(operand)?,
             Symbol::Plus => {
-                let left = self.pile.settle(self.alloc, 1, operand)?;
+                let left = self.pile.settle(self.alloc, OR, operand)?;
                 self.pile.push(Pending::Or(left))?;
             }
             Symbol::Close => {
-                let inner = self.pile.settle(self.alloc, 1, operand)?;
+                let inner = self.pile.settle(self.alloc, OR, operand)?;
                 if !self.pile.close() {
                     return Ok(false);
                 }
@@ -197,11 +212,12 @@ impl Reader {
         Ok(true)
     }
 
+    /// Lets the operand wait as the left side of an and.
     fn hold_and(&mut self, operand: Node) -> Result<(), AllocError>
         ensures held { OnOk result (self.new.pile ≡ held pending.And (settled 2 self.old.pile operand)) }
         ensures operand { self.new.operand ≡ self.old.operand }
     {
-        let left = self.pile.settle(self.alloc, 2, operand)?;
+        let left = self.pile.settle(self.alloc, AND, operand)?;
         self.pile.push(Pending::And(left))
     }
 
@@ -217,7 +233,7 @@ impl Reader {
         let Some(operand) = operand else {
             return Ok(None);
         };
-        let whole = pile.settle(alloc, 1, operand)?;
+        let whole = pile.settle(alloc, OR, operand)?;
         if pile.is_empty() {
             Ok(Some(whole))
         } else {

@@ -17,9 +17,13 @@ use std::alloc::{AllocError, Global};
 /// The greatest number of bytes of a function text.
 pub const MAX_LEN: usize = 4096;
 
-/// Reads a text whose names are in a list, by which the tree numbers them. A text of more than 4,096 bytes is
-/// `TooLong`. Any other is `Malformed` at the first token with which no function text goes on, or at its length. A
-/// function text is `UnknownName` at its first name that is not in the list. The first of these in this order is answered.
+/// Reads a function text (Liberty Reference Manual, `function`) whose names are in a list, by which its tree numbers
+/// them. Offsets are in bytes, from 0. The faults are, in this order:
+///
+/// - `TooLong` where the text has more than 4,096 bytes,
+/// - `Malformed` at the first token with which no function text goes on, or at the text's length where it ends too early,
+/// - `UnknownName` at the first name that is not in the list,
+/// - `Memory` where memory is wanting.
 pub fn read_function(alloc: Global, text: &[u8], names: &Names) -> Result<Function, FunctionFault>
     ensures exact { OrMemory result (reading_of names.now text.now) }
     ensures tree { IfOk result (FunctionText names.now text.now) }
@@ -30,8 +34,8 @@ pub fn read_function(alloc: Global, text: &[u8], names: &Names) -> Result<Functi
     read_over(alloc, text, names)
 }
 
-/// Reads a text with its own names, which are numbered by their first appearances. The faults are those of
-/// `read_function`, and none of them is `UnknownName`.
+/// Reads a function text with its own names, which are numbered by their first appearances. The faults are those of
+/// `read_function` but for `UnknownName`, which never comes.
 pub fn read_free(alloc: Global, text: &[u8]) -> Result<(Function, Names), FunctionFault>
     ensures exact { OrMemoryFree result text.now }
     ensures names { IfOk result (λ r. r.1 ≡ free_names text.now) }
@@ -44,6 +48,7 @@ pub fn read_free(alloc: Global, text: &[u8]) -> Result<(Function, Names), Functi
     read_own(alloc, text)
 }
 
+/// Reads a text over a list of names.
 fn read_over(alloc: Global, text: &[u8], names: &Names) -> Result<Function, FunctionFault>
     ensures { OrMemory result (reading_of names.now text.now) }
 {
@@ -58,6 +63,7 @@ fn read_over(alloc: Global, text: &[u8], names: &Names) -> Result<Function, Func
     }
 }
 
+/// Reads a text over its own names.
 fn read_own(alloc: Global, text: &[u8]) -> Result<(Function, Names), FunctionFault>
     ensures { OrMemoryFree result text.now }
 {
@@ -70,6 +76,7 @@ fn read_own(alloc: Global, text: &[u8]) -> Result<(Function, Names), FunctionFau
     Ok((Function::new(tree), names))
 }
 
+/// The tree of a text's tokens, where a name that is not in the list has the list's length for its number.
 fn read_tree(
     alloc: Global,
     text: &[u8],
@@ -87,6 +94,7 @@ fn read_tree(
     }
 }
 
+/// What the tokens stand for.
 fn symbols(
     alloc: Global,
     text: &[u8],

@@ -53,7 +53,7 @@ impl Function {
         Function { node }
     }
 
-    /// The function that is the name `i`.
+    /// The function that is the name `i`. Takes no memory.
     pub fn of_name(i: usize) -> Function
         ensures { result ≡ tree.Name i }
     {
@@ -69,7 +69,7 @@ impl Function {
         &self.node
     }
 
-    /// The value where `bits[i]` is the value of the name `i`.
+    /// The value where `bits[i]` is the value of the name `i`. Needs an entry for each name, and takes no memory.
     pub fn value(&self, bits: &[bool]) -> bool
         requires { name_bound self.now ≤ length bits.now }
         ensures { result ≡ value_of bits.now self.now }
@@ -77,21 +77,22 @@ impl Function {
         value(&self.node, bits)
     }
 
-    /// Whether the two trees are equal.
+    /// Whether the two trees are equal. Takes no memory.
     pub fn same(&self, other: &Function) -> bool
         ensures { IsTrue result ↔ (self.now ≡ other.now) }
     {
         same(&self.node, &other.node)
     }
 
-    /// Whether the name `i` is written in the tree.
+    /// Whether the name `i` is written in the tree. Takes no memory.
     pub fn has(&self, i: usize) -> bool
         ensures { IsTrue result ↔ Has self.now i }
     {
         has(&self.node, i)
     }
 
-    /// The tree in which `to[i]` stands for each name `i`.
+    /// The tree in which `to[i]` stands for each name `i`. Needs an entry for each name. `Memory` comes only where
+    /// memory is wanting.
     pub fn renamed(&self, alloc: Global, to: &[usize]) -> Result<Function, Memory>
         requires { name_bound self.now ≤ length to.now }
         ensures { IfOk result (λ f. f ≡ renamed_by to.now self.now) }
@@ -101,7 +102,7 @@ impl Function {
         })
     }
 
-    /// The numbers of the written names, each once, in ascending order.
+    /// The numbers of the written names, each once, in ascending order. `Memory` comes only where memory is wanting.
     pub fn support(&self, alloc: Global) -> Result<Vec<usize>, Memory>
         ensures ascending { IfOk result (λ v. IsStrictlyIncreasing v.items) }
         ensures written { IfOk result (λ v. (i : ℕ) → Contains v.items i ↔ Has self.now i) }
@@ -110,7 +111,9 @@ impl Function {
         support(&self.node, alloc)
     }
 
-    /// The value at each point over these places, at the point's number, in which place `i` weighs 2 to the power `i`.
+    /// The value at each point over these places, which are numbers of names, at the point's number, in which place `i`
+    /// weighs 2 to the power `i`. Needs each written name among at most 10 places; where a place stands twice, its name
+    /// has the first one's value. `Memory` comes only where memory is wanting.
     pub fn table(&self, alloc: Global, places: &[usize]) -> Result<Vec<bool>, Memory>
         requires few { length places.now ≤ 10 }
         requires inside { (i : ℕ) → Has self.now i → Contains places.now i }
@@ -122,6 +125,7 @@ impl Function {
     }
 }
 
+/// The value of a tree where `bits[i]` is the value of the name `i`.
 fn value(node: &Node, bits: &[bool]) -> bool
     requires { name_bound node.now ≤ length bits.now }
     ensures { result ≡ value_of bits.now node.now }
@@ -137,6 +141,7 @@ fn value(node: &Node, bits: &[bool]) -> bool
     }
 }
 
+/// Whether two trees are equal.
 fn same(node: &Node, other: &Node) -> bool
     ensures { IsTrue result ↔ (node.now ≡ other.now) }
 {
@@ -153,6 +158,7 @@ fn same(node: &Node, other: &Node) -> bool
     }
 }
 
+/// Whether a name is written in a tree.
 #[tactic(auto, using(crate::proofs::Trees::names_by_top))]
 fn has(node: &Node, i: usize) -> bool
     ensures { result ≡ list_any (λ j. j == i) (names_of node.now) }
@@ -167,6 +173,7 @@ fn has(node: &Node, i: usize) -> bool
     }
 }
 
+/// A copy of a tree with other numbers for its names.
 fn renamed(node: &Node, alloc: Global, to: &[usize]) -> Result<Node, AllocError>
     requires { name_bound node.now ≤ length to.now }
     ensures { IfOk result (λ f. f ≡ renamed_by to.now node.now) }
@@ -191,6 +198,7 @@ fn renamed(node: &Node, alloc: Global, to: &[usize]) -> Result<Node, AllocError>
     })
 }
 
+/// The names of a tree, each once, in ascending order.
 fn support(node: &Node, alloc: Global) -> Result<Vec<usize>, Memory>
     ensures { IfOk result (λ v. v.items ≡ support_of node.now) }
 {
@@ -199,6 +207,7 @@ fn support(node: &Node, alloc: Global) -> Result<Vec<usize>, Memory>
     Ok(found)
 }
 
+/// Puts the names of a tree into an ascending list.
 #[tactic(auto, using(crate::proofs::Trees::names_by_top))]
 fn collect(node: &Node, found: &mut Vec<usize>) -> Result<(), Memory>
     ensures { OnOk result (found.new.items ≡ insert_all found.old.items (names_of node.now)) }
@@ -214,6 +223,7 @@ fn collect(node: &Node, found: &mut Vec<usize>) -> Result<(), Memory>
     }
 }
 
+/// Puts a number into an ascending list, unless it is there.
 fn insert(found: &mut Vec<usize>, i: usize) -> Result<(), Memory>
     ensures { OnOk result (found.new.items ≡ inserted i found.old.items) }
 {
@@ -230,6 +240,7 @@ fn insert(found: &mut Vec<usize>, i: usize) -> Result<(), Memory>
     Ok(())
 }
 
+/// The values of a tree at all points over these places.
 fn table(node: &Node, alloc: Global, places: &[usize]) -> Result<Vec<bool>, Memory>
     requires { length places.now ≤ 10 }
     ensures len { IfOk result (λ v. length v.items ≡ 2 ^ length places.now) }
@@ -243,6 +254,7 @@ fn table(node: &Node, alloc: Global, places: &[usize]) -> Result<Vec<bool>, Memo
     Ok(values)
 }
 
+/// The value of a tree at the point with this number.
 fn value_at(node: &Node, places: &[usize], point: usize) -> bool
     ensures { result ≡ value_by (entry_of places.now point) node.now }
 {
@@ -263,6 +275,7 @@ fn value_at(node: &Node, places: &[usize], point: usize) -> bool
     }
 }
 
+/// The value of a name at the point with this number.
 fn entry_of(places: &[usize], point: usize, i: usize) -> bool
     ensures { result ≡ entry_of places.now point i }
 {

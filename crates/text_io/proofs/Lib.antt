@@ -4,3 +4,4 @@ pub mod Fronts
 pub mod NamedFilesLemmas
 pub mod MemoryLemmas
 pub mod HostLemmas
+pub mod LineLaws

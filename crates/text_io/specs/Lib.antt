@@ -8,3 +8,4 @@ pub mod Memory
 pub mod Host
 pub mod Found
 pub mod Sure
+pub mod Line

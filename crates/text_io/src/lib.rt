@@ -6,6 +6,7 @@
 mod each_slot;
 mod file_words;
 mod host;
+mod line;
 mod memory;
 mod named_files;
 mod outside;
@@ -18,6 +19,7 @@ mod sure;
 mod writing;
 
 pub use host::FileDesk;
+pub use line::Line;
 pub use memory::{Memory, MemoryDesk};
 pub use named_files::NamedFile;
 pub use outside::{Desk, Failed};

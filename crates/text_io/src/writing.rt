@@ -3,6 +3,7 @@ ghost use Rattle.std.specs.List.{flat_map};
 ghost use Rattle.text_io.specs.declared.slots.Slot.TheVariants.{Output};
 ghost use Rattle.text_io.specs.Desk.{is_bound, HasCause, WritesText};
 
+use crate::line::Line;
 use crate::outside::{Desk, Failed};
 use crate::slots::OutSlot;
 
@@ -19,14 +20,14 @@ pub fn write_whole<D: Desk>(desk: &mut D, slot: OutSlot, bytes: &[u8]) -> Result
     Ok(())
 }
 
-/// Appends the pieces one after another, as `write_whole` does with their joined bytes. It takes no memory.
+/// Appends the pieces one after another, as `write_whole` does with their joined bytes. Small pieces are gathered first.
+/// It takes no memory.
 pub fn write_pieces<D: Desk>(desk: &mut D, slot: OutSlot, pieces: &[&[u8]]) -> Result<(), Failed>
     requires { IsTrue (is_bound (D.state desk.old) (Output slot)) }
     ensures text { WritesText (D.state desk.old) (D.state desk.new) slot (flat_map (λ piece. piece.now) pieces.now) result }
     ensures cause { HasCause (D.faults desk.old) (D.faults desk.new) result }
 {
-    for piece in pieces {
-        write_whole(desk, slot, piece)?;
-    }
-    Ok(())
+    let mut line = Line::new();
+    line.put_pieces(desk, slot, pieces)?;
+    line.flush(desk, slot)
 }

@@ -1,27 +1,15 @@
-use Rattle.std.proofs.Common.{sym, arith}
 use Rattle.text_io.specs.declared.slots.Slot.TheVariants.{Output}
-use Rattle.text_io.proofs.Wrote.{wrote-nil, still_bound, wrote_item_as, part_of_item_as, wrote_items}
-use Rattle.std.proofs.lemmas.List.{get_or_default}
+use Rattle.text_io.proofs.LineLaws.{gathered_bound, put_fails, flushes}
 use Rattle.text_io.proofs.writing.write_pieces.Goals as goal
 
-pub loop-piece-preserved : goal.loop-piece-preserved
-loop-piece-preserved g c = record {
-  written = wrote_item_as (λ piece. piece.now) c.args.pieces.now c.loop-piece.piece-index _ _ _ _ _ c.loop-piece-test.true (get_or_default _ _ _ _ c.loop-piece-test.true) c.loop-piece.invariant.written c.in_ok-write_whole.ensures.text.whole;
-  later = omega (arith, c.in_ok-write_whole.ensures.cause.later);
-}
+pub returns-in_err-put_pieces-clause-text : goal.returns-in_err-put_pieces-clause-text
+returns-in_err-put_pieces-clause-text g c =
+    let fails = rw c.new-line.ensures at c.in_err-put_pieces.ensures.text in
+    put_fails _ _ _ _ _ _ _ fails c.from_residual.ensures.0
 
-pub loop-piece-init : goal.loop-piece-init
-loop-piece-init g c = record { written = sym (wrote-nil _ _); later = omega arith }
+pub flush-requires : goal.flush-requires
+flush-requires g c = gathered_bound _ _ _ _ _ _ (Output c.args.slot) c.in_ok-put_pieces.ensures.text.whole c.requires
 
-pub write_whole-requires : goal.write_whole-requires
-write_whole-requires g c = still_bound _ _ _ _ (Output c.args.slot) c.loop-piece.invariant.written c.requires
-
-pub returns-in_err-write_whole-clause-text : goal.returns-in_err-write_whole-clause-text
-returns-in_err-write_whole-clause-text g c =
-    part_of_item_as (λ piece. piece.now) c.args.pieces.now c.loop-piece.piece-index _ _ _ _ _ _ _ c.loop-piece-test.true (get_or_default _ _ _ _ c.loop-piece-test.true) c.loop-piece.invariant.written c.in_err-write_whole.ensures.text c.from_residual.ensures.0
-
-pub returns : goal.returns
-returns g c = record {
-  text = record { whole = wrote_items _ _ _ _ _ _ c.loop-piece-test.false c.loop-piece.invariant.written; part = tt };
-  cause = record { later = c.loop-piece.invariant.later; failed = tt };
-}
+pub returns-clause-text : goal.returns-clause-text
+returns-clause-text g c =
+    flushes _ _ _ _ _ _ _ (rw c.new-line.ensures at c.in_ok-put_pieces.ensures.text.whole) c.flush.ensures.text

@@ -1,11 +1,11 @@
 -- Laws of gathering bytes before they are written.
-use Rattle.std.proofs.Common.{◌≡◌, ℕ, ◌+◌, ◌<◌, ◌≤◌, IsTrue, subst, List, [], ◌++◌, take, drop, get_or, length, Result, Ok, Err, IsErr, refl, sym, ◌∙◌, ap, append_assoc}
+use Rattle.std.proofs.Common.{◌≡◌, ℕ, ◌+◌, ◌<◌, ◌≤◌, IsTrue, subst, List, [], ◌++◌, take, drop, get_or, length, Result, Ok, Err, IsErr, sym, ◌∙◌, ap, append_assoc}
 use Rattle.std.specs.List.{flat_map}
 use Rattle.std.proofs.lemmas.List.{append-nil, take_all}
 use Rattle.text_io.specs.declared.outside.Failed.{Failed}
 use Rattle.text_io.specs.declared.slots.OutSlot.{OutSlot}
 use Rattle.text_io.specs.declared.slots.Slot.{Slot}
-use Rattle.text_io.specs.Desk.{DeskState, is_bound, wrote, IsPrefix, WritesText}
+use Rattle.text_io.specs.Desk.{DeskState, is_bound, wrote, WritesText}
 use Rattle.text_io.specs.Line.{Gathers, StopsWithin, PutsText}
 use Rattle.text_io.proofs.Wrote.{wrote-nil, still_bound, wrote_more, IsPrefix-append, IsPrefix-front, flat_map-split, flat_map-take_more}
 
@@ -18,7 +18,7 @@ pub Gathers-Gathers : (s t u : DeskState) (slot : OutSlot) (l m n a b : List ℕ
 Gathers-Gathers s t u slot l m n a b p q = record {
   written = p.written ++ q.written;
   state = wrote_more s t u slot p.written q.written p.state q.state;
-  joined = sym (append_assoc l a b) ∙ ap (λ x. x ++ b) p.joined ∙ append_assoc p.written m b ∙ ap (λ x. p.written ++ x) q.joined ∙ sym (append_assoc p.written q.written n)
+  joined = sym (append_assoc l a b) ∙ ap (λ x. x ++ b) p.joined ∙ append_assoc p.written m b ∙ ap (λ x. p.written ++ x) q.joined ∙ sym (append_assoc p.written q.written n);
 }
 
 -- a fault within the second of two texts
@@ -28,7 +28,7 @@ Gathers-stops s t u slot l m a b p q =
     record {
       part = p.written ++ q.part;
       front = rw (← joined) (IsPrefix-append p.written q.part (m ++ b) q.front);
-      state = wrote_more s t u slot p.written q.part p.state q.state
+      state = wrote_more s t u slot p.written q.part p.state q.state;
     }
 
 -- a fault within the first of two texts
@@ -53,7 +53,7 @@ pub flushes : {T : Type 0} (s t u : DeskState) (slot : OutSlot) (m a : List ℕ)
 flushes s t u slot m a (Ok x) p w = record { whole = wrote_more s t u slot p.written m p.state w.whole ∙ ap (wrote s slot) (sym p.joined); part = tt }
 flushes s t u slot m a (Err y) p w = record {
   whole = tt;
-  part = (p.written ++ w.part.0, rw p.joined (IsPrefix-append p.written w.part.0 m w.part.1), wrote_more s t u slot p.written w.part.0 p.state w.part.2)
+  part = (p.written ++ w.part.0, rw p.joined (IsPrefix-append p.written w.part.0 m w.part.1), wrote_more s t u slot p.written w.part.0 p.state w.part.2);
 }
 
 -- a fault while the text was put
@@ -75,8 +75,8 @@ pub part_of_put_item_as : {X S T : Type 0} (f : X → List ℕ) (xs : List X) (i
     → PutsText s u slot l (flat_map f xs) k r
 part_of_put_item_as f xs i x s t u slot l m n k y r h e p q failed =
     rw (flat_map-split f xs i x h e)
-      (puts_on s t u slot l m k (flat_map f (take i xs)) (f x ++ flat_map f (drop (i + 1) xs)) r p
-        (put_stops t u slot m n k (f x) (flat_map f (drop (i + 1) xs)) y r q failed))
+    (puts_on s t u slot l m k (flat_map f (take i xs)) (f x ++ flat_map f (drop (i + 1) xs)) r p
+    (put_stops t u slot m n k (f x) (flat_map f (drop (i + 1) xs)) y r q failed))
 
 -- what is bound stays bound
 pub gathered_bound : (s t : DeskState) (slot : OutSlot) (l a m : List ℕ) (other : Slot) → Gathers s t slot l a m → IsTrue (is_bound s other) → IsTrue (is_bound t other)

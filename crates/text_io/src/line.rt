@@ -34,7 +34,10 @@ impl Line {
     pub fn new() -> Line
         ensures { result ≡ [] }
     {
-        Line { bytes: [0; ROOM], held: 0 }
+        Line {
+            bytes: [0; ROOM],
+            held: 0,
+        }
     }
 
     /// Puts a piece behind the bytes that wait; some of them are written to the slot, which is bound, where there is no
@@ -49,7 +52,12 @@ impl Line {
     }
 
     /// Puts the pieces one after another, as `put` does with their joined bytes.
-    pub fn put_pieces<D: Desk>(&mut self, desk: &mut D, slot: OutSlot, pieces: &[&[u8]]) -> Result<(), Failed>
+    pub fn put_pieces<D: Desk>(
+        &mut self,
+        desk: &mut D,
+        slot: OutSlot,
+        pieces: &[&[u8]],
+    ) -> Result<(), Failed>
         requires { IsTrue (is_bound (D.state desk.old) (Output slot)) }
         ensures text { PutsText (D.state desk.old) (D.state desk.new) slot self.old (flat_map (λ piece. piece.now) pieces.now) self.new result }
         ensures cause { HasCause (D.faults desk.old) (D.faults desk.new) result }
@@ -73,7 +81,13 @@ impl Line {
 
 /// Puts a piece behind the first `held` bytes, and answers how many are held then. Where there is no room they are
 /// written first, and so is a piece that is too long itself.
-fn gather<D: Desk>(desk: &mut D, slot: OutSlot, bytes: &mut [u8], held: usize, piece: &[u8]) -> Result<usize, Failed>
+fn gather<D: Desk>(
+    desk: &mut D,
+    slot: OutSlot,
+    bytes: &mut [u8],
+    held: usize,
+    piece: &[u8],
+) -> Result<usize, Failed>
     requires bound { IsTrue (is_bound (D.state desk.old) (Output slot)) }
     requires within { held ≤ length bytes.old }
     ensures ok { IfOk result (λ now. Gathers (D.state desk.old) (D.state desk.new) slot (take held bytes.old) piece.now (take now bytes.new)) }

@@ -1,4 +1,4 @@
-use Rattle.std.proofs.Common.{[], ◌++◌, take, sym, IfOk}
+use Rattle.std.proofs.Common.{[], ◌++◌, take, sym}
 use Rattle.std.proofs.lemmas.List.{append-nil}
 use Rattle.text_io.specs.declared.slots.Slot.TheVariants.{Output}
 use Rattle.text_io.specs.Line.{StopsWithin}
@@ -13,7 +13,7 @@ pub returns-in_err-write_whole-clause-err : goal.returns-in_err-write_whole-clau
 returns-in_err-write_whole-clause-err g c =
     let w = c.in_err-write_whole.ensures.text.part in
     let stops : StopsWithin (g.D.Desk.state c.args.desk.now) (g.D.Desk.state c.write_whole.new.desk) c.args.slot (take c.args.held c.args.bytes.now ++ c.args.piece.now) =
-      record { part = w.0; front = IsPrefix-front w.0 (take c.args.held c.args.bytes.now) c.args.piece.now w.1; state = w.2 } in
+    record { part = w.0; front = IsPrefix-front w.0 (take c.args.held c.args.bytes.now) c.args.piece.now w.1; state = w.2 } in
     OnErr-always _ stops
 
 pub write_whole-requires-then-piece-bytes-2 : goal.write_whole-requires-then-piece-bytes-2
@@ -23,12 +23,12 @@ pub returns-in_err-write_whole-2-clause-err : goal.returns-in_err-write_whole-2-
 returns-in_err-write_whole-2-clause-err g c =
     let w = (goes_on _ _ _ _ _ _ _ c.in_ok-write_whole.ensures.text.whole c.in_err-write_whole-2.ensures.text).part in
     let stops : StopsWithin (g.D.Desk.state c.args.desk.now) (g.D.Desk.state c.write_whole-then-piece-bytes-2.new.desk) c.args.slot (take c.args.held c.args.bytes.now ++ c.args.piece.now) =
-      record { part = w.0; front = w.1; state = w.2 } in
+    record { part = w.0; front = w.1; state = w.2 } in
     OnErr-always _ stops
 
 pub returns-then-piece-bytes-2-clause-ok : goal.returns-then-piece-bytes-2-clause-ok
 returns-then-piece-bytes-2-clause-ok g c = record {
   written = take c.args.held c.args.bytes.now ++ c.args.piece.now;
   state = wrote_more _ _ _ _ _ _ c.in_ok-write_whole.ensures.text.whole c.in_ok-write_whole-2.ensures.text.whole;
-  joined = sym (append-nil _)
+  joined = sym (append-nil _);
 }

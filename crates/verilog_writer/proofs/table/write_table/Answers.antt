@@ -1,18 +1,15 @@
-use Rattle.text_io.proofs.Wrote.{goes_on, stops}
-use Rattle.verilog_writer.specs.Primitive.{table_text}
+use Rattle.text_io.specs.declared.slots.Slot.TheVariants.{Output}
+use Rattle.text_io.proofs.LineLaws.{gathered_bound, put_fails, flushes}
 use Rattle.verilog_writer.proofs.table.write_table.Goals as goal
 
-pub returns-in_err-write_whole-clause-text : goal.returns-in_err-write_whole-clause-text
-unfolding table_text
-returns-in_err-write_whole-clause-text g c =
-    stops _ _ _ _ _ _ _ c.in_err-write_whole.ensures.text c.from_residual.ensures.0
+pub returns-in_err-put_table-clause-text : goal.returns-in_err-put_table-clause-text
+returns-in_err-put_table-clause-text g c =
+    let fails = rw c.new-line.ensures at c.in_err-put_table.ensures.text in
+    put_fails _ _ _ _ _ _ _ fails c.from_residual.ensures.0
 
-pub returns-in_err-write_rows-clause-text : goal.returns-in_err-write_rows-clause-text
-unfolding table_text
-returns-in_err-write_rows-clause-text g c =
-    goes_on _ _ _ _ _ _ _ c.in_ok-write_whole.ensures.text.whole (stops _ _ _ _ _ _ _ (rw c.as_slice.ensures at c.in_err-write_rows.ensures.text) c.from_residual-in_err-write_rows.ensures.0)
+pub flush-requires : goal.flush-requires
+flush-requires g c = gathered_bound _ _ _ _ _ _ (Output c.args.slot) c.in_ok-put_table.ensures.text.whole c.requires
 
 pub returns-clause-text : goal.returns-clause-text
-unfolding table_text
 returns-clause-text g c =
-    goes_on _ _ _ _ _ _ _ c.in_ok-write_whole.ensures.text.whole (goes_on _ _ _ _ _ _ _ (rw c.as_slice.ensures at c.in_ok-write_rows.ensures.text.whole) (c.write_whole-2.ensures.text))
+    flushes _ _ _ _ _ _ _ (rw c.new-line.ensures at c.in_ok-put_table.ensures.text.whole) c.flush.ensures.text

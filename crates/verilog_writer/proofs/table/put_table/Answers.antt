@@ -1,0 +1,25 @@
+use Rattle.text_io.specs.declared.slots.Slot.TheVariants.{Output}
+use Rattle.text_io.proofs.LineLaws.{gathered_bound, puts_on, put_stops}
+use Rattle.verilog_writer.specs.Primitive.{table_text}
+use Rattle.verilog_writer.proofs.table.put_table.Goals as goal
+
+pub returns-in_err-put-clause-text : goal.returns-in_err-put-clause-text
+unfolding table_text
+returns-in_err-put-clause-text g c =
+    put_stops _ _ _ _ _ _ _ _ _ _ c.in_err-put.ensures.text c.from_residual.ensures.0
+
+pub put_rows-requires : goal.put_rows-requires
+put_rows-requires g c = gathered_bound _ _ _ _ _ _ (Output c.args.slot) c.in_ok-put.ensures.text.whole c.requires
+
+pub returns-in_err-put_rows-clause-text : goal.returns-in_err-put_rows-clause-text
+unfolding table_text
+returns-in_err-put_rows-clause-text g c =
+    puts_on _ _ _ _ _ _ _ _ _ _ c.in_ok-put.ensures.text.whole (put_stops _ _ _ _ _ _ _ _ _ _ (rw c.as_slice.ensures at c.in_err-put_rows.ensures.text) c.from_residual-in_err-put_rows.ensures.0)
+
+pub put-requires-2 : goal.put-requires-2
+put-requires-2 g c = gathered_bound _ _ _ _ _ _ (Output c.args.slot) c.in_ok-put_rows.ensures.text.whole (gathered_bound _ _ _ _ _ _ (Output c.args.slot) c.in_ok-put.ensures.text.whole c.requires)
+
+pub returns-clause-text : goal.returns-clause-text
+unfolding table_text
+returns-clause-text g c =
+    puts_on _ _ _ _ _ _ _ _ _ _ c.in_ok-put.ensures.text.whole (puts_on _ _ _ _ _ _ _ _ _ _ (rw c.as_slice.ensures at c.in_ok-put_rows.ensures.text.whole) (c.put-2.ensures.text))

@@ -1,0 +1,11 @@
+use Rattle.std.proofs.Common.{◌∙◌, ap}
+use Rattle.timing_arcs.specs.Timing.{lesser}
+use Rattle.cell_reader.specs.Scans.{bank_in}
+use Rattle.cell_reader.proofs.LeastLemmas.{least_turn}
+use Rattle.cell_reader.proofs.scans.banks.Goals as goal
+
+pub loop-group-preserved : goal.loop-group-preserved
+loop-group-preserved c =
+    least_turn (λ group. group.now) bank_in c.args.groups.now c.loop-group.group-index c.group-item.result c.loop-group.found c.lesser-found.result
+    c.loop-group-test.true c.group-item.is (c.lesser-found.ensures ∙ ap (lesser c.loop-group.found) c.bank_in.ensures)
+    ∙ c.loop-group.invariant

@@ -1,0 +1,9 @@
+use Rattle.std.proofs.Common.{◌≡◌, map, drop}
+use Rattle.timing_arcs.specs.Timing.{lesser, least}
+use Rattle.timing_arcs.specs.Attributes.{Attribute, attributes_named}
+use Rattle.cell_reader.specs.Groups.{offsets_of}
+use Rattle.cell_reader.proofs.scans.first_offset.Given as goal
+
+-- the least so far, with that of the other statements, is the least of all
+abbrev pub invariant-loop-item : goal.invariant-loop-item
+invariant-loop-item l = lesser l.found (least (map (λ (attribute : Attribute). attribute.at) (attributes_named l.name (drop l.item-index l.group.items)))) ≡ least (offsets_of l.name l.group)

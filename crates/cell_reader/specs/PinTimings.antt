@@ -1,0 +1,98 @@
+-- The timing of the pins of a cell (Liberty Reference Manual, `timing` group).
+use Rattle.std.specs.Prelude.{ℕ, ◌+◌, List, [], ◌∷◌, ◌++◌, map, codes, slice_get, Option, Some, None, Result, Ok, Err}
+use Rattle.std.specs.Option.{option_map_or}
+use Rattle.liberty_groups.specs.declared.tree.Item.{Item, out-Item}
+use Rattle.liberty_groups.specs.declared.tree.Group.{Group}
+use Rattle.cell_machine.specs.declared.checks.Check.{Check}
+use Rattle.cell_machine.specs.declared.arcs.Arc.{Arc}
+use Rattle.timing_arcs.specs.declared.fault.TimingFault.{TimingFault}
+use Rattle.timing_arcs.specs.declared.fault.TimingFault.TheVariants as fault
+use Rattle.timing_arcs.specs.declared.subject.Subject.{Subject}
+use Rattle.timing_arcs.specs.declared.subject.PinTiming.{PinTiming}
+use Rattle.timing_arcs.specs.Attributes.{Attribute, attribute_of, group_named}
+use Rattle.timing_arcs.specs.Timing.{reading_answer}
+use Rattle.cell_reader.specs.declared.left_out.LeftOut.{LeftOut}
+
+-- the pin with this number, in the same cell
+abbrev pub subject_at : Subject → ℕ → Subject
+subject_at cell pin = record cell { place = pin }
+
+-- What reading the timing of a pin answers.
+abbrev pub Answer : Type 0
+Answer = Result PinTiming TimingFault
+
+-- For each pin, whose groups these are, what reading its timing answers, where the first has this number.
+abbrev pub answers_from : Subject → ℕ → List Group → List Answer
+answers_from cell pin [] = []
+answers_from cell pin (owner ∷ owners) = reading_answer (subject_at cell pin) owner ∷ answers_from cell (pin + 1) owners
+
+-- The offset at which a pin's timing is wrong, by what is wrong first.
+abbrev pub malformed_timing : Answer → List ℕ
+malformed_timing (Ok timing) = []
+malformed_timing (Err (fault.Malformed at)) = at ∷ []
+malformed_timing (Err (fault.UnknownName at)) = []
+malformed_timing (Err (fault.OwnCondition at)) = []
+malformed_timing (Err (fault.Number at)) = []
+malformed_timing (Err fault.Memory) = []
+
+abbrev pub unknown_timing : Answer → List ℕ
+unknown_timing (Ok timing) = []
+unknown_timing (Err (fault.Malformed at)) = []
+unknown_timing (Err (fault.UnknownName at)) = at ∷ []
+unknown_timing (Err (fault.OwnCondition at)) = []
+unknown_timing (Err (fault.Number at)) = []
+unknown_timing (Err fault.Memory) = []
+
+abbrev pub own_timing : Answer → List ℕ
+own_timing (Ok timing) = []
+own_timing (Err (fault.Malformed at)) = []
+own_timing (Err (fault.UnknownName at)) = []
+own_timing (Err (fault.OwnCondition at)) = at ∷ []
+own_timing (Err (fault.Number at)) = []
+own_timing (Err fault.Memory) = []
+
+abbrev pub number_timing : Answer → List ℕ
+number_timing (Ok timing) = []
+number_timing (Err (fault.Malformed at)) = []
+number_timing (Err (fault.UnknownName at)) = []
+number_timing (Err (fault.OwnCondition at)) = []
+number_timing (Err (fault.Number at)) = at ∷ []
+number_timing (Err fault.Memory) = []
+
+abbrev pub checks_in : Answer → List Check
+checks_in (Ok timing) = timing.checks
+checks_in (Err e) = []
+
+abbrev pub arcs_in : Answer → List Arc
+arcs_in (Ok timing) = timing.arcs
+arcs_in (Err e) = []
+
+abbrev pub check_at_in : Answer → List ℕ
+check_at_in (Ok timing) = timing.check_at
+check_at_in (Err e) = []
+
+abbrev pub arc_at_in : Answer → List ℕ
+arc_at_in (Ok timing) = timing.arc_at
+arc_at_in (Err e) = []
+
+abbrev pub wide_in : Answer → List ℕ
+wide_in (Ok timing) = option_map_or (λ at. at ∷ []) timing.wide []
+wide_in (Err e) = []
+
+-- The type of the timing group that a statement is; one without `timing_type` is combinational.
+abbrev pub type_text : Option Group → List ℕ
+type_text None = codes "combinational"
+type_text (Some group) = option_map_or (λ (a : Attribute). a.text) (attribute_of group (codes "timing_type")) (codes "combinational")
+
+abbrev pub type_at : List Item → ℕ → List ℕ
+type_at items place = option_map_or (λ item. type_text (group_named (codes "timing") (out-Item item))) (slice_get items place) []
+
+-- The timing groups of a pin that are left out, by their places among its statements.
+abbrev pub left_out_in : ℕ → Group → Answer → List LeftOut
+left_out_in pin owner (Ok timing) = map (λ place. record { pin = pin; kind = type_at owner.items place }) timing.left_out
+left_out_in pin owner (Err e) = []
+
+abbrev pub left_out_from : ℕ → List Group → List Answer → List LeftOut
+left_out_from pin [] answers = []
+left_out_from pin (owner ∷ owners) [] = []
+left_out_from pin (owner ∷ owners) (answer ∷ answers) = left_out_in pin owner answer ++ left_out_from (pin + 1) owners answers

@@ -1,0 +1,155 @@
+-- Why a cell is refused: fourteen reasons, of each the offsets at which it is met (this project's rules).
+use Rattle.std.specs.Prelude.{ℕ, List, [], ◌∷◌, ◌++◌, length, map, flat_map, Option, Some, None}
+use Rattle.timing_arcs.specs.declared.subject.Subject.{Subject}
+use Rattle.liberty_groups.specs.declared.tree.Group.{Group}
+use Rattle.cell_machine.specs.declared.groups.StateGroup.{StateGroup}
+use Rattle.cell_machine.specs.declared.outputs.OutputPin.{OutputPin}
+use Rattle.cell_machine.specs.declared.checks.Check.{Check}
+use Rattle.cell_machine.specs.declared.arcs.Arc.{Arc}
+use Rattle.timing_arcs.specs.Timing.{least}
+use Rattle.cell_reader.specs.declared.refusal.Reason.{Reason}
+use Rattle.cell_reader.specs.declared.refusal.Reason.TheVariants as reason
+use Rattle.cell_reader.specs.declared.refusal.Refusal.{Refusal}
+use Rattle.cell_reader.specs.declared.left_out.LeftOut.{LeftOut}
+use Rattle.cell_reader.specs.declared.texts.Text.{Text}
+use Rattle.cell_reader.specs.declared.state_readings.StateReading.{StateReading}
+use Rattle.cell_reader.specs.Groups.{pin_groups, state_groups}
+use Rattle.cell_reader.specs.Pins.{pins_of, owners_of}
+use Rattle.cell_reader.specs.States.{states_of}
+use Rattle.cell_reader.specs.Scans.{directions, three_states, banks, left_out_states, clear_presets, no_functions}
+use Rattle.cell_reader.specs.Declarations.{duplicates, bad_names}
+use Rattle.cell_reader.specs.Vocabulary.{vocabulary}
+use Rattle.cell_reader.specs.Texts.{malformed_at, unknown_at}
+use Rattle.cell_reader.specs.StateReadings.{state_reading}
+use Rattle.cell_reader.specs.Outputs.{pin_text}
+use Rattle.cell_reader.specs.TextFaults.{malformed_in, unknown_in, coupled_in}
+use Rattle.cell_reader.specs.PinTimings.{Answer, answers_from, malformed_timing, unknown_timing, own_timing, number_timing, checks_in, arcs_in, check_at_in, arc_at_in, wide_in, left_out_from}
+use Rattle.cell_reader.specs.Building.{cell_numbers, groups_from, outputs_from}
+use Rattle.cell_reader.specs.Limits.{first_past, place_of_group, state_at, no_support_in, wide_support_in, wide_output}
+
+-- The parts of a cell's group that its meaning is read from.
+
+-- what the groups that hold states say
+abbrev pub readings_of : Group → List StateReading
+readings_of cell = map (state_reading (vocabulary cell) (length (pins_of cell))) (state_groups cell)
+
+-- the texts of the pin groups
+abbrev pub texts_of : Group → List Text
+texts_of cell = map (pin_text (vocabulary cell)) (pin_groups cell)
+
+-- What reading the timing of each pin answers, where `pins` are the cell's pins with the time unit of the library.
+abbrev pub timing_answers : Subject → Group → List Answer
+timing_answers pins cell = answers_from pins 0 (owners_of cell)
+
+-- The numbers in the cell of the names that its texts name.
+abbrev pub numbers_of : Group → List ℕ
+numbers_of cell = cell_numbers (states_of cell) (length (pins_of cell)) (vocabulary cell)
+
+abbrev pub groups_of : Group → List StateGroup
+groups_of cell = groups_from (numbers_of cell) (state_groups cell) (readings_of cell)
+
+abbrev pub outputs_of : Group → List OutputPin
+outputs_of cell =
+    outputs_from (vocabulary cell) (length (pins_of cell)) (groups_of cell) (numbers_of cell) 0 (owners_of cell)
+
+-- The checks and the arcs of a cell stand in the order of its pins.
+abbrev pub checks_of : Subject → Group → List Check
+checks_of pins cell = flat_map checks_in (timing_answers pins cell)
+
+abbrev pub arcs_of : Subject → Group → List Arc
+arcs_of pins cell = flat_map arcs_in (timing_answers pins cell)
+
+abbrev pub left_out_of : Subject → Group → List LeftOut
+left_out_of pins cell = left_out_from 0 (owners_of cell) (timing_answers pins cell)
+
+-- A function text does not read or has more than 4,096 bytes, a table does not read, a needed attribute is absent, or
+-- a group's arguments are not two names.
+abbrev pub malformed : Subject → Group → List ℕ
+malformed pins cell =
+    flat_map malformed_in (readings_of cell)
+    ++ (flat_map malformed_at (texts_of cell) ++ flat_map malformed_timing (timing_answers pins cell))
+
+-- A text names nothing of the allowed kind.
+abbrev pub unknown_names : Subject → Group → List ℕ
+unknown_names pins cell =
+    flat_map unknown_in (readings_of cell)
+    ++ (flat_map unknown_at (texts_of cell) ++ flat_map unknown_timing (timing_answers pins cell))
+
+-- A state text makes one state hang on another.
+abbrev pub coupled : Group → List ℕ
+coupled cell = flat_map coupled_in (readings_of cell)
+
+-- A check's condition names a pin of its events, or an arc's condition the pin where it starts.
+abbrev pub own_conditions : Subject → Group → List ℕ
+own_conditions pins cell = flat_map own_timing (timing_answers pins cell)
+
+-- A time is no number within the limits, or the time unit is unknown and a time is used.
+abbrev pub numbers : Subject → Group → List ℕ
+numbers pins cell = flat_map number_timing (timing_answers pins cell)
+
+-- A count or a name is over its limit, a name is empty or has a byte that may not stand in it, or the support of a state
+-- group is empty. The limits are 64 pins, 16 states, 256 checks and 1,024 arcs.
+abbrev pub limits : Subject → Group → List ℕ
+limits pins cell =
+    bad_names cell
+    ++ (first_past 64 (map place_of_group (owners_of cell))
+    ++ (first_past 16 (flat_map state_at (state_groups cell))
+    ++ (first_past 256 (flat_map check_at_in (timing_answers pins cell))
+    ++ (first_past 1024 (flat_map arc_at_in (timing_answers pins cell))
+    ++ flat_map no_support_in (readings_of cell)))))
+
+-- A state group has more than 8 pins in its support, or an output function or condition more than 10 names.
+abbrev pub udp_inputs : Subject → Group → List ℕ
+udp_inputs pins cell =
+    flat_map wide_support_in (readings_of cell)
+    ++ (flat_map (wide_output (vocabulary cell) (length (pins_of cell)) (groups_of cell) (numbers_of cell)) (owners_of cell)
+    ++ flat_map wide_in (timing_answers pins cell))
+
+-- A reason, and the offsets at which it is met.
+pub record Met : Type 0 where
+  pub reason : Reason
+  pub offsets : List ℕ
+
+abbrev pub met : Reason → List ℕ → Met
+met r offsets = record { reason = r; offsets = offsets }
+
+-- The reasons that are tried before any text is read, each with the offsets at which the cell meets it.
+abbrev pub early_reasons : List (List ℕ) → Group → List Met
+early_reasons earlier cell =
+    met reason.Direction (directions cell)
+    ∷ met reason.ThreeState (three_states cell)
+    ∷ met reason.Bank (banks cell)
+    ∷ met reason.LeftOutState (left_out_states cell)
+    ∷ met reason.ClearPreset (clear_presets cell)
+    ∷ met reason.Duplicate (duplicates earlier cell)
+    ∷ []
+
+-- the reasons that are tried after them
+abbrev pub later_reasons : Subject → Group → List Met
+later_reasons pins cell =
+    met reason.Malformed (malformed pins cell)
+    ∷ met reason.UnknownName (unknown_names pins cell)
+    ∷ met reason.Coupled (coupled cell)
+    ∷ met reason.NoFunction (no_functions cell)
+    ∷ met reason.OwnCondition (own_conditions pins cell)
+    ∷ met reason.Number (numbers pins cell)
+    ∷ met reason.Limit (limits pins cell)
+    ∷ met reason.UdpInputs (udp_inputs pins cell)
+    ∷ []
+
+-- All fourteen reasons in their order.
+abbrev pub reasons_of : Subject → List (List ℕ) → Group → List Met
+reasons_of pins earlier cell = early_reasons earlier cell ++ later_reasons pins cell
+
+-- The first reason that is met decides, at the least of its offsets.
+abbrev pub refused_or : Reason → Option ℕ → Option Refusal → Option Refusal
+refused_or r None later = later
+refused_or r (Some at) later = Some (record { reason = r; at = at })
+
+abbrev pub first_refusal : List Met → Option Refusal
+first_refusal [] = None
+first_refusal (m ∷ ms) = refused_or m.reason (least m.offsets) (first_refusal ms)
+
+-- Why a cell is refused, where it is.
+abbrev pub refusal_of : Subject → List (List ℕ) → Group → Option Refusal
+refusal_of pins earlier cell = first_refusal (reasons_of pins earlier cell)

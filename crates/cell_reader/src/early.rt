@@ -1,0 +1,77 @@
+//! The refusals that are tried before any text is read.
+ghost use Rattle.std.specs.Prelude.{◌≡◌, IfOk, map};
+ghost use Rattle.timing_arcs.specs.Timing.{least};
+ghost use Rattle.cell_reader.specs.Groups.{inner_groups, pin_groups, state_groups};
+ghost use Rattle.cell_reader.specs.Scans.{left_out_states as left_out_states_of};
+ghost use Rattle.cell_reader.specs.Declarations.{duplicates as duplicates_of};
+ghost use Rattle.cell_reader.specs.Refusals.{first_refusal, early_reasons, refused_or as refused_or_of};
+
+use crate::declarations::{declared_of, first_clash};
+use crate::fault::Memory;
+use crate::least::lesser;
+use crate::limits::known_cell;
+use crate::refusal::{Reason, Refusal};
+use crate::scans::{banks, clear_presets, directions, left_out_states, three_states};
+use bool_functions::Names;
+use liberty_groups::Group;
+use std::alloc::Global;
+
+/// Where a name is declared twice, or an earlier cell has the name of this one.
+#[tactic(auto, using(crate::proofs::LeastLemmas::least_append))]
+fn duplicates(
+    alloc: Global,
+    earlier: &Names,
+    cell: &Group,
+    groups: &[&Group],
+) -> Result<Option<usize>, Memory>
+    requires { map (λ group. group.now) groups.now ≡ inner_groups cell.now.items }
+    ensures { IfOk result (λ at. at ≡ least (duplicates_of earlier.now cell.now)) }
+{
+    let declared = declared_of(alloc, groups)?;
+    let clash = first_clash(&declared);
+    Ok(lesser(known_cell(earlier, cell), clash))
+}
+
+/// Where a pin or a state has an attribute whose states are left out.
+#[tactic(auto, using(crate::proofs::LeastLemmas::least_append))]
+fn left_out(cell: &Group, pins: &[&Group], states: &[&Group]) -> Option<usize>
+    requires pins { map (λ group. group.now) pins.now ≡ pin_groups cell.now }
+    requires states { map (λ group. group.now) states.now ≡ state_groups cell.now }
+    ensures { result ≡ least (left_out_states_of cell.now) }
+{
+    let _at = cell.at;
+    lesser(left_out_states(pins), left_out_states(states))
+}
+
+/// This reason where it is met, else what comes later.
+fn refused_or(reason: Reason, at: Option<usize>, later: Option<Refusal>) -> Option<Refusal>
+    ensures { result ≡ refused_or_of reason at later }
+{
+    match at {
+        None => later,
+        Some(at) => Some(Refusal { reason, at }),
+    }
+}
+
+/// The first of the reasons that are tried before any text is read.
+pub(crate) fn early_refusal(
+    alloc: Global,
+    earlier: &Names,
+    cell: &Group,
+    groups: &[&Group],
+    pins: &[&Group],
+    states: &[&Group],
+) -> Result<Option<Refusal>, Memory>
+    requires groups { map (λ group. group.now) groups.now ≡ inner_groups cell.now.items }
+    requires pins { map (λ group. group.now) pins.now ≡ pin_groups cell.now }
+    requires states { map (λ group. group.now) states.now ≡ state_groups cell.now }
+    ensures { IfOk result (λ refusal. refusal ≡ first_refusal (early_reasons earlier.now cell.now)) }
+{
+    let duplicate = duplicates(alloc, earlier, cell, groups)?;
+    let later = refused_or(Reason::Duplicate, duplicate, None);
+    let later = refused_or(Reason::ClearPreset, clear_presets(states), later);
+    let later = refused_or(Reason::LeftOutState, left_out(cell, pins, states), later);
+    let later = refused_or(Reason::Bank, banks(groups), later);
+    let later = refused_or(Reason::ThreeState, three_states(pins), later);
+    Ok(refused_or(Reason::Direction, directions(pins), later))
+}

@@ -1,0 +1,121 @@
+//! The limits of a cell. Each answers the least offset at which one is passed.
+ghost use Rattle.std.specs.Prelude.{◌≡◌, ◌++◌, OnOk, IfOk, map, flat_map};
+ghost use Rattle.timing_arcs.specs.Timing.{least};
+ghost use Rattle.cell_reader.specs.Declarations.{bad_cell_name as bad_cell_name_of, known_cell as known_cell_of};
+ghost use Rattle.cell_reader.specs.Limits.{first_past as first_past_of, place_of_state as place_of_state_in, state_at, no_support_in as no_support_in_of, wide_support_in as wide_support_in_of};
+ghost use Rattle.cell_reader.specs.Shown.{shown_state};
+
+use crate::declarations::is_name;
+use crate::groups::cell_name;
+use crate::least::lesser;
+use crate::state_readings::StateReading;
+use crate::states::{StateName, states_in};
+use bool_functions::Names;
+use liberty_groups::Group;
+use std::alloc::{AllocError, Global};
+
+/// The offset of the first that passes a limit of so many, where these are the offsets of all.
+pub(crate) fn first_past(limit: usize, offsets: &[usize]) -> Option<usize>
+    ensures { result ≡ least (first_past_of limit offsets.now) }
+{
+    match offsets.get(limit) {
+        None => None,
+        Some(at) => Some(*at),
+    }
+}
+
+/// Where the name of a cell is none.
+pub(crate) fn bad_cell_name(cell: &Group) -> Option<usize>
+    ensures { result ≡ least (bad_cell_name_of cell.now) }
+{
+    if is_name(cell_name(cell)) {
+        None
+    } else {
+        Some(cell.at)
+    }
+}
+
+/// Where an earlier cell of the library has the name of a cell.
+pub(crate) fn known_cell(earlier: &Names, cell: &Group) -> Option<usize>
+    ensures { result ≡ least (known_cell_of earlier.now cell.now) }
+{
+    match earlier.number(cell_name(cell)) {
+        None => None,
+        Some(_) => Some(cell.at),
+    }
+}
+
+/// The offset of the group of a state.
+fn place_of_state(group: &Group, _state: StateName<'_>) -> usize
+    ensures { result ≡ place_of_state_in group.now (shown_state _state.entry) }
+{
+    group.at
+}
+
+/// Adds the offset of a group for each of its states.
+fn add_states(alloc: Global, offsets: &mut Vec<usize>, group: &Group) -> Result<(), AllocError>
+    ensures { OnOk result (offsets.new.items ≡ offsets.old.items ++ state_at group.now) }
+{
+    let states = states_in(alloc, group)?;
+    for state in &states {
+        offsets.push(place_of_state(group, *state))?;
+    }
+    Ok(())
+}
+
+/// For each state the offset of its group.
+pub(crate) fn state_offsets(alloc: Global, groups: &[&Group]) -> Result<Vec<usize>, AllocError>
+    ensures { IfOk result (λ offsets. offsets.items ≡ flat_map state_at (map (λ group. group.now) groups.now)) }
+{
+    let mut offsets = Vec::new(alloc);
+    for group in groups {
+        add_states(alloc, &mut offsets, group)?;
+    }
+    Ok(offsets)
+}
+
+/// Where a group holds a state and names no input pin.
+#[tactic(auto, unfolding(crate::specs::Limits::no_support_in))]
+fn no_support_in(reading: &StateReading) -> Option<usize>
+    ensures { result ≡ least (no_support_in_of reading.now) }
+{
+    if reading.holds && reading.support.len() == 0 {
+        Some(reading.at)
+    } else {
+        None
+    }
+}
+
+/// Where a state names no input pin.
+pub(crate) fn no_supports(readings: &[StateReading]) -> Option<usize>
+    ensures { result ≡ least (flat_map no_support_in_of readings.now) }
+{
+    let mut found = None;
+    for reading in readings {
+        found = lesser(found, no_support_in(reading));
+    }
+    found
+}
+
+/// Where a group holds a state and names more than 8 input pins.
+#[tactic(auto, unfolding(crate::specs::Limits::wide_support_in))]
+fn wide_support_in(reading: &StateReading) -> Option<usize>
+    ensures { result ≡ least (wide_support_in_of reading.now) }
+{
+    if reading.holds && 8 < reading.support.len() {
+        Some(reading.at)
+    } else {
+        None
+    }
+}
+
+/// Where a state names more than 8 input pins.
+pub(crate) fn wide_supports(readings: &[StateReading]) -> Option<usize>
+    ensures { result ≡ least (flat_map wide_support_in_of readings.now) }
+{
+    let mut found = None;
+    for reading in readings {
+        found = lesser(found, wide_support_in(reading));
+    }
+    found
+}

@@ -1,0 +1,201 @@
+//! The refusals that are seen without the names of a cell. Each answers the least offset at which it is met.
+ghost use Rattle.std.specs.Prelude.{◌≡◌, ◌++◌, map, flat_map};
+ghost use Rattle.timing_arcs.specs.Timing.{least};
+ghost use Rattle.cell_reader.specs.Groups.{offsets_of};
+ghost use Rattle.cell_reader.specs.Scans.{direction_in as direction_in_of, three_state_in as three_state_in_of, bank_in as bank_in_of, left_out_in as left_out_in_of, first_both_in as first_both_in_of, second_both_in as second_both_in_of, is_missing as is_missing_of, clear_preset_in as clear_preset_in_of, no_function_in as no_function_in_of};
+
+use crate::groups::{is_bank, is_called};
+use crate::least::lesser;
+use crate::pins::{direction_named, direction_of};
+use crate::states::both_named;
+use cell_machine::{Both, Direction};
+use liberty_groups::Group;
+use timing_arcs::{last_attribute, simple_attribute};
+
+/// The least offset of the simple attributes of this name in a group.
+#[tactic(auto, using(crate::proofs::LeastLemmas::lesser_assoc, crate::proofs::LeastLemmas::lesser_none))]
+fn first_offset(group: &Group, name: &[u8]) -> Option<usize>
+    ensures { result ≡ least (offsets_of name.now group.now) }
+{
+    let mut found = None;
+    for item in group.items.as_slice() {
+        if let Some(attribute) = simple_attribute(item, name) {
+            found = lesser(found, Some(attribute.at));
+        }
+    }
+    found
+}
+
+/// Where the direction of a pin group is absent or none of the three.
+#[tactic(auto, unfolding(crate::specs::Scans::direction_in))]
+fn direction_in(pin: &Group) -> Option<usize>
+    ensures { result ≡ least (direction_in_of pin.now) }
+{
+    match last_attribute(pin, b"direction") {
+        None => Some(pin.at),
+        Some(attribute) => match direction_named(attribute.text) {
+            None => Some(attribute.at),
+            Some(_) => None,
+        },
+    }
+}
+
+/// Where a pin's direction is absent or none of the three.
+#[tactic(auto, using(crate::proofs::LeastLemmas::lesser_assoc, crate::proofs::LeastLemmas::lesser_none, crate::proofs::LeastLemmas::least_append))]
+pub(crate) fn directions(pins: &[&Group]) -> Option<usize>
+    ensures { result ≡ least (flat_map direction_in_of (map (λ group. group.now) pins.now)) }
+{
+    let mut found = None;
+    for pin in pins {
+        found = lesser(found, direction_in(pin));
+    }
+    found
+}
+
+/// Where the pins of a group have `three_state`.
+#[tactic(auto, unfolding(crate::specs::Scans::three_state_in))]
+fn three_state_in(pin: &Group) -> Option<usize>
+    ensures { result ≡ least (three_state_in_of pin.now) }
+{
+    first_offset(pin, b"three_state")
+}
+
+/// Where a pin has `three_state`.
+#[tactic(auto, using(crate::proofs::LeastLemmas::lesser_assoc, crate::proofs::LeastLemmas::lesser_none, crate::proofs::LeastLemmas::least_append))]
+pub(crate) fn three_states(pins: &[&Group]) -> Option<usize>
+    ensures { result ≡ least (flat_map three_state_in_of (map (λ group. group.now) pins.now)) }
+{
+    let mut found = None;
+    for pin in pins {
+        found = lesser(found, three_state_in(pin));
+    }
+    found
+}
+
+/// Where a group stands for several pins or states at once.
+#[tactic(auto, unfolding(crate::specs::Scans::bank_in))]
+fn bank_in(group: &Group) -> Option<usize>
+    ensures { result ≡ least (bank_in_of group.now) }
+{
+    if is_bank(group) { Some(group.at) } else { None }
+}
+
+/// Where a group of the cell stands for several pins or states at once.
+#[tactic(auto, using(crate::proofs::LeastLemmas::lesser_assoc, crate::proofs::LeastLemmas::lesser_none, crate::proofs::LeastLemmas::least_append))]
+pub(crate) fn banks(groups: &[&Group]) -> Option<usize>
+    ensures { result ≡ least (flat_map bank_in_of (map (λ group. group.now) groups.now)) }
+{
+    let mut found = None;
+    for group in groups {
+        found = lesser(found, bank_in(group));
+    }
+    found
+}
+
+/// Where a group has an attribute whose states are left out.
+#[tactic(auto, unfolding(crate::specs::Scans::left_out_in), using(crate::proofs::LeastLemmas::least_append))]
+fn left_out_in(group: &Group) -> Option<usize>
+    ensures { result ≡ least (left_out_in_of group.now) }
+{
+    let clocked = first_offset(group, b"clocked_on_also");
+    let enable = first_offset(group, b"enable_also");
+    lesser(clocked, lesser(enable, first_offset(group, b"input_map")))
+}
+
+/// Where a state group or pin has an attribute whose states are left out.
+#[tactic(auto, using(crate::proofs::LeastLemmas::lesser_assoc, crate::proofs::LeastLemmas::lesser_none, crate::proofs::LeastLemmas::least_append))]
+pub(crate) fn left_out_states(groups: &[&Group]) -> Option<usize>
+    ensures { result ≡ least (flat_map left_out_in_of (map (λ group. group.now) groups.now)) }
+{
+    let mut found = None;
+    for group in groups {
+        found = lesser(found, left_out_in(group));
+    }
+    found
+}
+
+/// Where `clear_preset_var1` has a value that it may not have.
+#[tactic(auto, unfolding(crate::specs::Scans::first_both_in))]
+fn first_both_in(group: &Group) -> Option<usize>
+    ensures { result ≡ least (first_both_in_of group.now) }
+{
+    match last_attribute(group, b"clear_preset_var1") {
+        None => None,
+        Some(attribute) => match both_named(attribute.text) {
+            None => Some(attribute.at),
+            Some(_) => None,
+        },
+    }
+}
+
+/// Where `clear_preset_var2` has a value that it may not have.
+#[tactic(auto, unfolding(crate::specs::Scans::second_both_in))]
+fn second_both_in(group: &Group) -> Option<usize>
+    ensures { result ≡ least (second_both_in_of group.now) }
+{
+    match last_attribute(group, b"clear_preset_var2") {
+        None => None,
+        Some(attribute) => match both_named(attribute.text) {
+            None | Some(Both::Keep) => Some(attribute.at),
+            Some(_) => None,
+        },
+    }
+}
+
+/// Where a `clear_preset` attribute has a value that it may not have.
+#[tactic(auto, unfolding(crate::specs::Scans::clear_preset_in), using(crate::proofs::LeastLemmas::least_append))]
+fn clear_preset_in(group: &Group) -> Option<usize>
+    ensures { result ≡ least (clear_preset_in_of group.now) }
+{
+    if is_called(group, b"statetable") {
+        return None;
+    }
+    lesser(first_both_in(group), second_both_in(group))
+}
+
+/// Where a `clear_preset` attribute of a state group has a value that it may not have.
+#[tactic(auto, using(crate::proofs::LeastLemmas::lesser_assoc, crate::proofs::LeastLemmas::lesser_none, crate::proofs::LeastLemmas::least_append))]
+pub(crate) fn clear_presets(states: &[&Group]) -> Option<usize>
+    ensures { result ≡ least (flat_map clear_preset_in_of (map (λ group. group.now) states.now)) }
+{
+    let mut found = None;
+    for group in states {
+        found = lesser(found, clear_preset_in(group));
+    }
+    found
+}
+
+/// Whether a group has no simple attribute of this name.
+pub(crate) fn is_missing(group: &Group, name: &[u8]) -> bool
+    ensures { result ≡ is_missing_of name.now group.now }
+{
+    last_attribute(group, name).is_none()
+}
+
+/// Where the pins of a group are outputs without function.
+#[tactic(auto, unfolding(crate::specs::Scans::no_function_in))]
+fn no_function_in(pin: &Group) -> Option<usize>
+    ensures { result ≡ least (no_function_in_of pin.now) }
+{
+    if direction_of(pin) == Some(Direction::Output)
+        && is_missing(pin, b"function")
+        && is_missing(pin, b"state_function")
+        && is_missing(pin, b"internal_node")
+    {
+        Some(pin.at)
+    } else {
+        None
+    }
+}
+
+/// Where an output pin has no function.
+#[tactic(auto, using(crate::proofs::LeastLemmas::lesser_assoc, crate::proofs::LeastLemmas::lesser_none, crate::proofs::LeastLemmas::least_append))]
+pub(crate) fn no_functions(pins: &[&Group]) -> Option<usize>
+    ensures { result ≡ least (flat_map no_function_in_of (map (λ group. group.now) pins.now)) }
+{
+    let mut found = None;
+    for pin in pins {
+        found = lesser(found, no_function_in(pin));
+    }
+    found
+}

@@ -3,3 +3,4 @@ pub mod Columns
 pub mod StepLemmas
 pub mod CellFacts
 pub mod GroupSteps
+pub mod OutputFacts

@@ -20,6 +20,7 @@ use Rattle.cell_machine.specs.declared.changes.Change.{Change}
 use Rattle.cell_machine.specs.declared.cells.Cell.{Cell}
 use Rattle.bool_functions.specs.Support.{support_of}
 use Rattle.cell_machine.specs.CellRules.{is_input}
+use Rattle.cell_machine.specs.Inputs.{is_input_at, input_number, pin_value, pin_values}
 use Rattle.cell_machine.specs.History.{inputs_after, value_before, is_event}
 use Rattle.cell_machine.specs.Report.{InputCheck, reports, any_true}
 use Rattle.cell_machine.specs.Machine.{Step, machine_step, without, forced}
@@ -28,23 +29,9 @@ use Rattle.cell_machine.specs.Outputs.{output_at, condition_at, is_one, is_zero}
 use Rattle.cell_machine.specs.Delay.{Path, least_delay}
 use Rattle.cell_machine.specs.Lines.{Line, trace, Machine}
 
-abbrev pub is_input_at : Pin → Bool
-is_input_at pin = is_input pin.direction
-
 -- how many inputs a cell has
 abbrev pub inputs_of : Cell → ℕ
 inputs_of cell = count_by is_input_at cell.pins
-
--- the number of a pin among the inputs: how many inputs stand before it
-abbrev pub input_number : List Pin → ℕ → ℕ
-input_number pins p = count_by is_input_at (take p pins)
-
--- the value of an input pin, of the values of the inputs
-abbrev pub pin_value : List Pin → List Trit → ℕ → Trit
-pin_value pins v p = slice_index_or v (input_number pins p) Unknown
-
-abbrev pub pin_values : List Pin → List Trit → List ℕ → List Trit
-pin_values pins v support = map (pin_value pins v) support
 
 -- The value of a condition at values of the inputs: its resolution over the pins that it names.
 abbrev pub condition_value : List Pin → List Trit → Node → Trit

@@ -9,6 +9,7 @@ pub mod Values
 pub mod Step
 pub mod Outputs
 pub mod Delay
+pub mod Inputs
 pub mod CellTrace
 pub mod Fillings
 pub mod Supports

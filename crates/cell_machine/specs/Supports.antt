@@ -1,6 +1,10 @@
 -- What the rules of a cell give for the steps of its groups.
 use Rattle.std.specs.Prelude.{ℕ, ◌+◌, ◌<◌, ◌≤◌, ⊤, List, [], ◌∷◌, length}
+use Rattle.bool_functions.specs.Tree.{name_bound}
 use Rattle.cell_machine.specs.declared.groups.StateGroup.{StateGroup}
+use Rattle.cell_machine.specs.declared.outputs.Source.{Source}
+use Rattle.cell_machine.specs.declared.outputs.Source.TheVariants as source
+use Rattle.cell_machine.specs.declared.outputs.OutputPin.{OutputPin}
 use Rattle.cell_machine.specs.Step.{KindIsBounded}
 
 -- each number of the list is above x
@@ -26,3 +30,15 @@ pub record GroupFacts (name : ℕ) (group : StateGroup) : Type 0 where
   pub inside : AllBelow 96 group.support
   pub few : length group.support ≤ 8
   pub some : 0 < length group.support
+
+-- the states among the sources are those of so many groups
+abbrev pub StatesBelow : ℕ → List Source → Type 0
+StatesBelow n [] = ⊤
+StatesBelow n (source.Pin p ∷ sources) = StatesBelow n sources
+StatesBelow n (source.State g ∷ sources) = (g < n) × StatesBelow n sources
+
+-- an output of a cell with so many groups, as its value needs it
+pub record OutputFacts (groups : ℕ) (output : OutputPin) : Type 0 where
+  pub bounded : name_bound output.function ≤ 96
+  pub states : StatesBelow groups output.support
+  pub few : length output.support ≤ 10

@@ -38,7 +38,7 @@ pub struct Cell {
 impl Cell {
     ghost use Rattle.std.specs.Prelude.{◌≡◌, ◌+◌, ◌*◌, ◌<◌, length, slice_get, Some};
     ghost use Rattle.cell_machine.specs.Names.{state_name};
-    ghost use Rattle.cell_machine.specs.Supports.{GroupFacts};
+    ghost use Rattle.cell_machine.specs.Supports.{GroupFacts, OutputFacts};
 
     /// The group with this number.
     pub(crate) fn group(&self, i: usize) -> &StateGroup
@@ -56,5 +56,14 @@ impl Cell {
         ensures small { result + 1 < 96 }
     {
         self.pins.len() + 2 * i
+    }
+
+    /// The output with this number among the outputs.
+    pub(crate) fn output_pin(&self, i: usize) -> &OutputPin
+        requires { i < length self.now.outputs }
+        ensures is { slice_get self.now.outputs i ≡ Some result.now }
+        ensures facts { OutputFacts (length self.now.groups) result.now }
+    {
+        &self.outputs.as_slice()[i]
     }
 }

@@ -1,0 +1,165 @@
+//! The values of outputs and conditions: a function is tried on each filling of what it names.
+ghost use Rattle.std.specs.Prelude.{◌≡◌, ◌+◌, ◌<◌, ◌≤◌, Bool, true, false, List, [], ◌∷◌, length, map};
+ghost use Rattle.trit_cubes.specs.Resolution.{agreed, res};
+ghost use Rattle.bool_functions.specs.Tree.{value_of, name_bound};
+ghost use Rattle.cell_machine.specs.Names.{source_name};
+ghost use Rattle.cell_machine.specs.Values.{no_values, written, IsBounded};
+ghost use Rattle.cell_machine.specs.Step.{trit_of, KindIsBounded};
+ghost use Rattle.cell_machine.specs.Outputs.{second_by, second_value, second_names, second_trits, chosen_value, condition_at, is_one, is_zero};
+ghost use Rattle.cell_machine.specs.Inputs.{pin_value, pin_values};
+ghost use Rattle.cell_machine.specs.CellTrace.{source_value, output_value};
+
+ghost use Rattle.cell_machine.specs.Supports.{StatesBelow, OutputFacts};
+
+use crate::cells::Cell;
+use crate::groups::{Both, GroupKind};
+use crate::outputs::{OutputPin, Source};
+use crate::pin_values::pin_value;
+use crate::pins::Pin;
+use crate::steps::{both_value, trit_of};
+use crate::values::Values;
+use bool_functions::Function;
+use trit_cubes::Trit;
+
+// The second variable of a group with the state `state`.
+fn second_by(clear: &Option<Function>, preset: &Option<Function>, both: Both, values: &Values, state: bool) -> Trit
+    requires clear { IsBounded clear.now }
+    requires preset { IsBounded preset.now }
+    ensures { result ≡ second_by clear.now preset.now both values.now state }
+{
+    if values.is_on(clear) && values.is_on(preset) {
+        both_value(both, state)
+    } else {
+        trit_of(!state)
+    }
+}
+
+impl GroupKind {
+    ghost use Rattle.cell_machine.specs.Outputs.{second_of};
+
+    /// The second variable at a point with the state `state`, unknown where it may have either value.
+    fn second(&self, values: &Values, state: bool) -> Trit
+        requires { KindIsBounded self.now }
+        ensures { result ≡ second_of self.now values.now state }
+    {
+        match self {
+            GroupKind::Ff(kind) => second_by(&kind.clear, &kind.preset, kind.both2, values, state),
+            GroupKind::Latch(kind) => second_by(&kind.clear, &kind.preset, kind.both2, values, state),
+            GroupKind::Table { .. } => trit_of(!state),
+        }
+    }
+}
+
+// The second variable of group g, unknown where there is no such group.
+fn second_value(cell: &Cell, values: &Values, g: usize) -> Trit
+    ensures { result ≡ second_value (length cell.now.pins) cell.now.groups values.now g }
+{
+    if g >= cell.groups.len() {
+        return Trit::Unknown;
+    }
+    let name = cell.state_name(g);
+    cell.group(g).kind.second(values, values.get(name))
+}
+
+// The value of a function for each choice of the second variables that may have either value. `values` are those of the
+// sources, `filled` those with the second variables written over.
+fn chosen_from(cell: &Cell, function: &Function, rest: &[Source], values: &Values, filled: Values) -> Trit
+    requires bounded { name_bound function.now ≤ 96 }
+    requires states { StatesBelow (length cell.now.groups) rest.now }
+    ensures { result ≡ res (λ choice. trit_of (value_of (written filled (second_names (length cell.now.pins) rest.now) choice) function.now)) (second_trits (length cell.now.pins) cell.now.groups values.now rest.now) }
+{
+    let Some((first, rest)) = rest.split_first() else {
+        return trit_of(filled.value(function));
+    };
+    let Source::State(g) = *first else {
+        return chosen_from(cell, function, rest, values, filled);
+    };
+    let name = cell.state_name(g) + 1;
+    match second_value(cell, values, g) {
+        Trit::Zero => chosen_from(cell, function, rest, values, filled.with(name, false)),
+        Trit::One => chosen_from(cell, function, rest, values, filled.with(name, true)),
+        Trit::Unknown => {
+            let zero = chosen_from(cell, function, rest, values, filled.with(name, false));
+            zero.agreed(chosen_from(cell, function, rest, values, filled.with(name, true)))
+        }
+    }
+}
+
+// The value of an output for each filling of the sources in `rest`.
+fn output_from(cell: &Cell, output: &OutputPin, inputs: &[Trit], states: &[Trit], rest: &[Source], values: Values) -> Trit
+    requires facts { OutputFacts (length cell.now.groups) output.now }
+    requires states { StatesBelow (length cell.now.groups) rest.now }
+    ensures { result ≡ res (λ p. chosen_value (length cell.now.pins) cell.now.groups output.now (written values (map (source_name (length cell.now.pins)) rest.now) p)) (map (source_value cell.now.pins inputs.now states.now) rest.now) }
+{
+    let Some((first, rest)) = rest.split_first() else {
+        return chosen_from(cell, &output.function, output.support.as_slice(), &values, values);
+    };
+    let name = source_name(cell, *first);
+    match source_value(cell.pins.as_slice(), inputs, states, *first) {
+        Trit::Zero => output_from(cell, output, inputs, states, rest, values.with(name, false)),
+        Trit::One => output_from(cell, output, inputs, states, rest, values.with(name, true)),
+        Trit::Unknown => {
+            let zero = output_from(cell, output, inputs, states, rest, values.with(name, false));
+            zero.agreed(output_from(cell, output, inputs, states, rest, values.with(name, true)))
+        }
+    }
+}
+
+// The name of a source.
+fn source_name(cell: &Cell, source: Source) -> usize
+    requires { StatesBelow (length cell.now.groups) (source ∷ []) }
+    ensures { result ≡ source_name (length cell.now.pins) source }
+{
+    match source {
+        Source::Pin(pin) => pin,
+        Source::State(g) => cell.state_name(g),
+    }
+}
+
+// The value of a source.
+fn source_value(pins: &[Pin], inputs: &[Trit], states: &[Trit], source: Source) -> Trit
+    ensures { result ≡ source_value pins.now inputs.now states.now source }
+{
+    match source {
+        Source::Pin(pin) => pin_value(pins, inputs, pin),
+        Source::State(g) => match states.get(g) {
+            Some(state) => *state,
+            None => Trit::Unknown,
+        },
+    }
+}
+
+/// The value of an output where the inputs and the states have these values.
+pub fn output_value(cell: &Cell, output: &OutputPin, inputs: &[Trit], states: &[Trit]) -> Trit
+    requires { OutputFacts (length cell.now.groups) output.now }
+    ensures { result ≡ output_value cell.now.pins cell.now.groups inputs.now states.now output.now }
+{
+    output_from(cell, output, inputs, states, output.support.as_slice(), Values::new())
+}
+
+/// The value of a condition, for each filling of the pins in `rest`.
+fn condition_from(condition: &Function, pins: &[Pin], inputs: &[Trit], rest: &[usize], values: Values) -> Trit
+    requires { name_bound condition.now ≤ 96 }
+    ensures { result ≡ res (λ p. trit_of (value_of (written values rest.now p) condition.now)) (pin_values pins.now inputs.now rest.now) }
+{
+    let Some((first, rest)) = rest.split_first() else {
+        return trit_of(values.value(condition));
+    };
+    let name = *first;
+    match pin_value(pins, inputs, name) {
+        Trit::Zero => condition_from(condition, pins, inputs, rest, values.with(name, false)),
+        Trit::One => condition_from(condition, pins, inputs, rest, values.with(name, true)),
+        Trit::Unknown => {
+            let zero = condition_from(condition, pins, inputs, rest, values.with(name, false));
+            zero.agreed(condition_from(condition, pins, inputs, rest, values.with(name, true)))
+        }
+    }
+}
+
+/// The value of a condition over the pins that it names, where the inputs have these values.
+pub fn condition_value(condition: &Function, names: &[usize], pins: &[Pin], inputs: &[Trit]) -> Trit
+    requires { name_bound condition.now ≤ 96 }
+    ensures { result ≡ res (condition_at names.now condition.now) (pin_values pins.now inputs.now names.now) }
+{
+    condition_from(condition, pins, inputs, names, Values::new())
+}

@@ -4,3 +4,4 @@ pub mod StepLemmas
 pub mod CellFacts
 pub mod GroupSteps
 pub mod OutputFacts
+pub mod TimeLemmas

@@ -3,6 +3,7 @@ pub mod CellRules
 pub mod Edges
 pub mod History
 pub mod Report
+pub mod Times
 pub mod Lines
 pub mod Machine
 pub mod Values

@@ -1,0 +1,67 @@
+//! The times of an input's last events, from which the reports of all checks follow.
+ghost use Rattle.std.specs.Prelude.{◌≡◌, ◌<◌, List, map, length, slice_set, slice_index_or};
+ghost use Rattle.cell_machine.specs.Report.{is_within};
+ghost use Rattle.cell_machine.specs.Times.{no_times, time_of_edge, stamped};
+
+use crate::checks::Edge;
+use crate::edges::{is_fall, is_rise};
+use trit_cubes::Trit;
+
+/// The times of an input's last change, of its last possible rise and of its last possible fall, in picoseconds.
+#[derive(Clone, Copy)]
+pub struct Times {
+    /// Of the last change to another value.
+    pub last: Option<u64>,
+    /// Of the last possible rise.
+    pub rise: Option<u64>,
+    /// Of the last possible fall.
+    pub fall: Option<u64>,
+}
+
+impl Times {
+    /// No event yet.
+    pub fn none() -> Times
+        ensures { result ≡ no_times }
+    {
+        Times {
+            last: None,
+            rise: None,
+            fall: None,
+        }
+    }
+
+    /// The time of the last event of this kind.
+    pub fn of(&self, edge: Edge) -> Option<u64>
+        ensures { result ≡ time_of_edge edge self.now }
+    {
+        match edge {
+            Edge::Any => self.last,
+            Edge::Rise => self.rise,
+            Edge::Fall => self.fall,
+        }
+    }
+
+    /// The times after a change of the input.
+    pub fn stamped(self, at: u64, from: Trit, to: Trit) -> Times
+        ensures { result ≡ stamped at from to self }
+    {
+        Times {
+            last: if from != to { Some(at) } else { self.last },
+            rise: if is_rise(from, to) { Some(at) } else { self.rise },
+            fall: if is_fall(from, to) { Some(at) } else { self.fall },
+        }
+    }
+}
+
+/// Whether an event at the time `at` came less than `limit` after `opened`.
+pub fn is_within(at: u64, limit: u64, opened: Option<u64>) -> bool
+    ensures { result ≡ is_within at limit opened }
+{
+    let Some(opened) = opened else {
+        return false;
+    };
+    match opened.checked_add(limit) {
+        Some(end) => at < end,
+        None => true,
+    }
+}

@@ -15,6 +15,7 @@ use Rattle.cell_machine.specs.CellRules.{is_input_pin, control_names, data_names
 use Rattle.cell_machine.specs.Values.{IsBounded}
 use Rattle.cell_machine.specs.Step.{KindIsBounded}
 use Rattle.cell_machine.specs.Supports.{AllBelow, GroupFacts}
+use Rattle.cell_machine.proofs.RuleLemmas.{few_pins, few_groups, groups_hold}
 use Rattle.cell_machine.proofs.StepLemmas.{ascending}
 use Rattle.bool_functions.proofs.Trees.{every_tree, names_Name, names_Not, names_Xor, names_And, names_Or, fold-Zero, fold-One, fold-Name, fold-Not, fold-Xor, fold-And, fold-Or}
 
@@ -183,12 +184,12 @@ pub groups_facts :
     → slice_get groups i ≡ Some group → GroupFacts (name + 2 * i) group
 groups_facts pins name [] i group few room h e = absurd cc
 groups_facts pins name (g ∷ groups) zero group few room h e =
-    let parts = and_parts _ _ h in
+    let parts = and_parts (is_group pins name g) (are_groups_from pins (name + 2) groups) h in
     let is : g ≡ group = cc in
     subst (λ n. GroupFacts n group) (omega arith)
     (subst (λ x. GroupFacts name x) is (group_facts pins name g few (omega arith) parts.0))
 groups_facts pins name (g ∷ groups) (suc i) group few room h e =
-    let parts = and_parts _ _ h in
+    let parts = and_parts (is_group pins name g) (are_groups_from pins (name + 2) groups) h in
     subst (λ n. GroupFacts n group) (omega arith)
     (groups_facts pins (name + 2) groups i group few (omega arith) parts.1 e)
 
@@ -197,8 +198,6 @@ pub cell_group_facts :
     (cell : Cell) (i : ℕ) (group : StateGroup)
     → slice_get cell.groups i ≡ Some group → GroupFacts (length cell.pins + 2 * i) group
 cell_group_facts cell i group e =
-    let rules = and_parts _ _ (and_parts _ _ cell.sound).1 in
-    let few : length cell.pins ≤ 64 = leb-true _ _ (and_parts _ _ rules.0).0 in
-    let groups = and_parts _ _ (and_parts _ _ rules.1).0 in
-    let some : length cell.groups ≤ 16 = leb-true _ _ groups.0 in
-    groups_facts cell.pins (length cell.pins) cell.groups i group few (omega arith) groups.1 e
+    let few : length cell.pins ≤ 64 = few_pins cell in
+    let some : length cell.groups ≤ 16 = few_groups cell in
+    groups_facts cell.pins (length cell.pins) cell.groups i group few (omega arith) (groups_hold cell) e

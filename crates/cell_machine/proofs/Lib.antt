@@ -5,3 +5,5 @@ pub mod CellFacts
 pub mod GroupSteps
 pub mod OutputFacts
 pub mod TimeLemmas
+pub mod TimingFacts
+pub mod RuleLemmas

@@ -16,10 +16,11 @@ use Rattle.cell_machine.specs.declared.cells.Cell.{Cell}
 use Rattle.cell_machine.specs.Names.{has, state_name, source_name}
 use Rattle.cell_machine.specs.CellRules.{is_input_pin, second_names, names_behind, is_source, is_output_of}
 use Rattle.cell_machine.specs.Supports.{StatesBelow, OutputFacts}
+use Rattle.cell_machine.proofs.RuleLemmas.{few_pins, few_groups, outputs_hold}
 use Rattle.cell_machine.proofs.CellFacts.{input-below, list_all-implied, has-all, name_bound-below}
 
 -- a passed test of a list is passed at each element
-all-at : {X : Type 0} (p : X → Bool) (xs : List X) (i : ℕ) (x : X) → IsTrue (list_all p xs) → slice_get xs i ≡ Some x → IsTrue (p x)
+pub all-at : {X : Type 0} (p : X → Bool) (xs : List X) (i : ℕ) (x : X) → IsTrue (list_all p xs) → slice_get xs i ≡ Some x → IsTrue (p x)
 all-at p [] i x h e = absurd cc
 all-at p (y ∷ ys) zero x h e = let is : y ≡ x = cc in subst (λ z. IsTrue (p z)) is (and_parts _ _ h).0
 all-at p (y ∷ ys) (suc i) x h e = all-at p ys i x (and_parts (p y) (list_all p ys) h).1 e
@@ -104,9 +105,5 @@ pub cell_output_facts :
     (cell : Cell) (i : ℕ) (output : OutputPin)
     → slice_get cell.outputs i ≡ Some output → OutputFacts (length cell.groups) output
 cell_output_facts cell i output e =
-    let rules = and_parts _ _ (and_parts _ _ cell.sound).1 in
-    let few : length cell.pins ≤ 64 = leb-true _ _ (and_parts _ _ rules.0).0 in
-    let more = and_parts _ _ rules.1 in
-    let some : length cell.groups ≤ 16 = leb-true _ _ (and_parts _ _ more.0).0 in
-    let outputs = and_parts _ _ (and_parts _ _ more.1).0 in
-    output_facts cell.pins cell.groups output few some (all-at (is_output_of cell.pins cell.groups) cell.outputs i output outputs.1 e)
+    output_facts cell.pins cell.groups output (few_pins cell) (few_groups cell)
+        (all-at (is_output_of cell.pins cell.groups) cell.outputs i output (outputs_hold cell) e)

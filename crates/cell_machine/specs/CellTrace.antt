@@ -38,6 +38,18 @@ abbrev pub condition_value : List Pin → List Trit → Node → Trit
 condition_value pins v f =
     res (condition_at (support_of f) f) (pin_values pins v (support_of f))
 
+-- the names of a condition, where there is one
+abbrev pub condition_names : Option Node → List ℕ
+condition_names None = []
+condition_names (Some f) = support_of f
+
+-- the names of the conditions of a cell's checks and of its arcs
+abbrev pub check_names : Cell → List (List ℕ)
+check_names cell = map (λ (k : Check). condition_names k.condition) cell.checks
+
+abbrev pub arc_names : Cell → List (List ℕ)
+arc_names cell = map (λ (arc : Arc). condition_names arc.condition) cell.arcs
+
 -- whether a check's condition is 1, or there is none
 abbrev pub condition_holds : List Pin → List Trit → Option Node → Bool
 condition_holds pins v None = true
@@ -149,17 +161,28 @@ abbrev pub is_off : List Pin → List Trit → Option Node → Bool
 is_off pins v None = true
 is_off pins v (Some f) = is_zero (condition_value pins v f)
 
+-- whether another arc leaves an arc without condition active: it has other pins, or its condition is 0
+abbrev pub is_quiet : List Pin → List Trit → Arc → Arc → Bool
+is_quiet pins v arc other = not (same_pins arc other) || is_off pins v other.condition
+
 -- Whether an arc is active: one with a condition where that is not 0; one without where the conditions of all other
 -- arcs of its two pins are 0 (IEEE 1364-2005, clause 14.2.4.3: ifnone; this project's rule for unknowns).
 abbrev pub is_active : List Pin → List Arc → List Trit → Arc → Option Node → Bool
-is_active pins arcs v arc None = list_all (λ other. not (same_pins arc other) || is_off pins v other.condition) arcs
+is_active pins arcs v arc None = list_all (is_quiet pins v arc) arcs
 is_active pins arcs v arc (Some f) = not (is_zero (condition_value pins v f))
+
+-- an arc as a path, at values of the inputs
+abbrev pub path_of : List Pin → List Arc → List Trit → Arc → Path
+path_of pins arcs v arc =
+    record { active = is_active pins arcs v arc arc.condition; rise = arc.rise; fall = arc.fall }
+
+-- whether an arc goes from an input to an output pin
+abbrev pub is_between : List Pin → ℕ → ℕ → Arc → Bool
+is_between pins input output arc = nat_eq (input_number pins arc.from) input && nat_eq arc.to output
 
 -- the arcs from an input to an output pin, as paths at values of the inputs
 abbrev pub paths_between : List Pin → List Arc → List Trit → ℕ → ℕ → List Path
-paths_between pins arcs v input output =
-    map (λ (arc : Arc). record { active = is_active pins arcs v arc arc.condition; rise = arc.rise; fall = arc.fall })
-    (filter (λ (arc : Arc). nat_eq (input_number pins arc.from) input && nat_eq arc.to output) arcs)
+paths_between pins arcs v input output = map (path_of pins arcs v) (filter (is_between pins input output) arcs)
 
 -- the delay of an output that goes from a to b at a change, where it does change; v are the inputs after
 abbrev pub delay_at : List Pin → List Arc → List Trit → Change → OutputPin → Trit → Trit → Option ℕ

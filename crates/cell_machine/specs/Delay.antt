@@ -10,21 +10,26 @@ pub record Path : Type 0 where
   pub rise : ℕ
   pub fall : ℕ
 
--- the lesser of a number and another, where there is another
-abbrev pub lesser : ℕ → Option ℕ → ℕ
-lesser x None = x
-lesser x (Some y) = min x y
+-- the lesser of two numbers, of which each may be absent
+abbrev pub lesser : Option ℕ → Option ℕ → Option ℕ
+lesser None o = o
+lesser (Some x) None = Some x
+lesser (Some x) (Some y) = Some (min x y)
 
 -- the least of these numbers, where there is one
 abbrev pub least : List ℕ → Option ℕ
 least [] = None
-least (x ∷ xs) = Some (lesser x (least xs))
+least (x ∷ xs) = lesser (Some x) (least xs)
 
 -- a path's delay of a change from a to b: its rise at a possible rise, else its fall
 abbrev pub path_delay : Trit → Trit → Path → ℕ
 path_delay a b path = (if is_rise a b then path.rise else path.fall)
 
+-- the delays of the active paths
+abbrev pub active_delays : Trit → Trit → List Path → List ℕ
+active_delays a b paths = map (path_delay a b) (filter (λ (path : Path). path.active) paths)
+
 -- The delay of an output's change from a to b: the least over the active paths, 0 where none is active. (IEEE
 -- 1364-2005, clause 14.4, and IEEE 1076.4-2000, VitalPathDelay01, as this project reads them.)
 abbrev pub least_delay : Trit → Trit → List Path → ℕ
-least_delay a b paths = unwrap_or (least (map (path_delay a b) (filter (λ (path : Path). path.active) paths))) 0
+least_delay a b paths = unwrap_or (least (active_delays a b paths)) 0

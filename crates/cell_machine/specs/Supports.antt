@@ -1,11 +1,15 @@
 -- What the rules of a cell give for the steps of its groups.
-use Rattle.std.specs.Prelude.{ℕ, ◌+◌, ◌<◌, ◌≤◌, ⊤, List, [], ◌∷◌, length}
+use Rattle.std.specs.Prelude.{ℕ, ◌+◌, ◌<◌, ◌≤◌, ⊤, List, [], ◌∷◌, length, count_by}
 use Rattle.bool_functions.specs.Tree.{name_bound}
 use Rattle.cell_machine.specs.declared.groups.StateGroup.{StateGroup}
 use Rattle.cell_machine.specs.declared.outputs.Source.{Source}
 use Rattle.cell_machine.specs.declared.outputs.Source.TheVariants as source
 use Rattle.cell_machine.specs.declared.outputs.OutputPin.{OutputPin}
+use Rattle.cell_machine.specs.Values.{IsBounded}
 use Rattle.cell_machine.specs.Step.{KindIsBounded}
+use Rattle.cell_machine.specs.declared.pins.Pin.{Pin}
+use Rattle.cell_machine.specs.declared.checks.Check.{Check}
+use Rattle.cell_machine.specs.Inputs.{is_input_at, input_number}
 
 -- each number of the list is above x
 abbrev pub AllAbove : ℕ → List ℕ → Type 0
@@ -42,3 +46,9 @@ pub record OutputFacts (groups : ℕ) (output : OutputPin) : Type 0 where
   pub bounded : name_bound output.function ≤ 96
   pub states : StatesBelow groups output.support
   pub few : length output.support ≤ 10
+
+-- a check of a cell with these pins, as its reports need it
+pub record CheckFacts (pins : List Pin) (k : Check) : Type 0 where
+  pub bounded : IsBounded k.condition
+  pub first : input_number pins k.first.pin < count_by is_input_at pins
+  pub second : input_number pins k.second.pin < count_by is_input_at pins

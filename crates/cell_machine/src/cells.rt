@@ -36,14 +36,16 @@ pub struct Cell {
 }
 
 impl Cell {
-    ghost use Rattle.std.specs.Prelude.{◌≡◌, ◌+◌, ◌*◌, ◌<◌, length, slice_get, Some};
+    ghost use Rattle.std.specs.Prelude.{◌≡◌, ◌+◌, ◌*◌, ◌<◌, length, slice_get, slice_index_or, Some};
     ghost use Rattle.cell_machine.specs.Names.{state_name};
-    ghost use Rattle.cell_machine.specs.Supports.{GroupFacts, OutputFacts};
+    ghost use Rattle.cell_machine.specs.Values.{IsBounded};
+    ghost use Rattle.cell_machine.specs.Supports.{GroupFacts, OutputFacts, CheckFacts};
 
     /// The group with this number.
     pub(crate) fn group(&self, i: usize) -> &StateGroup
         requires { i < length self.now.groups }
         ensures is { slice_get self.now.groups i ≡ Some result.now }
+        ensures at { slice_index_or self.now.groups i result.now ≡ result.now }
         ensures facts { GroupFacts (length self.now.pins + 2 * i) result.now }
     {
         &self.groups.as_slice()[i]
@@ -62,8 +64,29 @@ impl Cell {
     pub(crate) fn output_pin(&self, i: usize) -> &OutputPin
         requires { i < length self.now.outputs }
         ensures is { slice_get self.now.outputs i ≡ Some result.now }
+        ensures at { slice_index_or self.now.outputs i result.now ≡ result.now }
         ensures facts { OutputFacts (length self.now.groups) result.now }
     {
         &self.outputs.as_slice()[i]
+    }
+
+    /// The check with this number.
+    pub(crate) fn check(&self, i: usize) -> &Check
+        requires { i < length self.now.checks }
+        ensures is { slice_get self.now.checks i ≡ Some result.now }
+        ensures at { slice_index_or self.now.checks i result.now ≡ result.now }
+        ensures facts { CheckFacts self.now.pins result.now }
+    {
+        &self.checks.as_slice()[i]
+    }
+
+    /// The arc with this number.
+    pub(crate) fn arc(&self, i: usize) -> &Arc
+        requires { i < length self.now.arcs }
+        ensures is { slice_get self.now.arcs i ≡ Some result.now }
+        ensures at { slice_index_or self.now.arcs i result.now ≡ result.now }
+        ensures bounded { IsBounded result.now.condition }
+    {
+        &self.arcs.as_slice()[i]
     }
 }

@@ -2,12 +2,13 @@
 ghost use Rattle.std.specs.Prelude.{◌≡◌, ◌+◌, ◌<◌, ◌≤◌, Bool, true, false, List, [], ◌∷◌, length, map};
 ghost use Rattle.trit_cubes.specs.Resolution.{agreed, res};
 ghost use Rattle.bool_functions.specs.Tree.{value_of, name_bound};
+ghost use Rattle.bool_functions.specs.Support.{support_of};
 ghost use Rattle.cell_machine.specs.Names.{source_name};
 ghost use Rattle.cell_machine.specs.Values.{no_values, written, IsBounded};
 ghost use Rattle.cell_machine.specs.Step.{trit_of, KindIsBounded};
 ghost use Rattle.cell_machine.specs.Outputs.{second_by, second_value, second_names, second_trits, chosen_value, condition_at, is_one, is_zero};
 ghost use Rattle.cell_machine.specs.Inputs.{pin_value, pin_values};
-ghost use Rattle.cell_machine.specs.CellTrace.{source_value, output_value};
+ghost use Rattle.cell_machine.specs.CellTrace.{source_value, output_value, condition_value};
 
 ghost use Rattle.cell_machine.specs.Supports.{StatesBelow, OutputFacts};
 
@@ -156,10 +157,11 @@ fn condition_from(condition: &Function, pins: &[Pin], inputs: &[Trit], rest: &[u
     }
 }
 
-/// The value of a condition over the pins that it names, where the inputs have these values.
+/// The value of a condition where the inputs have these values. `names` are the pins that it names.
 pub fn condition_value(condition: &Function, names: &[usize], pins: &[Pin], inputs: &[Trit]) -> Trit
-    requires { name_bound condition.now ≤ 96 }
-    ensures { result ≡ res (condition_at names.now condition.now) (pin_values pins.now inputs.now names.now) }
+    requires bounded { name_bound condition.now ≤ 96 }
+    requires names { names.now ≡ support_of condition.now }
+    ensures { result ≡ condition_value pins.now inputs.now condition.now }
 {
     condition_from(condition, pins, inputs, names, Values::new())
 }

@@ -6,6 +6,7 @@ mod arcs;
 mod cells;
 mod changes;
 mod checks;
+mod delays;
 mod edges;
 mod evaluation;
 mod fillings;

@@ -1,0 +1,79 @@
+//! The delay of an output's change: the least over the active arcs.
+ghost use Rattle.std.specs.Prelude.{◌≡◌, ◌<◌, map, length, filter, slice_get, Some};
+ghost use Rattle.std.specs.List.{list_all};
+ghost use Rattle.cell_machine.specs.declared.arcs.Arc.{Arc as ArcOf};
+ghost use Rattle.cell_machine.specs.Values.{IsBounded};
+ghost use Rattle.cell_machine.specs.Delay.{lesser, least_delay, path_delay};
+ghost use Rattle.cell_machine.specs.CellTrace.{condition_names, arc_names, condition_value, is_off, is_active, is_between, path_of, paths_between, is_quiet};
+
+use crate::arcs::Arc;
+use crate::cells::Cell;
+use crate::edges::is_rise;
+use crate::evaluation::condition_value;
+use crate::pin_values::input_number;
+use crate::pins::Pin;
+use bool_functions::Function;
+use sqlite_items::Items;
+use trit_cubes::Trit;
+
+// The lesser of two numbers, of which each may be absent.
+fn lesser(left: Option<u64>, right: Option<u64>) -> Option<u64>
+    ensures { result ≡ lesser left right }
+{
+    let Some(left) = left else {
+        return right;
+    };
+    match right {
+        Some(right) => Some(left.min(right)),
+        None => Some(left),
+    }
+}
+
+// Whether there is no condition or it is 0.
+fn is_off(condition: &Option<Function>, names: &[usize], pins: &[Pin], inputs: &[Trit]) -> bool
+    requires bounded { IsBounded condition.now }
+    requires names { names.now ≡ condition_names condition.now }
+    ensures { result ≡ is_off pins.now inputs.now condition.now }
+{
+    match condition {
+        Some(condition) => condition_value(condition, names, pins, inputs) == Trit::Zero,
+        None => true,
+    }
+}
+
+// Whether another arc leaves an arc without condition active: it has other pins, or its condition is 0.
+fn is_quiet(arc: &Arc, other: &Arc, names: &[usize], pins: &[Pin], inputs: &[Trit]) -> bool
+    requires bounded { IsBounded other.now.condition }
+    requires names { names.now ≡ condition_names other.now.condition }
+    ensures { result ≡ is_quiet pins.now inputs.now arc.now other.now }
+{
+    let same_pins = arc.from == other.from && arc.to == other.to;
+    !same_pins || is_off(&other.condition, names, pins, inputs)
+}
+
+// Whether all other arcs leave an arc without condition active.
+fn all_are_quiet(cell: &Cell, names: &[Items<usize>], arc: &Arc, inputs: &[Trit]) -> bool
+    requires { names.now ≡ arc_names cell.now }
+    ensures { result ≡ list_all (is_quiet cell.now.pins inputs.now arc.now) cell.now.arcs }
+{
+    for i in 0..cell.arcs.len() {
+        let other = cell.arc(i);
+        if !is_quiet(arc, other, names[i].as_slice(), cell.pins.as_slice(), inputs) {
+            return false;
+        }
+    }
+    true
+}
+
+// Whether the arc with this number is active.
+fn is_active(cell: &Cell, names: &[Items<usize>], i: usize, inputs: &[Trit]) -> bool
+    requires names { names.now ≡ arc_names cell.now }
+    requires inside { i < length cell.now.arcs }
+    ensures { (arc : ArcOf) → slice_get cell.now.arcs i ≡ Some arc → result ≡ is_active cell.now.pins cell.now.arcs inputs.now arc arc.condition }
+{
+    let arc = cell.arc(i);
+    match &arc.condition {
+        Some(condition) => condition_value(condition, names[i].as_slice(), cell.pins.as_slice(), inputs) != Trit::Zero,
+        None => all_are_quiet(cell, names, arc, inputs),
+    }
+}

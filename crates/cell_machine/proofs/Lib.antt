@@ -7,3 +7,4 @@ pub mod OutputFacts
 pub mod TimeLemmas
 pub mod TimingFacts
 pub mod RuleLemmas
+pub mod ArcDelays

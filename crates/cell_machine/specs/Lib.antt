@@ -12,6 +12,7 @@ pub mod Outputs
 pub mod Delay
 pub mod Inputs
 pub mod CellTrace
+pub mod ArcDelay
 pub mod Fillings
 pub mod Supports
 pub mod Laws

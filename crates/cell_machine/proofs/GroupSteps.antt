@@ -1,19 +1,24 @@
 -- The steps of a cell's groups, by their numbers.
-use Rattle.std.proofs.Common.{◌≡◌, ℕ, ◌+◌, ◌*◌, List, length, refl, sym, ap, ◌∙◌, subst, Some, slice_get, []}
+use Rattle.std.proofs.Common.{None, nat_eq, zero, suc, ◌∷◌, arith, ◌≡◌, ℕ, ◌+◌, ◌*◌, List, length, get_or, ◌<◌, refl, sym, ap, ◌∙◌, subst, Some, slice_get, []}
 use Rattle.std.specs.Option.{option_map_or}
 use Rattle.trit_cubes.specs.declared.trits.Trit.{Trit}
 use Rattle.trit_cubes.specs.declared.trits.Trit.TheVariants.{Unknown}
 use Rattle.trit_cubes.specs.Resolution.{res}
 use Rattle.cell_machine.specs.declared.groups.StateGroup.{StateGroup}
 use Rattle.cell_machine.specs.declared.cells.Cell.{Cell}
+use Rattle.std.proofs.lemmas.List.{length-map}
+use Rattle.std.proofs.lemmas.List.Quantifiers.{position-Some}
+use Rattle.cell_machine.specs.declared.pins.Pin.{Pin}
+use Rattle.cell_machine.specs.declared.changes.Change.{Change}
+use Rattle.cell_machine.specs.Inputs.{input_number, pin_value, pin_values}
 use Rattle.cell_machine.specs.Names.{state_name}
-use Rattle.cell_machine.specs.Machine.{forced}
+use Rattle.cell_machine.specs.Machine.{forced, without}
 use Rattle.cell_machine.specs.Values.{no_values, written}
 use Rattle.cell_machine.specs.Step.{group_step}
-use Rattle.cell_machine.specs.Fillings.{forced_after}
-use Rattle.cell_machine.specs.Supports.{AllBelow, GroupFacts}
-use Rattle.cell_machine.specs.CellTrace.{step_at, support_at}
-use Rattle.cell_machine.proofs.StepLemmas.{forced-filled}
+use Rattle.cell_machine.specs.Fillings.{change_filled, forced_after}
+use Rattle.cell_machine.specs.Supports.{Ascending, AllBelow, GroupFacts}
+use Rattle.cell_machine.specs.CellTrace.{step_at, support_at, place_in, NamedGroup, named_from, moved_at, moved, violated}
+use Rattle.cell_machine.proofs.StepLemmas.{machine_step-filled, forced-filled}
 
 pub length-no_values : length no_values ≡ 96
 unfolding no_values
@@ -44,3 +49,54 @@ forced-at cell i group name ts e facts named equal =
     (subst (λ n. AllBelow n group.support) (sym length-no_values) facts.inside)
     (equal ∙ ap length (support_at-is cell i group e))
     ∙ ap (λ n. res (λ p. forced_after group.kind n group.support (written no_values group.support p)) ts) (sym named)
+
+-- a place in a support is inside
+pub place-inside :
+    (pins : List Pin) (support : List ℕ) (c : Change) (place : ℕ)
+    → Some place ≡ place_in pins support c → place < length support
+place-inside pins support c place e =
+    (position-Some (λ p. nat_eq (input_number pins p) c.pin) support place 0 (sym e)).0
+
+-- the machine step of a group, filling by filling
+pub moved-filled :
+    (pins : List Pin) (name : ℕ) (group : StateGroup) (v : List Trit) (a : Trit) (c : Change) (s : Trit) (place : ℕ)
+    → Ascending group.support → place_in pins group.support c ≡ Some place → place < length group.support
+    → moved pins (record { name = name; group = group }) v a c s
+      ≡ change_filled group.kind name (get_or group.support place 0) a c.to (without place group.support)
+          (without place (pin_values pins v group.support)) s
+moved-filled pins name group v a c s place ascends e inside =
+    ap (λ o. moved_at o (record { name = name; group = group }) (pin_values pins v group.support) a c.to s) e
+    ∙ machine_step-filled group name place a c.to (pin_values pins v group.support) s ascends inside
+        (length-map group.support (pin_value pins v))
+
+pub moved-none :
+    (pins : List Pin) (name : ℕ) (group : StateGroup) (v : List Trit) (a : Trit) (c : Change) (s : Trit)
+    → place_in pins group.support c ≡ None → moved pins (record { name = name; group = group }) v a c s ≡ s
+moved-none pins name group v a c s e =
+    ap (λ o. moved_at o (record { name = name; group = group }) (pin_values pins v group.support) a c.to s) e
+
+-- the forced value of a group, filling by filling
+pub violated-filled :
+    (pins : List Pin) (name : ℕ) (group : StateGroup) (v : List Trit) (base : ℕ)
+    → GroupFacts base group
+    → violated pins (record { name = name; group = group }) v
+      ≡ res (λ p. forced_after group.kind name group.support (written no_values group.support p))
+          (pin_values pins v group.support)
+violated-filled pins name group v base facts =
+    forced-filled group name (pin_values pins v group.support) facts.ascends
+        (subst (λ n. AllBelow n group.support) (sym length-no_values) facts.inside)
+        (length-map group.support (pin_value pins v))
+
+-- the group with the number i, with the name of its state
+pub named-at :
+    (name : ℕ) (groups : List StateGroup) (i : ℕ) (group : StateGroup)
+    → slice_get groups i ≡ Some group
+    → slice_get (named_from name groups) i ≡ Some (record { name = name + 2 * i; group = group })
+named-at name [] i group e = absurd cc
+named-at name (g ∷ groups) zero group e =
+    let same : g ≡ group = cc in
+    let first : name ≡ name + 2 * 0 = omega arith in
+    λ j. Some (record { name = first j; group = same j })
+named-at name (g ∷ groups) (suc i) group e =
+    let later : name + 2 + 2 * i ≡ name + 2 * suc i = omega arith in
+    named-at (name + 2) groups i group e ∙ ap (λ n. Some (record { name = n; group = group })) later

@@ -8,3 +8,4 @@ pub mod TimeLemmas
 pub mod TimingFacts
 pub mod RuleLemmas
 pub mod ArcDelays
+pub mod EachLemmas

@@ -109,29 +109,32 @@ place_in pins support c = position (λ p. nat_eq (input_number pins p) c.pin) su
 -- A group's next state at a change of an input at this place of its support: the machine step. Where the input is not
 -- in the support, the state stays.
 abbrev pub moved_at : Option ℕ → NamedGroup → List Trit → Trit → Trit → Trit → Trit
-moved_at None g support_values a b s = s
-moved_at (Some p) g support_values a b s = machine_step (step_of g) p a b (without p support_values) s
+moved_at None g values a b s = s
+moved_at (Some p) g values a b s = machine_step (step_of g) p a b (without p values) s
 
--- a group's next state at an event, where no check reports; v are the inputs before
-abbrev pub moved : List Pin → NamedGroup → List Trit → Change → Trit → Trit
-moved pins g v c s =
-    moved_at (place_in pins g.group.support c) g (pin_values pins v g.group.support) (value_before v c) c.to s
+-- A group's next state at an event, where no check reports. The inputs after the event are v, and the changed input had
+-- the value a.
+abbrev pub moved : List Pin → NamedGroup → List Trit → Trit → Change → Trit → Trit
+moved pins g v a c s = moved_at (place_in pins g.group.support c) g (pin_values pins v g.group.support) a c.to s
 
--- The state where some check reports at an event: the value to which the new inputs force it, else X (this project's
--- rule for a violation).
-abbrev pub violated : List Pin → NamedGroup → List Trit → Change → Trit
-violated pins g v c = forced (step_of g) (pin_values pins (slice_set v c.pin c.to) g.group.support)
+-- The state where some check reports at an event: the value to which the inputs after it force it, else X (this
+-- project's rule for a violation).
+abbrev pub violated : List Pin → NamedGroup → List Trit → Trit
+violated pins g v = forced (step_of g) (pin_values pins v g.group.support)
 
-abbrev pub state_step : Bool → List Pin → NamedGroup → List Trit → Change → Trit → Trit
-state_step true pins g v c s = violated pins g v c
-state_step false pins g v c s = moved pins g v c s
+-- the same, by whether some check reports
+abbrev pub state_step : Bool → List Pin → NamedGroup → List Trit → Trit → Change → Trit → Trit
+state_step true pins g v a c s = violated pins g v
+state_step false pins g v a c s = moved pins g v a c s
 
 -- The state of a group after a history. It begins at X.
 abbrev pub state_after : Cell → List Change → NamedGroup → Trit
 state_after cell [] g = Unknown
 state_after cell (c ∷ h) g =
     (if is_event (inputs_after (inputs_of cell) h) c
-    then state_step (any_true (reports_of cell (c ∷ h))) cell.pins g (inputs_after (inputs_of cell) h) c (state_after cell h g)
+    then
+      state_step (any_true (reports_of cell (c ∷ h))) cell.pins g (inputs_after (inputs_of cell) (c ∷ h))
+        (value_before (inputs_after (inputs_of cell) h) c) c (state_after cell h g)
     else state_after cell h g)
 
 -- the states of all groups after a history

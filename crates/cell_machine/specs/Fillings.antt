@@ -12,14 +12,14 @@ abbrev pub state_filled : GroupKind → ℕ → List Bool → List Bool → Trit
 state_filled kind name before after state = over (λ s. kind_step kind name before after s) state
 
 -- for each filling of the inputs under these names, the same before and after, and of the state
-abbrev pub others_filled : GroupKind → ℕ → List ℕ → List Trit → List Bool → List Bool → Trit → Trit
-others_filled kind name names trits before after state =
+abbrev pub all_filled : GroupKind → ℕ → List ℕ → List Trit → List Bool → List Bool → Trit → Trit
+all_filled kind name names trits before after state =
     res (λ p. state_filled kind name (written before names p) (written after names p) state) trits
 
 -- for each filling of the changed input's value before and its value after, too
 abbrev pub change_filled : GroupKind → ℕ → ℕ → Trit → Trit → List ℕ → List Trit → Trit → Trit
 change_filled kind name changed a b names trits state =
-    over (λ old. over (λ new. others_filled kind name names trits (slice_set no_values changed old) (slice_set no_values changed new) state) b) a
+    over (λ old. over (λ new. all_filled kind name names trits (slice_set no_values changed old) (slice_set no_values changed new) state) b) a
 
 -- for both states
 abbrev pub both_states : GroupKind → ℕ → List Bool → List Bool → Trit

@@ -13,6 +13,7 @@ pub mod Delay
 pub mod Inputs
 pub mod CellTrace
 pub mod ArcDelay
+pub mod Each
 pub mod Fillings
 pub mod Supports
 pub mod Laws

@@ -1,10 +1,10 @@
 //! Steps over values that may be unknown: a group's step is tried on each filling.
 ghost use Rattle.std.specs.Prelude.{◌≡◌, ◌<◌, Bool, true, false, List, length, slice_set};
 ghost use Rattle.trit_cubes.specs.Resolution.{agreed, res};
-ghost use Rattle.cell_machine.specs.Machine.{around, over};
+ghost use Rattle.cell_machine.specs.Machine.{around, over, without};
 ghost use Rattle.cell_machine.specs.Values.{no_values, written, picked};
 ghost use Rattle.cell_machine.specs.Step.{kind_step, KindIsBounded};
-ghost use Rattle.cell_machine.specs.Fillings.{state_filled, others_filled, change_filled, both_states, forced_after};
+ghost use Rattle.cell_machine.specs.Fillings.{state_filled, all_filled, change_filled, both_states, forced_after};
 
 use crate::groups::GroupKind;
 use crate::values::Values;
@@ -27,7 +27,7 @@ fn state_filled(kind: &GroupKind, name: usize, before: &Values, after: &Values, 
 }
 
 // The step for each filling of the inputs under these names, the same before and after, and of the state.
-fn others_filled(
+fn all_filled(
     kind: &GroupKind,
     name: usize,
     names: &[usize],
@@ -39,7 +39,7 @@ fn others_filled(
     requires name { name < 96 }
     requires bounded { KindIsBounded kind.now }
     requires one_each { length names.now ≡ length trits.now }
-    ensures { result ≡ others_filled kind.now name names.now trits.now before after state }
+    ensures { result ≡ all_filled kind.now name names.now trits.now before after state }
 {
     let (Some((first, names)), Some((trit, trits))) = (names.split_first(), trits.split_first())
     else {
@@ -47,7 +47,7 @@ fn others_filled(
     };
     let first = *first;
     match *trit {
-        Trit::Zero => others_filled(
+        Trit::Zero => all_filled(
             kind,
             name,
             names,
@@ -56,7 +56,7 @@ fn others_filled(
             after.with(first, false),
             state,
         ),
-        Trit::One => others_filled(
+        Trit::One => all_filled(
             kind,
             name,
             names,
@@ -66,7 +66,7 @@ fn others_filled(
             state,
         ),
         Trit::Unknown => {
-            let zero = others_filled(
+            let zero = all_filled(
                 kind,
                 name,
                 names,
@@ -75,7 +75,7 @@ fn others_filled(
                 after.with(first, false),
                 state,
             );
-            zero.agreed(others_filled(
+            zero.agreed(all_filled(
                 kind,
                 name,
                 names,
@@ -88,125 +88,78 @@ fn others_filled(
     }
 }
 
-// The step for each filling of the changed input's new value too.
-fn new_filled(
-    kind: &GroupKind,
-    name: usize,
-    changed: usize,
-    new: Trit,
-    names: &[usize],
-    trits: &[Trit],
-    before: Values,
-    state: Trit,
-) -> Trit
+// The same less the name at a place, which is written before.
+fn others_filled(kind: &GroupKind, name: usize, place: usize, names: &[usize], trits: &[Trit], before: Values, after: Values, state: Trit) -> Trit
     requires name { name < 96 }
     requires bounded { KindIsBounded kind.now }
     requires one_each { length names.now ≡ length trits.now }
-    ensures { result ≡ over (λ b. others_filled kind.now name names.now trits.now before (slice_set no_values changed b) state) new }
+    ensures { result ≡ all_filled kind.now name (without place names.now) (without place trits.now) before after state }
 {
-    let none = Values::new();
-    match new {
-        Trit::Zero => others_filled(
-            kind,
-            name,
-            names,
-            trits,
-            before,
-            none.with(changed, false),
-            state,
-        ),
-        Trit::One => others_filled(
-            kind,
-            name,
-            names,
-            trits,
-            before,
-            none.with(changed, true),
-            state,
-        ),
+    let (Some((first, names)), Some((trit, trits))) = (names.split_first(), trits.split_first()) else {
+        return state_filled(kind, name, &before, &after, state);
+    };
+    if place == 0 {
+        return all_filled(kind, name, names, trits, before, after, state);
+    }
+    let first = *first;
+    let place = place - 1;
+    match *trit {
+        Trit::Zero => others_filled(kind, name, place, names, trits, before.with(first, false), after.with(first, false), state),
+        Trit::One => others_filled(kind, name, place, names, trits, before.with(first, true), after.with(first, true), state),
         Trit::Unknown => {
-            let zero = others_filled(
-                kind,
-                name,
-                names,
-                trits,
-                before,
-                none.with(changed, false),
-                state,
-            );
-            zero.agreed(others_filled(
-                kind,
-                name,
-                names,
-                trits,
-                before,
-                none.with(changed, true),
-                state,
-            ))
+            let zero = others_filled(kind, name, place, names, trits, before.with(first, false), after.with(first, false), state);
+            zero.agreed(others_filled(kind, name, place, names, trits, before.with(first, true), after.with(first, true), state))
         }
     }
 }
 
-/// The step at a change of the input `changed` from `old` to `new`, for each filling of both, of the inputs under
-/// `names`, and of the state.
-pub fn change_filled(
-    kind: &GroupKind,
-    name: usize,
-    changed: usize,
-    old: Trit,
-    new: Trit,
-    names: &[usize],
-    trits: &[Trit],
-    state: Trit,
-) -> Trit
+/// A change of a pin that stands at a place of a support.
+#[derive(Clone, Copy)]
+pub struct PinChange {
+    /// Its place in the support.
+    pub place: usize,
+    /// The number of the pin.
+    pub pin: usize,
+    /// The value before.
+    pub from: Trit,
+    /// The value after.
+    pub to: Trit,
+}
+
+// The step for each filling of the changed input's new value too.
+fn new_filled(kind: &GroupKind, name: usize, change: PinChange, names: &[usize], trits: &[Trit], before: Values, state: Trit) -> Trit
     requires name { name < 96 }
     requires bounded { KindIsBounded kind.now }
     requires one_each { length names.now ≡ length trits.now }
-    ensures { result ≡ change_filled kind.now name changed old new names.now trits.now state }
+    ensures { result ≡ over (λ b. all_filled kind.now name (without change.place names.now) (without change.place trits.now) before (slice_set no_values change.pin b) state) change.to }
 {
     let none = Values::new();
-    match old {
-        Trit::Zero => new_filled(
-            kind,
-            name,
-            changed,
-            new,
-            names,
-            trits,
-            none.with(changed, false),
-            state,
-        ),
-        Trit::One => new_filled(
-            kind,
-            name,
-            changed,
-            new,
-            names,
-            trits,
-            none.with(changed, true),
-            state,
-        ),
+    let place = change.place;
+    match change.to {
+        Trit::Zero => others_filled(kind, name, place, names, trits, before, none.with(change.pin, false), state),
+        Trit::One => others_filled(kind, name, place, names, trits, before, none.with(change.pin, true), state),
         Trit::Unknown => {
-            let zero = new_filled(
-                kind,
-                name,
-                changed,
-                new,
-                names,
-                trits,
-                none.with(changed, false),
-                state,
-            );
-            zero.agreed(new_filled(
-                kind,
-                name,
-                changed,
-                new,
-                names,
-                trits,
-                none.with(changed, true),
-                state,
-            ))
+            let zero = others_filled(kind, name, place, names, trits, before, none.with(change.pin, false), state);
+            zero.agreed(others_filled(kind, name, place, names, trits, before, none.with(change.pin, true), state))
+        }
+    }
+}
+
+/// The step at a change of a pin of the support, for each filling of its values before and after, of the other pins of
+/// the support, and of the state.
+pub fn change_filled(kind: &GroupKind, name: usize, change: PinChange, names: &[usize], trits: &[Trit], state: Trit) -> Trit
+    requires name { name < 96 }
+    requires bounded { KindIsBounded kind.now }
+    requires one_each { length names.now ≡ length trits.now }
+    ensures { result ≡ change_filled kind.now name change.pin change.from change.to (without change.place names.now) (without change.place trits.now) state }
+{
+    let none = Values::new();
+    match change.from {
+        Trit::Zero => new_filled(kind, name, change, names, trits, none.with(change.pin, false), state),
+        Trit::One => new_filled(kind, name, change, names, trits, none.with(change.pin, true), state),
+        Trit::Unknown => {
+            let zero = new_filled(kind, name, change, names, trits, none.with(change.pin, false), state);
+            zero.agreed(new_filled(kind, name, change, names, trits, none.with(change.pin, true), state))
         }
     }
 }

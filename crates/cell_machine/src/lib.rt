@@ -16,6 +16,7 @@ mod outputs;
 mod pin_values;
 mod pins;
 mod simulators;
+mod states;
 mod steps;
 mod times;
 mod values;

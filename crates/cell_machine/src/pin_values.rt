@@ -39,6 +39,7 @@ pub fn pin_value(pins: &[Pin], inputs: &[Trit], pin: usize) -> Trit
 }
 
 /// The values of the pins of a group's support. Contracts see the list of them.
+#[derive(Drop)]
 pub struct SupportValues {
     len: usize,
     trits: [Trit; SupportValues::MOST],

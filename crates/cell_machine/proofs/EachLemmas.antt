@@ -1,0 +1,49 @@
+-- A list that is stepped in place, entry by entry.
+use Rattle.std.proofs.Common.{◌≡◌, ℕ, zero, suc, ◌<◌, ◌≤◌, List, [], ◌∷◌, ◌++◌, length, map, get_or, set, take, drop, refl, ap, sym, ◌∙◌, Option, Some, None, slice_get, arith}
+use Rattle.cell_machine.specs.Each.{each}
+
+-- one entry more is stepped
+pub each-step :
+    {X S : Type 0} (f : X → S → S) (xs : List X) (ss : List S) (i : ℕ) (x : X) (new d : S)
+    → slice_get xs i ≡ Some x → i < length ss → new ≡ f x (get_or ss i d)
+    → take (suc i) (set ss i new) ++ each f (drop (suc i) xs) (drop (suc i) (set ss i new))
+      ≡ take i ss ++ each f (drop i xs) (drop i ss)
+each-step f xs [] i x new d e h is = absurd (omega arith)
+each-step f [] (s ∷ ss) i x new d e h is = absurd cc
+each-step f (y ∷ ys) (s ∷ ss) zero x new d e h is =
+    let same : y ≡ x = cc in
+    ap (λ n. n ∷ each f ys ss) (is ∙ ap (λ z. f z s) (sym same))
+each-step f (y ∷ ys) (s ∷ ss) (suc i) x new d e h is =
+    ap (λ r. s ∷ r) (each-step f ys ss i x new d e (omega arith) is)
+
+take-done : {S : Type 0} (ss : List S) (i : ℕ) → length ss ≤ i → take i ss ++ [] ≡ ss
+take-done [] zero h = refl
+take-done [] (suc i) h = refl
+take-done (s ∷ ss) zero h = absurd (omega arith)
+take-done (s ∷ ss) (suc i) h = ap (λ r. s ∷ r) (take-done ss i (omega arith))
+
+-- all entries are stepped
+pub each-done :
+    {X S : Type 0} (f : X → S → S) (xs : List X) (ss : List S) (i : ℕ)
+    → length ss ≤ i → take i ss ++ each f (drop i xs) (drop i ss) ≡ ss
+each-done f [] [] zero h = refl
+each-done f [] [] (suc i) h = refl
+each-done f (x ∷ xs) [] zero h = refl
+each-done f (x ∷ xs) [] (suc i) h = elim (drop i xs) as (λ r. each f r [] ≡ []) [ [] ↦ refl | y ∷ ys ↦ refl ]
+each-done f [] (s ∷ ss) zero h = absurd (omega arith)
+each-done f (x ∷ xs) (s ∷ ss) zero h = absurd (omega arith)
+each-done f [] (s ∷ ss) (suc i) h = ap (λ r. s ∷ r) (take-done ss i (omega arith))
+each-done f (x ∷ xs) (s ∷ ss) (suc i) h = ap (λ r. s ∷ r) (each-done f xs ss i (omega arith))
+
+pub length-each :
+    {X S T : Type 0} (f : X → S → T) (xs : List X) (ss : List S) → length xs ≡ length ss → length (each f xs ss) ≡ length ss
+length-each f [] [] h = refl
+length-each f [] (s ∷ ss) h = absurd (omega arith)
+length-each f (x ∷ xs) [] h = absurd (omega arith)
+length-each f (x ∷ xs) (s ∷ ss) h = ap suc (length-each f xs ss (omega arith))
+
+-- what is made of the same list twice
+pub each-map :
+    {A B C : Type 0} (f : A → B → C) (g : A → B) (xs : List A) → each f xs (map g xs) ≡ map (λ x. f x (g x)) xs
+each-map f g [] = refl
+each-map f g (x ∷ xs) = ap (λ r. f x (g x) ∷ r) (each-map f g xs)

@@ -1,0 +1,20 @@
+use Rattle.std.proofs.Common.{◌≡◌, ◌<◌, sym, ap, ◌∙◌, length, ◌+◌, ◌*◌, arith}
+use Rattle.cell_machine.specs.Names.{state_name}
+use Rattle.cell_machine.specs.CellTrace.{place_in, moved}
+use Rattle.cell_machine.proofs.GroupSteps.{place-inside, moved-filled}
+use Rattle.cell_machine.proofs.states.moved.Goals as goal
+
+pub returns : goal.returns
+returns c = λ group e.
+    let pins = c.args.cell.now.pins in
+    let held = c.group-group.result.now in
+    let name = state_name (length pins) c.args.i in
+    let same : held ≡ group = cc (c.group-group.ensures.is, e) in
+    let values = rw (c.of-values.ensures, c.as_slice-pins.ensures, c.as_slice-support.ensures) at c.as_slice.ensures in
+    let filled = rw (values, c.as_slice-support.ensures, c.state_name.ensures.name) at c.change_filled.ensures in
+    let place = rw (c.as_slice-pins.ensures, c.as_slice-support.ensures) at c.in-Some.ensures in
+    let inside = place-inside pins held.support c.args.change c.in-Some.place place in
+    filled
+    ∙ sym (moved-filled pins name held c.args.inputs.now c.args.from c.args.change c.args.state c.in-Some.place
+        c.group-group.ensures.facts.ascends (sym place) inside)
+    ∙ ap (λ g. moved pins (record { name = name; group = g }) c.args.inputs.now c.args.from c.args.change c.args.state) same

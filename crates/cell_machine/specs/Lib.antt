@@ -13,6 +13,8 @@ pub mod Delay
 pub mod Inputs
 pub mod CellTrace
 pub mod ArcDelay
+pub mod ShownOutputs
+pub mod LibertyStands
 pub mod Each
 pub mod Fillings
 pub mod Supports

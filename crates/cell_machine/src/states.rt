@@ -1,5 +1,6 @@
 //! The states of a cell at a change of an input.
-ghost use Rattle.std.specs.Prelude.{◌≡◌, ◌+◌, ◌*◌, ◌<◌, length, map, slice_get, Some};
+ghost use Rattle.std.specs.Prelude.{◌≡◌, ◌<◌, not, length, slice_get, Some, if◌then◌else◌};
+ghost use Rattle.trit_cubes.specs.Filling.{same};
 ghost use Rattle.cell_machine.specs.declared.groups.StateGroup.{StateGroup as StateGroupOf};
 ghost use Rattle.cell_machine.specs.Names.{state_name};
 ghost use Rattle.cell_machine.specs.Each.{each};
@@ -65,9 +66,19 @@ fn state_step(cell: &Cell, i: usize, reported: bool, inputs: &[Trit], from: Trit
     }
 }
 
-/// Takes the states of all groups over an event. `inputs` are those after it, `from` is the value that the changed one
+/// Takes the states of all groups over a change: where it is no event they stay.
+pub fn change_states(cell: &Cell, reported: bool, inputs: &[Trit], from: Trit, change: Change, states: &mut [Trit])
+    requires { length states.old ≡ length cell.now.groups }
+    ensures { states.new ≡ (if not (same from change.to) then each (λ g s. state_step reported cell.now.pins g inputs.now from change s) (named_groups cell.now) states.old else states.old) }
+{
+    if from != change.to {
+        step_states(cell, reported, inputs, from, change, states);
+    }
+}
+
+// Takes the states of all groups over an event. `inputs` are those after it, `from` is the value that the changed one
 /// had, and `reported` says whether some check reports.
-pub fn step_states(cell: &Cell, reported: bool, inputs: &[Trit], from: Trit, change: Change, states: &mut [Trit])
+fn step_states(cell: &Cell, reported: bool, inputs: &[Trit], from: Trit, change: Change, states: &mut [Trit])
     requires { length states.old ≡ length cell.now.groups }
     ensures { states.new ≡ each (λ g s. state_step reported cell.now.pins g inputs.now from change s) (named_groups cell.now) states.old }
 {

@@ -1,0 +1,24 @@
+use Rattle.std.proofs.Common.{◌≡◌, ◌<◌, sym, ap, ◌∙◌, length, add-one, arith, None}
+use Rattle.std.proofs.Math.ListN.{length-set}
+use Rattle.trit_cubes.specs.declared.trits.Trit.TheVariants.{Zero}
+use Rattle.cell_machine.specs.ShownOutputs.{shown_step}
+use Rattle.cell_machine.proofs.ArcDelays.{some_at}
+use Rattle.cell_machine.proofs.EachLemmas.{each-step}
+use Rattle.cell_machine.proofs.shown.show_all.Goals as goal
+
+pub loop-i-preserved : goal.loop-i-preserved
+loop-i-preserved c =
+    let cell = c.args.cell.now in
+    let many : c.loop-i.i < length c.loop-i.shown = omega arith in
+    let inside : c.loop-i.i < length cell.outputs = omega (arith, c.loop-i.invariant.len, c.requires.one_each) in
+    let here = some_at cell.outputs c.loop-i.i inside in
+    record {
+      whole =
+        rw add-one
+          (each-step
+            (λ o s. shown_step cell.pins cell.groups cell.arcs c.args.inputs.now c.args.states.now c.args.change o s.value)
+            cell.outputs c.loop-i.shown c.loop-i.i here.0 c.shown_step.result (record { value = Zero; delay = None }) here.1 many
+            (c.shown_step.ensures here.0 here.1)
+          ∙ c.loop-i.invariant.whole);
+      len = length-set c.loop-i.shown c.loop-i.i c.shown_step.result ∙ c.loop-i.invariant.len
+    }

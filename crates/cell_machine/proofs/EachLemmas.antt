@@ -47,3 +47,31 @@ pub each-map :
     {A B C : Type 0} (f : A → B → C) (g : A → B) (xs : List A) → each f xs (map g xs) ≡ map (λ x. f x (g x)) xs
 each-map f g [] = refl
 each-map f g (x ∷ xs) = ap (λ r. f x (g x) ∷ r) (each-map f g xs)
+
+map-take-suc :
+    {X Y : Type 0} (f : X → Y) (xs : List X) (i : ℕ) (x : X)
+    → slice_get xs i ≡ Some x → map f (take i xs) ++ f x ∷ [] ≡ map f (take (suc i) xs)
+map-take-suc f [] i x e = absurd cc
+map-take-suc f (y ∷ ys) zero x e = let same : y ≡ x = cc in ap (λ z. f z ∷ []) (sym same)
+map-take-suc f (y ∷ ys) (suc i) x e = ap (λ r. f y ∷ r) (map-take-suc f ys i x e)
+
+-- one entry more is mapped
+pub map-take-more :
+    {X Y : Type 0} (f : X → Y) (xs : List X) (i : ℕ) (x : X) (y : Y) (ys : List Y)
+    → slice_get xs i ≡ Some x → y ≡ f x → ys ≡ map f (take i xs) → ys ++ y ∷ [] ≡ map f (take (suc i) xs)
+map-take-more f xs i x y ys e is so_far = (λ j. so_far j ++ is j ∷ []) ∙ map-take-suc f xs i x e
+
+-- an entry of a list does not depend on the default
+pub get_or-default :
+    {X : Type 0} (xs : List X) (i : ℕ) (d e : X) → i < length xs → get_or xs i d ≡ get_or xs i e
+get_or-default [] i d e h = absurd (omega arith)
+get_or-default (x ∷ xs) zero d e h = refl
+get_or-default (x ∷ xs) (suc i) d e h = get_or-default xs i d e (omega arith)
+
+-- a part of an entry is the entry of the list of these parts
+pub get_or-part :
+    {X Y Z : Type 0} (f : X → Y) (part : Y → Z) (xs : List X) (i : ℕ) (d : Y) (e : Z)
+    → i < length xs → part (get_or (map f xs) i d) ≡ get_or (map (λ x. part (f x)) xs) i e
+get_or-part f part [] i d e h = absurd (omega arith)
+get_or-part f part (x ∷ xs) zero d e h = refl
+get_or-part f part (x ∷ xs) (suc i) d e h = get_or-part f part xs i d e (omega arith)

@@ -9,3 +9,4 @@ pub mod TimingFacts
 pub mod RuleLemmas
 pub mod ArcDelays
 pub mod EachLemmas
+pub mod Standing

@@ -15,6 +15,7 @@ pub mod CellTrace
 pub mod ArcDelay
 pub mod ShownOutputs
 pub mod LibertyStands
+pub mod Sized
 pub mod Each
 pub mod Fillings
 pub mod Supports

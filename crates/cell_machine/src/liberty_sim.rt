@@ -1,5 +1,6 @@
 //! The simulator of a cell.
 ghost use Rattle.std.specs.Prelude.{◌≡◌, [], length};
+ghost use Rattle.cell_machine.specs.Report.{any_true};
 ghost use Rattle.cell_machine.specs.CellTrace.{inputs_of};
 
 use crate::cells::Cell;
@@ -23,16 +24,16 @@ pub struct LibertySim<'a> {
     cell: &'a Cell,
     check_names: Items<Items<usize>>,
     arc_names: Items<Items<usize>>,
-    inputs: Vec<Trit>,
-    times: Vec<Times>,
-    states: Vec<Trit>,
-    reports: Vec<bool>,
-    shown: Vec<Shown>,
-    ghost each_input: { length inputs.items ≡ inputs_of cell.now },
-    ghost each_time: { length times.items ≡ inputs_of cell.now },
-    ghost each_state: { length states.items ≡ length cell.now.groups },
-    ghost each_check: { length reports.items ≡ length cell.now.checks },
-    ghost each_output: { length shown.items ≡ length cell.now.outputs },
+    inputs: Items<Trit>,
+    times: Items<Times>,
+    states: Items<Trit>,
+    reports: Items<bool>,
+    shown: Items<Shown>,
+    ghost each_input: { length inputs ≡ inputs_of cell.now },
+    ghost each_time: { length times ≡ inputs_of cell.now },
+    ghost each_state: { length states ≡ length cell.now.groups },
+    ghost each_check: { length reports ≡ length cell.now.checks },
+    ghost each_output: { length shown ≡ length cell.now.outputs },
 }
 
 impl<'a> LibertySim<'a> {
@@ -43,16 +44,16 @@ impl<'a> LibertySim<'a> {
     /// The simulator of a cell before any change: all inputs and all states are unknown.
     pub fn start(alloc: Global, cell: &'a Cell) -> Result<LibertySim<'a>, Memory>
         ensures cell { IfOk result (λ sim. sim.cell.now ≡ cell.now) }
-        ensures stands { IfOk result (λ sim. Stands cell.now sim.check_names sim.arc_names sim.inputs.items sim.times.items sim.states.items sim.reports.items sim.shown.items []) }
+        ensures stands { IfOk result (λ sim. Stands cell.now sim.check_names sim.arc_names sim.inputs sim.times sim.states sim.reports sim.shown []) }
     {
         let check_names = check_names(alloc, cell)?;
         let arc_names = arc_names(alloc, cell)?;
         let count = input_number(cell.pins.as_slice(), cell.pins.len());
-        let inputs = vec![in alloc; Trit::Unknown; count]?;
-        let times = vec![in alloc; Times::none(); count]?;
-        let states = vec![in alloc; Trit::Unknown; cell.groups.len()]?;
-        let reports = vec![in alloc; false; cell.checks.len()]?;
-        let shown = show_start(alloc, cell, &inputs, &states)?;
+        let inputs = Items::from_vec(vec![in alloc; Trit::Unknown; count]?);
+        let times = Items::from_vec(vec![in alloc; Times::none(); count]?);
+        let states = Items::from_vec(vec![in alloc; Trit::Unknown; cell.groups.len()]?);
+        let reports = Items::from_vec(vec![in alloc; false; cell.checks.len()]?);
+        let shown = show_start(alloc, cell, inputs.as_slice(), states.as_slice())?;
         Ok(LibertySim {
             cell,
             check_names,
@@ -64,4 +65,61 @@ impl<'a> LibertySim<'a> {
             shown,
         })
     }
+}
+
+impl<'a> CellSim for LibertySim<'a> {
+    ghost use Rattle.cell_machine.specs.CellTrace.{cell_machine_of};
+    ghost use Rattle.cell_machine.specs.LibertyStands.{Stands};
+    ghost use Rattle.cell_machine.specs.Sized.{cell_machine_sized};
+
+    ghost machine = { λ s. cell_machine_of s.cell.now };
+
+    ghost stands = { λ s h. Stands s.cell.now s.check_names s.arc_names s.inputs s.times s.states s.reports s.shown h };
+
+    fn inputs(&self) -> usize {
+        self.inputs.len()
+    }
+
+    fn outputs(&self) -> usize {
+        self.shown.len()
+    }
+
+    fn checks(&self) -> usize {
+        self.reports.len()
+    }
+
+    fn step(&mut self, at: u64, pin: usize, to: Trit) {
+        let change = Change { at, pin, to };
+        let from = self.inputs.as_slice()[pin];
+        let times = self.times.as_slice()[pin].stamped(at, from, to);
+        self.inputs.set(pin, to);
+        let names = self.check_names.as_slice();
+        report_all(self.cell, names, self.inputs.as_slice(), self.times.as_slice(), from, change, &mut self.reports);
+        let reported = any_true(self.reports.as_slice());
+        change_states(self.cell, reported, self.inputs.as_slice(), from, change, &mut self.states);
+        self.times.set(pin, times);
+        let names = self.arc_names.as_slice();
+        show_all(self.cell, names, self.inputs.as_slice(), self.states.as_slice(), change, &mut self.shown);
+    }
+
+    fn output(&self, place: usize) -> Trit {
+        self.shown.as_slice()[place].value
+    }
+
+    fn delay(&self, place: usize) -> Option<u64> {
+        self.shown.as_slice()[place].delay
+    }
+
+    fn reported(&self, check: usize) -> bool {
+        self.reports.as_slice()[check]
+    }
+
+    ghost sized = { λ s. cell_machine_sized s.cell.now };
+}
+
+// Whether some check reported.
+fn any_true(reports: &[bool]) -> bool
+    ensures { result ≡ any_true reports.now }
+{
+    reports.iter().any(|reported| *reported)
 }

@@ -86,13 +86,14 @@ fn reports(check: &Check, names: &[usize], pins: &[Pin], inputs: &[Trit], times:
 
 /// Writes for each check whether it reports. `names` are those of the conditions, `inputs` the inputs after the change,
 /// `times` those before it, and `from` is the value that the changed input had.
-pub fn report_all(cell: &Cell, names: &[Items<usize>], inputs: &[Trit], times: &[Times], from: Trit, change: Change, reports_of: &mut [bool])
+pub fn report_all(cell: &Cell, names: &[Items<usize>], inputs: &[Trit], times: &[Times], from: Trit, change: Change, reports_of: &mut Items<bool>)
     requires names { names.now ≡ check_names cell.now }
     requires one_each { length reports_of.old ≡ length cell.now.checks }
     ensures { reports_of.new ≡ map (λ k. report_by (input_check cell.now.pins k) from inputs.now times.now change) cell.now.checks }
 {
     let pins = cell.pins.as_slice();
     for i in 0..reports_of.len() {
-        reports_of[i] = reports(cell.check(i), names[i].as_slice(), pins, inputs, times, from, change);
+        let reported = reports(cell.check(i), names[i].as_slice(), pins, inputs, times, from, change);
+        reports_of.set(i, reported);
     }
 }

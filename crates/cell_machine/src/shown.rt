@@ -47,13 +47,15 @@ fn shown_step(cell: &Cell, names: &[Items<usize>], i: usize, inputs: &[Trit], st
 
 /// Takes what the outputs show over a change. `names` are those of the arcs' conditions; `inputs` and `states` are those
 /// after the change.
-pub fn show_all(cell: &Cell, names: &[Items<usize>], inputs: &[Trit], states: &[Trit], change: Change, shown: &mut [Shown])
+pub fn show_all(cell: &Cell, names: &[Items<usize>], inputs: &[Trit], states: &[Trit], change: Change, shown: &mut Items<Shown>)
     requires names { names.now ≡ arc_names cell.now }
     requires one_each { length shown.old ≡ length cell.now.outputs }
-    ensures { shown.new ≡ each (λ o s. shown_step cell.now.pins cell.now.groups cell.now.arcs inputs.now states.now change o s.value) cell.now.outputs shown.old }
+    ensures stepped { shown.new ≡ each (λ o s. shown_step cell.now.pins cell.now.groups cell.now.arcs inputs.now states.now change o s.value) cell.now.outputs shown.old }
+    ensures len { length shown.new ≡ length shown.old }
 {
     for i in 0..shown.len() {
-        shown[i] = shown_step(cell, names, i, inputs, states, change, shown[i].value);
+        let was = shown.as_slice()[i].value;
+        shown.set(i, shown_step(cell, names, i, inputs, states, change, was));
     }
 }
 
@@ -67,10 +69,10 @@ fn shown_first(cell: &Cell, i: usize, inputs: &[Trit], states: &[Trit]) -> Shown
 }
 
 /// What the outputs show at the start, where the inputs and the states have these values: no delays.
-pub fn show_start(alloc: Global, cell: &Cell, inputs: &[Trit], states: &[Trit]) -> Result<Vec<Shown>, Memory>
-    ensures { IfOk result (λ shown. shown.items ≡ map (shown_first cell.now.pins cell.now.groups inputs.now states.now) cell.now.outputs) }
+pub fn show_start(alloc: Global, cell: &Cell, inputs: &[Trit], states: &[Trit]) -> Result<Items<Shown>, Memory>
+    ensures { IfOk result (λ shown. shown ≡ map (shown_first cell.now.pins cell.now.groups inputs.now states.now) cell.now.outputs) }
 {
-    let mut shown = Vec::new(alloc);
+    let mut shown = Items::new(alloc);
     for i in 0..cell.outputs.len() {
         shown.push(shown_first(cell, i, inputs, states))?;
     }

@@ -12,6 +12,7 @@ use crate::changes::Change;
 use crate::fillings::{PinChange, change_filled, forced_filled};
 use crate::pin_values::{SupportValues, input_number};
 use crate::pins::Pin;
+use sqlite_items::Items;
 use trit_cubes::Trit;
 
 // The place of the changed input in a support, where it is there.
@@ -67,9 +68,10 @@ fn state_step(cell: &Cell, i: usize, reported: bool, inputs: &[Trit], from: Trit
 }
 
 /// Takes the states of all groups over a change: where it is no event they stay.
-pub fn change_states(cell: &Cell, reported: bool, inputs: &[Trit], from: Trit, change: Change, states: &mut [Trit])
+pub fn change_states(cell: &Cell, reported: bool, inputs: &[Trit], from: Trit, change: Change, states: &mut Items<Trit>)
     requires { length states.old ≡ length cell.now.groups }
-    ensures { states.new ≡ (if not (same from change.to) then each (λ g s. state_step reported cell.now.pins g inputs.now from change s) (named_groups cell.now) states.old else states.old) }
+    ensures changed { states.new ≡ (if not (same from change.to) then each (λ g s. state_step reported cell.now.pins g inputs.now from change s) (named_groups cell.now) states.old else states.old) }
+    ensures len { length states.new ≡ length states.old }
 {
     if from != change.to {
         step_states(cell, reported, inputs, from, change, states);
@@ -78,11 +80,13 @@ pub fn change_states(cell: &Cell, reported: bool, inputs: &[Trit], from: Trit, c
 
 // Takes the states of all groups over an event. `inputs` are those after it, `from` is the value that the changed one
 /// had, and `reported` says whether some check reports.
-fn step_states(cell: &Cell, reported: bool, inputs: &[Trit], from: Trit, change: Change, states: &mut [Trit])
+fn step_states(cell: &Cell, reported: bool, inputs: &[Trit], from: Trit, change: Change, states: &mut Items<Trit>)
     requires { length states.old ≡ length cell.now.groups }
-    ensures { states.new ≡ each (λ g s. state_step reported cell.now.pins g inputs.now from change s) (named_groups cell.now) states.old }
+    ensures stepped { states.new ≡ each (λ g s. state_step reported cell.now.pins g inputs.now from change s) (named_groups cell.now) states.old }
+    ensures len { length states.new ≡ length states.old }
 {
     for i in 0..states.len() {
-        states[i] = state_step(cell, i, reported, inputs, from, change, states[i]);
+        let state = states.as_slice()[i];
+        states.set(i, state_step(cell, i, reported, inputs, from, change, state));
     }
 }

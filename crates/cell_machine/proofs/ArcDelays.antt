@@ -1,5 +1,5 @@
 -- The least delay of arcs, arc by arc.
-use Rattle.std.proofs.Common.{◌≡◌, ℕ, min, Bool, true, false, ◌&&◌, List, [], ◌∷◌, map, refl, sym, ap, ◌∙◌, Option, Some, None, arith, add-one, zero, suc, ◌+◌, ◌<◌, length, drop, slice_get, cond, if◌then◌else◌}
+use Rattle.std.proofs.Common.{◌≡◌, ℕ, min, true, false, ◌&&◌, List, [], ◌∷◌, map, refl, sym, ap, ◌∙◌, Option, Some, None, arith, add-one, zero, suc, ◌+◌, ◌<◌, length, drop, slice_get, cond, if◌then◌else◌}
 use Rattle.std.specs.Prelude.{filter}
 use Rattle.trit_cubes.specs.declared.trits.Trit.{Trit}
 use Rattle.cell_machine.specs.declared.pins.Pin.{Pin}
@@ -37,16 +37,16 @@ some_at (x ∷ xs) (suc i) h = some_at xs i (omega arith)
 pub least_of-first :
     (pins : List Pin) (arcs : List Arc) (v : List Trit) (input output : ℕ) (a b : Trit) (arc : Arc) (rest : List Arc)
     → least_of pins arcs v input output a b (arc ∷ rest)
-      ≡ lesser (arc_delay pins arcs v input output a b arc) (least_of pins arcs v input output a b rest)
+    ≡ lesser (arc_delay pins arcs v input output a b arc) (least_of pins arcs v input output a b rest)
 least_of-first pins arcs v input output a b arc rest =
     let others : List Arc = filter (is_between pins input output) rest in
     let least_rest : Option ℕ = least_of pins arcs v input output a b rest in
     let own : Path = path_of pins arcs v arc in
     let paths : List Path = filter (λ (path : Path). path.active) (map (path_of pins arcs v) others) in
     elim (is_between pins input output arc) as (λ m.
-        least (active_delays a b (map (path_of pins arcs v) (cond m (arc ∷ others) others)))
-        ≡ lesser (if m && is_active pins arcs v arc arc.condition then Some (path_delay a b own) else None) least_rest) [
-      true ↦ elim (is_active pins arcs v arc arc.condition) as (λ m.
+    least (active_delays a b (map (path_of pins arcs v) (cond m (arc ∷ others) others)))
+    ≡ lesser (if m && is_active pins arcs v arc arc.condition then Some (path_delay a b own) else None) least_rest) [
+      | true ↦ elim (is_active pins arcs v arc arc.condition) as (λ m.
           least (map (path_delay a b) (cond m (own ∷ paths) paths))
           ≡ lesser (if m then Some (path_delay a b own) else None) least_rest) [ true ↦ refl | false ↦ refl ]
       | false ↦ refl
@@ -58,14 +58,14 @@ pub least_of-more :
     (best more : Option ℕ)
     → slice_get rest i ≡ Some arc → more ≡ arc_delay pins arcs v input output a b arc
     → lesser (lesser best more) (least_of pins arcs v input output a b (drop (i + 1) rest))
-      ≡ lesser best (least_of pins arcs v input output a b (drop i rest))
+    ≡ lesser best (least_of pins arcs v input output a b (drop i rest))
 least_of-more pins arcs v input output a b rest i arc best more e is =
     let tail : Option ℕ = least_of pins arcs v input output a b (drop (suc i) rest) in
     rw add-one
-        (lesser_assoc best more tail
-        ∙ ap (λ m. lesser best (lesser m tail)) is
-        ∙ ap (lesser best) (sym (least_of-first pins arcs v input output a b arc (drop (suc i) rest)))
-        ∙ ap (λ xs. lesser best (least_of pins arcs v input output a b xs)) (sym (drop-at rest i arc e)))
+    (lesser_assoc best more tail
+    ∙ ap (λ m. lesser best (lesser m tail)) is
+    ∙ ap (lesser best) (sym (least_of-first pins arcs v input output a b arc (drop (suc i) rest)))
+    ∙ ap (λ xs. lesser best (least_of pins arcs v input output a b xs)) (sym (drop-at rest i arc e)))
 
 pub least_of-step :
     (pins : List Pin) (arcs : List Arc) (v : List Trit) (input output : ℕ) (a b : Trit) (rest : List Arc) (i : ℕ)
@@ -73,7 +73,7 @@ pub least_of-step :
     → i < length rest
     → ((arc : Arc) → slice_get rest i ≡ Some arc → more ≡ arc_delay pins arcs v input output a b arc)
     → lesser (lesser best more) (least_of pins arcs v input output a b (drop (i + 1) rest))
-      ≡ lesser best (least_of pins arcs v input output a b (drop i rest))
+    ≡ lesser best (least_of pins arcs v input output a b (drop i rest))
 least_of-step pins arcs v input output a b rest i best more inside is =
     let here = some_at rest i inside in
     least_of-more pins arcs v input output a b rest i here.0 best more here.1 (is here.0 here.1)

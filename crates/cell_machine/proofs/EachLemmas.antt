@@ -1,5 +1,5 @@
 -- A list that is stepped in place, entry by entry.
-use Rattle.std.proofs.Common.{◌≡◌, ℕ, zero, suc, ◌<◌, ◌≤◌, List, [], ◌∷◌, ◌++◌, length, map, get_or, set, take, drop, refl, ap, sym, ◌∙◌, Option, Some, None, slice_get, arith}
+use Rattle.std.proofs.Common.{◌≡◌, ℕ, zero, suc, ◌<◌, ◌≤◌, List, [], ◌∷◌, ◌++◌, length, map, get_or, set, take, drop, refl, ap, sym, ◌∙◌, Some, slice_get, arith}
 use Rattle.cell_machine.specs.Each.{each}
 
 -- one entry more is stepped
@@ -7,7 +7,7 @@ pub each-step :
     {X S : Type 0} (f : X → S → S) (xs : List X) (ss : List S) (i : ℕ) (x : X) (new d : S)
     → slice_get xs i ≡ Some x → i < length ss → new ≡ f x (get_or ss i d)
     → take (suc i) (set ss i new) ++ each f (drop (suc i) xs) (drop (suc i) (set ss i new))
-      ≡ take i ss ++ each f (drop i xs) (drop i ss)
+    ≡ take i ss ++ each f (drop i xs) (drop i ss)
 each-step f xs [] i x new d e h is = absurd (omega arith)
 each-step f [] (s ∷ ss) i x new d e h is = absurd cc
 each-step f (y ∷ ys) (s ∷ ss) zero x new d e h is =

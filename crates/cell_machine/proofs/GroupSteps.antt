@@ -17,7 +17,7 @@ use Rattle.cell_machine.specs.Values.{no_values, written}
 use Rattle.cell_machine.specs.Step.{group_step}
 use Rattle.cell_machine.specs.Fillings.{change_filled, forced_after}
 use Rattle.cell_machine.specs.Supports.{Ascending, AllBelow, GroupFacts}
-use Rattle.cell_machine.specs.CellTrace.{step_at, support_at, place_in, NamedGroup, named_from, moved_at, moved, violated}
+use Rattle.cell_machine.specs.CellTrace.{step_at, support_at, place_in, named_from, moved_at, moved, violated}
 use Rattle.cell_machine.proofs.StepLemmas.{machine_step-filled, forced-filled}
 
 pub length-no_values : length no_values ≡ 96
@@ -62,12 +62,12 @@ pub moved-filled :
     (pins : List Pin) (name : ℕ) (group : StateGroup) (v : List Trit) (a : Trit) (c : Change) (s : Trit) (place : ℕ)
     → Ascending group.support → place_in pins group.support c ≡ Some place → place < length group.support
     → moved pins (record { name = name; group = group }) v a c s
-      ≡ change_filled group.kind name (get_or group.support place 0) a c.to (without place group.support)
-          (without place (pin_values pins v group.support)) s
+    ≡ change_filled group.kind name (get_or group.support place 0) a c.to (without place group.support)
+    (without place (pin_values pins v group.support)) s
 moved-filled pins name group v a c s place ascends e inside =
     ap (λ o. moved_at o (record { name = name; group = group }) (pin_values pins v group.support) a c.to s) e
     ∙ machine_step-filled group name place a c.to (pin_values pins v group.support) s ascends inside
-        (length-map group.support (pin_value pins v))
+    (length-map group.support (pin_value pins v))
 
 pub moved-none :
     (pins : List Pin) (name : ℕ) (group : StateGroup) (v : List Trit) (a : Trit) (c : Change) (s : Trit)
@@ -80,12 +80,12 @@ pub violated-filled :
     (pins : List Pin) (name : ℕ) (group : StateGroup) (v : List Trit) (base : ℕ)
     → GroupFacts base group
     → violated pins (record { name = name; group = group }) v
-      ≡ res (λ p. forced_after group.kind name group.support (written no_values group.support p))
-          (pin_values pins v group.support)
+    ≡ res (λ p. forced_after group.kind name group.support (written no_values group.support p))
+    (pin_values pins v group.support)
 violated-filled pins name group v base facts =
     forced-filled group name (pin_values pins v group.support) facts.ascends
-        (subst (λ n. AllBelow n group.support) (sym length-no_values) facts.inside)
-        (length-map group.support (pin_value pins v))
+    (subst (λ n. AllBelow n group.support) (sym length-no_values) facts.inside)
+    (length-map group.support (pin_value pins v))
 
 -- the group with the number i, with the name of its state
 pub named-at :

@@ -1,23 +1,22 @@
 -- What the rules of a cell say of its outputs.
-use Rattle.std.proofs.Common.{◌≡◌, ℕ, zero, suc, ◌+◌, ◌*◌, ◌<◌, ◌≤◌, Bool, true, false, ◌&&◌, ◌||◌, ◌==◌, List, [], ◌∷◌, ◌++◌, length, map, refl, sym, ap, ◌∙◌, subst, arith, IsTrue, Option, Some, None, slice_get, nat_eq, nat_lt, nat_le, inl, inr, eqb-true, if◌then◌else◌}
+use Rattle.std.proofs.Common.{◌≡◌, ℕ, zero, suc, ◌+◌, ◌*◌, ◌<◌, ◌≤◌, Bool, true, false, List, [], ◌∷◌, length, map, refl, sym, ◌∙◌, subst, arith, IsTrue, Some, slice_get, nat_eq, nat_lt, eqb-true, if◌then◌else◌}
 use Rattle.std.specs.Prelude.{flat_map}
 use Rattle.std.specs.List.{list_all}
 use Rattle.std.proofs.lemmas.List.Folds.{list_all-append}
 use Rattle.std.proofs.lemmas.List.{length-map}
-use Rattle.std.proofs.lemmas.Bool.{and_parts, and_from, or_cases, ltb-true, lt-ltb, leb-true}
-use Rattle.bool_functions.specs.Tree.{names_of, name_bound}
+use Rattle.std.proofs.lemmas.Bool.{and_parts, and_from, ltb-true, lt-ltb, leb-true}
+use Rattle.bool_functions.specs.Tree.{names_of}
 use Rattle.cell_machine.specs.declared.pins.Pin.{Pin}
-use Rattle.cell_machine.specs.declared.groups.GroupKind.{GroupKind}
 use Rattle.cell_machine.specs.declared.groups.StateGroup.{StateGroup}
 use Rattle.cell_machine.specs.declared.outputs.Source.{Source}
 use Rattle.cell_machine.specs.declared.outputs.Source.TheVariants as source
 use Rattle.cell_machine.specs.declared.outputs.OutputPin.{OutputPin}
 use Rattle.cell_machine.specs.declared.cells.Cell.{Cell}
-use Rattle.cell_machine.specs.Names.{has, state_name, source_name}
+use Rattle.cell_machine.specs.Names.{has, source_name}
 use Rattle.cell_machine.specs.CellRules.{is_input_pin, second_names, names_behind, is_source, is_output_of}
 use Rattle.cell_machine.specs.Supports.{StatesBelow, OutputFacts}
 use Rattle.cell_machine.proofs.RuleLemmas.{few_pins, few_groups, outputs_hold}
-use Rattle.cell_machine.proofs.CellFacts.{input-below, list_all-implied, has-all, name_bound-below}
+use Rattle.cell_machine.proofs.CellFacts.{input-below, has-all, name_bound-below}
 
 -- a passed test of a list is passed at each element
 pub all-at : {X : Type 0} (p : X → Bool) (xs : List X) (i : ℕ) (x : X) → IsTrue (list_all p xs) → slice_get xs i ≡ Some x → IsTrue (p x)
@@ -77,10 +76,10 @@ all-behind-below :
 all-behind-below held name groups [] small room h = refl
 all-behind-below held name groups (i ∷ names) small room h =
     let parts =
-        and_parts (list_all (has held) (names_behind name groups i)) (list_all (has held) (flat_map (names_behind name groups) names))
-            (sym (list_all-append (has held) (names_behind name groups i) (flat_map (names_behind name groups) names)) ∙ h) in
+    and_parts (list_all (has held) (names_behind name groups i)) (list_all (has held) (flat_map (names_behind name groups) names))
+    (sym (list_all-append (has held) (names_behind name groups i) (flat_map (names_behind name groups) names)) ∙ h) in
     and_from _ _ (lt-ltb i 96 (behind-below held name groups i small room parts.0))
-        (all-behind-below held name groups names small room parts.1)
+    (all-behind-below held name groups names small room parts.1)
 
 output_facts :
     (pins : List Pin) (groups : List StateGroup) (output : OutputPin)
@@ -94,11 +93,11 @@ output_facts pins groups output few some h =
     let long : length output.support ≤ 10 = subst (λ n. n ≤ 10) (length-map output.support (source_name (length pins))) (leb-true _ _ one.0) in
     record {
       bounded =
-        name_bound-below 96 output.function
+          name_bound-below 96 output.function
           (all-behind-below held (length pins) groups (names_of output.function)
-            (names-small pins groups output.support few some two.0) (omega arith) four.0);
+          (names-small pins groups output.support few some two.0) (omega arith) four.0);
       states = states-below pins groups output.support two.0;
-      few = long
+      few = long;
     }
 
 pub cell_output_facts :
@@ -106,4 +105,4 @@ pub cell_output_facts :
     → slice_get cell.outputs i ≡ Some output → OutputFacts (length cell.groups) output
 cell_output_facts cell i output e =
     output_facts cell.pins cell.groups output (few_pins cell) (few_groups cell)
-        (all-at (is_output_of cell.pins cell.groups) cell.outputs i output (outputs_hold cell) e)
+    (all-at (is_output_of cell.pins cell.groups) cell.outputs i output (outputs_hold cell) e)

@@ -1,5 +1,5 @@
 -- The rules of a cell, taken apart and put together.
-use Rattle.std.proofs.Common.{◌≡◌, ℕ, ◌<◌, ◌≤◌, Bool, true, false, not, ◌&&◌, List, [], ◌∷◌, length, map, IsTrue, nat_lt, nat_le}
+use Rattle.std.proofs.Common.{ℕ, ◌≤◌, Bool, ◌&&◌, List, [], ◌∷◌, length, map, IsTrue, nat_lt, nat_le}
 use Rattle.std.specs.List.{list_all}
 use Rattle.std.proofs.lemmas.Bool.{and_parts, and_from, leb-true}
 use Rattle.cell_machine.specs.declared.pins.Pin.{Pin}
@@ -8,7 +8,7 @@ use Rattle.cell_machine.specs.declared.outputs.OutputPin.{OutputPin}
 use Rattle.cell_machine.specs.declared.checks.Check.{Check}
 use Rattle.cell_machine.specs.declared.arcs.Arc.{Arc}
 use Rattle.cell_machine.specs.declared.cells.Cell.{Cell}
-use Rattle.cell_machine.specs.CellRules.{is_name, is_input_pin, is_output_pin, has_events, longest_time, is_condition, is_check, is_arc, is_in_order, are_distinct, is_output_of, output_pins_from, are_pins, are_groups_from, are_groups, are_outputs, are_checks, are_arcs, is_cell, HoldsRules}
+use Rattle.cell_machine.specs.CellRules.{is_name, is_input_pin, is_output_pin, has_events, longest_time, is_condition, is_check, is_arc, is_in_order, is_output_of, are_pins, are_groups_from, are_groups, are_outputs, are_checks, are_arcs, is_cell, HoldsRules}
 
 pub rules_of :
     (name : List ℕ) (pins : List Pin) (groups : List StateGroup) (outputs : List OutputPin) (checks : List Check)
@@ -31,10 +31,10 @@ pub cell_of_rules :
     → HoldsRules name pins groups outputs checks arcs → IsTrue (is_cell name pins groups outputs checks arcs)
 cell_of_rules name pins groups outputs checks arcs r =
     and_from (is_name name) _ r.named
-        (and_from (are_pins pins) _ r.of_pins
-          (and_from (are_groups pins groups) _ r.of_groups
-            (and_from (are_outputs pins groups outputs) _ r.of_outputs
-              (and_from (are_checks pins checks) (are_arcs pins arcs) r.of_checks r.of_arcs))))
+    (and_from (are_pins pins) _ r.of_pins
+    (and_from (are_groups pins groups) _ r.of_groups
+    (and_from (are_outputs pins groups outputs) _ r.of_outputs
+    (and_from (are_checks pins checks) (are_arcs pins arcs) r.of_checks r.of_arcs))))
 
 pub cell_rules : (cell : Cell) → HoldsRules cell.name cell.pins cell.groups cell.outputs cell.checks cell.arcs
 cell_rules cell = rules_of cell.name cell.pins cell.groups cell.outputs cell.checks cell.arcs cell.sound
@@ -46,7 +46,7 @@ few_pins cell = leb-true (length cell.pins) 64 (and_parts (nat_le (length cell.p
 pub few_groups : (cell : Cell) → length cell.groups ≤ 16
 few_groups cell =
     leb-true (length cell.groups) 16
-        (and_parts (nat_le (length cell.groups) 16) (are_groups_from cell.pins (length cell.pins) cell.groups) (cell_rules cell).of_groups).0
+    (and_parts (nat_le (length cell.groups) 16) (are_groups_from cell.pins (length cell.pins) cell.groups) (cell_rules cell).of_groups).0
 
 pub groups_hold : (cell : Cell) → IsTrue (are_groups_from cell.pins (length cell.pins) cell.groups)
 groups_hold cell =
@@ -62,7 +62,7 @@ pub arcs_hold : (cell : Cell) → IsTrue (list_all (is_arc cell.pins) cell.arcs)
 arcs_hold cell =
     let order : Bool = is_in_order (map (λ (arc : Arc). arc.to) cell.arcs) in
     (and_parts (list_all (is_arc cell.pins) cell.arcs) order
-      (and_parts (nat_le (length cell.arcs) 1024) (list_all (is_arc cell.pins) cell.arcs && order) (cell_rules cell).of_arcs).1).0
+    (and_parts (nat_le (length cell.arcs) 1024) (list_all (is_arc cell.pins) cell.arcs && order) (cell_rules cell).of_arcs).1).0
 
 -- a check's events are of inputs, and its condition is one
 pub record CheckParts (pins : List Pin) (k : Check) : Type 0 where

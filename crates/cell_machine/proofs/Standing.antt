@@ -1,5 +1,5 @@
 -- The fields of a cell's simulator at the start and after a change.
-use Rattle.std.proofs.Common.{◌≡◌, ◌≢◌, ℕ, suc, ◌+◌, ◌<◌, Bool, true, false, not, ◌&&◌, List, [], ◌∷◌, length, map, replicate, get_or, set, take, refl, sym, ap, ◌∙◌, subst, arith, Option, Some, None, IsTrue, if◌then◌else◌}
+use Rattle.std.proofs.Common.{◌≡◌, ℕ, ◌+◌, Bool, true, false, not, List, [], ◌∷◌, length, map, replicate, get_or, set, take, refl, sym, ap, ◌∙◌, IsTrue, if◌then◌else◌}
 use Rattle.std.specs.Prelude.{count_by}
 use Rattle.std.specs.List.{list_all}
 use Rattle.std.proofs.lemmas.Bool.{and_parts}
@@ -9,7 +9,6 @@ use Rattle.trit_cubes.specs.declared.trits.Trit.TheVariants.{Unknown}
 use Rattle.trit_cubes.specs.Filling.{same}
 use Rattle.cell_machine.specs.declared.pins.Pin.{Pin}
 use Rattle.cell_machine.specs.declared.groups.StateGroup.{StateGroup}
-use Rattle.cell_machine.specs.declared.outputs.OutputPin.{OutputPin}
 use Rattle.cell_machine.specs.declared.checks.Check.{Check}
 use Rattle.cell_machine.specs.declared.changes.Change.{Change}
 use Rattle.cell_machine.specs.declared.times.Times.{Times}
@@ -21,7 +20,7 @@ use Rattle.cell_machine.specs.Report.{report, any_true}
 use Rattle.cell_machine.specs.Times.{no_times, stamped, times_after, report_by}
 use Rattle.cell_machine.specs.Inputs.{is_input_at, input_number}
 use Rattle.cell_machine.specs.Each.{each}
-use Rattle.cell_machine.specs.CellTrace.{inputs_of, check_names, arc_names, input_check, input_checks, reports_of, named_from, named_groups, NamedGroup, state_step, state_after, states_after, output_after}
+use Rattle.cell_machine.specs.CellTrace.{inputs_of, check_names, arc_names, input_check, input_checks, reports_of, named_from, named_groups, NamedGroup, state_step, state_after, states_after}
 use Rattle.cell_machine.specs.ShownOutputs.{shown_first, shown_step}
 use Rattle.cell_machine.specs.LibertyStands.{shown_after, Stands}
 use Rattle.cell_machine.proofs.RuleLemmas.{checks_hold, check_parts}
@@ -64,9 +63,9 @@ start-stands cell ncs nas count inputs times states reports shown cs as_ n i t s
       times_are = t ∙ ap (λ k. replicate k no_times) all;
       states_are = ss;
       reports_are =
-        r ∙ ap (λ k. replicate k false) (sym (length-map cell.checks (input_check cell.pins)))
-        ∙ sym (map-constant false (input_checks cell));
-      shown_are = o ∙ (λ j. map (shown_first cell.pins cell.groups (is j) (ss j)) cell.outputs)
+          r ∙ ap (λ k. replicate k false) (sym (length-map cell.checks (input_check cell.pins)))
+          ∙ sym (map-constant false (input_checks cell));
+      shown_are = o ∙ (λ j. map (shown_first cell.pins cell.groups (is j) (ss j)) cell.outputs);
     }
 
 -- the reports by the kept times are the reports of the history
@@ -74,15 +73,15 @@ reports-by :
     (pins : List Pin) (checks : List Check) (h : List Change) (c : Change)
     → IsTrue (list_all (is_check pins) checks)
     → map (λ k. report_by (input_check pins k) (value_before (inputs_after (count_by is_input_at pins) h) c)
-            (inputs_after (count_by is_input_at pins) (c ∷ h)) (times_after (count_by is_input_at pins) h) c) checks
-      ≡ map (λ k. report (count_by is_input_at pins) k (c ∷ h)) (map (input_check pins) checks)
+    (inputs_after (count_by is_input_at pins) (c ∷ h)) (times_after (count_by is_input_at pins) h) c) checks
+    ≡ map (λ k. report (count_by is_input_at pins) k (c ∷ h)) (map (input_check pins) checks)
 reports-by pins [] h c holds = refl
 reports-by pins (k ∷ ks) h c holds =
     let parts = and_parts (is_check pins k) (list_all (is_check pins) ks) holds in
     let events = check_parts pins k parts.0 in
     let first =
-        times_decide (count_by is_input_at pins) (input_check pins k) h c (input_number-below pins k.first.pin events.first)
-            (input_number-below pins k.second.pin events.second) in
+    times_decide (count_by is_input_at pins) (input_check pins k) h c (input_number-below pins k.first.pin events.first)
+    (input_number-below pins k.second.pin events.second) in
     let rest = reports-by pins ks h c parts.1 in
     λ i. sym first i ∷ rest i
 
@@ -91,7 +90,7 @@ states-change :
     (cell : Cell) (h : List Change) (c : Change) (groups : List NamedGroup) (event : Bool)
     (f : NamedGroup → Trit → Trit)
     → (if event then each f groups (map (state_after cell h) groups) else map (state_after cell h) groups)
-      ≡ map (λ g. if event then f g (state_after cell h g) else state_after cell h g) groups
+    ≡ map (λ g. if event then f g (state_after cell h g) else state_after cell h g) groups
 states-change cell h c groups true f = each-map f (state_after cell h) groups
 states-change cell h c groups false f = refl
 
@@ -106,30 +105,30 @@ pub change-stands :
     → times' ≡ set times c.pin (stamped c.at from' c.to (get_or times c.pin no_times))
     → reports' ≡ map (λ k. report_by (input_check cell.pins k) from' inputs' times c) cell.checks
     → states'
-      ≡ (if not (same from' c.to)
-        then each (λ g s. state_step (any_true reports') cell.pins g inputs' from' c s) (named_groups cell) states else states)
+    ≡ (if not (same from' c.to)
+    then each (λ g s. state_step (any_true reports') cell.pins g inputs' from' c s) (named_groups cell) states else states)
     → shown'
-      ≡ each (λ o s. shown_step cell.pins cell.groups cell.arcs inputs' states' c o s.value) cell.outputs shown
+    ≡ each (λ o s. shown_step cell.pins cell.groups cell.arcs inputs' states' c o s.value) cell.outputs shown
     → Stands cell names_of_checks names_of_arcs inputs' times' states' reports' shown' (c ∷ h)
 change-stands cell ncs nas inputs times states reports shown h c from' inputs' times' states' reports' shown' st f i t r s o =
     let n : ℕ = inputs_of cell in
     let fs : from' ≡ value_before (inputs_after n h) c = f ∙ ap (λ v. get_or v c.pin Unknown) st.inputs_are in
     let is : inputs' ≡ inputs_after n (c ∷ h) = i ∙ ap (λ v. set v c.pin c.to) st.inputs_are in
     let ts : times' ≡ times_after n (c ∷ h) =
-        t ∙ (λ j. set (st.times_are j) c.pin (stamped c.at (fs j) c.to (get_or (st.times_are j) c.pin no_times))) in
+    t ∙ (λ j. set (st.times_are j) c.pin (stamped c.at (fs j) c.to (get_or (st.times_are j) c.pin no_times))) in
     let rs : reports' ≡ reports_of cell (c ∷ h) =
-        r ∙ (λ j. map (λ k. report_by (input_check cell.pins k) (fs j) (is j) (st.times_are j) c) cell.checks)
-        ∙ reports-by cell.pins cell.checks h c (checks_hold cell) in
+    r ∙ (λ j. map (λ k. report_by (input_check cell.pins k) (fs j) (is j) (st.times_are j) c) cell.checks)
+    ∙ reports-by cell.pins cell.checks h c (checks_hold cell) in
     let ss : states' ≡ states_after cell (c ∷ h) =
-        s
-        ∙ (λ j.
-          if not (same (fs j) c.to)
-          then
-            each (λ g s. state_step (any_true (rs j)) cell.pins g (is j) (fs j) c s) (named_groups cell) (st.states_are j)
-          else st.states_are j)
-        ∙ states-change cell h c (named_groups cell) (is_event (inputs_after n h) c)
-            (λ g s. state_step (any_true (reports_of cell (c ∷ h))) cell.pins g (inputs_after n (c ∷ h))
-              (value_before (inputs_after n h) c) c s) in
+    s
+    ∙ (λ j.
+    if not (same (fs j) c.to)
+    then
+    each (λ g s. state_step (any_true (rs j)) cell.pins g (is j) (fs j) c s) (named_groups cell) (st.states_are j)
+    else st.states_are j)
+    ∙ states-change cell h c (named_groups cell) (is_event (inputs_after n h) c)
+    (λ g s. state_step (any_true (reports_of cell (c ∷ h))) cell.pins g (inputs_after n (c ∷ h))
+    (value_before (inputs_after n h) c) c s) in
     record {
       check_names_are = st.check_names_are;
       arc_names_are = st.arc_names_are;
@@ -138,10 +137,10 @@ change-stands cell ncs nas inputs times states reports shown h c from' inputs' t
       states_are = ss;
       reports_are = rs;
       shown_are =
-        o
-        ∙ (λ j.
+          o
+          ∙ (λ j.
           each (λ out s. shown_step cell.pins cell.groups cell.arcs (is j) (ss j) c out s.value) cell.outputs (st.shown_are j))
-        ∙ each-map
-            (λ out s. shown_step cell.pins cell.groups cell.arcs (inputs_after n (c ∷ h)) (states_after cell (c ∷ h)) c out s.value)
-            (shown_after cell h) cell.outputs
+          ∙ each-map
+          (λ out s. shown_step cell.pins cell.groups cell.arcs (inputs_after n (c ∷ h)) (states_after cell (c ∷ h)) c out s.value)
+          (shown_after cell h) cell.outputs;
     }

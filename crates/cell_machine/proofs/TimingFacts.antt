@@ -1,11 +1,11 @@
 -- What the rules of a cell say of its checks and arcs.
-use Rattle.std.proofs.Common.{◌≡◌, ℕ, zero, suc, ◌+◌, ◌<◌, ◌≤◌, Bool, true, false, not, ◌&&◌, List, [], ◌∷◌, length, refl, sym, ap, ◌∙◌, subst, arith, IsTrue, Option, Some, None, slice_get, take, nat_lt, ◌==◌, eqb-true, cond, if◌then◌else◌}
+use Rattle.std.proofs.Common.{◌≡◌, ℕ, zero, suc, ◌+◌, ◌<◌, ◌≤◌, Bool, true, false, not, ◌&&◌, List, [], ◌∷◌, length, refl, sym, ap, subst, arith, IsTrue, Option, Some, None, slice_get, take, nat_lt, ◌==◌, eqb-true, cond, if◌then◌else◌}
 use Rattle.std.proofs.lemmas.List.Sums.{sum_by-cons}
 use Rattle.std.specs.Prelude.{count_by}
 use Rattle.std.specs.List.{list_all}
-use Rattle.std.proofs.lemmas.Bool.{and_parts, and_from, lt-ltb, leb-true}
+use Rattle.std.proofs.lemmas.Bool.{and_parts, and_from, lt-ltb}
 use Rattle.bool_functions.specs.declared.tree.Node.{Node}
-use Rattle.bool_functions.specs.Tree.{names_of, name_bound}
+use Rattle.bool_functions.specs.Tree.{names_of}
 use Rattle.bool_functions.specs.Support.{support_of, inserted, insert_all}
 use Rattle.cell_machine.specs.declared.pins.Pin.{Pin}
 use Rattle.cell_machine.specs.declared.checks.Check.{Check}
@@ -72,10 +72,10 @@ condition-bounded pins apart None few h = tt
 condition-bounded pins apart (Some f) few h =
     let named = (and_parts _ _ (and_parts _ _ h).1).1 in
     name_bound-below 96 f
-        (support-passes (λ i. nat_lt i 96) [] (names_of f)
-          (list_all-implied (λ i. is_input_pin pins i && not (has apart i)) (λ i. nat_lt i 96) (support_of f)
-            (λ i k. let below : i < length pins = input-below pins i (and_parts _ _ k).0 in lt-ltb i 96 (omega arith))
-            named)).1
+    (support-passes (λ i. nat_lt i 96) [] (names_of f)
+    (list_all-implied (λ i. is_input_pin pins i && not (has apart i)) (λ i. nat_lt i 96) (support_of f)
+    (λ i k. let below : i < length pins = input-below pins i (and_parts _ _ k).0 in lt-ltb i 96 (omega arith))
+    named)).1
 
 pub cell_check_facts :
     (cell : Cell) (i : ℕ) (k : Check) → slice_get cell.checks i ≡ Some k → CheckFacts cell.pins k
@@ -84,11 +84,11 @@ cell_check_facts cell i k e =
     record {
       bounded = condition-bounded cell.pins (k.first.pin ∷ k.second.pin ∷ []) k.condition (few_pins cell) parts.enabled;
       first = input_number-below cell.pins k.first.pin parts.first;
-      second = input_number-below cell.pins k.second.pin parts.second
+      second = input_number-below cell.pins k.second.pin parts.second;
     }
 
 pub cell_arc_bounded :
     (cell : Cell) (i : ℕ) (arc : Arc) → slice_get cell.arcs i ≡ Some arc → IsBounded arc.condition
 cell_arc_bounded cell i arc e =
     condition-bounded cell.pins (arc.from ∷ []) arc.condition (few_pins cell)
-        (arc_condition cell.pins arc (all-at (is_arc cell.pins) cell.arcs i arc (arcs_hold cell) e))
+    (arc_condition cell.pins arc (all-at (is_arc cell.pins) cell.arcs i arc (arcs_hold cell) e))

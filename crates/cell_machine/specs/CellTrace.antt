@@ -1,5 +1,5 @@
 -- The machine of a cell: its states, its outputs, its reports and its delays after each history of its inputs.
-use Rattle.std.specs.Prelude.{ℕ, ◌+◌, Bool, true, false, not, ◌&&◌, ◌||◌, List, [], ◌∷◌, length, map, filter, count_by, take, nat_eq, Option, Some, None, position, slice_get, slice_index_or, slice_set, if◌then◌else◌}
+use Rattle.std.specs.Prelude.{ℕ, ◌+◌, Bool, true, false, not, ◌&&◌, ◌||◌, List, [], ◌∷◌, length, map, filter, count_by, nat_eq, Option, Some, None, position, slice_get, slice_index_or, if◌then◌else◌}
 use Rattle.std.specs.List.{list_all}
 use Rattle.std.specs.Option.{option_map_or}
 use Rattle.cell_machine.specs.Names.{state_name}
@@ -19,7 +19,6 @@ use Rattle.cell_machine.specs.declared.arcs.Arc.{Arc}
 use Rattle.cell_machine.specs.declared.changes.Change.{Change}
 use Rattle.cell_machine.specs.declared.cells.Cell.{Cell}
 use Rattle.bool_functions.specs.Support.{support_of}
-use Rattle.cell_machine.specs.CellRules.{is_input}
 use Rattle.cell_machine.specs.Inputs.{is_input_at, input_number, pin_value, pin_values}
 use Rattle.cell_machine.specs.History.{inputs_after, value_before, is_event}
 use Rattle.cell_machine.specs.Report.{InputCheck, reports, any_true}
@@ -133,8 +132,8 @@ state_after cell [] g = Unknown
 state_after cell (c ∷ h) g =
     (if is_event (inputs_after (inputs_of cell) h) c
     then
-      state_step (any_true (reports_of cell (c ∷ h))) cell.pins g (inputs_after (inputs_of cell) (c ∷ h))
-        (value_before (inputs_after (inputs_of cell) h) c) c (state_after cell h g)
+    state_step (any_true (reports_of cell (c ∷ h))) cell.pins g (inputs_after (inputs_of cell) (c ∷ h))
+    (value_before (inputs_after (inputs_of cell) h) c) c (state_after cell h g)
     else state_after cell h g)
 
 -- the states of all groups after a history

@@ -20,7 +20,7 @@ TimesDecideReports =
     (n : ℕ) (k : InputCheck) (h : List Change) (c : Change)
     → k.first.pin < n → k.second.pin < n
     → report n k (c ∷ h)
-      ≡ report_by k (value_before (inputs_after n h) c) (inputs_after n (c ∷ h)) (times_after n h) c
+    ≡ report_by k (value_before (inputs_after n h) c) (inputs_after n (c ∷ h)) (times_after n h) c
 
 -- Where inputs force a state, each change of one input to them gives the forced value, from every state.
 abbrev pub ForcedIsStep : Type 0

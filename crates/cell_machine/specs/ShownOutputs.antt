@@ -1,5 +1,5 @@
 -- What an output shows after a change.
-use Rattle.std.specs.Prelude.{ℕ, List, None}
+use Rattle.std.specs.Prelude.{List, None}
 use Rattle.trit_cubes.specs.declared.trits.Trit.{Trit}
 use Rattle.cell_machine.specs.declared.pins.Pin.{Pin}
 use Rattle.cell_machine.specs.declared.groups.StateGroup.{StateGroup}
@@ -14,7 +14,7 @@ abbrev pub shown_step : List Pin → List StateGroup → List Arc → List Trit 
 shown_step pins groups arcs v states c output a =
     record {
       value = output_value pins groups v states output;
-      delay = delay_at pins arcs v c output a (output_value pins groups v states output)
+      delay = delay_at pins arcs v c output a (output_value pins groups v states output);
     }
 
 -- the value of an output, without a delay, at the start

@@ -1,8 +1,6 @@
 -- Each line of a cell has an entry for each output and each check.
-use Rattle.std.specs.Prelude.{◌≡◌, List, length, map}
 use Rattle.std.proofs.Common.{◌∙◌}
 use Rattle.std.proofs.lemmas.List.{length-map}
-use Rattle.cell_machine.specs.declared.changes.Change.{Change}
 use Rattle.cell_machine.specs.declared.cells.Cell.{Cell}
 use Rattle.cell_machine.specs.Report.{report}
 use Rattle.cell_machine.specs.Lines.{IsSized}
@@ -14,6 +12,6 @@ cell_machine_sized cell =
       values = λ h. length-map cell.outputs (output_after cell h);
       delays = λ h. length-map cell.outputs (delay_after cell h);
       reports = λ h.
-        length-map (input_checks cell) (λ k. report (inputs_of cell) k h)
-        ∙ length-map cell.checks (input_check cell.pins)
+          length-map (input_checks cell) (λ k. report (inputs_of cell) k h)
+          ∙ length-map cell.checks (input_check cell.pins);
     }

@@ -1,5 +1,5 @@
 -- The kept times of an input's last events.
-use Rattle.std.specs.Prelude.{ℕ, Bool, ◌&&◌, not, List, [], ◌∷◌, replicate, slice_index_or, slice_set, Option, Some, None, if◌then◌else◌}
+use Rattle.std.specs.Prelude.{ℕ, Bool, ◌&&◌, List, [], ◌∷◌, replicate, slice_index_or, slice_set, Option, Some, None, if◌then◌else◌}
 use Rattle.trit_cubes.specs.declared.trits.Trit.{Trit}
 use Rattle.cell_machine.specs.declared.checks.Edge.{Edge}
 use Rattle.cell_machine.specs.declared.checks.Edge.TheVariants as edge
@@ -34,7 +34,7 @@ stamped at a b t =
     record {
       last = renewed (moves edge.Any a b) at t.last;
       rise = renewed (moves edge.Rise a b) at t.rise;
-      fall = renewed (moves edge.Fall a b) at t.fall
+      fall = renewed (moves edge.Fall a b) at t.fall;
     }
 
 -- the times of all inputs after a change of one that had the value a

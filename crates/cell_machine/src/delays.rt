@@ -59,7 +59,13 @@ fn all_are_quiet(cell: &Cell, names: &[Items<usize>], arc: &Arc, inputs: &[Trit]
 {
     for i in 0..cell.arcs.len() {
         let other = cell.arc(i);
-        if !is_quiet(arc, other, names[i].as_slice(), cell.pins.as_slice(), inputs) {
+        if !is_quiet(
+            arc,
+            other,
+            names[i].as_slice(),
+            cell.pins.as_slice(),
+            inputs,
+        ) {
             return false;
         }
     }
@@ -74,7 +80,12 @@ fn is_active(cell: &Cell, names: &[Items<usize>], i: usize, inputs: &[Trit]) -> 
 {
     let arc = cell.arc(i);
     match &arc.condition {
-        Some(condition) => condition_value(condition, names[i].as_slice(), cell.pins.as_slice(), inputs) != Trit::Zero,
+        Some(condition) => condition_value(
+            condition,
+            names[i].as_slice(),
+            cell.pins.as_slice(),
+            inputs,
+        ) != Trit::Zero,
         None => all_are_quiet(cell, names, arc, inputs),
     }
 }
@@ -94,15 +105,26 @@ pub struct OutputChange {
 }
 
 // An arc's delay of a change, there where the arc leads from the input to the output and is active.
-fn arc_delay(cell: &Cell, names: &[Items<usize>], i: usize, inputs: &[Trit], change: &OutputChange) -> Option<u64>
+fn arc_delay(
+    cell: &Cell,
+    names: &[Items<usize>],
+    i: usize,
+    inputs: &[Trit],
+    change: &OutputChange,
+) -> Option<u64>
     requires names { names.now ≡ arc_names cell.now }
     requires inside { i < length cell.now.arcs }
     ensures { (arc : ArcOf) → slice_get cell.now.arcs i ≡ Some arc → result ≡ arc_delay cell.now.pins cell.now.arcs inputs.now change.now.input change.now.pin change.now.from change.now.to arc }
 {
     let arc = cell.arc(i);
-    let leads = input_number(cell.pins.as_slice(), arc.from) == change.input && arc.to == change.pin;
+    let leads = input_number(cell.pins.as_slice(), arc.from) == change.input
+        && arc.to == change.pin;
     if leads && is_active(cell, names, i, inputs) {
-        Some(if is_rise(change.from, change.to) { arc.rise } else { arc.fall })
+        Some(if is_rise(change.from, change.to) {
+            arc.rise
+        } else {
+            arc.fall
+        })
     } else {
         None
     }
@@ -110,7 +132,12 @@ fn arc_delay(cell: &Cell, names: &[Items<usize>], i: usize, inputs: &[Trit], cha
 
 /// The delay of a change of an output: the least over the active arcs from the input to the output, 0 where none is
 /// active. `names` are those of the arcs' conditions.
-pub fn least_delay(cell: &Cell, names: &[Items<usize>], inputs: &[Trit], change: &OutputChange) -> u64
+pub fn least_delay(
+    cell: &Cell,
+    names: &[Items<usize>],
+    inputs: &[Trit],
+    change: &OutputChange,
+) -> u64
     requires { names.now ≡ arc_names cell.now }
     ensures { result ≡ least_delay change.now.from change.now.to (paths_between cell.now.pins cell.now.arcs inputs.now change.now.input change.now.pin) }
 {

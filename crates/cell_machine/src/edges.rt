@@ -42,5 +42,9 @@ pub fn moves(edge: Edge, from: Trit, to: Trit) -> bool
 pub fn edge_of(from: Trit, to: Trit) -> Edge
     ensures { result ≡ edge_of from to }
 {
-    if is_rise(from, to) { Edge::Rise } else { Edge::Fall }
+    if is_rise(from, to) {
+        Edge::Rise
+    } else {
+        Edge::Fall
+    }
 }

@@ -9,7 +9,6 @@ ghost use Rattle.cell_machine.specs.Step.{trit_of, KindIsBounded};
 ghost use Rattle.cell_machine.specs.Outputs.{second_by, second_value, second_names, second_trits, chosen_value, condition_at, is_one, is_zero};
 ghost use Rattle.cell_machine.specs.Inputs.{pin_value, pin_values};
 ghost use Rattle.cell_machine.specs.CellTrace.{source_value, output_value, condition_value};
-
 ghost use Rattle.cell_machine.specs.Supports.{StatesBelow, OutputFacts};
 
 use crate::cells::Cell;
@@ -23,7 +22,13 @@ use bool_functions::Function;
 use trit_cubes::Trit;
 
 // The second variable of a group with the state `state`.
-fn second_by(clear: &Option<Function>, preset: &Option<Function>, both: Both, values: &Values, state: bool) -> Trit
+fn second_by(
+    clear: &Option<Function>,
+    preset: &Option<Function>,
+    both: Both,
+    values: &Values,
+    state: bool,
+) -> Trit
     requires clear { IsBounded clear.now }
     requires preset { IsBounded preset.now }
     ensures { result ≡ second_by clear.now preset.now both values.now state }
@@ -45,7 +50,13 @@ impl GroupKind {
     {
         match self {
             GroupKind::Ff(kind) => second_by(&kind.clear, &kind.preset, kind.both2, values, state),
-            GroupKind::Latch(kind) => second_by(&kind.clear, &kind.preset, kind.both2, values, state),
+            GroupKind::Latch(kind) => second_by(
+                &kind.clear,
+                &kind.preset,
+                kind.both2,
+                values,
+                state,
+            ),
             GroupKind::Table { .. } => trit_of(!state),
         }
     }
@@ -64,7 +75,13 @@ fn second_value(cell: &Cell, values: &Values, g: usize) -> Trit
 
 // The value of a function for each choice of the second variables that may have either value. `values` are those of the
 // sources, `filled` those with the second variables written over.
-fn chosen_from(cell: &Cell, function: &Function, rest: &[Source], values: &Values, filled: Values) -> Trit
+fn chosen_from(
+    cell: &Cell,
+    function: &Function,
+    rest: &[Source],
+    values: &Values,
+    filled: Values,
+) -> Trit
     requires bounded { name_bound function.now ≤ 96 }
     requires states { StatesBelow (length cell.now.groups) rest.now }
     ensures { result ≡ res (λ choice. trit_of (value_of (written filled (second_names (length cell.now.pins) rest.now) choice) function.now)) (second_trits (length cell.now.pins) cell.now.groups values.now rest.now) }
@@ -87,13 +104,26 @@ fn chosen_from(cell: &Cell, function: &Function, rest: &[Source], values: &Value
 }
 
 // The value of an output for each filling of the sources in `rest`.
-fn output_from(cell: &Cell, output: &OutputPin, inputs: &[Trit], states: &[Trit], rest: &[Source], values: Values) -> Trit
+fn output_from(
+    cell: &Cell,
+    output: &OutputPin,
+    inputs: &[Trit],
+    states: &[Trit],
+    rest: &[Source],
+    values: Values,
+) -> Trit
     requires facts { OutputFacts (length cell.now.groups) output.now }
     requires states { StatesBelow (length cell.now.groups) rest.now }
     ensures { result ≡ res (λ p. chosen_value (length cell.now.pins) cell.now.groups output.now (written values (map (source_name (length cell.now.pins)) rest.now) p)) (map (source_value cell.now.pins inputs.now states.now) rest.now) }
 {
     let Some((first, rest)) = rest.split_first() else {
-        return chosen_from(cell, &output.function, output.support.as_slice(), &values, values);
+        return chosen_from(
+            cell,
+            &output.function,
+            output.support.as_slice(),
+            &values,
+            values,
+        );
     };
     let name = source_name(cell, *first);
     match source_value(cell.pins.as_slice(), inputs, states, *first) {
@@ -135,11 +165,24 @@ pub fn output_value(cell: &Cell, output: &OutputPin, inputs: &[Trit], states: &[
     requires { OutputFacts (length cell.now.groups) output.now }
     ensures { result ≡ output_value cell.now.pins cell.now.groups inputs.now states.now output.now }
 {
-    output_from(cell, output, inputs, states, output.support.as_slice(), Values::new())
+    output_from(
+        cell,
+        output,
+        inputs,
+        states,
+        output.support.as_slice(),
+        Values::new(),
+    )
 }
 
 /// The value of a condition, for each filling of the pins in `rest`.
-fn condition_from(condition: &Function, pins: &[Pin], inputs: &[Trit], rest: &[usize], values: Values) -> Trit
+fn condition_from(
+    condition: &Function,
+    pins: &[Pin],
+    inputs: &[Trit],
+    rest: &[usize],
+    values: Values,
+) -> Trit
     requires { name_bound condition.now ≤ 96 }
     ensures { result ≡ res (λ p. trit_of (value_of (written values rest.now p) condition.now)) (pin_values pins.now inputs.now rest.now) }
 {

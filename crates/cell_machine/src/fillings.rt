@@ -89,13 +89,23 @@ fn all_filled(
 }
 
 // The same less the name at a place, which is written before.
-fn others_filled(kind: &GroupKind, name: usize, place: usize, names: &[usize], trits: &[Trit], before: Values, after: Values, state: Trit) -> Trit
+fn others_filled(
+    kind: &GroupKind,
+    name: usize,
+    place: usize,
+    names: &[usize],
+    trits: &[Trit],
+    before: Values,
+    after: Values,
+    state: Trit,
+) -> Trit
     requires name { name < 96 }
     requires bounded { KindIsBounded kind.now }
     requires one_each { length names.now ≡ length trits.now }
     ensures { result ≡ all_filled kind.now name (without place names.now) (without place trits.now) before after state }
 {
-    let (Some((first, names)), Some((trit, trits))) = (names.split_first(), trits.split_first()) else {
+    let (Some((first, names)), Some((trit, trits))) = (names.split_first(), trits.split_first())
+    else {
         return state_filled(kind, name, &before, &after, state);
     };
     if place == 0 {
@@ -104,11 +114,47 @@ fn others_filled(kind: &GroupKind, name: usize, place: usize, names: &[usize], t
     let first = *first;
     let place = place - 1;
     match *trit {
-        Trit::Zero => others_filled(kind, name, place, names, trits, before.with(first, false), after.with(first, false), state),
-        Trit::One => others_filled(kind, name, place, names, trits, before.with(first, true), after.with(first, true), state),
+        Trit::Zero => others_filled(
+            kind,
+            name,
+            place,
+            names,
+            trits,
+            before.with(first, false),
+            after.with(first, false),
+            state,
+        ),
+        Trit::One => others_filled(
+            kind,
+            name,
+            place,
+            names,
+            trits,
+            before.with(first, true),
+            after.with(first, true),
+            state,
+        ),
         Trit::Unknown => {
-            let zero = others_filled(kind, name, place, names, trits, before.with(first, false), after.with(first, false), state);
-            zero.agreed(others_filled(kind, name, place, names, trits, before.with(first, true), after.with(first, true), state))
+            let zero = others_filled(
+                kind,
+                name,
+                place,
+                names,
+                trits,
+                before.with(first, false),
+                after.with(first, false),
+                state,
+            );
+            zero.agreed(others_filled(
+                kind,
+                name,
+                place,
+                names,
+                trits,
+                before.with(first, true),
+                after.with(first, true),
+                state,
+            ))
         }
     }
 }
@@ -127,7 +173,15 @@ pub struct PinChange {
 }
 
 // The step for each filling of the changed input's new value too.
-fn new_filled(kind: &GroupKind, name: usize, change: PinChange, names: &[usize], trits: &[Trit], before: Values, state: Trit) -> Trit
+fn new_filled(
+    kind: &GroupKind,
+    name: usize,
+    change: PinChange,
+    names: &[usize],
+    trits: &[Trit],
+    before: Values,
+    state: Trit,
+) -> Trit
     requires name { name < 96 }
     requires bounded { KindIsBounded kind.now }
     requires one_each { length names.now ≡ length trits.now }
@@ -136,18 +190,61 @@ fn new_filled(kind: &GroupKind, name: usize, change: PinChange, names: &[usize],
     let none = Values::new();
     let place = change.place;
     match change.to {
-        Trit::Zero => others_filled(kind, name, place, names, trits, before, none.with(change.pin, false), state),
-        Trit::One => others_filled(kind, name, place, names, trits, before, none.with(change.pin, true), state),
+        Trit::Zero => others_filled(
+            kind,
+            name,
+            place,
+            names,
+            trits,
+            before,
+            none.with(change.pin, false),
+            state,
+        ),
+        Trit::One => others_filled(
+            kind,
+            name,
+            place,
+            names,
+            trits,
+            before,
+            none.with(change.pin, true),
+            state,
+        ),
         Trit::Unknown => {
-            let zero = others_filled(kind, name, place, names, trits, before, none.with(change.pin, false), state);
-            zero.agreed(others_filled(kind, name, place, names, trits, before, none.with(change.pin, true), state))
+            let zero = others_filled(
+                kind,
+                name,
+                place,
+                names,
+                trits,
+                before,
+                none.with(change.pin, false),
+                state,
+            );
+            zero.agreed(others_filled(
+                kind,
+                name,
+                place,
+                names,
+                trits,
+                before,
+                none.with(change.pin, true),
+                state,
+            ))
         }
     }
 }
 
 /// The step at a change of a pin of the support, for each filling of its values before and after, of the other pins of
 /// the support, and of the state.
-pub fn change_filled(kind: &GroupKind, name: usize, change: PinChange, names: &[usize], trits: &[Trit], state: Trit) -> Trit
+pub fn change_filled(
+    kind: &GroupKind,
+    name: usize,
+    change: PinChange,
+    names: &[usize],
+    trits: &[Trit],
+    state: Trit,
+) -> Trit
     requires name { name < 96 }
     requires bounded { KindIsBounded kind.now }
     requires one_each { length names.now ≡ length trits.now }
@@ -155,11 +252,43 @@ pub fn change_filled(kind: &GroupKind, name: usize, change: PinChange, names: &[
 {
     let none = Values::new();
     match change.from {
-        Trit::Zero => new_filled(kind, name, change, names, trits, none.with(change.pin, false), state),
-        Trit::One => new_filled(kind, name, change, names, trits, none.with(change.pin, true), state),
+        Trit::Zero => new_filled(
+            kind,
+            name,
+            change,
+            names,
+            trits,
+            none.with(change.pin, false),
+            state,
+        ),
+        Trit::One => new_filled(
+            kind,
+            name,
+            change,
+            names,
+            trits,
+            none.with(change.pin, true),
+            state,
+        ),
         Trit::Unknown => {
-            let zero = new_filled(kind, name, change, names, trits, none.with(change.pin, false), state);
-            zero.agreed(new_filled(kind, name, change, names, trits, none.with(change.pin, true), state))
+            let zero = new_filled(
+                kind,
+                name,
+                change,
+                names,
+                trits,
+                none.with(change.pin, false),
+                state,
+            );
+            zero.agreed(new_filled(
+                kind,
+                name,
+                change,
+                names,
+                trits,
+                none.with(change.pin, true),
+                state,
+            ))
         }
     }
 }

@@ -39,12 +39,11 @@ pub struct LibertySim<'a> {
 impl<'a> LibertySim<'a> {
     ghost use Rattle.std.specs.Prelude.{IfOk};
     ghost use Rattle.cell_machine.specs.CellTrace.{cell_machine_of};
-    ghost use Rattle.cell_machine.specs.LibertyStands.{Stands};
 
     /// The simulator of a cell before any change: all inputs and all states are unknown.
     pub fn start(alloc: Global, cell: &'a Cell) -> Result<LibertySim<'a>, Memory>
-        ensures cell { IfOk result (λ sim. sim.cell.now ≡ cell.now) }
-        ensures stands { IfOk result (λ sim. Stands cell.now sim.check_names sim.arc_names sim.inputs sim.times sim.states sim.reports sim.shown []) }
+        ensures machine { IfOk result (λ sim. ⟦<LibertySim<'a> as CellSim>⟧.machine sim ≡ cell_machine_of cell.now) }
+        ensures stands { IfOk result (λ sim. ⟦<LibertySim<'a> as CellSim>⟧.stands sim []) }
     {
         let check_names = check_names(alloc, cell)?;
         let arc_names = arc_names(alloc, cell)?;
@@ -94,12 +93,34 @@ impl<'a> CellSim for LibertySim<'a> {
         let times = self.times.as_slice()[pin].stamped(at, from, to);
         self.inputs.set(pin, to);
         let names = self.check_names.as_slice();
-        report_all(self.cell, names, self.inputs.as_slice(), self.times.as_slice(), from, change, &mut self.reports);
+        report_all(
+            self.cell,
+            names,
+            self.inputs.as_slice(),
+            self.times.as_slice(),
+            from,
+            change,
+            &mut self.reports,
+        );
         let reported = any_true(self.reports.as_slice());
-        change_states(self.cell, reported, self.inputs.as_slice(), from, change, &mut self.states);
+        change_states(
+            self.cell,
+            reported,
+            self.inputs.as_slice(),
+            from,
+            change,
+            &mut self.states,
+        );
         self.times.set(pin, times);
         let names = self.arc_names.as_slice();
-        show_all(self.cell, names, self.inputs.as_slice(), self.states.as_slice(), change, &mut self.shown);
+        show_all(
+            self.cell,
+            names,
+            self.inputs.as_slice(),
+            self.states.as_slice(),
+            change,
+            &mut self.shown,
+        );
     }
 
     fn output(&self, place: usize) -> Trit {

@@ -34,7 +34,12 @@ impl CheckKind {
 }
 
 // Whether a check's condition is 1, or there is none.
-fn condition_holds(condition: &Option<Function>, names: &[usize], pins: &[Pin], inputs: &[Trit]) -> bool
+fn condition_holds(
+    condition: &Option<Function>,
+    names: &[usize],
+    pins: &[Pin],
+    inputs: &[Trit],
+) -> bool
     requires bounded { IsBounded condition.now }
     requires names { names.now ≡ condition_names condition.now }
     ensures { result ≡ condition_holds pins.now inputs.now condition.now }
@@ -67,33 +72,65 @@ fn opened(check: &Check, pins: &[Pin], times: &[Times], from: Trit, change: Chan
     ensures { result ≡ time_of (opening (input_check pins.now check.now) from change) times.now }
 {
     if check.kind.is_period() {
-        time_of(times, input_number(pins, check.second.pin), edge_of(from, change.to))
+        time_of(
+            times,
+            input_number(pins, check.second.pin),
+            edge_of(from, change.to),
+        )
     } else {
         time_of(times, input_number(pins, check.first.pin), check.first.edge)
     }
 }
 
 // Whether a check reports. `inputs` are those after the change, `times` those before it.
-fn reports(check: &Check, names: &[usize], pins: &[Pin], inputs: &[Trit], times: &[Times], from: Trit, change: Change) -> bool
+fn reports(
+    check: &Check,
+    names: &[usize],
+    pins: &[Pin],
+    inputs: &[Trit],
+    times: &[Times],
+    from: Trit,
+    change: Change,
+) -> bool
     requires bounded { IsBounded check.now.condition }
     requires names { names.now ≡ condition_names check.now.condition }
     ensures { result ≡ report_by (input_check pins.now check.now) from inputs.now times.now change }
 {
     happens(check.second, pins, from, change)
         && condition_holds(&check.condition, names, pins, inputs)
-        && is_within(change.at, check.limit, opened(check, pins, times, from, change))
+        && is_within(
+            change.at,
+            check.limit,
+            opened(check, pins, times, from, change),
+        )
 }
 
 /// Writes for each check whether it reports. `names` are those of the conditions, `inputs` the inputs after the change,
 /// `times` those before it, and `from` is the value that the changed input had.
-pub fn report_all(cell: &Cell, names: &[Items<usize>], inputs: &[Trit], times: &[Times], from: Trit, change: Change, reports_of: &mut Items<bool>)
+pub fn report_all(
+    cell: &Cell,
+    names: &[Items<usize>],
+    inputs: &[Trit],
+    times: &[Times],
+    from: Trit,
+    change: Change,
+    reports_of: &mut Items<bool>,
+)
     requires names { names.now ≡ check_names cell.now }
     requires one_each { length reports_of.old ≡ length cell.now.checks }
     ensures { reports_of.new ≡ map (λ k. report_by (input_check cell.now.pins k) from inputs.now times.now change) cell.now.checks }
 {
     let pins = cell.pins.as_slice();
     for i in 0..reports_of.len() {
-        let reported = reports(cell.check(i), names[i].as_slice(), pins, inputs, times, from, change);
+        let reported = reports(
+            cell.check(i),
+            names[i].as_slice(),
+            pins,
+            inputs,
+            times,
+            from,
+            change,
+        );
         reports_of.set(i, reported);
     }
 }

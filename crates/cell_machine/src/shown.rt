@@ -24,7 +24,15 @@ pub struct Shown {
 }
 
 // What one output shows after a change, where it showed the value `was` before.
-fn shown_step(cell: &Cell, names: &[Items<usize>], i: usize, inputs: &[Trit], states: &[Trit], change: Change, was: Trit) -> Shown
+fn shown_step(
+    cell: &Cell,
+    names: &[Items<usize>],
+    i: usize,
+    inputs: &[Trit],
+    states: &[Trit],
+    change: Change,
+    was: Trit,
+) -> Shown
     requires names { names.now ≡ arc_names cell.now }
     requires inside { i < length cell.now.outputs }
     ensures { (output : OutputPinOf) → slice_get cell.now.outputs i ≡ Some output → result ≡ shown_step cell.now.pins cell.now.groups cell.now.arcs inputs.now states.now change output was }
@@ -47,7 +55,14 @@ fn shown_step(cell: &Cell, names: &[Items<usize>], i: usize, inputs: &[Trit], st
 
 /// Takes what the outputs show over a change. `names` are those of the arcs' conditions; `inputs` and `states` are those
 /// after the change.
-pub fn show_all(cell: &Cell, names: &[Items<usize>], inputs: &[Trit], states: &[Trit], change: Change, shown: &mut Items<Shown>)
+pub fn show_all(
+    cell: &Cell,
+    names: &[Items<usize>],
+    inputs: &[Trit],
+    states: &[Trit],
+    change: Change,
+    shown: &mut Items<Shown>,
+)
     requires names { names.now ≡ arc_names cell.now }
     requires one_each { length shown.old ≡ length cell.now.outputs }
     ensures stepped { shown.new ≡ each (λ o s. shown_step cell.now.pins cell.now.groups cell.now.arcs inputs.now states.now change o s.value) cell.now.outputs shown.old }
@@ -69,7 +84,12 @@ fn shown_first(cell: &Cell, i: usize, inputs: &[Trit], states: &[Trit]) -> Shown
 }
 
 /// What the outputs show at the start, where the inputs and the states have these values: no delays.
-pub fn show_start(alloc: Global, cell: &Cell, inputs: &[Trit], states: &[Trit]) -> Result<Items<Shown>, Memory>
+pub fn show_start(
+    alloc: Global,
+    cell: &Cell,
+    inputs: &[Trit],
+    states: &[Trit],
+) -> Result<Items<Shown>, Memory>
     ensures { IfOk result (λ shown. shown ≡ map (shown_first cell.now.pins cell.now.groups inputs.now states.now) cell.now.outputs) }
 {
     let mut shown = Items::new(alloc);

@@ -19,7 +19,9 @@ use trit_cubes::Trit;
 fn place_in(pins: &[Pin], support: &[usize], change: Change) -> Option<usize>
     ensures { result ≡ place_in pins.now support.now change }
 {
-    support.iter().position(|pin| input_number(pins, *pin) == change.pin)
+    support
+        .iter()
+        .position(|pin| input_number(pins, *pin) == change.pin)
 }
 
 // The next state of a group where no check reports. `inputs` are those after the change, `from` is the value that the
@@ -41,7 +43,14 @@ fn moved(cell: &Cell, i: usize, inputs: &[Trit], from: Trit, change: Change, sta
         from,
         to: change.to,
     };
-    change_filled(&group.kind, cell.state_name(i), change, support, values.as_slice(), state)
+    change_filled(
+        &group.kind,
+        cell.state_name(i),
+        change,
+        support,
+        values.as_slice(),
+        state,
+    )
 }
 
 // The state of a group where some check reports.
@@ -56,7 +65,15 @@ fn violated(cell: &Cell, i: usize, inputs: &[Trit]) -> Trit
 }
 
 // The next state of a group at a change of an input: forced where some check reports, else moved.
-fn state_step(cell: &Cell, i: usize, reported: bool, inputs: &[Trit], from: Trit, change: Change, state: Trit) -> Trit
+fn state_step(
+    cell: &Cell,
+    i: usize,
+    reported: bool,
+    inputs: &[Trit],
+    from: Trit,
+    change: Change,
+    state: Trit,
+) -> Trit
     requires { i < length cell.now.groups }
     ensures { (group : StateGroupOf) → slice_get cell.now.groups i ≡ Some group → result ≡ state_step reported cell.now.pins (record { name = state_name (length cell.now.pins) i; group = group }) inputs.now from change state }
 {
@@ -68,7 +85,14 @@ fn state_step(cell: &Cell, i: usize, reported: bool, inputs: &[Trit], from: Trit
 }
 
 /// Takes the states of all groups over a change: where it is no event they stay.
-pub fn change_states(cell: &Cell, reported: bool, inputs: &[Trit], from: Trit, change: Change, states: &mut Items<Trit>)
+pub fn change_states(
+    cell: &Cell,
+    reported: bool,
+    inputs: &[Trit],
+    from: Trit,
+    change: Change,
+    states: &mut Items<Trit>,
+)
     requires { length states.old ≡ length cell.now.groups }
     ensures changed { states.new ≡ (if not (same from change.to) then each (λ g s. state_step reported cell.now.pins g inputs.now from change s) (named_groups cell.now) states.old else states.old) }
     ensures len { length states.new ≡ length states.old }
@@ -80,13 +104,23 @@ pub fn change_states(cell: &Cell, reported: bool, inputs: &[Trit], from: Trit, c
 
 // Takes the states of all groups over an event. `inputs` are those after it, `from` is the value that the changed one
 /// had, and `reported` says whether some check reports.
-fn step_states(cell: &Cell, reported: bool, inputs: &[Trit], from: Trit, change: Change, states: &mut Items<Trit>)
+fn step_states(
+    cell: &Cell,
+    reported: bool,
+    inputs: &[Trit],
+    from: Trit,
+    change: Change,
+    states: &mut Items<Trit>,
+)
     requires { length states.old ≡ length cell.now.groups }
     ensures stepped { states.new ≡ each (λ g s. state_step reported cell.now.pins g inputs.now from change s) (named_groups cell.now) states.old }
     ensures len { length states.new ≡ length states.old }
 {
     for i in 0..states.len() {
         let state = states.as_slice()[i];
-        states.set(i, state_step(cell, i, reported, inputs, from, change, state));
+        states.set(
+            i,
+            state_step(cell, i, reported, inputs, from, change, state),
+        );
     }
 }

@@ -47,8 +47,16 @@ impl Times {
     {
         Times {
             last: if from != to { Some(at) } else { self.last },
-            rise: if is_rise(from, to) { Some(at) } else { self.rise },
-            fall: if is_fall(from, to) { Some(at) } else { self.fall },
+            rise: if is_rise(from, to) {
+                Some(at)
+            } else {
+                self.rise
+            },
+            fall: if is_fall(from, to) {
+                Some(at)
+            } else {
+                self.fall
+            },
         }
     }
 }

@@ -1,6 +1,5 @@
-use Rattle.std.proofs.Common.{◌<◌, ◌∙◌, ap, length, arith}
-use Rattle.cell_machine.specs.Delay.{lesser}
-use Rattle.cell_machine.proofs.ArcDelays.{least_of, least_of-step}
+use Rattle.std.proofs.Common.{◌<◌, ◌∙◌, length, arith}
+use Rattle.cell_machine.proofs.ArcDelays.{least_of-step}
 use Rattle.cell_machine.proofs.delays.least_delay.Goals as goal
 
 pub loop-i-preserved : goal.loop-i-preserved
@@ -9,6 +8,6 @@ loop-i-preserved c =
     let change = c.args.change.now in
     let inside : c.loop-i.i < length cell.arcs = omega (arith, c.len-i-end.ensures) in
     rw c.lesser-best.ensures
-        (least_of-step cell.pins cell.arcs c.args.inputs.now change.input change.pin change.from change.to cell.arcs c.loop-i.i
-          c.loop-i.best c.arc_delay.result inside c.arc_delay.ensures
-        ∙ c.loop-i.invariant)
+    (least_of-step cell.pins cell.arcs c.args.inputs.now change.input change.pin change.from change.to cell.arcs c.loop-i.i
+    c.loop-i.best c.arc_delay.result inside c.arc_delay.ensures
+    ∙ c.loop-i.invariant)

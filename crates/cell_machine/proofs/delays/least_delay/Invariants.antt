@@ -1,6 +1,5 @@
 use Rattle.std.proofs.Common.{◌≡◌, drop}
-use Rattle.cell_machine.specs.Delay.{lesser, least, active_delays}
-use Rattle.cell_machine.specs.CellTrace.{paths_between}
+use Rattle.cell_machine.specs.Delay.{lesser}
 use Rattle.cell_machine.proofs.ArcDelays.{least_of}
 use Rattle.cell_machine.proofs.delays.least_delay.Given as goal
 
@@ -8,5 +7,5 @@ use Rattle.cell_machine.proofs.delays.least_delay.Given as goal
 abbrev pub invariant-loop-i : goal.invariant-loop-i
 invariant-loop-i l =
     lesser l.best
-      (least_of l.cell.pins l.cell.arcs l.inputs l.change.input l.change.pin l.change.from l.change.to (drop l.i l.cell.arcs))
+    (least_of l.cell.pins l.cell.arcs l.inputs l.change.input l.change.pin l.change.from l.change.to (drop l.i l.cell.arcs))
     ≡ least_of l.cell.pins l.cell.arcs l.inputs l.change.input l.change.pin l.change.from l.change.to l.cell.arcs

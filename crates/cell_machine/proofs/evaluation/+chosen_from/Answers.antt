@@ -11,12 +11,12 @@ returns-in_default-first t c = rw (c.in-Some.ensures.cases.0, c.in_default-first
 pub returns-in-Zero : goal.returns-in-Zero
 returns-in-Zero t c =
     rw (c.in-Some.ensures.cases.0, c.in-State.is, ← c.in-Zero.ensures)
-        (rw (c.with.ensures, c.state_name-name.ensures.name) at c.chosen_from-in-Zero.ensures)
+    (rw (c.with.ensures, c.state_name-name.ensures.name) at c.chosen_from-in-Zero.ensures)
 
 pub returns-in-One : goal.returns-in-One
 returns-in-One t c =
     rw (c.in-Some.ensures.cases.0, c.in-State.is, ← c.in-One.ensures)
-        (rw (c.with-in-One.ensures, c.state_name-name.ensures.name) at c.chosen_from-in-One.ensures)
+    (rw (c.with-in-One.ensures, c.state_name-name.ensures.name) at c.chosen_from-in-One.ensures)
 
 pub returns-in-Unknown : goal.returns-in-Unknown
 returns-in-Unknown t c =

@@ -9,13 +9,13 @@ pub returns-in-Zero : goal.returns-in-Zero
 returns-in-Zero t c =
     let value = rw c.as_slice-2.ensures at c.in-Zero.ensures in
     rw (c.in-Some.ensures.cases.0, ← value)
-        (rw (c.with.ensures, c.source_name-name.ensures) at c.output_from.ensures)
+    (rw (c.with.ensures, c.source_name-name.ensures) at c.output_from.ensures)
 
 pub returns-in-One : goal.returns-in-One
 returns-in-One t c =
     let value = rw c.as_slice-2.ensures at c.in-One.ensures in
     rw (c.in-Some.ensures.cases.0, ← value)
-        (rw (c.with-in-One.ensures, c.source_name-name.ensures) at c.output_from-in-One.ensures)
+    (rw (c.with-in-One.ensures, c.source_name-name.ensures) at c.output_from-in-One.ensures)
 
 pub returns-in-Unknown : goal.returns-in-Unknown
 returns-in-Unknown t c =

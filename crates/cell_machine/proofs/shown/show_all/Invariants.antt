@@ -7,10 +7,10 @@ use Rattle.cell_machine.proofs.shown.show_all.Given as goal
 abbrev pub invariant-loop-i : goal.invariant-loop-i
 invariant-loop-i l = record {
   whole :
-    take l.i l.shown
-    ++ each (λ o s. shown_step l.cell.pins l.cell.groups l.cell.arcs l.inputs l.states l.change o s.value)
+      take l.i l.shown
+      ++ each (λ o s. shown_step l.cell.pins l.cell.groups l.cell.arcs l.inputs l.states l.change o s.value)
       (drop l.i l.cell.outputs) (drop l.i l.shown)
-    ≡ each (λ o s. shown_step l.cell.pins l.cell.groups l.cell.arcs l.inputs l.states l.change o s.value) l.cell.outputs
+      ≡ each (λ o s. shown_step l.cell.pins l.cell.groups l.cell.arcs l.inputs l.states l.change o s.value) l.cell.outputs
       l.initial.shown;
-  len : length l.shown ≡ length l.initial.shown
+  len : length l.shown ≡ length l.initial.shown;
 }

@@ -1,6 +1,4 @@
-use Rattle.std.proofs.Common.{◌≡◌, take, map, None}
-use Rattle.cell_machine.specs.declared.outputs.OutputPin.{OutputPin}
-use Rattle.cell_machine.specs.declared.shown.Shown.{Shown}
+use Rattle.std.proofs.Common.{◌≡◌, take, map}
 use Rattle.cell_machine.specs.ShownOutputs.{shown_first}
 use Rattle.cell_machine.proofs.shown.show_start.Given as goal
 

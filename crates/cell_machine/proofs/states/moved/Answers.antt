@@ -1,6 +1,6 @@
-use Rattle.std.proofs.Common.{◌≡◌, ◌<◌, sym, ap, ◌∙◌, length, ◌+◌, ◌*◌, arith}
+use Rattle.std.proofs.Common.{◌≡◌, sym, ap, ◌∙◌, length}
 use Rattle.cell_machine.specs.Names.{state_name}
-use Rattle.cell_machine.specs.CellTrace.{place_in, moved}
+use Rattle.cell_machine.specs.CellTrace.{moved}
 use Rattle.cell_machine.proofs.GroupSteps.{place-inside, moved-filled}
 use Rattle.cell_machine.proofs.states.moved.Goals as goal
 
@@ -16,5 +16,5 @@ returns c = λ group e.
     let inside = place-inside pins held.support c.args.change c.in-Some.place place in
     filled
     ∙ sym (moved-filled pins name held c.args.inputs.now c.args.from c.args.change c.args.state c.in-Some.place
-        c.group-group.ensures.facts.ascends (sym place) inside)
+    c.group-group.ensures.facts.ascends (sym place) inside)
     ∙ ap (λ g. moved pins (record { name = name; group = g }) c.args.inputs.now c.args.from c.args.change c.args.state) same

@@ -1,4 +1,4 @@
-use Rattle.std.proofs.Common.{◌≡◌, ◌<◌, sym, ap, ◌∙◌, length, add-one, arith}
+use Rattle.std.proofs.Common.{◌<◌, sym, ap, ◌∙◌, length, add-one, arith}
 use Rattle.trit_cubes.specs.declared.trits.Trit.TheVariants.{Zero}
 use Rattle.std.proofs.Math.ListN.{length-set}
 use Rattle.cell_machine.specs.Names.{state_name}
@@ -16,18 +16,18 @@ loop-i-preserved c =
     let here = some_at cell.groups c.loop-i.i inside in
     record {
       whole =
-        rw (c.set.ensures, add-one)
+          rw (c.set.ensures, add-one)
           (each-step (λ g s. state_step c.args.reported cell.pins g c.args.inputs.now c.args.from c.args.change s)
-            (named_groups cell) c.loop-i.states c.loop-i.i
-            (record { name = state_name (length cell.pins) c.loop-i.i; group = here.0 }) c.state_step.result Zero
-            (named-at (length cell.pins) cell.groups c.loop-i.i here.0 here.1) many (rw c.as_slice.ensures at (c.state_step.ensures here.0 here.1))
+          (named_groups cell) c.loop-i.states c.loop-i.i
+          (record { name = state_name (length cell.pins) c.loop-i.i; group = here.0 }) c.state_step.result Zero
+          (named-at (length cell.pins) cell.groups c.loop-i.i here.0 here.1) many (rw c.as_slice.ensures at (c.state_step.ensures here.0 here.1))
           ∙ c.loop-i.invariant.whole);
-      len = ap length c.set.ensures ∙ length-set c.loop-i.states c.loop-i.i c.state_step.result ∙ c.loop-i.invariant.len
+      len = ap length c.set.ensures ∙ length-set c.loop-i.states c.loop-i.i c.state_step.result ∙ c.loop-i.invariant.len;
     }
 
 pub returns-clause-stepped : goal.returns-clause-stepped
 returns-clause-stepped c =
     let cell = c.args.cell.now in
     sym (each-done (λ g s. state_step c.args.reported cell.pins g c.args.inputs.now c.args.from c.args.change s)
-      (named_groups cell) c.loop-i.states c.loop-i.i (omega arith))
+    (named_groups cell) c.loop-i.states c.loop-i.i (omega arith))
     ∙ c.loop-i.invariant.whole

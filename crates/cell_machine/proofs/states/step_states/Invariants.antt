@@ -7,9 +7,9 @@ use Rattle.cell_machine.proofs.states.step_states.Given as goal
 abbrev pub invariant-loop-i : goal.invariant-loop-i
 invariant-loop-i l = record {
   whole :
-    take l.i l.states
-    ++ each (λ g s. state_step l.reported l.cell.pins g l.inputs l.from l.change s) (drop l.i (named_groups l.cell))
+      take l.i l.states
+      ++ each (λ g s. state_step l.reported l.cell.pins g l.inputs l.from l.change s) (drop l.i (named_groups l.cell))
       (drop l.i l.states)
-    ≡ each (λ g s. state_step l.reported l.cell.pins g l.inputs l.from l.change s) (named_groups l.cell) l.initial.states;
-  len : length l.states ≡ length l.initial.states
+      ≡ each (λ g s. state_step l.reported l.cell.pins g l.inputs l.from l.change s) (named_groups l.cell) l.initial.states;
+  len : length l.states ≡ length l.initial.states;
 }

@@ -1,6 +1,5 @@
-use Rattle.std.proofs.Common.{◌≡◌, ◌∙◌, ap, replicate, false}
+use Rattle.std.proofs.Common.{◌∙◌, ap, replicate, false}
 use Rattle.trit_cubes.specs.declared.trits.Trit.TheVariants.{Unknown}
-use Rattle.cell_machine.specs.Times.{no_times}
 use Rattle.cell_machine.proofs.Standing.{start-stands}
 use Rattle.cell_machine.proofs.liberty_sim.LibertySim.start.Goals as goal
 
@@ -10,13 +9,13 @@ returns-clause-stands c =
     let counted = rw (c.as_slice.ensures, c.len.ensures) at count in
     let inputs = c.from_vec-inputs.ensures ∙ c.in_ok-vec.ensures.items_if_clones_equal (λ y e. e) in
     let times =
-        c.from_vec-times.ensures ∙ c.in_ok-vec-2.ensures.items_if_clones_equal (λ y e. e)
-        ∙ ap (replicate c.input_number-count.result) c.none.ensures in
+    c.from_vec-times.ensures ∙ c.in_ok-vec-2.ensures.items_if_clones_equal (λ y e. e)
+    ∙ ap (replicate c.input_number-count.result) c.none.ensures in
     let states =
-        c.from_vec-states.ensures ∙ c.in_ok-vec-3.ensures.items_if_clones_equal (λ y e. e)
-        ∙ ap (λ n. replicate n Unknown) c.len-2.ensures in
+    c.from_vec-states.ensures ∙ c.in_ok-vec-3.ensures.items_if_clones_equal (λ y e. e)
+    ∙ ap (λ n. replicate n Unknown) c.len-2.ensures in
     let reports = c.from_vec-reports.ensures ∙ c.in_ok-vec-4.ensures.items_if_clones_equal (λ y e. e) ∙ ap (λ n. replicate n false) c.len-3.ensures in
     let shown = rw (c.as_slice-2.ensures, c.as_slice-3.ensures) at c.in_ok-shown.ensures in
     start-stands c.args.cell.now c.in_ok-check_names.check_names c.in_ok-arc_names.arc_names c.input_number-count.result
-        c.from_vec-inputs.result c.from_vec-times.result c.from_vec-states.result c.from_vec-reports.result c.in_ok-shown.shown
-        c.in_ok-check_names.ensures c.in_ok-arc_names.ensures counted inputs times states reports shown
+    c.from_vec-inputs.result c.from_vec-times.result c.from_vec-states.result c.from_vec-reports.result c.in_ok-shown.shown
+    c.in_ok-check_names.ensures c.in_ok-arc_names.ensures counted inputs times states reports shown

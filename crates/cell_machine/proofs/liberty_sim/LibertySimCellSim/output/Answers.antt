@@ -10,4 +10,4 @@ returns c = λ h st.
     let cell = c.args.self.now.cell.now in
     ap (λ (xs : List Shown). (get_or xs c.args.place (record { value = Zero; delay = None })).value) (c.as_slice.ensures ∙ st.shown_are)
     ∙ get_or-part (shown_after cell h) (λ (s : Shown). s.value) cell.outputs c.args.place (record { value = Zero; delay = None }) Unknown
-        c.requires
+    c.requires

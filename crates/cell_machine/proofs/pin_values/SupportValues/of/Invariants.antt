@@ -6,5 +6,5 @@ use Rattle.cell_machine.proofs.pin_values.SupportValues.of.Given as goal
 abbrev pub invariant-loop-i : goal.invariant-loop-i
 invariant-loop-i l = record {
   front : take l.i l.trits ≡ pin_values l.pins l.inputs (take l.i l.support);
-  len : length l.trits ≡ 8
+  len : length l.trits ≡ 8;
 }

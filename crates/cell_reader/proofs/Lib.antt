@@ -4,3 +4,6 @@ pub mod Turns
 pub mod Fits
 pub mod Distinct
 pub mod PinRules
+pub mod Refused
+pub mod GroupCount
+pub mod Accepted

@@ -1,17 +1,16 @@
 -- The pins of a cell keep the rules of pins where nothing refuses them.
-use Rattle.std.proofs.Common.{◌≡◌, ℕ, zero, suc, ◌+◌, ◌≤◌, List, [], ◌∷◌, length, map, refl, ap, arith, nat_le, length-append}
+use Rattle.std.proofs.Common.{IsTrue, ◌≡◌, ℕ, zero, suc, ◌+◌, ◌≤◌, List, [], ◌∷◌, length, map, refl, ap, arith, nat_le, length-append}
 use Rattle.std.specs.Prelude.{flat_map}
 use Rattle.std.specs.List.{list_all}
 use Rattle.std.proofs.lemmas.List.{length-map}
 use Rattle.std.proofs.lemmas.Bool.{and_from, le-leb}
 use Rattle.liberty_groups.specs.declared.tree.Group.{Group}
 use Rattle.cell_machine.specs.declared.pins.Pin.{Pin}
-use Rattle.cell_machine.specs.CellRules.{is_name, are_distinct}
+use Rattle.cell_machine.specs.CellRules.{is_name, are_distinct, are_pins}
 use Rattle.cell_reader.specs.Groups.{inner_groups, pin_groups}
 use Rattle.cell_reader.specs.Pins.{pins_in, pins_of, pin_names, owners_in, owners_of}
-use Rattle.cell_reader.specs.Declarations.{declared_of, clashes_after, known_cell, bad_cell_name, bad_name_in}
+use Rattle.cell_reader.specs.Declarations.{declared_of, clashes_after, known_cell, bad_cell_name, bad_name_in, bad_names, duplicates}
 use Rattle.cell_reader.specs.Limits.{first_past, place_of_group}
-use Rattle.cell_reader.specs.Laws.{PinsAreSound}
 use Rattle.cell_reader.proofs.Distinct.{nil_parts, pins_are_named, pins_are_distinct}
 
 -- where none passes the limit there are no more
@@ -27,7 +26,10 @@ owners_count (group ∷ groups) =
     let first : length (flat_map owners_in groups) ≡ length (flat_map pins_in groups) = later in
     simp (length-append, length-map) (ap (λ n. length group.arguments + n) first)
 
-pub pins_are_sound : PinsAreSound
+pub pins_are_sound :
+    (earlier : List (List ℕ)) (cell : Group)
+    → duplicates earlier cell ≡ [] → bad_names cell ≡ [] → first_past 64 (map place_of_group (owners_of cell)) ≡ []
+    → IsTrue (are_pins (pins_of cell))
 pins_are_sound earlier cell twice bad many =
     let clash = nil_parts (known_cell earlier cell) (clashes_after [] (declared_of cell)) twice in
     let named = nil_parts (bad_cell_name cell) (flat_map bad_name_in (declared_of cell)) bad in

@@ -1,14 +1,32 @@
--- What the refusals of a cell leave: laws over the definitions.
-use Rattle.std.specs.Prelude.{◌≡◌, ℕ, List, [], map, IsTrue}
+-- What it says of a cell that nothing refuses it: laws over the definitions.
+use Rattle.std.specs.Prelude.{◌≡◌, ◌≤◌, ⊤, ℕ, List, [], ◌∷◌, length, None, IsTrue}
 use Rattle.liberty_groups.specs.declared.tree.Group.{Group}
-use Rattle.cell_machine.specs.CellRules.{are_pins}
-use Rattle.cell_reader.specs.Pins.{pins_of, owners_of}
-use Rattle.cell_reader.specs.Declarations.{duplicates, bad_names}
-use Rattle.cell_reader.specs.Limits.{first_past, place_of_group}
+use Rattle.cell_machine.specs.CellRules.{is_name, are_pins}
+use Rattle.timing_arcs.specs.declared.subject.Subject.{Subject}
+use Rattle.cell_reader.specs.Groups.{cell_name}
+use Rattle.cell_reader.specs.Pins.{pins_of}
+use Rattle.cell_reader.specs.Refusals.{Met, reasons_of, refusal_of, groups_of}
 
--- Where no name of a cell is declared twice or bad, and it has at most 64 pins, its pins keep the rules of pins.
-abbrev pub PinsAreSound : Type 0
-PinsAreSound =
-    (earlier : List (List ℕ)) (cell : Group)
-    → duplicates earlier cell ≡ [] → bad_names cell ≡ [] → first_past 64 (map place_of_group (owners_of cell)) ≡ []
-    → IsTrue (are_pins (pins_of cell))
+-- none of these reasons is met anywhere
+abbrev pub AllUnmet : List Met → Type 0
+AllUnmet [] = ⊤
+AllUnmet (m ∷ ms) = (m.offsets ≡ []) × AllUnmet ms
+
+-- A cell is accepted exactly where no reason is met anywhere; here: an accepted one meets none.
+abbrev pub AcceptedMeetsNone : Type 0
+AcceptedMeetsNone =
+    (pins : Subject) (earlier : List (List ℕ)) (cell : Group)
+    → refusal_of pins earlier cell ≡ None → AllUnmet (reasons_of pins earlier cell)
+
+-- The name and the pins of an accepted cell keep the rules of cells.
+abbrev pub AcceptedPinsAreSound : Type 0
+AcceptedPinsAreSound =
+    (pins : Subject) (earlier : List (List ℕ)) (cell : Group)
+    → refusal_of pins earlier cell ≡ None
+    → IsTrue (is_name (cell_name cell)) × IsTrue (are_pins (pins_of cell))
+
+-- An accepted cell has at most 16 state groups.
+abbrev pub AcceptedStatesAreFew : Type 0
+AcceptedStatesAreFew =
+    (pins : Subject) (earlier : List (List ℕ)) (cell : Group)
+    → refusal_of pins earlier cell ≡ None → length (groups_of cell) ≤ 16

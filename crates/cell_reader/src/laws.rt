@@ -1,8 +1,20 @@
 //! Laws of the definitions: what holds of a cell that nothing refuses.
-ghost use Rattle.cell_reader.specs.Laws.{PinsAreSound};
+ghost use Rattle.cell_reader.specs.Laws.{AcceptedMeetsNone, AcceptedPinsAreSound, AcceptedStatesAreFew};
 
-/// The law that the pins of a cell are those of a `Cell` where no name is declared twice or bad and none passes the limit.
-#[tactic(auto, using(crate::proofs::PinRules::pins_are_sound))]
-pub fn pins_are_sound()
-    ensures { PinsAreSound }
+/// The law that an accepted cell meets no reason anywhere.
+#[tactic(auto, using(crate::proofs::Accepted::accepted_meets_none))]
+pub fn accepted_meets_none()
+    ensures { AcceptedMeetsNone }
+{}
+
+/// The law that the name and the pins of an accepted cell keep the rules of cells.
+#[tactic(auto, using(crate::proofs::Accepted::accepted_pins_are_sound))]
+pub fn accepted_pins_are_sound()
+    ensures { AcceptedPinsAreSound }
+{}
+
+/// The law that an accepted cell has at most 16 state groups.
+#[tactic(auto, using(crate::proofs::Accepted::accepted_states_are_few))]
+pub fn accepted_states_are_few()
+    ensures { AcceptedStatesAreFew }
 {}

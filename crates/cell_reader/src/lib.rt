@@ -24,6 +24,6 @@ mod texts;
 mod vocabulary;
 
 pub use fault::Memory;
-pub use laws::pins_are_sound;
+pub use laws::{accepted_meets_none, accepted_pins_are_sound, accepted_states_are_few};
 pub use left_out::LeftOut;
 pub use refusal::{Reason, Refusal};

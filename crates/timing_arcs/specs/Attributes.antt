@@ -56,3 +56,8 @@ words_between is_separator text = filter (λ word. not (length word == 0)) (slic
 abbrev pub place_of : Option Attribute → List ℕ
 place_of None = []
 place_of (Some attribute) = attribute.at ∷ []
+
+-- The first of a list, where there is one.
+abbrev pub first_of : {A : Type 0} → List A → Option A
+first_of [] = None
+first_of (x ∷ xs) = Some x

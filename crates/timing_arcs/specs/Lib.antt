@@ -1,9 +1,11 @@
 pub mod Attributes
+pub mod Offsets
 pub mod Texts
 pub mod TimingTypes
 pub mod RelatedPins
 pub mod Conditions
 pub mod Tables
+pub mod Sums
 pub mod Making
 pub mod Merging
 pub mod Timing

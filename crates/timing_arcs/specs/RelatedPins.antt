@@ -13,10 +13,13 @@ use Rattle.timing_arcs.specs.declared.subject.Subject.{Subject}
 use Rattle.timing_arcs.specs.Attributes.{Attribute, attribute_of, words_between}
 use Rattle.timing_arcs.specs.TimingTypes.{type_of, is_used}
 
+abbrev pub is_space : ℕ → Bool
+is_space byte = byte == 32
+
 -- The names in `related_pin`: what stands between spaces. (Liberty Reference Manual, `related_pin`.)
 abbrev pub related_words : Group → List (List ℕ)
 related_words group =
-    option_map_or (λ (attribute : Attribute). words_between (λ byte. byte == 32) attribute.text) (attribute_of group (codes "related_pin")) []
+    option_map_or (λ (attribute : Attribute). words_between is_space attribute.text) (attribute_of group (codes "related_pin")) []
 
 -- What a name is in the cell: an input pin, a pin that the cell drives, or no pin.
 abbrev pub related_as : Subject → List ℕ → Related

@@ -15,6 +15,7 @@ use Rattle.timing_arcs.specs.declared.fault.TimingFault.TheVariants as fault
 use Rattle.timing_arcs.specs.declared.subject.Subject.{Subject}
 use Rattle.timing_arcs.specs.declared.subject.PinTiming.{PinTiming}
 use Rattle.timing_arcs.specs.Attributes.{Attribute, attribute_of, group_named, groups_named, place_of}
+use Rattle.timing_arcs.specs.Offsets.{least}
 use Rattle.timing_arcs.specs.Texts.{time_of}
 use Rattle.timing_arcs.specs.TimingTypes.{type_of, rise_table, fall_table, is_used}
 use Rattle.timing_arcs.specs.RelatedPins.{related_of, inputs_of, is_unknown, is_read, is_left_out}
@@ -22,16 +23,6 @@ use Rattle.timing_arcs.specs.Conditions.{condition_of, is_malformed, has_unknown
 use Rattle.timing_arcs.specs.Tables.{bad_numbers_at}
 use Rattle.timing_arcs.specs.Making.{event, check, checks_in, arcs_in}
 use Rattle.timing_arcs.specs.Merging.{Placed, merged, merged_at}
-
--- The least of some offsets.
-abbrev pub lesser : Option ℕ → Option ℕ → Option ℕ
-lesser None other = other
-lesser (Some x) None = Some x
-lesser (Some x) (Some y) = Some (min x y)
-
-abbrev pub least : List ℕ → Option ℕ
-least [] = None
-least (x ∷ xs) = lesser (Some x) (least xs)
 
 -- The timing groups of a pin, in order.
 abbrev pub timing_groups : Group → List Group

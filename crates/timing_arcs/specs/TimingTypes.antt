@@ -1,6 +1,7 @@
 -- The types of timing groups: under which pins each stands, and which tables it uses (Liberty Reference Manual,
 -- `timing` group, `timing_type`).
-use Rattle.std.specs.Prelude.{ℕ, Bool, true, false, ◌&&◌, ◌||◌, not, ◌==◌, List, [], ◌∷◌, length, codes, find, bytes_eq, unwrap_or, slice_get}
+use Rattle.std.specs.Prelude.{ℕ, Bool, true, false, ◌&&◌, ◌||◌, not, ◌==◌, List, [], ◌∷◌, length, codes, find, bytes_eq, unwrap_or, slice_get, if◌then◌else◌}
+use Rattle.std.specs.List.{list_any}
 use Rattle.std.specs.Option.{option_map, option_map_or}
 use Rattle.liberty_groups.specs.declared.tree.Group.{Group}
 use Rattle.cell_machine.specs.declared.checks.Edge.TheVariants.{Rise, Fall}
@@ -12,16 +13,13 @@ use Rattle.timing_arcs.specs.declared.timing_type.TimingType.TheVariants.{Delay,
 use Rattle.timing_arcs.specs.declared.subject.Subject.{Subject}
 use Rattle.timing_arcs.specs.Attributes.{Attribute, attribute_of, groups_named}
 
--- The words of `timing_type`, and what each stands for. (Liberty Reference Manual, `timing_type`.)
-abbrev pub type_words : List (List ℕ × TimingType)
-type_words = (codes "combinational", Delay)
-    ∷ (codes "combinational_rise", Delay)
-    ∷ (codes "combinational_fall", Delay)
-    ∷ (codes "rising_edge", Delay)
-    ∷ (codes "falling_edge", Delay)
-    ∷ (codes "clear", Delay)
-    ∷ (codes "preset", Delay)
-    ∷ (codes "setup_rising", Setup Rise)
+-- The words of `timing_type` that a delay has. (Liberty Reference Manual, `timing_type`.)
+abbrev pub delay_words : List (List ℕ)
+delay_words = codes "combinational" ∷ codes "combinational_rise" ∷ codes "combinational_fall" ∷ codes "rising_edge" ∷ codes "falling_edge" ∷ codes "clear" ∷ codes "preset" ∷ []
+
+-- The words of `timing_type` that a check has, and what each stands for. (Liberty Reference Manual, `timing_type`.)
+abbrev pub check_words : List (List ℕ × TimingType)
+check_words = (codes "setup_rising", Setup Rise)
     ∷ (codes "setup_falling", Setup Fall)
     ∷ (codes "hold_rising", Hold Rise)
     ∷ (codes "hold_falling", Hold Fall)
@@ -34,7 +32,9 @@ type_words = (codes "combinational", Delay)
 
 -- The type that a text stands for. Every other text is another type, of which nothing is made.
 abbrev pub type_named : List ℕ → TimingType
-type_named text = unwrap_or (option_map (λ entry. entry.1) (find (λ entry. bytes_eq entry.0 text) type_words)) Other
+type_named text =
+    if list_any (λ word. bytes_eq word text) delay_words then Delay
+    else unwrap_or (option_map (λ entry. entry.1) (find (λ entry. bytes_eq entry.0 text) check_words)) Other
 
 -- The type of a timing group. One without `timing_type` is combinational. (Liberty Reference Manual, `timing_type`.)
 abbrev pub type_of : Group → TimingType

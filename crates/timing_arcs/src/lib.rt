@@ -7,7 +7,9 @@ mod fault;
 mod number;
 mod related;
 mod subject;
+mod tables;
 mod timing_type;
+mod words;
 
 pub use attributes::{Attribute, inner_group, last_attribute, simple_attribute};
 pub use fault::{Memory, TimingFault};

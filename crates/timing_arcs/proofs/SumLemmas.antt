@@ -11,10 +11,10 @@ use Rattle.liberty_groups.specs.declared.tree.Item.{Item, out-Item}
 use Rattle.liberty_groups.specs.declared.tree.Item.TheOpen.{Item-F}
 use Rattle.liberty_groups.specs.declared.tree.Item.TheOpen as layer
 use Rattle.liberty_groups.specs.declared.tree.Group.{Group}
-use Rattle.timing_arcs.specs.declared.number.Unit.{Unit as TimeUnit}
+use Rattle.liberty_text.specs.declared.time.Unit.{Unit as TimeUnit}
 use Rattle.timing_arcs.specs.declared.tables.Sum.{Sum}
 use Rattle.timing_arcs.specs.Offsets.{lesser, least}
-use Rattle.timing_arcs.specs.Texts.{time_of}
+use Rattle.timing_arcs.specs.Times.{time_of}
 use Rattle.timing_arcs.specs.Attributes.{first_of, words_between, group_named, groups_named}
 use Rattle.timing_arcs.specs.Tables.{is_separator, Values, entries_of, values_as, values_of, values_named, greatest, times_of, limit_of, has_entry, bad_values_at, bad_numbers_at, empty_tables_at}
 use Rattle.timing_arcs.specs.Sums.{first_unless, no_sum, with_time, with_entry, with_text, with_arguments, with_item, with_table, with_optional, with_tables}
@@ -177,6 +177,7 @@ tables-fold unit name sum (item ∷ items) =
 
 -- what the tables of one name in a group give
 pub tables-limit : (unit : Option TimeUnit) (name : List ℕ) (group : Group) → (with_tables unit name no_sum group.items).greatest ≡ limit_of unit name group
+unfolding limit_of
 tables-limit unit name group = ap (λ s. s.greatest) (tables-fold unit name no_sum group.items) ∙ omega arith
 
 pub tables-bad_at : (unit : Option TimeUnit) (name : List ℕ) (group : Group) → (with_tables unit name no_sum group.items).bad_at ≡ least (filter_map (bad_values_at unit) (values_named name group))
@@ -193,6 +194,7 @@ empty-least vs (table ∷ tables) =
 -- the least offset of what is wrong in the tables of one name
 pub bad_numbers-least : (unit : Option TimeUnit) (name : List ℕ) (group : Group) →
     lesser (first_unless (with_tables unit name no_sum group.items).has_entry (first_of (groups_named name group.items))) (with_tables unit name no_sum group.items).bad_at ≡ least (bad_numbers_at unit name group)
+unfolding bad_numbers_at
 bad_numbers-least unit name group =
     rw (tables-has_entry unit name group, tables-bad_at unit name group)
     (ap (λ a. lesser a (least (filter_map (bad_values_at unit) (values_named name group)))) (sym (empty-least (values_named name group) (groups_named name group.items)))

@@ -1,6 +1,6 @@
 pub mod Attributes
 pub mod Offsets
-pub mod Texts
+pub mod Times
 pub mod TimingTypes
 pub mod RelatedPins
 pub mod Conditions

@@ -1,5 +1,5 @@
 -- The checks and arcs of a timing group (Liberty Reference Manual, `timing` group; IEEE 1364-2005, clauses 14 and 15).
-use Rattle.std.specs.Prelude.{ℕ, max, Bool, ◌&&◌, ◌==◌, List, [], ◌∷◌, ◌++◌, codes, flat_map, Option, Some, None, if◌then◌else◌}
+use Rattle.std.specs.Prelude.{ℕ, max, Bool, not, ◌&&◌, ◌==◌, List, [], ◌∷◌, filter, flat_map, Option, Some, None, if◌then◌else◌}
 use Rattle.bool_functions.specs.declared.tree.Node.{Node}
 use Rattle.liberty_groups.specs.declared.tree.Group.{Group}
 use Rattle.cell_machine.specs.declared.checks.CheckKind.{CheckKind}
@@ -20,27 +20,32 @@ use Rattle.timing_arcs.specs.Tables.{limit_of}
 abbrev pub event : ℕ → Edge → Event
 event pin edge = record { pin = pin; edge = edge }
 
--- A check, where its limit is not 0. (This project's rule.)
-abbrev pub check : CheckKind → Event → Event → ℕ → Option Node → List Check
-check k first second limit condition =
-    if limit == 0 then [] else record { kind = k; first = first; second = second; limit = limit; condition = condition } ∷ []
+abbrev pub check : CheckKind → Event → Event → ℕ → Option Node → Check
+check k first second limit condition = record { kind = k; first = first; second = second; limit = limit; condition = condition }
 
--- The checks that a type makes of a pin and a pin that it is related to. Setup and hold take the greater of both limits
+-- A check with limit 0 is not made. (This project's rule.)
+abbrev pub has_limit : Check → Bool
+has_limit k = not (k.limit == 0)
+
+-- The checks that a type makes of a pin and a pin that it is related to, with any limits. Setup and hold take the greater of both limits
 -- for every event of the pin; recovery, removal and the pulse width have a check for each edge of the pin, with its own
 -- limit. (Liberty Reference Manual, `timing_type`.)
 abbrev pub checks_with : TimingType → ℕ → ℕ → ℕ → ℕ → Option Node → List Check
 checks_with Delay pin related rise fall condition = []
-checks_with (Setup edge) pin related rise fall condition = check kind.Setup (event pin Any) (event related edge) (max rise fall) condition
-checks_with (Hold edge) pin related rise fall condition = check kind.Hold (event related edge) (event pin Any) (max rise fall) condition
+checks_with (Setup edge) pin related rise fall condition = check kind.Setup (event pin Any) (event related edge) (max rise fall) condition ∷ []
+checks_with (Hold edge) pin related rise fall condition = check kind.Hold (event related edge) (event pin Any) (max rise fall) condition ∷ []
 checks_with (Recovery edge) pin related rise fall condition =
     check kind.Recovery (event pin Rise) (event related edge) rise condition
-    ++ check kind.Recovery (event pin Fall) (event related edge) fall condition
+    ∷ check kind.Recovery (event pin Fall) (event related edge) fall condition
+    ∷ []
 checks_with (Removal edge) pin related rise fall condition =
     check kind.Removal (event related edge) (event pin Rise) rise condition
-    ++ check kind.Removal (event related edge) (event pin Fall) fall condition
+    ∷ check kind.Removal (event related edge) (event pin Fall) fall condition
+    ∷ []
 checks_with Width pin related rise fall condition =
     check kind.Width (event pin Rise) (event pin Fall) rise condition
-    ++ check kind.Width (event pin Fall) (event pin Rise) fall condition
+    ∷ check kind.Width (event pin Fall) (event pin Rise) fall condition
+    ∷ []
 checks_with Other pin related rise fall condition = []
 
 -- The delay arc that a type makes from a related pin to a pin. (Liberty Reference Manual, `timing_type`.)
@@ -73,9 +78,10 @@ abbrev pub arcs_from : Subject → Group → ℕ → List Arc
 arcs_from subject group related =
     arcs_with (type_of group) subject.place related (rise_of subject group) (fall_of subject group) (tree_of (condition_of subject group))
 
--- The checks of a group, and its arcs before they are merged: for each input pin that it is related to, in order.
+-- The checks of a group that have a limit, and its arcs before they are merged: for each input pin that it is related
+-- to, in order.
 abbrev pub checks_in : Subject → Group → List Check
-checks_in subject group = if is_made subject group then flat_map (checks_from subject group) (inputs_of subject group) else []
+checks_in subject group = if is_made subject group then filter has_limit (flat_map (checks_from subject group) (inputs_of subject group)) else []
 
 abbrev pub arcs_in : Subject → Group → List Arc
 arcs_in subject group = if is_made subject group then flat_map (arcs_from subject group) (inputs_of subject group) else []

@@ -37,7 +37,7 @@ related_by subject group (Recovery edge) = map (related_as subject) (related_wor
 related_by subject group (Removal edge) = map (related_as subject) (related_words group)
 related_by subject group Other = map (related_as subject) (related_words group)
 
-abbrev pub related_of : Subject → Group → List Related
+unfoldable pub related_of : Subject → Group → List Related
 related_of subject group = related_by subject group (type_of group)
 
 abbrev pub is_driven : Related → Bool

@@ -3,13 +3,13 @@
 use Rattle.std.specs.Prelude.{ℕ, max, Bool, true, false, ◌&&◌, ◌||◌, not, ◌==◌, List, [], ◌∷◌, ◌++◌, length, codes, bytes_eq, flat_map, Option, Some, None, is_none, if◌then◌else◌}
 use Rattle.std.specs.Option.{option_map_or}
 use Rattle.std.specs.List.{list_any, filter_map}
-use Rattle.timing_arcs.specs.declared.number.Unit.{Unit as TimeUnit}
+use Rattle.liberty_text.specs.declared.time.Unit.{Unit as TimeUnit}
 use Rattle.liberty_groups.specs.declared.tree.Value.{Value}
 use Rattle.liberty_groups.specs.declared.tree.Item.{Item, out-Item}
 use Rattle.liberty_groups.specs.declared.tree.Item.TheOpen.{Item-F}
 use Rattle.liberty_groups.specs.declared.tree.Item.TheOpen as layer
 use Rattle.liberty_groups.specs.declared.tree.Group.{Group}
-use Rattle.timing_arcs.specs.Texts.{time_of}
+use Rattle.timing_arcs.specs.Times.{time_of}
 use Rattle.timing_arcs.specs.Attributes.{groups_named, words_between}
 
 -- Entries are separated by commas, blanks and line ends. (Liberty Reference Manual, `values`.)
@@ -49,7 +49,7 @@ times_of unit values = filter_map (time_of unit) values.entries
 
 -- The limit or delay that the tables of this name give: the greatest of all their entries, in picoseconds, 0 where there
 -- is no such table. (This project's rule.)
-abbrev pub limit_of : Option TimeUnit → List ℕ → Group → ℕ
+unfoldable pub limit_of : Option TimeUnit → List ℕ → Group → ℕ
 limit_of unit name group = greatest (flat_map (times_of unit) (values_named name group))
 
 abbrev pub has_entry : Values → Bool
@@ -66,7 +66,7 @@ empty_tables_at values (table ∷ tables) = if list_any has_entry values then []
 
 -- The offsets of what is wrong in the tables of one name: statements with an entry that is no time, and the first of
 -- tables that have no entry.
-abbrev pub bad_numbers_at : Option TimeUnit → List ℕ → Group → List ℕ
+unfoldable pub bad_numbers_at : Option TimeUnit → List ℕ → Group → List ℕ
 bad_numbers_at unit name group =
     empty_tables_at (values_named name group) (groups_named name group.items)
     ++ filter_map (bad_values_at unit) (values_named name group)

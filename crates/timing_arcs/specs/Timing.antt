@@ -1,6 +1,6 @@
 -- The timing of one pin: what its timing groups and its pulse widths make (Liberty Reference Manual, `timing` group,
 -- `min_pulse_width_high` and `min_pulse_width_low`).
-use Rattle.std.specs.Prelude.{◌≡◌, ℕ, ◌+◌, min, Bool, true, false, ◌&&◌, List, [], ◌∷◌, ◌++◌, map, flat_map, codes, slice_get, Option, Some, None, is_none, unwrap_or, Result, Ok, Err, if◌then◌else◌}
+use Rattle.std.specs.Prelude.{◌≡◌, ℕ, ◌+◌, min, Bool, true, false, ◌&&◌, List, [], ◌∷◌, ◌++◌, map, filter, flat_map, codes, slice_get, Option, Some, None, is_none, unwrap_or, Result, Ok, Err, if◌then◌else◌}
 use Rattle.std.specs.Option.{option_map_or}
 use Rattle.std.specs.List.{list_any}
 use Rattle.liberty_groups.specs.declared.tree.Item.{Item, out-Item}
@@ -16,12 +16,12 @@ use Rattle.timing_arcs.specs.declared.subject.Subject.{Subject}
 use Rattle.timing_arcs.specs.declared.subject.PinTiming.{PinTiming}
 use Rattle.timing_arcs.specs.Attributes.{Attribute, attribute_of, group_named, groups_named, place_of}
 use Rattle.timing_arcs.specs.Offsets.{least}
-use Rattle.timing_arcs.specs.Texts.{time_of}
+use Rattle.timing_arcs.specs.Times.{time_of}
 use Rattle.timing_arcs.specs.TimingTypes.{type_of, rise_table, fall_table, is_used}
 use Rattle.timing_arcs.specs.RelatedPins.{related_of, inputs_of, is_unknown, is_read, is_left_out}
 use Rattle.timing_arcs.specs.Conditions.{condition_of, is_malformed, has_unknown, names_one, is_wide}
 use Rattle.timing_arcs.specs.Tables.{bad_numbers_at}
-use Rattle.timing_arcs.specs.Making.{event, check, checks_in, arcs_in}
+use Rattle.timing_arcs.specs.Making.{event, check, has_limit, checks_in, arcs_in}
 use Rattle.timing_arcs.specs.Merging.{Placed, merged, merged_at}
 
 -- The timing groups of a pin, in order.
@@ -35,11 +35,18 @@ abbrev pub malformed_in : Subject → Group → List ℕ
 malformed_in subject group =
     if is_read subject group && is_malformed (condition_of subject group) then place_of (attribute_of group (codes "when")) else []
 
--- A related pin that is no pin, and a condition with a name that is no input pin.
+-- A related pin that is no pin.
+abbrev pub unknown_related_in : Subject → Group → List ℕ
+unknown_related_in subject group =
+    if is_used subject group && list_any is_unknown (related_of subject group) then place_of (attribute_of group (codes "related_pin")) else []
+
+-- A condition with a name that is no input pin.
+abbrev pub unknown_condition_in : Subject → Group → List ℕ
+unknown_condition_in subject group =
+    if is_read subject group && has_unknown (condition_of subject group) then place_of (attribute_of group (codes "when")) else []
+
 abbrev pub unknown_in : Subject → Group → List ℕ
-unknown_in subject group =
-    (if is_used subject group && list_any is_unknown (related_of subject group) then place_of (attribute_of group (codes "related_pin")) else [])
-    ++ (if is_read subject group && has_unknown (condition_of subject group) then place_of (attribute_of group (codes "when")) else [])
+unknown_in subject group = unknown_related_in subject group ++ unknown_condition_in subject group
 
 -- A condition that names the pin of a check or a pin that the group is related to.
 abbrev pub own_in : Subject → Group → List ℕ
@@ -65,7 +72,7 @@ pulse_attribute subject pin name = if is_input_pin subject.pins subject.place th
 -- The check of a pulse that begins and ends with these edges. It has no condition.
 abbrev pub pulse_check : Subject → Edge → Edge → Attribute → List Check
 pulse_check subject begins ends attribute =
-    check kind.Width (event subject.place begins) (event subject.place ends) (unwrap_or (time_of subject.unit attribute.text) 0) None
+    filter has_limit (check kind.Width (event subject.place begins) (event subject.place ends) (unwrap_or (time_of subject.unit attribute.text) 0) None ∷ [])
 
 abbrev pub pulse_checks : Subject → Edge → Edge → Option Attribute → List Check
 pulse_checks subject begins ends attribute = option_map_or (pulse_check subject begins ends) attribute []

@@ -79,7 +79,7 @@ has_table group =
 
 -- Whether a timing group of the subject's pin can make something: its type stands under pins of this direction, and it
 -- has a table that the type uses. Of any other group nothing is read. (This project's rule.)
-abbrev pub is_used : Subject → Group → Bool
+unfoldable pub is_used : Subject → Group → Bool
 is_used subject group =
     option_map_or (λ (pin : Pin). stands_under (type_of group) pin.direction) (slice_get subject.pins subject.place) false
     && has_table group

@@ -1,5 +1,19 @@
 //! The condition of a timing group.
-use bool_functions::Function;
+ghost use Rattle.std.specs.Prelude.{◌≡◌, ◌≤◌, length, IfOk};
+ghost use Rattle.std.specs.List.{list_all};
+ghost use Rattle.bool_functions.specs.Tree.{name_bound};
+ghost use Rattle.cell_machine.specs.CellRules.{is_input_pin};
+ghost use Rattle.timing_arcs.specs.Conditions.{condition_of_tree, condition_in, condition_of, tree_of, may_hold, is_malformed, has_unknown, named_pins};
+
+use crate::attributes::last_attribute;
+use crate::fault::Memory;
+use crate::subject::Subject;
+use crate::timing_type::is_input_pin;
+use bool_functions::{Function, FunctionFault, bound_is_least, read_function};
+use cell_machine::Pin;
+use liberty_groups::Group;
+use sqlite_items::Items;
+use std::alloc::Global;
 
 /// What the `when` of a timing group says.
 #[derive(Debug, Drop)]
@@ -14,4 +28,114 @@ pub(crate) enum Condition {
     Malformed,
     /// It names what is no input pin.
     Unknown,
+}
+
+/// Whether these are all numbers of input pins.
+fn are_inputs(pins: &[Pin], numbers: &[usize]) -> bool
+    ensures { result ≡ list_all (is_input_pin pins.now) numbers.now }
+{
+    numbers.iter().all(|number| is_input_pin(pins, *number))
+}
+
+impl Condition {
+    /// The condition that a function is.
+    fn of_function(
+        alloc: Global,
+        subject: &Subject,
+        function: Function,
+    ) -> Result<Condition, Memory>
+        ensures { IfOk result (λ condition. condition ≡ condition_of_tree subject.now function) }
+    {
+        let support = function.support(alloc)?;
+        if !are_inputs(subject.pins.as_slice(), &support) {
+            return Ok(Condition::Unknown);
+        }
+        if !support.is_empty() {
+            return Ok(Condition::Where(function));
+        }
+        bound_is_least();
+        Ok(if function.value(&[]) {
+            Condition::Always
+        } else {
+            Condition::Never
+        })
+    }
+
+    /// The condition that a text stands for.
+    #[tactic(auto, unfolding(crate::specs::Conditions::condition_in))]
+    fn of_text(alloc: Global, subject: &Subject, text: &[u8]) -> Result<Condition, Memory>
+        ensures { IfOk result (λ condition. condition ≡ condition_in subject.now text.now) }
+    {
+        match read_function(alloc, text, &subject.names) {
+            Ok(function) => Condition::of_function(alloc, subject, function),
+            Err(FunctionFault::TooLong) => Ok(Condition::Malformed),
+            Err(FunctionFault::Malformed(_)) => Ok(Condition::Malformed),
+            Err(FunctionFault::UnknownName(_)) => Ok(Condition::Unknown),
+            Err(FunctionFault::Memory) => Err(Memory),
+        }
+    }
+
+    /// The condition of a timing group.
+    #[tactic(auto, unfolding(crate::specs::Conditions::condition_of))]
+    pub(crate) fn of_group(
+        alloc: Global,
+        subject: &Subject,
+        group: &Group,
+    ) -> Result<Condition, Memory>
+        ensures { IfOk result (λ condition. condition ≡ condition_of subject.now group.now) }
+    {
+        match last_attribute(group, b"when") {
+            Some(attribute) => Condition::of_text(alloc, subject, attribute.text),
+            None => Ok(Condition::Always),
+        }
+    }
+
+    /// Its function, where it is none that always holds.
+    pub(crate) fn into_function(self) -> Option<Function>
+        ensures { result ≡ tree_of self }
+    {
+        match self {
+            Condition::Where(function) => Some(function),
+            _ => None,
+        }
+    }
+
+    /// Whether what stands under it is made.
+    pub(crate) fn may_hold(&self) -> bool
+        ensures { result ≡ may_hold self.now }
+    {
+        match self {
+            Condition::Always | Condition::Where(_) => true,
+            Condition::Never | Condition::Malformed | Condition::Unknown => false,
+        }
+    }
+
+    pub(crate) fn is_malformed(&self) -> bool
+        ensures { result ≡ is_malformed self.now }
+    {
+        match self {
+            Condition::Malformed => true,
+            _ => false,
+        }
+    }
+
+    /// Whether it names what is no input pin.
+    pub(crate) fn has_unknown(&self) -> bool
+        ensures { result ≡ has_unknown self.now }
+    {
+        match self {
+            Condition::Unknown => true,
+            _ => false,
+        }
+    }
+
+    /// The numbers of the pins that it names, ascending.
+    pub(crate) fn named_pins(&self, alloc: Global) -> Result<Items<usize>, Memory>
+        ensures { IfOk result (λ pins. pins ≡ named_pins self.now) }
+    {
+        match self {
+            Condition::Where(function) => Ok(Items::from_vec(function.support(alloc)?)),
+            _ => Ok(Items::new(alloc)),
+        }
+    }
 }

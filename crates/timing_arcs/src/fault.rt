@@ -41,6 +41,12 @@ impl<T: Drop> From<AllocFailed<T>> for Memory {
     }
 }
 
+impl From<bool_functions::Memory> for Memory {
+    fn from(_: bool_functions::Memory) -> Memory {
+        Memory
+    }
+}
+
 impl From<Memory> for TimingFault {
     ghost use Rattle.std.specs.Prelude.{◌≡◌};
     ghost use Rattle.timing_arcs.specs.declared.fault.TimingFault.TheVariants as fault;

@@ -4,7 +4,6 @@
 mod attributes;
 mod condition;
 mod fault;
-mod number;
 mod related;
 mod subject;
 mod tables;

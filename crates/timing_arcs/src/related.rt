@@ -91,6 +91,7 @@ fn related_in(alloc: Global, subject: &Subject, text: &[u8]) -> Result<Vec<Relat
 
 /// What a timing group of this type is related to, in order. The related pin of a pulse width is not read: it is the
 /// pin itself.
+#[tactic(auto, unfolding(crate::specs::RelatedPins::related_of))]
 pub(crate) fn related_pins(
     alloc: Global,
     subject: &Subject,

@@ -1,5 +1,5 @@
 //! What the timing of a pin is read from, and what it is.
-use crate::number::Unit;
+use liberty_text::Unit;
 use bool_functions::Names;
 use cell_machine::{Arc, Check, Pin};
 use sqlite_items::Items;

@@ -4,16 +4,17 @@ ghost use Rattle.std.specs.Option.{option_copied};
 ghost use Rattle.liberty_groups.specs.declared.tree.Item.{out-Item};
 ghost use Rattle.timing_arcs.specs.Attributes.{groups_named, first_of};
 ghost use Rattle.timing_arcs.specs.Offsets.{lesser, least};
-ghost use Rattle.timing_arcs.specs.Texts.{time_of};
+ghost use Rattle.timing_arcs.specs.Times.{time_of};
 ghost use Rattle.timing_arcs.specs.Tables.{limit_of, bad_numbers_at};
 ghost use Rattle.timing_arcs.specs.Sums.{first_unless, no_sum, with_entry, with_text, with_arguments, with_item, with_table, with_tables};
 ghost use Rattle.timing_arcs.specs.Attributes.{first_of};
 
 use crate::attributes::inner_group;
 use crate::fault::Memory;
-use crate::number::Unit;
+
 use crate::words::entries;
 use liberty_groups::{Group, Item, Value};
+use liberty_text::{Unit, fixed, picoseconds};
 use std::alloc::Global;
 
 /// What some entries of tables give.
@@ -38,11 +39,15 @@ pub(crate) struct Limit {
 }
 
 /// The time that a text is, in picoseconds: nothing where it is no number within the limits or the unit is unknown.
-#[tactic(auto, unfolding(crate::specs::Texts::time_of))]
-pub(crate) fn time(_unit: Option<Unit>, _text: &[u8]) -> Option<u64>
-    ensures { result ≡ time_of _unit _text.now }
+#[tactic(auto, unfolding(crate::specs::Times::time_of))]
+pub(crate) fn time(unit: Option<Unit>, text: &[u8]) -> Option<u64>
+    ensures { result ≡ time_of unit text.now }
 {
-    None
+    let unit = unit?;
+    match fixed(text) {
+        Ok(number) => picoseconds(number, unit),
+        Err(_) => None,
+    }
 }
 
 /// The lesser of two offsets.

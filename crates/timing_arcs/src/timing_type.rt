@@ -167,6 +167,7 @@ fn has_group(group: &Group, name: &[u8]) -> bool
 
 /// Whether a timing group of this type can make something under the subject's pin: it stands under pins of this
 /// direction and has a table that the type uses.
+#[tactic(auto, unfolding(crate::specs::TimingTypes::is_used))]
 pub(crate) fn is_used(subject: &Subject, group: &Group, timing_type: TimingType) -> bool
     requires place { subject.now.place < length subject.now.pins }
     requires its_type { timing_type ≡ type_of group.now }

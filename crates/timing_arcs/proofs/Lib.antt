@@ -1,2 +1,4 @@
 pub mod Lists
+pub mod OffsetLemmas
+pub mod RelatedLemmas
 pub mod SumLemmas

@@ -14,25 +14,11 @@ use Rattle.liberty_groups.specs.declared.tree.Group.{Group}
 use Rattle.liberty_text.specs.declared.time.Unit.{Unit as TimeUnit}
 use Rattle.timing_arcs.specs.declared.tables.Sum.{Sum}
 use Rattle.timing_arcs.specs.Offsets.{lesser, least}
+use Rattle.timing_arcs.proofs.OffsetLemmas.{lesser-none, lesser-assoc, least-append}
 use Rattle.timing_arcs.specs.Times.{time_of}
 use Rattle.timing_arcs.specs.Attributes.{first_of, words_between, group_named, groups_named}
 use Rattle.timing_arcs.specs.Tables.{is_separator, Values, entries_of, values_as, values_of, values_named, greatest, times_of, limit_of, has_entry, bad_values_at, bad_numbers_at, empty_tables_at}
 use Rattle.timing_arcs.specs.Sums.{first_unless, no_sum, with_time, with_entry, with_text, with_arguments, with_item, with_table, with_optional, with_tables}
-
--- the lesser of two offsets
-pub lesser-none : (a : Option ℕ) → lesser a None ≡ a
-lesser-none None = refl
-lesser-none (Some x) = refl
-
-pub lesser-assoc : (a b c : Option ℕ) → lesser (lesser a b) c ≡ lesser a (lesser b c)
-lesser-assoc None b c = refl
-lesser-assoc (Some x) None c = refl
-lesser-assoc (Some x) (Some y) None = refl
-lesser-assoc (Some x) (Some y) (Some z) = let e : min (min x y) z ≡ min x (min y z) = omega arith in ap Some e
-
-pub least-append : (xs ys : List ℕ) → least (xs ++ ys) ≡ lesser (least xs) (least ys)
-least-append [] ys = refl
-least-append (x ∷ xs) ys = ap (lesser (Some x)) (least-append xs ys) ∙ sym (lesser-assoc (Some x) (least xs) (least ys))
 
 pub greatest-append : (xs ys : List ℕ) → greatest (xs ++ ys) ≡ max (greatest xs) (greatest ys)
 greatest-append [] ys = omega arith

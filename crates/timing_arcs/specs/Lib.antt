@@ -9,4 +9,5 @@ pub mod Sums
 pub mod Making
 pub mod Merging
 pub mod Timing
+pub mod Readings
 pub mod Shown

@@ -4,6 +4,8 @@
 mod attributes;
 mod condition;
 mod fault;
+mod offsets;
+mod reading;
 mod related;
 mod subject;
 mod tables;

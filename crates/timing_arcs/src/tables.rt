@@ -3,7 +3,7 @@ ghost use Rattle.std.specs.Prelude.{◌≡◌, IfOk, OnOk};
 ghost use Rattle.std.specs.Option.{option_copied};
 ghost use Rattle.liberty_groups.specs.declared.tree.Item.{out-Item};
 ghost use Rattle.timing_arcs.specs.Attributes.{groups_named, first_of};
-ghost use Rattle.timing_arcs.specs.Offsets.{lesser, least};
+ghost use Rattle.timing_arcs.specs.Offsets.{least};
 ghost use Rattle.timing_arcs.specs.Times.{time_of};
 ghost use Rattle.timing_arcs.specs.Tables.{limit_of, bad_numbers_at};
 ghost use Rattle.timing_arcs.specs.Sums.{first_unless, no_sum, with_entry, with_text, with_arguments, with_item, with_table, with_tables};
@@ -11,6 +11,7 @@ ghost use Rattle.timing_arcs.specs.Attributes.{first_of};
 
 use crate::attributes::inner_group;
 use crate::fault::Memory;
+use crate::offsets::lesser;
 
 use crate::words::entries;
 use liberty_groups::{Group, Item, Value};
@@ -47,17 +48,6 @@ pub(crate) fn time(unit: Option<Unit>, text: &[u8]) -> Option<u64>
     match fixed(text) {
         Ok(number) => picoseconds(number, unit),
         Err(_) => None,
-    }
-}
-
-/// The lesser of two offsets.
-pub(crate) fn lesser(one: Option<usize>, other: Option<usize>) -> Option<usize>
-    ensures { result ≡ lesser one other }
-{
-    match (one, other) {
-        (Some(one), Some(other)) => Some(one.min(other)),
-        (Some(one), None) => Some(one),
-        (None, other) => other,
     }
 }
 

@@ -1,4 +1,5 @@
 pub mod Lists
 pub mod OffsetLemmas
 pub mod RelatedLemmas
+pub mod SameTree
 pub mod SumLemmas

@@ -1,6 +1,7 @@
 //! The timing checks and delay arcs of one pin of a Liberty cell.
 #![tactic(auto)]
 
+mod arc_list;
 mod attributes;
 mod condition;
 mod fault;

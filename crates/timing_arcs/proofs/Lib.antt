@@ -1,4 +1,6 @@
+pub mod FoundLemmas
 pub mod Lists
+pub mod MergingLemmas
 pub mod OffsetLemmas
 pub mod RelatedLemmas
 pub mod SameTree

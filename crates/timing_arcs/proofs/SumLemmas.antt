@@ -24,7 +24,6 @@ pub greatest-append : (xs ys : List ℕ) → greatest (xs ++ ys) ≡ max (greate
 greatest-append [] ys = omega arith
 greatest-append (x ∷ xs) ys = let e : greatest (xs ++ ys) ≡ max (greatest xs) (greatest ys) = greatest-append xs ys in omega arith
 
-
 or-false : (b : Bool) → (b || false) ≡ b
 or-false true = refl
 or-false false = refl
@@ -50,9 +49,9 @@ plus-nil unit sum = same_sum _ _ (or-false sum.has_entry) (omega arith) (lesser-
 plus-append : (unit : Option TimeUnit) (sum : Sum) (xs ys : List Values) → plus unit sum (xs ++ ys) ≡ plus unit (plus unit sum xs) ys
 plus-append unit sum xs ys =
     let g : greatest (flat_map (times_of unit) (xs ++ ys)) ≡ max (greatest (flat_map (times_of unit) xs)) (greatest (flat_map (times_of unit) ys)) =
-        ap greatest (flat_map-append (times_of unit) xs ys) ∙ greatest-append (flat_map (times_of unit) xs) (flat_map (times_of unit) ys) in
+    ap greatest (flat_map-append (times_of unit) xs ys) ∙ greatest-append (flat_map (times_of unit) xs) (flat_map (times_of unit) ys) in
     let t : least (filter_map (bad_values_at unit) (xs ++ ys)) ≡ lesser (least (filter_map (bad_values_at unit) xs)) (least (filter_map (bad_values_at unit) ys)) =
-        ap least (filter_map-append (bad_values_at unit) xs ys) ∙ least-append (filter_map (bad_values_at unit) xs) (filter_map (bad_values_at unit) ys) in
+    ap least (filter_map-append (bad_values_at unit) xs ys) ∙ least-append (filter_map (bad_values_at unit) xs) (filter_map (bad_values_at unit) ys) in
     same_sum _ _
     (ap (λ b. sum.has_entry || b) (list_any-append has_entry xs ys) ∙ sym (or-assoc sum.has_entry (list_any has_entry xs) (list_any has_entry ys)))
     (omega arith)
@@ -86,11 +85,11 @@ times-single unit at texts = append-nil (filter_map (time_of unit) texts)
 plus-texts : (unit : Option TimeUnit) (at : ℕ) (sum : Sum) (xs ys : List (List ℕ)) → plus unit sum (values at (xs ++ ys)) ≡ plus unit (plus unit sum (values at xs)) (values at ys)
 plus-texts unit at sum xs ys =
     let g : greatest (flat_map (times_of unit) (values at (xs ++ ys))) ≡ max (greatest (flat_map (times_of unit) (values at xs))) (greatest (flat_map (times_of unit) (values at ys))) =
-        rw (times-single unit at (xs ++ ys), times-single unit at xs, times-single unit at ys, filter_map-append (time_of unit) xs ys) (greatest-append (filter_map (time_of unit) xs) (filter_map (time_of unit) ys)) in
+    rw (times-single unit at (xs ++ ys), times-single unit at xs, times-single unit at ys, filter_map-append (time_of unit) xs ys) (greatest-append (filter_map (time_of unit) xs) (filter_map (time_of unit) ys)) in
     let h : list_any has_entry (values at (xs ++ ys)) ≡ (list_any has_entry (values at xs) || list_any has_entry (values at ys)) =
-        rw (or-false (not (length (xs ++ ys) == 0)), or-false (not (length xs == 0)), or-false (not (length ys == 0))) (some-append xs ys) in
+    rw (or-false (not (length (xs ++ ys) == 0)), or-false (not (length xs == 0)), or-false (not (length ys == 0))) (some-append xs ys) in
     let t : least (filter_map (bad_values_at unit) (values at (xs ++ ys))) ≡ lesser (least (filter_map (bad_values_at unit) (values at xs))) (least (filter_map (bad_values_at unit) (values at ys))) =
-        rw (list_any-append (is_bad unit) xs ys) (bad-append at (list_any (is_bad unit) xs) (list_any (is_bad unit) ys)) in
+    rw (list_any-append (is_bad unit) xs ys) (bad-append at (list_any (is_bad unit) xs) (list_any (is_bad unit) ys)) in
     same_sum _ _
     (ap (λ b. sum.has_entry || b) h ∙ sym (or-assoc sum.has_entry _ _))
     (omega arith)

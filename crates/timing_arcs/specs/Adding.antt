@@ -1,8 +1,26 @@
--- How the checks and arcs of a pin are put together, one after another.
-use Rattle.std.specs.Prelude.{ℕ, max, List, [], ◌∷◌, ◌++◌, map, if◌then◌else◌}
+-- How the timing of a pin is put together, one statement after another.
+use Rattle.std.specs.Prelude.{ℕ, ◌+◌, max, ◌==◌, List, [], ◌∷◌, ◌++◌, map, fold, codes, Option, Some, None, Result, Ok, if◌then◌else◌}
 use Rattle.std.specs.List.{list_any}
+use Rattle.liberty_groups.specs.declared.tree.Item.{Item, out-Item}
+use Rattle.liberty_groups.specs.declared.tree.Group.{Group}
+use Rattle.cell_machine.specs.declared.checks.CheckKind.TheVariants as kind
+use Rattle.cell_machine.specs.declared.checks.Edge.{Edge}
+use Rattle.cell_machine.specs.declared.checks.Edge.TheVariants.{Rise, Fall}
+use Rattle.cell_machine.specs.declared.checks.Check.{Check}
 use Rattle.cell_machine.specs.declared.arcs.Arc.{Arc}
+use Rattle.timing_arcs.specs.declared.fault.TimingFault.{TimingFault}
+use Rattle.timing_arcs.specs.declared.fault.TimingFault.TheVariants as fault
+use Rattle.timing_arcs.specs.declared.found.Found.{Found}
+use Rattle.timing_arcs.specs.declared.subject.Subject.{Subject}
+use Rattle.timing_arcs.specs.declared.subject.PinTiming.{PinTiming}
+use Rattle.timing_arcs.specs.Attributes.{Attribute, group_named}
+use Rattle.timing_arcs.specs.Offsets.{lesser}
+use Rattle.timing_arcs.specs.Times.{time_of}
+use Rattle.timing_arcs.specs.RelatedPins.{inputs_of, is_left_out}
+use Rattle.timing_arcs.specs.Making.{check, event, checks_from, arcs_from, is_made}
 use Rattle.timing_arcs.specs.Merging.{same_path}
+use Rattle.timing_arcs.specs.Readings.{joined, no_offsets, offsets_in}
+use Rattle.timing_arcs.specs.Timing.{pulse_high, pulse_low, unless_at}
 
 -- an arc, with the greater rise and fall of it and a new one, where both have the same ends and the same condition
 abbrev pub joined_with : Arc → Arc → Arc
@@ -13,3 +31,100 @@ joined_with arc kept =
 abbrev pub with_arc : List Arc → Arc → List Arc
 with_arc arcs arc =
     if list_any (same_path arc) arcs then map (joined_with arc) arcs else map (joined_with arc) arcs ++ arc ∷ []
+
+-- what was found so far, with a check that was made at this offset, if it has a limit
+abbrev pub with_check : ℕ → Found → Check → Found
+with_check at found k =
+    if k.limit == 0 then found else record found { checks = found.checks ++ k ∷ []; check_at = found.check_at ++ at ∷ [] }
+
+-- with an arc that was made at this offset
+abbrev pub with_placed : ℕ → Found → Arc → Found
+with_placed at found arc =
+    if list_any (same_path arc) found.arcs
+    then record found { arcs = with_arc found.arcs arc }
+    else record found { arcs = with_arc found.arcs arc; arc_at = found.arc_at ++ at ∷ [] }
+
+-- with all of these
+abbrev pub with_checks : ℕ → Found → List Check → Found
+with_checks at found checks = fold (with_check at) found checks
+
+abbrev pub with_arcs : ℕ → Found → List Arc → Found
+with_arcs at found arcs = fold (with_placed at) found arcs
+
+-- with what a group makes with a pin that it is related to, and with all of them
+abbrev pub with_related : Subject → Group → Found → ℕ → Found
+with_related subject group found related =
+    with_arcs group.at (with_checks group.at found (checks_from subject group related)) (arcs_from subject group related)
+
+abbrev pub with_inputs : Subject → Group → Found → List ℕ → Found
+with_inputs subject group found inputs = fold (with_related subject group) found inputs
+
+-- with what is noted in a group at this place, and whether it is left out
+abbrev pub with_noted : Subject → ℕ → Found → Group → Found
+with_noted subject place found group =
+    record found {
+      left_out = (if is_left_out subject group then found.left_out ++ place ∷ [] else found.left_out);
+      offsets = joined found.offsets (offsets_in subject group);
+    }
+
+-- with a group at this place, if there is one
+abbrev pub with_group : Subject → ℕ → Found → Group → Found
+with_group subject place found group =
+    if is_made subject group
+    then with_inputs subject group (with_noted subject place found group) (inputs_of subject group)
+    else with_noted subject place found group
+
+abbrev pub with_optional : Subject → ℕ → Found → Option Group → Found
+with_optional subject place found None = found
+with_optional subject place found (Some group) = with_group subject place found group
+
+-- with the timing groups among these statements, of which the first has this place
+abbrev pub with_items : Subject → ℕ → Found → List Item → Found
+with_items subject place found [] = found
+with_items subject place found (item ∷ items) =
+    with_items subject (place + 1) (with_optional subject place found (group_named (codes "timing") (out-Item item))) items
+
+-- with a number that is no time
+abbrev pub with_number : Found → ℕ → Found
+with_number found at = record found { offsets = record (found.offsets) { number = lesser found.offsets.number (Some at) } }
+
+-- with a pulse that has this least width, or none that is a time
+abbrev pub with_width : Subject → Edge → Edge → Found → ℕ → Option ℕ → Found
+with_width subject begins ends found at None = with_number found at
+with_width subject begins ends found at (Some width) =
+    with_check at found (check kind.Width (event subject.place begins) (event subject.place ends) width None)
+
+abbrev pub with_pulse : Subject → Edge → Edge → Found → Option Attribute → Found
+with_pulse subject begins ends found None = found
+with_pulse subject begins ends found (Some attribute) =
+    with_width subject begins ends found attribute.at (time_of subject.unit attribute.text)
+
+-- nothing
+abbrev pub nothing_found : Found
+nothing_found = record { checks = []; check_at = []; arcs = []; arc_at = []; left_out = []; offsets = no_offsets }
+
+-- what is found of a pin
+abbrev pub found_of : Subject → Group → Found
+found_of subject pin =
+    with_pulse subject Fall Rise
+    (with_pulse subject Rise Fall (with_items subject 0 nothing_found pin.items) (pulse_high subject pin))
+    (pulse_low subject pin)
+
+-- the timing that was found
+abbrev pub timing_found : Found → PinTiming
+timing_found found = record {
+  checks = found.checks;
+  arcs = found.arcs;
+  left_out = found.left_out;
+  check_at = found.check_at;
+  arc_at = found.arc_at;
+  wide = found.offsets.wide;
+}
+
+-- the answer on what was found
+abbrev pub answer_found : Found → Result PinTiming TimingFault
+answer_found found =
+    unless_at fault.Malformed found.offsets.malformed
+    (unless_at fault.UnknownName found.offsets.unknown_name
+    (unless_at fault.OwnCondition found.offsets.own_condition
+    (unless_at fault.Number found.offsets.number (Ok (timing_found found)))))

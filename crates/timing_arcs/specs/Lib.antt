@@ -9,6 +9,6 @@ pub mod Sums
 pub mod Making
 pub mod Merging
 pub mod Timing
-pub mod Adding
 pub mod Readings
+pub mod Adding
 pub mod Shown

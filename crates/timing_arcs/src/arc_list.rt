@@ -53,9 +53,7 @@ fn same_condition(one: &Option<Function>, other: &Option<Function>) -> bool
 fn same_path(one: &Arc, other: &Arc) -> bool
     ensures { result ≡ same_path one.now other.now }
 {
-    one.from == other.from
-        && one.to == other.to
-        && same_condition(&one.condition, &other.condition)
+    one.from == other.from && one.to == other.to && same_condition(&one.condition, &other.condition)
 }
 
 /// Gives an arc with the ends and the condition of the new one the greater rise and the greater fall, and answers

@@ -5,7 +5,10 @@ mod arc_list;
 mod attributes;
 mod condition;
 mod fault;
+mod found;
+mod making;
 mod offsets;
+mod pin_timing;
 mod reading;
 mod related;
 mod subject;
@@ -15,4 +18,5 @@ mod words;
 
 pub use attributes::{Attribute, inner_group, last_attribute, simple_attribute};
 pub use fault::{Memory, TimingFault};
+pub use pin_timing::read_timing;
 pub use subject::{PinTiming, Subject};

@@ -105,11 +105,7 @@ pub(crate) fn related_pins(
         return Ok(Items::from_slice(alloc, &[Related::Input(subject.place)])?);
     }
     match last_attribute(group, b"related_pin") {
-        Some(attribute) => Ok(Items::from_vec(related_in(
-            alloc,
-            subject,
-            attribute.text,
-        )?)),
+        Some(attribute) => Ok(Items::from_vec(related_in(alloc, subject, attribute.text)?)),
         None => Ok(Items::new(alloc)),
     }
 }

@@ -1,7 +1,7 @@
 //! What the timing of a pin is read from, and what it is.
-use liberty_text::Unit;
 use bool_functions::Names;
 use cell_machine::{Arc, Check, Pin};
+use liberty_text::Unit;
 use sqlite_items::Items;
 
 /// The pin whose timing is read, in its cell.

@@ -12,7 +12,6 @@ ghost use Rattle.timing_arcs.specs.Attributes.{first_of};
 use crate::attributes::inner_group;
 use crate::fault::Memory;
 use crate::offsets::lesser;
-
 use crate::words::entries;
 use liberty_groups::{Group, Item, Value};
 use liberty_text::{Unit, fixed, picoseconds};

@@ -1,0 +1,320 @@
+-- What is put together statement by statement is what the definition says of all statements.
+use Rattle.std.proofs.Common.{◌≡◌, ℕ, ◌+◌, Bool, true, false, not, ◌==◌, List, [], ◌∷◌, ◌++◌, map, length, refl, sym, ap, ◌∙◌, arith, append_assoc, append-nil}
+use Rattle.std.specs.Prelude.{Option, Some, None, fold, filter, flat_map, codes, is_none, unwrap_or, Result, Ok, Err, if◌then◌else◌}
+use Rattle.std.specs.List.{list_any, filter_map, cons_option}
+use Rattle.std.proofs.lemmas.Bool.{cases_Bool}
+use Rattle.std.proofs.lemmas.List.{map-append}
+use Rattle.std.proofs.lemmas.List.Elements.{filter-append}
+use Rattle.std.proofs.Math.Logic.{inl, inr}
+use Rattle.liberty_groups.specs.declared.tree.Item.{Item, out-Item}
+use Rattle.liberty_groups.specs.declared.tree.Group.{Group}
+use Rattle.cell_machine.specs.declared.checks.CheckKind.TheVariants as kind
+use Rattle.cell_machine.specs.declared.checks.Edge.{Edge}
+use Rattle.cell_machine.specs.declared.checks.Edge.TheVariants.{Rise, Fall}
+use Rattle.cell_machine.specs.declared.checks.Check.{Check}
+use Rattle.cell_machine.specs.declared.arcs.Arc.{Arc}
+use Rattle.timing_arcs.specs.declared.found.Found.{Found}
+use Rattle.timing_arcs.specs.declared.subject.Subject.{Subject}
+use Rattle.timing_arcs.specs.declared.subject.PinTiming.{PinTiming}
+use Rattle.timing_arcs.specs.declared.fault.TimingFault.{TimingFault}
+use Rattle.timing_arcs.specs.declared.fault.TimingFault.TheVariants as fault
+use Rattle.timing_arcs.specs.Attributes.{Attribute, group_named, groups_named}
+use Rattle.timing_arcs.specs.Offsets.{lesser, least}
+use Rattle.timing_arcs.specs.Times.{time_of}
+use Rattle.timing_arcs.specs.RelatedPins.{inputs_of, is_left_out}
+use Rattle.timing_arcs.specs.Making.{check, event, has_limit, checks_from, arcs_from, is_made, checks_in, arcs_in}
+use Rattle.timing_arcs.specs.Merging.{Placed, same_path, merged, merged_at}
+use Rattle.timing_arcs.specs.Timing.{timing_groups, malformed_in, unknown_in, own_in, wide_in, bad_numbers_in, pulse_high, pulse_low, pulse_check, pulse_checks, pulse_check_at, bad_pulse, at_each, placed_arcs_in, left_out_at, left_out_from, checks_of, check_at_of, placed_arcs, malformed_at, unknown_names_at, own_conditions_at, numbers_at, wide_at, reading_answer, Gives}
+use Rattle.timing_arcs.specs.Readings.{joined, offsets_in}
+use Rattle.timing_arcs.specs.Adding.{with_check, with_placed, with_checks, with_arcs, with_related, with_inputs, with_noted, with_group, with_optional, with_items, with_number, with_width, with_pulse, nothing_found, found_of, answer_found}
+use Rattle.timing_arcs.proofs.OffsetLemmas.{least-append}
+use Rattle.timing_arcs.proofs.MergingLemmas.{merged-append, merged_at-append}
+
+-- what is found, part by part, before arcs are merged and of offsets the least are taken
+record Parts : Type 0 where
+  checks : List Check
+  check_at : List ℕ
+  placed : List Placed
+  left_out : List ℕ
+  malformed : List ℕ
+  unknown : List ℕ
+  own : List ℕ
+  numbers : List ℕ
+  wide : List ℕ
+
+-- and after that
+abbrev shows : Parts → Found
+shows p = record {
+  checks = p.checks;
+  check_at = p.check_at;
+  arcs = merged p.placed;
+  arc_at = merged_at p.placed;
+  left_out = p.left_out;
+  offsets = record { malformed = least p.malformed; unknown_name = least p.unknown; own_condition = least p.own; number = least p.numbers; wide = least p.wide };
+}
+
+abbrev add : Parts → Parts → Parts
+add p q = record {
+  checks = p.checks ++ q.checks;
+  check_at = p.check_at ++ q.check_at;
+  placed = p.placed ++ q.placed;
+  left_out = p.left_out ++ q.left_out;
+  malformed = p.malformed ++ q.malformed;
+  unknown = p.unknown ++ q.unknown;
+  own = p.own ++ q.own;
+  numbers = p.numbers ++ q.numbers;
+  wide = p.wide ++ q.wide;
+}
+
+abbrev no_parts : Parts
+no_parts = record { checks = []; check_at = []; placed = []; left_out = []; malformed = []; unknown = []; own = []; numbers = []; wide = [] }
+
+add-none : (p : Parts) → add p no_parts ≡ p
+add-none p = λ i. record {
+  checks = append-nil p.checks i;
+  check_at = append-nil p.check_at i;
+  placed = append-nil p.placed i;
+  left_out = append-nil p.left_out i;
+  malformed = append-nil p.malformed i;
+  unknown = append-nil p.unknown i;
+  own = append-nil p.own i;
+  numbers = append-nil p.numbers i;
+  wide = append-nil p.wide i;
+}
+
+add-assoc : (p q r : Parts) → add (add p q) r ≡ add p (add q r)
+add-assoc p q r = λ i. record {
+  checks = append_assoc p.checks q.checks r.checks i;
+  check_at = append_assoc p.check_at q.check_at r.check_at i;
+  placed = append_assoc p.placed q.placed r.placed i;
+  left_out = append_assoc p.left_out q.left_out r.left_out i;
+  malformed = append_assoc p.malformed q.malformed r.malformed i;
+  unknown = append_assoc p.unknown q.unknown r.unknown i;
+  own = append_assoc p.own q.own r.own i;
+  numbers = append_assoc p.numbers q.numbers r.numbers i;
+  wide = append_assoc p.wide q.wide r.wide i;
+}
+
+-- with more checks, and with more arcs
+abbrev more_checks : Parts → List Check → List ℕ → Parts
+more_checks p ks ats = record p { checks = p.checks ++ ks; check_at = p.check_at ++ ats }
+
+abbrev more_arcs : Parts → List Placed → Parts
+more_arcs p ps = record p { placed = p.placed ++ ps }
+
+abbrev placed_at : ℕ → List Arc → List Placed
+placed_at at arcs = map (λ arc. record { arc = arc; at = at }) arcs
+
+more_checks-same : (p : Parts) (ks js : List Check) (ats bts : List ℕ) → p.checks ++ ks ≡ p.checks ++ js → p.check_at ++ ats ≡ p.check_at ++ bts → more_checks p ks ats ≡ more_checks p js bts
+more_checks-same p ks js ats bts k t = λ i. record p { checks = k i; check_at = t i }
+
+with_checks-shows : (at : ℕ) (p : Parts) (ks : List Check) → with_checks at (shows p) ks ≡ shows (more_checks p (filter has_limit ks) (at_each at (filter has_limit ks)))
+with_checks-shows at p [] = ap shows (sym (λ i. record p { checks = append-nil p.checks i; check_at = append-nil p.check_at i }))
+with_checks-shows at p (k ∷ ks) =
+    elim (cases_Bool (k.limit == 0)) [
+      | inl zero ↦ rw zero (with_checks-shows at p ks)
+      | inr some ↦
+          rw some
+          (with_checks-shows at (more_checks p (k ∷ []) (at ∷ [])) ks
+          ∙ ap shows (λ i. record p { checks = append_assoc p.checks (k ∷ []) (filter has_limit ks) i; check_at = append_assoc p.check_at (at ∷ []) (at_each at (filter has_limit ks)) i }))
+    ]
+
+with_placed-shows : (at : ℕ) (p : Parts) (arc : Arc) → with_placed at (shows p) arc ≡ shows (more_arcs p (record { arc = arc; at = at } ∷ []))
+with_placed-shows at p arc =
+    let q : Placed = record { arc = arc; at = at } in
+    let kept = merged-append p.placed q in
+    let offsets = merged_at-append p.placed q in
+    elim (cases_Bool (list_any (same_path arc) (merged p.placed))) [
+      | inl there ↦
+          let same = rw there at offsets in
+          rw there (λ i. record (shows p) { arcs = (rw there at kept) i; arc_at = same i })
+      | inr new ↦
+          let more = rw new at offsets in
+          rw new (λ i. record (shows p) { arcs = (rw new at kept) i; arc_at = more i })
+    ]
+
+with_arcs-shows : (at : ℕ) (p : Parts) (arcs : List Arc) → with_arcs at (shows p) arcs ≡ shows (more_arcs p (placed_at at arcs))
+with_arcs-shows at p [] = ap shows (sym (λ i. record p { placed = append-nil p.placed i }))
+with_arcs-shows at p (arc ∷ arcs) =
+    ap (λ found. with_arcs at found arcs) (with_placed-shows at p arc)
+    ∙ with_arcs-shows at (more_arcs p (record { arc = arc; at = at } ∷ [])) arcs
+    ∙ ap shows (λ i. record p { placed = append_assoc p.placed (record { arc = arc; at = at } ∷ []) (placed_at at arcs) i })
+
+-- with checks, of which those with a limit count, and with arcs
+abbrev more_made : ℕ → Parts → List Check → List Arc → Parts
+more_made at p ks arcs = more_arcs (more_checks p (filter has_limit ks) (at_each at (filter has_limit ks))) (placed_at at arcs)
+
+with_inputs-shows : (subject : Subject) (group : Group) (p : Parts) (inputs : List ℕ) →
+    with_inputs subject group (shows p) inputs ≡ shows (more_made group.at p (flat_map (checks_from subject group) inputs) (flat_map (arcs_from subject group) inputs))
+with_inputs-shows subject group p [] =
+    ap shows (sym (λ i. record p { checks = append-nil p.checks i; check_at = append-nil p.check_at i; placed = append-nil p.placed i }))
+with_inputs-shows subject group p (related ∷ inputs) =
+    let ks : List Check = checks_from subject group related in
+    let arcs : List Arc = arcs_from subject group related in
+    let more : List Check = flat_map (checks_from subject group) inputs in
+    let others : List Arc = flat_map (arcs_from subject group) inputs in
+    let limited : filter has_limit (ks ++ more) ≡ filter has_limit ks ++ filter has_limit more = filter-append has_limit ks more in
+    let ats : at_each group.at (filter has_limit (ks ++ more)) ≡ at_each group.at (filter has_limit ks) ++ at_each group.at (filter has_limit more) =
+    ap (at_each group.at) limited ∙ map-append (λ x. group.at) (filter has_limit ks) (filter has_limit more) in
+    let places : placed_at group.at (arcs ++ others) ≡ placed_at group.at arcs ++ placed_at group.at others = map-append (λ arc. record { arc = arc; at = group.at }) arcs others in
+    ap (λ found. with_inputs subject group (with_arcs group.at found arcs) inputs) (with_checks-shows group.at p ks)
+    ∙ ap (λ found. with_inputs subject group found inputs) (with_arcs-shows group.at (more_checks p (filter has_limit ks) (at_each group.at (filter has_limit ks))) arcs)
+    ∙ with_inputs-shows subject group (more_made group.at p ks arcs) inputs
+    ∙ ap shows (λ i. record p {
+      checks = (append_assoc p.checks (filter has_limit ks) (filter has_limit more) ∙ ap (λ (xs : List Check). p.checks ++ xs) (sym limited)) i;
+      check_at = (append_assoc p.check_at (at_each group.at (filter has_limit ks)) (at_each group.at (filter has_limit more)) ∙ ap (λ (xs : List ℕ). p.check_at ++ xs) (sym ats)) i;
+      placed = (append_assoc p.placed (placed_at group.at arcs) (placed_at group.at others) ∙ ap (λ (xs : List Placed). p.placed ++ xs) (sym places)) i;
+    })
+
+-- what groups give, where these are the places of those that are left out
+abbrev parts_of : Subject → List Group → List ℕ → Parts
+parts_of subject groups left = record {
+  checks = flat_map (checks_in subject) groups;
+  check_at = flat_map (λ (group : Group). at_each group.at (checks_in subject group)) groups;
+  placed = flat_map (placed_arcs_in subject) groups;
+  left_out = left;
+  malformed = flat_map (malformed_in subject) groups;
+  unknown = flat_map (unknown_in subject) groups;
+  own = flat_map (own_in subject) groups;
+  numbers = flat_map (bad_numbers_in subject) groups;
+  wide = flat_map (wide_in subject) groups;
+}
+
+-- what is noted in a group
+abbrev noted : Subject → ℕ → Parts → Group → Parts
+noted subject place p group = record p {
+  left_out = p.left_out ++ left_out_at subject place (Some group);
+  malformed = p.malformed ++ malformed_in subject group;
+  unknown = p.unknown ++ unknown_in subject group;
+  own = p.own ++ own_in subject group;
+  numbers = p.numbers ++ bad_numbers_in subject group;
+  wide = p.wide ++ wide_in subject group;
+}
+
+left-append : (b : Bool) (place : ℕ) (left : List ℕ) → (if b then left ++ place ∷ [] else left) ≡ left ++ (if b then place ∷ [] else [])
+left-append true place left = refl
+left-append false place left = sym (append-nil left)
+
+with_noted-shows : (subject : Subject) (place : ℕ) (p : Parts) (group : Group) → with_noted subject place (shows p) group ≡ shows (noted subject place p group)
+with_noted-shows subject place p group = λ i. record (shows p) {
+  left_out = left-append (is_left_out subject group) place p.left_out i;
+  offsets = record {
+    malformed = sym (least-append p.malformed (malformed_in subject group)) i;
+    unknown_name = sym (least-append p.unknown (unknown_in subject group)) i;
+    own_condition = sym (least-append p.own (own_in subject group)) i;
+    number = sym (least-append p.numbers (bad_numbers_in subject group)) i;
+    wide = sym (least-append p.wide (wide_in subject group)) i;
+  };
+}
+
+-- what one group gives
+abbrev group_parts : Subject → ℕ → Group → Parts
+group_parts subject place group = record {
+  checks = checks_in subject group;
+  check_at = at_each group.at (checks_in subject group);
+  placed = placed_arcs_in subject group;
+  left_out = left_out_at subject place (Some group);
+  malformed = malformed_in subject group;
+  unknown = unknown_in subject group;
+  own = own_in subject group;
+  numbers = bad_numbers_in subject group;
+  wide = wide_in subject group;
+}
+
+with_group-shows : (subject : Subject) (place : ℕ) (p : Parts) (group : Group) → with_group subject place (shows p) group ≡ shows (add p (group_parts subject place group))
+with_group-shows subject place p group =
+    elim (cases_Bool (is_made subject group)) [
+      | inl made ↦
+          rw made
+          (ap (λ found. with_inputs subject group found (inputs_of subject group)) (with_noted-shows subject place p group)
+          ∙ with_inputs-shows subject group (noted subject place p group) (inputs_of subject group))
+      | inr not_made ↦
+          rw not_made
+          (with_noted-shows subject place p group
+          ∙ ap shows (sym (λ i. record (noted subject place p group) { checks = append-nil p.checks i; check_at = append-nil p.check_at i; placed = append-nil p.placed i })))
+    ]
+
+-- a group that is there or not, before others
+abbrev optional_parts : Subject → ℕ → Option Group → Parts
+optional_parts subject place None = no_parts
+optional_parts subject place (Some group) = group_parts subject place group
+
+with_optional-shows : (subject : Subject) (place : ℕ) (p : Parts) (o : Option Group) → with_optional subject place (shows p) o ≡ shows (add p (optional_parts subject place o))
+with_optional-shows subject place p None = ap shows (sym (add-none p))
+with_optional-shows subject place p (Some group) = with_group-shows subject place p group
+
+step-parts : (subject : Subject) (place : ℕ) (o : Option Group) (groups : List Group) (left : List ℕ) →
+    add (optional_parts subject place o) (parts_of subject groups left) ≡ parts_of subject (cons_option o groups) (left_out_at subject place o ++ left)
+step-parts subject place None groups left = refl
+step-parts subject place (Some group) groups left = refl
+
+with_items-shows : (subject : Subject) (place : ℕ) (p : Parts) (items : List Item) →
+    with_items subject place (shows p) items ≡ shows (add p (parts_of subject (groups_named (codes "timing") items) (left_out_from subject place items)))
+with_items-shows subject place p [] = ap shows (sym (add-none p))
+with_items-shows subject place p (item ∷ items) =
+    let o : Option Group = group_named (codes "timing") (out-Item item) in
+    ap (λ found. with_items subject (place + 1) found items) (with_optional-shows subject place p o)
+    ∙ with_items-shows subject (place + 1) (add p (optional_parts subject place o)) items
+    ∙ ap shows (add-assoc p (optional_parts subject place o) (parts_of subject (groups_named (codes "timing") items) (left_out_from subject (place + 1) items)))
+    ∙ ap (λ q. shows (add p q)) (step-parts subject place o (groups_named (codes "timing") items) (left_out_from subject (place + 1) items))
+
+-- with the pulse of an attribute
+abbrev more_pulse : Subject → Edge → Edge → Parts → Option Attribute → Parts
+more_pulse subject begins ends p attribute = record p {
+  checks = p.checks ++ pulse_checks subject begins ends attribute;
+  check_at = p.check_at ++ pulse_check_at subject begins ends attribute;
+  numbers = p.numbers ++ bad_pulse subject attribute;
+}
+
+pulse-time : (subject : Subject) (begins ends : Edge) (p : Parts) (attribute : Attribute) (time : Option ℕ) → time_of subject.unit attribute.text ≡ time →
+    with_width subject begins ends (shows p) attribute.at time ≡ shows (more_pulse subject begins ends p (Some attribute))
+pulse-time subject begins ends p attribute None e =
+    rw e
+    (λ i. record (shows p) {
+      checks = sym (append-nil p.checks) i;
+      check_at = sym (append-nil p.check_at) i;
+      offsets = record ((shows p).offsets) { number = sym (least-append p.numbers (attribute.at ∷ [])) i };
+    })
+pulse-time subject begins ends p attribute (Some time) e =
+    rw e
+    (with_checks-shows attribute.at p (check kind.Width (event subject.place begins) (event subject.place ends) time None ∷ [])
+    ∙ ap shows (sym (λ i. record (more_checks p (filter has_limit (check kind.Width (event subject.place begins) (event subject.place ends) time None ∷ [])) (at_each attribute.at (filter has_limit (check kind.Width (event subject.place begins) (event subject.place ends) time None ∷ [])))) { numbers = append-nil p.numbers i })))
+
+with_pulse-shows : (subject : Subject) (begins ends : Edge) (p : Parts) (attribute : Option Attribute) →
+    with_pulse subject begins ends (shows p) attribute ≡ shows (more_pulse subject begins ends p attribute)
+with_pulse-shows subject begins ends p None =
+    ap shows (sym (λ i. record p { checks = append-nil p.checks i; check_at = append-nil p.check_at i; numbers = append-nil p.numbers i }))
+with_pulse-shows subject begins ends p (Some attribute) = pulse-time subject begins ends p attribute (time_of subject.unit attribute.text) refl
+
+-- all that is found of a pin
+abbrev pin_parts : Subject → Group → Parts
+pin_parts subject pin = record (parts_of subject (timing_groups pin) (left_out_from subject 0 pin.items)) {
+  checks = checks_of subject pin;
+  check_at = check_at_of subject pin;
+  numbers = numbers_at subject pin;
+}
+
+found_of-shows : (subject : Subject) (pin : Group) → found_of subject pin ≡ shows (pin_parts subject pin)
+found_of-shows subject pin =
+    let p : Parts = parts_of subject (timing_groups pin) (left_out_from subject 0 pin.items) in
+    ap (λ found. with_pulse subject Fall Rise (with_pulse subject Rise Fall found (pulse_high subject pin)) (pulse_low subject pin)) (with_items-shows subject 0 no_parts pin.items)
+    ∙ ap (λ found. with_pulse subject Fall Rise found (pulse_low subject pin)) (with_pulse-shows subject Rise Fall p (pulse_high subject pin))
+    ∙ with_pulse-shows subject Fall Rise (more_pulse subject Rise Fall p (pulse_high subject pin)) (pulse_low subject pin)
+    ∙ ap shows (λ i. record p {
+      checks = append_assoc p.checks (pulse_checks subject Rise Fall (pulse_high subject pin)) (pulse_checks subject Fall Rise (pulse_low subject pin)) i;
+      check_at = append_assoc p.check_at (pulse_check_at subject Rise Fall (pulse_high subject pin)) (pulse_check_at subject Fall Rise (pulse_low subject pin)) i;
+      numbers = append_assoc p.numbers (bad_pulse subject (pulse_high subject pin)) (bad_pulse subject (pulse_low subject pin)) i;
+    })
+
+-- the answer on what is found of a pin is that of the definition
+pub answer-is : (subject : Subject) (pin : Group) → answer_found (found_of subject pin) ≡ reading_answer subject pin
+answer-is subject pin = ap answer_found (found_of-shows subject pin)
+
+-- an answer gives itself
+pub gives-same : (answer wanted : Result PinTiming TimingFault) → answer ≡ wanted → Gives answer wanted
+gives-same (Ok timing) wanted e = sym e
+gives-same (Err fault.Memory) wanted e = tt
+gives-same (Err (fault.Malformed at)) wanted e = sym e
+gives-same (Err (fault.UnknownName at)) wanted e = sym e
+gives-same (Err (fault.OwnCondition at)) wanted e = sym e
+gives-same (Err (fault.Number at)) wanted e = sym e

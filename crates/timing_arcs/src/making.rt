@@ -1,0 +1,220 @@
+//! Making the checks and arcs of one timing group.
+ghost use Rattle.std.specs.Prelude.{◌≡◌, OnOk, IfOk};
+ghost use Rattle.timing_arcs.specs.Conditions.{condition_of, tree_of};
+ghost use Rattle.timing_arcs.specs.Making.{check, event, checks_with, arcs_with, rise_of, fall_of};
+ghost use Rattle.timing_arcs.specs.TimingTypes.{type_of};
+ghost use Rattle.timing_arcs.specs.Adding.{with_check, with_checks, with_arcs, with_related, with_inputs};
+
+use crate::condition::Condition;
+use crate::fault::Memory;
+use crate::found::Found;
+use crate::subject::Subject;
+use crate::timing_type::TimingType;
+use bool_functions::Function;
+use cell_machine::{Arc, Check, CheckKind, Edge, Event};
+use liberty_groups::Group;
+use std::alloc::Global;
+
+/// A check without its condition.
+#[derive(Clone, Copy, Debug)]
+struct Timed {
+    kind: CheckKind,
+    first: Event,
+    second: Event,
+    limit: u64,
+}
+
+impl Timed {
+    fn new(kind: CheckKind, first: Event, second: Event, limit: u64) -> Timed
+        ensures { result ≡ record { kind = kind; first = first; second = second; limit = limit } }
+    {
+        Timed {
+            kind,
+            first,
+            second,
+            limit,
+        }
+    }
+}
+
+/// A timing group, with what is read of it.
+#[derive(Drop)]
+pub(crate) struct Making<'a> {
+    pub(crate) subject: &'a Subject,
+    pub(crate) group: &'a Group,
+    pub(crate) timing_type: TimingType,
+    pub(crate) rise: u64,
+    pub(crate) fall: u64,
+}
+
+fn event(pin: usize, edge: Edge) -> Event
+    ensures { result ≡ event pin edge }
+{
+    Event { pin, edge }
+}
+
+impl Making<'_> {
+    /// The condition of what the group makes. Each check and arc has one of its own, so it is read for each.
+    fn condition(&self, alloc: Global) -> Result<Option<Function>, Memory>
+        ensures { IfOk result (λ function. function ≡ tree_of (condition_of self.now.subject.now self.now.group.now)) }
+    {
+        let condition = Condition::of_group(alloc, self.subject, self.group)?;
+        Ok(condition.into_function())
+    }
+
+    /// Adds a check.
+    fn add_check(&self, alloc: Global, timed: Timed, found: &mut Found) -> Result<(), Memory>
+        ensures { OnOk result (found.new ≡ with_check self.now.group.now.at found.old (check timed.kind timed.first timed.second timed.limit (tree_of (condition_of self.now.subject.now self.now.group.now)))) }
+    {
+        let check = Check {
+            kind: timed.kind,
+            first: timed.first,
+            second: timed.second,
+            limit: timed.limit,
+            condition: self.condition(alloc)?,
+        };
+        found.add_check(self.group.at, check)
+    }
+
+    /// Adds the checks of a recovery time, one for each edge of the pin.
+    fn add_recovery(
+        &self,
+        alloc: Global,
+        related: usize,
+        edge: Edge,
+        found: &mut Found,
+    ) -> Result<(), Memory>
+        ensures { OnOk result (found.new ≡ with_checks self.now.group.now.at found.old (checks_with (TimingType.Recovery edge) self.now.subject.now.place related self.now.rise self.now.fall (tree_of (condition_of self.now.subject.now self.now.group.now)))) }
+    {
+        let own = self.subject.place;
+        let rise = Timed::new(
+            CheckKind::Recovery,
+            event(own, Edge::Rise),
+            event(related, edge),
+            self.rise,
+        );
+        let fall = Timed::new(
+            CheckKind::Recovery,
+            event(own, Edge::Fall),
+            event(related, edge),
+            self.fall,
+        );
+        self.add_check(alloc, rise, found)?;
+        self.add_check(alloc, fall, found)
+    }
+
+    /// Adds the checks of a removal time, one for each edge of the pin.
+    fn add_removal(
+        &self,
+        alloc: Global,
+        related: usize,
+        edge: Edge,
+        found: &mut Found,
+    ) -> Result<(), Memory>
+        ensures { OnOk result (found.new ≡ with_checks self.now.group.now.at found.old (checks_with (TimingType.Removal edge) self.now.subject.now.place related self.now.rise self.now.fall (tree_of (condition_of self.now.subject.now self.now.group.now)))) }
+    {
+        let own = self.subject.place;
+        let rise = Timed::new(
+            CheckKind::Removal,
+            event(related, edge),
+            event(own, Edge::Rise),
+            self.rise,
+        );
+        let fall = Timed::new(
+            CheckKind::Removal,
+            event(related, edge),
+            event(own, Edge::Fall),
+            self.fall,
+        );
+        self.add_check(alloc, rise, found)?;
+        self.add_check(alloc, fall, found)
+    }
+
+    /// Adds the checks of a pulse width: of the high pulse, then of the low one.
+    fn add_widths(&self, alloc: Global, found: &mut Found) -> Result<(), Memory>
+        ensures { OnOk result (found.new ≡ with_checks self.now.group.now.at found.old (checks_with TimingType.Width self.now.subject.now.place self.now.subject.now.place self.now.rise self.now.fall (tree_of (condition_of self.now.subject.now self.now.group.now)))) }
+    {
+        let own = self.subject.place;
+        let rise = Timed::new(
+            CheckKind::Width,
+            event(own, Edge::Rise),
+            event(own, Edge::Fall),
+            self.rise,
+        );
+        let fall = Timed::new(
+            CheckKind::Width,
+            event(own, Edge::Fall),
+            event(own, Edge::Rise),
+            self.fall,
+        );
+        self.add_check(alloc, rise, found)?;
+        self.add_check(alloc, fall, found)
+    }
+
+    /// Adds the checks with a pin that the group is related to.
+    fn add_checks(&self, alloc: Global, related: usize, found: &mut Found) -> Result<(), Memory>
+        ensures { OnOk result (found.new ≡ with_checks self.now.group.now.at found.old (checks_with self.now.timing_type self.now.subject.now.place related self.now.rise self.now.fall (tree_of (condition_of self.now.subject.now self.now.group.now)))) }
+    {
+        let own = self.subject.place;
+        let both = self.rise.max(self.fall);
+        match self.timing_type {
+            TimingType::Delay => Ok(()),
+            TimingType::Setup(edge) => {
+                let (first, second) = (event(own, Edge::Any), event(related, edge));
+                self.add_check(
+                    alloc,
+                    Timed::new(CheckKind::Setup, first, second, both),
+                    found,
+                )
+            }
+            TimingType::Hold(edge) => {
+                let (first, second) = (event(related, edge), event(own, Edge::Any));
+                self.add_check(
+                    alloc,
+                    Timed::new(CheckKind::Hold, first, second, both),
+                    found,
+                )
+            }
+            TimingType::Recovery(edge) => self.add_recovery(alloc, related, edge, found),
+            TimingType::Removal(edge) => self.add_removal(alloc, related, edge, found),
+            TimingType::Width => self.add_widths(alloc, found),
+            TimingType::Other => Ok(()),
+        }
+    }
+
+    /// Adds the arc from a pin that the group is related to, if the group is one of a delay.
+    fn add_arcs(&self, alloc: Global, related: usize, found: &mut Found) -> Result<(), Memory>
+        ensures { OnOk result (found.new ≡ with_arcs self.now.group.now.at found.old (arcs_with self.now.timing_type self.now.subject.now.place related self.now.rise self.now.fall (tree_of (condition_of self.now.subject.now self.now.group.now)))) }
+    {
+        let TimingType::Delay = self.timing_type else {
+            return Ok(());
+        };
+        let arc = Arc {
+            from: related,
+            to: self.subject.place,
+            rise: self.rise,
+            fall: self.fall,
+            condition: self.condition(alloc)?,
+        };
+        found.add_arc(self.group.at, arc)
+    }
+
+    /// Adds what the group makes with these pins that it is related to, in order.
+    pub(crate) fn add_all(
+        &self,
+        alloc: Global,
+        inputs: &[usize],
+        found: &mut Found,
+    ) -> Result<(), Memory>
+        requires its_type { self.now.timing_type ≡ type_of self.now.group.now }
+        requires rise { self.now.rise ≡ rise_of self.now.subject.now self.now.group.now }
+        requires fall { self.now.fall ≡ fall_of self.now.subject.now self.now.group.now }
+        ensures { OnOk result (found.new ≡ with_inputs self.now.subject.now self.now.group.now found.old inputs.now) }
+    {
+        for related in inputs {
+            self.add_checks(alloc, *related, found)?;
+            self.add_arcs(alloc, *related, found)?;
+        }
+        Ok(())
+    }
+}

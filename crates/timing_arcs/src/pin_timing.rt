@@ -1,0 +1,124 @@
+//! Reading the timing of a pin.
+ghost use Rattle.std.specs.Prelude.{◌≡◌, ◌<◌, Ok, length, map, OnOk};
+ghost use Rattle.std.specs.Option.{option_map};
+ghost use Rattle.cell_machine.specs.declared.pins.Pin.{Pin};
+ghost use Rattle.timing_arcs.specs.Adding.{with_noted, with_group, with_items, with_width, with_pulse, nothing_found};
+ghost use Rattle.timing_arcs.specs.Shown.{shown};
+ghost use Rattle.timing_arcs.specs.Timing.{reading_answer, pulse_attribute, Gives};
+
+use crate::attributes::{Attribute, inner_group, last_attribute};
+use crate::fault::{Memory, TimingFault};
+use crate::found::Found;
+use crate::making::Making;
+use crate::reading::Reading;
+use crate::subject::{PinTiming, Subject};
+use crate::tables::time;
+use crate::timing_type::is_input_pin;
+use cell_machine::{Check, CheckKind, Edge, Event};
+use liberty_groups::{Group, Item};
+use std::alloc::Global;
+
+/// Adds what a timing group at this place among the pin's items gives.
+fn add_group(
+    alloc: Global,
+    subject: &Subject,
+    place: usize,
+    group: &Group,
+    found: &mut Found,
+) -> Result<(), Memory>
+    requires { subject.now.place < length subject.now.pins }
+    ensures { OnOk result (found.new ≡ with_group subject.now place found.old group.now) }
+{
+    let reading = Reading::of_group(alloc, subject, group)?;
+    found.offsets = found.offsets.joined(reading.offsets);
+    if reading.is_left_out {
+        found.left_out.push(place)?;
+    }
+    if !reading.is_made {
+        return Ok(());
+    }
+    let making = Making {
+        subject,
+        group,
+        timing_type: reading.timing_type,
+        rise: reading.rise,
+        fall: reading.fall,
+    };
+    making.add_all(alloc, reading.inputs.as_slice(), found)
+}
+
+/// Adds what the timing groups among these items give.
+fn add_groups(
+    alloc: Global,
+    subject: &Subject,
+    items: &[Item],
+    found: &mut Found,
+) -> Result<(), Memory>
+    requires { subject.now.place < length subject.now.pins }
+    ensures { OnOk result (found.new ≡ with_items subject.now 0 found.old items.now) }
+{
+    for (place, item) in items.iter().enumerate() {
+        if let Some(group) = inner_group(item, b"timing") {
+            add_group(alloc, subject, place, group, found)?;
+        }
+    }
+    Ok(())
+}
+
+/// The attribute of this name of an input pin.
+fn pulse_attribute<'a>(subject: &Subject, pin: &'a Group, name: &[u8]) -> Option<Attribute<'a>>
+    ensures { option_map shown result ≡ pulse_attribute subject.now pin.now name.now }
+{
+    if !is_input_pin(subject.pins.as_slice(), subject.place) {
+        return None;
+    }
+    last_attribute(pin, name)
+}
+
+/// Adds the check of a pulse that begins and ends with these edges, with the least width that an attribute gives.
+fn add_pulse(
+    subject: &Subject,
+    begins: Edge,
+    ends: Edge,
+    attribute: Option<Attribute<'_>>,
+    found: &mut Found,
+) -> Result<(), Memory>
+    ensures { OnOk result (found.new ≡ with_pulse subject.now begins ends found.old (option_map shown attribute.entry)) }
+{
+    let Some(attribute) = attribute else {
+        return Ok(());
+    };
+    let Some(width) = time(subject.unit, attribute.text) else {
+        found.note_number(attribute.at);
+        return Ok(());
+    };
+    let check = Check {
+        kind: CheckKind::Width,
+        first: Event {
+            pin: subject.place,
+            edge: begins,
+        },
+        second: Event {
+            pin: subject.place,
+            edge: ends,
+        },
+        limit: width,
+        condition: None,
+    };
+    found.add_check(attribute.at, check)
+}
+
+/// Reads the timing of a pin: its checks, its arcs and its left-out timing groups, from its group and its cell.
+pub fn read_timing(alloc: Global, pin: &Group, subject: &Subject) -> Result<PinTiming, TimingFault>
+    requires place { subject.now.place < length subject.now.pins }
+    requires names { subject.now.names ≡ map (λ (p : Pin). p.name) subject.now.pins }
+    ensures { Gives result (reading_answer subject.now pin.now) }
+{
+    let mut found = Found::new(alloc);
+    add_groups(alloc, subject, pin.items.as_slice(), &mut found)?;
+    let high = pulse_attribute(subject, pin, b"min_pulse_width_high");
+    add_pulse(subject, Edge::Rise, Edge::Fall, high, &mut found)?;
+    let low = pulse_attribute(subject, pin, b"min_pulse_width_low");
+    add_pulse(subject, Edge::Fall, Edge::Rise, low, &mut found)?;
+    found.finish()
+}

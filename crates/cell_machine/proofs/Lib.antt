@@ -10,3 +10,6 @@ pub mod RuleLemmas
 pub mod ArcDelays
 pub mod EachLemmas
 pub mod Standing
+pub mod ForcedLemmas
+pub mod PlaceLemmas
+pub mod StillLemmas

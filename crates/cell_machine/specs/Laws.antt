@@ -1,10 +1,13 @@
 -- Laws of the machine.
-use Rattle.std.specs.Prelude.{◌≡◌, ◌≢◌, ℕ, ◌+◌, ◌<◌, ◌↔◌, IsTrue, List, ◌∷◌, length}
+use Rattle.std.specs.Prelude.{◌≡◌, ◌≢◌, ℕ, ◌+◌, ◌<◌, ◌↔◌, IsTrue, false, ⊤, None, map, List, [], ◌∷◌, length}
 use Rattle.trit_cubes.specs.declared.trits.Trit.{Trit}
-use Rattle.trit_cubes.specs.declared.trits.Trit.TheVariants.{Unknown}
+use Rattle.trit_cubes.specs.declared.trits.Trit.TheVariants.{Zero, One, Unknown}
+use Rattle.cell_machine.specs.declared.outputs.OutputPin.{OutputPin}
+use Rattle.cell_machine.specs.declared.cells.Cell.{Cell}
+use Rattle.cell_machine.specs.CellTrace.{inputs_of, states_after, output_value, cell_line}
 use Rattle.cell_machine.specs.declared.changes.Change.{Change}
 use Rattle.cell_machine.specs.Report.{InputCheck, report, Reports, before}
-use Rattle.cell_machine.specs.History.{inputs_after, value_before}
+use Rattle.cell_machine.specs.History.{inputs_after, value_before, is_event}
 use Rattle.cell_machine.specs.Times.{times_after, report_by}
 use Rattle.cell_machine.specs.Machine.{Step, insert, machine_step, forced}
 
@@ -27,3 +30,37 @@ abbrev pub ForcedIsStep : Type 0
 ForcedIsStep =
     (step : Step) (p : ℕ) (a b : Trit) (others : List Trit) (s v : Trit)
     → forced step (insert p b others) ≡ v → v ≢ Unknown → machine_step step p a b others s ≡ v
+
+-- A change of an input to the value that it has keeps the states and the outputs. No output has a delay, and no check
+-- reports.
+abbrev pub SameValueChangesNothing : Type 0
+SameValueChangesNothing =
+    (cell : Cell) (h : List Change) (c : Change)
+    → is_event (inputs_after (inputs_of cell) h) c ≡ false
+    → (states_after cell (c ∷ h) ≡ states_after cell h)
+    × (cell_line cell (c ∷ h)
+    ≡ record {
+      values = (cell_line cell h).values;
+      delays = map (λ _. None) cell.outputs;
+      reports = map (λ _. false) cell.checks;
+    })
+
+-- a value of which no more is unknown: the same, or any where it was unknown
+abbrev pub Refines : Trit → Trit → Type 0
+Refines Zero u = u ≡ Zero
+Refines One u = u ≡ One
+Refines Unknown u = ⊤
+
+-- the same at each place of two lists
+abbrev pub AllRefine : List Trit → List Trit → Type 0
+AllRefine [] [] = ⊤
+AllRefine [] (u ∷ us) = ⊥
+AllRefine (t ∷ ts) [] = ⊥
+AllRefine (t ∷ ts) (u ∷ us) = Refines t u × AllRefine ts us
+
+-- Inputs and states of which fewer are unknown give each output that was known the same value.
+abbrev pub FewerUnknownsKeepOutputs : Type 0
+FewerUnknownsKeepOutputs =
+    (cell : Cell) (output : OutputPin) (v w states more : List Trit)
+    → AllRefine v w → AllRefine states more
+    → Refines (output_value cell.pins cell.groups v states output) (output_value cell.pins cell.groups w more output)

@@ -14,6 +14,7 @@ mod faults;
 mod fillings;
 mod group_steps;
 mod groups;
+mod laws;
 mod liberty_sim;
 mod outputs;
 mod pin_values;
@@ -34,6 +35,10 @@ pub use edges::{edge_of, is_fall, is_rise, moves};
 pub use faults::Memory;
 pub use group_steps::{boolean_step, forced};
 pub use groups::{Both, Clocked, Gated, GroupKind, StateGroup};
+pub use laws::{
+    fewer_unknowns_keep_outputs, forced_is_step, report_is_whole_list, same_value_changes_nothing,
+    times_decide_reports,
+};
 pub use liberty_sim::LibertySim;
 pub use outputs::{OutputPin, Source};
 pub use pins::{Direction, Pin};

@@ -1,0 +1,84 @@
+-- Where inputs force a state, each change of one input to them gives the forced value.
+use Rattle.std.proofs.Common.{◌≡◌, ◌≢◌, ℕ, zero, suc, Bool, true, false, not, List, [], ◌∷◌, refl, sym, ◌∙◌}
+use Rattle.trit_cubes.specs.declared.trits.Trit.{Trit}
+use Rattle.trit_cubes.specs.declared.trits.Trit.TheVariants.{Zero, One, Unknown}
+use Rattle.trit_cubes.specs.Filling.{Fits, IsFilling}
+use Rattle.trit_cubes.specs.Resolution.{agreed}
+use Rattle.trit_cubes.proofs.InsideLemmas.{res-fillings, fillings-res}
+use Rattle.cell_machine.specs.Machine.{Step, insert, around, forced_at, over}
+use Rattle.cell_machine.specs.Laws.{ForcedIsStep}
+use Rattle.cell_machine.proofs.StepLemmas.{machine_step-parts}
+
+-- two values that agree on a known one are both this one
+pub agreed-parts : (x y v : Trit) → v ≢ Unknown → agreed x y ≡ v → (x ≡ v) × (y ≡ v)
+agreed-parts Zero Zero v k e = (e, e)
+agreed-parts Zero One v k e = absurd (k (sym e))
+agreed-parts Zero Unknown v k e = absurd (k (sym e))
+agreed-parts One Zero v k e = absurd (k (sym e))
+agreed-parts One One v k e = (e, e)
+agreed-parts One Unknown v k e = absurd (k (sym e))
+agreed-parts Unknown y v k e = absurd (k (sym e))
+
+pub agreed-same : (v : Trit) → agreed v v ≡ v
+agreed-same Zero = refl
+agreed-same One = refl
+agreed-same Unknown = refl
+
+pub over-known : (f : Bool → Trit) (t v : Trit) → ((b : Bool) → Fits t b → f b ≡ v) → over f t ≡ v
+over-known f Zero v h = h false refl
+over-known f One v h = h true refl
+over-known f Unknown v h = (λ i. agreed (h false tt i) (h true tt i)) ∙ agreed-same v
+
+-- the point itself is among those around it
+around-itself : (g : List Bool → Trit) (p : List Bool) (v : Trit) → v ≢ Unknown → around g p ≡ v → g p ≡ v
+around-itself g [] v k e = e
+around-itself g (b ∷ p) v k e =
+    around-itself (λ q. g (b ∷ q)) p v k (agreed-parts (around (λ q. g (b ∷ q)) p) (g (not b ∷ p)) v k e).0
+
+-- and so is each that differs from it in the first place
+around-first :
+    (g : List Bool → Trit) (n o : Bool) (p : List Bool) (v : Trit)
+    → v ≢ Unknown → around g (n ∷ p) ≡ v → g (o ∷ p) ≡ v
+around-first g true true p v k e = around-itself g (true ∷ p) v k e
+around-first g true false p v k e = (agreed-parts (around (λ q. g (true ∷ q)) p) (g (false ∷ p)) v k e).1
+around-first g false true p v k e = (agreed-parts (around (λ q. g (false ∷ q)) p) (g (true ∷ p)) v k e).1
+around-first g false false p v k e = around-itself g (false ∷ p) v k e
+
+-- or in any one place
+around-insert :
+    (g : List Bool → Trit) (p : ℕ) (n o : Bool) (others : List Bool) (v : Trit)
+    → v ≢ Unknown → around g (insert p n others) ≡ v → g (insert p o others) ≡ v
+around-insert g zero n o others v k e = around-first g n o others v k e
+around-insert g (suc p) n o [] v k e = around-first g n o [] v k e
+around-insert g (suc p) n o (b ∷ others) v k e =
+    around-insert (λ q. g (b ∷ q)) p n o others v k
+    (agreed-parts (around (λ q. g (b ∷ q)) (insert p n others)) (g (not b ∷ insert p n others)) v k e).0
+
+insert-filling :
+    (p : ℕ) (b : Trit) (n : Bool) (ts : List Trit) (q : List Bool)
+    → Fits b n → IsFilling ts q → IsFilling (insert p b ts) (insert p n q)
+insert-filling zero b n ts q f h = (f, h)
+insert-filling (suc p) b n [] [] f h = (f, tt)
+insert-filling (suc p) b n [] (x ∷ q) f h = absurd h
+insert-filling (suc p) b n (t ∷ ts) [] f h = absurd h
+insert-filling (suc p) b n (t ∷ ts) (x ∷ q) f h = (h.0, insert-filling p b n ts q f h.1)
+
+both-known :
+    (step : Step) (before after : List Bool) (v : Trit) (s : Bool)
+    → v ≢ Unknown → agreed (step before after false) (step before after true) ≡ v → step before after s ≡ v
+both-known step before after v true k e = (agreed-parts (step before after false) (step before after true) v k e).1
+both-known step before after v false k e = (agreed-parts (step before after false) (step before after true) v k e).0
+
+pub forced_is_step-lem : ForcedIsStep
+forced_is_step-lem step p a b others s v e k =
+    machine_step-parts step p a b others s
+    ∙ over-known _ a v (λ old _.
+    over-known _ b v (λ new fits.
+    fillings-res _ others v (λ q filling.
+    over-known _ s v (λ w _.
+    let point = res-fillings (forced_at step) (insert p b others) v k e (insert p new q)
+    (insert-filling p b new others q fits filling) in
+    both-known step (insert p old q) (insert p new q) v w k
+    (around-insert
+    (λ before. agreed (step before (insert p new q) false) (step before (insert p new q) true))
+    p new old q v k point)))))

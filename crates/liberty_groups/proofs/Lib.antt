@@ -1,7 +1,9 @@
+pub mod Contexts
 pub mod Counting
 pub mod Guides
 pub mod Inside
 pub mod Outlines
 pub mod Parts
+pub mod Pieces
 pub mod Statements
 pub mod Texts

@@ -2,6 +2,7 @@ pub mod Contexts
 pub mod Counting
 pub mod Guides
 pub mod Inside
+pub mod LastWords
 pub mod Outlines
 pub mod Parts
 pub mod Pieces

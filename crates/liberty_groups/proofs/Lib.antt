@@ -1,5 +1,6 @@
 pub mod Contexts
 pub mod Counting
+pub mod Fronts
 pub mod Guides
 pub mod Inside
 pub mod LastWords

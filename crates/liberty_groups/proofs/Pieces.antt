@@ -99,3 +99,35 @@ splits (b ∷ bs) more (a ∷ u) rest e =
     elim (splits bs more u rest (tail_same e))
     [ inl (v, i, j) ↦ inl (v, ap (λ (s : List ℕ). a ∷ s) i ∙ ap (λ (x : ℕ). x ∷ (bs ++ v)) (sym h), j)
     | inr (c, r, i, j) ↦ inr (c, r, ap (λ (s : List ℕ). b ∷ s) i ∙ ap (λ (x : ℕ). x ∷ (u ++ c ∷ r)) h, j) ]
+
+byte_slash : (b : ℕ) (w rest : List ℕ) → ends_word (b ∷ (w ++ rest)) ≡ false → ends_word (b ∷ ((w ++ 47 ∷ []) ++ [])) ≡ false
+byte_slash b [] rest h = goes_on_so b (47 ∷ []) (class_word b rest h) (and_false (b == 47) false refl)
+byte_slash b (c ∷ w) rest h = goes_on_so b (c ∷ ((w ++ 47 ∷ []) ++ [])) (class_word b (c ∷ (w ++ rest)) h) (no_comment b (c ∷ (w ++ rest)) h)
+
+-- a word and a slash are a word where no star comes behind
+pub word_slash : {u rest : List ℕ} → WordBytes u rest → WordBytes (u ++ 47 ∷ []) []
+word_slash (lex.word_ends h) = lex.word_byte refl (lex.word_ends refl)
+word_slash (lex.word_byte {b = b} {w = w} {rest = rest} h more) = lex.word_byte (byte_slash b w rest h) (word_slash more)
+
+or_true : (x y : Bool) → (not x || y) ≡ true → x ≡ true → y ≡ true
+or_true true y h e = h
+or_true false y h e = absurd cc
+
+and_true : (x y : Bool) → (x && y) ≡ true → x ≡ true
+and_true true y h = refl
+and_true false y h = absurd cc
+
+-- Bytes that end a word do so whatever comes behind the front of them, unless the front is the slash of
+-- a comment.
+pub ends_kept : (x : ℕ) (r more : List ℕ) → ends_word ((x ∷ r) ++ more) ≡ true →
+    ((z : List ℕ) → ends_word ((x ∷ r) ++ z) ≡ true) ⊎ ((r ≡ []) × (x ≡ 47))
+ends_kept x (y ∷ r) more h = inl (λ z. h)
+ends_kept x [] more h = by_class (is_word_class (class_of x)) refl
+  where
+  by_more : (m : List ℕ) → opens_comment (x ∷ m) ≡ true → x ≡ 47
+  by_more [] e = absurd cc
+  by_more (c ∷ m) e = let i = and_true (x == 47) (c == 42) e in grind (arith, nat_tests, i)
+
+  by_class : (q : Bool) → is_word_class (class_of x) ≡ q → ((z : List ℕ) → ends_word (x ∷ z) ≡ true) ⊎ ((◌≡◌ {A = List ℕ} [] []) × (x ≡ 47))
+  by_class true e = inr (refl, by_more more (or_true (is_word_class (class_of x)) (opens_comment (x ∷ more)) h e))
+  by_class false e = inl (λ z. rw e refl)

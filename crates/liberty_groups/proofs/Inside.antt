@@ -6,7 +6,7 @@ use Rattle.liberty_text.specs.declared.token.Token.{Token}
 use Rattle.liberty_text.specs.TokenLaws.{IsInside}
 use Rattle.liberty_groups.specs.Lexeme.{LieInside}
 
-by_recursion : (text : List ℕ) (ts : List Token) → AllByRecursion (IsInside (length text)) ts → LieInside text ts
+pub by_recursion : (text : List ℕ) (ts : List Token) → AllByRecursion (IsInside (length text)) ts → LieInside text ts
 by_recursion text [] h = tt
 by_recursion text (t ∷ ts) h = let i = h.0 in (omega (arith, i.some), i.within, by_recursion text ts h.1)
 

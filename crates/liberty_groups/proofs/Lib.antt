@@ -1,9 +1,12 @@
+pub mod Completions
 pub mod Contexts
 pub mod Counting
+pub mod Cuts
 pub mod Fronts
 pub mod Guides
 pub mod Inside
 pub mod LastWords
+pub mod Lexemes
 pub mod Outlines
 pub mod Parts
 pub mod Pieces

@@ -1,0 +1,130 @@
+-- Some library text begins with the bytes exactly where the code says that it may go on.
+use Rattle.std.proofs.Common.{◌≡◌, ◌≢◌, ℕ, zero, suc, ◌+◌, ◌-◌, ◌≤◌, ◌<◌, ◌==◌, ◌||◌, ◌&&◌, Bool, true, false, nat_eq, List, [], ◌∷◌, ◌++◌, length, take, drop, slice_range, map, Option, Some, None, Result, Ok, Err, ◌⊎◌, inl, inr, refl, sym, ap, subst, ◌∙◌, arith, length-append, append_assoc}
+use Rattle.std.specs.Prelude.{option_and_then, is_some, codes}
+use Rattle.std.specs.Str.{bytes_eq}
+use Rattle.std.specs.List.{starts_with, list_any}
+use Rattle.std.proofs.lemmas.List.{append-nil}
+use Rattle.std.proofs.lemmas.Bool.Decides.{nat_tests}
+use Rattle.liberty_text.specs.declared.token.Token.{Token}
+use Rattle.liberty_text.specs.declared.token.TokenKind.TheVariants.{Word, Text}
+use Rattle.liberty_text.specs.declared.token.Stop.{Stop}
+use Rattle.liberty_text.specs.declared.token.Stop.TheVariants.{End, BadByte, OpenText, OpenComment, OpenContinuation}
+use Rattle.liberty_text.specs.Scanner.{token, scan_of}
+use Rattle.liberty_text.specs.Tokens.{ends_word, WordBytes, TextBytes, CommentBytes, Lexes, Reads}
+use Rattle.liberty_text.specs.Tokens as lex
+use Rattle.liberty_text.proofs.Complete.{one_reading}
+use Rattle.grammar_rules.specs.Rule.{Takes, Front}
+use Rattle.grammar_rules.specs.Reading.{Outcome, read}
+use Rattle.grammar_rules.proofs.Steps.{rest_of}
+use Rattle.grammar_rules.proofs.Fronts.{UsesUp, front_ends, ends_front}
+use Rattle.liberty_groups.specs.declared.fault.Refusal.{Refusal}
+use Rattle.liberty_groups.specs.declared.outline.Standing.{Standing}
+use Rattle.liberty_groups.specs.declared.outline.Standing.TheVariants.{Start, AfterLibrary, HeadArguments, AfterHead, Statements, AfterName, Arguments, AfterArguments, ValueStart, Value, Done}
+use Rattle.liberty_groups.specs.Lexeme.{Lexeme, lexeme_of, lexemes_of, LieInside}
+use Rattle.liberty_groups.specs.Library.{Found, library, is_library_name, is_word}
+use Rattle.liberty_groups.specs.Outline.{step, stands, has_outline}
+use Rattle.liberty_groups.specs.Answer.{IsLibraryText, IsFrontOfText, may_become_other, is_nil, is_last, is_unfinished, halt_at, halt_of, closed_text, closed_has_outline, goes_on_after, may_go_on}
+use Rattle.liberty_groups.proofs.Lexemes.{bytes_are, bytes_agree, begins_with, begins_so, slice_end, slice_over, lexemes_more, lexemes-append, inside_reads, inside_front}
+use Rattle.liberty_groups.proofs.Pieces.{word_any, text_spaced, comment_starred, splits}
+use Rattle.liberty_groups.proofs.Contexts.{Context, context, IsOpen}
+use Rattle.liberty_groups.proofs.LastWords.{LastWord, last_word}
+use Rattle.liberty_groups.proofs.Completions.{stands-append, stands_front, done_whole, used_stands, stands_used, tail, completes, library_bytes, first_word}
+
+-- Bytes q and an open end o, closed by cl behind the tokens E and C, where the outline stands at p.
+closing : (bytes q o cl : List ℕ) (a : ℕ) (l m : Bool) (E C : List Token) (p : Standing) → bytes ≡ q ++ o → a ≡ 0 + length q →
+    ((z : List ℕ) (V : List Token) (s : Stop) → ends_word z ≡ true → Lexes a l z V s → Lexes 0 false (q ++ z) (E ++ V) s) →
+    ((y : List ℕ) → ends_word ((o ++ cl) ++ y) ≡ true) →
+    ((y : List ℕ) (V : List Token) (s : Stop) → Lexes (a + length (o ++ cl)) m y V s → Lexes a l ((o ++ cl) ++ y) (C ++ V) s) →
+    stands Start (lexemes_of (bytes ++ cl) (E ++ C)) ≡ Some p → IsFrontOfText bytes
+closing bytes q o cl a l m E C p split place goes ends opens at =
+    let text = bytes ++ cl in
+    let long = length-append q (o ++ cl) in
+    let long' : length text ≡ a + length (o ++ cl) = (let i = ap length split in let j = length-append bytes cl in let k = length-append q o in let h = length-append o cl in omega arith) in
+    let joins : (y : List ℕ) → q ++ ((o ++ cl) ++ y) ≡ text ++ y =
+        λ y. sym (append_assoc q (o ++ cl) y) ∙ ap (λ (t : List ℕ). t ++ y) (sym (append_assoc q o cl) ∙ ap (λ (t : List ℕ). t ++ cl) (sym split)) in
+    let reads : (y : List ℕ) (V : List Token) (s : Stop) → Lexes (length text) m y V s → Lexes 0 false (text ++ y) ((E ++ C) ++ V) s =
+        λ y V s d. subst (λ (t : List ℕ). Lexes 0 false t ((E ++ C) ++ V) s) (joins y)
+            (subst (λ (t : List Token). Lexes 0 false (q ++ ((o ++ cl) ++ y)) t s) (sym (append_assoc E C V))
+                (goes ((o ++ cl) ++ y) (C ++ V) s (ends y) (opens y V s (subst (λ (n : ℕ). Lexes n m y V s) long' d)))) in
+    let here : Lexes 0 false text (E ++ C) End =
+        subst (λ (t : List ℕ). Lexes 0 false t (E ++ C) End) (append-nil text)
+        (subst (λ (t : List Token). Lexes 0 false (text ++ []) t End) (append-nil (E ++ C)) (reads [] [] End lex.end)) in
+    let c = completes p text (length text) m refl in
+    let same : lexemes_of (text ++ tail p) ((E ++ C) ++ c.0) ≡ lexemes_of text (E ++ C) ++ lexemes_of (text ++ tail p) c.0 =
+        lexemes-append (text ++ tail p) (E ++ C) c.0
+        ∙ ap (λ (t : List Lexeme). t ++ lexemes_of (text ++ tail p) c.0) (lexemes_more text (tail p) (E ++ C) (inside_reads here)) in
+    let w = done_whole (lexemes_of (text ++ tail p) ((E ++ C) ++ c.0))
+        (ap (stands Start) same ∙ stands-append Start p (lexemes_of text (E ++ C)) (lexemes_of (text ++ tail p) c.0) at ∙ c.2) in
+    (cl ++ tail p,
+     subst IsLibraryText (append_assoc bytes cl (tail p)) ((E ++ C) ++ c.0, w.0, reads (tail p) c.0 End c.1, w.1))
+
+-- what stands for bytes also stands with no token more, in a longer text
+longer_stands : (bytes more : List ℕ) (ts : List Token) (p : Standing) → LieInside bytes ts → stands Start (lexemes_of bytes ts) ≡ Some p →
+    stands Start (lexemes_of (bytes ++ more) (ts ++ [])) ≡ Some p
+longer_stands bytes more ts p h e =
+    ap (λ (t : List Token). stands Start (lexemes_of (bytes ++ more) t)) (append-nil ts) ∙ ap (stands Start) (lexemes_more bytes more ts h) ∙ e
+
+-- bytes that are the front of a library, and end between tokens or in a comment or a continuation
+pub front_goes_on : (bytes : List ℕ) (ts : List Token) (stop : Stop) (p : Standing) → Reads bytes ts stop → stands Start (lexemes_of bytes ts) ≡ Some p →
+    goes_on_after bytes stop ≡ true → IsFrontOfText bytes
+front_goes_on bytes ts End p d e g =
+    let c = context d in
+    let none : c.o ≡ [] = c.is_open in
+    closing bytes c.q [] (32 ∷ []) c.a c.l c.l ts [] p (c.split ∙ ap (λ (t : List ℕ). c.q ++ t) none) c.place c.goes (λ y. refl)
+    (λ y V s x. lex.blank refl x) (longer_stands bytes (32 ∷ []) ts p (inside_reads d) e)
+front_goes_on bytes ts (BadByte b) p d e g = absurd cc
+front_goes_on bytes ts (OpenComment b) p d e g =
+    let c = context d in
+    comment c c.is_open
+  where
+  comment : (c : Context 0 false bytes ts (OpenComment b)) → IsOpen (OpenComment b) c.a c.o → IsFrontOfText bytes
+  comment c (i, body, last, begun, all) =
+      let o = 47 ∷ 42 ∷ body in
+      let j : length (o ++ 32 ∷ 42 ∷ 47 ∷ []) ≡ 2 + length (body ++ 32 ∷ 42 ∷ []) + 1 = (let k = length-append body (32 ∷ 42 ∷ 47 ∷ []) in let h = length-append body (32 ∷ 42 ∷ []) in omega arith) in
+      let place : c.a + length (o ++ 32 ∷ 42 ∷ 47 ∷ []) ≡ c.a + 2 + length (body ++ 32 ∷ 42 ∷ []) + 1 = omega arith in
+      closing bytes c.q o (32 ∷ 42 ∷ 47 ∷ []) c.a c.l (c.l || list_any (λ x. x == 10) (body ++ 32 ∷ 42 ∷ [])) ts [] p
+      (c.split ∙ ap (λ (t : List ℕ). c.q ++ t) begun) c.place c.goes (λ y. refl)
+      (λ y V s x. lex.comment (body ++ 32 ∷ 42 ∷ []) y (comment_starred all)
+          (ap (λ (t : List ℕ). 47 ∷ 42 ∷ t) (append_assoc body (32 ∷ 42 ∷ 47 ∷ []) y ∙ sym (append_assoc body (32 ∷ 42 ∷ []) (47 ∷ y))))
+          (subst (λ (n : ℕ). Lexes n (c.l || list_any (λ x. x == 10) (body ++ 32 ∷ 42 ∷ [])) y V s) place x))
+      (longer_stands bytes (32 ∷ 42 ∷ 47 ∷ []) ts p (inside_reads d) e)
+front_goes_on bytes ts (OpenContinuation b) p d e g =
+    let c = context d in
+    continuation c c.is_open
+  where
+  continuation : (c : Context 0 false bytes ts (OpenContinuation b)) → IsOpen (OpenContinuation b) c.a c.o → IsFrontOfText bytes
+  continuation c (i, blanks, begun, all) =
+      let o = 92 ∷ blanks in
+      let place : c.a + length (o ++ 10 ∷ []) ≡ c.a + 1 + length blanks + 1 = (let k = length-append blanks (10 ∷ []) in omega arith) in
+      closing bytes c.q o (10 ∷ []) c.a c.l c.l ts [] p (c.split ∙ ap (λ (t : List ℕ). c.q ++ t) begun) c.place c.goes (λ y. refl)
+      (λ y V s x. lex.continuation blanks y all (ap (λ (t : List ℕ). 92 ∷ t) (append_assoc blanks (10 ∷ []) y)) (subst (λ (n : ℕ). Lexes n c.l y V s) place x))
+      (longer_stands bytes (10 ∷ []) ts p (inside_reads d) e)
+front_goes_on bytes ts (OpenText b) p d e g =
+    let c = context d in
+    text c c.is_open
+  where
+  text : (c : Context 0 false bytes ts (OpenText b)) → IsOpen (OpenText b) c.a c.o → IsFrontOfText bytes
+  text c (i, body, last, begun, all) =
+      let o = 34 ∷ body in
+      let cl = 32 ∷ 34 ∷ [] in
+      let f = c.a + 1 + length (body ++ 32 ∷ []) + 1 in
+      let C = token Text c.a f c.l ∷ [] in
+      let place : c.a + length (o ++ cl) ≡ f = (let k = length-append body cl in let h = length-append body (32 ∷ []) in omega arith) in
+      let split = c.split ∙ ap (λ (t : List ℕ). c.q ++ t) begun in
+      let opens : (y : List ℕ) (V : List Token) (s : Stop) → Lexes (c.a + length (o ++ cl)) false y V s → Lexes c.a c.l ((o ++ cl) ++ y) (C ++ V) s =
+          λ y V s x. lex.text (body ++ 32 ∷ []) y (text_spaced all)
+              (ap (λ (t : List ℕ). 34 ∷ t) (append_assoc body cl y ∙ sym (append_assoc body (32 ∷ []) (34 ∷ y))))
+              (subst (λ (n : ℕ). Lexes n false y V s) place x) in
+      let joins : c.q ++ ((o ++ cl) ++ []) ≡ bytes ++ cl =
+          ap (λ (t : List ℕ). c.q ++ t) (append-nil (o ++ cl)) ∙ sym (append_assoc c.q o cl) ∙ ap (λ (t : List ℕ). t ++ cl) (sym split) in
+      let closed : Reads (bytes ++ cl) (ts ++ C) End =
+          subst (λ (t : List ℕ). Lexes 0 false t (ts ++ C) End) joins (c.goes ((o ++ cl) ++ []) C End refl (opens [] [] End lex.end)) in
+      let scanned : scan_of (bytes ++ cl) ≡ (ts ++ C, End) = (one_reading (bytes ++ cl) (ts ++ C) End).0 closed in
+      let outlined : is_some (stands Start (lexemes_of (bytes ++ cl) (ts ++ C))) ≡ true =
+          ap (λ (r : List Token × Stop). has_outline (lexemes_of (bytes ++ cl) r.0)) (sym scanned) ∙ g in
+      let q = some_of (stands Start (lexemes_of (bytes ++ cl) (ts ++ C))) outlined in
+      closing bytes c.q o cl c.a c.l false ts C q.0 split c.place c.goes (λ y. refl) opens q.1
+    where
+    some_of : (o : Option Standing) → is_some o ≡ true → (q : Standing) × (o ≡ Some q)
+    some_of None h = absurd cc
+    some_of (Some q) h = (q, refl)

@@ -24,19 +24,18 @@ use Rattle.liberty_groups.specs.Lexeme.{Lexeme, lexeme_of, lexemes_of, LieInside
 use Rattle.liberty_groups.specs.Library.{Found, library, is_library_name, is_word}
 use Rattle.liberty_groups.specs.Outline.{step, stands, has_outline}
 use Rattle.liberty_groups.specs.Answer.{IsLibraryText, IsFrontOfText, may_become_other, is_nil, is_last, is_unfinished, halt_at, halt_of, closed_text, closed_has_outline, goes_on_after, may_go_on}
-use Rattle.liberty_groups.proofs.Lexemes.{bytes_are, bytes_agree, begins_with, begins_so, slice_end, slice_over, lexemes_more, lexemes-append, inside_reads, inside_front}
-use Rattle.liberty_groups.proofs.Pieces.{word_any, text_spaced, comment_starred, splits}
+use Rattle.liberty_groups.proofs.Lexemes.{bytes_are, bytes_agree, begins_with, begins_so, slice_more, slice_end, slice_over, lexemes_more, lexemes-append, inside_reads, inside_front}
+use Rattle.liberty_groups.proofs.Pieces.{word_any, text_spaced, comment_starred, splits, head_same, tail_same}
 use Rattle.liberty_groups.proofs.Contexts.{Context, context, IsOpen}
 use Rattle.liberty_groups.proofs.LastWords.{LastWord, last_word}
 use Rattle.liberty_groups.proofs.Completions.{stands-append, stands_front, done_whole, used_stands, stands_used, tail, completes, library_bytes, first_word}
 
 -- Bytes q and an open end o, closed by cl behind the tokens E and C, where the outline stands at p.
 closing : (bytes q o cl : List ℕ) (a : ℕ) (l m : Bool) (E C : List Token) (p : Standing) → bytes ≡ q ++ o → a ≡ 0 + length q →
-    ((z : List ℕ) (V : List Token) (s : Stop) → ends_word z ≡ true → Lexes a l z V s → Lexes 0 false (q ++ z) (E ++ V) s) →
-    ((y : List ℕ) → ends_word ((o ++ cl) ++ y) ≡ true) →
+    ((y : List ℕ) (V : List Token) (s : Stop) → Lexes a l ((o ++ cl) ++ y) V s → Lexes 0 false (q ++ ((o ++ cl) ++ y)) (E ++ V) s) →
     ((y : List ℕ) (V : List Token) (s : Stop) → Lexes (a + length (o ++ cl)) m y V s → Lexes a l ((o ++ cl) ++ y) (C ++ V) s) →
     stands Start (lexemes_of (bytes ++ cl) (E ++ C)) ≡ Some p → IsFrontOfText bytes
-closing bytes q o cl a l m E C p split place goes ends opens at =
+closing bytes q o cl a l m E C p split place goes opens at =
     let text = bytes ++ cl in
     let long = length-append q (o ++ cl) in
     let long' : length text ≡ a + length (o ++ cl) = (let i = ap length split in let j = length-append bytes cl in let k = length-append q o in let h = length-append o cl in omega arith) in
@@ -45,7 +44,7 @@ closing bytes q o cl a l m E C p split place goes ends opens at =
     let reads : (y : List ℕ) (V : List Token) (s : Stop) → Lexes (length text) m y V s → Lexes 0 false (text ++ y) ((E ++ C) ++ V) s =
         λ y V s d. subst (λ (t : List ℕ). Lexes 0 false t ((E ++ C) ++ V) s) (joins y)
             (subst (λ (t : List Token). Lexes 0 false (q ++ ((o ++ cl) ++ y)) t s) (sym (append_assoc E C V))
-                (goes ((o ++ cl) ++ y) (C ++ V) s (ends y) (opens y V s (subst (λ (n : ℕ). Lexes n m y V s) long' d)))) in
+                (goes y (C ++ V) s (opens y V s (subst (λ (n : ℕ). Lexes n m y V s) long' d)))) in
     let here : Lexes 0 false text (E ++ C) End =
         subst (λ (t : List ℕ). Lexes 0 false t (E ++ C) End) (append-nil text)
         (subst (λ (t : List Token). Lexes 0 false (text ++ []) t End) (append-nil (E ++ C)) (reads [] [] End lex.end)) in
@@ -70,7 +69,7 @@ pub front_goes_on : (bytes : List ℕ) (ts : List Token) (stop : Stop) (p : Stan
 front_goes_on bytes ts End p d e g =
     let c = context d in
     let none : c.o ≡ [] = c.is_open in
-    closing bytes c.q [] (32 ∷ []) c.a c.l c.l ts [] p (c.split ∙ ap (λ (t : List ℕ). c.q ++ t) none) c.place c.goes (λ y. refl)
+    closing bytes c.q [] (32 ∷ []) c.a c.l c.l ts [] p (c.split ∙ ap (λ (t : List ℕ). c.q ++ t) none) c.place (λ y V s x. c.goes _ V s refl x)
     (λ y V s x. lex.blank refl x) (longer_stands bytes (32 ∷ []) ts p (inside_reads d) e)
 front_goes_on bytes ts (BadByte b) p d e g = absurd cc
 front_goes_on bytes ts (OpenComment b) p d e g =
@@ -83,7 +82,7 @@ front_goes_on bytes ts (OpenComment b) p d e g =
       let j : length (o ++ 32 ∷ 42 ∷ 47 ∷ []) ≡ 2 + length (body ++ 32 ∷ 42 ∷ []) + 1 = (let k = length-append body (32 ∷ 42 ∷ 47 ∷ []) in let h = length-append body (32 ∷ 42 ∷ []) in omega arith) in
       let place : c.a + length (o ++ 32 ∷ 42 ∷ 47 ∷ []) ≡ c.a + 2 + length (body ++ 32 ∷ 42 ∷ []) + 1 = omega arith in
       closing bytes c.q o (32 ∷ 42 ∷ 47 ∷ []) c.a c.l (c.l || list_any (λ x. x == 10) (body ++ 32 ∷ 42 ∷ [])) ts [] p
-      (c.split ∙ ap (λ (t : List ℕ). c.q ++ t) begun) c.place c.goes (λ y. refl)
+      (c.split ∙ ap (λ (t : List ℕ). c.q ++ t) begun) c.place (λ y V s x. c.goes _ V s refl x)
       (λ y V s x. lex.comment (body ++ 32 ∷ 42 ∷ []) y (comment_starred all)
           (ap (λ (t : List ℕ). 47 ∷ 42 ∷ t) (append_assoc body (32 ∷ 42 ∷ 47 ∷ []) y ∙ sym (append_assoc body (32 ∷ 42 ∷ []) (47 ∷ y))))
           (subst (λ (n : ℕ). Lexes n (c.l || list_any (λ x. x == 10) (body ++ 32 ∷ 42 ∷ [])) y V s) place x))
@@ -96,7 +95,7 @@ front_goes_on bytes ts (OpenContinuation b) p d e g =
   continuation c (i, blanks, begun, all) =
       let o = 92 ∷ blanks in
       let place : c.a + length (o ++ 10 ∷ []) ≡ c.a + 1 + length blanks + 1 = (let k = length-append blanks (10 ∷ []) in omega arith) in
-      closing bytes c.q o (10 ∷ []) c.a c.l c.l ts [] p (c.split ∙ ap (λ (t : List ℕ). c.q ++ t) begun) c.place c.goes (λ y. refl)
+      closing bytes c.q o (10 ∷ []) c.a c.l c.l ts [] p (c.split ∙ ap (λ (t : List ℕ). c.q ++ t) begun) c.place (λ y V s x. c.goes _ V s refl x)
       (λ y V s x. lex.continuation blanks y all (ap (λ (t : List ℕ). 92 ∷ t) (append_assoc blanks (10 ∷ []) y)) (subst (λ (n : ℕ). Lexes n c.l y V s) place x))
       (longer_stands bytes (10 ∷ []) ts p (inside_reads d) e)
 front_goes_on bytes ts (OpenText b) p d e g =
@@ -123,8 +122,113 @@ front_goes_on bytes ts (OpenText b) p d e g =
       let outlined : is_some (stands Start (lexemes_of (bytes ++ cl) (ts ++ C))) ≡ true =
           ap (λ (r : List Token × Stop). has_outline (lexemes_of (bytes ++ cl) r.0)) (sym scanned) ∙ g in
       let q = some_of (stands Start (lexemes_of (bytes ++ cl) (ts ++ C))) outlined in
-      closing bytes c.q o cl c.a c.l false ts C q.0 split c.place c.goes (λ y. refl) opens q.1
+      closing bytes c.q o cl c.a c.l false ts C q.0 split c.place (λ y V s x. c.goes _ V s refl x) opens q.1
     where
     some_of : (o : Option Standing) → is_some o ≡ true → (q : Standing) × (o ≡ Some q)
     some_of None h = absurd cc
     some_of (Some q) h = (q, refl)
+
+-- the letters of the name of a library
+abbrev pub name : List ℕ
+name = 108 ∷ 105 ∷ 98 ∷ 114 ∷ 97 ∷ 114 ∷ 121 ∷ []
+
+star_stars : CommentBytes false true (42 ∷ [])
+star_stars = lex.comment_byte refl lex.comment_ends
+
+-- the bytes of a word from an offset on, where the bytes before it and behind it are known
+word_slice : (text q u r : List ℕ) (a n : ℕ) → text ≡ q ++ (u ++ r) → a ≡ length q → n ≡ a + length u → slice_range text a n ≡ u
+word_slice text q u r a n e f g =
+    let k = length-append q u in
+    ap (λ (t : List ℕ). slice_range t a n) (e ∙ sym (append_assoc q u r))
+    ∙ slice_more (q ++ u) r a n (omega arith) (omega arith)
+    ∙ slice_end q u a n f g
+
+or_splits : (x y : Bool) → (x || y) ≡ true → (x ≡ true) ⊎ (y ≡ true)
+or_splits true y e = inl refl
+or_splits false y e = inr e
+
+and_splits : (x y : Bool) → (x && y) ≡ true → (x ≡ true) × (y ≡ true)
+and_splits true y e = (refl, e)
+and_splits false y e = absurd cc
+
+no_more : (r s : List ℕ) → [] ≡ r ++ s → r ≡ []
+no_more [] s e = refl
+no_more (x ∷ r) s e = absurd cc
+
+-- one word that is the name of a library, at its place
+name_stands : (text : List ℕ) (a n : ℕ) (l : Bool) → slice_range text a n ≡ name → stands Start (lexemes_of text ([] ++ token Word a n l ∷ [])) ≡ Some AfterLibrary
+name_stands text a n l e = ap (λ (o : Option Standing). option_and_then (λ q. Some q) o) (first_word text a n l e)
+
+-- a last word that is a slash, before a comment
+slash_goes_on : (bytes : List ℕ) (E : List Token) (a n : ℕ) (l : Bool) (p : Standing) → (w : LastWord 0 false bytes E a n l) → LieInside bytes E →
+    stands Start (lexemes_of bytes E) ≡ Some p → w.b ∷ w.w ≡ 47 ∷ [] → IsFrontOfText bytes
+slash_goes_on bytes E a n l p w h e i =
+    let m = l || list_any (λ x. x == 10) (42 ∷ []) in
+    closing bytes w.q (47 ∷ []) (42 ∷ 42 ∷ 47 ∷ []) a l m E [] p (w.split ∙ ap (λ (t : List ℕ). w.q ++ t) i) w.place
+    (λ y V s x. w.goes _ V s x)
+    (λ y V s x. (let k : a + 4 ≡ a + 2 + 1 + 1 = omega arith in lex.comment (42 ∷ []) y star_stars refl (subst (λ (j : ℕ). Lexes j m y V s) k x)))
+    (longer_stands bytes (42 ∷ 42 ∷ 47 ∷ []) E p h e)
+
+-- a last word, alone, with which the name of a library begins
+name_goes_on : (bytes : List ℕ) (a n : ℕ) (l : Bool) → (w : LastWord 0 false bytes [] a n l) → (r : List ℕ) → name ++ 47 ∷ [] ≡ (w.b ∷ w.w) ++ r → IsFrontOfText bytes
+name_goes_on bytes a n l w r e =
+    elim (splits (w.b ∷ w.w) r name (47 ∷ []) (sym e)) [ inl i ↦ short i.0 i.1 | inr i ↦ with_slash i.0 i.1 i.2 i.3 ]
+  where
+  place : a ≡ length w.q
+  place = let h = w.place in omega arith
+
+  short : (v : List ℕ) → name ≡ (w.b ∷ w.w) ++ v → IsFrontOfText bytes
+  short v i =
+      let k = a + 1 + length (w.w ++ v) in
+      let cl = v ++ 32 ∷ [] in
+      let c = token Word a k l ∷ [] in
+      let g = length-append w.w v in let h = length-append v (32 ∷ []) in let f = length-append w.w cl in
+      let text : bytes ++ cl ≡ w.q ++ (name ++ 32 ∷ []) =
+          ap (λ (t : List ℕ). t ++ cl) w.split ∙ append_assoc w.q (w.b ∷ w.w) cl
+          ∙ ap (λ (t : List ℕ). w.q ++ t) (sym (append_assoc (w.b ∷ w.w) v (32 ∷ []))) ∙ ap (λ (t : List ℕ). w.q ++ (t ++ 32 ∷ [])) (sym i) in
+      let u : k ≡ a + length name = (let j = ap length i in omega arith) in
+      closing bytes w.q (w.b ∷ w.w) cl a l false [] c AfterLibrary w.split w.place (λ y V s x. w.goes _ V s x)
+      (λ y V s x. lex.word w.b (w.w ++ v) (32 ∷ y) (subst (λ (t : List ℕ). WordBytes t (32 ∷ y)) i (library_bytes (32 ∷ y) refl))
+          (append_assoc (w.b ∷ w.w) cl y ∙ ap (λ (t : List ℕ). (w.b ∷ w.w) ++ t) (append_assoc v (32 ∷ []) y) ∙ sym (append_assoc (w.b ∷ w.w) v (32 ∷ y)))
+          (let z : a + length ((w.b ∷ w.w) ++ cl) ≡ k + 1 = omega arith in lex.blank refl (subst (λ (j : ℕ). Lexes j false y V s) z x)))
+      (name_stands (bytes ++ cl) a k l (word_slice (bytes ++ cl) w.q name (32 ∷ []) a k text place u))
+
+  with_slash : (c : ℕ) (t : List ℕ) → w.b ∷ w.w ≡ name ++ c ∷ t → 47 ∷ [] ≡ (c ∷ t) ++ r → IsFrontOfText bytes
+  with_slash c t i j =
+      let slash : 47 ≡ c = head_same j in
+      let none : t ≡ [] = no_more t r (tail_same j) in
+      let o = name ++ 47 ∷ [] in
+      let cl = 42 ∷ 42 ∷ 47 ∷ [] in
+      let word : w.b ∷ w.w ≡ o = i ∙ ap (λ (s : List ℕ). name ++ c ∷ s) none ∙ ap (λ (x : ℕ). name ++ x ∷ []) (sym slash) in
+      let k = a + 1 + 6 in
+      let split : bytes ≡ w.q ++ o = w.split ∙ ap (λ (t : List ℕ). w.q ++ t) word in
+      let text : bytes ++ cl ≡ w.q ++ (name ++ (47 ∷ cl)) = ap (λ (t : List ℕ). t ++ cl) split ∙ append_assoc w.q o cl in
+      let u : k ≡ a + length name = omega arith in
+      closing bytes w.q o cl a l (false || list_any (λ x. x == 10) (42 ∷ [])) [] (token Word a k l ∷ []) AfterLibrary split w.place (λ y V s x. w.goes _ V s x)
+      (λ y V s x. lex.word 108 (105 ∷ 98 ∷ 114 ∷ 97 ∷ 114 ∷ 121 ∷ []) (47 ∷ 42 ∷ 42 ∷ 47 ∷ y) (library_bytes (47 ∷ 42 ∷ 42 ∷ 47 ∷ y) refl) refl
+          (let z : a + 11 ≡ k + 2 + 1 + 1 = omega arith in
+           lex.comment (42 ∷ []) y star_stars refl (subst (λ (j : ℕ). Lexes j (false || list_any (λ x. x == 10) (42 ∷ [])) y V s) z x)))
+      (name_stands (bytes ++ cl) a k l (word_slice (bytes ++ cl) w.q name (47 ∷ cl) a k text place u))
+
+-- a last word that may become another token
+pub word_goes_on : (bytes : List ℕ) (E : List Token) (a n : ℕ) (l is_only : Bool) (p : Standing) → Reads bytes (E ++ token Word a n l ∷ []) End → n ≡ length bytes →
+    stands Start (lexemes_of bytes E) ≡ Some p → may_become_other is_only (slice_range bytes a n) ≡ true → (is_only ≡ true → E ≡ []) → IsFrontOfText bytes
+word_goes_on bytes E a n l is_only p d h e m only =
+    let w = last_word d E a n l refl (omega arith) in
+    let long = w.long in
+    let at = w.place in
+    let bytes_are_word : slice_range bytes a n ≡ w.b ∷ w.w =
+        ap (λ (t : List ℕ). slice_range t a n) w.split ∙ slice_end w.q (w.b ∷ w.w) a n (omega arith) (omega arith) in
+    elim (or_splits (bytes_eq (slice_range bytes a n) (codes "/")) (is_only && starts_with nat_eq (codes "library/") (slice_range bytes a n)) m)
+    [ inl i ↦ slash_goes_on bytes E a n l p w (inside_front bytes E (token Word a n l ∷ []) (inside_reads d)) e (sym bytes_are_word ∙ bytes_are (slice_range bytes a n) (codes "/") i)
+    | inr i ↦
+        (let j = and_splits is_only (starts_with nat_eq (codes "library/") (slice_range bytes a n)) i in
+         let none = only j.0 in
+         let first : Reads bytes ([] ++ token Word a n l ∷ []) End = subst (λ (t : List Token). Lexes 0 false bytes (t ++ token Word a n l ∷ []) End) none d in
+         let v = last_word first [] a n l refl (omega arith) in
+         let long' = v.long in
+         let at' = v.place in
+         let word' : slice_range bytes a n ≡ v.b ∷ v.w =
+            ap (λ (t : List ℕ). slice_range t a n) v.split ∙ slice_end v.q (v.b ∷ v.w) a n (omega arith) (omega arith) in
+         name_goes_on bytes a n l v (drop (length (slice_range bytes a n)) (codes "library/"))
+         (begins_with (codes "library/") (slice_range bytes a n) j.1 ∙ ap (λ (t : List ℕ). t ++ drop (length (slice_range bytes a n)) (codes "library/")) word')) ]

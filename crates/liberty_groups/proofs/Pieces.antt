@@ -80,25 +80,25 @@ pub blanks_front : (u v : List ℕ) → AreBlanks (u ++ v) → AreBlanks u
 blanks_front [] v h = tt
 blanks_front (b ∷ u) v h = (h.0, blanks_front u v h.1)
 
-abbrev pub Splits : List ℕ → List ℕ → List ℕ → List ℕ → Type 0
-Splits bs more u rest =
-    ((v : List ℕ) × (u ≡ bs ++ v) × (more ≡ v ++ rest)) ⊎ ((c : ℕ) × (r : List ℕ) × (bs ≡ u ++ c ∷ r) × (rest ≡ (c ∷ r) ++ more))
+abbrev pub Splits : {T : Type 0} → List T → List T → List T → List T → Type 0
+Splits {T} bs more u rest =
+    ((v : List T) × (u ≡ bs ++ v) × (more ≡ v ++ rest)) ⊎ ((c : T) × (r : List T) × (bs ≡ u ++ c ∷ r) × (rest ≡ (c ∷ r) ++ more))
 
-head_same : {a b : ℕ} {s t : List ℕ} → a ∷ s ≡ b ∷ t → a ≡ b
+pub head_same : {T : Type 0} {a b : T} {s t : List T} → a ∷ s ≡ b ∷ t → a ≡ b
 head_same e = cc
 
-tail_same : {a b : ℕ} {s t : List ℕ} → a ∷ s ≡ b ∷ t → s ≡ t
+pub tail_same : {T : Type 0} {a b : T} {s t : List T} → a ∷ s ≡ b ∷ t → s ≡ t
 tail_same e = cc
 
 -- of two splits of one list, one is at or behind the other
-pub splits : (bs more u rest : List ℕ) → bs ++ more ≡ u ++ rest → Splits bs more u rest
+pub splits : {T : Type 0} (bs more u rest : List T) → bs ++ more ≡ u ++ rest → Splits bs more u rest
 splits [] more u rest e = inl (u, refl, e)
 splits (b ∷ bs) more [] rest e = inr (b, bs, refl, sym e)
-splits (b ∷ bs) more (a ∷ u) rest e =
-    let h = head_same e in
+splits {T} (b ∷ bs) more (a ∷ u) rest e =
+    let h : b ≡ a = head_same e in
     elim (splits bs more u rest (tail_same e))
-    [ inl (v, i, j) ↦ inl (v, ap (λ (s : List ℕ). a ∷ s) i ∙ ap (λ (x : ℕ). x ∷ (bs ++ v)) (sym h), j)
-    | inr (c, r, i, j) ↦ inr (c, r, ap (λ (s : List ℕ). b ∷ s) i ∙ ap (λ (x : ℕ). x ∷ (u ++ c ∷ r)) h, j) ]
+    [ inl (v, i, j) ↦ inl (v, ap (λ (s : List T). a ∷ s) i ∙ ap (λ (x : T). x ∷ (bs ++ v)) (sym h), j)
+    | inr (c, r, i, j) ↦ inr (c, r, ap (λ (s : List T). b ∷ s) i ∙ ap (λ (x : T). x ∷ (u ++ c ∷ r)) h, j) ]
 
 byte_slash : (b : ℕ) (w rest : List ℕ) → ends_word (b ∷ (w ++ rest)) ≡ false → ends_word (b ∷ ((w ++ 47 ∷ []) ++ [])) ≡ false
 byte_slash b [] rest h = goes_on_so b (47 ∷ []) (class_word b rest h) (and_false (b == 47) false refl)

@@ -27,25 +27,25 @@ use Rattle.liberty_groups.proofs.Pieces.{word_any}
 pub stands-append : (p q : Standing) (s t : List Lexeme) → stands p s ≡ Some q → stands p (s ++ t) ≡ stands q t
 stands-append p q [] t e = ap (λ (r : Standing). stands r t) (same e)
   where
-  same : {a b : Standing} → Some a ≡ Some b → a ≡ b
-  same e = cc
+    same : {a b : Standing} → Some a ≡ Some b → a ≡ b
+    same e = cc
 stands-append p q (x ∷ s) t e = by_step (step p x.token (is_library_name x)) e (λ r h. stands-append r q s t h)
   where
-  by_step : (o : Option Standing) → option_and_then (λ r. stands r s) o ≡ Some q →
-      ((r : Standing) → stands r s ≡ Some q → stands r (s ++ t) ≡ stands q t) → option_and_then (λ r. stands r (s ++ t)) o ≡ stands q t
-  by_step None h go = absurd cc
-  by_step (Some r) h go = go r h
+    by_step : (o : Option Standing) → option_and_then (λ r. stands r s) o ≡ Some q →
+        ((r : Standing) → stands r s ≡ Some q → stands r (s ++ t) ≡ stands q t) → option_and_then (λ r. stands r (s ++ t)) o ≡ stands q t
+    by_step None h go = absurd cc
+    by_step (Some r) h go = go r h
 
 -- tokens that stand have fronts that stand
 pub stands_front : (p q : Standing) (s t : List Lexeme) → stands p (s ++ t) ≡ Some q → (r : Standing) × (stands p s ≡ Some r) × (stands r t ≡ Some q)
 stands_front p q [] t e = (p, refl, e)
 stands_front p q (x ∷ s) t e = by_step (step p x.token (is_library_name x)) e (λ r h. stands_front r q s t h)
   where
-  by_step : (o : Option Standing) → option_and_then (λ r. stands r (s ++ t)) o ≡ Some q →
-      ((r : Standing) → stands r (s ++ t) ≡ Some q → (v : Standing) × (stands r s ≡ Some v) × (stands v t ≡ Some q)) →
-      (r : Standing) × (option_and_then (λ r. stands r s) o ≡ Some r) × (stands r t ≡ Some q)
-  by_step None h go = absurd cc
-  by_step (Some r) h go = go r h
+    by_step : (o : Option Standing) → option_and_then (λ r. stands r (s ++ t)) o ≡ Some q →
+        ((r : Standing) → stands r (s ++ t) ≡ Some q → (v : Standing) × (stands r s ≡ Some v) × (stands v t ≡ Some q)) →
+        (r : Standing) × (option_and_then (λ r. stands r s) o ≡ Some r) × (stands r t ≡ Some q)
+    by_step None h go = absurd cc
+    by_step (Some r) h go = go r h
 
 -- a library leaves no token
 pub whole : (s : List Lexeme) (found : Found) (r : List Lexeme) → Takes library s found r → r ≡ []
@@ -58,9 +58,9 @@ fate_found s (Ok p) e h =
     (p.0, subst (λ (r : List Lexeme). Takes library s p.0 r) (whole s p.0 p.1 t) t)
 fate_found s (Err z) e h = absurd (not_done z.1 h)
   where
-  not_done : (m : List Lexeme) → ErrFollows done m → ⊥
-  not_done [] h = absurd cc
-  not_done (x ∷ m) h = absurd cc
+    not_done : (m : List Lexeme) → ErrFollows done m → ⊥
+    not_done [] h = absurd cc
+    not_done (x ∷ m) h = absurd cc
 
 -- tokens whose outline is done are a library
 pub done_whole : (s : List Lexeme) → stands Start s ≡ Some Done → (found : Found) × Takes library s found []
@@ -76,34 +76,34 @@ fate_some (Some p) h = (p, refl)
 pub used_stands : (s : List Lexeme) → UsesUp (read library s) → (p : Standing) × (stands Start s ≡ Some p)
 used_stands s h = fate_some (stands Start s) (not_dead (stands Start s) (read library s) h (leads_library s))
   where
-  not_dead : (v : Option Standing) (o : Outcome Lexeme (Found × Refusal) Found) → UsesUp o → Follows Done (fate v) o → fate v ≢ dead
-  not_dead v (Ok p) u f = λ e. (let i : fate_of Done p.1 ≡ done = ap (λ (m : List Lexeme). fate_of Done m) u in absurd cc)
-  not_dead v (Err z) u f = λ e. (let i : fate v ≡ open_ = subst (λ (m : List Lexeme). ErrFollows (fate v) m) u f in absurd cc)
+    not_dead : (v : Option Standing) (o : Outcome Lexeme (Found × Refusal) Found) → UsesUp o → Follows Done (fate v) o → fate v ≢ dead
+    not_dead v (Ok p) u f = λ e. (let i : fate_of Done p.1 ≡ done = ap (λ (m : List Lexeme). fate_of Done m) u in absurd cc)
+    not_dead v (Err z) u f = λ e. (let i : fate v ≡ open_ = subst (λ (m : List Lexeme). ErrFollows (fate v) m) u f in absurd cc)
 
 -- tokens with an outline are used up
 pub stands_used : (s : List Lexeme) (p : Standing) → stands Start s ≡ Some p → UsesUp (read library s)
 stands_used s p e = all_used (read library s) refl (subst (λ (v : Option Standing). Follows Done (fate v) (read library s)) e (leads_library s))
   where
-  open_or_done : (q : Standing) (m : List Lexeme) → ErrFollows (fate_at q) m → m ≡ []
-  open_or_done q [] h = refl
-  open_or_done q (x ∷ m) h = absurd (alive q h)
-    where
-    alive : (q : Standing) → fate_at q ≡ dead → ⊥
-    alive Done h = absurd cc
-    alive Start h = absurd cc
-    alive AfterLibrary h = absurd cc
-    alive HeadArguments h = absurd cc
-    alive AfterHead h = absurd cc
-    alive (Statements d) h = absurd cc
-    alive (AfterName d) h = absurd cc
-    alive (Arguments d) h = absurd cc
-    alive (AfterArguments d) h = absurd cc
-    alive (ValueStart d) h = absurd cc
-    alive (Value d) h = absurd cc
+    open_or_done : (q : Standing) (m : List Lexeme) → ErrFollows (fate_at q) m → m ≡ []
+    open_or_done q [] h = refl
+    open_or_done q (x ∷ m) h = absurd (alive q h)
+      where
+        alive : (q : Standing) → fate_at q ≡ dead → ⊥
+        alive Done h = absurd cc
+        alive Start h = absurd cc
+        alive AfterLibrary h = absurd cc
+        alive HeadArguments h = absurd cc
+        alive AfterHead h = absurd cc
+        alive (Statements d) h = absurd cc
+        alive (AfterName d) h = absurd cc
+        alive (Arguments d) h = absurd cc
+        alive (AfterArguments d) h = absurd cc
+        alive (ValueStart d) h = absurd cc
+        alive (Value d) h = absurd cc
 
-  all_used : (o : Outcome Lexeme (Found × Refusal) Found) → read library s ≡ o → Follows Done (fate_at p) o → rest_of o ≡ []
-  all_used (Ok y) i h = whole s y.0 y.1 (sound library s y.0 y.1 i)
-  all_used (Err z) i h = open_or_done p z.1 h
+    all_used : (o : Outcome Lexeme (Found × Refusal) Found) → read library s ≡ o → Follows Done (fate_at p) o → rest_of o ≡ []
+    all_used (Ok y) i h = whole s y.0 y.1 (sound library s y.0 y.1 i)
+    all_used (Err z) i h = open_or_done p z.1 h
 
 -- the braces that close so many groups inside the library, and the library
 abbrev pub braces : ℕ → List ℕ
@@ -151,9 +151,9 @@ close_head text n l = (
 pub library_bytes : (y : List ℕ) → ends_word y ≡ true → WordBytes (108 ∷ 105 ∷ 98 ∷ 114 ∷ 97 ∷ 114 ∷ 121 ∷ []) y
 library_bytes y e = word_any library_word y e
   where
-  library_word : WordBytes (108 ∷ 105 ∷ 98 ∷ 114 ∷ 97 ∷ 114 ∷ 121 ∷ []) []
-  library_word =
-      lex.word_byte refl (lex.word_byte refl (lex.word_byte refl (lex.word_byte refl (lex.word_byte refl (lex.word_byte refl (lex.word_byte refl (lex.word_ends refl)))))))
+    library_word : WordBytes (108 ∷ 105 ∷ 98 ∷ 114 ∷ 97 ∷ 114 ∷ 121 ∷ []) []
+    library_word =
+        lex.word_byte refl (lex.word_byte refl (lex.word_byte refl (lex.word_byte refl (lex.word_byte refl (lex.word_byte refl (lex.word_byte refl (lex.word_ends refl)))))))
 
 -- a word that is the name of a library stands first
 pub first_word : (text : List ℕ) (a n : ℕ) (l : Bool) → slice_range text a n ≡ codes "library" → step Start (token Word a n l) (is_library_name (record { token = token Word a n l; bytes = slice_range text a n })) ≡ Some AfterLibrary
@@ -165,10 +165,11 @@ completes Start pre n l e =
     let i = close_head text (n + 1 + 6) false in
     let g : n + 1 + 6 - n ≡ 7 = omega arith in
     let s : slice_range text n (n + 1 + 6) ≡ codes "library" =
-        ap (λ (k : ℕ). take k (drop n text)) g ∙ ap (λ (k : ℕ). take 7 (drop k text)) e ∙ ap (take 7) (drop-append_seam pre (tail Start)) in
-    (token Word n (n + 1 + 6) l ∷ i.0,
-     lex.word 108 (105 ∷ 98 ∷ 114 ∷ 97 ∷ 114 ∷ 121 ∷ []) (40 ∷ 41 ∷ 123 ∷ 125 ∷ []) (library_bytes (40 ∷ 41 ∷ 123 ∷ 125 ∷ []) refl) refl i.1,
-     ap (λ (o : Option Standing). option_and_then (λ q. stands q (lexemes_of text i.0)) o) (first_word text n (n + 1 + 6) l s) ∙ i.2)
+    ap (λ (k : ℕ). take k (drop n text)) g ∙ ap (λ (k : ℕ). take 7 (drop k text)) e ∙ ap (take 7) (drop-append_seam pre (tail Start)) in (
+      token Word n (n + 1 + 6) l ∷ i.0,
+      lex.word 108 (105 ∷ 98 ∷ 114 ∷ 97 ∷ 114 ∷ 121 ∷ []) (40 ∷ 41 ∷ 123 ∷ 125 ∷ []) (library_bytes (40 ∷ 41 ∷ 123 ∷ 125 ∷ []) refl) refl i.1,
+      ap (λ (o : Option Standing). option_and_then (λ q. stands q (lexemes_of text i.0)) o) (first_word text n (n + 1 + 6) l s) ∙ i.2,
+    )
 completes AfterLibrary pre n l e = close_head (pre ++ tail AfterLibrary) n l
 completes HeadArguments pre n l e = (
   token (Brace 41) n (n + 1) l ∷ token (Brace 123) (n + 1) (n + 1 + 1) false ∷ token (Brace 125) (n + 1 + 1) (n + 1 + 1 + 1) false ∷ [],

@@ -38,71 +38,153 @@ Longer q r z = (q ++ r) ++ z ≡ q ++ (r ++ z)
 
 pub context : {at : ℕ} {line : Bool} {bs : List ℕ} {ts : List Token} {stop : Stop} → Lexes at line bs ts stop → Context at line bs ts stop
 context {at = at} {line = line} lex.end = record {
-  q = []; o = []; a = at; l = line; split = refl; place = omega arith; is_open = refl; goes = λ z V s e d. d; word = λ e z h. h
+  q = [];
+  o = [];
+  a = at;
+  l = line;
+  split = refl;
+  place = omega arith;
+  is_open = refl;
+  goes = λ z V s e d. d;
+  word = λ e z h. h;
 }
 context {at = at} {line = line} (lex.blank {b = b} {rest = rest} e d) =
     let c = context d in record {
-      q = b ∷ c.q; o = c.o; a = c.a; l = c.l; split = ap (λ (s : List ℕ). b ∷ s) c.split;
-      place = (let p = c.place in omega arith); is_open = c.is_open;
-      goes = λ z V s w x. lex.blank e (c.goes z V s w x); word = λ _ z w. rw e refl
+      q = b ∷ c.q;
+      o = c.o;
+      a = c.a;
+      l = c.l;
+      split = ap (λ (s : List ℕ). b ∷ s) c.split;
+      place = (let p = c.place in omega arith);
+      is_open = c.is_open;
+      goes = λ z V s w x. lex.blank e (c.goes z V s w x);
+      word = λ _ z w. rw e refl;
     }
 context {at = at} {line = line} (lex.line_end {b = b} {rest = rest} e d) =
     let c = context d in record {
-      q = b ∷ c.q; o = c.o; a = c.a; l = c.l; split = ap (λ (s : List ℕ). b ∷ s) c.split;
-      place = (let p = c.place in omega arith); is_open = c.is_open;
-      goes = λ z V s w x. lex.line_end e (c.goes z V s w x); word = λ _ z w. rw e refl
+      q = b ∷ c.q;
+      o = c.o;
+      a = c.a;
+      l = c.l;
+      split = ap (λ (s : List ℕ). b ∷ s) c.split;
+      place = (let p = c.place in omega arith);
+      is_open = c.is_open;
+      goes = λ z V s w x. lex.line_end e (c.goes z V s w x);
+      word = λ _ z w. rw e refl;
     }
 context {at = at} {line = line} {bs = bs} (lex.continuation blanks rest all split d) =
     let c = context d in record {
-      q = 92 ∷ blanks ++ (10 ∷ c.q); o = c.o; a = c.a; l = c.l;
+      q = 92 ∷ blanks ++ (10 ∷ c.q);
+      o = c.o;
+      a = c.a;
+      l = c.l;
       split = split ∙ ap (λ (s : List ℕ). 92 ∷ (blanks ++ (10 ∷ s))) c.split ∙ ap (λ (s : List ℕ). 92 ∷ s) (sym (append_assoc blanks (10 ∷ c.q) c.o));
-      place = (let p = c.place in let k = length-append blanks (10 ∷ c.q) in omega arith); is_open = c.is_open;
+      place = (let p = c.place in let k = length-append blanks (10 ∷ c.q) in omega arith);
+      is_open = c.is_open;
       goes = λ z V s w x. lex.continuation blanks (c.q ++ z) all (ap (λ (t : List ℕ). 92 ∷ t) (append_assoc blanks (10 ∷ c.q) z)) (c.goes z V s w x);
-      word = λ _ z w. refl
+      word = λ _ z w. refl;
     }
 context {at = at} {line = line} {bs = bs} (lex.comment body rest all split d) =
     let c = context d in record {
-      q = 47 ∷ 42 ∷ body ++ (47 ∷ c.q); o = c.o; a = c.a; l = c.l;
+      q = 47 ∷ 42 ∷ body ++ (47 ∷ c.q);
+      o = c.o;
+      a = c.a;
+      l = c.l;
       split = split ∙ ap (λ (s : List ℕ). 47 ∷ 42 ∷ (body ++ (47 ∷ s))) c.split ∙ ap (λ (s : List ℕ). 47 ∷ 42 ∷ s) (sym (append_assoc body (47 ∷ c.q) c.o));
-      place = (let p = c.place in let k = length-append body (47 ∷ c.q) in omega arith); is_open = c.is_open;
+      place = (let p = c.place in let k = length-append body (47 ∷ c.q) in omega arith);
+      is_open = c.is_open;
       goes = λ z V s w x. lex.comment body (c.q ++ z) all (ap (λ (t : List ℕ). 47 ∷ 42 ∷ t) (append_assoc body (47 ∷ c.q) z)) (c.goes z V s w x);
-      word = λ _ z w. refl
+      word = λ _ z w. refl;
     }
 context {at = at} {line = line} (lex.mark {b = b} {rest = rest} kind e d) =
     let c = context d in record {
-      q = b ∷ c.q; o = c.o; a = c.a; l = c.l; split = ap (λ (s : List ℕ). b ∷ s) c.split;
-      place = (let p = c.place in omega arith); is_open = c.is_open;
-      goes = λ z V s w x. lex.mark kind e (c.goes z V s w x); word = λ _ z w. rw e refl
+      q = b ∷ c.q;
+      o = c.o;
+      a = c.a;
+      l = c.l;
+      split = ap (λ (s : List ℕ). b ∷ s) c.split;
+      place = (let p = c.place in omega arith);
+      is_open = c.is_open;
+      goes = λ z V s w x. lex.mark kind e (c.goes z V s w x);
+      word = λ _ z w. rw e refl;
     }
 context {at = at} {line = line} {bs = bs} (lex.text body rest all split d) =
     let c = context d in record {
-      q = 34 ∷ body ++ (34 ∷ c.q); o = c.o; a = c.a; l = c.l;
+      q = 34 ∷ body ++ (34 ∷ c.q);
+      o = c.o;
+      a = c.a;
+      l = c.l;
       split = split ∙ ap (λ (s : List ℕ). 34 ∷ (body ++ (34 ∷ s))) c.split ∙ ap (λ (s : List ℕ). 34 ∷ s) (sym (append_assoc body (34 ∷ c.q) c.o));
-      place = (let p = c.place in let k = length-append body (34 ∷ c.q) in omega arith); is_open = c.is_open;
+      place = (let p = c.place in let k = length-append body (34 ∷ c.q) in omega arith);
+      is_open = c.is_open;
       goes = λ z V s w x. lex.text body (c.q ++ z) all (ap (λ (t : List ℕ). 34 ∷ t) (append_assoc body (34 ∷ c.q) z)) (c.goes z V s w x);
-      word = λ _ z w. refl
+      word = λ _ z w. refl;
     }
 context {at = at} {line = line} {bs = bs} (lex.word b w rest (lex.word_byte f more) split d) =
     let c = context d in record {
-      q = b ∷ w ++ c.q; o = c.o; a = c.a; l = c.l;
+      q = b ∷ w ++ c.q;
+      o = c.o;
+      a = c.a;
+      l = c.l;
       split = split ∙ ap (λ (s : List ℕ). b ∷ (w ++ s)) c.split ∙ ap (λ (s : List ℕ). b ∷ s) (sym (append_assoc w c.q c.o));
-      place = (let p = c.place in let k = length-append w c.q in omega arith); is_open = c.is_open;
+      place = (let p = c.place in let k = length-append w c.q in omega arith);
+      is_open = c.is_open;
       goes = λ z V s e x. lex.word b w (c.q ++ z) (word_any (lex.word_byte f more) (c.q ++ z) (c.word (word_end more) z e))
           (ap (λ (t : List ℕ). b ∷ t) (append_assoc w c.q z)) (c.goes z V s e x);
-      word = λ h z e. (let i = subst (λ (t : List ℕ). ends_word t ≡ true) split h in absurd cc)
+      word = λ h z e. (let i = subst (λ (t : List ℕ). ends_word t ≡ true) split h in absurd cc);
     }
 context {at = at} {line = line} {bs = bs} (lex.bad e) = record {
-  q = []; o = bs; a = at; l = line; split = refl; place = omega arith; is_open = tt; goes = λ z V s e d. d; word = λ e z h. h
+  q = [];
+  o = bs;
+  a = at;
+  l = line;
+  split = refl;
+  place = omega arith;
+  is_open = tt;
+  goes = λ z V s e d. d;
+  word = λ e z h. h;
 }
 context {at = at} {line = line} {bs = bs} (lex.bad_backslash blanks b rest all other split) = record {
-  q = []; o = bs; a = at; l = line; split = refl; place = omega arith; is_open = tt; goes = λ z V s e d. d; word = λ e z h. h
+  q = [];
+  o = bs;
+  a = at;
+  l = line;
+  split = refl;
+  place = omega arith;
+  is_open = tt;
+  goes = λ z V s e d. d;
+  word = λ e z h. h;
 }
 context {at = at} {line = line} (lex.open_text {body = body} last all) = record {
-  q = []; o = 34 ∷ body; a = at; l = line; split = refl; place = omega arith; is_open = (refl, body, last, refl, all); goes = λ z V s e d. d; word = λ e z h. h
+  q = [];
+  o = 34 ∷ body;
+  a = at;
+  l = line;
+  split = refl;
+  place = omega arith;
+  is_open = (refl, body, last, refl, all);
+  goes = λ z V s e d. d;
+  word = λ e z h. h;
 }
 context {at = at} {line = line} (lex.open_comment {body = body} last all) = record {
-  q = []; o = 47 ∷ 42 ∷ body; a = at; l = line; split = refl; place = omega arith; is_open = (refl, body, last, refl, all); goes = λ z V s e d. d; word = λ e z h. h
+  q = [];
+  o = 47 ∷ 42 ∷ body;
+  a = at;
+  l = line;
+  split = refl;
+  place = omega arith;
+  is_open = (refl, body, last, refl, all);
+  goes = λ z V s e d. d;
+  word = λ e z h. h;
 }
 context {at = at} {line = line} (lex.open_continuation {blanks = blanks} all) = record {
-  q = []; o = 92 ∷ blanks; a = at; l = line; split = refl; place = omega arith; is_open = (refl, blanks, refl, all); goes = λ z V s e d. d; word = λ e z h. h
+  q = [];
+  o = 92 ∷ blanks;
+  a = at;
+  l = line;
+  split = refl;
+  place = omega arith;
+  is_open = (refl, blanks, refl, all);
+  goes = λ z V s e d. d;
+  word = λ e z h. h;
 }

@@ -40,22 +40,23 @@ closing bytes q o cl a l m E C p split place goes opens at =
     let long = length-append q (o ++ cl) in
     let long' : length text ≡ a + length (o ++ cl) = (let i = ap length split in let j = length-append bytes cl in let k = length-append q o in let h = length-append o cl in omega arith) in
     let joins : (y : List ℕ) → q ++ ((o ++ cl) ++ y) ≡ text ++ y =
-        λ y. sym (append_assoc q (o ++ cl) y) ∙ ap (λ (t : List ℕ). t ++ y) (sym (append_assoc q o cl) ∙ ap (λ (t : List ℕ). t ++ cl) (sym split)) in
+    λ y. sym (append_assoc q (o ++ cl) y) ∙ ap (λ (t : List ℕ). t ++ y) (sym (append_assoc q o cl) ∙ ap (λ (t : List ℕ). t ++ cl) (sym split)) in
     let reads : (y : List ℕ) (V : List Token) (s : Stop) → Lexes (length text) m y V s → Lexes 0 false (text ++ y) ((E ++ C) ++ V) s =
-        λ y V s d. subst (λ (t : List ℕ). Lexes 0 false t ((E ++ C) ++ V) s) (joins y)
-            (subst (λ (t : List Token). Lexes 0 false (q ++ ((o ++ cl) ++ y)) t s) (sym (append_assoc E C V))
-                (goes y (C ++ V) s (opens y V s (subst (λ (n : ℕ). Lexes n m y V s) long' d)))) in
+    λ y V s d. subst (λ (t : List ℕ). Lexes 0 false t ((E ++ C) ++ V) s) (joins y)
+    (subst (λ (t : List Token). Lexes 0 false (q ++ ((o ++ cl) ++ y)) t s) (sym (append_assoc E C V))
+    (goes y (C ++ V) s (opens y V s (subst (λ (n : ℕ). Lexes n m y V s) long' d)))) in
     let here : Lexes 0 false text (E ++ C) End =
-        subst (λ (t : List ℕ). Lexes 0 false t (E ++ C) End) (append-nil text)
-        (subst (λ (t : List Token). Lexes 0 false (text ++ []) t End) (append-nil (E ++ C)) (reads [] [] End lex.end)) in
+    subst (λ (t : List ℕ). Lexes 0 false t (E ++ C) End) (append-nil text)
+    (subst (λ (t : List Token). Lexes 0 false (text ++ []) t End) (append-nil (E ++ C)) (reads [] [] End lex.end)) in
     let c = completes p text (length text) m refl in
     let same : lexemes_of (text ++ tail p) ((E ++ C) ++ c.0) ≡ lexemes_of text (E ++ C) ++ lexemes_of (text ++ tail p) c.0 =
-        lexemes-append (text ++ tail p) (E ++ C) c.0
-        ∙ ap (λ (t : List Lexeme). t ++ lexemes_of (text ++ tail p) c.0) (lexemes_more text (tail p) (E ++ C) (inside_reads here)) in
+    lexemes-append (text ++ tail p) (E ++ C) c.0
+    ∙ ap (λ (t : List Lexeme). t ++ lexemes_of (text ++ tail p) c.0) (lexemes_more text (tail p) (E ++ C) (inside_reads here)) in
     let w = done_whole (lexemes_of (text ++ tail p) ((E ++ C) ++ c.0))
-        (ap (stands Start) same ∙ stands-append Start p (lexemes_of text (E ++ C)) (lexemes_of (text ++ tail p) c.0) at ∙ c.2) in
-    (cl ++ tail p,
-     subst IsLibraryText (append_assoc bytes cl (tail p)) ((E ++ C) ++ c.0, w.0, reads (tail p) c.0 End c.1, w.1))
+    (ap (stands Start) same ∙ stands-append Start p (lexemes_of text (E ++ C)) (lexemes_of (text ++ tail p) c.0) at ∙ c.2) in (
+      cl ++ tail p,
+      subst IsLibraryText (append_assoc bytes cl (tail p)) ((E ++ C) ++ c.0, w.0, reads (tail p) c.0 End c.1, w.1),
+    )
 
 -- what stands for bytes also stands with no token more, in a longer text
 longer_stands : (bytes more : List ℕ) (ts : List Token) (p : Standing) → LieInside bytes ts → stands Start (lexemes_of bytes ts) ≡ Some p →
@@ -76,57 +77,57 @@ front_goes_on bytes ts (OpenComment b) p d e g =
     let c = context d in
     comment c c.is_open
   where
-  comment : (c : Context 0 false bytes ts (OpenComment b)) → IsOpen (OpenComment b) c.a c.o → IsFrontOfText bytes
-  comment c (i, body, last, begun, all) =
-      let o = 47 ∷ 42 ∷ body in
-      let j : length (o ++ 32 ∷ 42 ∷ 47 ∷ []) ≡ 2 + length (body ++ 32 ∷ 42 ∷ []) + 1 = (let k = length-append body (32 ∷ 42 ∷ 47 ∷ []) in let h = length-append body (32 ∷ 42 ∷ []) in omega arith) in
-      let place : c.a + length (o ++ 32 ∷ 42 ∷ 47 ∷ []) ≡ c.a + 2 + length (body ++ 32 ∷ 42 ∷ []) + 1 = omega arith in
-      closing bytes c.q o (32 ∷ 42 ∷ 47 ∷ []) c.a c.l (c.l || list_any (λ x. x == 10) (body ++ 32 ∷ 42 ∷ [])) ts [] p
-      (c.split ∙ ap (λ (t : List ℕ). c.q ++ t) begun) c.place (λ y V s x. c.goes _ V s refl x)
-      (λ y V s x. lex.comment (body ++ 32 ∷ 42 ∷ []) y (comment_starred all)
-          (ap (λ (t : List ℕ). 47 ∷ 42 ∷ t) (append_assoc body (32 ∷ 42 ∷ 47 ∷ []) y ∙ sym (append_assoc body (32 ∷ 42 ∷ []) (47 ∷ y))))
-          (subst (λ (n : ℕ). Lexes n (c.l || list_any (λ x. x == 10) (body ++ 32 ∷ 42 ∷ [])) y V s) place x))
-      (longer_stands bytes (32 ∷ 42 ∷ 47 ∷ []) ts p (inside_reads d) e)
+    comment : (c : Context 0 false bytes ts (OpenComment b)) → IsOpen (OpenComment b) c.a c.o → IsFrontOfText bytes
+    comment c (i, body, last, begun, all) =
+        let o = 47 ∷ 42 ∷ body in
+        let j : length (o ++ 32 ∷ 42 ∷ 47 ∷ []) ≡ 2 + length (body ++ 32 ∷ 42 ∷ []) + 1 = (let k = length-append body (32 ∷ 42 ∷ 47 ∷ []) in let h = length-append body (32 ∷ 42 ∷ []) in omega arith) in
+        let place : c.a + length (o ++ 32 ∷ 42 ∷ 47 ∷ []) ≡ c.a + 2 + length (body ++ 32 ∷ 42 ∷ []) + 1 = omega arith in
+        closing bytes c.q o (32 ∷ 42 ∷ 47 ∷ []) c.a c.l (c.l || list_any (λ x. x == 10) (body ++ 32 ∷ 42 ∷ [])) ts [] p
+        (c.split ∙ ap (λ (t : List ℕ). c.q ++ t) begun) c.place (λ y V s x. c.goes _ V s refl x)
+        (λ y V s x. lex.comment (body ++ 32 ∷ 42 ∷ []) y (comment_starred all)
+        (ap (λ (t : List ℕ). 47 ∷ 42 ∷ t) (append_assoc body (32 ∷ 42 ∷ 47 ∷ []) y ∙ sym (append_assoc body (32 ∷ 42 ∷ []) (47 ∷ y))))
+        (subst (λ (n : ℕ). Lexes n (c.l || list_any (λ x. x == 10) (body ++ 32 ∷ 42 ∷ [])) y V s) place x))
+        (longer_stands bytes (32 ∷ 42 ∷ 47 ∷ []) ts p (inside_reads d) e)
 front_goes_on bytes ts (OpenContinuation b) p d e g =
     let c = context d in
     continuation c c.is_open
   where
-  continuation : (c : Context 0 false bytes ts (OpenContinuation b)) → IsOpen (OpenContinuation b) c.a c.o → IsFrontOfText bytes
-  continuation c (i, blanks, begun, all) =
-      let o = 92 ∷ blanks in
-      let place : c.a + length (o ++ 10 ∷ []) ≡ c.a + 1 + length blanks + 1 = (let k = length-append blanks (10 ∷ []) in omega arith) in
-      closing bytes c.q o (10 ∷ []) c.a c.l c.l ts [] p (c.split ∙ ap (λ (t : List ℕ). c.q ++ t) begun) c.place (λ y V s x. c.goes _ V s refl x)
-      (λ y V s x. lex.continuation blanks y all (ap (λ (t : List ℕ). 92 ∷ t) (append_assoc blanks (10 ∷ []) y)) (subst (λ (n : ℕ). Lexes n c.l y V s) place x))
-      (longer_stands bytes (10 ∷ []) ts p (inside_reads d) e)
+    continuation : (c : Context 0 false bytes ts (OpenContinuation b)) → IsOpen (OpenContinuation b) c.a c.o → IsFrontOfText bytes
+    continuation c (i, blanks, begun, all) =
+        let o = 92 ∷ blanks in
+        let place : c.a + length (o ++ 10 ∷ []) ≡ c.a + 1 + length blanks + 1 = (let k = length-append blanks (10 ∷ []) in omega arith) in
+        closing bytes c.q o (10 ∷ []) c.a c.l c.l ts [] p (c.split ∙ ap (λ (t : List ℕ). c.q ++ t) begun) c.place (λ y V s x. c.goes _ V s refl x)
+        (λ y V s x. lex.continuation blanks y all (ap (λ (t : List ℕ). 92 ∷ t) (append_assoc blanks (10 ∷ []) y)) (subst (λ (n : ℕ). Lexes n c.l y V s) place x))
+        (longer_stands bytes (10 ∷ []) ts p (inside_reads d) e)
 front_goes_on bytes ts (OpenText b) p d e g =
     let c = context d in
     text c c.is_open
   where
-  text : (c : Context 0 false bytes ts (OpenText b)) → IsOpen (OpenText b) c.a c.o → IsFrontOfText bytes
-  text c (i, body, last, begun, all) =
-      let o = 34 ∷ body in
-      let cl = 32 ∷ 34 ∷ [] in
-      let f = c.a + 1 + length (body ++ 32 ∷ []) + 1 in
-      let C = token Text c.a f c.l ∷ [] in
-      let place : c.a + length (o ++ cl) ≡ f = (let k = length-append body cl in let h = length-append body (32 ∷ []) in omega arith) in
-      let split = c.split ∙ ap (λ (t : List ℕ). c.q ++ t) begun in
-      let opens : (y : List ℕ) (V : List Token) (s : Stop) → Lexes (c.a + length (o ++ cl)) false y V s → Lexes c.a c.l ((o ++ cl) ++ y) (C ++ V) s =
-          λ y V s x. lex.text (body ++ 32 ∷ []) y (text_spaced all)
-              (ap (λ (t : List ℕ). 34 ∷ t) (append_assoc body cl y ∙ sym (append_assoc body (32 ∷ []) (34 ∷ y))))
-              (subst (λ (n : ℕ). Lexes n false y V s) place x) in
-      let joins : c.q ++ ((o ++ cl) ++ []) ≡ bytes ++ cl =
-          ap (λ (t : List ℕ). c.q ++ t) (append-nil (o ++ cl)) ∙ sym (append_assoc c.q o cl) ∙ ap (λ (t : List ℕ). t ++ cl) (sym split) in
-      let closed : Reads (bytes ++ cl) (ts ++ C) End =
-          subst (λ (t : List ℕ). Lexes 0 false t (ts ++ C) End) joins (c.goes ((o ++ cl) ++ []) C End refl (opens [] [] End lex.end)) in
-      let scanned : scan_of (bytes ++ cl) ≡ (ts ++ C, End) = (one_reading (bytes ++ cl) (ts ++ C) End).0 closed in
-      let outlined : is_some (stands Start (lexemes_of (bytes ++ cl) (ts ++ C))) ≡ true =
-          ap (λ (r : List Token × Stop). has_outline (lexemes_of (bytes ++ cl) r.0)) (sym scanned) ∙ g in
-      let q = some_of (stands Start (lexemes_of (bytes ++ cl) (ts ++ C))) outlined in
-      closing bytes c.q o cl c.a c.l false ts C q.0 split c.place (λ y V s x. c.goes _ V s refl x) opens q.1
-    where
-    some_of : (o : Option Standing) → is_some o ≡ true → (q : Standing) × (o ≡ Some q)
-    some_of None h = absurd cc
-    some_of (Some q) h = (q, refl)
+    text : (c : Context 0 false bytes ts (OpenText b)) → IsOpen (OpenText b) c.a c.o → IsFrontOfText bytes
+    text c (i, body, last, begun, all) =
+        let o = 34 ∷ body in
+        let cl = 32 ∷ 34 ∷ [] in
+        let f = c.a + 1 + length (body ++ 32 ∷ []) + 1 in
+        let C = token Text c.a f c.l ∷ [] in
+        let place : c.a + length (o ++ cl) ≡ f = (let k = length-append body cl in let h = length-append body (32 ∷ []) in omega arith) in
+        let split = c.split ∙ ap (λ (t : List ℕ). c.q ++ t) begun in
+        let opens : (y : List ℕ) (V : List Token) (s : Stop) → Lexes (c.a + length (o ++ cl)) false y V s → Lexes c.a c.l ((o ++ cl) ++ y) (C ++ V) s =
+        λ y V s x. lex.text (body ++ 32 ∷ []) y (text_spaced all)
+        (ap (λ (t : List ℕ). 34 ∷ t) (append_assoc body cl y ∙ sym (append_assoc body (32 ∷ []) (34 ∷ y))))
+        (subst (λ (n : ℕ). Lexes n false y V s) place x) in
+        let joins : c.q ++ ((o ++ cl) ++ []) ≡ bytes ++ cl =
+        ap (λ (t : List ℕ). c.q ++ t) (append-nil (o ++ cl)) ∙ sym (append_assoc c.q o cl) ∙ ap (λ (t : List ℕ). t ++ cl) (sym split) in
+        let closed : Reads (bytes ++ cl) (ts ++ C) End =
+        subst (λ (t : List ℕ). Lexes 0 false t (ts ++ C) End) joins (c.goes ((o ++ cl) ++ []) C End refl (opens [] [] End lex.end)) in
+        let scanned : scan_of (bytes ++ cl) ≡ (ts ++ C, End) = (one_reading (bytes ++ cl) (ts ++ C) End).0 closed in
+        let outlined : is_some (stands Start (lexemes_of (bytes ++ cl) (ts ++ C))) ≡ true =
+        ap (λ (r : List Token × Stop). has_outline (lexemes_of (bytes ++ cl) r.0)) (sym scanned) ∙ g in
+        let q = some_of (stands Start (lexemes_of (bytes ++ cl) (ts ++ C))) outlined in
+        closing bytes c.q o cl c.a c.l false ts C q.0 split c.place (λ y V s x. c.goes _ V s refl x) opens q.1
+      where
+        some_of : (o : Option Standing) → is_some o ≡ true → (q : Standing) × (o ≡ Some q)
+        some_of None h = absurd cc
+        some_of (Some q) h = (q, refl)
 
 -- the letters of the name of a library
 abbrev pub name : List ℕ
@@ -147,7 +148,7 @@ or_splits : (x y : Bool) → (x || y) ≡ true → (x ≡ true) ⊎ (y ≡ true)
 or_splits true y e = inl refl
 or_splits false y e = inr e
 
-and_splits : (x y : Bool) → (x && y) ≡ true → (x ≡ true) × (y ≡ true)
+pub and_splits : (x y : Bool) → (x && y) ≡ true → (x ≡ true) × (y ≡ true)
 and_splits true y e = (refl, e)
 and_splits false y e = absurd cc
 
@@ -174,41 +175,41 @@ name_goes_on : (bytes : List ℕ) (a n : ℕ) (l : Bool) → (w : LastWord 0 fal
 name_goes_on bytes a n l w r e =
     elim (splits (w.b ∷ w.w) r name (47 ∷ []) (sym e)) [ inl i ↦ short i.0 i.1 | inr i ↦ with_slash i.0 i.1 i.2 i.3 ]
   where
-  place : a ≡ length w.q
-  place = let h = w.place in omega arith
+    place : a ≡ length w.q
+    place = let h = w.place in omega arith
 
-  short : (v : List ℕ) → name ≡ (w.b ∷ w.w) ++ v → IsFrontOfText bytes
-  short v i =
-      let k = a + 1 + length (w.w ++ v) in
-      let cl = v ++ 32 ∷ [] in
-      let c = token Word a k l ∷ [] in
-      let g = length-append w.w v in let h = length-append v (32 ∷ []) in let f = length-append w.w cl in
-      let text : bytes ++ cl ≡ w.q ++ (name ++ 32 ∷ []) =
-          ap (λ (t : List ℕ). t ++ cl) w.split ∙ append_assoc w.q (w.b ∷ w.w) cl
-          ∙ ap (λ (t : List ℕ). w.q ++ t) (sym (append_assoc (w.b ∷ w.w) v (32 ∷ []))) ∙ ap (λ (t : List ℕ). w.q ++ (t ++ 32 ∷ [])) (sym i) in
-      let u : k ≡ a + length name = (let j = ap length i in omega arith) in
-      closing bytes w.q (w.b ∷ w.w) cl a l false [] c AfterLibrary w.split w.place (λ y V s x. w.goes _ V s x)
-      (λ y V s x. lex.word w.b (w.w ++ v) (32 ∷ y) (subst (λ (t : List ℕ). WordBytes t (32 ∷ y)) i (library_bytes (32 ∷ y) refl))
-          (append_assoc (w.b ∷ w.w) cl y ∙ ap (λ (t : List ℕ). (w.b ∷ w.w) ++ t) (append_assoc v (32 ∷ []) y) ∙ sym (append_assoc (w.b ∷ w.w) v (32 ∷ y)))
-          (let z : a + length ((w.b ∷ w.w) ++ cl) ≡ k + 1 = omega arith in lex.blank refl (subst (λ (j : ℕ). Lexes j false y V s) z x)))
-      (name_stands (bytes ++ cl) a k l (word_slice (bytes ++ cl) w.q name (32 ∷ []) a k text place u))
+    short : (v : List ℕ) → name ≡ (w.b ∷ w.w) ++ v → IsFrontOfText bytes
+    short v i =
+        let k = a + 1 + length (w.w ++ v) in
+        let cl = v ++ 32 ∷ [] in
+        let c = token Word a k l ∷ [] in
+        let g = length-append w.w v in let h = length-append v (32 ∷ []) in let f = length-append w.w cl in
+        let text : bytes ++ cl ≡ w.q ++ (name ++ 32 ∷ []) =
+        ap (λ (t : List ℕ). t ++ cl) w.split ∙ append_assoc w.q (w.b ∷ w.w) cl
+        ∙ ap (λ (t : List ℕ). w.q ++ t) (sym (append_assoc (w.b ∷ w.w) v (32 ∷ []))) ∙ ap (λ (t : List ℕ). w.q ++ (t ++ 32 ∷ [])) (sym i) in
+        let u : k ≡ a + length name = (let j = ap length i in omega arith) in
+        closing bytes w.q (w.b ∷ w.w) cl a l false [] c AfterLibrary w.split w.place (λ y V s x. w.goes _ V s x)
+        (λ y V s x. lex.word w.b (w.w ++ v) (32 ∷ y) (subst (λ (t : List ℕ). WordBytes t (32 ∷ y)) i (library_bytes (32 ∷ y) refl))
+        (append_assoc (w.b ∷ w.w) cl y ∙ ap (λ (t : List ℕ). (w.b ∷ w.w) ++ t) (append_assoc v (32 ∷ []) y) ∙ sym (append_assoc (w.b ∷ w.w) v (32 ∷ y)))
+        (let z : a + length ((w.b ∷ w.w) ++ cl) ≡ k + 1 = omega arith in lex.blank refl (subst (λ (j : ℕ). Lexes j false y V s) z x)))
+        (name_stands (bytes ++ cl) a k l (word_slice (bytes ++ cl) w.q name (32 ∷ []) a k text place u))
 
-  with_slash : (c : ℕ) (t : List ℕ) → w.b ∷ w.w ≡ name ++ c ∷ t → 47 ∷ [] ≡ (c ∷ t) ++ r → IsFrontOfText bytes
-  with_slash c t i j =
-      let slash : 47 ≡ c = head_same j in
-      let none : t ≡ [] = no_more t r (tail_same j) in
-      let o = name ++ 47 ∷ [] in
-      let cl = 42 ∷ 42 ∷ 47 ∷ [] in
-      let word : w.b ∷ w.w ≡ o = i ∙ ap (λ (s : List ℕ). name ++ c ∷ s) none ∙ ap (λ (x : ℕ). name ++ x ∷ []) (sym slash) in
-      let k = a + 1 + 6 in
-      let split : bytes ≡ w.q ++ o = w.split ∙ ap (λ (t : List ℕ). w.q ++ t) word in
-      let text : bytes ++ cl ≡ w.q ++ (name ++ (47 ∷ cl)) = ap (λ (t : List ℕ). t ++ cl) split ∙ append_assoc w.q o cl in
-      let u : k ≡ a + length name = omega arith in
-      closing bytes w.q o cl a l (false || list_any (λ x. x == 10) (42 ∷ [])) [] (token Word a k l ∷ []) AfterLibrary split w.place (λ y V s x. w.goes _ V s x)
-      (λ y V s x. lex.word 108 (105 ∷ 98 ∷ 114 ∷ 97 ∷ 114 ∷ 121 ∷ []) (47 ∷ 42 ∷ 42 ∷ 47 ∷ y) (library_bytes (47 ∷ 42 ∷ 42 ∷ 47 ∷ y) refl) refl
-          (let z : a + 11 ≡ k + 2 + 1 + 1 = omega arith in
-           lex.comment (42 ∷ []) y star_stars refl (subst (λ (j : ℕ). Lexes j (false || list_any (λ x. x == 10) (42 ∷ [])) y V s) z x)))
-      (name_stands (bytes ++ cl) a k l (word_slice (bytes ++ cl) w.q name (47 ∷ cl) a k text place u))
+    with_slash : (c : ℕ) (t : List ℕ) → w.b ∷ w.w ≡ name ++ c ∷ t → 47 ∷ [] ≡ (c ∷ t) ++ r → IsFrontOfText bytes
+    with_slash c t i j =
+        let slash : 47 ≡ c = head_same j in
+        let none : t ≡ [] = no_more t r (tail_same j) in
+        let o = name ++ 47 ∷ [] in
+        let cl = 42 ∷ 42 ∷ 47 ∷ [] in
+        let word : w.b ∷ w.w ≡ o = i ∙ ap (λ (s : List ℕ). name ++ c ∷ s) none ∙ ap (λ (x : ℕ). name ++ x ∷ []) (sym slash) in
+        let k = a + 1 + 6 in
+        let split : bytes ≡ w.q ++ o = w.split ∙ ap (λ (t : List ℕ). w.q ++ t) word in
+        let text : bytes ++ cl ≡ w.q ++ (name ++ (47 ∷ cl)) = ap (λ (t : List ℕ). t ++ cl) split ∙ append_assoc w.q o cl in
+        let u : k ≡ a + length name = omega arith in
+        closing bytes w.q o cl a l (false || list_any (λ x. x == 10) (42 ∷ [])) [] (token Word a k l ∷ []) AfterLibrary split w.place (λ y V s x. w.goes _ V s x)
+        (λ y V s x. lex.word 108 (105 ∷ 98 ∷ 114 ∷ 97 ∷ 114 ∷ 121 ∷ []) (47 ∷ 42 ∷ 42 ∷ 47 ∷ y) (library_bytes (47 ∷ 42 ∷ 42 ∷ 47 ∷ y) refl) refl
+        (let z : a + 11 ≡ k + 2 + 1 + 1 = omega arith in
+        lex.comment (42 ∷ []) y star_stars refl (subst (λ (j : ℕ). Lexes j (false || list_any (λ x. x == 10) (42 ∷ [])) y V s) z x)))
+        (name_stands (bytes ++ cl) a k l (word_slice (bytes ++ cl) w.q name (47 ∷ cl) a k text place u))
 
 -- a last word that may become another token
 pub word_goes_on : (bytes : List ℕ) (E : List Token) (a n : ℕ) (l is_only : Bool) (p : Standing) → Reads bytes (E ++ token Word a n l ∷ []) End → n ≡ length bytes →
@@ -218,17 +219,18 @@ word_goes_on bytes E a n l is_only p d h e m only =
     let long = w.long in
     let at = w.place in
     let bytes_are_word : slice_range bytes a n ≡ w.b ∷ w.w =
-        ap (λ (t : List ℕ). slice_range t a n) w.split ∙ slice_end w.q (w.b ∷ w.w) a n (omega arith) (omega arith) in
-    elim (or_splits (bytes_eq (slice_range bytes a n) (codes "/")) (is_only && starts_with nat_eq (codes "library/") (slice_range bytes a n)) m)
-    [ inl i ↦ slash_goes_on bytes E a n l p w (inside_front bytes E (token Word a n l ∷ []) (inside_reads d)) e (sym bytes_are_word ∙ bytes_are (slice_range bytes a n) (codes "/") i)
-    | inr i ↦
-        (let j = and_splits is_only (starts_with nat_eq (codes "library/") (slice_range bytes a n)) i in
-         let none = only j.0 in
-         let first : Reads bytes ([] ++ token Word a n l ∷ []) End = subst (λ (t : List Token). Lexes 0 false bytes (t ++ token Word a n l ∷ []) End) none d in
-         let v = last_word first [] a n l refl (omega arith) in
-         let long' = v.long in
-         let at' = v.place in
-         let word' : slice_range bytes a n ≡ v.b ∷ v.w =
-            ap (λ (t : List ℕ). slice_range t a n) v.split ∙ slice_end v.q (v.b ∷ v.w) a n (omega arith) (omega arith) in
-         name_goes_on bytes a n l v (drop (length (slice_range bytes a n)) (codes "library/"))
-         (begins_with (codes "library/") (slice_range bytes a n) j.1 ∙ ap (λ (t : List ℕ). t ++ drop (length (slice_range bytes a n)) (codes "library/")) word')) ]
+    ap (λ (t : List ℕ). slice_range t a n) w.split ∙ slice_end w.q (w.b ∷ w.w) a n (omega arith) (omega arith) in
+    elim (or_splits (bytes_eq (slice_range bytes a n) (codes "/")) (is_only && starts_with nat_eq (codes "library/") (slice_range bytes a n)) m) [
+      | inl i ↦ slash_goes_on bytes E a n l p w (inside_front bytes E (token Word a n l ∷ []) (inside_reads d)) e (sym bytes_are_word ∙ bytes_are (slice_range bytes a n) (codes "/") i)
+      | inr i ↦
+          (let j = and_splits is_only (starts_with nat_eq (codes "library/") (slice_range bytes a n)) i in
+          let none = only j.0 in
+          let first : Reads bytes ([] ++ token Word a n l ∷ []) End = subst (λ (t : List Token). Lexes 0 false bytes (t ++ token Word a n l ∷ []) End) none d in
+          let v = last_word first [] a n l refl (omega arith) in
+          let long' = v.long in
+          let at' = v.place in
+          let word' : slice_range bytes a n ≡ v.b ∷ v.w =
+          ap (λ (t : List ℕ). slice_range t a n) v.split ∙ slice_end v.q (v.b ∷ v.w) a n (omega arith) (omega arith) in
+          name_goes_on bytes a n l v (drop (length (slice_range bytes a n)) (codes "library/"))
+          (begins_with (codes "library/") (slice_range bytes a n) j.1 ∙ ap (λ (t : List ℕ). t ++ drop (length (slice_range bytes a n)) (codes "library/")) word'))
+    ]

@@ -139,9 +139,9 @@ turns_follow f go sh here q b h zero u (x ∷ m) l = absurd (omega arith)
 turns_follow {K} {A} {S} f go sh here q b h (suc n) u (x ∷ m) l =
     subst (λ (o : Outcome Lexeme K S). Follows here (fate_of here (x ∷ m)) o) (sym (unroll f go sh u (x ∷ m)))
     (first_follows here here q x m (f u x) (λ a. and_then (go u a m) (λ w t. turns f go w t)) (Ok (u, x ∷ m)) (b u x)
-        (λ a e. follows_then here here (fate_of (q a) m) (go u a m) (λ w t. turns f go w t) (h u a m)
-            (λ w t e'. let k = sh u a m w t e' in turns_follow f go sh here q b h n w t (omega arith)))
-        (λ e. refl))
+    (λ a e. follows_then here here (fate_of (q a) m) (go u a m) (λ w t. turns f go w t) (h u a m)
+    (λ w t e'. let k = sh u a m w t e' in turns_follow f go sh here q b h n w t (omega arith)))
+    (λ e. refl))
 
 pub leads_many : {K A S : Type 0} (f : S → Lexeme → Option (Verdict A K)) (g : S → A → Rule Lexeme K S) (u : S) (here : Standing) (q : A → Standing) →
     ((w : S) (x : Lexeme) → Begins here q x (f w x)) → ((w : S) (a : A) (m : List Lexeme) → Leads (g w a) (q a) here m) →

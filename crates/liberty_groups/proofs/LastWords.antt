@@ -43,50 +43,82 @@ pub last_word : {at : ℕ} {line : Bool} {bs : List ℕ} {ts : List Token} → L
 last_word lex.end E a n l e h = absurd (no_tokens E (token Word a n l) e)
 last_word {at = at} (lex.blank {b = b} {rest = rest} f d) E a n l e h =
     let c = last_word d E a n l e (omega arith) in record {
-      q = b ∷ c.q; b = c.b; w = c.w; split = ap (λ (s : List ℕ). b ∷ s) c.split; place = (let p = c.place in omega arith); long = c.long; bytes = c.bytes;
-      goes = λ z V s x. lex.blank f (c.goes z V s x); word = λ _ z. rw f refl
+      q = b ∷ c.q;
+      b = c.b;
+      w = c.w;
+      split = ap (λ (s : List ℕ). b ∷ s) c.split;
+      place = (let p = c.place in omega arith);
+      long = c.long;
+      bytes = c.bytes;
+      goes = λ z V s x. lex.blank f (c.goes z V s x);
+      word = λ _ z. rw f refl;
     }
 last_word {at = at} (lex.line_end {b = b} {rest = rest} f d) E a n l e h =
     let c = last_word d E a n l e (omega arith) in record {
-      q = b ∷ c.q; b = c.b; w = c.w; split = ap (λ (s : List ℕ). b ∷ s) c.split; place = (let p = c.place in omega arith); long = c.long; bytes = c.bytes;
-      goes = λ z V s x. lex.line_end f (c.goes z V s x); word = λ _ z. rw f refl
+      q = b ∷ c.q;
+      b = c.b;
+      w = c.w;
+      split = ap (λ (s : List ℕ). b ∷ s) c.split;
+      place = (let p = c.place in omega arith);
+      long = c.long;
+      bytes = c.bytes;
+      goes = λ z V s x. lex.line_end f (c.goes z V s x);
+      word = λ _ z. rw f refl;
     }
 last_word {at = at} {bs = bs} (lex.continuation blanks rest all split d) E a n l e h =
     let k = ap length split in let j = length-append blanks (10 ∷ rest) in
     let c = last_word d E a n l e (omega arith) in record {
-      q = 92 ∷ blanks ++ (10 ∷ c.q); b = c.b; w = c.w;
+      q = 92 ∷ blanks ++ (10 ∷ c.q);
+      b = c.b;
+      w = c.w;
       split = split ∙ ap (λ (s : List ℕ). 92 ∷ (blanks ++ (10 ∷ s))) c.split ∙ ap (λ (s : List ℕ). 92 ∷ s) (sym (append_assoc blanks (10 ∷ c.q) (c.b ∷ c.w)));
-      place = (let p = c.place in let i = length-append blanks (10 ∷ c.q) in omega arith); long = c.long; bytes = c.bytes;
+      place = (let p = c.place in let i = length-append blanks (10 ∷ c.q) in omega arith);
+      long = c.long;
+      bytes = c.bytes;
       goes = λ z V s x. lex.continuation blanks (c.q ++ z) all (ap (λ (t : List ℕ). 92 ∷ t) (append_assoc blanks (10 ∷ c.q) z)) (c.goes z V s x);
-      word = λ _ z. refl
+      word = λ _ z. refl;
     }
 last_word {at = at} {bs = bs} (lex.comment body rest all split d) E a n l e h =
     let k = ap length split in let j = length-append body (47 ∷ rest) in
     let c = last_word d E a n l e (omega arith) in record {
-      q = 47 ∷ 42 ∷ body ++ (47 ∷ c.q); b = c.b; w = c.w;
+      q = 47 ∷ 42 ∷ body ++ (47 ∷ c.q);
+      b = c.b;
+      w = c.w;
       split = split ∙ ap (λ (s : List ℕ). 47 ∷ 42 ∷ (body ++ (47 ∷ s))) c.split ∙ ap (λ (s : List ℕ). 47 ∷ 42 ∷ s) (sym (append_assoc body (47 ∷ c.q) (c.b ∷ c.w)));
-      place = (let p = c.place in let i = length-append body (47 ∷ c.q) in omega arith); long = c.long; bytes = c.bytes;
+      place = (let p = c.place in let i = length-append body (47 ∷ c.q) in omega arith);
+      long = c.long;
+      bytes = c.bytes;
       goes = λ z V s x. lex.comment body (c.q ++ z) all (ap (λ (t : List ℕ). 47 ∷ 42 ∷ t) (append_assoc body (47 ∷ c.q) z)) (c.goes z V s x);
-      word = λ _ z. refl
+      word = λ _ z. refl;
     }
 last_word (lex.mark Word f d) E a n l e h = absurd (grind (arith, nat_tests, f))
 last_word (lex.mark kind f d) [] a n l e h = absurd (let k = ap (λ t. t.kind) (first_same e) in cc)
 last_word {at = at} {line = line} (lex.mark {b = b} {rest = rest} kind f d) (t ∷ E) a n l e h =
     let c = last_word d E a n l (others_same e) (omega arith) in record {
-      q = b ∷ c.q; b = c.b; w = c.w; split = ap (λ (s : List ℕ). b ∷ s) c.split; place = (let p = c.place in omega arith); long = c.long; bytes = c.bytes;
+      q = b ∷ c.q;
+      b = c.b;
+      w = c.w;
+      split = ap (λ (s : List ℕ). b ∷ s) c.split;
+      place = (let p = c.place in omega arith);
+      long = c.long;
+      bytes = c.bytes;
       goes = λ z V s x. subst (λ (u : Token). Lexes at line (b ∷ (c.q ++ z)) (u ∷ (E ++ V)) s) (first_same e) (lex.mark kind f (c.goes z V s x));
-      word = λ _ z. rw f refl
+      word = λ _ z. rw f refl;
     }
 last_word (lex.text body rest all split d) [] a n l e h = absurd (let k = ap (λ t. t.kind) (first_same e) in cc)
 last_word {at = at} {line = line} {bs = bs} (lex.text body rest all split d) (t ∷ E) a n l e h =
     let k = ap length split in let j = length-append body (34 ∷ rest) in
     let c = last_word d E a n l (others_same e) (omega arith) in record {
-      q = 34 ∷ body ++ (34 ∷ c.q); b = c.b; w = c.w;
+      q = 34 ∷ body ++ (34 ∷ c.q);
+      b = c.b;
+      w = c.w;
       split = split ∙ ap (λ (s : List ℕ). 34 ∷ (body ++ (34 ∷ s))) c.split ∙ ap (λ (s : List ℕ). 34 ∷ s) (sym (append_assoc body (34 ∷ c.q) (c.b ∷ c.w)));
-      place = (let p = c.place in let i = length-append body (34 ∷ c.q) in omega arith); long = c.long; bytes = c.bytes;
+      place = (let p = c.place in let i = length-append body (34 ∷ c.q) in omega arith);
+      long = c.long;
+      bytes = c.bytes;
       goes = λ z V s x. subst (λ (u : Token). Lexes at line (34 ∷ (body ++ (34 ∷ c.q)) ++ z) (u ∷ (E ++ V)) s) (first_same e)
           (lex.text body (c.q ++ z) all (ap (λ (t : List ℕ). 34 ∷ t) (append_assoc body (34 ∷ c.q) z)) (c.goes z V s x));
-      word = λ _ z. refl
+      word = λ _ z. refl;
     }
 last_word {at = at} {line = line} {bs = bs} (lex.word b w rest (lex.word_byte f more) split d) [] a n l e h =
     let u = first_same e in
@@ -95,19 +127,28 @@ last_word {at = at} {line = line} {bs = bs} (lex.word b w rest (lex.word_byte f 
     let m : line ≡ l = ap (λ (t : Token). t.line_before) u in
     let k = ap length split in let v = length-append w rest in
     let none : rest ≡ [] = nothing rest (omega arith) in record {
-      q = []; b = b; w = w; split = split ∙ ap (λ (s : List ℕ). b ∷ (w ++ s)) none ∙ ap (λ (s : List ℕ). b ∷ s) (append-nil w);
-      place = omega arith; long = omega arith; bytes = word_any (lex.word_byte f more) [] refl;
+      q = [];
+      b = b;
+      w = w;
+      split = split ∙ ap (λ (s : List ℕ). b ∷ (w ++ s)) none ∙ ap (λ (s : List ℕ). b ∷ s) (append-nil w);
+      place = omega arith;
+      long = omega arith;
+      bytes = word_any (lex.word_byte f more) [] refl;
       goes = λ z V s x. subst (λ (k : ℕ). Lexes k line z V s) (sym i) (subst (λ (b : Bool). Lexes a b z V s) (sym m) x);
-      word = λ p z. (let g = subst (λ (t : List ℕ). ends_word t ≡ true) split p in absurd cc)
+      word = λ p z. (let g = subst (λ (t : List ℕ). ends_word t ≡ true) split p in absurd cc);
     }
 last_word {at = at} {line = line} {bs = bs} (lex.word b w rest (lex.word_byte f more) split d) (t ∷ E) a n l e h =
     let k = ap length split in let v = length-append w rest in
     let c = last_word d E a n l (others_same e) (omega arith) in record {
-      q = b ∷ w ++ c.q; b = c.b; w = c.w;
+      q = b ∷ w ++ c.q;
+      b = c.b;
+      w = c.w;
       split = split ∙ ap (λ (s : List ℕ). b ∷ (w ++ s)) c.split ∙ ap (λ (s : List ℕ). b ∷ s) (sym (append_assoc w c.q (c.b ∷ c.w)));
-      place = (let p = c.place in let i = length-append w c.q in omega arith); long = c.long; bytes = c.bytes;
+      place = (let p = c.place in let i = length-append w c.q in omega arith);
+      long = c.long;
+      bytes = c.bytes;
       goes = λ z V s x. subst (λ (u : Token). Lexes at line (b ∷ (w ++ c.q) ++ z) (u ∷ (E ++ V)) s) (first_same e)
           (lex.word b w (c.q ++ z) (word_any (lex.word_byte f more) (c.q ++ z) (c.word (word_end more) z))
-              (ap (λ (t : List ℕ). b ∷ t) (append_assoc w c.q z)) (c.goes z V s x));
-      word = λ p z. (let g = subst (λ (t : List ℕ). ends_word t ≡ true) split p in absurd cc)
+          (ap (λ (t : List ℕ). b ∷ t) (append_assoc w c.q z)) (c.goes z V s x));
+      word = λ p z. (let g = subst (λ (t : List ℕ). ends_word t ≡ true) split p in absurd cc);
     }

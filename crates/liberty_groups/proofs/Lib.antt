@@ -2,6 +2,8 @@ pub mod Completions
 pub mod Contexts
 pub mod Counting
 pub mod Cuts
+pub mod Decides
+pub mod Exactly
 pub mod Fronts
 pub mod Guides
 pub mod Inside

@@ -75,7 +75,7 @@ leads_arguments here behind o h s =
     leads_then (parts place.Arguments []) (λ found. expect mark.Close (Syntax expected.Argument) >>= λ _. r.Gives found) here here behind s
     (leads_parts place.Arguments [] here (λ x e. h x ∙ (rw e refl)) s)
     (λ found m t. leads_closed mark.Close (Syntax expected.Argument) found here behind o m
-        (λ x q e. h x ∙ (let n = parts_stop place.Arguments [] found s m t x q e in rw n refl)))
+    (λ x q e. h x ∙ (let n = parts_stop place.Arguments [] found s m t x q e in rw n refl)))
 
 -- the end of a value, and then nothing but the value
 leads_ended : {A : Type 0} (p : Place) (a : A) (here there : Standing) → IsOpen here → (s : List Lexeme) →
@@ -92,7 +92,7 @@ leads_more_value d part s =
     leads_then (parts place.Value part) (λ found. value_end place.Value >>= λ _. r.Gives found) (Value d) (Value d) (Statements d) s
     (leads_parts place.Value part (Value d) (λ x e. rw e refl) s)
     (λ found m t. leads_ended place.Value found (Value d) (Statements d) refl m
-        (λ x q e. let n = parts_stop place.Value part found s m t x q e in rw n refl))
+    (λ x q e. let n = parts_stop place.Value part found s m t x q e in rw n refl))
 
 leads_no_value : (d : ℕ) (s : List Lexeme) → Stops (part_at place.ValueStart) s → Leads no_value (ValueStart d) (Statements d) s
 unfolding no_value
@@ -192,7 +192,7 @@ leads_group d n sum inside h name arguments at s =
     (AfterArguments d) (Statements d) (λ _. Statements (d + 1)) s
     (λ x. begins_group d x (is_mark mark.Begin x.token.kind) (nat_lt d levels_inside) (n == 0) (below_none d n sum) refl)
     (λ x u m e. leads_then inside (λ items. r.Gives {K = Refusal} (group_of name arguments items at)) (Statements (d + 1)) (Statements d) (Statements d) m
-        (h (not_zero (is_mark mark.Begin x.token.kind) n u e) m) (λ items q t. refl))
+    (h (not_zero (is_mark mark.Begin x.token.kind) n u e) m) (λ items q t. refl))
     (λ stop. leads_complex d n (item.Complex name arguments at) s stop)
 
 leads_bracketed : (d n : ℕ) → d + n ≡ levels_inside → (inside : Grammar (List Item)) → (n ≢ 0 → (s : List Lexeme) → Leads inside (Statements (d + 1)) (Statements d) s) →
@@ -201,11 +201,11 @@ unfolding bracketed
 leads_bracketed d n sum inside h name at s stop =
     leads_then (expect mark.Open (Syntax expected.AfterName)) (λ _. arguments >>= λ found. complex_or_group n inside name found at) (AfterName d) (Arguments d) (Statements d) s
     (leads_token (only_mark mark.Open (Syntax expected.AfterName)) (Syntax expected.AfterName) (AfterName d) (Arguments d) s refl
-        (λ x q e. judges_mark (AfterName d) (Arguments d) x (is_mark mark.Open x.token.kind) (Syntax expected.AfterName)
-            (let i = failed (is_mark mark.Colon x.token.kind) _ (stopped colon s x q e stop) in rw i refl)))
+    (λ x q e. judges_mark (AfterName d) (Arguments d) x (is_mark mark.Open x.token.kind) (Syntax expected.AfterName)
+    (let i = failed (is_mark mark.Colon x.token.kind) _ (stopped colon s x q e stop) in rw i refl)))
     (λ u m t. leads_then arguments (λ found. complex_or_group n inside name found at) (Arguments d) (AfterArguments d) (Statements d) m
-        (leads_arguments (Arguments d) (AfterArguments d) refl (λ x. refl) m)
-        (λ found q t. leads_group d n sum inside h name found at q))
+    (leads_arguments (Arguments d) (AfterArguments d) refl (λ x. refl) m)
+    (λ found q t. leads_group d n sum inside h name found at q))
 
 leads_after_name : (d n : ℕ) → d + n ≡ levels_inside → (inside : Grammar (List Item)) → (n ≢ 0 → (s : List Lexeme) → Leads inside (Statements (d + 1)) (Statements d) s) →
     (name : List ℕ) (at : ℕ) (s : List Lexeme) → Leads (after_name n inside name at) (AfterName d) (Statements d) s
@@ -222,7 +222,7 @@ leads_body d (suc n) sum h s =
     let e : after_end (d + 1) ≡ Statements d = ap after_end (add-one d) in
     subst (λ q. Leads (statements (after_name n (body n))) (Statements (d + 1)) q s) e
     (leads_statements (after_name n (body n)) (d + 1)
-        (leads_after_name (d + 1) n (omega arith) (body n) (λ i m. leads_body (d + 1) n (omega arith) i m)) s)
+    (leads_after_name (d + 1) n (omega arith) (body n) (λ i m. leads_body (d + 1) n (omega arith) i m)) s)
 
 pub leads_statement : (name : List ℕ) (at : ℕ) (s : List Lexeme) → Leads (statement levels_inside name at) (AfterName 0) (Statements 0) s
 leads_statement name at s =
@@ -235,12 +235,12 @@ leads_header s =
     (λ _. expect mark.Open (Syntax expected.Opening) >>= λ _. arguments >>= λ _. expect mark.Begin (Syntax expected.Opening)) Start AfterLibrary (Statements 0) s
     (leads_token library_name NotLibrary Start AfterLibrary s refl (λ x q e. judges_mark Start AfterLibrary x (is_library_name x) NotLibrary refl))
     (λ u m t. leads_then (expect mark.Open (Syntax expected.Opening)) (λ _. arguments >>= λ _. expect mark.Begin (Syntax expected.Opening)) AfterLibrary HeadArguments (Statements 0) m
-        (leads_token (only_mark mark.Open (Syntax expected.Opening)) (Syntax expected.Opening) AfterLibrary HeadArguments m refl
-            (λ x q e. judges_mark AfterLibrary HeadArguments x (is_mark mark.Open x.token.kind) (Syntax expected.Opening) refl))
-        (λ u m t. leads_then arguments (λ _. expect mark.Begin (Syntax expected.Opening)) HeadArguments AfterHead (Statements 0) m
-            (leads_arguments HeadArguments AfterHead refl (λ x. refl) m)
-            (λ found q t. leads_token (only_mark mark.Begin (Syntax expected.Opening)) (Syntax expected.Opening) AfterHead (Statements 0) q refl
-                (λ x q e. judges_mark AfterHead (Statements 0) x (is_mark mark.Begin x.token.kind) (Syntax expected.Opening) refl))))
+    (leads_token (only_mark mark.Open (Syntax expected.Opening)) (Syntax expected.Opening) AfterLibrary HeadArguments m refl
+    (λ x q e. judges_mark AfterLibrary HeadArguments x (is_mark mark.Open x.token.kind) (Syntax expected.Opening) refl))
+    (λ u m t. leads_then arguments (λ _. expect mark.Begin (Syntax expected.Opening)) HeadArguments AfterHead (Statements 0) m
+    (leads_arguments HeadArguments AfterHead refl (λ x. refl) m)
+    (λ found q t. leads_token (only_mark mark.Begin (Syntax expected.Opening)) (Syntax expected.Opening) AfterHead (Statements 0) q refl
+    (λ x q e. judges_mark AfterHead (Statements 0) x (is_mark mark.Begin x.token.kind) (Syntax expected.Opening) refl))))
 
 leads_counting : (found : Found) (start : Option Lexeme) (s : List Lexeme) → Leads (counting found start) (begun_at 0 start) (Statements 0) s
 unfolding counted_statement
@@ -249,7 +249,7 @@ leads_counting found (Some x) s =
     let p = statement levels_inside x.bytes x.token.at >>= λ item. r.Gives (counted found item) in
     leads_marked (λ k. (found, k)) p (AfterName 0) (Statements 0) s
     (leads_then (statement levels_inside x.bytes x.token.at) (λ item. r.Gives {K = Refusal} (counted found item)) (AfterName 0) (Statements 0) (Statements 0) s
-        (leads_statement x.bytes x.token.at s) (λ item m t. refl))
+    (leads_statement x.bytes x.token.at s) (λ item m t. refl))
 
 leads_rest : (s : List Lexeme) → Leads rest_of_library (Statements 0) Done s
 unfolding rest_of_library
@@ -258,10 +258,10 @@ leads_rest s =
     (λ found. telling found (expect mark.End (Syntax expected.Statement)) >>= λ _. r.Last (λ _. (found, Syntax expected.FileEnd)) found) (Statements 0) (Statements 0) Done s
     (leads_many (λ _. starts) counting nothing_found (Statements 0) (begun_at 0) (λ w x. begins_statement (Found × Refusal) 0 x) (λ w a m. leads_counting w a m) s)
     (λ found m (n, t, stop). leads_then (telling found (expect mark.End (Syntax expected.Statement))) (λ _. r.Last (λ _. (found, Syntax expected.FileEnd)) found) (Statements 0) Done Done m
-        (leads_marked (λ k. (found, k)) (expect mark.End (Syntax expected.Statement)) (Statements 0) Done m
-            (leads_token (only_mark mark.End (Syntax expected.Statement)) (Syntax expected.Statement) (Statements 0) Done m refl
-                (λ x q e. judges_mark (Statements 0) Done x (is_mark mark.End x.token.kind) (Syntax expected.Statement) (ends_statements (Found × Refusal) 0 m stop x q e))))
-        (λ u q t. leads_last (λ _. (found, Syntax expected.FileEnd)) found q))
+    (leads_marked (λ k. (found, k)) (expect mark.End (Syntax expected.Statement)) (Statements 0) Done m
+    (leads_token (only_mark mark.End (Syntax expected.Statement)) (Syntax expected.Statement) (Statements 0) Done m refl
+    (λ x q e. judges_mark (Statements 0) Done x (is_mark mark.End x.token.kind) (Syntax expected.Statement) (ends_statements (Found × Refusal) 0 m stop x q e))))
+    (λ u q t. leads_last (λ _. (found, Syntax expected.FileEnd)) found q))
 
 pub leads_library : (s : List Lexeme) → Leads library Start Done s
 unfolding library

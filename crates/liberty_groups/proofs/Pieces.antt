@@ -32,12 +32,12 @@ pub slash_before : (b : ℕ) (y : List ℕ) → ends_word y ≡ true → opens_c
 slash_before b [] e = refl
 slash_before b (c ∷ s) e = and_false (b == 47) (c == 42) (by_star (c == 42) refl)
   where
-  by_star : (q : Bool) → (c == 42) ≡ q → q ≡ false
-  by_star true h =
-      let i : c ≡ 42 = grind (arith, nat_tests, h) in
-      let j : ends_word (c ∷ s) ≡ false = subst (λ (v : ℕ). ends_word (v ∷ s) ≡ false) (sym i) (star_goes_on s) in
-      absurd cc
-  by_star false h = refl
+    by_star : (q : Bool) → (c == 42) ≡ q → q ≡ false
+    by_star true h =
+        let i : c ≡ 42 = grind (arith, nat_tests, h) in
+        let j : ends_word (c ∷ s) ≡ false = subst (λ (v : ℕ). ends_word (v ∷ s) ≡ false) (sym i) (star_goes_on s) in
+        absurd cc
+    by_star false h = refl
 
 byte_any : (b : ℕ) (w rest y : List ℕ) → ends_word (b ∷ (w ++ rest)) ≡ false → ends_word y ≡ true → ends_word (b ∷ (w ++ y)) ≡ false
 byte_any b [] rest y h e = goes_on_so b y (class_word b rest h) (slash_before b y e)
@@ -96,9 +96,10 @@ splits [] more u rest e = inl (u, refl, e)
 splits (b ∷ bs) more [] rest e = inr (b, bs, refl, sym e)
 splits {T} (b ∷ bs) more (a ∷ u) rest e =
     let h : b ≡ a = head_same e in
-    elim (splits bs more u rest (tail_same e))
-    [ inl (v, i, j) ↦ inl (v, ap (λ (s : List T). a ∷ s) i ∙ ap (λ (x : T). x ∷ (bs ++ v)) (sym h), j)
-    | inr (c, r, i, j) ↦ inr (c, r, ap (λ (s : List T). b ∷ s) i ∙ ap (λ (x : T). x ∷ (u ++ c ∷ r)) h, j) ]
+    elim (splits bs more u rest (tail_same e)) [
+      | inl (v, i, j) ↦ inl (v, ap (λ (s : List T). a ∷ s) i ∙ ap (λ (x : T). x ∷ (bs ++ v)) (sym h), j)
+      | inr (c, r, i, j) ↦ inr (c, r, ap (λ (s : List T). b ∷ s) i ∙ ap (λ (x : T). x ∷ (u ++ c ∷ r)) h, j)
+    ]
 
 byte_slash : (b : ℕ) (w rest : List ℕ) → ends_word (b ∷ (w ++ rest)) ≡ false → ends_word (b ∷ ((w ++ 47 ∷ []) ++ [])) ≡ false
 byte_slash b [] rest h = goes_on_so b (47 ∷ []) (class_word b rest h) (and_false (b == 47) false refl)
@@ -124,10 +125,10 @@ pub ends_kept : (x : ℕ) (r more : List ℕ) → ends_word ((x ∷ r) ++ more) 
 ends_kept x (y ∷ r) more h = inl (λ z. h)
 ends_kept x [] more h = by_class (is_word_class (class_of x)) refl
   where
-  by_more : (m : List ℕ) → opens_comment (x ∷ m) ≡ true → x ≡ 47
-  by_more [] e = absurd cc
-  by_more (c ∷ m) e = let i = and_true (x == 47) (c == 42) e in grind (arith, nat_tests, i)
+    by_more : (m : List ℕ) → opens_comment (x ∷ m) ≡ true → x ≡ 47
+    by_more [] e = absurd cc
+    by_more (c ∷ m) e = let i = and_true (x == 47) (c == 42) e in grind (arith, nat_tests, i)
 
-  by_class : (q : Bool) → is_word_class (class_of x) ≡ q → ((z : List ℕ) → ends_word (x ∷ z) ≡ true) ⊎ ((◌≡◌ {A = List ℕ} [] []) × (x ≡ 47))
-  by_class true e = inr (refl, by_more more (or_true (is_word_class (class_of x)) (opens_comment (x ∷ more)) h e))
-  by_class false e = inl (λ z. rw e refl)
+    by_class : (q : Bool) → is_word_class (class_of x) ≡ q → ((z : List ℕ) → ends_word (x ∷ z) ≡ true) ⊎ ((◌≡◌ {A = List ℕ} [] []) × (x ≡ 47))
+    by_class true e = inr (refl, by_more more (or_true (is_word_class (class_of x)) (opens_comment (x ∷ more)) h e))
+    by_class false e = inl (λ z. rw e refl)

@@ -65,6 +65,11 @@ pub record IsReading (bytes : List ℕ) (whole : Bool) (found : Found) (end : En
 abbrev pub found_in_reading : Reading → Found
 found_in_reading r = record { cells = r.cells.items; units = r.units.items; left_out = r.left_out.items }
 
+-- a reading of the code is this one
+pub record Is (r : Reading) (found : Found) (end : End) : Type 0 where
+  pub same_found : found_in_reading r ≡ found
+  pub same_end : r.end ≡ end
+
 -- Below: the same as a function of the bytes.
 
 -- A refused word at the end of the bytes may be the front of a token that is not refused: a slash, with
@@ -115,9 +120,13 @@ goes_on_after bytes (stops.BadByte at) = false
 goes_on_after bytes (stops.OpenText at) = closed_has_outline bytes
 goes_on_after bytes _ = true
 
+abbrev pub is_end : Stop → Bool
+is_end stops.End = true
+is_end _ = false
+
 -- some library text begins with these bytes
 abbrev pub may_go_on : List ℕ → Halt → Stop → Bool
-may_go_on bytes (halt.Refused k at u) stop = u
+may_go_on bytes (halt.Refused k at u) stop = is_end stop && u
 may_go_on bytes _ stop = goes_on_after bytes stop
 
 abbrev pub end_by : Option LibraryFault → End
@@ -137,3 +146,11 @@ found_of_bytes bytes = found_in (outcome_of bytes)
 
 abbrev pub end_of_bytes : List ℕ → Bool → End
 end_of_bytes bytes whole = end_of bytes whole (halt_of (length bytes) (is_last (lexemes_of bytes (scan_of bytes).0)) (outcome_of bytes)) (scan_of bytes).1
+
+-- Bytes are read as one thing, and this is it.
+pub record HasOneReading (bytes : List ℕ) (whole : Bool) : Type 0 where
+  pub found : Found
+  pub end : End
+  pub is_reading : IsReading bytes whole found end
+  pub same_found : (f : Found) (e : End) → IsReading bytes whole f e → f ≡ found
+  pub same_end : (f : Found) (e : End) → IsReading bytes whole f e → e ≡ end

@@ -5,8 +5,8 @@ ghost use Rattle.std.specs.Prelude.{length, OnOk};
 ghost use Rattle.grammar_rules.specs.Reading.{read};
 ghost use Rattle.liberty_text.specs.Scanner.{scan_of};
 ghost use Rattle.liberty_groups.specs.Lexeme.{lexemes_of, LieInside};
-ghost use Rattle.liberty_groups.specs.Library.{nothing_found, found_of, library};
-ghost use Rattle.liberty_groups.specs.Answer.{found_in_reading, found_of_bytes, end_of_bytes, halt_of, found_in, outcome_of, may_become_other, closed_has_outline, goes_on_after, may_go_on, fault_of, is_last, is_unfinished, end_of};
+ghost use Rattle.liberty_groups.specs.Library.{Found, nothing_found, found_of, library};
+ghost use Rattle.liberty_groups.specs.Answer.{found_in_reading, found_of_bytes, end_of_bytes, halt_of, found_in, outcome_of, may_become_other, closed_has_outline, goes_on_after, may_go_on, fault_of, is_last, is_unfinished, end_of, IsReading, Is, HasOneReading};
 
 use crate::contents::{Contents, UnitLine};
 use crate::cursor::Cursor;
@@ -142,7 +142,7 @@ fn may_go_on(alloc: Global, bytes: &[u8], halt: Halt, stop: TextStop) -> Result<
     ensures { IfOk result (λ may. may ≡ may_go_on bytes.now halt stop) }
 {
     match halt {
-        Halt::Refused { unfinished, .. } => Ok(unfinished),
+        Halt::Refused { unfinished, .. } => Ok(stop == TextStop::End && unfinished),
         _ => goes_on_after(alloc, bytes, stop),
     }
 }
@@ -199,13 +199,27 @@ fn read_exactly(alloc: Global, bytes: &[u8], whole: bool) -> Result<Reading, Mem
     })
 }
 
-/// The groups of a Liberty text. With `whole` false the bytes are only the front of a file.
+/// The groups of a Liberty text (Liberty Reference Manual, general syntax of a library file). With
+/// `whole` false the bytes are only the front of a file.
+///
+/// The fault is the first token with which no library text goes on, the byte, text or comment that
+/// stops the tokens, or the end of the bytes, whichever comes first.
 pub fn read_library(alloc: Global, bytes: &[u8], whole: bool) -> Result<Reading, Memory>
+    // What is answered is what the definition relates to the bytes.
+    ensures reading { IfOk result (λ r. IsReading bytes.now whole (found_in_reading r) r.end) }
+    // What the definition relates to the bytes is answered, unless memory runs out.
+    ensures only { (found : Found) (end : End) → IsReading bytes.now whole found end → IfOk result (λ r. Is r found end) }
+    // The same as a function of the bytes.
     ensures found { IfOk result (λ r. found_in_reading r ≡ found_of_bytes bytes.now) }
     ensures end { IfOk result (λ r. r.end ≡ end_of_bytes bytes.now whole) }
 {
     read_exactly(alloc, bytes, whole)
 }
+
+/// A law: whatever the bytes are, they have exactly one reading.
+pub fn one_reading(bytes: &[u8], whole: bool)
+    ensures { HasOneReading bytes.now whole }
+{}
 
 #[cfg(test)]
 mod tests;

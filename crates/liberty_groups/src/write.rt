@@ -74,7 +74,9 @@ fn push_item(out: &mut Vec<u8>, item: &Item) -> Result<(), Memory>
     match item {
         Item::Simple { name, value, .. } => push_simple(out, name.as_slice(), value.as_slice()),
         Item::Complex {
-            name, arguments, ..
+            name,
+            arguments,
+            ..
         } => push_complex(out, name.as_slice(), arguments.as_slice()),
         Item::Inner(group) => push_group(out, group),
     }

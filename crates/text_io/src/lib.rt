@@ -16,6 +16,8 @@ mod sink;
 mod sinks;
 mod slots;
 mod sure;
+#[cfg(test)]
+mod tests;
 mod writing;
 
 pub use host::FileDesk;

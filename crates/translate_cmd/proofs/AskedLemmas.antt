@@ -1,5 +1,5 @@
 -- What a function text that was read asks for.
-use Rattle.std.proofs.Common.{◌≡◌, ℕ, true, List, length, Result, Ok, sym, ap, ◌∙◌}
+use Rattle.std.proofs.Common.{◌≡◌, ℕ, true, List, length, Ok, sym, ap, ◌∙◌}
 use Rattle.bool_functions.specs.declared.tree.Node.{Node}
 use Rattle.bool_functions.specs.FunctionText.{free_names, reading_of}
 use Rattle.verilog_names.specs.Kept.{is_kept_cell_name}

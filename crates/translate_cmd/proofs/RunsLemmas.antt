@@ -1,5 +1,5 @@
 -- A run that writes one text, or nothing.
-use Rattle.std.proofs.Common.{◌≡◌, ℕ, List, [], ◌++◌, false, true, Result, Ok, Err, MatchResult, IsTrue, codes, refl, sym, ap, ◌∙◌}
+use Rattle.std.proofs.Common.{◌≡◌, ℕ, List, [], Result, Ok, Err, MatchResult, IsTrue, codes, refl, sym, ap, ◌∙◌}
 use Rattle.std.proofs.lemmas.List.{append-nil}
 use Rattle.text_io.specs.declared.outside.Failed.{Failed}
 use Rattle.text_io.specs.declared.slots.OutSlot.TheVariants.{Report, Faults}
@@ -9,11 +9,9 @@ use Rattle.udp_tables.specs.declared.table.Udp.{Udp}
 use Rattle.verilog_writer.specs.Primitive.{primitive_text}
 use Rattle.translate_cmd.specs.declared.status.Status.{Status}
 use Rattle.translate_cmd.specs.declared.status.Status.TheVariants.{Done, Usage, Outside, Memory}
-use Rattle.translate_cmd.specs.declared.asked.Command.{Command}
 use Rattle.translate_cmd.specs.declared.asked.Command.TheVariants as command
 use Rattle.translate_cmd.specs.Status.{is_decided}
 use Rattle.translate_cmd.specs.Reading.{reading}
-use Rattle.translate_cmd.specs.Outcome.{outcome}
 use Rattle.translate_cmd.specs.Runs.{Runs}
 
 nothing : (whole : List ℕ) → IsPrefix [] whole

@@ -1,5 +1,6 @@
 ghost use Rattle.std.specs.Prelude.{◌≡◌, ◌≤◌, IsTrue, MatchResult};
 ghost use Rattle.text_io.specs.Desk.{Folder, HasCause, Rose};
+ghost use Rattle.text_io.specs.Sure.{sure_state};
 ghost use Rattle.translate_cmd.specs.Status.{is_decided};
 ghost use Rattle.translate_cmd.specs.Outcome.{outcome};
 ghost use Rattle.translate_cmd.specs.Runs.{Runs};
@@ -32,9 +33,11 @@ pub fn run<D: Desk>(alloc: Global, desk: &mut D) -> Status
     }
 }
 
-/// As `run`, over a desk on which no call fails.
+/// As `run`, over a desk on which no call fails, so that it never ends with `Outside`.
 pub fn run_sure(alloc: Global, desk: &mut SureDesk) -> Status
-    ensures { result ≡ Status.Outside → ⊥ }
+    ensures never { result ≡ Status.Outside → ⊥ }
+    ensures writes { (files : Folder) → Runs files (sure_state desk.old) (sure_state desk.new) result }
+    ensures status { (files : Folder) → IsTrue (is_decided result) → result ≡ (outcome (sure_state desk.old).words files).status }
 {
     run(alloc, desk)
 }

@@ -1,6 +1,7 @@
 //! The group of a Liberty cell to the cell, or to the first reason why it is refused.
 #![tactic(auto)]
 
+mod answers;
 mod cell_numbers;
 mod declarations;
 mod early;

@@ -65,7 +65,10 @@ fn a_time_unit(rt: HostRuntime) -> Result<(), Fail> {
     let read = read_library(rt.alloc(), b"library (L) { time_unit : \"10ps\" }", true)?;
     assert_eq!(rt; read.end, End::Whole);
     assert_eq!(rt; read.cells.len(), 0);
-    assert_eq!(rt; read.units[0].value.as_slice(), b"10ps".as_slice());
-    assert_eq!(rt; read.units[0].at, 14);
+    assert_eq!(rt; read.units.len(), 1);
+    for unit in &read.units {
+        assert_eq!(rt; unit.value.as_slice(), b"10ps".as_slice());
+        assert_eq!(rt; unit.at, 14);
+    }
     Ok(())
 }

@@ -1,7 +1,10 @@
+pub mod AllLemmas
 pub mod FoundLemmas
+pub mod LawLemmas
 pub mod Lists
 pub mod MergingLemmas
 pub mod OffsetLemmas
 pub mod RelatedLemmas
 pub mod SameTree
+pub mod SoundLemmas
 pub mod SumLemmas

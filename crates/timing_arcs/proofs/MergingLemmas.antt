@@ -37,6 +37,14 @@ all_true a b c h j k = rw (h, j, k)
 pub path-refl : (a : Arc) → same_path a a ≡ true
 path-refl a = all_true _ _ _ (number-refl a.from) (number-refl a.to) (condition-refl a.condition)
 
+-- arcs with the same ends and the same condition are of one path
+pub path-equal : (a b : Arc) → a.from ≡ b.from → a.to ≡ b.to → a.condition ≡ b.condition → same_path a b ≡ true
+path-equal a b from to condition =
+    ap (λ n. n == b.from && (a.to == b.to && same_condition a.condition b.condition)) from
+    ∙ ap (λ n. b.from == b.from && (n == b.to && same_condition a.condition b.condition)) to
+    ∙ ap (λ o. b.from == b.from && (b.to == b.to && same_condition o b.condition)) condition
+    ∙ path-refl b
+
 -- arcs of one path are of one path with the same arcs
 pub path-like : (a b c : Arc) → same_path a b ≡ true → same_path a c ≡ same_path b c
 path-like a b c h =

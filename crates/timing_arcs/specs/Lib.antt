@@ -11,4 +11,5 @@ pub mod Merging
 pub mod Timing
 pub mod Readings
 pub mod Adding
+pub mod Laws
 pub mod Shown

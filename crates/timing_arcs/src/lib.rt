@@ -6,6 +6,7 @@ mod attributes;
 mod condition;
 mod fault;
 mod found;
+mod laws;
 mod making;
 mod offsets;
 mod pin_timing;
@@ -18,5 +19,8 @@ mod words;
 
 pub use attributes::{Attribute, inner_group, last_attribute, simple_attribute};
 pub use fault::{Memory, TimingFault};
+pub use laws::{
+    arcs_are_apart, arcs_are_sound, arcs_end_here, checks_are_sound, timings_are_placed,
+};
 pub use pin_timing::read_timing;
 pub use subject::{PinTiming, Subject};

@@ -22,6 +22,7 @@ mod state_readings;
 mod states;
 mod text_faults;
 mod texts;
+mod timing_faults;
 mod vocabulary;
 
 pub use fault::Memory;

@@ -1,0 +1,11 @@
+use Rattle.std.proofs.Common.{◌∙◌, ap}
+use Rattle.timing_arcs.specs.Timing.{lesser}
+use Rattle.cell_reader.specs.PinTimings.{own_timing}
+use Rattle.cell_reader.proofs.LeastLemmas.{least_more}
+use Rattle.cell_reader.proofs.timing_faults.own_timings.Goals as goal
+
+pub loop-answer-preserved : goal.loop-answer-preserved
+loop-answer-preserved c =
+    least_more own_timing c.args.answers.now c.loop-answer.answer-index c.answer-item.result c.loop-answer.found c.lesser-found.result
+    c.loop-answer-test.true c.answer-item.is (c.lesser-found.ensures ∙ ap (lesser c.loop-answer.found) c.own_timing.ensures)
+    ∙ c.loop-answer.invariant

@@ -121,12 +121,12 @@ pub fn cleared_and_preset(alloc: Global) -> Result<Cell, AllocError> {
 pub fn pair(alloc: Global) -> Result<Cell, AllocError> {
     let name = Items::from_slice(alloc, b"PAIR")?;
     let listed = [
-        ("C1", Direction::Input),
-        ("D1", Direction::Input),
-        ("Q1", Direction::Output),
-        ("C2", Direction::Input),
-        ("D2", Direction::Input),
-        ("Q2", Direction::Output),
+        ("CA", Direction::Input),
+        ("DA", Direction::Input),
+        ("QA", Direction::Output),
+        ("CB", Direction::Input),
+        ("DB", Direction::Input),
+        ("QB", Direction::Output),
     ];
     let pins = pins(alloc, &listed)?;
     let first = flip_flop(alloc, 1, 0, None, None, Both::Unknown, &[0, 1])?;

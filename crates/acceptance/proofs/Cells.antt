@@ -9,9 +9,9 @@ use Rattle.std.proofs.Math.Path.{subst, subst⁻¹}
 use Rattle.cell_machine.specs.CellRules.{is_cell}
 
 pub sound :
-  {name name' : List ℕ} {pins pins' : List Pin} {groups groups' : List StateGroup}
-  {outputs outputs' : List OutputPin} {checks checks' : List Check} {arcs arcs' : List Arc}
-  → name ≡ name' → pins ≡ pins' → groups ≡ groups' → outputs ≡ outputs' → checks ≡ checks' → arcs ≡ arcs'
-  → IsTrue (is_cell name' pins' groups' outputs' checks' arcs') → IsTrue (is_cell name pins groups outputs checks arcs)
+    {name name' : List ℕ} {pins pins' : List Pin} {groups groups' : List StateGroup}
+    {outputs outputs' : List OutputPin} {checks checks' : List Check} {arcs arcs' : List Arc}
+    → name ≡ name' → pins ≡ pins' → groups ≡ groups' → outputs ≡ outputs' → checks ≡ checks' → arcs ≡ arcs'
+    → IsTrue (is_cell name' pins' groups' outputs' checks' arcs') → IsTrue (is_cell name pins groups outputs checks arcs)
 sound n p g o k a holds =
     subst⁻¹ (λ e. e) (λ i. IsTrue (is_cell (n i) (p i) (g i) (o i) (k i) (a i))) holds

@@ -7,51 +7,117 @@ use std::alloc::{AllocError, Global};
 /// A flip-flop with the pins CK, D and Q.
 pub fn plain(alloc: Global) -> Result<Cell, AllocError> {
     let name = Items::from_slice(alloc, b"DFF")?;
-    let listed = [("CK", Direction::Input), ("D", Direction::Input), ("Q", Direction::Output)];
+    let listed = [
+        ("CK", Direction::Input),
+        ("D", Direction::Input),
+        ("Q", Direction::Output),
+    ];
     let pins = pins(alloc, &listed)?;
-    let groups = one(alloc, flip_flop(alloc, 1, 0, None, None, Both::Unknown, &[0, 1])?)?;
+    let groups = one(
+        alloc,
+        flip_flop(alloc, 1, 0, None, None, Both::Unknown, &[0, 1])?,
+    )?;
     let outputs = one(alloc, shows(alloc, 2, 3, &[Source::State(0)])?)?;
     let checks = Items::new(alloc);
     let arcs = Items::new(alloc);
-    Ok(Cell { name, number: 0, pins, groups, outputs, checks, arcs })
+    Ok(Cell {
+        name,
+        number: 0,
+        pins,
+        groups,
+        outputs,
+        checks,
+        arcs,
+    })
 }
 
 /// The same with a setup time of 50 before the rising clock, and delays of 100 and 120.
 pub fn timed(alloc: Global) -> Result<Cell, AllocError> {
     let name = Items::from_slice(alloc, b"DFFT")?;
-    let listed = [("CK", Direction::Input), ("D", Direction::Input), ("Q", Direction::Output)];
+    let listed = [
+        ("CK", Direction::Input),
+        ("D", Direction::Input),
+        ("Q", Direction::Output),
+    ];
     let pins = pins(alloc, &listed)?;
-    let groups = one(alloc, flip_flop(alloc, 1, 0, None, None, Both::Unknown, &[0, 1])?)?;
+    let groups = one(
+        alloc,
+        flip_flop(alloc, 1, 0, None, None, Both::Unknown, &[0, 1])?,
+    )?;
     let outputs = one(alloc, shows(alloc, 2, 3, &[Source::State(0)])?)?;
     let check = Check {
         kind: CheckKind::Setup,
-        first: Event { pin: 1, edge: Edge::Any },
-        second: Event { pin: 0, edge: Edge::Rise },
+        first: Event {
+            pin: 1,
+            edge: Edge::Any,
+        },
+        second: Event {
+            pin: 0,
+            edge: Edge::Rise,
+        },
         limit: 50,
         condition: None,
     };
     let checks = one(alloc, check)?;
-    let arcs = one(alloc, Arc { from: 0, to: 2, rise: 100, fall: 120, condition: None })?;
-    Ok(Cell { name, number: 1, pins, groups, outputs, checks, arcs })
+    let arcs = one(
+        alloc,
+        Arc {
+            from: 0,
+            to: 2,
+            rise: 100,
+            fall: 120,
+            condition: None,
+        },
+    )?;
+    Ok(Cell {
+        name,
+        number: 1,
+        pins,
+        groups,
+        outputs,
+        checks,
+        arcs,
+    })
 }
 
 /// A flip-flop with a least period of 100 of its clock.
 pub fn periodic(alloc: Global) -> Result<Cell, AllocError> {
     let name = Items::from_slice(alloc, b"DFFP")?;
-    let listed = [("CK", Direction::Input), ("D", Direction::Input), ("Q", Direction::Output)];
+    let listed = [
+        ("CK", Direction::Input),
+        ("D", Direction::Input),
+        ("Q", Direction::Output),
+    ];
     let pins = pins(alloc, &listed)?;
-    let groups = one(alloc, flip_flop(alloc, 1, 0, None, None, Both::Unknown, &[0, 1])?)?;
+    let groups = one(
+        alloc,
+        flip_flop(alloc, 1, 0, None, None, Both::Unknown, &[0, 1])?,
+    )?;
     let outputs = one(alloc, shows(alloc, 2, 3, &[Source::State(0)])?)?;
     let check = Check {
         kind: CheckKind::Period,
-        first: Event { pin: 0, edge: Edge::Any },
-        second: Event { pin: 0, edge: Edge::Any },
+        first: Event {
+            pin: 0,
+            edge: Edge::Any,
+        },
+        second: Event {
+            pin: 0,
+            edge: Edge::Any,
+        },
         limit: 100,
         condition: None,
     };
     let checks = one(alloc, check)?;
     let arcs = Items::new(alloc);
-    Ok(Cell { name, number: 0, pins, groups, outputs, checks, arcs })
+    Ok(Cell {
+        name,
+        number: 0,
+        pins,
+        groups,
+        outputs,
+        checks,
+        arcs,
+    })
 }
 
 /// A flip-flop with a clear, C.
@@ -64,11 +130,22 @@ pub fn cleared(alloc: Global) -> Result<Cell, AllocError> {
         ("Q", Direction::Output),
     ];
     let pins = pins(alloc, &listed)?;
-    let groups = one(alloc, flip_flop(alloc, 1, 0, Some(2), None, Both::Unknown, &[0, 1, 2])?)?;
+    let groups = one(
+        alloc,
+        flip_flop(alloc, 1, 0, Some(2), None, Both::Unknown, &[0, 1, 2])?,
+    )?;
     let outputs = one(alloc, shows(alloc, 3, 4, &[Source::State(0)])?)?;
     let checks = Items::new(alloc);
     let arcs = Items::new(alloc);
-    Ok(Cell { name, number: 0, pins, groups, outputs, checks, arcs })
+    Ok(Cell {
+        name,
+        number: 0,
+        pins,
+        groups,
+        outputs,
+        checks,
+        arcs,
+    })
 }
 
 /// The same with a setup time of 50 before the rising clock.
@@ -81,18 +158,35 @@ pub fn cleared_timed(alloc: Global) -> Result<Cell, AllocError> {
         ("Q", Direction::Output),
     ];
     let pins = pins(alloc, &listed)?;
-    let groups = one(alloc, flip_flop(alloc, 1, 0, Some(2), None, Both::Unknown, &[0, 1, 2])?)?;
+    let groups = one(
+        alloc,
+        flip_flop(alloc, 1, 0, Some(2), None, Both::Unknown, &[0, 1, 2])?,
+    )?;
     let outputs = one(alloc, shows(alloc, 3, 4, &[Source::State(0)])?)?;
     let check = Check {
         kind: CheckKind::Setup,
-        first: Event { pin: 1, edge: Edge::Any },
-        second: Event { pin: 0, edge: Edge::Rise },
+        first: Event {
+            pin: 1,
+            edge: Edge::Any,
+        },
+        second: Event {
+            pin: 0,
+            edge: Edge::Rise,
+        },
         limit: 50,
         condition: None,
     };
     let checks = one(alloc, check)?;
     let arcs = Items::new(alloc);
-    Ok(Cell { name, number: 0, pins, groups, outputs, checks, arcs })
+    Ok(Cell {
+        name,
+        number: 0,
+        pins,
+        groups,
+        outputs,
+        checks,
+        arcs,
+    })
 }
 
 /// A flip-flop with a clear, C, and a preset, P, both of whose variables are 0 where both are on.
@@ -108,13 +202,24 @@ pub fn cleared_and_preset(alloc: Global) -> Result<Cell, AllocError> {
     ];
     let pins = pins(alloc, &listed)?;
     let support = [0, 1, 2, 3];
-    let groups = one(alloc, flip_flop(alloc, 1, 0, Some(2), Some(3), Both::Low, &support)?)?;
+    let groups = one(
+        alloc,
+        flip_flop(alloc, 1, 0, Some(2), Some(3), Both::Low, &support)?,
+    )?;
     let q = shows(alloc, 4, 6, &[Source::State(0)])?;
     let sources = [Source::Pin(2), Source::Pin(3), Source::State(0)];
     let outputs = two(alloc, q, shows(alloc, 5, 7, &sources)?)?;
     let checks = Items::new(alloc);
     let arcs = Items::new(alloc);
-    Ok(Cell { name, number: 0, pins, groups, outputs, checks, arcs })
+    Ok(Cell {
+        name,
+        number: 0,
+        pins,
+        groups,
+        outputs,
+        checks,
+        arcs,
+    })
 }
 
 /// Two flip-flops, with a setup time of 50 before the rising clock of the second.
@@ -137,12 +242,26 @@ pub fn pair(alloc: Global) -> Result<Cell, AllocError> {
     let outputs = two(alloc, q1, q2)?;
     let check = Check {
         kind: CheckKind::Setup,
-        first: Event { pin: 4, edge: Edge::Any },
-        second: Event { pin: 3, edge: Edge::Rise },
+        first: Event {
+            pin: 4,
+            edge: Edge::Any,
+        },
+        second: Event {
+            pin: 3,
+            edge: Edge::Rise,
+        },
         limit: 50,
         condition: None,
     };
     let checks = one(alloc, check)?;
     let arcs = Items::new(alloc);
-    Ok(Cell { name, number: 0, pins, groups, outputs, checks, arcs })
+    Ok(Cell {
+        name,
+        number: 0,
+        pins,
+        groups,
+        outputs,
+        checks,
+        arcs,
+    })
 }

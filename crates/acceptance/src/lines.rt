@@ -41,7 +41,10 @@ pub fn drive<S: CellSim>(
 {
     let mut next = 0;
     for (at, pin, to, want) in rows {
-        assert!(rt; *at >= next && *at < 1_000_000 && *pin < sim.inputs(), "at {at}");
+        assert!(rt;
+            *at >= next && *at < 1_000_000 && *pin < sim.inputs(),
+            "at {at}"
+        );
         sim.step(*at, *pin, *to);
         next = *at + 1;
         assert_eq!(rt; line(alloc, sim)?.as_str(), *want, "at {at}");

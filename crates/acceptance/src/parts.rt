@@ -5,7 +5,9 @@ ghost use Rattle.bool_functions.specs.declared.tree.Node.TheVariants as tree;
 ghost use Rattle.cell_machine.specs.declared.groups.GroupKind.TheVariants as kind;
 
 use bool_functions::Function;
-use cell_machine::{Both, Clocked, Direction, Gated, GroupKind, OutputPin, Pin, Source, StateGroup};
+use cell_machine::{
+    Both, Clocked, Direction, Gated, GroupKind, OutputPin, Pin, Source, StateGroup,
+};
 use sqlite_items::Items;
 use std::alloc::{AllocError, Global};
 

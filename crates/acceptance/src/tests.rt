@@ -6,9 +6,13 @@ use std::test::Fail;
 use trit_cubes::Trit::{One, Unknown, Zero};
 
 const CK: usize = 0;
+
 const EN: usize = 0;
+
 const D: usize = 1;
+
 const C: usize = 2;
+
 const P: usize = 3;
 
 #[test]
@@ -35,7 +39,7 @@ fn a_flip_flop_takes_its_data_at_a_rise(rt: HostRuntime) -> Result<(), Fail> {
 fn a_setup_time_ends_before_its_limit(rt: HostRuntime) -> Result<(), Fail> {
     let cell = timed(rt.alloc())?;
     for (at, want) in [(149, "x !1 "), (150, "1@100 "), (151, "1@100 ")] {
-            run(
+        run(
             &rt,
             rt.alloc(),
             &cell,

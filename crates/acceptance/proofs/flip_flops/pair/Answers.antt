@@ -6,6 +6,6 @@ use Rattle.acceptance.proofs.flip_flops.pair.Goals as goal
 pub invariant_of-result-clause-sound : goal.invariant_of-result-clause-sound
 invariant_of-result-clause-sound c =
     sound c.in_ok-name.ensures c.in_ok-pins.ensures
-      (c.in_ok-groups.ensures ∙ (λ i. c.in_ok-first.ensures i ∷ c.in_ok-second.ensures i ∷ []))
-      (c.in_ok-outputs.ensures ∙ (λ i. c.in_ok-q1.ensures i ∷ c.in_ok-q2.ensures i ∷ []))
-      c.in_ok-checks.ensures c.new-arcs.ensures (simp names_Name)
+    (c.in_ok-groups.ensures ∙ (λ i. c.in_ok-first.ensures i ∷ c.in_ok-second.ensures i ∷ []))
+    (c.in_ok-outputs.ensures ∙ (λ i. c.in_ok-q1.ensures i ∷ c.in_ok-q2.ensures i ∷ []))
+    c.in_ok-checks.ensures c.new-arcs.ensures (simp names_Name)

@@ -6,6 +6,6 @@ use Rattle.acceptance.proofs.flip_flops.plain.Goals as goal
 pub invariant_of-result-clause-sound : goal.invariant_of-result-clause-sound
 invariant_of-result-clause-sound c =
     sound c.in_ok-name.ensures c.in_ok-pins.ensures
-      (c.in_ok-groups.ensures ∙ (λ i. c.in_ok-flip_flop.ensures i ∷ []))
-      (c.in_ok-outputs.ensures ∙ (λ i. c.in_ok-shows.ensures i ∷ []))
-      c.new-checks.ensures c.new-arcs.ensures (simp names_Name)
+    (c.in_ok-groups.ensures ∙ (λ i. c.in_ok-flip_flop.ensures i ∷ []))
+    (c.in_ok-outputs.ensures ∙ (λ i. c.in_ok-shows.ensures i ∷ []))
+    c.new-checks.ensures c.new-arcs.ensures (simp names_Name)

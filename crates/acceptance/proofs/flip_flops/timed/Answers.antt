@@ -6,6 +6,6 @@ use Rattle.acceptance.proofs.flip_flops.timed.Goals as goal
 pub invariant_of-result-clause-sound : goal.invariant_of-result-clause-sound
 invariant_of-result-clause-sound c =
     sound c.in_ok-name.ensures c.in_ok-pins.ensures
-      (c.in_ok-groups.ensures ∙ (λ i. c.in_ok-flip_flop.ensures i ∷ []))
-      (c.in_ok-outputs.ensures ∙ (λ i. c.in_ok-shows.ensures i ∷ []))
-      c.in_ok-checks.ensures c.in_ok-arcs.ensures (simp names_Name)
+    (c.in_ok-groups.ensures ∙ (λ i. c.in_ok-flip_flop.ensures i ∷ []))
+    (c.in_ok-outputs.ensures ∙ (λ i. c.in_ok-shows.ensures i ∷ []))
+    c.in_ok-checks.ensures c.in_ok-arcs.ensures (simp names_Name)

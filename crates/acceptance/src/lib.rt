@@ -1,9 +1,14 @@
-//! Cells of a library, run by their own machine: traces that were worked out by hand.
+//! Tests that cross crates; no product code. Cells are built by hand and run by their own machine, along traces that
+//! were worked out by hand.
 #![tactic(auto)]
 
+#[cfg(test)]
 mod flip_flops;
+#[cfg(test)]
 mod latches;
+#[cfg(test)]
 mod lines;
+#[cfg(test)]
 mod parts;
 #[cfg(test)]
 mod tests;

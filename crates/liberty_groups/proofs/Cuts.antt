@@ -137,7 +137,7 @@ star_stars : CommentBytes false true (42 ∷ [])
 star_stars = lex.comment_byte refl lex.comment_ends
 
 -- the bytes of a word from an offset on, where the bytes before it and behind it are known
-word_slice : (text q u r : List ℕ) (a n : ℕ) → text ≡ q ++ (u ++ r) → a ≡ length q → n ≡ a + length u → slice_range text a n ≡ u
+pub word_slice : (text q u r : List ℕ) (a n : ℕ) → text ≡ q ++ (u ++ r) → a ≡ length q → n ≡ a + length u → slice_range text a n ≡ u
 word_slice text q u r a n e f g =
     let k = length-append q u in
     ap (λ (t : List ℕ). slice_range t a n) (e ∙ sym (append_assoc q u r))

@@ -12,5 +12,6 @@ pub mod Lexemes
 pub mod Outlines
 pub mod Parts
 pub mod Pieces
+pub mod Spelling
 pub mod Statements
 pub mod Texts

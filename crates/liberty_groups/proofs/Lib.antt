@@ -12,6 +12,8 @@ pub mod Lexemes
 pub mod Outlines
 pub mod Parts
 pub mod Pieces
+pub mod Rereads
 pub mod Spelling
 pub mod Statements
 pub mod Texts
+pub mod WritesBack

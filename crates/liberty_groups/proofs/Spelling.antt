@@ -66,7 +66,7 @@ spells_blank l = record { spells = λ pre rest n V s e d. ([], lex.blank refl (s
 pub spells_line : (l : Bool) → Spells (10 ∷ []) l true (λ n. [])
 spells_line l = record { spells = λ pre rest n V s e d. ([], lex.line_end refl (subst (λ (i : ℕ). Lexes i true rest V s) (one_more n 10) d), refl) }
 
-not_true : (x : Bool) → not x ≡ true → x ≡ false
+pub not_true : (x : Bool) → not x ≡ true → x ≡ false
 not_true true e = absurd cc
 not_true false e = refl
 
@@ -94,7 +94,7 @@ spells_name (b ∷ w) l h = record { spells = λ pre rest n V s e d.
 abbrev pub text_at : ℕ → Bool → Value → Lexeme
 text_at n l v = lexeme Text n (n + length (value_text v)) l (value_text v)
 
-quotable : (v : Value) → is_quotable v ≡ true → IsQuotable v.bytes
+pub quotable : (v : Value) → is_quotable v ≡ true → IsQuotable v.bytes
 quotable v e =
     let i = and_splits (not (list_any (λ b. b == 10) v.bytes)) (not (ends_in_backslash false v.bytes)) e in
     record { one_line = not_true (list_any (λ b. b == 10) v.bytes) i.0; closes = not_true (ends_in_backslash false v.bytes) i.1 }

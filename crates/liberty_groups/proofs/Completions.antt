@@ -1,9 +1,9 @@
 -- Each front of a library can be completed.
-use Rattle.std.proofs.Common.{◌≡◌, ◌≢◌, ℕ, zero, suc, ◌+◌, ◌-◌, ◌≤◌, Bool, true, false, List, [], ◌∷◌, ◌++◌, length, take, drop, slice_range, Option, Some, None, Result, Ok, Err, refl, sym, ap, subst, ◌∙◌, arith}
+use Rattle.std.proofs.Common.{◌≡◌, ◌≢◌, ℕ, zero, suc, ◌+◌, ◌-◌, Bool, true, false, List, [], ◌∷◌, ◌++◌, length, take, drop, slice_range, Option, Some, None, Ok, Err, refl, ap, subst, ◌∙◌, arith}
 use Rattle.std.specs.Prelude.{option_and_then, codes}
 use Rattle.std.proofs.Math.Seq.{drop-append_seam}
 use Rattle.liberty_text.specs.declared.token.Token.{Token}
-use Rattle.liberty_text.specs.declared.token.TokenKind.TheVariants.{Word, Text, Brace, Colon, Semicolon}
+use Rattle.liberty_text.specs.declared.token.TokenKind.TheVariants.{Word, Brace, Colon, Semicolon}
 use Rattle.liberty_text.specs.declared.token.Stop.TheVariants.{End}
 use Rattle.liberty_text.specs.Scanner.{token}
 use Rattle.liberty_text.specs.Tokens.{ends_word, WordBytes, Lexes}

@@ -1,13 +1,8 @@
 -- What stands before the open end of a text, and before its last word, stays when other bytes come behind.
-use Rattle.std.proofs.Common.{◌≡◌, ◌≢◌, ℕ, ◌+◌, ◌≤◌, ◌<◌, Bool, true, false, List, [], ◌∷◌, ◌++◌, length, ◌⊎◌, inl, inr, refl, sym, ap, subst, ◌∙◌, arith, length-append, append_assoc}
-use Rattle.std.proofs.lemmas.List.{append-nil}
-use Rattle.std.proofs.lemmas.Bool.Decides.{nat_tests}
+use Rattle.std.proofs.Common.{◌≡◌, ℕ, ◌+◌, Bool, true, false, List, [], ◌∷◌, ◌++◌, length, refl, sym, ap, subst, ◌∙◌, arith, length-append, append_assoc}
 use Rattle.liberty_text.specs.declared.token.Token.{Token}
-use Rattle.liberty_text.specs.declared.token.TokenKind.{TokenKind}
-use Rattle.liberty_text.specs.declared.token.TokenKind.TheVariants.{Word, Text}
 use Rattle.liberty_text.specs.declared.token.Stop.{Stop}
 use Rattle.liberty_text.specs.declared.token.Stop.TheVariants.{End, BadByte, OpenText, OpenComment, OpenContinuation}
-use Rattle.liberty_text.specs.Scanner.{class_of, token}
 use Rattle.liberty_text.specs.Tokens.{ends_word, WordBytes, TextBytes, CommentBytes, AreBlanks, Lexes}
 use Rattle.liberty_text.specs.Tokens as lex
 use Rattle.liberty_groups.proofs.Pieces.{word_any, word_end}

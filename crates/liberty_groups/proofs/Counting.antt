@@ -1,8 +1,7 @@
 -- One turn of the statements of the library.
-use Rattle.std.proofs.Common.{◌≡◌, ℕ, zero, suc, ◌+◌, ◌-◌, ◌<◌, List, [], ◌∷◌, Option, Some, None, Result, Ok, Err, refl, sym, ap, ◌∙◌, arith}
+use Rattle.std.proofs.Common.{◌≡◌, ℕ, zero, suc, ◌+◌, ◌-◌, ◌<◌, List, [], ◌∷◌, Ok, Err, refl, ap, ◌∙◌, arith}
 use Rattle.grammar_rules.specs.Reading.{Outcome, repeat, read}
 use Rattle.liberty_groups.specs.declared.fault.Refusal.{Refusal}
-use Rattle.liberty_groups.specs.declared.reader.Start.{Start}
 use Rattle.liberty_groups.specs.declared.reader.Start.TheVariants as start
 use Rattle.liberty_groups.specs.Lexeme.{Lexeme, next_bytes, rest}
 use Rattle.liberty_groups.specs.Grammar.{starts, next_start, next_at}

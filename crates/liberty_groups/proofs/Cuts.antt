@@ -1,10 +1,9 @@
 -- Some library text begins with the bytes exactly where the code says that it may go on.
-use Rattle.std.proofs.Common.{◌≡◌, ◌≢◌, ℕ, zero, suc, ◌+◌, ◌-◌, ◌≤◌, ◌<◌, ◌==◌, ◌||◌, ◌&&◌, Bool, true, false, nat_eq, List, [], ◌∷◌, ◌++◌, length, take, drop, slice_range, map, Option, Some, None, Result, Ok, Err, ◌⊎◌, inl, inr, refl, sym, ap, subst, ◌∙◌, arith, length-append, append_assoc}
+use Rattle.std.proofs.Common.{◌≡◌, ℕ, ◌+◌, ◌==◌, ◌||◌, ◌&&◌, Bool, true, false, nat_eq, List, [], ◌∷◌, ◌++◌, length, drop, slice_range, Option, Some, None, ◌⊎◌, inl, inr, refl, sym, ap, subst, ◌∙◌, arith, length-append, append_assoc}
 use Rattle.std.specs.Prelude.{option_and_then, is_some, codes}
 use Rattle.std.specs.Str.{bytes_eq}
 use Rattle.std.specs.List.{starts_with, list_any}
 use Rattle.std.proofs.lemmas.List.{append-nil}
-use Rattle.std.proofs.lemmas.Bool.Decides.{nat_tests}
 use Rattle.liberty_text.specs.declared.token.Token.{Token}
 use Rattle.liberty_text.specs.declared.token.TokenKind.TheVariants.{Word, Text}
 use Rattle.liberty_text.specs.declared.token.Stop.{Stop}
@@ -13,22 +12,16 @@ use Rattle.liberty_text.specs.Scanner.{token, scan_of}
 use Rattle.liberty_text.specs.Tokens.{ends_word, WordBytes, TextBytes, CommentBytes, Lexes, Reads}
 use Rattle.liberty_text.specs.Tokens as lex
 use Rattle.liberty_text.proofs.Complete.{one_reading}
-use Rattle.grammar_rules.specs.Rule.{Takes, Front}
-use Rattle.grammar_rules.specs.Reading.{Outcome, read}
-use Rattle.grammar_rules.proofs.Steps.{rest_of}
-use Rattle.grammar_rules.proofs.Fronts.{UsesUp, front_ends, ends_front}
-use Rattle.liberty_groups.specs.declared.fault.Refusal.{Refusal}
 use Rattle.liberty_groups.specs.declared.outline.Standing.{Standing}
-use Rattle.liberty_groups.specs.declared.outline.Standing.TheVariants.{Start, AfterLibrary, HeadArguments, AfterHead, Statements, AfterName, Arguments, AfterArguments, ValueStart, Value, Done}
-use Rattle.liberty_groups.specs.Lexeme.{Lexeme, lexeme_of, lexemes_of, LieInside}
-use Rattle.liberty_groups.specs.Library.{Found, library, is_library_name, is_word}
-use Rattle.liberty_groups.specs.Outline.{step, stands, has_outline}
-use Rattle.liberty_groups.specs.Answer.{IsLibraryText, IsFrontOfText, may_become_other, is_nil, is_last, is_unfinished, halt_at, halt_of, closed_text, closed_has_outline, goes_on_after, may_go_on}
-use Rattle.liberty_groups.proofs.Lexemes.{bytes_are, bytes_agree, begins_with, begins_so, slice_more, slice_end, slice_over, lexemes_more, lexemes-append, inside_reads, inside_front}
-use Rattle.liberty_groups.proofs.Pieces.{word_any, text_spaced, comment_starred, splits, head_same, tail_same}
+use Rattle.liberty_groups.specs.declared.outline.Standing.TheVariants.{Start, AfterLibrary}
+use Rattle.liberty_groups.specs.Lexeme.{Lexeme, lexemes_of, LieInside}
+use Rattle.liberty_groups.specs.Outline.{stands, has_outline}
+use Rattle.liberty_groups.specs.Answer.{IsLibraryText, IsFrontOfText, may_become_other, goes_on_after}
+use Rattle.liberty_groups.proofs.Lexemes.{bytes_are, begins_with, slice_more, slice_end, lexemes_more, lexemes-append, inside_reads, inside_front}
+use Rattle.liberty_groups.proofs.Pieces.{text_spaced, comment_starred, splits, head_same, tail_same}
 use Rattle.liberty_groups.proofs.Contexts.{Context, context, IsOpen}
 use Rattle.liberty_groups.proofs.LastWords.{LastWord, last_word}
-use Rattle.liberty_groups.proofs.Completions.{stands-append, stands_front, done_whole, used_stands, stands_used, tail, completes, library_bytes, first_word}
+use Rattle.liberty_groups.proofs.Completions.{stands-append, done_whole, tail, completes, library_bytes, first_word}
 
 -- Bytes q and an open end o, closed by cl behind the tokens E and C, where the outline stands at p.
 closing : (bytes q o cl : List ℕ) (a : ℕ) (l m : Bool) (E C : List Token) (p : Standing) → bytes ≡ q ++ o → a ≡ 0 + length q →

@@ -1,8 +1,7 @@
 -- Bytes with which some library text begins may go on, as the code finds it.
-use Rattle.std.proofs.Common.{◌≡◌, ◌≢◌, ℕ, zero, suc, ◌+◌, ◌-◌, ◌≤◌, ◌<◌, ◌==◌, ◌||◌, ◌&&◌, Bool, true, false, nat_eq, nat_lt, cond, List, [], ◌∷◌, ◌++◌, length, take, drop, slice_range, Option, Some, None, Result, Ok, Err, ◌⊎◌, inl, inr, refl, sym, ap, subst, ◌∙◌, arith, length-append, append_assoc}
+use Rattle.std.proofs.Common.{◌≡◌, ℕ, zero, suc, ◌+◌, ◌-◌, ◌==◌, ◌||◌, ◌&&◌, Bool, true, false, nat_lt, cond, List, [], ◌∷◌, ◌++◌, length, take, slice_range, Option, Some, None, Ok, Err, inl, inr, refl, sym, ap, subst, ◌∙◌, arith, length-append, append_assoc}
 use Rattle.std.specs.Prelude.{option_and_then, is_some, codes}
 use Rattle.std.specs.Str.{bytes_eq}
-use Rattle.std.specs.List.{starts_with}
 use Rattle.std.proofs.lemmas.List.{append-nil}
 use Rattle.std.proofs.lemmas.Bool.Decides.{nat_tests}
 use Rattle.liberty_text.specs.declared.token.Token.{Token}
@@ -10,15 +9,15 @@ use Rattle.liberty_text.specs.declared.token.TokenKind.TheVariants.{Word, Text}
 use Rattle.liberty_text.specs.declared.token.Stop.{Stop}
 use Rattle.liberty_text.specs.declared.token.Stop.TheVariants.{End, BadByte, OpenText, OpenComment, OpenContinuation}
 use Rattle.liberty_text.specs.Scanner.{token, scan_of}
-use Rattle.liberty_text.specs.Tokens.{Lexes, Reads}
+use Rattle.liberty_text.specs.Tokens.{Reads}
 use Rattle.liberty_text.proofs.Complete.{one_reading}
-use Rattle.grammar_rules.specs.Rule.{Takes, Front}
+use Rattle.grammar_rules.specs.Rule.{Front}
 use Rattle.grammar_rules.specs.Reading.{Outcome, read}
 use Rattle.grammar_rules.specs.Laws.{IsNoLongerFront}
 use Rattle.grammar_rules.proofs.Steps.{rest_of}
 use Rattle.grammar_rules.proofs.Exact.{complete, sound}
 use Rattle.grammar_rules.proofs.Refusals.{refused}
-use Rattle.grammar_rules.proofs.Fronts.{UsesUp, front_ends, ends_front}
+use Rattle.grammar_rules.proofs.Fronts.{UsesUp, ends_front}
 use Rattle.grammar_rules.proofs.Places.{refuses_at_first}
 use Rattle.liberty_groups.specs.declared.fault.Refusal.{Refusal}
 use Rattle.liberty_groups.specs.declared.outline.Standing.{Standing}
@@ -31,12 +30,11 @@ use Rattle.liberty_groups.specs.declared.reader.Start.{Start as Begun}
 use Rattle.liberty_groups.specs.declared.reader.Start.TheVariants as begun
 use Rattle.liberty_groups.specs.Grammar.{is_mark, is_argument, is_value, goes_on, ends_by, ends_value, start_by}
 use Rattle.liberty_groups.specs.Outline.{at_mark, after_end, among_statements, at_statement, at_value, step, stands, has_outline}
-use Rattle.liberty_groups.specs.Answer.{IsLibraryText, IsFrontOfText, may_become_other, is_nil, is_last, is_unfinished, halt_at, halt_of, closed_text, goes_on_after, may_go_on}
+use Rattle.liberty_groups.specs.Answer.{IsFrontOfText, may_become_other, is_last, is_unfinished, halt_at, halt_of, closed_text, goes_on_after, may_go_on}
 use Rattle.liberty_groups.proofs.Lexemes.{bytes_are, bytes_agree, begins_so, slice_more, slice_end, slice_over, lexemes_more, lexemes-append, inside_reads, inside_front}
 use Rattle.liberty_groups.proofs.Pieces.{splits, head_same}
-use Rattle.liberty_groups.proofs.Fronts.{IsSoft, IsCutOf, between, in_soft, in_text, in_word, in_slash, slash_alone, cuts}
+use Rattle.liberty_groups.proofs.Fronts.{IsCutOf, between, in_soft, in_text, in_word, in_slash, slash_alone, cuts}
 use Rattle.liberty_groups.proofs.Completions.{stands-append, stands_front, whole, used_stands, stands_used}
-use Rattle.liberty_groups.proofs.Cuts.{name}
 
 -- whether bytes with these tokens and this stop may go on
 abbrev pub decides : List ℕ → List Token → Stop → Bool

@@ -1,5 +1,5 @@
 -- The answer of the code is the one that the definition says, and no other.
-use Rattle.std.proofs.Common.{◌≡◌, ◌≢◌, ℕ, zero, suc, ◌+◌, ◌==◌, ◌||◌, ◌&&◌, Bool, true, false, List, [], ◌∷◌, ◌++◌, length, slice_range, Option, Some, None, Result, Ok, Err, ◌⊎◌, inl, inr, refl, sym, ap, subst, ◌∙◌, arith, cond}
+use Rattle.std.proofs.Common.{◌≡◌, ℕ, ◌==◌, ◌&&◌, Bool, true, false, List, [], ◌∷◌, ◌++◌, length, slice_range, Option, Some, None, Ok, Err, inl, inr, refl, sym, ap, subst, ◌∙◌, arith, cond}
 use Rattle.std.specs.Prelude.{unwrap_or}
 use Rattle.std.proofs.lemmas.Bool.Decides.{nat_tests}
 use Rattle.liberty_text.specs.declared.token.Token.{Token}
@@ -24,7 +24,7 @@ use Rattle.liberty_groups.specs.declared.read.End.TheVariants.{Whole, Cut, Fault
 use Rattle.liberty_groups.specs.Lexeme.{Lexeme, lexeme_of, lexemes_of}
 use Rattle.liberty_groups.specs.Fault.{fault_at, lexical_fault}
 use Rattle.liberty_groups.specs.Library.{Found, library, is_word}
-use Rattle.liberty_groups.specs.Answer.{IsLibraryText, IsFrontOfText, GathersFirst, FaultsAt, EndsSo, IsReading, may_become_other, is_nil, is_last, is_unfinished, halt_at, halt_of, found_in, fault_of, goes_on_after, may_go_on, end_by, end_of, outcome_of, found_of_bytes, end_of_bytes}
+use Rattle.liberty_groups.specs.Answer.{IsFrontOfText, GathersFirst, FaultsAt, EndsSo, IsReading, may_become_other, is_nil, is_last, is_unfinished, halt_at, halt_of, found_in, fault_of, goes_on_after, may_go_on, end_by, end_of, outcome_of, found_of_bytes, end_of_bytes}
 use Rattle.liberty_groups.specs.declared.outline.Standing.TheVariants.{Start}
 use Rattle.liberty_groups.specs.Outline.{stands}
 use Rattle.liberty_groups.proofs.Pieces.{head_same, tail_same}

@@ -1,16 +1,14 @@
 -- The front of a text: what is read of it, beside what is read of the whole.
-use Rattle.std.proofs.Common.{◌≡◌, ◌≢◌, ℕ, ◌+◌, ◌≤◌, ◌<◌, ◌==◌, Bool, true, false, List, [], ◌∷◌, ◌++◌, length, ◌⊎◌, inl, inr, refl, sym, ap, subst, ◌∙◌, arith, length-append, append_assoc}
+use Rattle.std.proofs.Common.{◌≡◌, ℕ, ◌+◌, ◌≤◌, ◌<◌, Bool, true, false, List, [], ◌∷◌, ◌++◌, length, ◌⊎◌, inl, inr, refl, sym, ap, subst, ◌∙◌, arith, length-append, append_assoc}
 use Rattle.std.proofs.lemmas.List.{append-nil}
-use Rattle.std.proofs.lemmas.Bool.Decides.{nat_tests}
 use Rattle.liberty_text.specs.declared.token.Token.{Token}
-use Rattle.liberty_text.specs.declared.token.TokenKind.{TokenKind}
 use Rattle.liberty_text.specs.declared.token.TokenKind.TheVariants.{Word, Text}
 use Rattle.liberty_text.specs.declared.token.Stop.{Stop}
-use Rattle.liberty_text.specs.declared.token.Stop.TheVariants.{End, BadByte, OpenText, OpenComment, OpenContinuation}
-use Rattle.liberty_text.specs.Scanner.{class_of, token}
+use Rattle.liberty_text.specs.declared.token.Stop.TheVariants.{End, OpenText, OpenComment, OpenContinuation}
+use Rattle.liberty_text.specs.Scanner.{token}
 use Rattle.liberty_text.specs.Tokens.{is_word_class, opens_comment, ends_word, WordBytes, TextBytes, CommentBytes, AreBlanks, Lexes}
 use Rattle.liberty_text.specs.Tokens as lex
-use Rattle.liberty_groups.proofs.Pieces.{word_any, word_end, word_front, word_slash, ends_kept, text_front, text_spaced, comment_front, blanks_front, Splits, splits, class_word, not_or}
+use Rattle.liberty_groups.proofs.Pieces.{word_any, word_end, word_front, word_slash, ends_kept, text_front, text_spaced, comment_front, blanks_front, splits}
 
 -- a comment or a continuation is open
 abbrev pub IsSoft : Stop → Type 0

@@ -1,13 +1,12 @@
 -- The outline of a text goes where its reading goes: a rule, read from a standing, ends in another one.
-use Rattle.std.proofs.Common.{◌≡◌, ℕ, zero, suc, ◌+◌, ◌≤◌, ◌<◌, Bool, true, false, List, [], ◌∷◌, length, Option, Some, None, Result, Ok, Err, ◌⊎◌, inl, inr, refl, sym, ap, subst, ◌∙◌, arith, cond}
-use Rattle.liberty_text.specs.declared.token.Token.{Token}
+use Rattle.std.proofs.Common.{◌≡◌, ℕ, zero, suc, ◌≤◌, List, [], ◌∷◌, length, Option, Some, None, Ok, Err, refl, sym, subst, arith}
 use Rattle.grammar_rules.specs.Rule.{Rule, Verdict, Fits, Foul, Misfit, Stops, Takes}
 use Rattle.grammar_rules.specs.Rule as r
-use Rattle.grammar_rules.specs.Reading.{Outcome, and_then, marked, judge, judge_first, choose, repeat, read}
+use Rattle.grammar_rules.specs.Reading.{Outcome, and_then, marked, judge, judge_first, read}
 use Rattle.grammar_rules.proofs.Exact.{parts_shrink, sound}
 use Rattle.grammar_rules.proofs.Turns.{Shrinks, turns, unroll}
 use Rattle.liberty_groups.specs.declared.outline.Standing.{Standing}
-use Rattle.liberty_groups.specs.declared.outline.Standing.TheVariants.{Start, AfterLibrary, HeadArguments, AfterHead, Statements, AfterName, Arguments, AfterArguments, ValueStart, Value, Done}
+use Rattle.liberty_groups.specs.declared.outline.Standing.TheVariants.{Done}
 use Rattle.liberty_groups.specs.Lexeme.{Lexeme}
 use Rattle.liberty_groups.specs.Library.{is_library_name}
 use Rattle.liberty_groups.specs.Outline.{step, stands}

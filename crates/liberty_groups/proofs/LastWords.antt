@@ -1,13 +1,12 @@
 -- What stands before the last word of a text, where the text ends in it.
-use Rattle.std.proofs.Common.{◌≡◌, ◌≢◌, ℕ, ◌+◌, ◌≤◌, ◌<◌, Bool, true, false, List, [], ◌∷◌, ◌++◌, length, refl, sym, ap, subst, ◌∙◌, arith, length-append, append_assoc}
+use Rattle.std.proofs.Common.{◌≡◌, ℕ, ◌+◌, Bool, true, List, [], ◌∷◌, ◌++◌, length, refl, sym, ap, subst, ◌∙◌, arith, length-append, append_assoc}
 use Rattle.std.proofs.lemmas.List.{append-nil}
 use Rattle.std.proofs.lemmas.Bool.Decides.{nat_tests}
 use Rattle.liberty_text.specs.declared.token.Token.{Token}
-use Rattle.liberty_text.specs.declared.token.TokenKind.{TokenKind}
-use Rattle.liberty_text.specs.declared.token.TokenKind.TheVariants.{Word, Text}
+use Rattle.liberty_text.specs.declared.token.TokenKind.TheVariants.{Word}
 use Rattle.liberty_text.specs.declared.token.Stop.{Stop}
 use Rattle.liberty_text.specs.declared.token.Stop.TheVariants.{End}
-use Rattle.liberty_text.specs.Scanner.{class_of, token}
+use Rattle.liberty_text.specs.Scanner.{token}
 use Rattle.liberty_text.specs.Tokens.{ends_word, WordBytes, Lexes}
 use Rattle.liberty_text.specs.Tokens as lex
 use Rattle.liberty_groups.proofs.Pieces.{word_any, word_end}

@@ -1,15 +1,14 @@
 -- Tokens with their bytes, in a text and in a longer one.
-use Rattle.std.proofs.Common.{◌≡◌, ℕ, zero, suc, ◌+◌, ◌-◌, ◌≤◌, ◌<◌, Bool, true, false, nat_eq, List, [], ◌∷◌, ◌++◌, length, take, drop, slice_range, map, All, refl, sym, ap, subst, ◌∙◌, arith, length-append, append_assoc, length-drop}
+use Rattle.std.proofs.Common.{◌≡◌, ℕ, ◌+◌, ◌-◌, ◌≤◌, true, false, nat_eq, List, [], ◌∷◌, ◌++◌, length, take, drop, slice_range, refl, sym, ap, ◌∙◌, arith, length-drop}
 use Rattle.std.proofs.lemmas.List.{append-nil, drop-append-le, take-append-le, take-append-drop, map-append}
 use Rattle.std.proofs.Math.Seq.{drop-append_seam, take-append_seam, take-append-add}
 use Rattle.std.proofs.lemmas.Slice.Eq.{bytes_eq-Decides}
 use Rattle.std.specs.Str.{bytes_eq}
-use Rattle.std.specs.List.{AllByRecursion, starts_with}
+use Rattle.std.specs.List.{starts_with}
 use Rattle.liberty_text.specs.declared.token.Token.{Token}
 use Rattle.liberty_text.specs.declared.token.Stop.{Stop}
 use Rattle.liberty_text.specs.Tokens.{Lexes}
-use Rattle.liberty_text.specs.TokenLaws.{IsInside}
-use Rattle.liberty_text.proofs.Places.{Inside, inside, wider}
+use Rattle.liberty_text.proofs.Places.{inside, wider}
 use Rattle.liberty_groups.specs.Lexeme.{Lexeme, lexeme_of, lexemes_of, LieInside}
 use Rattle.liberty_groups.proofs.Inside.{by_recursion}
 

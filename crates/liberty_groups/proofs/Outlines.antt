@@ -1,8 +1,6 @@
 -- The grammar of a library leads from its name to its end.
-use Rattle.std.proofs.Common.{◌≡◌, ◌≢◌, ℕ, zero, suc, ◌+◌, ◌<◌, ◌==◌, nat_lt, Bool, true, false, not, List, [], ◌∷◌, ◌++◌, Option, Some, None, refl, sym, ap, subst, ◌∙◌, arith, cond, add-one}
+use Rattle.std.proofs.Common.{◌≡◌, ◌≢◌, ℕ, zero, suc, ◌+◌, ◌<◌, ◌==◌, nat_lt, Bool, true, false, not, List, [], ◌∷◌, ◌++◌, Option, Some, None, refl, ap, subst, ◌∙◌, arith, cond, add-one}
 use Rattle.std.proofs.lemmas.Bool.Decides.{nat_tests}
-use Rattle.liberty_text.specs.declared.token.Token.{Token}
-use Rattle.liberty_text.specs.declared.token.TokenKind.{TokenKind}
 use Rattle.grammar_rules.specs.Rule.{Rule, Verdict, Fits, Foul, Misfit, Stops, Takes}
 use Rattle.grammar_rules.specs.Rule as r
 use Rattle.liberty_groups.specs.declared.fault.Expected.TheVariants as expected
@@ -20,11 +18,10 @@ use Rattle.liberty_groups.specs.declared.tree.Item.{Item}
 use Rattle.liberty_groups.specs.declared.tree.Item.TheVariants as item
 use Rattle.liberty_groups.specs.declared.tree.Value.{Value as Part}
 use Rattle.liberty_groups.specs.Lexeme.{Lexeme}
-use Rattle.liberty_groups.specs.Grammar.{Grammar, ◌>>=◌, is_mark, only_mark, expect, part_at, parts, arguments, goes_on, is_argument, is_value, ends_by, ends_value, end_at, value_end, more_value, no_value, value, colon, simple, start_by, begun_by, starts, one_more, some_statements, statements, opens, group_of, complex_or_group, bracketed, after_name, body, statement}
+use Rattle.liberty_groups.specs.Grammar.{Grammar, ◌>>=◌, is_mark, only_mark, expect, part_at, parts, arguments, goes_on, is_value, ends_value, end_at, value_end, more_value, no_value, value, colon, simple, start_by, begun_by, starts, one_more, some_statements, statements, opens, group_of, complex_or_group, bracketed, after_name, body, statement}
 use Rattle.liberty_groups.specs.Library.{Found, nothing_found, counted, levels_inside, is_library_name, library_name, header, telling, counted_statement, counting, contents, rest_of_library, library}
-use Rattle.liberty_groups.specs.Outline as outline
-use Rattle.liberty_groups.specs.Outline.{at_mark, in_arguments, at_statement, among_statements, at_group, after_end}
-use Rattle.liberty_groups.proofs.Guides.{Fate, fate_of, next, Follows, Leads, Judges, Passes, Begins, IsOpen, step_same, leads_then, leads_marked, leads_token, leads_peek, leads_choice, leads_many, leads_last}
+use Rattle.liberty_groups.specs.Outline.{at_mark, in_arguments, among_statements, after_end}
+use Rattle.liberty_groups.proofs.Guides.{next, Leads, Judges, Passes, Begins, IsOpen, step_same, leads_then, leads_marked, leads_token, leads_peek, leads_choice, leads_many, leads_last}
 
 -- a test that did not pass
 pub failed : {A K : Type 0} (b : Bool) (v : Verdict A K) → cond b (Some v) None ≡ None → b ≡ false

@@ -1,5 +1,5 @@
 -- One turn of a list of values.
-use Rattle.std.proofs.Common.{◌≡◌, ℕ, zero, suc, ◌+◌, ◌-◌, ◌<◌, Bool, true, false, List, [], ◌∷◌, ◌++◌, Option, Some, None, Result, Ok, Err, refl, sym, ap, ◌∙◌, arith}
+use Rattle.std.proofs.Common.{◌≡◌, ℕ, zero, suc, ◌+◌, ◌-◌, ◌<◌, true, false, List, [], ◌∷◌, ◌++◌, Some, None, Ok, refl, ap, ◌∙◌, arith}
 use Rattle.liberty_text.specs.declared.token.Token.{Token}
 use Rattle.grammar_rules.specs.Rule.{Gives}
 use Rattle.grammar_rules.specs.Reading.{Outcome, repeat, read}

@@ -1,18 +1,18 @@
 -- The tokens of written statements are read as those statements.
-use Rattle.std.proofs.Common.{◌≡◌, ◌≢◌, ℕ, zero, suc, ◌+◌, ◌-◌, ◌==◌, ◌&&◌, Bool, true, false, not, List, [], ◌∷◌, ◌++◌, length, slice_range, map, Option, Some, None, Result, Ok, Err, refl, sym, ap, subst, ◌∙◌, arith, append_assoc, length-append}
+use Rattle.std.proofs.Common.{◌≡◌, ℕ, suc, ◌+◌, ◌-◌, ◌==◌, Bool, true, false, List, [], ◌∷◌, ◌++◌, length, map, Some, Ok, refl, sym, ap, ◌∙◌, arith, append_assoc, length-append}
 use Rattle.std.proofs.lemmas.List.{append-nil}
 use Rattle.std.proofs.lemmas.Bool.Decides.{nat_tests}
 use Rattle.std.specs.List.{list_all}
-use Rattle.liberty_text.specs.declared.token.TokenKind.TheVariants.{Word, Text, Brace, Colon, Semicolon, Comma}
+use Rattle.liberty_text.specs.declared.token.TokenKind.TheVariants.{Text, Brace, Colon, Semicolon, Comma}
 use Rattle.liberty_text.specs.Scanner.{token}
 use Rattle.liberty_text.specs.TextValue.{quoted, value_of}
 use Rattle.liberty_text.proofs.Quoting.{quotes_read_back}
 use Rattle.grammar_rules.specs.Rule.{Rule, Verdict, Fits, Stops}
 use Rattle.grammar_rules.specs.Rule as r
-use Rattle.grammar_rules.specs.Reading.{Outcome, and_then, read}
+use Rattle.grammar_rules.specs.Reading.{read}
 use Rattle.grammar_rules.proofs.Steps.{ok_pair, and_then_at}
 use Rattle.grammar_rules.proofs.Exact.{parts_shrink}
-use Rattle.grammar_rules.proofs.Turns.{turns, turn, ends}
+use Rattle.grammar_rules.proofs.Turns.{turn, ends}
 use Rattle.liberty_groups.specs.declared.fault.Expected.TheVariants as expected
 use Rattle.liberty_groups.specs.declared.fault.Refusal.{Refusal}
 use Rattle.liberty_groups.specs.declared.fault.Refusal.TheVariants.{Syntax}
@@ -23,10 +23,10 @@ use Rattle.liberty_groups.specs.declared.tree.Value.{Value}
 use Rattle.liberty_groups.specs.declared.tree.Item.{Item}
 use Rattle.liberty_groups.specs.declared.tree.Item.TheVariants as item
 use Rattle.liberty_groups.specs.Lexeme.{Lexeme}
-use Rattle.liberty_groups.specs.Grammar.{Grammar, ◌>>=◌, between_quotes, part_by, part_of, part_at, parts, expect, arguments, value_end, more_value, no_value, value, simple, starts, one_more, some_statements, statements, group_of, complex_or_group, bracketed, body, after_name, statement, goes_on}
+use Rattle.liberty_groups.specs.Grammar.{◌>>=◌, between_quotes, part_of, part_at, parts, expect, arguments, value_end, more_value, no_value, value, simple, some_statements, statements, group_of, complex_or_group, bracketed, body, statement, goes_on}
 use Rattle.liberty_groups.specs.Writing.{value_text, is_quotable, as_quoted}
 use Rattle.liberty_groups.proofs.Cuts.{word_slice, and_splits}
-use Rattle.liberty_groups.proofs.Spelling.{lexeme, mark_at, text_at, values_at, quotable}
+use Rattle.liberty_groups.proofs.Spelling.{mark_at, text_at, values_at, quotable}
 
 inner_quotes : (v : Value) → between_quotes (value_text v) ≡ quoted v.bytes
 inner_quotes v =
@@ -43,7 +43,6 @@ part_back v n l h = ap (λ (b : List ℕ). record { bytes = b; quoted = true } �
 -- texts and commas go on at this place
 abbrev Takes_values : Place → Type 0
 Takes_values p = ((n e : ℕ) → goes_on p (token Text n e false) ≡ true) × ((n e : ℕ) → goes_on p (token Comma n e false) ≡ true)
-
 
 text_turn : (p : Place) (v : Value) (n : ℕ) (found : List Value) (rest : List Lexeme) → Takes_values p → is_quotable v ≡ true →
     read (parts p found) (text_at n false v ∷ rest) ≡ read (parts p (found ++ as_quoted v ∷ [])) rest
@@ -94,7 +93,7 @@ back_value (v ∷ vs) n m l more h =
     let rest = values_at false vs (n + length (value_text v)) ++ (mark_at Semicolon 59 m l ∷ more) in
     ap (λ (part : List Value). read (more_value part) rest) (part_back v n false i.0)
     ∙ and_then_at (read (parts place.Value (as_quoted v ∷ [])) rest) (λ found t. read (value_end place.Value >>= λ _. r.Gives found) t) (as_quoted v ∷ map as_quoted vs) (mark_at Semicolon 59 m l ∷ more)
-        (back_parts place.Value false vs (n + length (value_text v)) (as_quoted v ∷ []) (mark_at Semicolon 59 m l ∷ more) (λ n e. refl, λ n e. refl) i.1 refl)
+    (back_parts place.Value false vs (n + length (value_text v)) (as_quoted v ∷ []) (mark_at Semicolon 59 m l ∷ more) (λ n e. refl, λ n e. refl) i.1 refl)
 
 pub back_simple : (levels : ℕ) (name : List ℕ) (at : ℕ) (vs : List Value) (c n m : ℕ) (k l : Bool) (more : List Lexeme) → list_all is_quotable vs ≡ true →
     read (statement levels name at) (mark_at Colon 58 c k ∷ (values_at true vs n ++ (mark_at Semicolon 59 m l ∷ more)))
@@ -126,13 +125,13 @@ some_level n = grind (arith, nat_tests)
 pub back_group : (levels : ℕ) (name : List ℕ) (at : ℕ) (vs : List Value) (c n m e : ℕ) (k l j : Bool) (B : List Lexeme) (found : List Item) (f : ℕ) (i : Bool) (more : List Lexeme) → list_all is_quotable vs ≡ true →
     read (some_statements (statement levels) []) (B ++ (mark_at (Brace 125) 125 f i ∷ more)) ≡ Ok (found, mark_at (Brace 125) 125 f i ∷ more) →
     read (statement (suc levels) name at)
-        (mark_at (Brace 40) 40 c k ∷ (values_at true vs n ++ (mark_at (Brace 41) 41 m l ∷ mark_at (Brace 123) 123 e j ∷ (B ++ (mark_at (Brace 125) 125 f i ∷ more)))))
+    (mark_at (Brace 40) 40 c k ∷ (values_at true vs n ++ (mark_at (Brace 41) 41 m l ∷ mark_at (Brace 123) 123 e j ∷ (B ++ (mark_at (Brace 125) 125 f i ∷ more)))))
     ≡ Ok (group_of name (map as_quoted vs) found at, more)
 unfolding complex_or_group body
 back_group levels name at vs c n m e k l j B found f i more h items =
     let rest = B ++ (mark_at (Brace 125) 125 f i ∷ more) in
     let inside : read (statements (statement levels)) rest ≡ Ok (found, more) =
-        and_then_at (read (some_statements (statement levels) []) rest) (λ items t. read (expect mark.End (Syntax expected.Statement) >>= λ _. r.Gives items) t) found (mark_at (Brace 125) 125 f i ∷ more) items in
+    and_then_at (read (some_statements (statement levels) []) rest) (λ items t. read (expect mark.End (Syntax expected.Statement) >>= λ _. r.Gives items) t) found (mark_at (Brace 125) 125 f i ∷ more) items in
     back_bracketed (suc levels) name at vs c n m k l (mark_at (Brace 123) 123 e j ∷ rest) h
     ∙ rw (some_level levels)
-        (and_then_at (read (statements (statement levels)) rest) (λ items t. read (r.Gives {K = Refusal} (group_of name (map as_quoted vs) items at)) t) found more inside)
+    (and_then_at (read (statements (statement levels)) rest) (λ items t. read (r.Gives {K = Refusal} (group_of name (map as_quoted vs) items at)) t) found more inside)

@@ -1,14 +1,13 @@
 -- One turn of the statements of a group.
-use Rattle.std.proofs.Common.{◌≡◌, ◌≢◌, ℕ, zero, suc, ◌+◌, ◌-◌, ◌<◌, Bool, true, false, List, [], ◌∷◌, ◌++◌, Option, Some, None, Result, Ok, Err, refl, sym, ap, subst, ◌∙◌, arith}
-use Rattle.grammar_rules.specs.Reading.{Outcome, and_then, repeat, read}
+use Rattle.std.proofs.Common.{◌≡◌, ◌≢◌, ℕ, zero, suc, ◌+◌, ◌-◌, ◌<◌, List, [], ◌∷◌, ◌++◌, Result, Ok, Err, refl, sym, ap, subst, ◌∙◌, arith}
+use Rattle.grammar_rules.specs.Reading.{Outcome, repeat, read}
 use Rattle.liberty_groups.specs.declared.fault.Refusal.{Refusal}
 use Rattle.liberty_groups.specs.declared.fault.Stop.{Stop}
 use Rattle.liberty_groups.specs.declared.fault.Stop.TheVariants.{Refused, Memory}
-use Rattle.liberty_groups.specs.declared.reader.Start.{Start}
 use Rattle.liberty_groups.specs.declared.reader.Start.TheVariants as start
 use Rattle.liberty_groups.specs.declared.tree.Item.{Item}
 use Rattle.liberty_groups.specs.Lexeme.{Lexeme, next_bytes, rest}
-use Rattle.liberty_groups.specs.Grammar.{Grammar, starts, start_by, one_more, next_start, next_at, body, statement, statements, Reads}
+use Rattle.liberty_groups.specs.Grammar.{Grammar, starts, one_more, next_start, next_at, body, statement, statements, Reads}
 
 -- so many more turns of statements
 abbrev pub statement_turns : (List ℕ → ℕ → Grammar Item) → ℕ → List Item → List Lexeme → Outcome Lexeme Refusal (List Item)

@@ -1,6 +1,5 @@
 -- The grammar of Liberty texts over tokens (Liberty Reference Manual, general syntax of a library file).
-use Rattle.std.specs.Prelude.{◌≡◌, ℕ, zero, suc, ◌++◌, Bool, true, false, not, ◌||◌, ◌&&◌, ◌==◌, ◌-◌, length, slice_range, if◌then◌else◌, List, [], ◌∷◌, Option, Some, None, Result, Ok, Err, codes}
-use Rattle.std.specs.Str.{bytes_eq}
+use Rattle.std.specs.Prelude.{◌≡◌, ℕ, zero, suc, ◌++◌, Bool, true, false, not, ◌||◌, ◌&&◌, ◌==◌, ◌-◌, length, slice_range, if◌then◌else◌, List, [], ◌∷◌, Option, Some, None, Result, Ok, Err}
 use Rattle.liberty_text.specs.declared.token.Token.{Token}
 use Rattle.liberty_text.specs.declared.token.TokenKind.{TokenKind}
 use Rattle.liberty_text.specs.declared.token.TokenKind.TheVariants as kind
@@ -8,10 +7,9 @@ use Rattle.liberty_text.specs.TextValue.{value_of}
 use Rattle.grammar_rules.specs.Rule.{Rule, Verdict, Fits, Misfit, Takes}
 use Rattle.grammar_rules.specs.Rule as r
 use Rattle.grammar_rules.specs.Reading.{Outcome}
-use Rattle.liberty_groups.specs.declared.fault.Expected.{Expected}
 use Rattle.liberty_groups.specs.declared.fault.Expected.TheVariants as expected
 use Rattle.liberty_groups.specs.declared.fault.Refusal.{Refusal}
-use Rattle.liberty_groups.specs.declared.fault.Refusal.TheVariants.{Syntax, TooDeep, NotLibrary}
+use Rattle.liberty_groups.specs.declared.fault.Refusal.TheVariants.{Syntax, TooDeep}
 use Rattle.liberty_groups.specs.declared.fault.Stop.{Stop}
 use Rattle.liberty_groups.specs.declared.fault.Stop.TheVariants.{Refused, Memory}
 use Rattle.liberty_groups.specs.declared.reader.Place.{Place}

@@ -1,5 +1,5 @@
 -- Tokens with the bytes that spell them: what the grammar of Liberty texts reads.
-use Rattle.std.specs.Prelude.{◌≡◌, ℕ, ◌≤◌, List, [], ◌∷◌, length, map, slice_range, Option, Some, None}
+use Rattle.std.specs.Prelude.{ℕ, ◌≤◌, List, [], ◌∷◌, length, map, slice_range, Option, Some, None}
 use Rattle.liberty_text.specs.declared.token.Token.{Token}
 
 pub record Lexeme : Type 0 where

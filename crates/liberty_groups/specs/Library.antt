@@ -1,9 +1,6 @@
 -- The library: what is read of it, and what stops a reading (Liberty Reference Manual, the `library` group).
-use Rattle.std.specs.Prelude.{◌≡◌, ◌⊎◌, ℕ, ◌+◌, ◌++◌, Bool, true, false, not, ◌||◌, ◌&&◌, ◌==◌, if◌then◌else◌, List, [], ◌∷◌, length, Option, Some, None, Result, Ok, Err, codes}
+use Rattle.std.specs.Prelude.{◌≡◌, ℕ, ◌++◌, Bool, true, false, ◌&&◌, if◌then◌else◌, List, [], ◌∷◌, Option, Some, None, Result, Ok, Err, codes}
 use Rattle.std.specs.Str.{bytes_eq}
-use Rattle.std.specs.List.{starts_with}
-use Rattle.std.specs.Prelude.{nat_eq}
-use Rattle.liberty_text.specs.declared.token.Token.{Token}
 use Rattle.liberty_text.specs.declared.token.TokenKind.{TokenKind}
 use Rattle.liberty_text.specs.declared.token.TokenKind.TheVariants as kind
 use Rattle.grammar_rules.specs.Rule.{Rule, Verdict, Fits, Misfit, Takes, Refuses}
@@ -11,13 +8,13 @@ use Rattle.grammar_rules.specs.Rule as r
 use Rattle.grammar_rules.specs.Reading.{Outcome}
 use Rattle.liberty_groups.specs.declared.fault.Expected.TheVariants as expected
 use Rattle.liberty_groups.specs.declared.fault.Refusal.{Refusal}
-use Rattle.liberty_groups.specs.declared.fault.Refusal.TheVariants.{Syntax, TooDeep, NotLibrary}
+use Rattle.liberty_groups.specs.declared.fault.Refusal.TheVariants.{Syntax, NotLibrary}
 use Rattle.liberty_groups.specs.declared.fault.Stop.{Stop}
 use Rattle.liberty_groups.specs.declared.fault.Stop.TheVariants.{Refused, Memory}
 use Rattle.liberty_groups.specs.declared.reader.Mark.TheVariants as mark
 use Rattle.liberty_groups.specs.declared.tree.Value.{Value}
 use Rattle.liberty_groups.specs.declared.tree.Item.{Item, out-Item}
-use Rattle.liberty_groups.specs.declared.tree.Item.TheOpen.{Item-F, Group-F}
+use Rattle.liberty_groups.specs.declared.tree.Item.TheOpen.{Item-F}
 use Rattle.liberty_groups.specs.declared.tree.Group.{Group, out-Group}
 use Rattle.liberty_groups.specs.declared.contents.UnitLine.{UnitLine}
 use Rattle.liberty_groups.specs.declared.contents.Contents.{Contents}

@@ -1,5 +1,5 @@
 -- The outline of a library text: where its next token stands, without the tree of its groups.
-use Rattle.std.specs.Prelude.{ℕ, zero, suc, ◌+◌, Bool, true, false, List, [], ◌∷◌, Option, Some, None, option_and_then, is_some, if◌then◌else◌, nat_lt}
+use Rattle.std.specs.Prelude.{ℕ, zero, suc, ◌+◌, Bool, List, [], ◌∷◌, Option, Some, None, option_and_then, is_some, if◌then◌else◌, nat_lt}
 use Rattle.liberty_groups.specs.declared.outline.Standing.{Standing}
 use Rattle.liberty_groups.specs.declared.outline.Standing.TheVariants.{Start, AfterLibrary, HeadArguments, AfterHead, Statements, AfterName, Arguments, AfterArguments, ValueStart, Value, Done}
 use Rattle.liberty_groups.specs.declared.reader.Mark.TheVariants as mark

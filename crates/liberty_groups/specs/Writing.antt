@@ -77,6 +77,10 @@ writable_group g levels =
 abbrev pub is_writable : ℕ → Group → Bool
 is_writable levels group = fold-Group (ℕ → Bool) (ℕ → Bool) writable_item writable_group group levels
 
+-- the same of one statement
+abbrev pub item_is_writable : ℕ → Item → Bool
+item_is_writable levels x = fold-Item (ℕ → Bool) (ℕ → Bool) writable_item writable_group x levels
+
 abbrev pub as_quoted : Value → Value
 as_quoted v = record { bytes = v.bytes; quoted = true }
 
@@ -110,3 +114,14 @@ pub record ReadsBack (levels : ℕ) (g : Group) : Type 0 where
 
 abbrev pub WritingReadsBack : Type 0
 WritingReadsBack = (levels : ℕ) (g : Group) → is_writable levels g ≡ true → ReadsBack levels g
+
+-- What a group and a statement of each form need to be written.
+pub record WritableParts : Type 0 where
+  pub group : (levels : ℕ) (name : List ℕ) (arguments : List Value) (items : List Item) (at : ℕ) →
+      is_writable levels (roll-Group (record { name = name; arguments = arguments; items = items; at = at }))
+      ≡ (not (levels == 0) && (is_name name && (list_all is_quotable arguments && list_all (item_is_writable (levels - 1)) items)))
+  pub simple : (levels : ℕ) (name : List ℕ) (value : List Value) (at : ℕ) →
+      item_is_writable levels (item.Simple name value at) ≡ (is_name name && list_all is_quotable value)
+  pub complex : (levels : ℕ) (name : List ℕ) (arguments : List Value) (at : ℕ) →
+      item_is_writable levels (item.Complex name arguments at) ≡ (is_name name && list_all is_quotable arguments)
+  pub inner : (levels : ℕ) (g : Group) → item_is_writable levels (item.Inner g) ≡ is_writable levels g

@@ -13,6 +13,6 @@ mod write;
 
 pub use contents::UnitLine;
 pub use fault::{Expected, LibraryFault, Memory};
-pub use read::{End, Reading, read_library};
+pub use read::{End, Reading, one_reading, read_library};
 pub use tree::{Group, Item, Value};
-pub use write::write_group;
+pub use write::{writable_parts, write_group, writing_reads_back};

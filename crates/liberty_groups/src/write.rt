@@ -1,8 +1,8 @@
 //! Groups to Liberty text.
 
-ghost use Rattle.std.specs.Prelude.{◌≡◌, ◌++◌, true, OnOk, IfOk};
+ghost use Rattle.std.specs.Prelude.{◌≡◌, ◌++◌, true, OnOk, IfOk, IsTrue};
 ghost use Rattle.liberty_text.specs.TextValue.{quoted};
-ghost use Rattle.liberty_groups.specs.Writing.{value_text, values_text, simple_text, complex_text, head_text, item_text, items_text, group_text};
+ghost use Rattle.liberty_groups.specs.Writing.{value_text, values_text, simple_text, complex_text, head_text, item_text, items_text, group_text, is_writable, WritingReadsBack, WritableParts};
 
 use crate::fault::Memory;
 use crate::tree::{Group, Item, Value};
@@ -102,11 +102,30 @@ fn push_group(out: &mut Vec<u8>, group: &Group) -> Result<(), Memory>
     Ok(())
 }
 
-/// The text of a group, one statement per line, every value quoted.
+/// The text of a group, one statement per line, every value quoted, with a backslash before each quote
+/// in it.
+///
+/// It needs names that are Words, values that hold no line feed and do not end in a backslash, and at
+/// most 32 groups open inside one another: then `writing_reads_back` holds of the text.
 pub fn write_group(alloc: Global, group: &Group) -> Result<Vec<u8>, Memory>
+    requires { IsTrue (is_writable 32 group.now) }
     ensures { IfOk result (λ text. text.items ≡ group_text group.now) }
 {
     let mut out = Vec::new(alloc);
     push_group(&mut out, group)?;
     Ok(out)
 }
+
+/// A law: the text of a group that can be written is read again as that group, but for offsets and
+/// quotes.
+pub fn writing_reads_back()
+    ensures { WritingReadsBack }
+{}
+
+/// A law: what a group and a statement of each form need to be written.
+pub fn writable_parts()
+    ensures { WritableParts }
+{}
+
+#[cfg(test)]
+mod tests;

@@ -1,4 +1,4 @@
-use Rattle.std.proofs.Common.{◌≡◌, ◌∙◌, arith}
+use Rattle.std.proofs.Common.{arith}
 use Rattle.std.proofs.lemmas.Grind.{common_steps}
 use Rattle.liberty_groups.proofs.Texts.{group_text_is}
 use Rattle.liberty_groups.proofs.write.+writing.Goals as goal

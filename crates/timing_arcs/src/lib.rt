@@ -24,3 +24,6 @@ pub use laws::{
 };
 pub use pin_timing::read_timing;
 pub use subject::{PinTiming, Subject};
+
+#[cfg(test)]
+mod tests;

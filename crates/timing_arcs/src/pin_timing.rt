@@ -1,7 +1,6 @@
 //! Reading the timing of a pin.
 ghost use Rattle.std.specs.Prelude.{◌≡◌, ◌<◌, Ok, length, map, OnOk};
 ghost use Rattle.std.specs.Option.{option_map};
-ghost use Rattle.cell_machine.specs.declared.pins.Pin.{Pin};
 ghost use Rattle.timing_arcs.specs.Adding.{with_noted, with_group, with_items, with_width, with_pulse, nothing_found};
 ghost use Rattle.timing_arcs.specs.Shown.{shown};
 ghost use Rattle.timing_arcs.specs.Timing.{reading_answer, pulse_attribute, Gives};
@@ -108,10 +107,15 @@ fn add_pulse(
     found.add_check(attribute.at, check)
 }
 
-/// Reads the timing of a pin: its checks, its arcs and its left-out timing groups, from its group and its cell.
+/// Reads the timing of a pin from its group: its checks, its arcs and its left-out timing groups, as the Liberty
+/// Reference Manual says of the `timing` group and of `min_pulse_width_high` and `min_pulse_width_low`. Times are in
+/// picoseconds, rounded up; of all tables of one name in a group the greatest entry is taken. The subject's names are
+/// those of its pins in their order.
+///
+/// A fault is answered exactly where something is wrong in a text that is read. The first kind in the order of
+/// `TimingFault` decides, and of it the least offset. `Memory` is answered where memory is wanted and not there.
 pub fn read_timing(alloc: Global, pin: &Group, subject: &Subject) -> Result<PinTiming, TimingFault>
-    requires place { subject.now.place < length subject.now.pins }
-    requires names { subject.now.names ≡ map (λ (p : Pin). p.name) subject.now.pins }
+    requires { subject.now.place < length subject.now.pins }
     ensures { Gives result (reading_answer subject.now pin.now) }
 {
     let mut found = Found::new(alloc);

@@ -42,7 +42,7 @@ impl Cell {
     ghost use Rattle.cell_machine.specs.Supports.{GroupFacts, OutputFacts, CheckFacts};
 
     /// The group with this number.
-    pub(crate) fn group(&self, i: usize) -> &StateGroup
+    pub fn group(&self, i: usize) -> &StateGroup
         requires { i < length self.now.groups }
         ensures is { slice_get self.now.groups i ≡ Some result.now }
         ensures at { slice_index_or self.now.groups i result.now ≡ result.now }
@@ -52,7 +52,7 @@ impl Cell {
     }
 
     /// The name of the state of a group.
-    pub(crate) fn state_name(&self, i: usize) -> usize
+    pub fn state_name(&self, i: usize) -> usize
         requires { i < length self.now.groups }
         ensures name { result ≡ state_name (length self.now.pins) i }
         ensures small { result + 1 < 96 }
@@ -61,7 +61,7 @@ impl Cell {
     }
 
     /// The output with this number among the outputs.
-    pub(crate) fn output_pin(&self, i: usize) -> &OutputPin
+    pub fn output_pin(&self, i: usize) -> &OutputPin
         requires { i < length self.now.outputs }
         ensures is { slice_get self.now.outputs i ≡ Some result.now }
         ensures at { slice_index_or self.now.outputs i result.now ≡ result.now }
@@ -71,7 +71,7 @@ impl Cell {
     }
 
     /// The check with this number.
-    pub(crate) fn check(&self, i: usize) -> &Check
+    pub fn check(&self, i: usize) -> &Check
         requires { i < length self.now.checks }
         ensures is { slice_get self.now.checks i ≡ Some result.now }
         ensures at { slice_index_or self.now.checks i result.now ≡ result.now }
@@ -81,7 +81,7 @@ impl Cell {
     }
 
     /// The arc with this number.
-    pub(crate) fn arc(&self, i: usize) -> &Arc
+    pub fn arc(&self, i: usize) -> &Arc
         requires { i < length self.now.arcs }
         ensures is { slice_get self.now.arcs i ≡ Some result.now }
         ensures at { slice_index_or self.now.arcs i result.now ≡ result.now }

@@ -1,3 +1,4 @@
+pub mod CellData
 pub mod Tables
 pub mod Primitive
 pub mod PortNames

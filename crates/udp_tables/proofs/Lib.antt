@@ -1,3 +1,4 @@
 pub mod TableLemmas
 pub mod GenerationLemmas
 pub mod RowLemmas
+pub mod SequentialRows

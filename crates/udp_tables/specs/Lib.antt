@@ -1,5 +1,10 @@
-pub mod CellData
 pub mod Tables
 pub mod Primitive
 pub mod PortNames
 pub mod Generated
+pub mod Edges
+pub mod Sequential
+pub mod SameTrees
+pub mod CellData
+pub mod Conditions
+pub mod CellPrimitives

@@ -1,0 +1,69 @@
+-- The rows of a step in any language, from the primes of the points at which it gives 1 and 0.
+use Rattle.std.specs.Prelude.{ℕ, zero, suc, Bool, true, false, not, ◌&&◌, ◌||◌, List, [], ◌∷◌, ◌++◌, map, filter, if◌then◌else◌}
+use Rattle.std.specs.List.{list_any}
+use Rattle.trit_cubes.specs.declared.trits.Trit.{Trit}
+use Rattle.trit_cubes.specs.declared.trits.Trit.TheVariants.{Zero, One, Unknown}
+use Rattle.trit_cubes.specs.Filling.{is_unknown, same}
+use Rattle.trit_cubes.specs.Sets.{gives}
+use Rattle.trit_cubes.specs.Prime.{prime_list}
+use Rattle.cell_machine.specs.Machine.{Step, last, edge_value, forced_at}
+use Rattle.udp_tables.specs.Tables.{value_rows}
+
+-- The rows of the points that are forced to 1, and then to 0.
+abbrev pub forced_rows : {R : Type 0} → (Trit → List Trit → R) → ℕ → Step → List R
+forced_rows make n step =
+    value_rows make (prime_list n (gives One (forced_at step))) (prime_list n (gives Zero (forced_at step)))
+
+-- Whether the cube of a change, whose first places are the value before and the value after, has points that change:
+-- these two are not fixed and equal.
+abbrev pub moves : List Trit → Bool
+moves [] = false
+moves (old ∷ []) = false
+moves (old ∷ new ∷ rest) = is_unknown old || not (same old new)
+
+-- At changes of the input at place p of n: the primes over its value before, its value after, the other inputs in order
+-- and the state, of the points at which the step gives this value, less those that do not change.
+abbrev pub edge_cubes : Step → ℕ → ℕ → Trit → List (List Trit)
+edge_cubes step n p value = filter moves (prime_list (suc (suc n)) (gives value (edge_value step p)))
+
+-- the rows of the changes of one input that give 1, and then 0
+abbrev pub edge_rows : {R : Type 0} → (ℕ → Trit → List Trit → R) → Step → ℕ → ℕ → List R
+edge_rows make step n p = value_rows (make p) (edge_cubes step n p One) (edge_cubes step n p Zero)
+
+-- what a function gives of each number below n, in order
+abbrev pub each_below : {R : Type 0} → (ℕ → List R) → ℕ → List R
+each_below rows zero = []
+each_below rows (suc n) = each_below rows n ++ rows n
+
+-- whether two cubes are equal
+abbrev pub same_cube : List Trit → List Trit → Bool
+same_cube [] [] = true
+same_cube (s ∷ ss) (t ∷ ts) = same s t && same_cube ss ts
+same_cube _ _ = false
+
+-- the cube with another last place, that of the state
+abbrev pub with_last : Trit → List Trit → List Trit
+with_last state [] = []
+with_last state (t ∷ []) = state ∷ []
+with_last state (t ∷ u ∷ ts) = t ∷ with_last state (u ∷ ts)
+
+-- A cube with this state is paired where the cubes have the one that is equal to it at all other places and has the other
+-- state.
+abbrev pub is_paired : Trit → Trit → List (List Trit) → List Trit → Bool
+is_paired state other cubes cube =
+    same state (last Unknown cube) && list_any (same_cube (with_last other cube)) cubes
+
+-- a paired cube with state 1 as a row that keeps the state, any other as a row that gives 1
+abbrev pub kept_or_one : {R : Type 0} → (Trit → List Trit → R) → (List Trit → R) → List (List Trit) → List Trit → R
+kept_or_one make keep zeros cube = if is_paired One Zero zeros cube then keep cube else make One cube
+
+-- the rows of two lists of cubes in compact form: two that hold the state are one
+abbrev pub compact_value_rows : {R : Type 0} → (Trit → List Trit → R) → (List Trit → R) → List (List Trit) → List (List Trit) → List R
+compact_value_rows make keep ones zeros =
+    map (kept_or_one make keep zeros) ones ++ map (make Zero) (filter (λ c. not (is_paired Zero One ones c)) zeros)
+
+-- The rows of the changes of one input in compact form: the primes that give 1, those that hold the state without one, and
+-- then the primes that give 0 and are in no pair.
+abbrev pub compact_edge_rows : {R : Type 0} → (ℕ → Trit → List Trit → R) → (ℕ → List Trit → R) → Step → ℕ → ℕ → List R
+compact_edge_rows make keep step n p =
+    compact_value_rows (make p) (keep p) (edge_cubes step n p One) (edge_cubes step n p Zero)

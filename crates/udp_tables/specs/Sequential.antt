@@ -1,0 +1,121 @@
+-- The tables of sequential primitives: what they mean, by IEEE 1364-2005, clause 8, and the rows that this project writes
+-- for a step.
+use Rattle.std.specs.Prelude.{ℕ, Bool, true, false, not, ◌&&◌, List, [], ◌∷◌, ◌++◌, map, replicate}
+use Rattle.std.specs.List.{list_all}
+use Rattle.trit_cubes.specs.declared.trits.Trit.{Trit}
+use Rattle.trit_cubes.specs.declared.trits.Trit.TheVariants as trit
+use Rattle.cell_machine.specs.Machine.{Step, insert, init, last}
+use Rattle.udp_tables.specs.declared.table.Level.{Level}
+use Rattle.udp_tables.specs.declared.table.Level.TheVariants as level
+use Rattle.udp_tables.specs.declared.table.Entry.{Entry}
+use Rattle.udp_tables.specs.declared.table.Entry.TheVariants as entry
+use Rattle.udp_tables.specs.declared.table.Next.TheVariants as next
+use Rattle.udp_tables.specs.declared.table.UdpRow.{UdpRow}
+use Rattle.udp_tables.specs.Tables.{first, columns_match, or_row}
+use Rattle.udp_tables.specs.Primitive.{level_matches, entry_matches, is_level, next_of}
+use Rattle.udp_tables.specs.Generated.{level_entry, next_to}
+use Rattle.udp_tables.specs.Edges.{forced_rows, edge_rows, compact_edge_rows, each_below}
+
+-- Whether the row matches a change of the inputs in this state: its level entries hold the values after, its change entry
+-- the change, and its state column the state. A change entry of an input that does not change matches nothing.
+abbrev pub row_matches : List Trit → List Trit → Trit → UdpRow → Bool
+row_matches before after state row =
+    columns_match entry_matches row.inputs before after && level_matches row.state state
+
+-- whether the row has no change entry
+abbrev pub is_level_row : UdpRow → Bool
+is_level_row row = list_all is_level row.inputs
+
+abbrev pub level_hit : List Trit → List Trit → Trit → UdpRow → Bool
+level_hit before after state row = is_level_row row && row_matches before after state row
+
+abbrev pub edge_hit : List Trit → List Trit → Trit → UdpRow → Bool
+edge_hit before after state row = not (is_level_row row) && row_matches before after state row
+
+-- what a row gives in this state
+abbrev pub row_next : Trit → UdpRow → Trit
+row_next state row = next_of state row.next
+
+-- The next state of a sequential primitive at a change of its inputs: that of the first row of levels that matches, else
+-- of the first row with a change entry that matches, else x.
+abbrev pub udp_next : List UdpRow → List Trit → List Trit → Trit → Trit
+udp_next rows before after state =
+    first (level_hit before after state) (row_next state) rows
+    (first (edge_hit before after state) (row_next state) rows trit.Unknown)
+
+-- the level for a place of a cube: `?` where it is free
+abbrev pub level_symbol : Trit → Level
+level_symbol trit.Zero = level.Zero
+level_symbol trit.One = level.One
+level_symbol trit.Unknown = level.Any
+
+-- the entry for the value before and the value after: `*` where both are free
+abbrev pub edge_entry : Trit → Trit → Entry
+edge_entry trit.Unknown trit.Unknown = entry.Star
+edge_entry trit.Unknown trit.Zero = entry.Pair level.Any level.Zero
+edge_entry trit.Unknown trit.One = entry.Pair level.Any level.One
+edge_entry trit.Zero new = entry.Pair level.Zero (level_symbol new)
+edge_entry trit.One new = entry.Pair level.One (level_symbol new)
+
+-- the entries of the inputs, and that of the notifier last where there is one
+abbrev pub noted : Bool → Entry → List Entry → List Entry
+noted false note entries = entries
+noted true note entries = entries ++ note ∷ []
+
+-- the row that gives this value on the points of a cube, whatever the state and the notifier are
+abbrev pub state_row : Bool → Trit → List Trit → UdpRow
+state_row checks value cube =
+    record {
+      inputs = noted checks (entry.Level level.Any) (map level_entry cube);
+      state = level.Any;
+      next = next_to value;
+    }
+
+-- the row by which each change of the notifier makes the state unknown, unless a row of levels decides
+abbrev pub notifier_rows : Bool → ℕ → List UdpRow
+notifier_rows false n = []
+notifier_rows true n =
+    record {
+      inputs = noted true entry.Star (map level_entry (replicate n trit.Unknown));
+      state = level.Any;
+      next = next.Unknown;
+    }
+    ∷ []
+
+-- the entries of the inputs for the cube of a change of the one at place p
+abbrev pub edge_inputs : ℕ → List Trit → List Entry
+edge_inputs p [] = []
+edge_inputs p (old ∷ []) = []
+edge_inputs p (old ∷ new ∷ rest) = insert p (edge_entry old new) (map level_entry (init rest))
+
+-- the row that gives this value on the points of the cube of a change
+abbrev pub edge_row : Bool → ℕ → Trit → List Trit → UdpRow
+edge_row checks p value cube =
+    record {
+      inputs = noted checks (entry.Level level.Any) (edge_inputs p cube);
+      state = level_symbol (last trit.Unknown cube);
+      next = next_to value;
+    }
+
+-- the row that keeps the state there, whatever it is
+abbrev pub keep_row : Bool → ℕ → List Trit → UdpRow
+keep_row checks p cube =
+    record {
+      inputs = noted checks (entry.Level level.Any) (edge_inputs p cube);
+      state = level.Any;
+      next = next.Keep;
+    }
+
+-- The rows of a step of n inputs: the forced points, the notifier where there is one, and then the rows of the changes of
+-- each input. Where there is no row, one row of free places gives x.
+abbrev pub step_rows : Bool → ℕ → Step → (ℕ → List UdpRow) → List UdpRow
+step_rows checks n step changes =
+    or_row (state_row checks trit.Unknown (replicate n trit.Unknown))
+    (forced_rows (state_row checks) n step ++ notifier_rows checks n ++ each_below changes n)
+
+abbrev pub sequential_rows : Bool → ℕ → Step → List UdpRow
+sequential_rows checks n step = step_rows checks n step (edge_rows (edge_row checks) step n)
+
+-- the same with two rows that hold the state in one
+abbrev pub compact_rows : Bool → ℕ → Step → List UdpRow
+compact_rows checks n step = step_rows checks n step (compact_edge_rows (edge_row checks) (keep_row checks) step n)

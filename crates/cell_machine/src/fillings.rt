@@ -10,151 +10,109 @@ use crate::groups::GroupKind;
 use crate::values::Values;
 use trit_cubes::Trit;
 
+/// How a group's state is made, and the name of the state.
+#[derive(Clone, Copy)]
+pub struct NamedKind<'a> {
+    /// How the state is made.
+    pub kind: &'a GroupKind,
+    /// The name of the state.
+    pub name: usize,
+}
+
+/// The values of the names before a change and after it.
+#[derive(Clone, Copy)]
+struct Sides {
+    before: Values,
+    after: Values,
+}
+
+impl Sides {
+    // The same value for a name on both sides.
+    fn with(self, name: usize, value: bool) -> Sides
+        ensures before { result.before ≡ slice_set self.before name value }
+        ensures after { result.after ≡ slice_set self.after name value }
+    {
+        Sides {
+            before: self.before.with(name, value),
+            after: self.after.with(name, value),
+        }
+    }
+}
+
 // The step for each filling of the state.
-fn state_filled(kind: &GroupKind, name: usize, before: &Values, after: &Values, state: Trit) -> Trit
-    requires name { name < 96 }
-    requires bounded { KindIsBounded kind.now }
-    ensures { result ≡ state_filled kind.now name before.now after.now state }
+fn state_filled(group: NamedKind<'_>, sides: &Sides, state: Trit) -> Trit
+    requires name { group.name < 96 }
+    requires bounded { KindIsBounded group.kind.now }
+    ensures { result ≡ state_filled group.entry.kind.now group.entry.name sides.now.before sides.now.after state }
 {
+    let Sides { before, after } = sides;
     match state {
-        Trit::Zero => kind.step(name, before, after, false),
-        Trit::One => kind.step(name, before, after, true),
+        Trit::Zero => group.kind.step(group.name, before, after, false),
+        Trit::One => group.kind.step(group.name, before, after, true),
         Trit::Unknown => {
-            let zero = kind.step(name, before, after, false);
-            zero.agreed(kind.step(name, before, after, true))
+            let zero = group.kind.step(group.name, before, after, false);
+            zero.agreed(group.kind.step(group.name, before, after, true))
         }
     }
 }
 
 // The step for each filling of the inputs under these names, the same before and after, and of the state.
 fn all_filled(
-    kind: &GroupKind,
-    name: usize,
+    group: NamedKind<'_>,
     names: &[usize],
     trits: &[Trit],
-    before: Values,
-    after: Values,
+    sides: Sides,
     state: Trit,
 ) -> Trit
-    requires name { name < 96 }
-    requires bounded { KindIsBounded kind.now }
+    requires name { group.name < 96 }
+    requires bounded { KindIsBounded group.kind.now }
     requires one_each { length names.now ≡ length trits.now }
-    ensures { result ≡ all_filled kind.now name names.now trits.now before after state }
+    ensures { result ≡ all_filled group.entry.kind.now group.entry.name names.now trits.now sides.before sides.after state }
 {
     let (Some((first, names)), Some((trit, trits))) = (names.split_first(), trits.split_first())
     else {
-        return state_filled(kind, name, &before, &after, state);
+        return state_filled(group, &sides, state);
     };
     let first = *first;
     match *trit {
-        Trit::Zero => all_filled(
-            kind,
-            name,
-            names,
-            trits,
-            before.with(first, false),
-            after.with(first, false),
-            state,
-        ),
-        Trit::One => all_filled(
-            kind,
-            name,
-            names,
-            trits,
-            before.with(first, true),
-            after.with(first, true),
-            state,
-        ),
+        Trit::Zero => all_filled(group, names, trits, sides.with(first, false), state),
+        Trit::One => all_filled(group, names, trits, sides.with(first, true), state),
         Trit::Unknown => {
-            let zero = all_filled(
-                kind,
-                name,
-                names,
-                trits,
-                before.with(first, false),
-                after.with(first, false),
-                state,
-            );
-            zero.agreed(all_filled(
-                kind,
-                name,
-                names,
-                trits,
-                before.with(first, true),
-                after.with(first, true),
-                state,
-            ))
+            let zero = all_filled(group, names, trits, sides.with(first, false), state);
+            zero.agreed(all_filled(group, names, trits, sides.with(first, true), state))
         }
     }
 }
 
 // The same less the name at a place, which is written before.
 fn others_filled(
-    kind: &GroupKind,
-    name: usize,
+    group: NamedKind<'_>,
     place: usize,
     names: &[usize],
     trits: &[Trit],
-    before: Values,
-    after: Values,
+    sides: Sides,
     state: Trit,
 ) -> Trit
-    requires name { name < 96 }
-    requires bounded { KindIsBounded kind.now }
+    requires name { group.name < 96 }
+    requires bounded { KindIsBounded group.kind.now }
     requires one_each { length names.now ≡ length trits.now }
-    ensures { result ≡ all_filled kind.now name (without place names.now) (without place trits.now) before after state }
+    ensures { result ≡ all_filled group.entry.kind.now group.entry.name (without place names.now) (without place trits.now) sides.before sides.after state }
 {
     let (Some((first, names)), Some((trit, trits))) = (names.split_first(), trits.split_first())
     else {
-        return state_filled(kind, name, &before, &after, state);
+        return state_filled(group, &sides, state);
     };
     if place == 0 {
-        return all_filled(kind, name, names, trits, before, after, state);
+        return all_filled(group, names, trits, sides, state);
     }
     let first = *first;
     let place = place - 1;
     match *trit {
-        Trit::Zero => others_filled(
-            kind,
-            name,
-            place,
-            names,
-            trits,
-            before.with(first, false),
-            after.with(first, false),
-            state,
-        ),
-        Trit::One => others_filled(
-            kind,
-            name,
-            place,
-            names,
-            trits,
-            before.with(first, true),
-            after.with(first, true),
-            state,
-        ),
+        Trit::Zero => others_filled(group, place, names, trits, sides.with(first, false), state),
+        Trit::One => others_filled(group, place, names, trits, sides.with(first, true), state),
         Trit::Unknown => {
-            let zero = others_filled(
-                kind,
-                name,
-                place,
-                names,
-                trits,
-                before.with(first, false),
-                after.with(first, false),
-                state,
-            );
-            zero.agreed(others_filled(
-                kind,
-                name,
-                place,
-                names,
-                trits,
-                before.with(first, true),
-                after.with(first, true),
-                state,
-            ))
+            let zero = others_filled(group, place, names, trits, sides.with(first, false), state);
+            zero.agreed(others_filled(group, place, names, trits, sides.with(first, true), state))
         }
     }
 }
@@ -172,65 +130,46 @@ pub struct PinChange {
     pub to: Trit,
 }
 
+// The step where the changed input has this new value.
+fn at_new(
+    group: NamedKind<'_>,
+    change: PinChange,
+    names: &[usize],
+    trits: &[Trit],
+    before: Values,
+    new: bool,
+    state: Trit,
+) -> Trit
+    requires name { group.name < 96 }
+    requires bounded { KindIsBounded group.kind.now }
+    requires one_each { length names.now ≡ length trits.now }
+    ensures { result ≡ all_filled group.entry.kind.now group.entry.name (without change.place names.now) (without change.place trits.now) before (slice_set no_values change.pin new) state }
+{
+    let after = Values::new().with(change.pin, new);
+    let sides = Sides { before, after };
+    others_filled(group, change.place, names, trits, sides, state)
+}
+
 // The step for each filling of the changed input's new value too.
 fn new_filled(
-    kind: &GroupKind,
-    name: usize,
+    group: NamedKind<'_>,
     change: PinChange,
     names: &[usize],
     trits: &[Trit],
     before: Values,
     state: Trit,
 ) -> Trit
-    requires name { name < 96 }
-    requires bounded { KindIsBounded kind.now }
+    requires name { group.name < 96 }
+    requires bounded { KindIsBounded group.kind.now }
     requires one_each { length names.now ≡ length trits.now }
-    ensures { result ≡ over (λ b. all_filled kind.now name (without change.place names.now) (without change.place trits.now) before (slice_set no_values change.pin b) state) change.to }
+    ensures { result ≡ over (λ b. all_filled group.entry.kind.now group.entry.name (without change.place names.now) (without change.place trits.now) before (slice_set no_values change.pin b) state) change.to }
 {
-    let none = Values::new();
-    let place = change.place;
     match change.to {
-        Trit::Zero => others_filled(
-            kind,
-            name,
-            place,
-            names,
-            trits,
-            before,
-            none.with(change.pin, false),
-            state,
-        ),
-        Trit::One => others_filled(
-            kind,
-            name,
-            place,
-            names,
-            trits,
-            before,
-            none.with(change.pin, true),
-            state,
-        ),
+        Trit::Zero => at_new(group, change, names, trits, before, false, state),
+        Trit::One => at_new(group, change, names, trits, before, true, state),
         Trit::Unknown => {
-            let zero = others_filled(
-                kind,
-                name,
-                place,
-                names,
-                trits,
-                before,
-                none.with(change.pin, false),
-                state,
-            );
-            zero.agreed(others_filled(
-                kind,
-                name,
-                place,
-                names,
-                trits,
-                before,
-                none.with(change.pin, true),
-                state,
-            ))
+            let zero = at_new(group, change, names, trits, before, false, state);
+            zero.agreed(at_new(group, change, names, trits, before, true, state))
         }
     }
 }
@@ -238,57 +177,25 @@ fn new_filled(
 /// The step at a change of a pin of the support, for each filling of its values before and after, of the other pins of
 /// the support, and of the state.
 pub fn change_filled(
-    kind: &GroupKind,
-    name: usize,
+    group: NamedKind<'_>,
     change: PinChange,
     names: &[usize],
     trits: &[Trit],
     state: Trit,
 ) -> Trit
-    requires name { name < 96 }
-    requires bounded { KindIsBounded kind.now }
+    requires name { group.name < 96 }
+    requires bounded { KindIsBounded group.kind.now }
     requires one_each { length names.now ≡ length trits.now }
-    ensures { result ≡ change_filled kind.now name change.pin change.from change.to (without change.place names.now) (without change.place trits.now) state }
+    ensures { result ≡ change_filled group.entry.kind.now group.entry.name change.pin change.from change.to (without change.place names.now) (without change.place trits.now) state }
 {
-    let none = Values::new();
+    let low = Values::new().with(change.pin, false);
+    let high = Values::new().with(change.pin, true);
     match change.from {
-        Trit::Zero => new_filled(
-            kind,
-            name,
-            change,
-            names,
-            trits,
-            none.with(change.pin, false),
-            state,
-        ),
-        Trit::One => new_filled(
-            kind,
-            name,
-            change,
-            names,
-            trits,
-            none.with(change.pin, true),
-            state,
-        ),
+        Trit::Zero => new_filled(group, change, names, trits, low, state),
+        Trit::One => new_filled(group, change, names, trits, high, state),
         Trit::Unknown => {
-            let zero = new_filled(
-                kind,
-                name,
-                change,
-                names,
-                trits,
-                none.with(change.pin, false),
-                state,
-            );
-            zero.agreed(new_filled(
-                kind,
-                name,
-                change,
-                names,
-                trits,
-                none.with(change.pin, true),
-                state,
-            ))
+            let zero = new_filled(group, change, names, trits, low, state);
+            zero.agreed(new_filled(group, change, names, trits, high, state))
         }
     }
 }

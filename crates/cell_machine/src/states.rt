@@ -9,7 +9,7 @@ ghost use Rattle.cell_machine.specs.CellTrace.{place_in, moved, violated, state_
 
 use crate::cells::Cell;
 use crate::changes::Change;
-use crate::fillings::{PinChange, change_filled, forced_filled};
+use crate::fillings::{NamedKind, PinChange, change_filled, forced_filled};
 use crate::pin_values::{SupportValues, input_number};
 use crate::pins::Pin;
 use sqlite_items::Items;
@@ -43,14 +43,11 @@ fn moved(cell: &Cell, i: usize, inputs: &[Trit], from: Trit, change: Change, sta
         from,
         to: change.to,
     };
-    change_filled(
-        &group.kind,
-        cell.state_name(i),
-        change,
-        support,
-        values.as_slice(),
-        state,
-    )
+    let named = NamedKind {
+        kind: &group.kind,
+        name: cell.state_name(i),
+    };
+    change_filled(named, change, support, values.as_slice(), state)
 }
 
 // The state of a group where some check reports.

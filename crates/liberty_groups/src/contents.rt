@@ -25,7 +25,7 @@ pub struct Contents {
 }
 
 /// The text of a simple attribute with these values.
-fn one_text(alloc: Global, mut values: Items<Value>) -> Items<u8>
+pub fn one_text(alloc: Global, mut values: Items<Value>) -> Items<u8>
     ensures { result ≡ one_text values }
 {
     let last = values.pop();

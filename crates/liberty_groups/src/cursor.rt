@@ -1,17 +1,20 @@
 //! A cursor over the tokens of a text.
 
-ghost use Rattle.std.specs.Prelude.{◌≡◌, ◌<◌, length};
-ghost use Rattle.liberty_groups.specs.Lexeme.{lexemes_of, LieInside, next_token, next_bytes, rest};
+ghost use Rattle.std.specs.Prelude.{◌≡◌, ◌<◌, ◌+◌, ◌^◌, length};
+ghost use Rattle.liberty_groups.specs.Lexeme.{lexemes_of, lexemes_behind, LieInside, next_token, next_bytes, rest};
 ghost use Rattle.liberty_groups.specs.Answer.{is_last};
 
 use liberty_text::Token;
 use std::marker::Model;
 
-/// The tokens of a text that are not read yet.
+/// The tokens of a text, or of a part of it, that are not read yet. It shows them with the offsets of
+/// the whole text.
 #[derive(Drop)]
 pub struct Cursor<'a> {
     text: &'a [u8],
     left: &'a [Token],
+    /// How many bytes stand before the part.
+    before: usize,
 }
 
 impl<'a> Model for Cursor<'a> {
@@ -32,7 +35,24 @@ impl<'a> Cursor<'a> {
         requires { LieInside text.now tokens.now }
         ensures { result ≡ lexemes_of text.now tokens.now }
     {
-        Cursor { text, left: tokens }
+        Cursor {
+            text,
+            left: tokens,
+            before: 0,
+        }
+    }
+
+    /// The tokens of a part of a text, before which so many bytes stand.
+    pub fn behind(before: usize, text: &'a [u8], tokens: &'a [Token]) -> Cursor<'a>
+        requires inside { LieInside text.now tokens.now }
+        requires fits { before + length text.now < 2 ^ 64 }
+        ensures { result ≡ lexemes_behind before text.now tokens.now }
+    {
+        Cursor {
+            text,
+            left: tokens,
+            before,
+        }
     }
 
     pub fn left(&self) -> usize
@@ -45,7 +65,12 @@ impl<'a> Cursor<'a> {
         ensures { result ≡ next_token self.now }
     {
         match self.left {
-            [first, ..] => Some(*first),
+            [first, ..] => Some(Token {
+                kind: first.kind,
+                at: first.at + self.before,
+                end: first.end + self.before,
+                line_before: first.line_before,
+            }),
             [] => None,
         }
     }

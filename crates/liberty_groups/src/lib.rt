@@ -11,8 +11,11 @@ mod reader;
 mod tree;
 mod write;
 
-pub use contents::UnitLine;
-pub use fault::{Expected, LibraryFault, Memory};
-pub use read::{End, Reading, one_reading, read_library};
+pub use contents::{UnitLine, one_text};
+pub use cursor::Cursor;
+pub use fault::{Expected, LibraryFault, Memory, Refusal, Stop, fault_at, lexical_fault};
+pub use library::LEVELS_INSIDE;
+pub use read::{End, Halt, Reading, fault_of, one_reading, read_library};
+pub use reader::{Mark, Start};
 pub use tree::{Group, Item, Value};
 pub use write::{writable_parts, write_group, writing_reads_back};

@@ -29,7 +29,7 @@ impl Cursor<'_> {
 
     /// The name of the library, its arguments and the brace that opens it.
     #[tactic(auto, unfolding(crate::specs::Library::header))]
-    fn header(&mut self, alloc: Global) -> Result<(), Stop>
+    pub fn header(&mut self, alloc: Global) -> Result<(), Stop>
         ensures { Reads (read header self.old) result self.new }
     {
         if !self.sees_library() {

@@ -39,7 +39,7 @@ pub enum End {
 
 /// Where the tokens of a library halt.
 #[derive(Clone, Copy, Debug, PartialEq, Eq)]
-enum Halt {
+pub enum Halt {
     /// They are a library.
     Whole,
     /// They end too early.
@@ -61,7 +61,7 @@ fn may_become_other(is_only: bool, word: &[u8]) -> bool
 
 impl Cursor<'_> {
     /// Whether the next token is refused only because the bytes, of this length, end in it.
-    fn is_unfinished(&self, len: usize, is_only: bool) -> bool
+    pub fn is_unfinished(&self, len: usize, is_only: bool) -> bool
         ensures { result ≡ is_unfinished len is_only self.now }
     {
         match self.peek() {
@@ -147,7 +147,8 @@ fn may_go_on(alloc: Global, bytes: &[u8], halt: Halt, stop: TextStop) -> Result<
     }
 }
 
-fn fault_of(len: usize, halt: Halt, stop: TextStop) -> Option<LibraryFault>
+/// The first fault of a text of this length that halts and stops so.
+pub fn fault_of(len: usize, halt: Halt, stop: TextStop) -> Option<LibraryFault>
     ensures { result ≡ fault_of len halt stop }
 {
     match halt {

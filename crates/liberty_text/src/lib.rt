@@ -14,7 +14,7 @@ mod token;
 pub use decimal::{Fixed, NumberFault};
 pub use laws::{one_reading, tokens_cover};
 pub use number::fixed;
-pub use scanner::{scan, tokens};
+pub use scanner::{Mode, Scanner, scan, tokens};
 pub use text::{one_value, quotes_read_back, text_value};
 pub use time::{Unit, picoseconds};
 pub use token::{Memory, Scan, Stop, TextFault, Token, TokenKind};

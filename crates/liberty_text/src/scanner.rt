@@ -1,10 +1,11 @@
 //! Liberty text to tokens, byte by byte.
 
 ghost use Rattle.std.specs.Prelude.{◌≡◌, ◌++◌, ◌+◌, ◌<◌, ◌^◌, length, OnOk, IfOk, IfErr};
-ghost use Rattle.std.specs.Prelude.{[], ◌∷◌};
+ghost use Rattle.std.specs.Prelude.{false, [], ◌∷◌};
 ghost use Rattle.liberty_text.specs.Scanner.{class_of, token, slash_at, opened, in_word_by, comment_in_word, in_text, in_comment, in_continuation, step, closing, scan_of};
 ghost use Rattle.std.specs.Prelude.{All};
 ghost use Rattle.liberty_text.specs.declared.token.Stop.TheVariants.{End};
+ghost use Rattle.liberty_text.specs.declared.scanner.Mode.TheVariants.{Between};
 ghost use Rattle.liberty_text.specs.TokenLaws.{IsInside, AreInOrder};
 ghost use Rattle.liberty_text.specs.Tokens.{Reads, AreTokensOf, IsFaultOf};
 
@@ -14,7 +15,7 @@ use std::alloc::Global;
 
 /// What stands open at a place of the text. `line_before` is that of the token to come.
 #[derive(Clone, Copy, Debug, PartialEq, Eq)]
-enum Mode {
+pub enum Mode {
     Between {
         line_before: bool,
     },
@@ -47,13 +48,33 @@ enum Mode {
     },
 }
 
+/// The tokens of the bytes that were read so far, and what stands open behind them: a text read byte
+/// by byte, also in pieces.
 #[derive(Drop)]
-struct Scanner {
+pub struct Scanner {
     tokens: Vec<Token>,
     mode: Mode,
 }
 
 impl Scanner {
+    /// A scanner that has read no byte.
+    pub fn new(alloc: Global) -> Scanner
+        ensures tokens { result.tokens.items ≡ [] }
+        ensures mode { result.mode ≡ Between false }
+    {
+        Scanner {
+            tokens: Vec::new(alloc),
+            mode: Mode::Between { line_before: false },
+        }
+    }
+
+    /// The tokens that have ended.
+    pub fn tokens(&self) -> &[Token]
+        ensures { result.now ≡ self.now.tokens.items }
+    {
+        self.tokens.as_slice()
+    }
+
     fn push(
         &mut self,
         kind: TokenKind,
@@ -164,7 +185,7 @@ impl Scanner {
     }
 
     /// The byte at an offset, after those before it.
-    fn step(&mut self, at: usize, byte: u8) -> Result<(), Memory>
+    pub fn step(&mut self, at: usize, byte: u8) -> Result<(), Memory>
         requires { at + 1 < 2 ^ 64 }
         ensures mode { OnOk result (self.new.mode ≡ (step self.old.mode at byte).0) }
         ensures tokens { OnOk result (self.new.tokens.items ≡ self.old.tokens.items ++ (step self.old.mode at byte).1) }
@@ -201,7 +222,7 @@ impl Scanner {
     }
 
     /// What there is where the bytes end, at an offset.
-    fn finish(mut self, at: usize) -> Result<Scan, Memory>
+    pub fn finish(mut self, at: usize) -> Result<Scan, Memory>
         ensures tokens { IfOk result (λ found. found.tokens.items ≡ self.tokens.items ++ (closing self.mode at).0) }
         ensures stop { IfOk result (λ found. found.stop ≡ (closing self.mode at).1) }
     {
@@ -278,10 +299,7 @@ fn scan_bytes(alloc: Global, bytes: &[u8]) -> Result<Scan, Memory>
     ensures tokens { IfOk result (λ found. found.tokens.items ≡ (scan_of bytes.now).0) }
     ensures stop { IfOk result (λ found. found.stop ≡ (scan_of bytes.now).1) }
 {
-    let mut scanner = Scanner {
-        tokens: Vec::new(alloc),
-        mode: Mode::Between { line_before: false },
-    };
+    let mut scanner = Scanner::new(alloc);
     for (at, byte) in bytes.iter().enumerate() {
         scanner.step(at, *byte)?;
     }

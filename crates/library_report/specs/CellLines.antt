@@ -1,0 +1,33 @@
+-- The lines of the report on the cells of a library (this project's format). Cells are numbered from 1 by their place
+-- among all cells of the library.
+use Rattle.std.specs.Prelude.{ℕ, List, ◌++◌, codes, decimal, if◌then◌else◌}
+use Rattle.cell_machine.specs.CellRules.{is_name}
+use Rattle.cell_reader.specs.declared.refusal.Refusal.{Refusal}
+use Rattle.cell_reader.specs.ReasonWords.{number_of_reason, word_of_reason}
+
+-- a name as the report shows it: one that no cell may bear, for its length or a byte of it, is a question mark
+unfoldable pub printed_name : List ℕ → List ℕ
+printed_name name = if is_name name then name else codes "?"
+
+-- the front of a line on a cell: its number and its name
+unfoldable pub cell_text : ℕ → List ℕ → List ℕ
+cell_text number name = codes "cell " ++ (decimal number ++ (codes " " ++ printed_name name))
+
+-- the end of a line on a cell that is refused: the reason's number and word, and the offset of the statement or group that
+-- meets it
+unfoldable pub refusal_text : Refusal → List ℕ
+refusal_text refusal =
+    codes " refused " ++ (decimal (number_of_reason refusal.reason) ++ (codes " " ++ (word_of_reason refusal.reason ++ (codes " at "
+    ++ (decimal refusal.at ++ codes "\n")))))
+
+-- a cell that is accepted
+unfoldable pub accepted_line : ℕ → List ℕ → List ℕ
+accepted_line number name = cell_text number name ++ codes " ok\n"
+
+-- a cell that is refused
+unfoldable pub refused_line : ℕ → List ℕ → Refusal → List ℕ
+refused_line number name refusal = cell_text number name ++ refusal_text refusal
+
+-- the last line of a library that was read to its end
+unfoldable pub totals_line : ℕ → ℕ → List ℕ
+totals_line accepted refused = codes "accepted " ++ (decimal accepted ++ (codes " refused " ++ (decimal refused ++ codes "\n")))

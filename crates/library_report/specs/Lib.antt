@@ -1,0 +1,3 @@
+pub mod CellLines
+pub mod LeftOutLines
+pub mod FaultLines

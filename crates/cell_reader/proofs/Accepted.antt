@@ -2,17 +2,17 @@
 use Rattle.std.proofs.Common.{◌≡◌, ℕ, ◌≤◌, [], ◌∷◌, length, map, flat_map, arith, refl, IsTrue, Bool, true, false}
 use Rattle.std.specs.Prelude.{if◌then◌else◌}
 use Rattle.cell_machine.specs.CellRules.{is_name}
-use Rattle.cell_reader.specs.Groups.{cell_name, state_groups}
-use Rattle.cell_reader.specs.Pins.{pins_of, owners_of}
-use Rattle.cell_reader.specs.Declarations.{declared_of, bad_names, bad_cell_name, bad_name_in}
-use Rattle.cell_reader.specs.Vocabulary.{vocabulary}
-use Rattle.cell_reader.specs.StateReadings.{state_reading}
-use Rattle.cell_reader.specs.Limits.{first_past, place_of_group, state_at}
+use Rattle.cell_parts.specs.Groups.{cell_name, state_groups}
+use Rattle.cell_parts.specs.Pins.{pins_of, owners_of}
+use Rattle.cell_parts.specs.Declarations.{declared_of, bad_names, bad_cell_name, bad_name_in}
+use Rattle.cell_parts.specs.Vocabulary.{vocabulary}
+use Rattle.cell_parts.specs.StateReadings.{state_reading}
+use Rattle.cell_parts.specs.Limits.{first_past, place_of_group, state_at}
 use Rattle.cell_reader.specs.Refusals.{reasons_of, numbers_of, groups_of}
 use Rattle.cell_reader.specs.Laws.{AcceptedMeetsNone, AcceptedPinsAreSound, AcceptedStatesAreFew}
-use Rattle.cell_reader.proofs.Distinct.{nil_parts}
-use Rattle.cell_reader.proofs.PinRules.{within_limit, pins_are_sound}
-use Rattle.cell_reader.proofs.GroupCount.{group_count}
+use Rattle.cell_parts.proofs.Distinct.{nil_parts}
+use Rattle.cell_parts.proofs.PinRules.{within_limit, pins_are_sound}
+use Rattle.cell_parts.proofs.GroupCount.{group_count}
 use Rattle.cell_reader.proofs.Refused.{all_unmet}
 
 pub accepted_meets_none : AcceptedMeetsNone

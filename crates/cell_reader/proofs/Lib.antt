@@ -1,9 +1,2 @@
-pub mod LeastLemmas
-pub mod Inserting
-pub mod Turns
-pub mod Fits
-pub mod Distinct
-pub mod PinRules
 pub mod Refused
-pub mod GroupCount
 pub mod Accepted

@@ -3,8 +3,8 @@ use Rattle.std.specs.Prelude.{◌≡◌, ℕ}
 use Rattle.liberty_groups.specs.declared.tree.Group.{Group}
 use Rattle.cell_machine.specs.declared.cells.Cell.{Cell}
 use Rattle.timing_arcs.specs.declared.subject.Subject.{Subject}
-use Rattle.cell_reader.specs.Groups.{cell_name}
-use Rattle.cell_reader.specs.Pins.{pins_of}
+use Rattle.cell_parts.specs.Groups.{cell_name}
+use Rattle.cell_parts.specs.Pins.{pins_of}
 use Rattle.cell_reader.specs.Refusals.{groups_of, outputs_of, checks_of, arcs_of}
 
 -- The cell with this number that a group describes, where `subject` are its pins with the time unit of the library.

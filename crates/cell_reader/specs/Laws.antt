@@ -3,8 +3,8 @@ use Rattle.std.specs.Prelude.{◌≡◌, ◌≤◌, ⊤, ℕ, List, [], ◌∷�
 use Rattle.liberty_groups.specs.declared.tree.Group.{Group}
 use Rattle.cell_machine.specs.CellRules.{is_name, are_pins}
 use Rattle.timing_arcs.specs.declared.subject.Subject.{Subject}
-use Rattle.cell_reader.specs.Groups.{cell_name}
-use Rattle.cell_reader.specs.Pins.{pins_of}
+use Rattle.cell_parts.specs.Groups.{cell_name}
+use Rattle.cell_parts.specs.Pins.{pins_of}
 use Rattle.cell_reader.specs.Refusals.{Met, reasons_of, refusal_of, groups_of}
 
 -- none of these reasons is met anywhere

@@ -11,21 +11,21 @@ use Rattle.cell_reader.specs.declared.refusal.Reason.{Reason}
 use Rattle.cell_reader.specs.declared.refusal.Reason.TheVariants as reason
 use Rattle.cell_reader.specs.declared.refusal.Refusal.{Refusal}
 use Rattle.cell_reader.specs.declared.left_out.LeftOut.{LeftOut}
-use Rattle.cell_reader.specs.declared.texts.Text.{Text}
-use Rattle.cell_reader.specs.declared.state_readings.StateReading.{StateReading}
-use Rattle.cell_reader.specs.Groups.{pin_groups, state_groups}
-use Rattle.cell_reader.specs.Pins.{pins_of, owners_of}
-use Rattle.cell_reader.specs.States.{states_of}
-use Rattle.cell_reader.specs.Scans.{directions, three_states, banks, left_out_states, clear_presets, no_functions}
-use Rattle.cell_reader.specs.Declarations.{duplicates, bad_names}
-use Rattle.cell_reader.specs.Vocabulary.{vocabulary}
-use Rattle.cell_reader.specs.Texts.{malformed_at, unknown_at}
-use Rattle.cell_reader.specs.StateReadings.{state_reading}
-use Rattle.cell_reader.specs.Outputs.{pin_text}
-use Rattle.cell_reader.specs.TextFaults.{malformed_in, unknown_in, coupled_in}
+use Rattle.cell_parts.specs.declared.texts.Text.{Text}
+use Rattle.cell_parts.specs.declared.state_readings.StateReading.{StateReading}
+use Rattle.cell_parts.specs.Groups.{pin_groups, state_groups}
+use Rattle.cell_parts.specs.Pins.{pins_of, owners_of}
+use Rattle.cell_parts.specs.States.{states_of}
+use Rattle.cell_parts.specs.Scans.{directions, three_states, banks, left_out_states, clear_presets, no_functions}
+use Rattle.cell_parts.specs.Declarations.{duplicates, bad_names}
+use Rattle.cell_parts.specs.Vocabulary.{vocabulary}
+use Rattle.cell_parts.specs.Texts.{malformed_at, unknown_at}
+use Rattle.cell_parts.specs.StateReadings.{state_reading}
+use Rattle.cell_parts.specs.Outputs.{pin_text}
+use Rattle.cell_parts.specs.TextFaults.{malformed_in, unknown_in, coupled_in}
 use Rattle.cell_reader.specs.PinTimings.{Answer, answers_from, malformed_timing, unknown_timing, own_timing, number_timing, checks_in, arcs_in, check_at_in, arc_at_in, wide_in, left_out_from}
-use Rattle.cell_reader.specs.Building.{cell_numbers, groups_from, outputs_from}
-use Rattle.cell_reader.specs.Limits.{first_past, place_of_group, state_at, no_support_in, wide_support_in, wide_output}
+use Rattle.cell_parts.specs.Building.{cell_numbers, groups_from, outputs_from}
+use Rattle.cell_parts.specs.Limits.{first_past, place_of_group, state_at, no_support_in, wide_support_in, wide_output}
 
 -- The parts of a cell's group that its meaning is read from.
 

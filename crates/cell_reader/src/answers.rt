@@ -4,7 +4,7 @@ ghost use Rattle.cell_machine.specs.declared.pins.Pin.{Pin as PinOf};
 ghost use Rattle.timing_arcs.specs.Timing.{reading_answer};
 ghost use Rattle.cell_reader.specs.PinTimings.{answers_from};
 
-use crate::fault::Memory;
+use cell_parts::fault::Memory;
 use liberty_groups::Group;
 use std::alloc::Global;
 use timing_arcs::{PinTiming, Subject, TimingFault, read_timing};

@@ -1,23 +1,23 @@
 //! The refusals that are tried before any text is read.
 ghost use Rattle.std.specs.Prelude.{◌≡◌, IfOk, map};
 ghost use Rattle.timing_arcs.specs.Timing.{least};
-ghost use Rattle.cell_reader.specs.Groups.{inner_groups, pin_groups, state_groups};
-ghost use Rattle.cell_reader.specs.Scans.{left_out_states as left_out_states_of};
-ghost use Rattle.cell_reader.specs.Declarations.{duplicates as duplicates_of};
+ghost use Rattle.cell_parts.specs.Groups.{inner_groups, pin_groups, state_groups};
+ghost use Rattle.cell_parts.specs.Scans.{left_out_states as left_out_states_of};
+ghost use Rattle.cell_parts.specs.Declarations.{duplicates as duplicates_of};
 ghost use Rattle.cell_reader.specs.Refusals.{first_refusal, early_reasons, refused_or as refused_or_of};
 
-use crate::declarations::{declared_of, first_clash};
-use crate::fault::Memory;
-use crate::least::lesser;
 use crate::limits::known_cell;
 use crate::refusal::{Reason, Refusal};
 use crate::scans::{banks, clear_presets, directions, left_out_states, three_states};
 use bool_functions::Names;
+use cell_parts::declarations::{declared_of, first_clash};
+use cell_parts::fault::Memory;
+use cell_parts::least::lesser;
 use liberty_groups::Group;
 use std::alloc::Global;
 
 /// Where a name is declared twice, or an earlier cell has the name of this one.
-#[tactic(auto, using(crate::proofs::LeastLemmas::least_append))]
+#[tactic(auto, using(cell_parts::proofs::LeastLemmas::least_append))]
 fn duplicates(
     alloc: Global,
     earlier: &Names,
@@ -33,7 +33,7 @@ fn duplicates(
 }
 
 /// Where a pin or a state has an attribute whose states are left out.
-#[tactic(auto, using(crate::proofs::LeastLemmas::least_append))]
+#[tactic(auto, using(cell_parts::proofs::LeastLemmas::least_append))]
 fn left_out(cell: &Group, pins: &[&Group], states: &[&Group]) -> Option<usize>
     requires pins { map (λ group. group.now) pins.now ≡ pin_groups cell.now }
     requires states { map (λ group. group.now) states.now ≡ state_groups cell.now }

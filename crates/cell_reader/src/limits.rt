@@ -1,16 +1,16 @@
 //! The limits of a cell. Each answers the least offset at which one is passed.
 ghost use Rattle.std.specs.Prelude.{◌≡◌, ◌++◌, OnOk, IfOk, map, flat_map};
 ghost use Rattle.timing_arcs.specs.Timing.{least};
-ghost use Rattle.cell_reader.specs.Declarations.{bad_cell_name as bad_cell_name_of, known_cell as known_cell_of};
-ghost use Rattle.cell_reader.specs.Limits.{first_past as first_past_of, place_of_state as place_of_state_in, state_at, no_support_in as no_support_in_of, wide_support_in as wide_support_in_of};
-ghost use Rattle.cell_reader.specs.Shown.{shown_state};
+ghost use Rattle.cell_parts.specs.Declarations.{bad_cell_name as bad_cell_name_of, known_cell as known_cell_of};
+ghost use Rattle.cell_parts.specs.Limits.{first_past as first_past_of, place_of_state as place_of_state_in, state_at, no_support_in as no_support_in_of, wide_support_in as wide_support_in_of};
+ghost use Rattle.cell_parts.specs.Shown.{shown_state};
 
-use crate::declarations::is_name;
-use crate::groups::cell_name;
-use crate::least::lesser;
-use crate::state_readings::StateReading;
-use crate::states::{StateName, states_in};
 use bool_functions::Names;
+use cell_parts::declarations::is_name;
+use cell_parts::groups::cell_name;
+use cell_parts::least::lesser;
+use cell_parts::state_readings::StateReading;
+use cell_parts::states::{StateName, states_in};
 use liberty_groups::Group;
 use std::alloc::{AllocError, Global};
 
@@ -75,7 +75,7 @@ pub(crate) fn state_offsets(alloc: Global, groups: &[&Group]) -> Result<Vec<usiz
 }
 
 /// Where a group holds a state and names no input pin.
-#[tactic(auto, unfolding(crate::specs::Limits::no_support_in))]
+#[tactic(auto, unfolding(cell_parts::specs::Limits::no_support_in))]
 fn no_support_in(reading: &StateReading) -> Option<usize>
     ensures { result ≡ least (no_support_in_of reading.now) }
 {
@@ -98,7 +98,7 @@ pub(crate) fn no_supports(readings: &[StateReading]) -> Option<usize>
 }
 
 /// Where a group holds a state and names more than 8 input pins.
-#[tactic(auto, unfolding(crate::specs::Limits::wide_support_in))]
+#[tactic(auto, unfolding(cell_parts::specs::Limits::wide_support_in))]
 fn wide_support_in(reading: &StateReading) -> Option<usize>
     ensures { result ≡ least (wide_support_in_of reading.now) }
 {

@@ -1,19 +1,19 @@
 //! The refusals that are seen without the names of a cell. Each answers the least offset at which it is met.
 ghost use Rattle.std.specs.Prelude.{◌≡◌, ◌++◌, map, flat_map};
 ghost use Rattle.timing_arcs.specs.Timing.{least};
-ghost use Rattle.cell_reader.specs.Groups.{offsets_of};
-ghost use Rattle.cell_reader.specs.Scans.{direction_in as direction_in_of, three_state_in as three_state_in_of, bank_in as bank_in_of, left_out_in as left_out_in_of, first_both_in as first_both_in_of, second_both_in as second_both_in_of, is_missing as is_missing_of, clear_preset_in as clear_preset_in_of, no_function_in as no_function_in_of};
+ghost use Rattle.cell_parts.specs.Groups.{offsets_of};
+ghost use Rattle.cell_parts.specs.Scans.{direction_in as direction_in_of, three_state_in as three_state_in_of, bank_in as bank_in_of, left_out_in as left_out_in_of, first_both_in as first_both_in_of, second_both_in as second_both_in_of, clear_preset_in as clear_preset_in_of, no_function_in as no_function_in_of};
 
-use crate::groups::{is_bank, is_called};
-use crate::least::lesser;
-use crate::pins::{direction_named, direction_of};
-use crate::states::both_named;
 use cell_machine::{Both, Direction};
+use cell_parts::groups::{is_bank, is_called, is_missing};
+use cell_parts::least::lesser;
+use cell_parts::pins::{direction_named, direction_of};
+use cell_parts::states::both_named;
 use liberty_groups::Group;
 use timing_arcs::{last_attribute, simple_attribute};
 
 /// The least offset of the simple attributes of this name in a group.
-#[tactic(auto, using(crate::proofs::LeastLemmas::lesser_assoc, crate::proofs::LeastLemmas::lesser_none))]
+#[tactic(auto, using(cell_parts::proofs::LeastLemmas::lesser_assoc, cell_parts::proofs::LeastLemmas::lesser_none))]
 fn first_offset(group: &Group, name: &[u8]) -> Option<usize>
     ensures { result ≡ least (offsets_of name.now group.now) }
 {
@@ -27,7 +27,7 @@ fn first_offset(group: &Group, name: &[u8]) -> Option<usize>
 }
 
 /// Where the direction of a pin group is absent or none of the three.
-#[tactic(auto, unfolding(crate::specs::Scans::direction_in))]
+#[tactic(auto, unfolding(cell_parts::specs::Scans::direction_in))]
 fn direction_in(pin: &Group) -> Option<usize>
     ensures { result ≡ least (direction_in_of pin.now) }
 {
@@ -41,7 +41,7 @@ fn direction_in(pin: &Group) -> Option<usize>
 }
 
 /// Where a pin's direction is absent or none of the three.
-#[tactic(auto, using(crate::proofs::LeastLemmas::lesser_assoc, crate::proofs::LeastLemmas::lesser_none, crate::proofs::LeastLemmas::least_append))]
+#[tactic(auto, using(cell_parts::proofs::LeastLemmas::lesser_assoc, cell_parts::proofs::LeastLemmas::lesser_none, cell_parts::proofs::LeastLemmas::least_append))]
 pub(crate) fn directions(pins: &[&Group]) -> Option<usize>
     ensures { result ≡ least (flat_map direction_in_of (map (λ group. group.now) pins.now)) }
 {
@@ -53,7 +53,7 @@ pub(crate) fn directions(pins: &[&Group]) -> Option<usize>
 }
 
 /// Where the pins of a group have `three_state`.
-#[tactic(auto, unfolding(crate::specs::Scans::three_state_in))]
+#[tactic(auto, unfolding(cell_parts::specs::Scans::three_state_in))]
 fn three_state_in(pin: &Group) -> Option<usize>
     ensures { result ≡ least (three_state_in_of pin.now) }
 {
@@ -61,7 +61,7 @@ fn three_state_in(pin: &Group) -> Option<usize>
 }
 
 /// Where a pin has `three_state`.
-#[tactic(auto, using(crate::proofs::LeastLemmas::lesser_assoc, crate::proofs::LeastLemmas::lesser_none, crate::proofs::LeastLemmas::least_append))]
+#[tactic(auto, using(cell_parts::proofs::LeastLemmas::lesser_assoc, cell_parts::proofs::LeastLemmas::lesser_none, cell_parts::proofs::LeastLemmas::least_append))]
 pub(crate) fn three_states(pins: &[&Group]) -> Option<usize>
     ensures { result ≡ least (flat_map three_state_in_of (map (λ group. group.now) pins.now)) }
 {
@@ -73,7 +73,7 @@ pub(crate) fn three_states(pins: &[&Group]) -> Option<usize>
 }
 
 /// Where a group stands for several pins or states at once.
-#[tactic(auto, unfolding(crate::specs::Scans::bank_in))]
+#[tactic(auto, unfolding(cell_parts::specs::Scans::bank_in))]
 fn bank_in(group: &Group) -> Option<usize>
     ensures { result ≡ least (bank_in_of group.now) }
 {
@@ -81,7 +81,7 @@ fn bank_in(group: &Group) -> Option<usize>
 }
 
 /// Where a group of the cell stands for several pins or states at once.
-#[tactic(auto, using(crate::proofs::LeastLemmas::lesser_assoc, crate::proofs::LeastLemmas::lesser_none, crate::proofs::LeastLemmas::least_append))]
+#[tactic(auto, using(cell_parts::proofs::LeastLemmas::lesser_assoc, cell_parts::proofs::LeastLemmas::lesser_none, cell_parts::proofs::LeastLemmas::least_append))]
 pub(crate) fn banks(groups: &[&Group]) -> Option<usize>
     ensures { result ≡ least (flat_map bank_in_of (map (λ group. group.now) groups.now)) }
 {
@@ -93,7 +93,7 @@ pub(crate) fn banks(groups: &[&Group]) -> Option<usize>
 }
 
 /// Where a group has an attribute whose states are left out.
-#[tactic(auto, unfolding(crate::specs::Scans::left_out_in), using(crate::proofs::LeastLemmas::least_append))]
+#[tactic(auto, unfolding(cell_parts::specs::Scans::left_out_in), using(cell_parts::proofs::LeastLemmas::least_append))]
 fn left_out_in(group: &Group) -> Option<usize>
     ensures { result ≡ least (left_out_in_of group.now) }
 {
@@ -103,7 +103,7 @@ fn left_out_in(group: &Group) -> Option<usize>
 }
 
 /// Where a state group or pin has an attribute whose states are left out.
-#[tactic(auto, using(crate::proofs::LeastLemmas::lesser_assoc, crate::proofs::LeastLemmas::lesser_none, crate::proofs::LeastLemmas::least_append))]
+#[tactic(auto, using(cell_parts::proofs::LeastLemmas::lesser_assoc, cell_parts::proofs::LeastLemmas::lesser_none, cell_parts::proofs::LeastLemmas::least_append))]
 pub(crate) fn left_out_states(groups: &[&Group]) -> Option<usize>
     ensures { result ≡ least (flat_map left_out_in_of (map (λ group. group.now) groups.now)) }
 {
@@ -115,7 +115,7 @@ pub(crate) fn left_out_states(groups: &[&Group]) -> Option<usize>
 }
 
 /// Where `clear_preset_var1` has a value that it may not have.
-#[tactic(auto, unfolding(crate::specs::Scans::first_both_in))]
+#[tactic(auto, unfolding(cell_parts::specs::Scans::first_both_in))]
 fn first_both_in(group: &Group) -> Option<usize>
     ensures { result ≡ least (first_both_in_of group.now) }
 {
@@ -129,7 +129,7 @@ fn first_both_in(group: &Group) -> Option<usize>
 }
 
 /// Where `clear_preset_var2` has a value that it may not have.
-#[tactic(auto, unfolding(crate::specs::Scans::second_both_in))]
+#[tactic(auto, unfolding(cell_parts::specs::Scans::second_both_in))]
 fn second_both_in(group: &Group) -> Option<usize>
     ensures { result ≡ least (second_both_in_of group.now) }
 {
@@ -143,7 +143,7 @@ fn second_both_in(group: &Group) -> Option<usize>
 }
 
 /// Where a `clear_preset` attribute has a value that it may not have.
-#[tactic(auto, unfolding(crate::specs::Scans::clear_preset_in), using(crate::proofs::LeastLemmas::least_append))]
+#[tactic(auto, unfolding(cell_parts::specs::Scans::clear_preset_in), using(cell_parts::proofs::LeastLemmas::least_append))]
 fn clear_preset_in(group: &Group) -> Option<usize>
     ensures { result ≡ least (clear_preset_in_of group.now) }
 {
@@ -154,7 +154,7 @@ fn clear_preset_in(group: &Group) -> Option<usize>
 }
 
 /// Where a `clear_preset` attribute of a state group has a value that it may not have.
-#[tactic(auto, using(crate::proofs::LeastLemmas::lesser_assoc, crate::proofs::LeastLemmas::lesser_none, crate::proofs::LeastLemmas::least_append))]
+#[tactic(auto, using(cell_parts::proofs::LeastLemmas::lesser_assoc, cell_parts::proofs::LeastLemmas::lesser_none, cell_parts::proofs::LeastLemmas::least_append))]
 pub(crate) fn clear_presets(states: &[&Group]) -> Option<usize>
     ensures { result ≡ least (flat_map clear_preset_in_of (map (λ group. group.now) states.now)) }
 {
@@ -165,15 +165,8 @@ pub(crate) fn clear_presets(states: &[&Group]) -> Option<usize>
     found
 }
 
-/// Whether a group has no simple attribute of this name.
-pub(crate) fn is_missing(group: &Group, name: &[u8]) -> bool
-    ensures { result ≡ is_missing_of name.now group.now }
-{
-    last_attribute(group, name).is_none()
-}
-
 /// Where the pins of a group are outputs without function.
-#[tactic(auto, unfolding(crate::specs::Scans::no_function_in))]
+#[tactic(auto, unfolding(cell_parts::specs::Scans::no_function_in))]
 fn no_function_in(pin: &Group) -> Option<usize>
     ensures { result ≡ least (no_function_in_of pin.now) }
 {
@@ -189,7 +182,7 @@ fn no_function_in(pin: &Group) -> Option<usize>
 }
 
 /// Where an output pin has no function.
-#[tactic(auto, using(crate::proofs::LeastLemmas::lesser_assoc, crate::proofs::LeastLemmas::lesser_none, crate::proofs::LeastLemmas::least_append))]
+#[tactic(auto, using(cell_parts::proofs::LeastLemmas::lesser_assoc, cell_parts::proofs::LeastLemmas::lesser_none, cell_parts::proofs::LeastLemmas::least_append))]
 pub(crate) fn no_functions(pins: &[&Group]) -> Option<usize>
     ensures { result ≡ least (flat_map no_function_in_of (map (λ group. group.now) pins.now)) }
 {

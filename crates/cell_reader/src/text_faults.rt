@@ -1,15 +1,15 @@
 //! Where the texts of a cell are wrong. Each answers the least offset.
 ghost use Rattle.std.specs.Prelude.{◌≡◌, flat_map};
 ghost use Rattle.timing_arcs.specs.Timing.{least};
-ghost use Rattle.cell_reader.specs.Texts.{malformed_at, unknown_at};
-ghost use Rattle.cell_reader.specs.TextFaults.{malformed_in as malformed_in_of, unknown_in as unknown_in_of, coupled_in as coupled_in_of};
+ghost use Rattle.cell_parts.specs.Texts.{malformed_at, unknown_at};
+ghost use Rattle.cell_parts.specs.TextFaults.{malformed_in as malformed_in_of, unknown_in as unknown_in_of, coupled_in as coupled_in_of};
 
-use crate::least::lesser;
-use crate::state_readings::StateReading;
-use crate::texts::Text;
+use cell_parts::least::lesser;
+use cell_parts::state_readings::StateReading;
+use cell_parts::texts::Text;
 
 /// Where a state group or a text of it is malformed.
-#[tactic(auto, unfolding(crate::specs::TextFaults::malformed_in), using(crate::proofs::LeastLemmas::least_append, crate::proofs::LeastLemmas::least_option))]
+#[tactic(auto, unfolding(cell_parts::specs::TextFaults::malformed_in), using(cell_parts::proofs::LeastLemmas::least_append, cell_parts::proofs::LeastLemmas::least_option))]
 fn malformed_in(reading: &StateReading) -> Option<usize>
     ensures { result ≡ least (malformed_in_of reading.now) }
 {
@@ -22,7 +22,7 @@ fn malformed_in(reading: &StateReading) -> Option<usize>
 }
 
 /// Where a text of a state group names nothing of the allowed kind.
-#[tactic(auto, unfolding(crate::specs::TextFaults::unknown_in), using(crate::proofs::LeastLemmas::least_append, crate::proofs::LeastLemmas::least_option))]
+#[tactic(auto, unfolding(cell_parts::specs::TextFaults::unknown_in), using(cell_parts::proofs::LeastLemmas::least_append, cell_parts::proofs::LeastLemmas::least_option))]
 fn unknown_in(reading: &StateReading) -> Option<usize>
     ensures { result ≡ least (unknown_in_of reading.now) }
 {
@@ -35,7 +35,7 @@ fn unknown_in(reading: &StateReading) -> Option<usize>
 }
 
 /// Where a text of a state group makes one state hang on another one.
-#[tactic(auto, unfolding(crate::specs::TextFaults::coupled_in), using(crate::proofs::LeastLemmas::least_append, crate::proofs::LeastLemmas::least_option))]
+#[tactic(auto, unfolding(cell_parts::specs::TextFaults::coupled_in), using(cell_parts::proofs::LeastLemmas::least_append, cell_parts::proofs::LeastLemmas::least_option))]
 fn coupled_in(reading: &StateReading) -> Option<usize>
     ensures { result ≡ least (coupled_in_of reading.now) }
 {

@@ -3,7 +3,7 @@ ghost use Rattle.std.specs.Prelude.{◌≡◌, flat_map};
 ghost use Rattle.timing_arcs.specs.Timing.{least};
 ghost use Rattle.cell_reader.specs.PinTimings.{malformed_timing as malformed_timing_of, unknown_timing as unknown_timing_of, own_timing as own_timing_of, number_timing as number_timing_of};
 
-use crate::least::lesser;
+use cell_parts::least::lesser;
 use timing_arcs::{PinTiming, TimingFault};
 
 /// Where the text of a condition is malformed, in the timing of a pin.

@@ -1,7 +1,7 @@
 use Rattle.std.proofs.Common.{◌∙◌, ap}
 use Rattle.timing_arcs.specs.Timing.{lesser}
-use Rattle.cell_reader.specs.Limits.{no_support_in}
-use Rattle.cell_reader.proofs.LeastLemmas.{least_more}
+use Rattle.cell_parts.specs.Limits.{no_support_in}
+use Rattle.cell_parts.proofs.LeastLemmas.{least_more}
 use Rattle.cell_reader.proofs.limits.no_supports.Goals as goal
 
 pub loop-reading-preserved : goal.loop-reading-preserved

@@ -1,7 +1,7 @@
 use Rattle.std.proofs.Common.{◌≡◌, map, drop}
 use Rattle.std.specs.Prelude.{flat_map}
 use Rattle.timing_arcs.specs.Timing.{lesser, least}
-use Rattle.cell_reader.specs.Scans.{bank_in}
+use Rattle.cell_parts.specs.Scans.{bank_in}
 use Rattle.cell_reader.proofs.scans.banks.Given as goal
 
 -- the least so far, with that of the other groups, is the least of all

@@ -1,7 +1,7 @@
 use Rattle.std.proofs.Common.{◌∙◌, ap}
 use Rattle.timing_arcs.specs.Timing.{lesser}
-use Rattle.cell_reader.specs.Scans.{clear_preset_in}
-use Rattle.cell_reader.proofs.LeastLemmas.{least_turn}
+use Rattle.cell_parts.specs.Scans.{clear_preset_in}
+use Rattle.cell_parts.proofs.LeastLemmas.{least_turn}
 use Rattle.cell_reader.proofs.scans.clear_presets.Goals as goal
 
 pub loop-group-preserved : goal.loop-group-preserved

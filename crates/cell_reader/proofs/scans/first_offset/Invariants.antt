@@ -1,7 +1,7 @@
 use Rattle.std.proofs.Common.{◌≡◌, map, drop}
 use Rattle.timing_arcs.specs.Timing.{lesser, least}
 use Rattle.timing_arcs.specs.Attributes.{Attribute, attributes_named}
-use Rattle.cell_reader.specs.Groups.{offsets_of}
+use Rattle.cell_parts.specs.Groups.{offsets_of}
 use Rattle.cell_reader.proofs.scans.first_offset.Given as goal
 
 -- the least so far, with that of the other statements, is the least of all

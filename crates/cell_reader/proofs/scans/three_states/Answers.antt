@@ -1,7 +1,7 @@
 use Rattle.std.proofs.Common.{◌∙◌, ap}
 use Rattle.timing_arcs.specs.Timing.{lesser}
-use Rattle.cell_reader.specs.Scans.{three_state_in}
-use Rattle.cell_reader.proofs.LeastLemmas.{least_turn}
+use Rattle.cell_parts.specs.Scans.{three_state_in}
+use Rattle.cell_parts.proofs.LeastLemmas.{least_turn}
 use Rattle.cell_reader.proofs.scans.three_states.Goals as goal
 
 pub loop-pin-preserved : goal.loop-pin-preserved

@@ -1,7 +1,7 @@
 use Rattle.std.proofs.Common.{◌∙◌, ap}
 use Rattle.timing_arcs.specs.Timing.{lesser}
-use Rattle.cell_reader.specs.Texts.{malformed_at}
-use Rattle.cell_reader.proofs.LeastLemmas.{least_more}
+use Rattle.cell_parts.specs.Texts.{malformed_at}
+use Rattle.cell_parts.proofs.LeastLemmas.{least_more}
 use Rattle.cell_reader.proofs.text_faults.malformed_pins.Goals as goal
 
 pub loop-text-preserved : goal.loop-text-preserved

@@ -1,7 +1,7 @@
 use Rattle.std.proofs.Common.{◌∙◌, ap}
 use Rattle.timing_arcs.specs.Timing.{lesser}
-use Rattle.cell_reader.specs.TextFaults.{malformed_in}
-use Rattle.cell_reader.proofs.LeastLemmas.{least_more}
+use Rattle.cell_parts.specs.TextFaults.{malformed_in}
+use Rattle.cell_parts.proofs.LeastLemmas.{least_more}
 use Rattle.cell_reader.proofs.text_faults.malformed_states.Goals as goal
 
 pub loop-reading-preserved : goal.loop-reading-preserved

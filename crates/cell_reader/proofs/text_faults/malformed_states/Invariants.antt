@@ -1,7 +1,7 @@
 use Rattle.std.proofs.Common.{◌≡◌, drop}
 use Rattle.std.specs.Prelude.{flat_map}
 use Rattle.timing_arcs.specs.Timing.{lesser, least}
-use Rattle.cell_reader.specs.TextFaults.{malformed_in}
+use Rattle.cell_parts.specs.TextFaults.{malformed_in}
 use Rattle.cell_reader.proofs.text_faults.malformed_states.Given as goal
 
 -- the least so far, with that of the others, is the least of all

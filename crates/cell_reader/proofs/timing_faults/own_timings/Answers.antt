@@ -1,7 +1,7 @@
 use Rattle.std.proofs.Common.{◌∙◌, ap}
 use Rattle.timing_arcs.specs.Timing.{lesser}
 use Rattle.cell_reader.specs.PinTimings.{own_timing}
-use Rattle.cell_reader.proofs.LeastLemmas.{least_more}
+use Rattle.cell_parts.proofs.LeastLemmas.{least_more}
 use Rattle.cell_reader.proofs.timing_faults.own_timings.Goals as goal
 
 pub loop-answer-preserved : goal.loop-answer-preserved

@@ -1,0 +1,47 @@
+-- A cell has as many state groups as it declares states.
+use Rattle.std.proofs.Common.{◌≡◌, ℕ, suc, ◌+◌, List, [], ◌∷◌, length, map, refl, sym, ◌∙◌, ap, Option, Some, None, length-append}
+use Rattle.std.specs.Prelude.{flat_map, codes}
+use Rattle.std.proofs.lemmas.Bool.{cases_Bool}
+use Rattle.std.proofs.Common.{inl, inr}
+use Rattle.liberty_groups.specs.declared.tree.Group.{Group}
+use Rattle.statetables.specs.declared.table.StateTable.{StateTable}
+use Rattle.timing_arcs.specs.Attributes.{attribute_of}
+use Rattle.cell_parts.specs.declared.state_readings.StateReading.{StateReading}
+use Rattle.cell_parts.specs.Groups.{names_in}
+use Rattle.cell_parts.specs.States.{Arguments, states_with, states_in, arguments_of, is_table, node_named}
+use Rattle.cell_parts.specs.Building.{node_groups, table_in, groups_with, groups_in, groups_from}
+use Rattle.cell_parts.specs.Limits.{place_of_state, state_at}
+use Rattle.cell_parts.proofs.Turns.{count_shown}
+
+node_count : (table : StateTable) (r : StateReading) (node : ℕ) (names : List (List ℕ)) → length (node_groups table r node names) ≡ length names
+node_count table r node [] = refl
+node_count table r node (name ∷ names) = ap suc (node_count table r (node + 1) names)
+
+count_with :
+    (to : List ℕ) (group : Group) (r : StateReading) (arguments : Option Arguments)
+    → length (groups_with to group r arguments) ≡ length (states_with (is_table group) arguments)
+count_with to group r None = refl
+count_with to group r (Some arguments) =
+    elim (cases_Bool (is_table group)) [
+      | inl e ↦
+          rw e
+          (node_count
+          (table_in (length (names_in arguments.first)) (length (names_in arguments.second)) (attribute_of group (codes "table")))
+          r 0 (names_in arguments.second)
+          ∙ sym (count_shown node_named (names_in arguments.second)))
+      | inr e ↦ rw e refl
+    ]
+
+-- one state group for each declared state
+pub group_count :
+    (to : List ℕ) (reading : Group → StateReading) (groups : List Group)
+    → length (groups_from to groups (map reading groups)) ≡ length (flat_map state_at groups)
+group_count to reading [] = refl
+group_count to reading (group ∷ groups) =
+    let here : length (groups_in to group (reading group)) ≡ length (states_in group) = count_with to group (reading group) (arguments_of group) in
+    let places : length (state_at group) ≡ length (states_in group) = count_shown (place_of_state group) (states_in group) in
+    let later = group_count to reading groups in
+    length-append (groups_in to group (reading group)) (groups_from to groups (map reading groups))
+    ∙ (ap (λ n. n + length (groups_from to groups (map reading groups))) (here ∙ sym places)
+    ∙ (ap (λ n. length (state_at group) + n) later
+    ∙ sym (length-append (state_at group) (flat_map state_at groups))))

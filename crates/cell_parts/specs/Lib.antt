@@ -1,0 +1,13 @@
+pub mod Groups
+pub mod Pins
+pub mod States
+pub mod Scans
+pub mod Declarations
+pub mod Shown
+pub mod Vocabulary
+pub mod Texts
+pub mod StateReadings
+pub mod Outputs
+pub mod TextFaults
+pub mod Building
+pub mod Limits

@@ -1,0 +1,212 @@
+//! The names that a cell declares.
+ghost use Rattle.std.specs.Prelude.{◌≡◌, ◌++◌, ◌&&◌, [], OnOk, IfOk, map, flat_map, nat_lt};
+ghost use Rattle.std.specs.List.{list_all, list_any};
+ghost use Rattle.timing_arcs.specs.Timing.{least};
+ghost use Rattle.cell_machine.specs.CellRules.{is_name as is_name_of};
+ghost use Rattle.cell_parts.specs.Declarations.{bears as bears_of, declared_pin, declared_state, declared_in as declared_in_of, may_share as may_share_of, clashes as clashes_of, clashes_after, bad_name_in as bad_name_in_of};
+ghost use Rattle.cell_parts.specs.States.{states_in as states_in_of};
+ghost use Rattle.cell_parts.specs.Shown.{shown_name, shown_state};
+
+use crate::groups::{is_pin, is_state};
+use crate::least::lesser;
+use crate::pins::direction_of;
+use crate::states::{StateName, states_in};
+use cell_machine::Direction;
+use liberty_groups::Group;
+use std::alloc::{AllocError, Global};
+use timing_arcs::last_attribute;
+
+/// What a declared name is.
+#[derive(Clone, Copy, Debug, PartialEq, Eq)]
+pub enum Role {
+    /// An internal pin with the name of the node that it names.
+    Bearer,
+    /// A node of a `statetable`.
+    Node,
+    /// Any other pin, or a variable of an `ff` or `latch`.
+    Plain,
+}
+
+/// A name that the cell declares.
+#[derive(Clone, Copy, Debug)]
+pub struct Declared<'a> {
+    pub name: &'a [u8],
+    pub role: Role,
+    /// The offset of its group.
+    pub at: usize,
+}
+
+/// Whether a pin of this group is internal and bears the name of the node that it names.
+fn bears(group: &Group, name: &[u8]) -> bool
+    ensures { result ≡ bears_of group.now name.now }
+{
+    if direction_of(group) != Some(Direction::Internal) {
+        return false;
+    }
+    match last_attribute(group, b"internal_node") {
+        None => false,
+        Some(attribute) => attribute.text == name,
+    }
+}
+
+/// Adds the names of the pins of a group.
+fn declare_pins<'a>(declared: &mut Vec<Declared<'a>>, group: &'a Group) -> Result<(), AllocError>
+    ensures { OnOk result (map shown_name declared.new.items ≡ map shown_name declared.old.items ++ map (declared_pin group.now) group.now.arguments) }
+{
+    for value in group.arguments.as_slice() {
+        let name = value.bytes.as_slice();
+        let role = if bears(group, name) {
+            Role::Bearer
+        } else {
+            Role::Plain
+        };
+        declared.push(Declared {
+            name,
+            role,
+            at: group.at,
+        })?;
+    }
+    Ok(())
+}
+
+/// Adds the names of a state.
+fn declare_state<'a>(
+    declared: &mut Vec<Declared<'a>>,
+    state: StateName<'a>,
+    at: usize,
+) -> Result<(), AllocError>
+    ensures { OnOk result (map shown_name declared.new.items ≡ map shown_name declared.old.items ++ declared_state at (shown_state state.entry)) }
+{
+    let name = state.first;
+    match state.second {
+        None => {
+            declared.push(Declared {
+                name,
+                role: Role::Node,
+                at,
+            })?;
+        }
+        Some(second) => {
+            declared.push(Declared {
+                name,
+                role: Role::Plain,
+                at,
+            })?;
+            declared.push(Declared {
+                name: second,
+                role: Role::Plain,
+                at,
+            })?;
+        }
+    }
+    Ok(())
+}
+
+/// Adds the names of the states of a group.
+fn declare_states<'a>(
+    alloc: Global,
+    declared: &mut Vec<Declared<'a>>,
+    group: &'a Group,
+) -> Result<(), AllocError>
+    ensures { OnOk result (map shown_name declared.new.items ≡ map shown_name declared.old.items ++ flat_map (declared_state group.now.at) (states_in_of group.now)) }
+{
+    let states = states_in(alloc, group)?;
+    for state in &states {
+        declare_state(declared, *state, group.at)?;
+    }
+    Ok(())
+}
+
+/// The names that the groups of a cell declare, in order.
+pub fn declared_of<'a>(alloc: Global, groups: &[&'a Group]) -> Result<Vec<Declared<'a>>, AllocError>
+    ensures { IfOk result (λ declared. map shown_name declared.items ≡ flat_map declared_in_of (map (λ group. group.now) groups.now)) }
+{
+    let mut declared = Vec::new(alloc);
+    for group in groups {
+        if is_pin(group) {
+            declare_pins(&mut declared, group)?;
+        } else if is_state(group) {
+            declare_states(alloc, &mut declared, group)?;
+        }
+    }
+    Ok(declared)
+}
+
+/// Whether two names may be the same: an internal pin may bear the name of the node that it names.
+fn may_share(one: Role, other: Role) -> bool
+    ensures { result ≡ may_share_of one other }
+{
+    match (one, other) {
+        (Role::Bearer, Role::Node) | (Role::Node, Role::Bearer) => true,
+        _ => false,
+    }
+}
+
+/// Whether two declared names are the same and may not be.
+fn clashes(one: &Declared<'_>, other: &Declared<'_>) -> bool
+    ensures { result ≡ clashes_of (shown_name one.now) (shown_name other.now) }
+{
+    one.name == other.name && !may_share(one.role, other.role)
+}
+
+/// Whether a declared name clashes with one of these.
+fn clashes_with_one(one: &Declared<'_>, earlier: &[Declared<'_>]) -> bool
+    ensures { result ≡ list_any (clashes_of (shown_name one.now)) (map shown_name earlier.now) }
+{
+    for other in earlier {
+        if clashes(one, other) {
+            return true;
+        }
+    }
+    false
+}
+
+/// The least offset of a name that clashes with an earlier one.
+#[tactic(auto, using(crate::proofs::LeastLemmas::lesser_assoc, crate::proofs::LeastLemmas::lesser_none, crate::proofs::LeastLemmas::least_append))]
+pub fn first_clash(declared: &[Declared<'_>]) -> Option<usize>
+    ensures { result ≡ least (clashes_after [] (map shown_name declared.now)) }
+{
+    let mut found = None;
+    for i in 0..declared.len() {
+        let later = &declared[i];
+        if clashes_with_one(later, &declared[..i]) {
+            found = lesser(found, Some(later.at));
+        }
+    }
+    found
+}
+
+/// Whether a byte may stand in a name: it is printable and no space.
+fn is_name_byte(byte: u8) -> bool
+    ensures { result ≡ (nat_lt 32 byte && nat_lt byte 127) }
+{
+    32 < byte && byte < 127
+}
+
+/// Whether all bytes may stand in a name.
+fn are_name_bytes(name: &[u8]) -> bool
+    ensures { result ≡ list_all (λ byte. nat_lt 32 byte && nat_lt byte 127) name.now }
+{
+    name.iter().all(|byte| is_name_byte(*byte))
+}
+
+/// Whether this may be a name.
+pub fn is_name(name: &[u8]) -> bool
+    ensures { result ≡ is_name_of name.now }
+{
+    0 < name.len() && name.len() <= 255 && are_name_bytes(name)
+}
+
+/// The least offset of a declared name that may be none.
+#[tactic(auto, using(crate::proofs::LeastLemmas::lesser_assoc, crate::proofs::LeastLemmas::lesser_none, crate::proofs::LeastLemmas::least_append))]
+pub fn first_bad_name(declared: &[Declared<'_>]) -> Option<usize>
+    ensures { result ≡ least (flat_map bad_name_in_of (map shown_name declared.now)) }
+{
+    let mut found = None;
+    for one in declared {
+        if !is_name(one.name) {
+            found = lesser(found, Some(one.at));
+        }
+    }
+    found
+}

@@ -1,0 +1,256 @@
+//! The function texts of a cell: what each may name, and what is wrong with it.
+ghost use Rattle.std.specs.Prelude.{◌≡◌, IfOk};
+ghost use Rattle.std.specs.List.{list_any};
+ghost use Rattle.std.specs.Option.{option_map};
+ghost use Rattle.timing_arcs.specs.Timing.{least};
+ghost use Rattle.timing_arcs.specs.Shown.{shown};
+ghost use Rattle.cell_parts.specs.Texts.{control_use as control_use_of, own_use as own_use_of, function_use as function_use_of, state_function_use as state_function_use_of, use_of as use_of_name, use_at as use_at_place, is_unknown as is_unknown_use, is_coupled as is_coupled_use, class_at as class_at_place, is_number as is_number_of, judged_tree, text_as as text_of, is_node_class as is_node_class_of, node_text as node_text_of, malformed_at as malformed_at_of, unknown_at as unknown_at_of, coupled_at as coupled_at_of};
+ghost use Rattle.cell_parts.specs.Shown.{shown_vocabulary};
+
+use crate::fault::Memory;
+use crate::vocabulary::{Class, Vocabulary};
+use bool_functions::{Function, FunctionFault, read_function};
+use std::alloc::Global;
+use timing_arcs::Attribute;
+
+/// What a name is to a text that has it.
+#[derive(Clone, Copy, Debug, PartialEq, Eq)]
+pub enum Use {
+    /// It may be named.
+    Allowed,
+    /// It is nothing that the text may name.
+    Unknown,
+    /// It would make one state hang on another one.
+    Coupled,
+}
+
+/// What a text may name.
+#[derive(Clone, Copy, Debug)]
+pub enum Scope {
+    /// A text of a state group that names input pins alone.
+    Control,
+    /// A text of a state group that may name the group's own variables, whose numbers these are.
+    Data {
+        first: Option<usize>,
+        second: Option<usize>,
+    },
+    /// The text of `function`.
+    Function,
+    /// The text of `state_function`.
+    StateFunction,
+}
+
+/// A function text of a cell. The offsets are those of its statement.
+#[derive(Debug, Drop)]
+pub enum Text {
+    /// It is not written.
+    Absent,
+    /// It is this function, over the numbers of the names.
+    Reads { function: Function, at: usize },
+    /// It is no function text, or too long.
+    Malformed(usize),
+    /// It names nothing of the kind that it may name.
+    Unknown(usize),
+    /// It makes one state hang on another one.
+    Coupled(usize),
+}
+
+pub fn control_use(class: Class) -> Use
+    ensures { result ≡ control_use_of class }
+{
+    match class {
+        Class::Input => Use::Allowed,
+        Class::Driven | Class::Alias => Use::Unknown,
+        Class::Shared | Class::Node | Class::Variable => Use::Coupled,
+    }
+}
+
+fn own_use(own: bool, class: Class) -> Use
+    ensures { result ≡ own_use_of own class }
+{
+    match class {
+        Class::Input => Use::Allowed,
+        Class::Driven | Class::Alias => Use::Unknown,
+        Class::Shared | Class::Node => Use::Coupled,
+        Class::Variable => { if own { Use::Allowed } else { Use::Coupled } }
+    }
+}
+
+fn function_use(class: Class) -> Use
+    ensures { result ≡ function_use_of class }
+{
+    match class {
+        Class::Input | Class::Variable => Use::Allowed,
+        Class::Driven | Class::Alias | Class::Shared | Class::Node => Use::Unknown,
+    }
+}
+
+fn state_function_use(class: Class) -> Use
+    ensures { result ≡ state_function_use_of class }
+{
+    match class {
+        Class::Input | Class::Alias | Class::Shared => Use::Allowed,
+        Class::Driven | Class::Node | Class::Variable => Use::Unknown,
+    }
+}
+
+fn is_number(i: usize, number: Option<usize>) -> bool
+    ensures { result ≡ is_number_of i number }
+{
+    match number {
+        None => false,
+        Some(j) => i == j,
+    }
+}
+
+/// What the name of this number and class is to a text.
+fn use_of(scope: Scope, i: usize, class: Class) -> Use
+    ensures { result ≡ use_of_name scope i class }
+{
+    match scope {
+        Scope::Control => control_use(class),
+        Scope::Data { first, second } => {
+            own_use(is_number(i, first) || is_number(i, second), class)
+        }
+        Scope::Function => function_use(class),
+        Scope::StateFunction => state_function_use(class),
+    }
+}
+
+/// What the name of a number is. A number that no name has counts as a pin that nothing reads.
+pub fn class_at(classes: &[Class], i: usize) -> Class
+    ensures { result ≡ class_at_place classes.now i }
+{
+    match classes.get(i) {
+        None => Class::Driven,
+        Some(class) => *class,
+    }
+}
+
+fn use_at(classes: &[Class], scope: Scope, i: usize) -> Use
+    ensures { result ≡ use_at_place classes.now scope i }
+{
+    use_of(scope, i, class_at(classes, i))
+}
+
+/// Whether one of these names may not be named.
+fn has_unknown(classes: &[Class], scope: Scope, support: &[usize]) -> bool
+    ensures { result ≡ list_any (λ i. is_unknown_use (use_at_place classes.now scope i)) support.now }
+{
+    for i in support {
+        if use_at(classes, scope, *i) == Use::Unknown {
+            return true;
+        }
+    }
+    false
+}
+
+/// Whether one of these names makes one state hang on another one.
+fn has_coupled(classes: &[Class], scope: Scope, support: &[usize]) -> bool
+    ensures { result ≡ list_any (λ i. is_coupled_use (use_at_place classes.now scope i)) support.now }
+{
+    for i in support {
+        if use_at(classes, scope, *i) == Use::Coupled {
+            return true;
+        }
+    }
+    false
+}
+
+/// What a text with this tree is.
+fn judge(
+    alloc: Global,
+    classes: &[Class],
+    scope: Scope,
+    at: usize,
+    function: Function,
+) -> Result<Text, Memory>
+    ensures { IfOk result (λ text. text ≡ judged_tree classes.now scope at function) }
+{
+    let support = function.support(alloc)?;
+    if has_unknown(classes, scope, &support) {
+        Ok(Text::Unknown(at))
+    } else if has_coupled(classes, scope, &support) {
+        Ok(Text::Coupled(at))
+    } else {
+        Ok(Text::Reads { function, at })
+    }
+}
+
+/// What the text of an attribute is.
+pub fn text_as(
+    alloc: Global,
+    vocabulary: &Vocabulary<'_>,
+    scope: Scope,
+    attribute: Option<Attribute<'_>>,
+) -> Result<Text, Memory>
+    ensures { IfOk result (λ text. text ≡ text_of (shown_vocabulary vocabulary.now) scope (option_map shown attribute.entry)) }
+{
+    let Some(attribute) = attribute else {
+        return Ok(Text::Absent);
+    };
+    match read_function(alloc, attribute.text, &vocabulary.names) {
+        Ok(function) => judge(alloc, &vocabulary.classes, scope, attribute.at, function),
+        Err(FunctionFault::TooLong | FunctionFault::Malformed(_)) => {
+            Ok(Text::Malformed(attribute.at))
+        }
+        Err(FunctionFault::UnknownName(_)) => Ok(Text::Unknown(attribute.at)),
+        Err(FunctionFault::Memory) => Err(Memory),
+    }
+}
+
+/// Whether the name of a node, or of the internal pin that bears it, has this class.
+fn is_node_class(class: Class) -> bool
+    ensures { result ≡ is_node_class_of class }
+{
+    match class {
+        Class::Shared | Class::Node => true,
+        Class::Input | Class::Driven | Class::Alias | Class::Variable => false,
+    }
+}
+
+/// What the text of `internal_node` is.
+pub fn node_text(vocabulary: &Vocabulary<'_>, attribute: Attribute<'_>) -> Text
+    ensures { result ≡ node_text_of (shown_vocabulary vocabulary.now) (shown attribute.entry) }
+{
+    let at = attribute.at;
+    match vocabulary.names.number(attribute.text) {
+        Some(i) if is_node_class(class_at(&vocabulary.classes, i)) => Text::Reads {
+            function: Function::of_name(i),
+            at,
+        },
+        _ => Text::Unknown(at),
+    }
+}
+
+impl Text {
+    /// Where the text is malformed.
+    pub fn malformed(&self) -> Option<usize>
+        ensures { result ≡ least (malformed_at_of self.now) }
+    {
+        match self {
+            Text::Malformed(at) => Some(*at),
+            Text::Absent | Text::Reads { .. } | Text::Unknown(_) | Text::Coupled(_) => None,
+        }
+    }
+
+    /// Where the text names nothing of the allowed kind.
+    pub fn unknown(&self) -> Option<usize>
+        ensures { result ≡ least (unknown_at_of self.now) }
+    {
+        match self {
+            Text::Unknown(at) => Some(*at),
+            Text::Absent | Text::Reads { .. } | Text::Malformed(_) | Text::Coupled(_) => None,
+        }
+    }
+
+    /// Where the text makes one state hang on another one.
+    pub fn coupled(&self) -> Option<usize>
+        ensures { result ≡ least (coupled_at_of self.now) }
+    {
+        match self {
+            Text::Coupled(at) => Some(*at),
+            Text::Absent | Text::Reads { .. } | Text::Malformed(_) | Text::Unknown(_) => None,
+        }
+    }
+}

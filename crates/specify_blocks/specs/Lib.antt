@@ -1,0 +1,5 @@
+pub mod Nets
+pub mod Sound
+pub mod Ports
+pub mod Names
+pub mod Generated

@@ -1,0 +1,151 @@
+//! The instances of a cell's module.
+ghost use Rattle.std.specs.Prelude.{◌≡◌, ◌≤◌, ◌<◌, ◌^◌, ◌++◌, map, IfOk, OnOk};
+ghost use Rattle.bool_functions.specs.Tree.{name_bound};
+ghost use Rattle.udp_tables.specs.CellData.{data_of};
+ghost use Rattle.udp_tables.specs.Conditions.{conditions_of};
+ghost use Rattle.udp_tables.specs.CellPrimitives.{has_sources};
+ghost use Rattle.specify_blocks.specs.Generated.{each_from, group_instance, condition_wire, condition_instance, output_instance, output_instances, instances_of};
+
+use crate::faults::Memory;
+use crate::model::{Instance, VNet};
+use crate::nets::{add_notifier, pin_net, pin_nets, source_nets};
+use bool_functions::Function;
+use cell_machine::{Cell, OutputPin, StateGroup};
+use sqlite_items::Items;
+use std::alloc::Global;
+
+/// The instances of a cell's module, where these are the cell's conditions: groups, conditions, outputs.
+pub(crate) fn instances_of(
+    alloc: Global,
+    cell: &Cell,
+    conditions: &[&Function],
+) -> Result<Items<Instance>, Memory>
+    requires { map (λ f. f.now) conditions.now ≡ conditions_of (data_of cell.now) }
+    ensures { IfOk result (λ instances. instances ≡ instances_of (data_of cell.now)) }
+{
+    let mut instances = Items::new(alloc);
+    add_groups(alloc, &mut instances, cell)?;
+    add_conditions(alloc, &mut instances, cell, conditions)?;
+    add_outputs(
+        alloc,
+        &mut instances,
+        cell,
+        cell.groups.len() + conditions.len(),
+    )?;
+    Ok(instances)
+}
+
+/// Adds the instances of the groups.
+fn add_groups(alloc: Global, instances: &mut Items<Instance>, cell: &Cell) -> Result<(), Memory>
+    ensures { OnOk result (instances.new ≡ instances.old ++ each_from (group_instance (data_of cell.now)) 0 cell.now.groups) }
+{
+    for (g, group) in cell.groups.as_slice().iter().enumerate() {
+        instances.push(group_instance(alloc, cell, g, group)?)?;
+    }
+    Ok(())
+}
+
+fn group_instance(
+    alloc: Global,
+    cell: &Cell,
+    g: usize,
+    group: &StateGroup,
+) -> Result<Instance, Memory>
+    ensures { IfOk result (λ instance. instance ≡ group_instance (data_of cell.now) g group.now) }
+{
+    let mut inputs = pin_nets(alloc, cell.pins.as_slice(), group.support.as_slice())?;
+    add_notifier(&mut inputs, cell)?;
+    Ok(Instance::Primitive {
+        udp: g,
+        output: VNet::Wire(g),
+        inputs,
+    })
+}
+
+/// Adds the instances of the conditions.
+fn add_conditions(
+    alloc: Global,
+    instances: &mut Items<Instance>,
+    cell: &Cell,
+    conditions: &[&Function],
+) -> Result<(), Memory>
+    ensures { OnOk result (instances.new ≡ instances.old ++ each_from (condition_instance (data_of cell.now)) 0 (map (λ f. f.now) conditions.now)) }
+{
+    for (i, condition) in conditions.iter().enumerate() {
+        instances.push(condition_instance(alloc, cell, i, condition)?)?;
+    }
+    Ok(())
+}
+
+fn condition_instance(
+    alloc: Global,
+    cell: &Cell,
+    i: usize,
+    condition: &Function,
+) -> Result<Instance, Memory>
+    requires { i < 2 ^ 62 }
+    ensures { IfOk result (λ instance. instance ≡ condition_instance (data_of cell.now) i condition.now) }
+{
+    let wire = cell.groups.len() + i;
+    let names = condition.support(alloc)?;
+    let inputs = pin_nets(alloc, cell.pins.as_slice(), &names)?;
+    Ok(Instance::Primitive {
+        udp: wire,
+        output: VNet::Wire(wire),
+        inputs,
+    })
+}
+
+/// Adds the instances of the outputs, where the first primitive of an output has the number `first`.
+fn add_outputs(
+    alloc: Global,
+    instances: &mut Items<Instance>,
+    cell: &Cell,
+    first: usize,
+) -> Result<(), Memory>
+    requires { first < 2 ^ 62 }
+    ensures { OnOk result (instances.new ≡ instances.old ++ output_instances (data_of cell.now) first cell.now.outputs) }
+{
+    let mut next = first;
+    for i in 0..cell.outputs.len() {
+        let output = cell.output_pin(i);
+        instances.push(output_instance(alloc, cell, next, output)?)?;
+        if has_sources(output) {
+            next += 1;
+        }
+    }
+    Ok(())
+}
+
+#[tactic(auto, unfolding(cell_machine::specs::Values::no_values))]
+fn output_instance(
+    alloc: Global,
+    cell: &Cell,
+    next: usize,
+    output: &OutputPin,
+) -> Result<Instance, Memory>
+    requires { name_bound output.now.function ≤ 96 }
+    ensures { IfOk result (λ instance. instance ≡ output_instance (data_of cell.now) next output.now) }
+{
+    let pins = cell.pins.as_slice();
+    let net = pin_net(pins, output.pin);
+    if has_sources(output) {
+        Ok(Instance::Primitive {
+            udp: next,
+            output: net,
+            inputs: source_nets(alloc, pins, output.support.as_slice())?,
+        })
+    } else {
+        Ok(Instance::Constant {
+            output: net,
+            one: output.function.value(&[false; 96]),
+        })
+    }
+}
+
+/// Whether an output depends on anything.
+pub(crate) fn has_sources(output: &OutputPin) -> bool
+    ensures { result ≡ has_sources output.now }
+{
+    output.support.len() > 0
+}

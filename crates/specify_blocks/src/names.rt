@@ -1,0 +1,52 @@
+//! The names in a module that are not the cell's own, and the names that take the place of those that are not kept.
+ghost use Rattle.std.specs.Prelude.{◌≡◌, ◌++◌, decimal, IfOk, OnOk};
+ghost use Rattle.specify_blocks.specs.Names.{module_name, numbered, notifier_name};
+
+use crate::faults::Memory;
+use itoa::Buffer;
+use sqlite_items::Items;
+use std::alloc::Global;
+use verilog_names::is_kept_cell_name;
+
+/// The name of the module of a cell: the cell's, or `cell` and its number where Verilog does not keep that.
+pub(crate) fn module_name(alloc: Global, number: usize, name: &[u8]) -> Result<Items<u8>, Memory>
+    ensures { IfOk result (λ given. given ≡ module_name number name.now) }
+{
+    if is_kept_cell_name(name) {
+        Ok(Items::from_slice(alloc, name)?)
+    } else {
+        Ok(numbered_name(alloc, b"cell", number)?)
+    }
+}
+
+/// A word followed by a number.
+pub(crate) fn numbered_name(alloc: Global, word: &[u8], number: usize) -> Result<Items<u8>, Memory>
+    ensures { IfOk result (λ name. name ≡ word.now ++ decimal number) }
+{
+    let mut buffer = Buffer::new();
+    let mut name = Vec::from_slice(alloc, word)?;
+    name.extend_from_slice(buffer.format(number).as_bytes())?;
+    Ok(Items::from_vec(name))
+}
+
+/// Adds a word and the numbers from 1 to `count`.
+pub(crate) fn add_numbered(
+    alloc: Global,
+    names: &mut Items<Items<u8>>,
+    word: &[u8],
+    count: usize,
+) -> Result<(), Memory>
+    ensures { OnOk result (names.new ≡ names.old ++ numbered word.now count) }
+{
+    for number in 0..count {
+        names.push(numbered_name(alloc, word, number + 1)?)?;
+    }
+    Ok(())
+}
+
+/// The name of the register that each violation changes.
+pub(crate) fn notifier_name(alloc: Global) -> Result<Items<u8>, Memory>
+    ensures { IfOk result (λ name. name ≡ notifier_name) }
+{
+    Ok(Items::from_slice(alloc, b"lib_n")?)
+}

@@ -1,11 +1,11 @@
 -- The rules of a cell hold of parts that equal parts of which they hold.
-use Rattle.std.proofs.Common.{◌≡◌, ℕ, List, [], IsTrue}
+use Rattle.std.proofs.Common.{◌≡◌, ℕ, List, IsTrue}
 use Rattle.cell_machine.specs.declared.pins.Pin.{Pin}
 use Rattle.cell_machine.specs.declared.groups.StateGroup.{StateGroup}
 use Rattle.cell_machine.specs.declared.outputs.OutputPin.{OutputPin}
 use Rattle.cell_machine.specs.declared.checks.Check.{Check}
 use Rattle.cell_machine.specs.declared.arcs.Arc.{Arc}
-use Rattle.std.proofs.Math.Path.{subst, subst⁻¹}
+use Rattle.std.proofs.Math.Path.{subst⁻¹}
 use Rattle.cell_machine.specs.CellRules.{is_cell}
 
 pub sound :

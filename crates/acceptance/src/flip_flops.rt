@@ -1,8 +1,9 @@
 //! Cells with a flip-flop.
-use crate::parts::{flip_flop, one, pins, shows, two};
+use crate::parts::{flip_flop, function, one, pins, shows, two};
 use cell_machine::{Arc, Both, Cell, Check, CheckKind, Direction, Edge, Event, Source};
 use sqlite_items::Items;
 use std::alloc::{AllocError, Global};
+use std::test::Fail;
 
 /// A flip-flop with the pins CK, D and Q.
 pub fn plain(alloc: Global) -> Result<Cell, AllocError> {
@@ -64,6 +65,57 @@ pub fn timed(alloc: Global) -> Result<Cell, AllocError> {
         Arc {
             from: 0,
             to: 2,
+            rise: 100,
+            fall: 120,
+            condition: None,
+        },
+    )?;
+    Ok(Cell {
+        name,
+        number: 1,
+        pins,
+        groups,
+        outputs,
+        checks,
+        arcs,
+    })
+}
+
+/// The flip-flop with the setup time and the delays, of which the setup time counts only while SE is 0.
+pub fn scanned(alloc: Global) -> Result<Cell, Fail> {
+    let name = Items::from_slice(alloc, b"DFFS")?;
+    let listed = [
+        ("CK", Direction::Input),
+        ("D", Direction::Input),
+        ("SE", Direction::Input),
+        ("Q", Direction::Output),
+    ];
+    let pins = pins(alloc, &listed)?;
+    let groups = one(
+        alloc,
+        flip_flop(alloc, 1, 0, None, None, Both::Unknown, &[0, 1])?,
+    )?;
+    let outputs = one(alloc, shows(alloc, 3, 4, &[Source::State(0)])?)?;
+    let unscanned = function(alloc, b"!SE", &[2])?;
+    let check = Check {
+        kind: CheckKind::Setup,
+        first: Event {
+            pin: 1,
+            edge: Edge::Any,
+        },
+        second: Event {
+            pin: 0,
+            edge: Edge::Rise,
+        },
+        limit: 50,
+        condition: Some(unscanned),
+    };
+    let checks = one(alloc, check)?;
+    let arcs = one(
+        alloc,
+        Arc {
+            from: 0,
+            to: 3,
             rise: 100,
             fall: 120,
             condition: None,

@@ -5,10 +5,14 @@
 #[cfg(test)]
 mod flip_flops;
 #[cfg(test)]
+mod functions;
+#[cfg(test)]
 mod latches;
 #[cfg(test)]
 mod lines;
 #[cfg(test)]
 mod parts;
+#[cfg(test)]
+mod tables;
 #[cfg(test)]
 mod tests;

@@ -52,6 +52,12 @@ pub fn drive<S: CellSim>(
     Ok(())
 }
 
+/// The line of a cell at its start.
+pub fn first_line(alloc: Global, cell: &Cell) -> Result<String, Fail> {
+    let sim = LibertySim::start(alloc, cell)?;
+    line(alloc, &sim)
+}
+
 /// Runs a cell from its start along these changes.
 pub fn run(
     rt: &impl Abort,

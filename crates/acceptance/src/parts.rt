@@ -1,14 +1,20 @@
 //! Parts of cells, by the numbers of their names.
-ghost use Rattle.std.specs.Prelude.{◌≡◌, ◌∷◌, [], ◌++◌, IfOk, map};
+ghost use Rattle.std.specs.Prelude.{◌≡◌, ◌≤◌, ◌∷◌, [], ◌++◌, IfOk, Ok, map, length};
 ghost use Rattle.std.specs.Option.{option_map};
+ghost use Rattle.bool_functions.specs.declared.tree.Node.{Node};
 ghost use Rattle.bool_functions.specs.declared.tree.Node.TheVariants as tree;
+ghost use Rattle.bool_functions.specs.FunctionText.{reading_of, free_names};
+ghost use Rattle.bool_functions.specs.Tree.{renamed_by};
+ghost use Rattle.statetables.specs.declared.table.StateTable.{StateTable};
+ghost use Rattle.statetables.specs.Reading.{table_of};
 ghost use Rattle.cell_machine.specs.declared.groups.GroupKind.TheVariants as kind;
 
-use bool_functions::Function;
+use bool_functions::{Function, FunctionFault, read_free};
 use cell_machine::{
     Both, Clocked, Direction, Gated, GroupKind, OutputPin, Pin, Source, StateGroup,
 };
 use sqlite_items::Items;
+use statetables::{TableFault, read_table};
 use std::alloc::{AllocError, Global};
 
 /// A list of one item.
@@ -130,4 +136,27 @@ pub fn shows(
     ensures { IfOk result (λ o. o ≡ record { pin = pin; function = tree.Name shown; support = support.now }) }
 {
     output(alloc, pin, Function::of_name(shown), support)
+}
+
+/// The function of a text, whose names, in the order of their first appearances, have these numbers.
+pub fn function(alloc: Global, text: &[u8], to: &[usize]) -> Result<Function, FunctionFault>
+    requires { length (free_names text.now) ≤ length to.now }
+    ensures { IfOk result (λ f. (read : Node) → reading_of (free_names text.now) text.now ≡ Ok read → f ≡ renamed_by to.now read) }
+{
+    let (read, _) = read_free(alloc, text)?;
+    Ok(read.renamed(alloc, to)?)
+}
+
+/// The node of a state table whose columns are the pins of these numbers.
+pub fn node(alloc: Global, text: &[u8], pins: &[usize]) -> Result<StateGroup, TableFault>
+    ensures { IfOk result (λ g. (table : StateTable) → table_of text.now (length pins.now) 1 ≡ Ok table → g ≡ record { kind = kind.Table table 0 pins.now; support = pins.now }) }
+{
+    Ok(StateGroup {
+        kind: GroupKind::Table {
+            table: read_table(alloc, text, pins.len(), 1)?,
+            node: 0,
+            inputs: Items::from_slice(alloc, pins)?,
+        },
+        support: Items::from_slice(alloc, pins)?,
+    })
 }

@@ -1,7 +1,11 @@
 //! Traces of cells, worked out by hand.
-use crate::flip_flops::{cleared, cleared_and_preset, cleared_timed, pair, periodic, plain, timed};
+use crate::flip_flops::{
+    cleared, cleared_and_preset, cleared_timed, pair, periodic, plain, scanned, timed,
+};
+use crate::functions::{multiplexer, tied};
 use crate::latches::wide;
-use crate::lines::run;
+use crate::lines::{first_line, run};
+use crate::tables::{clock_gate, forgetful_gate, toggle};
 use std::test::Fail;
 use trit_cubes::Trit::{One, Unknown, Zero};
 
@@ -14,6 +18,16 @@ const D: usize = 1;
 const C: usize = 2;
 
 const P: usize = 3;
+
+const A: usize = 0;
+
+const B: usize = 2;
+
+const E: usize = 1;
+
+const SE: usize = 2;
+
+const RS: usize = 1;
 
 #[test]
 fn a_flip_flop_takes_its_data_at_a_rise(rt: HostRuntime) -> Result<(), Fail> {
@@ -51,6 +65,21 @@ fn a_setup_time_ends_before_its_limit(rt: HostRuntime) -> Result<(), Fail> {
         )?;
     }
     Ok(())
+}
+
+#[test]
+fn an_unknown_condition_checks_nothing(rt: HostRuntime) -> Result<(), Fail> {
+    let cell = scanned(rt.alloc())?;
+    run(
+        &rt,
+        rt.alloc(),
+        &cell,
+        &[
+            (10, CK, Zero, "x "),
+            (100, D, One, "x "),
+            (149, CK, One, "1@100 "),
+        ],
+    )
 }
 
 #[test]
@@ -158,6 +187,77 @@ fn a_period_is_between_equal_edges(rt: HostRuntime) -> Result<(), Fail> {
             (130, CK, One, "1@0 "),
             (150, CK, Zero, "x@0 !1 "),
             (230, CK, One, "1@0 "),
+        ],
+    )
+}
+
+#[test]
+fn a_tied_output_is_known_at_the_start(rt: HostRuntime) -> Result<(), Fail> {
+    let cell = tied(rt.alloc())?;
+    assert_eq!(rt; first_line(rt.alloc(), &cell)?.as_str(), "1 ");
+    Ok(())
+}
+
+#[test]
+fn equal_data_need_no_selection(rt: HostRuntime) -> Result<(), Fail> {
+    let cell = multiplexer(rt.alloc())?;
+    run(
+        &rt,
+        rt.alloc(),
+        &cell,
+        &[(10, A, One, "x "), (20, B, One, "1@0 ")],
+    )
+}
+
+#[test]
+fn a_clock_gate_keeps_its_enable_while_the_clock_is_high(rt: HostRuntime) -> Result<(), Fail> {
+    let cell = clock_gate(rt.alloc())?;
+    run(
+        &rt,
+        rt.alloc(),
+        &cell,
+        &[
+            (10, CK, Zero, "0@0 "),
+            (20, SE, Zero, "0 "),
+            (30, E, One, "0 "),
+            (40, CK, One, "1@0 "),
+            (50, E, Zero, "1 "),
+            (60, CK, Zero, "0@0 "),
+            (70, CK, One, "0 "),
+        ],
+    )
+}
+
+#[test]
+fn a_node_without_a_row_is_unknown(rt: HostRuntime) -> Result<(), Fail> {
+    let cell = forgetful_gate(rt.alloc())?;
+    run(
+        &rt,
+        rt.alloc(),
+        &cell,
+        &[
+            (10, CK, Zero, "0@0 "),
+            (20, SE, Zero, "0 "),
+            (30, E, One, "0 "),
+            (40, CK, One, "x@0 "),
+        ],
+    )
+}
+
+#[test]
+fn a_toggle_turns_at_each_rise(rt: HostRuntime) -> Result<(), Fail> {
+    let cell = toggle(rt.alloc())?;
+    run(
+        &rt,
+        rt.alloc(),
+        &cell,
+        &[
+            (10, RS, One, "0@0 "),
+            (20, CK, Zero, "0 "),
+            (30, RS, Zero, "0 "),
+            (40, CK, One, "1@0 "),
+            (50, CK, Zero, "1 "),
+            (60, CK, One, "0@0 "),
         ],
     )
 }

@@ -1,4 +1,4 @@
-use Rattle.std.proofs.Common.{◌≡◌, ◌∙◌, ◌∷◌, []}
+use Rattle.std.proofs.Common.{◌∙◌, ◌∷◌, []}
 use Rattle.acceptance.proofs.Cells.{sound}
 use Rattle.bool_functions.proofs.Trees.{names_Name}
 use Rattle.acceptance.proofs.flip_flops.plain.Goals as goal

@@ -1,0 +1,13 @@
+use Rattle.std.proofs.Common.{◌∙◌, ◌∷◌, [], refl}
+use Rattle.acceptance.proofs.Cells.{sound}
+use Rattle.acceptance.proofs.ReadTrees.{output_of, chosen, renamed_chosen}
+use Rattle.bool_functions.proofs.Trees.{names_Name, names_Not, names_And, names_Or}
+use Rattle.acceptance.proofs.functions.multiplexer.Goals as goal
+
+pub invariant_of-result-clause-sound : goal.invariant_of-result-clause-sound
+invariant_of-result-clause-sound c =
+    sound c.in_ok-name.ensures c.in_ok-pins.ensures c.new-groups.ensures
+    (c.in_ok-outputs.ensures
+    ∙ (λ i. (c.in_ok-output.ensures
+    ∙ output_of (c.in_ok-chosen.ensures (chosen 0 1 2) refl ∙ renamed_chosen (0 ∷ 1 ∷ 2 ∷ []) 0 1 2)) i ∷ []))
+    c.new-checks.ensures c.new-arcs.ensures (simp (names_Or, names_And, names_Not, names_Name))

@@ -1,0 +1,14 @@
+use Rattle.std.proofs.Common.{◌∙◌, ◌∷◌, [], refl}
+use Rattle.acceptance.proofs.Cells.{sound}
+use Rattle.acceptance.proofs.ReadTrees.{output_of, both, renamed_both}
+use Rattle.bool_functions.proofs.Trees.{names_Name, names_And}
+use Rattle.acceptance.proofs.tables.forgetful_gate.Goals as goal
+
+pub invariant_of-result-clause-sound : goal.invariant_of-result-clause-sound
+invariant_of-result-clause-sound c =
+    sound c.in_ok-name.ensures c.in_ok-pins.ensures
+    (c.in_ok-groups.ensures ∙ (λ i. c.in_ok-node.ensures _ refl i ∷ []))
+    (c.in_ok-outputs.ensures
+    ∙ (λ i. (c.in_ok-output.ensures
+    ∙ output_of (c.in_ok-gated.ensures (both 0 1) refl ∙ renamed_both (0 ∷ 5 ∷ []) 0 1)) i ∷ []))
+    c.new-checks.ensures c.new-arcs.ensures (simp (names_And, names_Name))

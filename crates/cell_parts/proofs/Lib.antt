@@ -5,3 +5,14 @@ pub mod Fits
 pub mod Distinct
 pub mod PinRules
 pub mod GroupCount
+pub mod Members
+pub mod FirstNames
+pub mod Numbering
+pub mod OwnNames
+pub mod TextNames
+pub mod GroupRules
+pub mod TextGroups
+pub mod TableGroups
+pub mod CellGroups
+pub mod SourceRules
+pub mod CellOutputs

@@ -11,3 +11,4 @@ pub mod Outputs
 pub mod TextFaults
 pub mod Building
 pub mod Limits
+pub mod CellLaws

@@ -5,6 +5,7 @@ pub mod cell_numbers;
 pub mod declarations;
 pub mod fault;
 pub mod groups;
+mod laws;
 pub mod least;
 pub mod output_pins;
 pub mod outputs;
@@ -15,3 +16,5 @@ pub mod state_readings;
 pub mod states;
 pub mod texts;
 pub mod vocabulary;
+
+pub use laws::{groups_keep_rules, outputs_keep_rules};

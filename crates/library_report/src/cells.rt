@@ -1,11 +1,10 @@
 //! What became of the cells of a library.
-ghost use Rattle.std.specs.Prelude.{◌≡◌, ◌&&◌, nat_lt};
-ghost use Rattle.std.specs.List.{list_all};
+ghost use Rattle.std.specs.Prelude.{◌≡◌};
 ghost use Rattle.text_io.specs.declared.slots.OutSlot.TheVariants.{Report};
 ghost use Rattle.text_io.specs.Desk.{HasCause, WritesText};
-ghost use Rattle.cell_machine.specs.CellRules.{is_name as is_name_of};
 ghost use Rattle.library_report.specs.CellLines.{cell_text, printed_name as printed_name_of, refusal_text, accepted_line, refused_line, totals_line};
 
+use cell_parts::declarations::is_name;
 use cell_reader::Refusal;
 use itoa::Buffer;
 use text_io::{Desk, Failed, OutSlot, write_pieces, write_whole};
@@ -108,25 +107,4 @@ fn printed_name(name: &[u8]) -> &[u8]
     ensures { result.now ≡ printed_name_of name.now }
 {
     if is_name(name) { name } else { b"?" }
-}
-
-/// Whether a cell may bear this name.
-fn is_name(name: &[u8]) -> bool
-    ensures { result ≡ is_name_of name.now }
-{
-    0 < name.len() && name.len() <= 255 && are_name_bytes(name)
-}
-
-/// Whether all bytes may stand in a name.
-fn are_name_bytes(name: &[u8]) -> bool
-    ensures { result ≡ list_all (λ byte. nat_lt 32 byte && nat_lt byte 127) name.now }
-{
-    name.iter().all(|byte| is_name_byte(*byte))
-}
-
-/// Whether a byte may stand in a name: it is printable ASCII and no space.
-fn is_name_byte(byte: u8) -> bool
-    ensures { result ≡ (nat_lt 32 byte && nat_lt byte 127) }
-{
-    32 < byte && byte < 127
 }

@@ -16,3 +16,4 @@ pub mod TableGroups
 pub mod CellGroups
 pub mod SourceRules
 pub mod CellOutputs
+pub mod Clashes

@@ -19,7 +19,7 @@ within_limit limit [] h = omega arith
 within_limit zero (x ∷ xs) h = absurd cc
 within_limit (suc limit) (x ∷ xs) h = let k : length xs ≤ limit = within_limit limit xs h in omega arith
 
-owners_count : (groups : List Group) → length (flat_map owners_in groups) ≡ length (flat_map pins_in groups)
+pub owners_count : (groups : List Group) → length (flat_map owners_in groups) ≡ length (flat_map pins_in groups)
 owners_count [] = refl
 owners_count (group ∷ groups) =
     let later = owners_count groups in

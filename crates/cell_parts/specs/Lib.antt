@@ -3,6 +3,7 @@ pub mod Pins
 pub mod States
 pub mod Scans
 pub mod Declarations
+pub mod KnownNames
 pub mod Shown
 pub mod Vocabulary
 pub mod Texts

@@ -1,16 +1,19 @@
 //! The names that a cell declares.
-ghost use Rattle.std.specs.Prelude.{◌≡◌, ◌++◌, ◌&&◌, [], OnOk, IfOk, map, flat_map, nat_lt};
+ghost use Rattle.std.specs.Prelude.{◌≡◌, ◌++◌, ◌∷◌, ◌&&◌, [], List, OnOk, IfOk, map, flat_map, nat_lt};
 ghost use Rattle.std.specs.List.{list_all, list_any};
 ghost use Rattle.timing_arcs.specs.Timing.{least};
 ghost use Rattle.cell_machine.specs.CellRules.{is_name as is_name_of};
-ghost use Rattle.cell_parts.specs.Declarations.{bears as bears_of, declared_pin, declared_state, declared_in as declared_in_of, may_share as may_share_of, clashes as clashes_of, clashes_after, bad_name_in as bad_name_in_of};
+ghost use Rattle.cell_parts.specs.Declarations.{Declared as DeclaredName, bears as bears_of, declared_pin, declared_state, declared_in as declared_in_of, may_share as may_share_of, clashes as clashes_of, clashes_after, bad_name_in as bad_name_in_of};
+ghost use Rattle.cell_parts.specs.KnownNames.{clash_in, IsAgainst, IsKnown};
 ghost use Rattle.cell_parts.specs.States.{states_in as states_in_of};
 ghost use Rattle.cell_parts.specs.Shown.{shown_name, shown_state};
 
+use crate::fault::Memory;
 use crate::groups::{is_pin, is_state};
 use crate::least::lesser;
 use crate::pins::direction_of;
 use crate::states::{StateName, states_in};
+use bool_functions::Names;
 use cell_machine::Direction;
 use liberty_groups::Group;
 use std::alloc::{AllocError, Global};
@@ -142,38 +145,71 @@ fn may_share(one: Role, other: Role) -> bool
     }
 }
 
-/// Whether two declared names are the same and may not be.
-fn clashes(one: &Declared<'_>, other: &Declared<'_>) -> bool
-    ensures { result ≡ clashes_of (shown_name one.now) (shown_name other.now) }
-{
-    one.name == other.name && !may_share(one.role, other.role)
+/// The names that are declared so far: for each role those with which a name of that role clashes.
+#[derive(Drop)]
+pub struct Known {
+    pub plain: Names,
+    pub bearers: Names,
+    pub nodes: Names,
 }
 
-/// Whether a declared name clashes with one of these.
-fn clashes_with_one(one: &Declared<'_>, earlier: &[Declared<'_>]) -> bool
-    ensures { result ≡ list_any (clashes_of (shown_name one.now)) (map shown_name earlier.now) }
+/// Adds a name to those with which a name of this role clashes, unless the two may share it.
+fn keep(names: &mut Names, role: Role, one: &Declared<'_>) -> Result<(), Memory>
+    ensures { OnOk result ((earlier : List DeclaredName) → IsAgainst role earlier names.old → IsAgainst role (earlier ++ shown_name one.now ∷ []) names.new) }
 {
-    for other in earlier {
-        if clashes(one, other) {
-            return true;
-        }
+    if !may_share(role, one.role) {
+        names.add(one.name)?;
     }
-    false
+    Ok(())
+}
+
+/// Adds a declared name.
+fn add(known: &mut Known, one: &Declared<'_>) -> Result<(), Memory>
+    ensures { OnOk result ((earlier : List DeclaredName) → IsKnown earlier known.old → IsKnown (earlier ++ shown_name one.now ∷ []) known.new) }
+{
+    keep(&mut known.plain, Role::Plain, one)?;
+    keep(&mut known.bearers, Role::Bearer, one)?;
+    keep(&mut known.nodes, Role::Node, one)
+}
+
+/// Whether a declared name clashes with one of those that are declared so far.
+fn clashes_with(known: &Known, one: &Declared<'_>) -> bool
+    ensures { (earlier : List DeclaredName) → IsKnown earlier known.now → result ≡ list_any (clashes_of (shown_name one.now)) earlier }
+{
+    match one.role {
+        Role::Plain => known.plain.number(one.name).is_some(),
+        Role::Bearer => known.bearers.number(one.name).is_some(),
+        Role::Node => known.nodes.number(one.name).is_some(),
+    }
+}
+
+/// The offset of a declared name, where it clashes with one of those that are declared so far.
+fn clash_at(known: &Known, one: &Declared<'_>) -> Option<usize>
+    ensures { (earlier : List DeclaredName) → IsKnown earlier known.now → result ≡ least (clash_in earlier (shown_name one.now)) }
+{
+    if clashes_with(known, one) {
+        Some(one.at)
+    } else {
+        None
+    }
 }
 
 /// The least offset of a name that clashes with an earlier one.
-#[tactic(auto, using(crate::proofs::LeastLemmas::lesser_assoc, crate::proofs::LeastLemmas::lesser_none, crate::proofs::LeastLemmas::least_append))]
-pub fn first_clash(declared: &[Declared<'_>]) -> Option<usize>
-    ensures { result ≡ least (clashes_after [] (map shown_name declared.now)) }
+#[tactic(auto, using(crate::proofs::LeastLemmas::lesser_none))]
+pub fn first_clash(alloc: Global, declared: &[Declared<'_>]) -> Result<Option<usize>, Memory>
+    ensures { IfOk result (λ at. at ≡ least (clashes_after [] (map shown_name declared.now))) }
 {
+    let mut known = Known {
+        plain: Names::new(alloc),
+        bearers: Names::new(alloc),
+        nodes: Names::new(alloc),
+    };
     let mut found = None;
-    for i in 0..declared.len() {
-        let later = &declared[i];
-        if clashes_with_one(later, &declared[..i]) {
-            found = lesser(found, Some(later.at));
-        }
+    for later in declared {
+        found = lesser(found, clash_at(&known, later));
+        add(&mut known, later)?;
     }
-    found
+    Ok(found)
 }
 
 /// Whether a byte may stand in a name: it is printable and no space.

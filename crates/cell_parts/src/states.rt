@@ -1,5 +1,5 @@
 //! The states of a cell and their names.
-ghost use Rattle.std.specs.Prelude.{◌≡◌, IfOk, map};
+ghost use Rattle.std.specs.Prelude.{◌≡◌, ◌++◌, OnOk, IfOk, map, flat_map};
 ghost use Rattle.std.specs.Option.{option_map};
 ghost use Rattle.cell_parts.specs.Groups.{names_in as names_in_of};
 ghost use Rattle.cell_parts.specs.States.{both_named as both_named_of, states_in as states_in_of, is_table as is_table_of, arguments_of as arguments_of_group, node_named};
@@ -101,4 +101,27 @@ pub fn states_in(alloc: Global, group: &Group) -> Result<Vec<StateName<'_>>, All
         return Ok(states);
     }
     nodes_in(alloc, second.bytes.as_slice())
+}
+
+/// Adds the states of a group.
+fn add_states<'a>(
+    alloc: Global,
+    states: &mut Vec<StateName<'a>>,
+    group: &'a Group,
+) -> Result<(), AllocError>
+    ensures { OnOk result (map shown_state states.new.items ≡ map shown_state states.old.items ++ states_in_of group.now) }
+{
+    let mut more = states_in(alloc, group)?;
+    states.append(&mut more)
+}
+
+/// The states of some groups, in order.
+pub fn states_of<'a>(alloc: Global, groups: &[&'a Group]) -> Result<Vec<StateName<'a>>, AllocError>
+    ensures { IfOk result (λ states. map shown_state states.items ≡ flat_map states_in_of (map (λ group. group.now) groups.now)) }
+{
+    let mut states = Vec::new(alloc);
+    for group in groups {
+        add_states(alloc, &mut states, group)?;
+    }
+    Ok(states)
 }

@@ -72,10 +72,7 @@ record IsUnrefused (r : StateReading) : Type 0 where
 module _
     (states : List StateName) (pins : List Pin) (v : Vocabulary) (to : List ℕ)
     (numbers : (i : ℕ) → NumberIs states pins v.names i (slice_index to i) (class_at v.classes i)) where
-  -- the groups of a reading keep the rules
-  abbrev Keeps : Group → ℕ → Option Arguments → StateReading → Type 0
-  Keeps group n arguments r = IsUnrefused r → IsTrue (are_groups_from pins n (groups_with to group r arguments))
-
+  -- the groups that a reading gives keep the rules
   by_arguments :
       (group : Group) (n : ℕ) (arguments : Option Arguments) → arguments_of group ≡ arguments
       → (table : Bool) → is_table group ≡ table → OwnIn states (length pins) n table arguments
@@ -133,8 +130,6 @@ module _
 
 pub groups_keep_rules : GroupsKeepRules
 groups_keep_rules cell none =
-    let pins : List Pin = pins_of cell in
-    let v : Vocabulary = vocabulary cell in
     let many : length (flat_map state_at (state_groups cell)) ≤ 16 = within_limit 16 (flat_map state_at (state_groups cell)) none.few_states in
     let same : length (groups_of cell) ≡ length (flat_map state_at (state_groups cell)) =
     group_count (numbers_of cell) (state_reading (vocabulary cell) (length (pins_of cell))) (state_groups cell) in

@@ -42,6 +42,7 @@ use Rattle.cell_parts.specs.CellLaws.{numbers_of, groups_of, outputs_of, Outputs
 use Rattle.cell_parts.proofs.Distinct.{nil_parts}
 use Rattle.cell_parts.proofs.Members.{all_map}
 use Rattle.cell_parts.proofs.Numbering.{state_flags, NumberIs, numbers_are}
+use Rattle.cell_parts.proofs.OwnNames.{no_place}
 use Rattle.cell_parts.proofs.TextNames.{text_names, is_absent, IsSound, names_of_written, absent_text, function_apart, state_function_apart, is_value_number, names_values, function_names_are, state_function_names_are, node_names_are}
 use Rattle.cell_parts.proofs.CellGroups.{pins_distinct, groups_keep_rules}
 use Rattle.cell_parts.proofs.SourceRules.{has_second, group_flags, output_keeps_rules}
@@ -133,16 +134,12 @@ output_is_there v None (Some internal) function h = node_is_there v.classes inte
 output_is_there v None None (Some function) h = absent_text v scope.Function (Some function)
 output_is_there v None None None h = absurd cc
 
-none_placed : (b : Bool) (at : ℕ) → (if b then at ∷ [] else []) ≡ [] → b ≡ false
-none_placed true at h = absurd cc
-none_placed false at h = refl
-
 -- an output of which the lack of a function is not refused has a text
 has_text : (v : Vocabulary) (pin : Group) → is_output_group (direction_of pin) ≡ true → no_function_in pin ≡ [] → is_absent (output_text v pin) ≡ false
 unfolding no_function_in
 has_text v pin o h =
     let lacks : Bool = is_missing (codes "function") pin && (is_missing (codes "state_function") pin && is_missing (codes "internal_node") pin) in
-    let e : is_output_group (direction_of pin) && lacks ≡ false = none_placed (is_output_group (direction_of pin) && lacks) pin.at h in
+    let e : is_output_group (direction_of pin) && lacks ≡ false = no_place (is_output_group (direction_of pin) && lacks) pin.at h in
     let k : lacks ≡ false = sym (ap (λ b. b && lacks) o) ∙ e in
     output_is_there v (attribute_of pin (codes "state_function")) (attribute_of pin (codes "internal_node")) (attribute_of pin (codes "function")) k
 
@@ -158,9 +155,8 @@ narrow_text :
     → length (sources_of pins groups (function_of to t)) ≤ 10
 narrow_text pins groups to text.Absent s a h = absurd cc
 narrow_text pins groups to (text.Reads f at) s a h =
-    let n : ℕ = length (sources_of pins groups (function_of to (text.Reads f at))) in
     let e : nat_lt 10 (length (sources_of pins groups (function_of to (text.Reads f at)))) ≡ false =
-    none_placed (nat_lt 10 (length (sources_of pins groups (function_of to (text.Reads f at))))) at h in
+    no_place (nat_lt 10 (length (sources_of pins groups (function_of to (text.Reads f at))))) at h in
     ltb-false 10 (length (sources_of pins groups (function_of to (text.Reads f at)))) e
 narrow_text pins groups to (text.Malformed at) s a h = let k = s.well_formed in absurd cc
 narrow_text pins groups to (text.Unknown at) s a h = let k = s.known in absurd cc
@@ -198,9 +194,6 @@ module _
       → IsTrue (is_output_of pins groups (output_pin (length pins) groups to p (pin_text v owner)))
   output_holds p owner o a b c d =
       let same : pin_text v owner ≡ output_text v owner = text_of_output v owner (direction_of owner) o in
-      let state : Option Attribute = attribute_of owner (codes "state_function") in
-      let internal : Option Attribute = attribute_of owner (codes "internal_node") in
-      let function : Option Attribute = attribute_of owner (codes "function") in
       let sound : IsSound (output_text v owner) = record {
         well_formed = subst (λ t. malformed_at t ≡ []) same a;
         known = subst (λ t. unknown_at t ≡ []) same b;
@@ -227,7 +220,6 @@ module _
       let pc = nil_parts (no_function_in owner) (flat_map no_function_in owners) c in
       let pd = nil_parts (wide_output v (length pins) groups to owner) (flat_map (wide_output v (length pins) groups to) owners) d in
       let later = outputs_hold (p + 1) owners pa.1 pb.1 pc.1 pd.1 in
-      let rest : List OutputPin = outputs_from v (length pins) groups to (p + 1) owners in
       elim (cases_Bool (is_output_group (direction_of owner))) [
         | inl o ↦
             let made : output_in v (length pins) groups to p owner ≡ output_pin (length pins) groups to p (pin_text v owner) ∷ [] =
@@ -262,9 +254,7 @@ same_output (Some direction.Output) = refl
 same_output (Some direction.Internal) = refl
 
 module _ (v : Vocabulary) (pins : ℕ) (groups : List StateGroup) (to : List ℕ) where
-  abbrev numbers_from_owners : ℕ → List Group → List ℕ
-  numbers_from_owners k owners = map (λ (output : OutputPin). output.pin) (outputs_from v pins groups to k owners)
-
+  -- one number for each output pin, in order
   numbers_in_group :
       (group : Group) (owners : List Group) (more : List Pin)
       → ((k : ℕ) → map (λ (output : OutputPin). output.pin) (outputs_from v pins groups to k owners) ≡ output_pins_from k more)
@@ -293,7 +283,6 @@ module _ (v : Vocabulary) (pins : ℕ) (groups : List StateGroup) (to : List ℕ
 
 pub outputs_keep_rules : OutputsKeepRules
 outputs_keep_rules cell none =
-    let v : Vocabulary = vocabulary cell in
     let kept = (and_parts (nat_le (length (groups_of cell)) 16) (are_groups_from (pins_of cell) (length (pins_of cell)) (groups_of cell)) (groups_keep_rules cell none)).1 in
     let read : flat_map (λ (g : Group). malformed_at (pin_text (vocabulary cell) g)) (pin_groups cell) ≡ [] =
     sym (flat_map-map malformed_at (pin_text (vocabulary cell)) (pin_groups cell)) ∙ none.texts_read in

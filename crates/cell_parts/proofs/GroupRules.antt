@@ -1,6 +1,6 @@
 -- A state group of which nothing is refused keeps the rules of state groups: groups from `ff` and `latch`.
 use Rattle.std.proofs.Common.{◌≡◌, ℕ, zero, suc, ◌+◌, ◌<◌, ◌≤◌, Bool, true, false, ◌&&◌, ◌||◌, ◌==◌, List, [], ◌∷◌, ◌++◌, length, map, filter, refl, sym, ◌∙◌, ap, subst, arith, IsTrue, Option, Some, None, inl, inr, nat_eq, nat_lt, nat_le, slice_index, eqb-true}
-use Rattle.std.specs.Prelude.{option_to_list, if◌then◌else◌}
+use Rattle.std.specs.Prelude.{option_to_list}
 use Rattle.std.specs.List.{list_all}
 use Rattle.std.proofs.lemmas.Bool.{cases_Bool, and_from, and_parts, or_left, or_right, or_cases, ltb-true, lt-ltb, leb-true}
 use Rattle.cell_machine.specs.declared.groups.GroupKind.{GroupKind}
@@ -16,6 +16,7 @@ use Rattle.cell_parts.specs.StateReadings.{pins_among, names_read}
 use Rattle.cell_parts.specs.Limits.{no_support_in, wide_support_in}
 use Rattle.cell_parts.proofs.Distinct.{nil_parts}
 use Rattle.cell_parts.proofs.Members.{stand_in, all_from, all_both, in_passes, in_left, in_right, in_itself, all_insert_all, in_placed, placed_ascend, in_filter, filter_in, filter_all, has_map, all_map, has_append_left, has_append_right}
+use Rattle.cell_parts.proofs.OwnNames.{no_place}
 use Rattle.cell_parts.proofs.TextNames.{text_names, names_in_support, support_in_names, IsSound, is_kept_input, is_input_or_own}
 
 -- Nothing is wrong with a reading.
@@ -86,14 +87,10 @@ sound_reading r h k l =
 
 -- Supports.
 
-none_placed : (b : Bool) (at : ℕ) → (if b then at ∷ [] else []) ≡ [] → b ≡ false
-none_placed true at h = absurd cc
-none_placed false at h = refl
-
 pub some_support : (r : StateReading) → r.holds ≡ true → no_support_in r ≡ [] → IsTrue (nat_lt 0 (length r.support))
 unfolding no_support_in
 some_support r h k =
-    let e : r.holds && length r.support == 0 ≡ false = none_placed (r.holds && length r.support == 0) r.at k in
+    let e : r.holds && length r.support == 0 ≡ false = no_place (r.holds && length r.support == 0) r.at k in
     let l : length r.support == 0 ≡ false = rw h at e in
     above (length r.support) l
   where
@@ -104,7 +101,7 @@ some_support r h k =
 pub narrow_support : (r : StateReading) → r.holds ≡ true → wide_support_in r ≡ [] → IsTrue (nat_le (length r.support) 8)
 unfolding wide_support_in
 narrow_support r h k =
-    let e : r.holds && nat_lt 8 (length r.support) ≡ false = none_placed (r.holds && nat_lt 8 (length r.support)) r.at k in
+    let e : r.holds && nat_lt 8 (length r.support) ≡ false = no_place (r.holds && nat_lt 8 (length r.support)) r.at k in
     let l : nat_lt 8 (length r.support) ≡ false = rw h at e in
     within (length r.support) l
   where
@@ -218,9 +215,6 @@ in_text : (p : ℕ → Bool) (t : Text) → IsTrue (list_all p (text_names t)) �
 in_text p t h = in_passes p (text_support t) (text_names t) (support_in_names t) h
 
 module _ (pins : List Pin) (to : List ℕ) (m : ℕ) (d c l p : Text) (n : NamesAre pins to m d c l p) where
-  abbrev read : List ℕ
-  read = names_read d c l p
-
   abbrev support : List ℕ
   support = pins_among (length pins) (names_read d c l p)
 

@@ -27,7 +27,8 @@ clash_parts earlier (d ∷ xs) ys h =
       subst (λ e. clashes_after e ys ≡ []) (append_assoc earlier (d ∷ []) xs) later.1,
     )
 
-no_place : (b : Bool) (at : ℕ) → (if b then at ∷ [] else []) ≡ [] → b ≡ false
+-- where no place is given, the test fails
+pub no_place : (b : Bool) (at : ℕ) → (if b then at ∷ [] else []) ≡ [] → b ≡ false
 no_place true at h = absurd cc
 no_place false at h = refl
 
@@ -116,7 +117,6 @@ own_in states pins at before after earlier false (Some a) h k e =
     unlike a.second a.first (or_parts (bytes_eq a.second a.first && true) false parts.1).0 in
     let same_first : bytes_eq a.first a.first ≡ true = (bytes_eq-Decides a.first a.first).1 refl in
     let same_second : bytes_eq a.second a.second ≡ true = (bytes_eq-Decides a.second a.second).1 refl in
-    let whole : before ++ (variables a ∷ after) ≡ before ++ (variables a ∷ after) = refl in
     let n : ℕ = pins + 2 * length before in
     let at_first : number_in (variables a ∷ after) n a.first ≡ Some n = rw same_first refl in
     let at_second : number_in (variables a ∷ after) n a.second ≡ Some (n + 1) = rw (other, same_second) refl in (

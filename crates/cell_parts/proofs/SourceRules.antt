@@ -187,8 +187,6 @@ value_stands pins q m [] i far plain inputs states h =
 value_stands pins q m (group ∷ groups) i far plain inputs states h =
     let parts = and_parts (is_plain_second pins group.kind) (are_plain pins groups) plain in
     let first : IsTrue (q m) = states m (or_left (nat_eq m m) (is_state_number groups (m + 2) m) (eq-eqb m m refl)) in
-    let flags : List Bool = group_flags groups in
-    let b : Bool = has_second group.kind in
     let states_later : (x : ℕ) → IsTrue (is_state_number groups (m + 2) x) → IsTrue (q x) =
     λ x k. states x (or_right (nat_eq x m) (is_state_number groups (m + 2) x) k) in
     let later : IsTrue (is_input_pin pins i || is_variable (group_flags groups) (m + 2) i) → IsTrue (list_all q (stands_for (m + 2) groups i)) =

@@ -27,14 +27,14 @@ use Rattle.cell_parts.specs.Groups.{names_in}
 use Rattle.cell_parts.specs.States.{Arguments, StateName, arguments_of, is_table, states_with, node_named}
 use Rattle.cell_parts.specs.Vocabulary.{Vocabulary}
 use Rattle.cell_parts.specs.Texts.{control_use, class_at, is_unknown, is_coupled, malformed_at, coupled_at}
-use Rattle.cell_parts.specs.StateReadings.{place_if, word_use, input_words, has_unknown_word, has_coupled_word, is_uncoupled, table_judged, table_text, table_with, number_in, numbers_of, reading_of_table}
+use Rattle.cell_parts.specs.StateReadings.{word_use, input_words, has_unknown_word, has_coupled_word, is_uncoupled, table_judged, table_text, table_with, number_in, numbers_of, reading_of_table}
 use Rattle.cell_parts.specs.Limits.{no_support_in, wide_support_in}
 use Rattle.cell_parts.specs.Building.{table_or, table_in, node_groups, table_groups}
 use Rattle.cell_parts.proofs.Members.{stand_in, in_itself}
 use Rattle.cell_parts.proofs.Numbering.{NumberIs}
 use Rattle.cell_parts.proofs.TextNames.{is_allowed, allowed_use}
 use Rattle.cell_parts.proofs.GroupRules.{IsSoundReading, some_support, narrow_support, is_no_other_pin, inputs_in_support, support_passes, is_support_from}
-use Rattle.cell_parts.proofs.TextGroups.{lacks_none}
+use Rattle.cell_parts.proofs.TextGroups.{not_placed, lacks_none}
 
 -- Tables.
 
@@ -138,10 +138,6 @@ module _
             subst (λ xs. IsTrue (list_all (is_input_pin pins) xs)) (sym whole) (and_from (is_input_pin pins i) (list_all (is_input_pin pins) (numbers_of v words)) input p),
           )
 
-not_placed : (b : Bool) (at : ℕ) → place_if b at ≡ None → b ≡ false
-not_placed true at h = absurd cc
-not_placed false at h = refl
-
 more_than_none : (n : ℕ) → suc n == 0 ≡ false
 more_than_none n = ne_eqb (suc n) 0 (λ h. absurd (omega arith))
 
@@ -159,9 +155,6 @@ module _
     (group : Group) (a : Arguments) (n : ℕ)
     (e : arguments_of group ≡ Some a) (t : is_table group ≡ true)
     (sound : IsSoundReading (reading_of_table v (length pins) group)) where
-  abbrev reading : StateReading
-  reading = reading_of_table v (length pins) group
-
   some_table : is_none (attribute_of group (codes "table")) ≡ false
   some_table = rw t at (lacks_none group sound.whole)
 
@@ -202,7 +195,6 @@ module _
             subst (λ (o : Option Arguments). coupled_at (table_with o attribute) ≡ []) e sound.of_data.apart in
             let table = table_in_is inputs_count nodes_count attribute some_table well apart in
             let all_inputs : List ℕ = (reading_of_table v (length pins) group).inputs in
-            let below : ℕ → Bool = λ i. nat_lt i (length pins) in
             nodes_hold pins n (table_in inputs_count nodes_count attribute) (reading_of_table v (length pins) group) 0 (names_in a.second)
             (is_support_from pins all_inputs (some_support (reading_of_table v (length pins) group) held some)
             (narrow_support (reading_of_table v (length pins) group) held few)

@@ -38,7 +38,8 @@ second_of : (attribute : Option Attribute) → IsTrue (is_second (unwrap_or (bot
 second_of None = refl
 second_of (Some attribute) = second_unkept (both_named attribute.text)
 
-not_placed : (b : Bool) (at : ℕ) → place_if b at ≡ None → b ≡ false
+-- where no offset is given, the test fails
+pub not_placed : (b : Bool) (at : ℕ) → place_if b at ≡ None → b ≡ false
 not_placed true at h = absurd cc
 not_placed false at h = refl
 

@@ -1,2 +1,5 @@
 pub mod Symbols
 pub mod Primitive
+pub mod Nets
+pub mod Timing
+pub mod Model

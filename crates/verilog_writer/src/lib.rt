@@ -1,8 +1,13 @@
-//! The Verilog text of primitives, by IEEE 1364-2005, clause 8 and its syntax.
+//! The Verilog text of primitives and modules, by IEEE 1364-2005, clauses 8, 12, 14 and 15.
 #![tactic(auto)]
 
+mod declarations;
+mod models;
+mod nets;
 mod primitive;
 mod symbols;
 mod table;
+mod timing;
 
+pub use models::{write_model, write_prelude};
 pub use primitive::write_udp;

@@ -1,3 +1,11 @@
+pub mod ChangeRows
+pub mod StepRows
+pub mod EdgeRowLemmas
+pub mod GroupLemmas
+pub mod FirstLemmas
+pub mod ColumnLemmas
+pub mod CubeLemmas
+pub mod SameTreeLemmas
 pub mod TableLemmas
 pub mod GenerationLemmas
 pub mod RowLemmas

@@ -95,10 +95,10 @@ length-input_names : (n : ℕ) → length (input_names n) ≡ n
 length-input_names zero = refl
 length-input_names (suc n) = length_push (input_names n) (input_name (suc n)) ∙ omega (arith, length-input_names n)
 
-cubes-long : (n : ℕ) (set : List Bool → Bool) → All (λ c. length c ≡ n) (prime_list n set)
+pub cubes-long : (n : ℕ) (set : List Bool → Bool) → All (λ c. length c ≡ n) (prime_list n set)
 cubes-long n set k d within = prime_list-length n set _ (contains-among _ _ (Contains-get_or (prime_list n set) k d within))
 
-entries-level : (c : List Trit) → list_all is_level (map level_entry c) ≡ true
+pub entries-level : (c : List Trit) → list_all is_level (map level_entry c) ≡ true
 entries-level [] = refl
 entries-level (Zero ∷ c) = entries-level c
 entries-level (One ∷ c) = entries-level c

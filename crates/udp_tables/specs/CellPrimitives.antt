@@ -1,6 +1,6 @@
 -- The primitives of a cell. They are numbered (this project's choice): groups in order, conditions in order, then outputs
 -- with a support that is not empty, in order.
-use Rattle.std.specs.Prelude.{ℕ, ◌+◌, Bool, true, nat_lt, List, [], ◌++◌, length, take, count_by, slice_get, slice_index_or, codes, decimal, if◌then◌else◌}
+use Rattle.std.specs.Prelude.{◌<◌, ℕ, ◌+◌, Bool, true, nat_lt, List, [], ◌++◌, length, take, count_by, slice_get, slice_index_or, codes, decimal, if◌then◌else◌}
 use Rattle.std.specs.Option.{option_map_or}
 use Rattle.trit_cubes.specs.declared.trits.Trit.{Trit}
 use Rattle.trit_cubes.specs.declared.trits.Trit.TheVariants.{Unknown}
@@ -103,3 +103,8 @@ output_primitive cell i =
 abbrev pub part_primitive : CellData → Part → Udp
 part_primitive cell (part.Output i) = output_primitive cell i
 part_primitive cell (part.Condition i) = condition_primitive cell i
+
+-- a part that the cell has, and, of an output, one that depends on anything
+abbrev pub IsPart : CellData → Part → Type 0
+IsPart cell (part.Output i) = (i < length cell.outputs) × (0 < length (sources_at cell i))
+IsPart cell (part.Condition i) = i < length (conditions_of cell)

@@ -1,6 +1,6 @@
 -- The tables of sequential primitives: what they mean, by IEEE 1364-2005, clause 8, and the rows that this project writes
 -- for a step.
-use Rattle.std.specs.Prelude.{ℕ, Bool, true, false, not, ◌&&◌, List, [], ◌∷◌, ◌++◌, map, replicate}
+use Rattle.std.specs.Prelude.{◌≡◌, ℕ, Bool, true, false, not, ◌&&◌, All, List, [], ◌∷◌, ◌++◌, map, length, replicate}
 use Rattle.std.specs.List.{list_all}
 use Rattle.trit_cubes.specs.declared.trits.Trit.{Trit}
 use Rattle.trit_cubes.specs.declared.trits.Trit.TheVariants as trit
@@ -11,6 +11,7 @@ use Rattle.udp_tables.specs.declared.table.Entry.{Entry}
 use Rattle.udp_tables.specs.declared.table.Entry.TheVariants as entry
 use Rattle.udp_tables.specs.declared.table.Next.TheVariants as next
 use Rattle.udp_tables.specs.declared.table.UdpRow.{UdpRow}
+use Rattle.udp_tables.specs.declared.table.Udp.{Udp}
 use Rattle.udp_tables.specs.Tables.{first, columns_match, or_row}
 use Rattle.udp_tables.specs.Primitive.{level_matches, entry_matches, is_level, next_of}
 use Rattle.udp_tables.specs.Generated.{level_entry, next_to}
@@ -43,6 +44,10 @@ udp_next rows before after state =
     first (level_hit before after state) (row_next state) rows
     (first (edge_hit before after state) (row_next state) rows trit.Unknown)
 
+-- a primitive with an entry for each input in each row
+abbrev pub HasEntries : Udp → Type 0
+HasEntries udp = All (λ row. length row.inputs ≡ length udp.inputs) udp.rows
+
 -- the level for a place of a cube: `?` where it is free
 abbrev pub level_symbol : Trit → Level
 level_symbol trit.Zero = level.Zero
@@ -57,10 +62,10 @@ edge_entry trit.Unknown trit.One = entry.Pair level.Any level.One
 edge_entry trit.Zero new = entry.Pair level.Zero (level_symbol new)
 edge_entry trit.One new = entry.Pair level.One (level_symbol new)
 
--- the entries of the inputs, and that of the notifier last where there is one
-abbrev pub noted : Bool → Entry → List Entry → List Entry
-noted false note entries = entries
-noted true note entries = entries ++ note ∷ []
+-- the list of the inputs, and what stands for the notifier last where there is one
+abbrev pub noted : {X : Type 0} → Bool → X → List X → List X
+noted false note xs = xs
+noted true note xs = xs ++ note ∷ []
 
 -- the row that gives this value on the points of a cube, whatever the state and the notifier are
 abbrev pub state_row : Bool → Trit → List Trit → UdpRow

@@ -1,13 +1,16 @@
 ghost use Rattle.std.specs.Prelude.{◌≡◌, ℕ, ◌++◌, ◌^◌, ◌≤◌, ◌<◌, not, map, length, replicate, IfOk, OnOk};
 ghost use Rattle.trit_cubes.specs.declared.trits.Trit.TheVariants as trit;
+ghost use Rattle.trit_cubes.specs.Sets.{has};
+ghost use Rattle.trit_cubes.specs.Prime.{prime_list};
 ghost use Rattle.bool_functions.specs.Tree.{Has};
 ghost use Rattle.bool_functions.specs.Point.{HasValues};
 ghost use Rattle.udp_tables.specs.Tables.{value_rows, or_row};
-ghost use Rattle.udp_tables.specs.Generated.{level_entry, next_to, level_row, function_primitive, function_rows, tree_value, numbers_below};
+ghost use Rattle.udp_tables.specs.Generated.{level_row, function_primitive, function_rows, tree_value, numbers_below};
 
+use crate::entries::{free_entries, level_entries};
 use crate::faults::Memory;
 use crate::port_names::{input_names, output_name};
-use crate::table::{Entry, Level, Next, Udp, UdpRow};
+use crate::table::{Level, Next, Udp, UdpRow};
 use bool_functions::Function;
 use sqlite_items::Items;
 use std::alloc::Global;
@@ -42,11 +45,26 @@ fn function_rows(alloc: Global, function: &Function, names: usize) -> Result<Ite
     requires numbered { (i : ℕ) → Has function.now i → i < names }
     ensures { IfOk result (λ rows. rows ≡ function_rows names (tree_value function.now)) }
 {
-    let ones = value_table(alloc, function, names)?;
-    let zeros = inverted(alloc, &ones)?;
-    let one_cubes = primes(alloc, names, &ones)?;
-    let zero_cubes = primes(alloc, names, &zeros)?;
-    let rows = table_rows(alloc, names, &one_cubes, &zero_cubes)?;
+    let values = value_table(alloc, function, names)?;
+    let rows = table_rows(alloc, names, &values)?;
+    Ok(rows)
+}
+
+/// The rows of the function that has these values at the points of so many places: entry k is its value at the point with
+/// the number k.
+pub(crate) fn table_rows(
+    alloc: Global,
+    places: usize,
+    values: &[bool],
+) -> Result<Items<UdpRow>, Memory>
+    requires few { places ≤ 10 }
+    requires entries { length values.now ≡ 2 ^ places }
+    ensures { IfOk result (λ rows. rows ≡ or_row (level_row trit.Unknown (replicate places trit.Unknown)) (value_rows level_row (prime_list places (has values.now)) (prime_list places (has (map not values.now))))) }
+{
+    let inverses = inverted(alloc, values)?;
+    let ones = primes(alloc, places, values)?;
+    let zeros = primes(alloc, places, &inverses)?;
+    let rows = cube_rows(alloc, places, &ones, &zeros)?;
     Ok(rows)
 }
 
@@ -79,8 +97,8 @@ fn inverted(alloc: Global, values: &[bool]) -> Result<Vec<bool>, Memory>
     Ok(values.iter().map(|value| !*value).collect(alloc)?)
 }
 
-// The rows for the primes of two sets of points, or the row that stands where there is none.
-fn table_rows(
+/// The rows for the primes of two sets of points, or the row that stands where there is none.
+pub(crate) fn cube_rows(
     alloc: Global,
     places: usize,
     ones: &[Cube],
@@ -115,12 +133,9 @@ fn add_rows(
 fn level_row(alloc: Global, value: Trit, cube: &Cube) -> Result<UdpRow, Memory>
     ensures { IfOk result (λ row. row ≡ level_row value cube.now) }
 {
-    let mut inputs = Items::new(alloc);
-    for i in 0..cube.len() {
-        inputs.push(Entry::from(cube.place(i)))?;
-    }
+    let inputs = level_entries(alloc, cube)?;
     Ok(UdpRow {
-        inputs,
+        inputs: Items::from_vec(inputs),
         state: Level::Any,
         next: Next::from(value),
     })
@@ -130,33 +145,10 @@ fn level_row(alloc: Global, value: Trit, cube: &Cube) -> Result<UdpRow, Memory>
 fn free_row(alloc: Global, places: usize) -> Result<UdpRow, Memory>
     ensures { IfOk result (λ row. row ≡ level_row trit.Unknown (replicate places trit.Unknown)) }
 {
+    let inputs = free_entries(alloc, places)?;
     Ok(UdpRow {
-        inputs: Items::from_vec(vec![in alloc; Entry::Level(Level::Any); places]?),
+        inputs: Items::from_vec(inputs),
         state: Level::Any,
         next: Next::Unknown,
     })
-}
-
-impl From<Trit> for Entry {
-    ghost from_gives = { λ place entry. entry ≡ level_entry place };
-
-    fn from(place: Trit) -> Entry {
-        match place {
-            Trit::Zero => Entry::Level(Level::Zero),
-            Trit::One => Entry::Level(Level::One),
-            Trit::Unknown => Entry::Level(Level::Any),
-        }
-    }
-}
-
-impl From<Trit> for Next {
-    ghost from_gives = { λ value next. next ≡ next_to value };
-
-    fn from(value: Trit) -> Next {
-        match value {
-            Trit::Zero => Next::Zero,
-            Trit::One => Next::One,
-            Trit::Unknown => Next::Unknown,
-        }
-    }
 }

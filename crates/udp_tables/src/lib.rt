@@ -1,20 +1,28 @@
 //! User-defined primitives as tables of rows, by IEEE 1364-2005, clause 8.
 #![tactic(auto)]
 
+mod cell_conditions;
 mod cell_primitives;
 mod combinational;
+mod entries;
 mod faults;
 mod generation;
+mod group_rows;
 pub mod laws;
+mod matching;
 mod models;
+mod points;
 mod port_names;
+mod sequential;
 mod table;
 
-pub use cell_primitives::Part;
+pub use cell_conditions::{condition_number, conditions};
+pub use cell_primitives::{Part, sequential_udp};
 pub use combinational::udp_level;
 pub use faults::Memory;
 pub use generation::function_udp;
 pub use models::{ModelFault, VPort};
+pub use sequential::udp_next;
 pub use table::{Entry, Level, Next, Udp, UdpRow};
 
 #[cfg(test)]

@@ -1,5 +1,6 @@
 ghost use Rattle.std.specs.Prelude.{◌≡◌, IfOk};
 ghost use Rattle.udp_tables.specs.PortNames.{output_name, input_name, input_names};
+ghost use Rattle.udp_tables.specs.CellPrimitives.{primitive_name};
 
 use crate::faults::Memory;
 use itoa::Buffer;
@@ -30,6 +31,18 @@ fn input_name(alloc: Global, number: usize) -> Result<Items<u8>, Memory>
 {
     let mut buffer = Buffer::new();
     let mut name = Vec::from_slice(alloc, b"i")?;
+    name.extend_from_slice(buffer.format(number).as_bytes())?;
+    Ok(Items::from_vec(name))
+}
+
+/// The name of primitive `number`, from 1, of the cell with the number `cell`.
+pub(crate) fn primitive_name(alloc: Global, cell: usize, number: usize) -> Result<Items<u8>, Memory>
+    ensures { IfOk result (λ name. name ≡ primitive_name cell number) }
+{
+    let mut buffer = Buffer::new();
+    let mut name = Vec::from_slice(alloc, b"lib_")?;
+    name.extend_from_slice(buffer.format(cell).as_bytes())?;
+    name.extend_from_slice(b"_")?;
     name.extend_from_slice(buffer.format(number).as_bytes())?;
     Ok(Items::from_vec(name))
 }

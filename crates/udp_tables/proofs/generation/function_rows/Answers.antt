@@ -10,12 +10,10 @@ use Rattle.udp_tables.proofs.generation.function_rows.Goals as goal
 pub returns : goal.returns
 returns c =
     let n = c.args.names in
+    let f = c.args.function.now in
+    let values = c.in_ok-values.values.items in
     let alone = level_row Unknown (replicate n Unknown) in
-    let ones : c.deref-4.result.now ≡ prime_list n (gives One (tree_value c.args.function.now))
-    = c.deref-4.ensures.value ∙ c.in_ok-one_cubes.ensures ∙ ap (λ t. prime_list n (has t)) c.deref-2.ensures.value
-    ∙ ones-table n c.args.function.now c.in_ok-ones.ones.items c.in_ok-ones.ensures.values in
-    let zeros : c.deref-5.result.now ≡ prime_list n (gives Zero (tree_value c.args.function.now))
-    = c.deref-5.ensures.value ∙ c.in_ok-zero_cubes.ensures ∙ ap (λ t. prime_list n (has t)) (c.deref-3.ensures.value ∙ c.in_ok-zeros.ensures ∙ ap (map not) c.deref.ensures.value)
-    ∙ zeros-table n c.args.function.now c.in_ok-ones.ones.items c.in_ok-ones.ensures.values in
-    c.in_ok-rows.ensures ∙ ap (λ cs. or_row alone (value_rows level_row cs c.deref-5.result.now)) ones
-    ∙ ap (λ cs. or_row alone (value_rows level_row (prime_list n (gives One (tree_value c.args.function.now))) cs)) zeros
+    c.in_ok-rows.ensures
+    ∙ ap (λ vs. or_row alone (value_rows level_row (prime_list n (has vs)) (prime_list n (has (map not vs))))) c.deref.ensures.value
+    ∙ ap (λ cs. or_row alone (value_rows level_row cs (prime_list n (has (map not values))))) (ones-table n f values c.in_ok-values.ensures.values)
+    ∙ ap (λ cs. or_row alone (value_rows level_row (prime_list n (gives One (tree_value f))) cs)) (zeros-table n f values c.in_ok-values.ensures.values)

@@ -1,0 +1,125 @@
+-- What the code for a group's rows builds is what the definitions say.
+use Rattle.std.proofs.Common.{◌≡◌, ℕ, zero, suc, ◌+◌, ◌-◌, ◌<◌, ◌≤◌, Bool, false, true, List, [], ◌∷◌, ◌++◌, map, take, drop, length, get_or, slice_get, Some, refl, sym, ◌∙◌, ap, arith, append_assoc, flat_map}
+use Rattle.std.proofs.lemmas.List.{drop_more, length-map, length-append}
+use Rattle.trit_cubes.specs.declared.trits.Trit.{Trit}
+use Rattle.trit_cubes.specs.declared.trits.Trit.TheVariants.{Unknown}
+use Rattle.trit_cubes.specs.Filling.{trit_of}
+use Rattle.trit_cubes.specs.Resolution.{res}
+use Rattle.bool_functions.specs.declared.tree.Node.{Node}
+use Rattle.cell_machine.specs.declared.arcs.Arc.{Arc}
+use Rattle.cell_machine.specs.Machine.{Step, insert, init, last, edge_value, forced_at, forced}
+use Rattle.udp_tables.specs.declared.table.Entry.{Entry}
+use Rattle.udp_tables.specs.Generated.{level_entry}
+use Rattle.udp_tables.specs.Sequential.{edge_entry, edge_inputs}
+use Rattle.udp_tables.specs.Conditions.{arc_conditions, added, added_all}
+
+-- conditions of two lists, one after the other
+pub added_all-append : (trees fs gs : List Node) → added_all trees (fs ++ gs) ≡ added_all (added_all trees fs) gs
+added_all-append trees [] gs = refl
+added_all-append trees (f ∷ fs) gs = added_all-append (added trees f) fs gs
+
+pub arc-added :
+    (trees more : List Node) (arcs : List Arc) (i : ℕ) (arc : Arc)
+    → i < length arcs → arc ≡ get_or arcs i arc → more ≡ added_all trees (arc_conditions arcs arc)
+    → added_all more (flat_map (arc_conditions arcs) (drop (i + 1) arcs))
+    ≡ added_all trees (flat_map (arc_conditions arcs) (drop i arcs))
+arc-added trees more arcs i arc l is e =
+    let rest : drop i arcs ≡ arc ∷ drop (i + 1) arcs = drop_more arcs i arc l ∙ ap (λ x. x ∷ drop (i + 1) arcs) (sym is) in
+    ap (λ ts. added_all ts (flat_map (arc_conditions arcs) (drop (i + 1) arcs))) e
+    ∙ sym (added_all-append trees (arc_conditions arcs arc) (flat_map (arc_conditions arcs) (drop (i + 1) arcs)))
+    ∙ ap (λ rows. added_all trees (flat_map (arc_conditions arcs) rows)) (sym rest)
+
+pub added-twice :
+    (none some all fs gs : List Node)
+    → all ≡ added_all some gs → some ≡ added_all none fs → none ≡ [] → all ≡ added_all [] (fs ++ gs)
+added-twice none some all fs gs e f g =
+    e ∙ ap (λ ts. added_all ts gs) (f ∙ ap (λ ts. added_all ts fs) g) ∙ sym (added_all-append [] fs gs)
+
+-- a list with an entry at a place, as its parts
+pub insert-parts : {X : Type 0} (p : ℕ) (x : X) (xs : List X) → p ≤ length xs → take p xs ++ x ∷ drop p xs ≡ insert p x xs
+insert-parts zero x xs l = refl
+insert-parts (suc p) x [] l = absurd (omega arith)
+insert-parts (suc p) x (y ∷ ys) l = ap (λ zs. y ∷ zs) (insert-parts p x ys (omega arith))
+
+-- a list less its last entry
+pub length-init : {X : Type 0} (x : X) (xs : List X) → length (init (x ∷ xs)) ≡ length xs
+length-init x [] = refl
+length-init x (y ∷ ys) = ap suc (length-init y ys)
+
+pub init-long : {X : Type 0} (xs : List X) → 0 < length xs → length (init xs) + 1 ≡ length xs
+init-long [] l = absurd (omega arith)
+init-long (x ∷ xs) l = omega (arith, length-init x xs)
+
+pub get-init : {X : Type 0} (xs : List X) (i : ℕ) (x : X) → i + 1 < length xs → slice_get xs i ≡ Some x → slice_get (init xs) i ≡ Some x
+get-init [] i x l e = absurd (omega arith)
+get-init (y ∷ []) i x l e = absurd (omega arith)
+get-init (y ∷ z ∷ zs) zero x l e = e
+get-init (y ∷ z ∷ zs) (suc i) x l e = get-init (z ∷ zs) i x (omega arith) e
+
+pub get-last : {X : Type 0} (xs : List X) (k : ℕ) (d x : X) → length xs ≡ k + 1 → slice_get xs k ≡ Some x → x ≡ last d xs
+get-last [] k d x l e = absurd (omega arith)
+get-last (y ∷ []) zero d x l e = let same : y ≡ x = cc in sym same
+get-last (y ∷ []) (suc k) d x l e = absurd (omega arith)
+get-last (y ∷ z ∷ zs) zero d x l e = absurd (omega arith)
+get-last (y ∷ z ∷ zs) (suc k) d x l e = get-last (z ∷ zs) k d x (omega arith) e
+
+pub init-take : {X : Type 0} (x : X) (xs : List X) → take (length xs) (x ∷ xs) ≡ init (x ∷ xs)
+init-take x [] = refl
+init-take x (y ∷ ys) = ap (λ zs. x ∷ zs) (init-take y ys)
+
+pub last-at : {X : Type 0} (x d e : X) (xs : List X) → get_or (x ∷ xs) (length xs) d ≡ last e (x ∷ xs)
+last-at x d e [] = refl
+last-at x d e (y ∷ ys) = last-at y d e ys
+
+-- the other inputs of a cube
+pub others-long : (c : List Trit) → 3 ≤ length c → length (map level_entry (drop 2 (init c))) + 3 ≡ length c
+others-long [] l = absurd (omega arith)
+others-long (old ∷ []) l = absurd (omega arith)
+others-long (old ∷ new ∷ []) l = absurd (omega arith)
+others-long (old ∷ new ∷ r ∷ rest) l = omega (arith, length-map (init (r ∷ rest)) level_entry, length-init r rest)
+
+-- the entries of a change, as they are put together
+pub edge_inputs-is :
+    (p : ℕ) (c : List Trit) (old new : Trit)
+    → 3 ≤ length c → slice_get c 0 ≡ Some old → slice_get c 1 ≡ Some new
+    → insert p (edge_entry old new) (map level_entry (drop 2 (init c))) ≡ edge_inputs p c
+edge_inputs-is p [] old new l e f = absurd (omega arith)
+edge_inputs-is p (a ∷ []) old new l e f = absurd (omega arith)
+edge_inputs-is p (a ∷ b ∷ []) old new l e f = absurd (omega arith)
+edge_inputs-is p (a ∷ b ∷ r ∷ rest) old new l e f =
+    let first : a ≡ old = cc in
+    let second : b ≡ new = cc in
+    λ i. insert p (edge_entry (sym first i) (sym second i)) (map level_entry (init (r ∷ rest)))
+
+-- a known point has its value
+pub res-known : (f : List Bool → Trit) (p : List Bool) → res f (map trit_of p) ≡ f p
+res-known f [] = refl
+res-known f (false ∷ p) = res-known (λ q. f (false ∷ q)) p
+res-known f (true ∷ p) = res-known (λ q. f (true ∷ q)) p
+
+-- The step at a point of a change, by the parts of the point.
+pub edge_value-parts :
+    (step : Step) (p : ℕ) (point : List Bool)
+    → 3 ≤ length point
+    → step (insert p (get_or point 0 false) (take (length point - 1 - 2) (drop 2 point)))
+    (insert p (get_or point 1 false) (take (length point - 1 - 2) (drop 2 point))) (get_or point (length point - 1) false)
+    ≡ edge_value step p point
+edge_value-parts step p [] l = absurd (omega arith)
+edge_value-parts step p (old ∷ []) l = absurd (omega arith)
+edge_value-parts step p (old ∷ new ∷ []) l = absurd (omega arith)
+edge_value-parts step p (old ∷ new ∷ r ∷ rest) l =
+    let few : length (old ∷ new ∷ r ∷ rest) - 1 - 2 ≡ length rest = omega arith in
+    let place : length (old ∷ new ∷ r ∷ rest) - 1 ≡ suc (suc (length rest)) = omega arith in
+    let others : take (length (old ∷ new ∷ r ∷ rest) - 1 - 2) (r ∷ rest) ≡ init (r ∷ rest)
+    = ap (λ k. take k (r ∷ rest)) few ∙ init-take r rest in
+    let state : get_or (old ∷ new ∷ r ∷ rest) (length (old ∷ new ∷ r ∷ rest) - 1) false ≡ last false (r ∷ rest)
+    = ap (λ k. get_or (old ∷ new ∷ r ∷ rest) k false) place ∙ last-at r false false rest in
+    λ i. step (insert p old (others i)) (insert p new (others i)) (state i)
+
+pub length-others : (point : List Bool) → 3 ≤ length point → suc (length (take (length point - 1 - 2) (drop 2 point))) + 2 ≡ length point
+length-others [] l = absurd (omega arith)
+length-others (old ∷ []) l = absurd (omega arith)
+length-others (old ∷ new ∷ []) l = absurd (omega arith)
+length-others (old ∷ new ∷ r ∷ rest) l =
+    let few : length (old ∷ new ∷ r ∷ rest) - 1 - 2 ≡ length rest = omega arith in
+    omega (arith, ap length (ap (λ k. take k (r ∷ rest)) few ∙ init-take r rest), length-init r rest)

@@ -1,0 +1,12 @@
+use Rattle.std.proofs.Common.{◌≡◌, drop}
+use Rattle.std.specs.Prelude.{slice_set}
+use Rattle.trit_cubes.specs.declared.trits.Trit.TheVariants.{Unknown}
+use Rattle.udp_tables.specs.Tables.{first}
+use Rattle.udp_tables.specs.Sequential.{edge_hit, row_next}
+use Rattle.udp_tables.proofs.sequential.edge_next.Given as goal
+
+-- the rows that are left decide as all rows do
+abbrev pub invariant-loop-row : goal.invariant-loop-row
+invariant-loop-row l =
+    first (edge_hit (slice_set l.inputs l.changed l.old) l.inputs l.state) (row_next l.state) (drop l.row-index l.row-items) Unknown
+    ≡ first (edge_hit (slice_set l.inputs l.changed l.old) l.inputs l.state) (row_next l.state) l.udp.rows Unknown

@@ -1,0 +1,250 @@
+//! The rows of a group's step.
+ghost use Rattle.std.specs.Prelude.{◌≡◌, ◌+◌, ◌<◌, ◌≤◌, suc, Bool, List, ◌++◌, map, filter, length, replicate, All, IfOk, OnOk};
+ghost use Rattle.trit_cubes.specs.declared.trits.Trit.TheVariants as trit;
+ghost use Rattle.trit_cubes.specs.Sets.{gives};
+ghost use Rattle.trit_cubes.specs.Prime.{prime_list};
+ghost use Rattle.cell_machine.specs.Machine.{forced_at, edge_value};
+ghost use Rattle.cell_machine.specs.CellTrace.{support_at, step_at};
+ghost use Rattle.udp_tables.specs.Tables.{or_row};
+ghost use Rattle.udp_tables.specs.Edges.{forced_rows, moves, edge_rows, each_below};
+ghost use Rattle.udp_tables.specs.Sequential.{state_row, notifier_rows, edge_row, sequential_rows};
+ghost use Rattle.udp_tables.specs.CellData.{data_of};
+ghost use Rattle.udp_tables.specs.CellPrimitives.{has_notifier};
+
+use crate::entries::{change_entries, free_entries, level_entries, noted};
+use crate::faults::Memory;
+use crate::points::{forces, steps_to};
+use crate::table::{Entry, Level, Next, UdpRow};
+use cell_machine::Cell;
+use sqlite_items::Items;
+use std::alloc::Global;
+use trit_cubes::{Cube, Trit, primes, table_of};
+
+/// The rows of a group: the points that force its state, the notifier where the cell has checks, and then the changes of
+/// each input.
+pub(crate) fn group_rows(alloc: Global, cell: &Cell, group: usize) -> Result<Items<UdpRow>, Memory>
+    requires { group < length cell.now.groups }
+    ensures { IfOk result (λ rows. rows ≡ sequential_rows (has_notifier (data_of cell.now)) (length (support_at cell.now group)) (step_at cell.now group)) }
+{
+    let notifier = !cell.checks.is_empty();
+    let pins = cell.group(group).support.len();
+    let mut rows = Items::new(alloc);
+    add_forced_rows(alloc, &mut rows, cell, group, notifier)?;
+    add_notifier_row(alloc, &mut rows, notifier, pins)?;
+    add_rows_of_changes(alloc, &mut rows, cell, group, notifier)?;
+    let rows = or_free_row(alloc, rows, notifier, pins)?;
+    Ok(rows)
+}
+
+// The rows, or one row of free places that gives x where there is none.
+fn or_free_row(
+    alloc: Global,
+    rows: Items<UdpRow>,
+    notifier: bool,
+    pins: usize,
+) -> Result<Items<UdpRow>, Memory>
+    ensures { IfOk result (λ all. all ≡ or_row (state_row notifier trit.Unknown (replicate pins trit.Unknown)) rows) }
+{
+    let mut rows = rows;
+    if rows.is_empty() {
+        let entries = free_entries(alloc, pins)?;
+        let inputs = noted(entries, notifier, Entry::Level(Level::Any))?;
+        rows.push(UdpRow {
+            inputs: Items::from_vec(inputs),
+            state: Level::Any,
+            next: Next::Unknown,
+        })?;
+    }
+    Ok(rows)
+}
+
+// Adds the row by which each change of the notifier makes the state unknown, where there is a notifier.
+fn add_notifier_row(
+    alloc: Global,
+    rows: &mut Items<UdpRow>,
+    notifier: bool,
+    pins: usize,
+) -> Result<(), Memory>
+    ensures { OnOk result (rows.new ≡ rows.old ++ notifier_rows notifier pins) }
+{
+    if notifier {
+        let entries = free_entries(alloc, pins)?;
+        let inputs = noted(entries, true, Entry::Star)?;
+        rows.push(UdpRow {
+            inputs: Items::from_vec(inputs),
+            state: Level::Any,
+            next: Next::Unknown,
+        })?;
+    }
+    Ok(())
+}
+
+// Adds the rows of the points that force the state to 1, and then to 0.
+fn add_forced_rows(
+    alloc: Global,
+    rows: &mut Items<UdpRow>,
+    cell: &Cell,
+    group: usize,
+    notifier: bool,
+) -> Result<(), Memory>
+    requires { group < length cell.now.groups }
+    ensures { OnOk result (rows.new ≡ rows.old ++ forced_rows (state_row notifier) (length (support_at cell.now group)) (step_at cell.now group)) }
+{
+    let ones = forced_primes(alloc, cell, group, Trit::One)?;
+    add_state_rows(alloc, rows, notifier, Trit::One, &ones)?;
+    let zeros = forced_primes(alloc, cell, group, Trit::Zero)?;
+    add_state_rows(alloc, rows, notifier, Trit::Zero, &zeros)?;
+    Ok(())
+}
+
+// The primes of the points that force the state of a group to this value.
+fn forced_primes(alloc: Global, cell: &Cell, group: usize, value: Trit) -> Result<Vec<Cube>, Memory>
+    requires { group < length cell.now.groups }
+    ensures { IfOk result (λ cubes. cubes.items ≡ prime_list (length (support_at cell.now group)) (gives value (forced_at (step_at cell.now group)))) }
+{
+    let pins = cell.group(group).support.len();
+    let table = table_of(
+        alloc,
+        pins,
+        &|point: &[bool]| { forces(cell, group, value, point) },
+    )?;
+    let cubes = primes(alloc, pins, &table)?;
+    Ok(cubes)
+}
+
+// Adds a row of levels with this value for each cube.
+fn add_state_rows(
+    alloc: Global,
+    rows: &mut Items<UdpRow>,
+    notifier: bool,
+    value: Trit,
+    cubes: &[Cube],
+) -> Result<(), Memory>
+    ensures { OnOk result (rows.new ≡ rows.old ++ map (state_row notifier value) cubes.now) }
+{
+    for cube in cubes {
+        rows.push(state_row(alloc, notifier, value, cube)?)?;
+    }
+    Ok(())
+}
+
+fn state_row(alloc: Global, notifier: bool, value: Trit, cube: &Cube) -> Result<UdpRow, Memory>
+    ensures { IfOk result (λ row. row ≡ state_row notifier value cube.now) }
+{
+    let entries = level_entries(alloc, cube)?;
+    let inputs = noted(entries, notifier, Entry::Level(Level::Any))?;
+    Ok(UdpRow {
+        inputs: Items::from_vec(inputs),
+        state: Level::Any,
+        next: Next::from(value),
+    })
+}
+
+// Adds the rows of the changes of each input.
+fn add_rows_of_changes(
+    alloc: Global,
+    rows: &mut Items<UdpRow>,
+    cell: &Cell,
+    group: usize,
+    notifier: bool,
+) -> Result<(), Memory>
+    requires { group < length cell.now.groups }
+    ensures { OnOk result (rows.new ≡ rows.old ++ each_below (edge_rows (edge_row notifier) (step_at cell.now group) (length (support_at cell.now group))) (length (support_at cell.now group))) }
+{
+    for place in 0..cell.group(group).support.len() {
+        add_rows_of_input(alloc, rows, cell, group, notifier, place)?;
+    }
+    Ok(())
+}
+
+// Adds the rows of the changes of one input that give 1, and then 0.
+fn add_rows_of_input(
+    alloc: Global,
+    rows: &mut Items<UdpRow>,
+    cell: &Cell,
+    group: usize,
+    notifier: bool,
+    place: usize,
+) -> Result<(), Memory>
+    requires group { group < length cell.now.groups }
+    requires place { place < length (support_at cell.now group) }
+    ensures { OnOk result (rows.new ≡ rows.old ++ edge_rows (edge_row notifier) (step_at cell.now group) (length (support_at cell.now group)) place) }
+{
+    let ones = change_primes(alloc, cell, group, place, Trit::One)?;
+    add_moving_rows(alloc, rows, notifier, place, Trit::One, &ones)?;
+    let zeros = change_primes(alloc, cell, group, place, Trit::Zero)?;
+    add_moving_rows(alloc, rows, notifier, place, Trit::Zero, &zeros)?;
+    Ok(())
+}
+
+// The primes of the points at which a change of one input gives this value.
+fn change_primes(
+    alloc: Global,
+    cell: &Cell,
+    group: usize,
+    place: usize,
+    value: Trit,
+) -> Result<Vec<Cube>, Memory>
+    requires group { group < length cell.now.groups }
+    requires place { place < length (support_at cell.now group) }
+    ensures list { IfOk result (λ cubes. cubes.items ≡ prime_list (suc (suc (length (support_at cell.now group)))) (gives value (edge_value (step_at cell.now group) place))) }
+    ensures wide { IfOk result (λ cubes. All (λ cube. place + 3 ≤ length cube) cubes.items) }
+{
+    let pins = cell.group(group).support.len();
+    let table = table_of(
+        alloc,
+        pins + 2,
+        &|point: &[bool]| { steps_to(cell, group, place, value, point) },
+    )?;
+    let cubes = primes(alloc, pins + 2, &table)?;
+    Ok(cubes)
+}
+
+// Adds a row with this value for each cube of a change of the input at `place` that has points that change.
+fn add_moving_rows(
+    alloc: Global,
+    rows: &mut Items<UdpRow>,
+    notifier: bool,
+    place: usize,
+    value: Trit,
+    cubes: &[Cube],
+) -> Result<(), Memory>
+    requires { All (λ cube. place + 3 ≤ length cube) cubes.now }
+    ensures { OnOk result (rows.new ≡ rows.old ++ map (edge_row notifier place value) (filter moves cubes.now)) }
+{
+    for cube in cubes {
+        if moves(cube) {
+            rows.push(edge_row(alloc, notifier, place, value, cube)?)?;
+        }
+    }
+    Ok(())
+}
+
+// Whether the cube of a change has points that change.
+fn moves(cube: &Cube) -> bool
+    requires { 2 ≤ length cube.now }
+    ensures { result ≡ moves cube.now }
+{
+    let old = cube.place(0);
+    old == Trit::Unknown || old != cube.place(1)
+}
+
+fn edge_row(
+    alloc: Global,
+    notifier: bool,
+    place: usize,
+    value: Trit,
+    cube: &Cube,
+) -> Result<UdpRow, Memory>
+    requires { place + 3 ≤ length cube.now }
+    ensures { IfOk result (λ row. row ≡ edge_row notifier place value cube.now) }
+{
+    let entries = change_entries(alloc, place, cube)?;
+    let inputs = noted(entries, notifier, Entry::Level(Level::Any))?;
+    let state = Level::from(cube.place(cube.len() - 1));
+    Ok(UdpRow {
+        inputs: Items::from_vec(inputs),
+        state,
+        next: Next::from(value),
+    })
+}

@@ -1,9 +1,12 @@
 -- Trees that are read from texts and renamed, and parts of cells with them.
-use Rattle.std.proofs.Common.{◌≡◌, ℕ, List, Some, slice_index}
+use Rattle.std.proofs.Common.{◌≡◌, ℕ, List, Some, None, slice_index}
 use Rattle.bool_functions.specs.declared.tree.Node.{Node}
 use Rattle.bool_functions.specs.declared.tree.Node.TheVariants as node
 use Rattle.bool_functions.specs.Tree.{renamed_step, renamed_by}
 use Rattle.bool_functions.proofs.Trees.{fold-One, fold-Name, fold-Not, fold-And, fold-Or}
+use Rattle.cell_machine.specs.declared.groups.Both.TheVariants as both_on
+use Rattle.cell_machine.specs.declared.groups.GroupKind.TheVariants as kind
+use Rattle.cell_machine.specs.declared.groups.StateGroup.{StateGroup}
 use Rattle.cell_machine.specs.declared.outputs.Source.{Source}
 use Rattle.cell_machine.specs.declared.outputs.OutputPin.{OutputPin}
 use Rattle.cell_machine.specs.declared.checks.Check.{Check}
@@ -64,3 +67,16 @@ pub check_of :
     (kind : CheckKind) (first second : Event) (limit : ℕ) {f g : Node}
     → f ≡ g → a_check kind first second limit f ≡ a_check kind first second limit g
 check_of kind first second limit same i = a_check kind first second limit (same i)
+
+abbrev a_clocked : ℕ → List ℕ → Node → Node → StateGroup
+a_clocked clock support next clear =
+    record {
+      kind = kind.Ff (record { next_state = next; clocked_on = node.Name clock; clear = Some clear; preset = None; both1 = both_on.Unknown; both2 = both_on.Unknown });
+      support = support;
+    }
+
+-- A flip-flop whose functions equal others.
+pub clocked_of :
+    {clock : ℕ} {support : List ℕ} {next next' clear clear' : Node}
+    → next ≡ next' → clear ≡ clear' → a_clocked clock support next clear ≡ a_clocked clock support next' clear'
+clocked_of {clock} {support} same cleared i = a_clocked clock support (same i) (cleared i)

@@ -1,5 +1,5 @@
 //! Cells with a flip-flop.
-use crate::parts::{flip_flop, function, one, pins, shows, two};
+use crate::parts::{clocked, flip_flop, function, one, pins, shows, two};
 use cell_machine::{Arc, Both, Cell, Check, CheckKind, Direction, Edge, Event, Source};
 use sqlite_items::Items;
 use std::alloc::{AllocError, Global};
@@ -124,6 +124,35 @@ pub fn scanned(alloc: Global) -> Result<Cell, Fail> {
     Ok(Cell {
         name,
         number: 1,
+        pins,
+        groups,
+        outputs,
+        checks,
+        arcs,
+    })
+}
+
+/// A flip-flop that takes SI where SE is 1 and D where it is 0, with a clear while RN is 0.
+pub fn scan_cleared(alloc: Global) -> Result<Cell, Fail> {
+    let name = Items::from_slice(alloc, b"SDFFR")?;
+    let listed = [
+        ("D", Direction::Input),
+        ("SI", Direction::Input),
+        ("SE", Direction::Input),
+        ("CK", Direction::Input),
+        ("RN", Direction::Input),
+        ("Q", Direction::Output),
+    ];
+    let pins = pins(alloc, &listed)?;
+    let next = function(alloc, b"(D*!SE)+(SI*SE)", &[0, 2, 1])?;
+    let clear = function(alloc, b"!RN", &[4])?;
+    let groups = one(alloc, clocked(alloc, next, 3, clear, &[0, 1, 2, 3, 4])?)?;
+    let outputs = one(alloc, shows(alloc, 5, 6, &[Source::State(0)])?)?;
+    let checks = Items::new(alloc);
+    let arcs = Items::new(alloc);
+    Ok(Cell {
+        name,
+        number: 0,
         pins,
         groups,
         outputs,

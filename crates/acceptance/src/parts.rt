@@ -1,5 +1,5 @@
 //! Parts of cells, by the numbers of their names.
-ghost use Rattle.std.specs.Prelude.{◌≡◌, ◌≤◌, ◌∷◌, [], ◌++◌, IfOk, Ok, map, length};
+ghost use Rattle.std.specs.Prelude.{◌≡◌, ◌≤◌, ◌∷◌, [], ◌++◌, IfOk, Ok, Some, None, map, length};
 ghost use Rattle.std.specs.Option.{option_map};
 ghost use Rattle.bool_functions.specs.declared.tree.Node.{Node};
 ghost use Rattle.bool_functions.specs.declared.tree.Node.TheVariants as tree;
@@ -7,6 +7,7 @@ ghost use Rattle.bool_functions.specs.FunctionText.{reading_of, free_names};
 ghost use Rattle.bool_functions.specs.Tree.{renamed_by};
 ghost use Rattle.statetables.specs.declared.table.StateTable.{StateTable};
 ghost use Rattle.statetables.specs.Reading.{table_of};
+ghost use Rattle.cell_machine.specs.declared.groups.Both.TheVariants as both;
 ghost use Rattle.cell_machine.specs.declared.groups.GroupKind.TheVariants as kind;
 
 use bool_functions::{Function, FunctionFault, read_free};
@@ -80,6 +81,29 @@ pub fn flip_flop(
             preset: named(preset),
             both1: both,
             both2: both,
+        }),
+        support: Items::from_slice(alloc, support)?,
+    })
+}
+
+/// A flip-flop with a clear that takes the function `next` at a rise of the name `clock`.
+pub fn clocked(
+    alloc: Global,
+    next: Function,
+    clock: usize,
+    clear: Function,
+    support: &[usize],
+) -> Result<StateGroup, AllocError>
+    ensures { IfOk result (λ g. g ≡ record { kind = kind.Ff (record { next_state = next; clocked_on = tree.Name clock; clear = Some clear; preset = None; both1 = both.Unknown; both2 = both.Unknown }); support = support.now }) }
+{
+    Ok(StateGroup {
+        kind: GroupKind::Ff(Clocked {
+            next_state: next,
+            clocked_on: Function::of_name(clock),
+            clear: Some(clear),
+            preset: None,
+            both1: Both::Unknown,
+            both2: Both::Unknown,
         }),
         support: Items::from_slice(alloc, support)?,
     })

@@ -1,6 +1,6 @@
 //! Traces of cells, worked out by hand.
 use crate::flip_flops::{
-    cleared, cleared_and_preset, cleared_timed, pair, periodic, plain, scanned, timed,
+    cleared, cleared_and_preset, cleared_timed, pair, periodic, plain, scan_cleared, scanned, timed,
 };
 use crate::functions::{multiplexer, tied};
 use crate::latches::wide;
@@ -146,6 +146,24 @@ fn a_clear_may_be_on(rt: HostRuntime) -> Result<(), Fail> {
             (70, CK, Zero, "0 "),
             (80, CK, One, "1@0 "),
             (90, C, Unknown, "x@0 "),
+        ],
+    )
+}
+
+#[test]
+fn equal_scan_data_need_no_enable(rt: HostRuntime) -> Result<(), Fail> {
+    let cell = scan_cleared(rt.alloc())?;
+    run(
+        &rt,
+        rt.alloc(),
+        &cell,
+        &[
+            (10, 4, One, "x "),
+            (20, 0, One, "x "),
+            (30, 1, One, "x "),
+            (40, 3, Zero, "x "),
+            (50, 3, One, "1@0 "),
+            (60, 4, Zero, "0@0 "),
         ],
     )
 }

@@ -1,7 +1,6 @@
 -- What the rows of a step match.
-use Rattle.std.proofs.Common.{◌≡◌, ◌≢◌, ℕ, zero, suc, ◌<◌, ◌≤◌, Bool, true, false, not, ◌&&◌, ◌||◌, List, [], ◌∷◌, ◌++◌, map, length, get_or, refl, sym, ◌∙◌, ap, arith}
+use Rattle.std.proofs.Common.{◌≡◌, ℕ, zero, suc, ◌<◌, ◌≤◌, Bool, true, false, not, ◌&&◌, List, [], ◌∷◌, ◌++◌, map, length, get_or, refl, sym, ◌∙◌, ap, arith}
 use Rattle.std.specs.List.{list_all}
-use Rattle.std.proofs.lemmas.Bool.{and_left}
 use Rattle.std.proofs.lemmas.List.{length-map}
 use Rattle.std.proofs.lemmas.List.Folds.{list_all-append}
 use Rattle.trit_cubes.specs.declared.trits.Trit.{Trit}
@@ -11,13 +10,12 @@ use Rattle.cell_machine.specs.Machine.{insert, without, init, last}
 use Rattle.udp_tables.specs.declared.table.Level.TheVariants as level
 use Rattle.udp_tables.specs.declared.table.Entry.{Entry}
 use Rattle.udp_tables.specs.declared.table.Entry.TheVariants as entry
-use Rattle.udp_tables.specs.declared.table.UdpRow.{UdpRow}
 use Rattle.udp_tables.specs.Tables.{columns_match}
 use Rattle.udp_tables.specs.Primitive.{level_matches, entry_matches, is_level}
 use Rattle.udp_tables.specs.Generated.{level_entry}
 use Rattle.udp_tables.specs.Sequential.{row_matches, is_level_row, level_symbol, edge_entry, noted, state_row, edge_inputs, edge_row}
 use Rattle.udp_tables.proofs.TableLemmas.{entries-level}
-use Rattle.udp_tables.proofs.ColumnLemmas.{and-true, and-false, and-assoc, and-swap, length-insert, at-insert, without-insert, columns-insert, columns-push}
+use Rattle.udp_tables.proofs.ColumnLemmas.{and-true, and-swap, length-insert, at-insert, without-insert, columns-insert, columns-push}
 use Rattle.udp_tables.proofs.CubeLemmas.{admits, same-self, covers-last}
 use Rattle.udp_tables.proofs.GroupLemmas.{length-init}
 

@@ -1,14 +1,13 @@
 -- The cubes of changes: which changes they cover, and that the primes of a step decide it.
 use Rattle.std.proofs.Common.{◌≡◌, ◌≢◌, ℕ, zero, suc, ◌<◌, Bool, true, false, ◌&&◌, ◌||◌, ◌⊎◌, inl, inr, List, [], ◌∷◌, ◌++◌, map, length, refl, sym, ◌∙◌, ap, subst, arith}
-use Rattle.std.specs.Prelude.{filter}
 use Rattle.std.proofs.lemmas.Bool.{and_parts, cases_lt}
 use Rattle.std.proofs.lemmas.List.{length_push}
 use Rattle.trit_cubes.specs.declared.trits.Trit.{Trit}
 use Rattle.trit_cubes.specs.declared.trits.Trit.TheVariants.{Zero, One, Unknown}
-use Rattle.trit_cubes.specs.Filling.{is_unknown, same, covers, Fits, IsFilling}
+use Rattle.trit_cubes.specs.Filling.{is_unknown, same, covers, IsFilling}
 use Rattle.trit_cubes.specs.Resolution.{res}
 use Rattle.trit_cubes.specs.Sets.{gives}
-use Rattle.trit_cubes.specs.Prime.{prime_list, any_covers}
+use Rattle.trit_cubes.specs.Prime.{prime_list}
 use Rattle.trit_cubes.proofs.ListLemmas.{Among, among-append, among-map, map-among, among-filter, filter-among, append-among_left, append-among_right}
 use Rattle.trit_cubes.proofs.SplitLemmas.{prime_list-gives, prime_list-length}
 use Rattle.trit_cubes.proofs.InsideLemmas.{res-fillings, fillings-res}

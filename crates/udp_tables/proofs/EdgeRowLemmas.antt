@@ -1,15 +1,11 @@
 -- The rows of changes in their first form serve.
-use Rattle.std.proofs.Common.{◌≡◌, ◌≢◌, ℕ, suc, ◌<◌, Bool, true, List, [], ◌∷◌, ◌++◌, length, refl, sym, ◌∙◌, ap, arith}
+use Rattle.std.proofs.Common.{◌≡◌, ℕ, suc, Bool, true, [], ◌∷◌, ◌++◌, length, refl, sym, ◌∙◌, ap, arith}
 use Rattle.std.proofs.lemmas.Bool.{and_left}
-use Rattle.std.specs.List.{list_any}
 use Rattle.trit_cubes.specs.declared.trits.Trit.{Trit}
-use Rattle.trit_cubes.specs.declared.trits.Trit.TheVariants.{Zero, One, Unknown}
 use Rattle.trit_cubes.specs.Filling.{covers}
-use Rattle.trit_cubes.proofs.ListLemmas.{Among}
 use Rattle.cell_machine.specs.Machine.{Step, insert, machine_step}
 use Rattle.udp_tables.specs.declared.table.Entry.TheVariants as entry
 use Rattle.udp_tables.specs.declared.table.Level.TheVariants as level
-use Rattle.udp_tables.specs.declared.table.UdpRow.{UdpRow}
 use Rattle.udp_tables.specs.Tables.{columns_match}
 use Rattle.udp_tables.specs.Primitive.{entry_matches, level_matches}
 use Rattle.udp_tables.specs.Edges.{edge_cubes, edge_rows}

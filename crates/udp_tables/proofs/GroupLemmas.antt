@@ -1,14 +1,12 @@
 -- What the code for a group's rows builds is what the definitions say.
-use Rattle.std.proofs.Common.{◌≡◌, ℕ, zero, suc, ◌+◌, ◌-◌, ◌<◌, ◌≤◌, Bool, false, true, List, [], ◌∷◌, ◌++◌, map, take, drop, length, get_or, slice_get, Some, refl, sym, ◌∙◌, ap, arith, append_assoc, flat_map}
-use Rattle.std.proofs.lemmas.List.{drop_more, length-map, length-append}
+use Rattle.std.proofs.Common.{◌≡◌, ℕ, zero, suc, ◌+◌, ◌-◌, ◌<◌, ◌≤◌, Bool, false, true, List, [], ◌∷◌, ◌++◌, map, take, drop, length, get_or, slice_get, Some, refl, sym, ◌∙◌, ap, arith, flat_map}
+use Rattle.std.proofs.lemmas.List.{drop_more, length-map}
 use Rattle.trit_cubes.specs.declared.trits.Trit.{Trit}
-use Rattle.trit_cubes.specs.declared.trits.Trit.TheVariants.{Unknown}
 use Rattle.trit_cubes.specs.Filling.{trit_of}
 use Rattle.trit_cubes.specs.Resolution.{res}
 use Rattle.bool_functions.specs.declared.tree.Node.{Node}
 use Rattle.cell_machine.specs.declared.arcs.Arc.{Arc}
-use Rattle.cell_machine.specs.Machine.{Step, insert, init, last, edge_value, forced_at, forced}
-use Rattle.udp_tables.specs.declared.table.Entry.{Entry}
+use Rattle.cell_machine.specs.Machine.{Step, insert, init, last, edge_value}
 use Rattle.udp_tables.specs.Generated.{level_entry}
 use Rattle.udp_tables.specs.Sequential.{edge_entry, edge_inputs}
 use Rattle.udp_tables.specs.Conditions.{arc_conditions, added, added_all}

@@ -1,3 +1,5 @@
+pub mod CompactLemmas
+pub mod LawLemmas
 pub mod ChangeRows
 pub mod StepRows
 pub mod EdgeRowLemmas

@@ -1,5 +1,5 @@
 -- The test of two trees for equality.
-use Rattle.std.proofs.Common.{◌≡◌, ℕ, Bool, true, false, ◌&&◌, ◌||◌, ◌==◌, ◌↔◌, List, [], ◌∷◌, refl, sym, ap, ◌∙◌, subst, arith}
+use Rattle.std.proofs.Common.{◌≡◌, ℕ, Bool, true, false, ◌&&◌, ◌==◌, ◌↔◌, refl, sym, ap, ◌∙◌, subst, arith}
 use Rattle.std.specs.Prelude.{IsTrue}
 use Rattle.std.proofs.lemmas.Bool.{and_parts, eqb-true}
 use Rattle.std.proofs.lemmas.Bool.Decides.{nat_tests}
@@ -7,7 +7,7 @@ use Rattle.bool_functions.specs.declared.tree.Node.{Node, out-Node, roll-Node}
 use Rattle.bool_functions.specs.declared.tree.Node.TheVariants as node
 use Rattle.bool_functions.specs.declared.tree.Node.TheOpen.{Node-F}
 use Rattle.bool_functions.specs.declared.tree.Node.TheViews.{roll-out-Node, out-roll-Node, rolls-Zero, rolls-One, rolls-Name, rolls-Not, rolls-Xor, rolls-And, rolls-Or}
-use Rattle.bool_functions.proofs.Trees.{Cases, every_tree, fold-Zero, fold-One, fold-Name, fold-Not, fold-Xor, fold-And, fold-Or}
+use Rattle.bool_functions.proofs.Trees.{every_tree, fold-Zero, fold-One, fold-Name, fold-Not, fold-Xor, fold-And, fold-Or}
 use Rattle.udp_tables.specs.SameTrees.{same_step, same_tree}
 
 -- what an operator that equals another one is

@@ -8,3 +8,4 @@ pub mod SameTrees
 pub mod CellData
 pub mod Conditions
 pub mod CellPrimitives
+pub mod Laws

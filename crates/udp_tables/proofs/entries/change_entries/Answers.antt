@@ -1,7 +1,6 @@
-use Rattle.std.proofs.Common.{◌≡◌, ◌≤◌, ◌∷◌, ◌++◌, map, take, drop, length, ◌∙◌, sym, ap, arith}
+use Rattle.std.proofs.Common.{◌≤◌, ◌∷◌, ◌++◌, map, take, drop, length, ◌∙◌, ap, arith}
 use Rattle.cell_machine.specs.Machine.{init, insert}
 use Rattle.udp_tables.specs.Generated.{level_entry}
-use Rattle.udp_tables.specs.Sequential.{edge_entry}
 use Rattle.udp_tables.proofs.GroupLemmas.{others-long, insert-parts, edge_inputs-is}
 use Rattle.udp_tables.proofs.entries.change_entries.Goals as goal
 

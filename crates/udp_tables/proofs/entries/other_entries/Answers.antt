@@ -1,4 +1,4 @@
-use Rattle.std.proofs.Common.{◌≡◌, ◌≤◌, ◌+◌, [], ◌∷◌, ◌++◌, map, drop, length, ◌∙◌, sym, ap, arith, append-nil}
+use Rattle.std.proofs.Common.{◌≡◌, ◌+◌, [], ◌∷◌, ◌++◌, map, length, ◌∙◌, sym, ap, arith, append-nil}
 use Rattle.std.proofs.lemmas.List.{drop_all}
 use Rattle.cell_machine.specs.Machine.{init}
 use Rattle.udp_tables.specs.Generated.{level_entry}

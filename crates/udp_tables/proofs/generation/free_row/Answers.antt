@@ -1,5 +1,4 @@
 use Rattle.std.proofs.Common.{◌∙◌}
-use Rattle.udp_tables.specs.Sequential.{noted}
 use Rattle.udp_tables.proofs.TableLemmas.{free_of}
 use Rattle.std.proofs.Common.{ap}
 use Rattle.udp_tables.proofs.generation.free_row.Goals as goal

@@ -1,5 +1,5 @@
-use Rattle.std.proofs.Common.{◌≡◌, not, map, replicate, ap, ◌∙◌}
-use Rattle.trit_cubes.specs.declared.trits.Trit.TheVariants.{Zero, One, Unknown}
+use Rattle.std.proofs.Common.{not, map, replicate, ap, ◌∙◌}
+use Rattle.trit_cubes.specs.declared.trits.Trit.TheVariants.{One, Unknown}
 use Rattle.trit_cubes.specs.Sets.{has, gives}
 use Rattle.trit_cubes.specs.Prime.{prime_list}
 use Rattle.udp_tables.specs.Tables.{value_rows, or_row}

@@ -1,4 +1,4 @@
-use Rattle.std.proofs.Common.{◌∙◌, append_assoc, [], ◌∷◌, ◌++◌, take, drop}
+use Rattle.std.proofs.Common.{◌∙◌, append_assoc, [], ◌∷◌, take, drop}
 use Rattle.udp_tables.proofs.GroupLemmas.{insert-parts}
 use Rattle.udp_tables.proofs.points.Bits.inserted.Goals as goal
 

@@ -1,0 +1,258 @@
+-- The rows of changes in compact form serve.
+use Rattle.std.proofs.Common.{◌≡◌, ◌≢◌, ℕ, suc, ◌<◌, ◌≤◌, Bool, true, false, not, ◌⊎◌, inl, inr, List, [], ◌∷◌, ◌++◌, map, length, refl, sym, ◌∙◌, ap, subst, arith, if◌then◌else◌}
+use Rattle.std.specs.Prelude.{filter}
+use Rattle.std.specs.List.{list_any}
+use Rattle.std.proofs.lemmas.Bool.{cases_Bool, and_parts, and_from, and_left}
+use Rattle.trit_cubes.specs.declared.trits.Trit.{Trit}
+use Rattle.trit_cubes.specs.declared.trits.Trit.TheVariants.{Zero, One, Unknown}
+use Rattle.trit_cubes.specs.Filling.{same, covers}
+use Rattle.trit_cubes.proofs.ListLemmas.{Among, among-append, among-map, map-among, among-filter, filter-among, append-among_left, append-among_right}
+use Rattle.cell_machine.specs.Machine.{Step, insert, init, last, machine_step}
+use Rattle.udp_tables.specs.declared.table.Level.TheVariants as level
+use Rattle.udp_tables.specs.declared.table.Entry.TheVariants as entry
+use Rattle.udp_tables.specs.declared.table.UdpRow.{UdpRow}
+use Rattle.udp_tables.specs.Tables.{columns_match}
+use Rattle.udp_tables.specs.Primitive.{entry_matches, level_matches}
+use Rattle.udp_tables.specs.Generated.{level_entry}
+use Rattle.udp_tables.specs.Edges.{edge_cubes, same_cube, with_last, is_paired, kept_or_one, compact_value_rows, compact_edge_rows}
+use Rattle.udp_tables.specs.Sequential.{row_matches, is_level_row, row_next, level_symbol, edge_entry, noted, edge_inputs, edge_row, keep_row}
+use Rattle.udp_tables.proofs.FirstLemmas.{any-found, found-any}
+use Rattle.udp_tables.proofs.ColumnLemmas.{and-true}
+use Rattle.udp_tables.proofs.CubeLemmas.{admits, same-self, same-is, edge-long, edge-gives, edge-found, holds-state}
+use Rattle.udp_tables.proofs.ChangeRows.{symbol-admits, change-levels, change-kept, change-matches}
+use Rattle.udp_tables.proofs.StepRows.{Serves, next-value}
+
+-- cubes that differ in their last place
+pub same_cube-is : (c d : List Trit) → same_cube c d ≡ true → c ≡ d
+same_cube-is [] [] h = refl
+same_cube-is [] (t ∷ d) h = absurd cc
+same_cube-is (s ∷ c) [] h = absurd cc
+same_cube-is (s ∷ c) (t ∷ d) h =
+    let both = and_parts (same s t) (same_cube c d) h in
+    let first : t ≡ s = same-is s t both.0 in
+    let rest : c ≡ d = same_cube-is c d both.1 in
+    λ i. sym first i ∷ rest i
+
+pub same_cube-self : (c : List Trit) → same_cube c c ≡ true
+same_cube-self [] = refl
+same_cube-self (t ∷ c) = and_from (same t t) (same_cube c c) (same-self t) (same_cube-self c)
+
+pub last-with : (t d x : Trit) (xs : List Trit) → last d (with_last t (x ∷ xs)) ≡ t
+last-with t d x [] = refl
+last-with t d x (y ∷ []) = refl
+last-with t d x (y ∷ z ∷ zs) = last-with t d y (z ∷ zs)
+
+init-with : (t x : Trit) (xs : List Trit) → init (with_last t (x ∷ xs)) ≡ init (x ∷ xs)
+init-with t x [] = refl
+init-with t x (y ∷ []) = refl
+init-with t x (y ∷ z ∷ zs) = ap (λ ys. x ∷ ys) (init-with t y (z ∷ zs))
+
+with-again : (t u d x : Trit) (xs : List Trit) → last d (x ∷ xs) ≡ t → with_last t (with_last u (x ∷ xs)) ≡ x ∷ xs
+with-again t u d x [] e = ap (λ v. v ∷ []) (sym e)
+with-again t u d x (y ∷ []) e = ap (λ v. x ∷ v ∷ []) (sym e)
+with-again t u d x (y ∷ z ∷ zs) e = ap (λ ys. x ∷ ys) (with-again t u d y (z ∷ zs) e)
+
+pub inputs-with : (p : ℕ) (t : Trit) (c : List Trit) → 3 ≤ length c → edge_inputs p (with_last t c) ≡ edge_inputs p c
+inputs-with p t [] l = absurd (omega arith)
+inputs-with p t (old ∷ []) l = absurd (omega arith)
+inputs-with p t (old ∷ new ∷ []) l = absurd (omega arith)
+inputs-with p t (old ∷ new ∷ r ∷ rest) l = ap (λ ts. insert p (edge_entry old new) (map level_entry ts)) (init-with t r rest)
+
+-- the same of a cube that has places
+last-of : (t : Trit) (c : List Trit) → 3 ≤ length c → last Unknown (with_last t c) ≡ t
+last-of t [] l = absurd (omega arith)
+last-of t (x ∷ xs) l = last-with t Unknown x xs
+
+again-of : (t u : Trit) (c : List Trit) → 3 ≤ length c → last Unknown c ≡ t → with_last t (with_last u c) ≡ c
+again-of t u [] l e = absurd (omega arith)
+again-of t u (x ∷ xs) l e = with-again t u Unknown x xs e
+
+-- the other cube of a pair
+pub twin :
+    (state other : Trit) (cubes : List (List Trit)) (c : List Trit)
+    → is_paired state other cubes c ≡ true
+    → (last Unknown c ≡ state) × Among (with_last other c) cubes
+twin state other cubes c h =
+    let both = and_parts (same state (last Unknown c)) (list_any (same_cube (with_last other c)) cubes) h in
+    let r = any-found (same_cube (with_last other c)) cubes both.1 in
+    (same-is state (last Unknown c) both.0, subst (λ d. Among d cubes) (sym (same_cube-is (with_last other c) r.0 r.2)) r.1)
+
+-- rows of compact form
+compact-among :
+    {R : Type 0} (make : Trit → List Trit → R) (keep : List Trit → R) (cubes : Trit → List (List Trit)) (row : R)
+    → Among row (compact_value_rows make keep (cubes One) (cubes Zero))
+    → ((c : List Trit) × Among c (cubes One) × (is_paired One Zero (cubes Zero) c ≡ true) × (keep c ≡ row))
+    ⊎ ((v : Trit) × (v ≢ Unknown) × (c : List Trit) × Among c (cubes v) × (make v c ≡ row))
+compact-among make keep cubes row m =
+    elim (among-append row (map (kept_or_one make keep (cubes Zero)) (cubes One)) (map (make Zero) (filter (λ c. not (is_paired Zero One (cubes One) c)) (cubes Zero))) m) [
+      | inl h ↦
+          let r = among-map (kept_or_one make keep (cubes Zero)) row (cubes One) h in
+          elim (cases_Bool (is_paired One Zero (cubes Zero) r.0)) [
+            | inl e ↦ inl (r.0, r.2, e, rw e at r.1)
+            | inr e ↦ inr (One, (λ k. cc), r.0, r.2, rw e at r.1)
+          ]
+      | inr h ↦
+          let r = among-map (make Zero) row (filter (λ c. not (is_paired Zero One (cubes One) c)) (cubes Zero)) h in
+          inr (Zero, (λ k. cc), r.0, (among-filter (λ c. not (is_paired Zero One (cubes One) c)) r.0 (cubes Zero) r.2).0, r.1)
+    ]
+
+admits-self : (t : Trit) → admits t t ≡ true
+admits-self Zero = refl
+admits-self One = refl
+admits-self Unknown = refl
+
+-- the columns of a change, without the state
+abbrev pub columns : Bool → ℕ → List Trit → Trit → Trit → List Trit → Trit → Bool
+columns checks p c a b others x =
+    columns_match entry_matches (noted checks (entry.Level level.Any) (edge_inputs p c)) (noted checks x (insert p a others)) (noted checks x (insert p b others))
+
+-- a cube covers the change from its state where its columns match
+covers-state :
+    (checks : Bool) (p : ℕ) (c : List Trit) (a b : Trit) (others : List Trit) (x t : Trit)
+    → p ≤ length others → length c ≡ suc (suc (suc (length others))) → same a b ≡ false
+    → last Unknown c ≡ t → columns checks p c a b others x ≡ true
+    → covers c (a ∷ b ∷ others ++ t ∷ []) ≡ true
+covers-state checks p c a b others x t l e apart is h =
+    sym (change-matches checks p One c a b others x t l e apart)
+    ∙ and_from (columns checks p c a b others x) (level_matches (level_symbol (last Unknown c)) t) h
+    (symbol-admits (last Unknown c) t ∙ ap (λ w. admits w t) is ∙ admits-self t)
+
+covered-columns :
+    (checks : Bool) (p : ℕ) (c : List Trit) (a b : Trit) (others : List Trit) (x s : Trit)
+    → p ≤ length others → length c ≡ suc (suc (suc (length others))) → same a b ≡ false
+    → covers c (a ∷ b ∷ others ++ s ∷ []) ≡ true → columns checks p c a b others x ≡ true
+covered-columns checks p c a b others x s l e apart h =
+    (and_parts (columns checks p c a b others x) (level_matches (level_symbol (last Unknown c)) s)
+    (change-matches checks p One c a b others x s l e apart ∙ h)).0
+
+-- A paired cube that matches but for the state holds each state.
+pair-holds :
+    (checks : Bool) (n : ℕ) (step : Step) (p : ℕ) (c : List Trit) (a b : Trit) (others : List Trit) (x s : Trit)
+    → p < n → suc (length others) ≡ n → same a b ≡ false
+    → Among c (edge_cubes step n p One) → is_paired One Zero (edge_cubes step n p Zero) c ≡ true
+    → columns checks p c a b others x ≡ true → machine_step step p a b others s ≡ s
+pair-holds checks n step p c a b others x s l long apart m h k =
+    let wide : length c ≡ suc (suc n) = edge-long step n p One c m in
+    let r = twin One Zero (edge_cubes step n p Zero) c h in
+    let other_wide : length (with_last Zero c) ≡ suc (suc n) = edge-long step n p Zero (with_last Zero c) r.1 in
+    let other : columns checks p (with_last Zero c) a b others x ≡ true
+    = ap (λ es. columns_match entry_matches (noted checks (entry.Level level.Any) es) (noted checks x (insert p a others)) (noted checks x (insert p b others)))
+    (inputs-with p Zero c (omega arith)) ∙ k in
+    holds-state step p a b others s
+    (edge-gives step n p Zero (with_last Zero c) a b others Zero (λ e. cc) long r.1
+    (covers-state checks p (with_last Zero c) a b others x Zero (omega arith) (omega arith) apart (last-of Zero c (omega arith)) other))
+    (edge-gives step n p One c a b others One (λ e. cc) long m
+    (covers-state checks p c a b others x One (omega arith) (omega arith) apart r.0 k))
+
+keep-matches :
+    (checks : Bool) (p : ℕ) (c : List Trit) (a b : Trit) (others : List Trit) (x s : Trit)
+    → columns checks p c a b others x ≡ true
+    → row_matches (noted checks x (insert p a others)) (noted checks x (insert p b others)) s (keep_row checks p c) ≡ true
+keep-matches checks p c a b others x s h = and-true (columns checks p c a b others x) ∙ h
+
+-- A row matches where the machine's step is known.
+compact-found :
+    (checks : Bool) (n : ℕ) (step : Step) (p : ℕ) (a b : Trit) (others : List Trit) (x s v : Trit)
+    → p < n → suc (length others) ≡ n → same a b ≡ false → v ≢ Unknown → machine_step step p a b others s ≡ v
+    → list_any (row_matches (noted checks x (insert p a others)) (noted checks x (insert p b others)) s)
+    (compact_edge_rows (edge_row checks) (keep_row checks) step n p) ≡ true
+compact-found checks n step p a b others x s Unknown l long apart known e = absurd (known refl)
+compact-found checks n step p a b others x s One l long apart known e =
+    let r = edge-found step n p One a b others s known long apart e in
+    let ones : List (List Trit) = edge_cubes step n p One in
+    let zeros : List (List Trit) = edge_cubes step n p Zero in
+    let wide : length r.0 ≡ suc (suc n) = edge-long step n p One r.0 r.1 in
+    let matches = row_matches (noted checks x (insert p a others)) (noted checks x (insert p b others)) s in
+    let make = edge_row checks p in
+    let keep = keep_row checks p in
+    let cols = covered-columns checks p r.0 a b others x s (omega arith) (omega arith) apart r.2 in
+    let hit : matches (kept_or_one make keep zeros r.0) ≡ true
+    = elim (cases_Bool (is_paired One Zero zeros r.0)) [
+      | inl k ↦ ap (λ w. matches (if w then keep r.0 else make One r.0)) k ∙ keep-matches checks p r.0 a b others x s cols
+      | inr k ↦ ap (λ w. matches (if w then keep r.0 else make One r.0)) k ∙ change-matches checks p One r.0 a b others x s (omega arith) (omega arith) apart ∙ r.2
+    ] in
+    found-any matches (kept_or_one make keep zeros r.0) (compact_edge_rows (edge_row checks) (keep_row checks) step n p)
+    (append-among_left (kept_or_one make keep zeros r.0) (map (kept_or_one make keep zeros) ones)
+    (map (make Zero) (filter (λ c. not (is_paired Zero One ones c)) zeros)) (map-among (kept_or_one make keep zeros) r.0 ones r.1)) hit
+compact-found checks n step p a b others x s Zero l long apart known e =
+    let r = edge-found step n p Zero a b others s known long apart e in
+    let ones : List (List Trit) = edge_cubes step n p One in
+    let zeros : List (List Trit) = edge_cubes step n p Zero in
+    let wide : length r.0 ≡ suc (suc n) = edge-long step n p Zero r.0 r.1 in
+    let matches = row_matches (noted checks x (insert p a others)) (noted checks x (insert p b others)) s in
+    let make = edge_row checks p in
+    let keep = keep_row checks p in
+    let front : List UdpRow = map (kept_or_one make keep zeros) ones in
+    let back : List UdpRow = map (make Zero) (filter (λ c. not (is_paired Zero One ones c)) zeros) in
+    let cols = covered-columns checks p r.0 a b others x s (omega arith) (omega arith) apart r.2 in
+    elim (cases_Bool (is_paired Zero One ones r.0)) [
+      | inl k ↦
+          let t = twin Zero One ones r.0 k in
+          let d : List Trit = with_last One r.0 in
+          let back_again : with_last Zero d ≡ r.0 = again-of Zero One r.0 (omega arith) t.0 in
+          let pair : is_paired One Zero zeros d ≡ true
+          = and_from (same One (last Unknown d)) (list_any (same_cube (with_last Zero d)) zeros)
+          (ap (same One) (last-of One r.0 (omega arith)))
+          (found-any (same_cube (with_last Zero d)) r.0 zeros r.1 (ap (λ q. same_cube q r.0) back_again ∙ same_cube-self r.0)) in
+          let hit : matches (kept_or_one make keep zeros d) ≡ true
+          = ap (λ w. matches (if w then keep d else make One d)) pair
+          ∙ keep-matches checks p d a b others x s
+          (ap (λ es. columns_match entry_matches (noted checks (entry.Level level.Any) es) (noted checks x (insert p a others)) (noted checks x (insert p b others)))
+          (inputs-with p One r.0 (omega arith)) ∙ cols) in
+          found-any matches (kept_or_one make keep zeros d) (front ++ back)
+          (append-among_left (kept_or_one make keep zeros d) front back (map-among (kept_or_one make keep zeros) d ones t.1)) hit
+      | inr k ↦
+          found-any matches (make Zero r.0) (front ++ back)
+          (append-among_right (make Zero r.0) front back
+          (map-among (make Zero) r.0 (filter (λ c. not (is_paired Zero One ones c)) zeros)
+          (filter-among (λ c. not (is_paired Zero One ones c)) r.0 zeros r.1 (ap not k))))
+          (change-matches checks p Zero r.0 a b others x s (omega arith) (omega arith) apart ∙ r.2)
+    ]
+
+pub compact_rows-serve :
+    (checks : Bool) (n : ℕ) (step : Step) → Serves checks n step (compact_edge_rows (edge_row checks) (keep_row checks) step n)
+compact_rows-serve checks n step =
+    record {
+      edges = λ p row l m.
+          elim (compact-among (edge_row checks p) (keep_row checks p) (edge_cubes step n p) row m) [
+            | inl r ↦
+                let wide : length r.0 ≡ suc (suc n) = edge-long step n p One r.0 r.1 in
+                ap is_level_row (sym r.3) ∙ change-levels checks p r.0 (omega arith)
+            | inr r ↦
+                let wide : length r.2 ≡ suc (suc n) = edge-long step n p r.0 r.2 r.3 in
+                ap is_level_row (sym r.4) ∙ change-levels checks p r.2 (omega arith)
+          ];
+      still = λ p row olds news x y s l m f g h.
+          elim (compact-among (edge_row checks p) (keep_row checks p) (edge_cubes step n p) row m) [
+            | inl r ↦
+                let wide : length r.0 ≡ suc (suc n) = edge-long step n p One r.0 r.1 in
+                ap (row_matches (noted checks x olds) (noted checks y news) s) (sym r.3)
+                ∙ and_left
+                (columns_match entry_matches (noted checks (entry.Level level.Any) (edge_inputs p r.0)) (noted checks x olds) (noted checks y news))
+                true (change-kept checks p r.0 olds news x y n l wide f g h)
+            | inr r ↦
+                let wide : length r.2 ≡ suc (suc n) = edge-long step n p r.0 r.2 r.3 in
+                ap (row_matches (noted checks x olds) (noted checks y news) s) (sym r.4)
+                ∙ and_left
+                (columns_match entry_matches (noted checks (entry.Level level.Any) (edge_inputs p r.2)) (noted checks x olds) (noted checks y news))
+                (level_matches (level_symbol (last Unknown r.2)) s) (change-kept checks p r.2 olds news x y n l wide f g h)
+          ];
+      right = λ p row a b others x s l m long apart h.
+          elim (compact-among (edge_row checks p) (keep_row checks p) (edge_cubes step n p) row m) [
+            | inl r ↦
+                let matched : row_matches (noted checks x (insert p a others)) (noted checks x (insert p b others)) s (keep_row checks p r.0) ≡ true
+                = ap (row_matches (noted checks x (insert p a others)) (noted checks x (insert p b others)) s) r.3 ∙ h in
+                ap (row_next s) (sym r.3)
+                ∙ sym (pair-holds checks n step p r.0 a b others x s l long apart r.1 r.2
+                (and_parts (columns checks p r.0 a b others x) true matched).0)
+            | inr r ↦
+                let wide : length r.2 ≡ suc (suc n) = edge-long step n p r.0 r.2 r.3 in
+                let covered : covers r.2 (a ∷ b ∷ others ++ s ∷ []) ≡ true
+                = sym (change-matches checks p r.0 r.2 a b others x s (omega arith) (omega arith) apart)
+                ∙ ap (row_matches (noted checks x (insert p a others)) (noted checks x (insert p b others)) s) r.4 ∙ h in
+                ap (row_next s) (sym r.4) ∙ next-value s r.0
+                ∙ sym (edge-gives step n p r.0 r.2 a b others s r.1 long r.3 covered)
+          ];
+      found = λ p a b others x s l long apart known.
+          compact-found checks n step p a b others x s (machine_step step p a b others s) l long apart known refl;
+    }

@@ -1,0 +1,54 @@
+-- The laws of the rows of steps, by the number of the changed input.
+use Rattle.std.proofs.Common.{◌≡◌, ◌≢◌, ℕ, suc, ◌<◌, Bool, true, false, List, length, get_or, set, sym, ◌∙◌, ap, arith}
+use Rattle.std.proofs.lemmas.Bool.{false_from_ne_true}
+use Rattle.trit_cubes.specs.declared.trits.Trit.{Trit}
+use Rattle.trit_cubes.specs.declared.trits.Trit.TheVariants.{Unknown}
+use Rattle.trit_cubes.specs.Filling.{same}
+use Rattle.cell_machine.specs.Machine.{Step, insert, without, machine_step}
+use Rattle.udp_tables.specs.declared.table.UdpRow.{UdpRow}
+use Rattle.udp_tables.specs.Edges.{edge_rows, compact_edge_rows}
+use Rattle.udp_tables.specs.Sequential.{udp_next, noted, step_rows, edge_row, keep_row}
+use Rattle.udp_tables.specs.Laws.{RowsAreMachine, NotifierForces, FormsAgree, FormsAgreeAtNotifier}
+use Rattle.udp_tables.proofs.ColumnLemmas.{length-insert, insert-without, insert-set}
+use Rattle.udp_tables.proofs.CubeLemmas.{same-is}
+use Rattle.udp_tables.proofs.StepRows.{Serves, step_rows-change, step_rows-note}
+use Rattle.udp_tables.proofs.EdgeRowLemmas.{edge_rows-serve}
+use Rattle.udp_tables.proofs.CompactLemmas.{compact_rows-serve}
+
+differ : (a b : Trit) → a ≢ b → same a b ≡ false
+differ a b h = false_from_ne_true (same a b) (λ e. h (sym (same-is a b e)))
+
+-- the same by the number of the changed input
+pub change-at :
+    (checks : Bool) (n : ℕ) (step : Step) (changes : ℕ → List UdpRow) (p : ℕ) (old : Trit) (inputs : List Trit) (x s : Trit)
+    → Serves checks n step changes → length inputs ≡ n → p < n → old ≢ get_or inputs p Unknown
+    → udp_next (step_rows checks n step changes) (noted checks x (set inputs p old)) (noted checks x inputs) s
+    ≡ machine_step step p old (get_or inputs p Unknown) (without p inputs) s
+change-at checks n step changes p old inputs x s serves long l apart =
+    let within : p < length inputs = omega arith in
+    let new : Trit = get_or inputs p Unknown in
+    let others : List Trit = without p inputs in
+    let whole : insert p new others ≡ inputs = insert-without p Unknown inputs within in
+    let before : insert p old others ≡ set inputs p old = insert-set p old inputs within in
+    let few : suc (length others) ≡ n = sym (length-insert p new others) ∙ ap length whole ∙ long in
+    (λ i. udp_next (step_rows checks n step changes) (noted checks x (sym before i)) (noted checks x (sym whole i)) s)
+    ∙ step_rows-change checks n step changes p old new others x s serves l few (differ old new apart)
+
+pub rows_are_machine-lem : RowsAreMachine
+rows_are_machine-lem checks n step p old inputs note state long l apart =
+    change-at checks n step (edge_rows (edge_row checks) step n) p old inputs note state (edge_rows-serve checks n step) long l apart
+
+pub notifier_forces-lem : NotifierForces
+notifier_forces-lem n step inputs old new state long apart =
+    step_rows-note n step (edge_rows (edge_row true) step n) inputs old new state (edge_rows-serve true n step) long
+
+pub forms_agree-lem : FormsAgree
+forms_agree-lem checks n step p old inputs note state long l apart =
+    change-at checks n step (compact_edge_rows (edge_row checks) (keep_row checks) step n) p old inputs note state
+    (compact_rows-serve checks n step) long l apart
+    ∙ sym (rows_are_machine-lem checks n step p old inputs note state long l apart)
+
+pub forms_agree_at_notifier-lem : FormsAgreeAtNotifier
+forms_agree_at_notifier-lem n step inputs old new state long apart =
+    step_rows-note n step (compact_edge_rows (edge_row true) (keep_row true) step n) inputs old new state (compact_rows-serve true n step) long
+    ∙ sym (notifier_forces-lem n step inputs old new state long apart)

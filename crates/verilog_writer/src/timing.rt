@@ -152,19 +152,21 @@ fn put_turned<D: Desk>(
     ensures text { PutsText (D.state desk.old) (D.state desk.new) slot line.old (turned_text word.now model.now check.now) line.new result }
     ensures cause { HasCause (D.faults desk.old) (D.faults desk.new) result }
 {
+    let reference = check.second;
+    let data = check.first;
     let mut limit = Buffer::new();
     line.put_pieces(
         desk,
         slot,
         &[
             word,
-            edge_text(check.second.edge),
-            port_at(model, check.second.pin),
+            edge_text(reference.edge),
+            port_at(model, reference.pin),
             joint_text(check.condition),
             condition_text(model, check.condition),
             b", ",
-            edge_text(check.first.edge),
-            port_at(model, check.first.pin),
+            edge_text(data.edge),
+            port_at(model, data.pin),
             b", ",
             limit.format(check.limit).as_bytes(),
             b", ",

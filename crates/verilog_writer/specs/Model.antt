@@ -1,6 +1,6 @@
 -- The text of a module and its primitives, by the syntax of IEEE 1364-2005, clauses 8, 12 and 14. The layout is this project's:
 -- one declaration or instance a line, two spaces before it.
-use Rattle.std.specs.Prelude.{ℕ, Bool, true, false, List, [], ◌∷◌, ◌++◌, Option, Some, None, codes, if◌then◌else◌}
+use Rattle.std.specs.Prelude.{ℕ, Bool, List, [], ◌∷◌, ◌++◌, Option, Some, None, codes, if◌then◌else◌}
 use Rattle.std.specs.List.{flat_map}
 use Rattle.udp_tables.specs.declared.models.VPort.{VPort}
 use Rattle.specify_blocks.specs.declared.model.VNet.{VNet}

@@ -1,6 +1,6 @@
 -- The names of a module's parts by their numbers. In a sound module each number has a name; a number that has none is written as
 -- nothing.
-use Rattle.std.specs.Prelude.{ℕ, List, [], Option, Some, None, slice_get, slice_index_or, unwrap_or}
+use Rattle.std.specs.Prelude.{ℕ, List, [], Option, Some, None, slice_get}
 use Rattle.std.specs.Option.{option_map_or}
 use Rattle.udp_tables.specs.declared.table.Udp.{Udp}
 use Rattle.udp_tables.specs.declared.models.VPort.{VPort}

@@ -34,7 +34,7 @@ bits_at-below (suc n) bits h =
     ∙ ap (λ xs. xs ++ slice_index_or bits n false ∷ []) (bits_at-below n bits (omega arith))
     ∙ sym (take_more bits n false (omega arith)) ∙ ap (λ k. take k bits) (add-one n)
 
-number-same : (p : List Bool) → number_of_bits p ≡ number p
+pub number-same : (p : List Bool) → number_of_bits p ≡ number p
 number-same [] = refl
 number-same (true ∷ p) = rw (number-same p) refl
 number-same (false ∷ p) = rw (number-same p) refl

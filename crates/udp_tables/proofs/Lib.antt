@@ -1,3 +1,5 @@
+pub mod ConditionLemmas
+pub mod OutputLemmas
 pub mod CompactLemmas
 pub mod LawLemmas
 pub mod ChangeRows

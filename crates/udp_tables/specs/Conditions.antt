@@ -1,8 +1,10 @@
 -- The conditions of a cell, in the order in which its models number them (this project's choice): by first use, checks
 -- before arcs, equal trees once.
-use Rattle.std.specs.Prelude.{ℕ, ◌+◌, List, [], ◌∷◌, ◌++◌, Option, Some, None, filter, flat_map, if◌then◌else◌}
+use Rattle.std.specs.Prelude.{ℕ, ◌+◌, ◌≤◌, length, List, [], ◌∷◌, ◌++◌, Option, Some, None, filter, flat_map, if◌then◌else◌}
 use Rattle.std.specs.List.{list_any}
 use Rattle.bool_functions.specs.declared.tree.Node.{Node}
+use Rattle.bool_functions.specs.Tree.{name_bound}
+use Rattle.bool_functions.specs.Support.{support_of}
 use Rattle.cell_machine.specs.declared.checks.Check.{Check}
 use Rattle.cell_machine.specs.declared.arcs.Arc.{Arc}
 use Rattle.cell_machine.specs.CellTrace.{same_pins}
@@ -49,3 +51,8 @@ conditions_of cell = added_all [] (used_conditions cell)
 abbrev pub condition_place : List Node → Node → ℕ
 condition_place [] f = 0
 condition_place (g ∷ gs) f = if same_tree f g then 0 else condition_place gs f + 1
+
+-- a condition as its primitive needs it: at most ten names, all below 96
+pub record IsSmall (f : Node) : Type 0 where
+  pub few : length (support_of f) ≤ 10
+  pub bounded : name_bound f ≤ 96

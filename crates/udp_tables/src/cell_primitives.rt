@@ -1,13 +1,18 @@
 //! The primitives of a cell.
-ghost use Rattle.std.specs.Prelude.{◌≡◌, ◌<◌, length, IfOk};
+ghost use Rattle.std.specs.Prelude.{◌≡◌, ◌<◌, ◌≤◌, length, take, count_by, IfOk};
 ghost use Rattle.udp_tables.specs.CellData.{data_of};
-ghost use Rattle.udp_tables.specs.CellPrimitives.{group_inputs, group_primitive};
+ghost use Rattle.udp_tables.specs.Conditions.{conditions_of, IsSmall};
+ghost use Rattle.udp_tables.specs.CellPrimitives.{group_inputs, group_primitive, has_sources, output_number, output_primitive, condition_udp, condition_primitive, part_primitive, IsPart};
 
+use crate::cell_conditions::conditions;
+use crate::combinational_rows::{condition_rows, output_rows};
 use crate::faults::Memory;
 use crate::group_rows::group_rows;
 use crate::port_names::{input_names, output_name, primitive_name};
 use crate::table::Udp;
-use cell_machine::Cell;
+use bool_functions::Function;
+use cell_machine::{Cell, OutputPin};
+use sqlite_items::Items;
 use std::alloc::Global;
 
 /// A part of a cell whose value takes no state of its own.
@@ -45,4 +50,87 @@ fn group_inputs(cell: &Cell, group: usize) -> usize
     } else {
         pins + 1
     }
+}
+
+/// The primitive of an output or a condition that the cell has, of an output one that depends on anything. Its inputs are
+/// the pins, and then the states, of the support.
+pub fn combinational_udp(alloc: Global, cell: &Cell, part: Part) -> Result<Udp, Memory>
+    requires { IsPart (data_of cell.now) part }
+    ensures { IfOk result (λ udp. udp ≡ part_primitive (data_of cell.now) part) }
+{
+    match part {
+        Part::Output(output) => output_udp(alloc, cell, output),
+        Part::Condition(condition) => condition_udp(alloc, cell, condition),
+    }
+}
+
+fn output_udp(alloc: Global, cell: &Cell, output: usize) -> Result<Udp, Memory>
+    requires { output < length cell.now.outputs }
+    ensures { IfOk result (λ udp. udp ≡ output_primitive (data_of cell.now) output) }
+{
+    let number = output_number(alloc, cell, output)?;
+    Ok(Udp {
+        name: primitive_name(alloc, cell.number, number)?,
+        output: output_name(alloc)?,
+        inputs: input_names(alloc, cell.output_pin(output).support.len())?,
+        sequential: false,
+        rows: output_rows(alloc, cell, output)?,
+    })
+}
+
+// The number of the primitive of an output: after the groups, the conditions and the outputs before it that depend on
+// anything.
+fn output_number(alloc: Global, cell: &Cell, output: usize) -> Result<usize, Memory>
+    requires { output < length cell.now.outputs }
+    ensures { IfOk result (λ number. number ≡ output_number (data_of cell.now) output) }
+{
+    let conditions = conditions(alloc, cell)?;
+    let before = outputs_before(cell.outputs.as_slice(), output);
+    Ok(cell.groups.len() + conditions.len() + before + 1)
+}
+
+// How many of the first outputs depend on anything.
+fn outputs_before(outputs: &[OutputPin], count: usize) -> usize
+    requires { count ≤ length outputs.now }
+    ensures { result ≡ count_by has_sources (take count outputs.now) }
+{
+    let mut found = 0;
+    for i in 0..count {
+        if has_sources(&outputs[i]) {
+            found += 1;
+        }
+    }
+    found
+}
+
+fn has_sources(output: &OutputPin) -> bool
+    ensures { result ≡ has_sources output.now }
+{
+    !output.support.is_empty()
+}
+
+fn condition_udp(alloc: Global, cell: &Cell, number: usize) -> Result<Udp, Memory>
+    requires { number < length (conditions_of (data_of cell.now)) }
+    ensures { IfOk result (λ udp. udp ≡ condition_primitive (data_of cell.now) number) }
+{
+    let conditions = conditions(alloc, cell)?;
+    let condition = conditions[number];
+    let name = primitive_name(alloc, cell.number, cell.groups.len() + number + 1)?;
+    let udp = udp_of_condition(alloc, name, condition)?;
+    Ok(udp)
+}
+
+// The primitive of a condition with this name.
+fn udp_of_condition(alloc: Global, name: Items<u8>, condition: &Function) -> Result<Udp, Memory>
+    requires { IsSmall condition.now }
+    ensures { IfOk result (λ udp. udp ≡ condition_udp name condition.now) }
+{
+    let names = condition.support(alloc)?;
+    Ok(Udp {
+        name,
+        output: output_name(alloc)?,
+        inputs: input_names(alloc, names.len())?,
+        sequential: false,
+        rows: condition_rows(alloc, condition, &names)?,
+    })
 }

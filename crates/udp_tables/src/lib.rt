@@ -3,7 +3,9 @@
 
 mod cell_conditions;
 mod cell_primitives;
+mod cell_values;
 mod combinational;
+mod combinational_rows;
 mod entries;
 mod faults;
 mod generation;
@@ -17,7 +19,7 @@ mod sequential;
 mod table;
 
 pub use cell_conditions::{condition_number, conditions};
-pub use cell_primitives::{Part, sequential_udp};
+pub use cell_primitives::{Part, combinational_udp, sequential_udp};
 pub use combinational::udp_level;
 pub use faults::Memory;
 pub use generation::function_udp;

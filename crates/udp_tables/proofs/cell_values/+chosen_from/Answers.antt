@@ -1,0 +1,25 @@
+use Rattle.std.proofs.lemmas.List.{nil_from_length}
+use Rattle.udp_tables.proofs.cell_values.+chosen_from.Goals as goal
+
+pub returns-in_default : goal.returns-in_default
+returns-in_default t c =
+    rw (nil_from_length c.args.rest.now c.in_default.ensures.cases) (rw c.value.ensures at c.trit_of.ensures)
+
+pub returns-in_default-first : goal.returns-in_default-first
+returns-in_default-first t c = rw (c.in-Some.ensures.cases.0, c.in_default-first.is) c.chosen_from.ensures
+
+pub returns-in-Zero : goal.returns-in-Zero
+returns-in-Zero t c =
+    rw (c.in-Some.ensures.cases.0, c.in-State.is, ← c.in-Zero.ensures)
+    (rw (c.with.ensures, c.state_name-name.ensures.name) at c.chosen_from-in-Zero.ensures)
+
+pub returns-in-One : goal.returns-in-One
+returns-in-One t c =
+    rw (c.in-Some.ensures.cases.0, c.in-State.is, ← c.in-One.ensures)
+    (rw (c.with-in-One.ensures, c.state_name-name.ensures.name) at c.chosen_from-in-One.ensures)
+
+pub returns-in-Unknown : goal.returns-in-Unknown
+returns-in-Unknown t c =
+    let zero = rw (c.with-in-Unknown.ensures, c.state_name-name.ensures.name) at c.chosen_from-zero.ensures in
+    let one = rw (c.with-in-Unknown-2.ensures, c.state_name-name.ensures.name) at c.chosen_from-in-Unknown.ensures in
+    rw (c.in-Some.ensures.cases.0, c.in-State.is, ← c.in-Unknown.ensures) (rw (zero, one) at c.agreed.ensures)

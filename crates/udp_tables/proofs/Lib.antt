@@ -1,3 +1,5 @@
+pub mod CountLemmas
+pub mod CellLaws
 pub mod ConditionLemmas
 pub mod OutputLemmas
 pub mod CompactLemmas

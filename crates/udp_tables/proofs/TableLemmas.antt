@@ -91,7 +91,7 @@ map-replicate zero = refl
 map-replicate (suc n) = ap (λ xs. level_entry Unknown ∷ xs) (map-replicate n)
 
 -- the rows have an entry for each place, and levels alone
-length-input_names : (n : ℕ) → length (input_names n) ≡ n
+pub length-input_names : (n : ℕ) → length (input_names n) ≡ n
 length-input_names zero = refl
 length-input_names (suc n) = length_push (input_names n) (input_name (suc n)) ∙ omega (arith, length-input_names n)
 

@@ -108,3 +108,13 @@ part_primitive cell (part.Condition i) = condition_primitive cell i
 abbrev pub IsPart : CellData → Part → Type 0
 IsPart cell (part.Output i) = (i < length cell.outputs) × (0 < length (sources_at cell i))
 IsPart cell (part.Condition i) = i < length (conditions_of cell)
+
+-- how many places the support of a part has
+abbrev pub part_places : CellData → Part → ℕ
+part_places cell (part.Output i) = length (sources_at cell i)
+part_places cell (part.Condition i) = length (support_of (condition_tree cell i))
+
+-- the value of a part at a point of its support
+abbrev pub part_value : CellData → Part → List Bool → Trit
+part_value cell (part.Output i) = output_value_at cell i
+part_value cell (part.Condition i) = condition_at (support_of (condition_tree cell i)) (condition_tree cell i)

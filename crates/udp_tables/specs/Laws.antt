@@ -1,9 +1,16 @@
--- Laws of the rows of steps.
-use Rattle.std.specs.Prelude.{◌≡◌, ◌≢◌, ℕ, ◌<◌, Bool, true, List, length, slice_index_or, slice_set}
+-- Laws of generated rows, and of the primitives of a cell.
+use Rattle.std.specs.Prelude.{◌≡◌, ◌≢◌, ℕ, ◌<◌, Bool, true, List, length, slice_index_or, slice_set, Contains}
 use Rattle.trit_cubes.specs.declared.trits.Trit.{Trit}
 use Rattle.trit_cubes.specs.declared.trits.Trit.TheVariants.{Unknown}
 use Rattle.cell_machine.specs.Machine.{Step, without, machine_step, forced}
-use Rattle.udp_tables.specs.Sequential.{udp_next, noted, sequential_rows, compact_rows}
+use Rattle.trit_cubes.specs.Resolution.{res}
+use Rattle.bool_functions.specs.declared.tree.Node.{Node}
+use Rattle.udp_tables.specs.declared.cell_primitives.Part.{Part}
+use Rattle.udp_tables.specs.Primitive.{level_output}
+use Rattle.udp_tables.specs.Sequential.{udp_next, noted, sequential_rows, compact_rows, IsSequential}
+use Rattle.udp_tables.specs.CellData.{CellData}
+use Rattle.udp_tables.specs.Conditions.{used_conditions, conditions_of, condition_place}
+use Rattle.udp_tables.specs.CellPrimitives.{has_notifier, group_support, step_of_group, group_primitive, part_primitive, part_places, part_value}
 
 -- At each change of an input, to the value that it has among the inputs, the rows give the machine's step, in every state
 -- and at every value of the notifier.
@@ -36,3 +43,37 @@ FormsAgreeAtNotifier =
     → length inputs ≡ n → old ≢ new
     → udp_next (compact_rows true n step) (noted true old inputs) (noted true new inputs) state
     ≡ udp_next (sequential_rows true n step) (noted true old inputs) (noted true new inputs) state
+
+-- The primitive of an output or a condition gives the resolution of its value, for every list of trits.
+abbrev pub PartsResolve : Type 0
+PartsResolve =
+    (cell : CellData) (p : Part) (inputs : List Trit)
+    → length inputs ≡ part_places cell p → level_output (part_primitive cell p).rows inputs ≡ res (part_value cell p) inputs
+
+-- The primitive of a group gives the machine's step at each change of a pin of its support, in every state and at every
+-- value of the notifier.
+abbrev pub GroupsAreMachines : Type 0
+GroupsAreMachines =
+    (cell : CellData) (i p : ℕ) (old : Trit) (inputs : List Trit) (note state : Trit)
+    → length inputs ≡ length (group_support cell i) → p < length inputs → old ≢ slice_index_or inputs p Unknown
+    → udp_next (group_primitive cell i).rows (noted (has_notifier cell) note (slice_set inputs p old)) (noted (has_notifier cell) note inputs) state
+    ≡ machine_step (step_of_group cell i) p old (slice_index_or inputs p Unknown) (without p inputs) state
+
+-- In a cell with checks it gives the forced value, else x, at each change of the notifier.
+abbrev pub GroupsAreForced : Type 0
+GroupsAreForced =
+    (cell : CellData) (i : ℕ) (inputs : List Trit) (old new state : Trit)
+    → has_notifier cell ≡ true → length inputs ≡ length (group_support cell i) → old ≢ new
+    → udp_next (group_primitive cell i).rows (noted true old inputs) (noted true new inputs) state
+    ≡ forced (step_of_group cell i) inputs
+
+-- The primitive of a group has an entry for each input in each row, of which at most one is a change.
+abbrev pub GroupsAreSequential : Type 0
+GroupsAreSequential = (cell : CellData) (i : ℕ) → IsSequential (group_primitive cell i)
+
+-- Each condition that checks and arcs use has a number.
+abbrev pub ConditionsAreNumbered : Type 0
+ConditionsAreNumbered =
+    (cell : CellData) (f : Node)
+    → Contains (used_conditions cell) f
+    → condition_place (conditions_of cell) f < length (conditions_of cell)

@@ -1,6 +1,6 @@
 -- The tables of sequential primitives: what they mean, by IEEE 1364-2005, clause 8, and the rows that this project writes
 -- for a step.
-use Rattle.std.specs.Prelude.{◌≡◌, ℕ, Bool, true, false, not, ◌&&◌, All, List, [], ◌∷◌, ◌++◌, map, length, replicate}
+use Rattle.std.specs.Prelude.{◌≡◌, ◌≤◌, ℕ, count_by, Bool, true, false, not, ◌&&◌, All, List, [], ◌∷◌, ◌++◌, map, length, replicate}
 use Rattle.std.specs.List.{list_all}
 use Rattle.trit_cubes.specs.declared.trits.Trit.{Trit}
 use Rattle.trit_cubes.specs.declared.trits.Trit.TheVariants as trit
@@ -47,6 +47,15 @@ udp_next rows before after state =
 -- a primitive with an entry for each input in each row
 abbrev pub HasEntries : Udp → Type 0
 HasEntries udp = All (λ row. length row.inputs ≡ length udp.inputs) udp.rows
+
+-- how many entries of a row are changes
+abbrev pub changes_in : UdpRow → ℕ
+changes_in row = count_by (λ e. not (is_level e)) row.inputs
+
+-- a primitive with an entry for each input in each row, of which at most one is a change
+pub record IsSequential (udp : Udp) : Type 0 where
+  pub entries : HasEntries udp
+  pub changes : All (λ row. changes_in row ≤ 1) udp.rows
 
 -- the level for a place of a cube: `?` where it is free
 abbrev pub level_symbol : Trit → Level

@@ -1,7 +1,7 @@
 //! Theorems on the definitions, for the proofs of other crates. The functions do nothing.
 
 ghost use Rattle.udp_tables.specs.Generated.{RowsGiveResolution, PrimitiveIsCombinational};
-ghost use Rattle.udp_tables.specs.Laws.{RowsAreMachine, NotifierForces, FormsAgree, FormsAgreeAtNotifier};
+ghost use Rattle.udp_tables.specs.Laws.{RowsAreMachine, NotifierForces, FormsAgree, FormsAgreeAtNotifier, PartsResolve, GroupsAreMachines, GroupsAreForced, GroupsAreSequential, ConditionsAreNumbered};
 
 /// The generated rows of a function give its resolution, for every list of trits.
 pub fn rows_give_resolution()
@@ -33,4 +33,31 @@ pub fn forms_agree()
 /// The rows in compact form give the same next state at each change of the notifier.
 pub fn forms_agree_at_notifier()
     ensures { FormsAgreeAtNotifier }
+{}
+
+/// The primitive of an output or a condition of a cell gives the resolution of its value, for every list of trits.
+pub fn parts_resolve()
+    ensures { PartsResolve }
+{}
+
+/// The primitive of a group of a cell gives the machine's step at each change of one pin of its support, in every state and
+/// at every value of the notifier.
+pub fn groups_are_machines()
+    ensures { GroupsAreMachines }
+{}
+
+/// In a cell with checks, the primitive of a group gives the value to which the pins force the state, else x, at each
+/// change of the notifier.
+pub fn groups_are_forced()
+    ensures { GroupsAreForced }
+{}
+
+/// The primitive of a group has an entry for each input in each row, of which at most one is a change.
+pub fn groups_are_sequential()
+    ensures { GroupsAreSequential }
+{}
+
+/// Each condition that the checks and arcs of a cell use has a number among its conditions.
+pub fn conditions_are_numbered()
+    ensures { ConditionsAreNumbered }
 {}

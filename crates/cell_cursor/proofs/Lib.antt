@@ -1,0 +1,12 @@
+pub mod Closed
+pub mod Comings
+pub mod EndsLemmas
+pub mod Gathers
+pub mod LeadsLemmas
+pub mod Marks
+pub mod Prefix
+pub mod ScannedLemmas
+pub mod SeekingLemmas
+pub mod Shift
+pub mod StatementSteps
+pub mod TakingLemmas

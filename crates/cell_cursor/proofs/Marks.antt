@@ -1,0 +1,82 @@
+-- Behind a token with which a statement may end nothing stands open.
+use Rattle.std.proofs.Common.{◌≡◌, ℕ, ◌+◌, ◌==◌, ◌&&◌, ◌||◌, not, Bool, true, false, List, [], ◌∷◌, Option, Some, None, cond, refl, sym, ap, subst, ◌∙◌}
+use Rattle.liberty_text.specs.declared.token.TokenKind.{TokenKind}
+use Rattle.liberty_text.specs.declared.token.TokenKind.TheVariants.{Word, Text}
+use Rattle.liberty_text.specs.declared.token.Token.{Token}
+use Rattle.liberty_text.specs.declared.class.Class.{Class}
+use Rattle.liberty_text.specs.declared.class.Class.TheVariants.{LineEnd, Blank, Mark, Quote, Backslash, WordByte, Bad}
+use Rattle.liberty_text.specs.declared.scanner.Mode.{Mode}
+use Rattle.liberty_text.specs.declared.scanner.Mode.TheVariants.{Between, InWord, InText, InComment, InContinuation, Stopped}
+use Rattle.liberty_text.specs.Scanner.{class_of, token, opened_by, opened, after_token, in_word_by, comment_in_word, in_word, in_text, in_comment, in_continuation, step}
+use Rattle.cell_cursor.specs.Scanned.{ends_by, last_kind}
+
+abbrev Closes : Mode × List Token → Type 0
+Closes p = (k : TokenKind) → last_kind p.1 ≡ Some k → ends_by k ≡ true → p.0 ≡ Between false
+
+opened_closes : (line : Bool) (at b : ℕ) (c : Class) → Closes (opened_by line at b c)
+opened_closes line at b LineEnd k e h = absurd cc
+opened_closes line at b Blank k e h = absurd cc
+opened_closes line at b (Mark kind) k e h = refl
+opened_closes line at b Quote k e h = absurd cc
+opened_closes line at b Backslash k e h = absurd cc
+opened_closes line at b WordByte k e h = absurd cc
+opened_closes line at b Bad k e h = absurd cc
+
+some_same : (k m : TokenKind) → Some k ≡ Some m → k ≡ m
+some_same k m e = cc
+
+not_word : (k : TokenKind) → Some Word ≡ Some k → ends_by k ≡ true → ⊥
+not_word k e h = let f : false ≡ true = ap ends_by (some_same Word k e) ∙ h in absurd cc
+
+not_text : (k : TokenKind) → Some Text ≡ Some k → ends_by k ≡ true → ⊥
+not_text k e h = let f : false ≡ true = ap ends_by (some_same Text k e) ∙ h in absurd cc
+
+word_closes : (begun at b : ℕ) (line : Bool) (c : Class) → Closes (after_token (token Word begun at line) (opened_by false at b c))
+word_closes begun at b line LineEnd k e h = absurd (not_word k e h)
+word_closes begun at b line Blank k e h = absurd (not_word k e h)
+word_closes begun at b line (Mark kind) k e h = refl
+word_closes begun at b line Quote k e h = absurd (not_word k e h)
+word_closes begun at b line Backslash k e h = absurd (not_word k e h)
+word_closes begun at b line WordByte k e h = absurd (not_word k e h)
+word_closes begun at b line Bad k e h = absurd (not_word k e h)
+
+in_word_closes : (begun at b : ℕ) (line : Bool) (c : Class) → Closes (in_word_by begun line at b c)
+in_word_closes begun at b line LineEnd = word_closes begun at b line (class_of b)
+in_word_closes begun at b line Blank = word_closes begun at b line (class_of b)
+in_word_closes begun at b line (Mark kind) = word_closes begun at b line (class_of b)
+in_word_closes begun at b line Quote = word_closes begun at b line (class_of b)
+in_word_closes begun at b line Backslash = word_closes begun at b line (class_of b)
+in_word_closes begun at b line WordByte = λ k e h. absurd cc
+in_word_closes begun at b line Bad = word_closes begun at b line (class_of b)
+
+choice_closes : (x : Bool) (p q : Mode × List Token) → Closes p → Closes q → Closes (cond x p q)
+choice_closes true p q h i = h
+choice_closes false p q h i = i
+
+pub step_closes : (mode : Mode) (at b : ℕ) → Closes (step mode at b)
+step_closes (Between line) at b = opened_closes line at b (class_of b)
+step_closes (InWord begun line None) at b = in_word_closes begun at b line (class_of b)
+step_closes (InWord begun line (Some slash)) at b =
+    choice_closes (b == 42) (comment_in_word begun line slash) (in_word_by begun line at b (class_of b))
+    (choice_closes (begun == slash) (InComment slash line false, []) (InComment slash false false, token Word begun slash line ∷ []) (λ k e h. absurd cc) (λ k e h. absurd (not_word k e h)))
+    (in_word_closes begun at b line (class_of b))
+step_closes (InText begun line escaped) at b =
+    choice_closes (b == 34 && not escaped) (Between false, token Text begun (at + 1) line ∷ []) (InText begun line (b == 92), [])
+    (λ k e h. absurd (not_text k e h)) (λ k e h. absurd cc)
+step_closes (InComment begun line star) at b =
+    choice_closes (b == 47 && star) (Between line, []) (InComment begun (line || b == 10) (b == 42), []) (λ k e h. absurd cc) (λ k e h. absurd cc)
+step_closes (InContinuation begun line) at b = blanks_close begun line (class_of b)
+  where
+    blanks_close : (begun : ℕ) (line : Bool) (c : Class) → Closes (in_continuation begun line c)
+    blanks_close begun line LineEnd k e h = absurd cc
+    blanks_close begun line Blank k e h = absurd cc
+    blanks_close begun line (Mark kind) k e h = absurd cc
+    blanks_close begun line Quote k e h = absurd cc
+    blanks_close begun line Backslash k e h = absurd cc
+    blanks_close begun line WordByte k e h = absurd cc
+    blanks_close begun line Bad k e h = absurd cc
+step_closes (Stopped begun) at b = λ k e h. absurd cc
+
+-- as found by the code
+pub scanned_closes : (mode mode' : Mode) (at b : ℕ) (k : TokenKind) → mode' ≡ (step mode at b).0 → Some k ≡ last_kind (step mode at b).1 → ends_by k ≡ true → mode' ≡ Between false
+scanned_closes mode mode' at b k e f h = e ∙ step_closes mode at b k (sym f) h

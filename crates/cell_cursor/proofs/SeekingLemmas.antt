@@ -1,0 +1,119 @@
+-- What a call of a cursor has read and has still to do.
+use Rattle.std.proofs.Common.{◌≡◌, ◌⊎◌, inl, inr, ℕ, suc, ◌+◌, ◌-◌, ◌*◌, ◌^◌, ◌<◌, ◌≤◌, min, Bool, true, false, not, ◌&&◌, cond, List, [], ◌∷◌, ◌++◌, length, take, Option, Some, None, Ok, Err, Result, OnOk, OnErr, IfSome, refl, sym, ap, subst, ◌∙◌, arith, length-append}
+use Rattle.std.specs.Option.{option_to_list}
+use Rattle.text_io.specs.declared.slots.InSlot.TheVariants.{Library}
+use Rattle.text_io.specs.Desk.{DeskState, took, Rose}
+use Rattle.liberty_groups.specs.declared.fault.LibraryFault.{LibraryFault}
+use Rattle.liberty_groups.specs.Answer.{fault_of}
+use Rattle.liberty_text.specs.Scanner.{scan_of}
+use Rattle.cell_cursor.specs.declared.cursor.Answer.{Answer}
+use Rattle.cell_cursor.specs.declared.cursor.Answer.TheVariants as answer
+use Rattle.cell_cursor.specs.declared.cursor.CellCursor.{CellCursor}
+use Rattle.cell_cursor.specs.declared.item.LibraryItem.{LibraryItem}
+use Rattle.cell_cursor.specs.declared.part.Place.{Place}
+use Rattle.cell_cursor.specs.Finish.{part_halt, may_go_on, answer_by, answer_at}
+use Rattle.cell_cursor.specs.Progress.{taken_by, to_do}
+use Rattle.cell_cursor.specs.Scanned.{stop_behind}
+use Rattle.cell_cursor.specs.Stands.{is_going, is_failed, Moves, IsSettled}
+use Rattle.cell_cursor.specs.Taking.{Takes}
+use Rattle.cell_cursor.proofs.TakingLemmas.{takes_none, takes_more, takes_read}
+
+-- nothing was read
+pub stays : (o n : CellCursor) (s : DeskState) → n.limit ≡ o.limit → Moves o n s s
+stays o n s e = record { taken = []; takes = takes_none s; limit = e }
+
+pub stays_at : (o n : CellCursor) (s t : DeskState) → t ≡ s → n.limit ≡ o.limit → Moves o n s t
+stays_at o n s t f e = subst (λ (u : DeskState). Moves o n s u) (sym f) (stays o n s e)
+
+pub moves_by : (o n : CellCursor) (s t : DeskState) (xs : List ℕ) → Takes s t xs → n.limit ≡ o.limit → Moves o n s t
+moves_by o n s t xs h e = record { taken = xs; takes = h; limit = e }
+
+pub moves_on : (o m n : CellCursor) (s t u : DeskState) → Moves o m s t → Moves m n t u → Moves o n s u
+moves_on o m n s t u h i = record { taken = h.taken ++ i.taken; takes = takes_more s t u h.taken i.taken h.takes i.takes; limit = i.limit ∙ h.limit }
+
+-- a read of one byte
+pub takes_byte : (s t : DeskState) (into : List ℕ) (count : ℕ) → count ≤ length into → t ≡ took s Library count →
+    IfSome (s.left Library) (λ left. (take count into ≡ take count left) × (count ≤ length left)) → Takes s t (take count (into ++ []))
+takes_byte s t into count h e f = takes_read s t into [] count h e f
+
+-- a byte was scanned, and the rest of the piece is shorter
+pub less_to_do : (o m n : CellCursor) → m.limit ≡ o.limit → taken_by m ≡ taken_by o → length m.piece < length o.piece → n.limit ≡ m.limit → taken_by n ≡ taken_by m → n.piece ≡ m.piece → to_do n < to_do o
+unfolding to_do
+less_to_do o m n a b c d e f =
+    let size = ap length f in
+    let taken : taken_by n ≡ taken_by o = e ∙ b in
+    let limit : n.limit ≡ o.limit = d ∙ a in
+    let same : 2 * (n.limit - taken_by n) ≡ 2 * (o.limit - taken_by o) = ap (λ (l : ℕ). 2 * (l - taken_by n)) limit ∙ ap (λ (t : ℕ). 2 * (o.limit - t)) taken in
+    omega (arith, same, size, c)
+
+-- a piece was read
+pub read_to_do : (o m n : CellCursor) (count : ℕ) → m.limit ≡ o.limit → taken_by m ≡ taken_by o → m.piece ≡ [] → n.limit ≡ m.limit → n.part ≡ m.part → length n.piece ≡ count → 0 < count →
+    count ≤ m.limit - (m.part.before + length m.part.bytes) → to_do n < to_do o
+unfolding to_do
+read_to_do o m n count a b c d e f some most =
+    let none = ap length c in
+    let before = ap (λ p. p.before + length p.bytes) e in
+    omega (arith, a, b, none, d, before, f, some, most)
+
+to_do_same : (o m : CellCursor) → m.limit ≡ o.limit → m.part ≡ o.part → m.piece ≡ o.piece → to_do m ≡ to_do o
+unfolding to_do
+to_do_same o m a b c =
+    let limit : 2 * (m.limit - taken_by m) ≡ 2 * (o.limit - taken_by m) = ap (λ (l : ℕ). 2 * (l - taken_by m)) a in
+    let part = ap (λ p. p.before + length p.bytes) b in
+    let piece = ap length c in
+    let taken : taken_by m ≡ taken_by o = omega (arith, part, piece) in
+    let left : 2 * (o.limit - taken_by m) ≡ 2 * (o.limit - taken_by o) = ap (λ (t : ℕ). 2 * (o.limit - t)) taken in
+    omega (arith, limit, left, piece)
+
+smaller_by : (n : CellCursor) (b : Bool) (k : ℕ) → is_going n.answer ≡ b → (is_going n.answer ≡ true → to_do n < k) → cond b (to_do n + 1) 0 < k + 1
+smaller_by n true k e h = let i = h e in omega (arith, i)
+smaller_by n false k e h = omega arith
+
+pub smaller : (o m n : CellCursor) → m.limit ≡ o.limit → m.part ≡ o.part → m.piece ≡ o.piece → o.answer ≡ None → (is_going n.answer ≡ true → to_do n < to_do m) →
+    cond (is_going n.answer) (to_do n + 1) 0 < cond (is_going o.answer) (to_do o + 1) 0
+smaller o m n a b c e h =
+    subst (λ (v : Option Answer). cond (is_going n.answer) (to_do n + 1) 0 < cond (is_going v) (to_do o + 1) 0) (sym e)
+    (smaller_by n (is_going n.answer) (to_do o) refl (λ f. subst (λ (k : ℕ). to_do n < k) (to_do_same o m a b c) (h f)))
+
+pub moves_through : (o m m' n : CellCursor) (s t u : DeskState) → m'.limit ≡ m.limit → Moves o m s t → Moves m' n t u → Moves o n s u
+moves_through o m m' n s t u e h i = record { taken = h.taken ++ i.taken; takes = takes_more s t u h.taken i.taken h.takes i.takes; limit = i.limit ∙ e ∙ h.limit }
+
+pub no_answer : {P : Type 0} (v : Option Answer) (a : Answer) → v ≡ None → v ≡ Some a → P
+no_answer v a e f = let k : None ≡ Some a = sym e ∙ f in absurd cc
+
+answered_never : (w : Bool) (o : Option LibraryFault) → is_failed (Some (answer_by w o)) ≡ false
+answered_never true None = refl
+answered_never false None = refl
+answered_never true (Some f) = refl
+answered_never false (Some f) = refl
+
+choice_never : (x : Bool) (a : Answer) → is_failed (Some a) ≡ false → is_failed (Some (cond x answer.Over a)) ≡ false
+choice_never true a e = refl
+choice_never false a e = e
+
+-- the end of a library is no failed read
+pub never_failed : (here : Place) (n : ℕ) (bytes : List ℕ) (w : Bool) → is_failed (Some (answer_at here n bytes w)) ≡ false
+unfolding answer_at
+never_failed here n bytes w =
+    choice_never (not w && may_go_on here n bytes (part_halt here n bytes) (scan_of bytes).1)
+    (answer_by w (fault_of (n + length bytes) (part_halt here n bytes) (stop_behind n (scan_of bytes).1)))
+    (answered_never w (fault_of (n + length bytes) (part_halt here n bytes) (stop_behind n (scan_of bytes).1)))
+
+pub never_by : (a : Option Answer) (here : Place) (n : ℕ) (bytes : List ℕ) (w : Bool) → a ≡ Some (answer_at here n bytes w) → is_failed a ≡ false
+never_by a here n bytes w e = ap is_failed e ∙ never_failed here n bytes w
+
+pub never_going : (a : Option Answer) → a ≡ None → is_failed a ≡ false
+never_going a e = ap is_failed e
+
+pub rose_since : (a b c : ℕ) → a ≤ b → Rose b c → Rose a c
+rose_since a b c h i = omega (arith, h, i)
+
+pub rose_still : (a b c : ℕ) → Rose a b → b ≤ c → Rose a c
+rose_still a b c h i = omega (arith, h, i)
+
+-- where a read failed, before a call or in it
+pub failed_since : (first old new : Option Answer) (a b c : ℕ) → old ≡ None → a ≤ b → b ≤ c → (is_failed new ≡ true → Rose b c) → is_failed new ≡ true → (is_failed first ≡ true) ⊎ Rose a c
+failed_since first old new a b c e h i j f = inr (rose_since a b c h (j f))
+
+pub none_popped : {T : Type 0} (old new : List T) (x : T) → old ≡ new ++ option_to_list (Some x) → old ≡ [] → ⊥
+none_popped old new x e f = let k = ap length (sym e ∙ f) in absurd (omega (arith, k, length-append new (x ∷ [])))

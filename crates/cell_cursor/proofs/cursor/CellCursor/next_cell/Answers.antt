@@ -1,0 +1,30 @@
+use Rattle.std.proofs.Common.{◌≡◌, inl, inr, None, refl, arith, rules}
+use Rattle.text_io.specs.declared.slots.InSlot.TheVariants.{Library}
+use Rattle.text_io.specs.declared.slots.Slot.TheVariants.{Input}
+use Rattle.cell_cursor.proofs.SeekingLemmas.{stays, moves_through, smaller, rose_since, no_answer}
+use Rattle.cell_cursor.proofs.TakingLemmas.{bound_yet}
+use Rattle.cell_cursor.proofs.cursor.CellCursor.next_cell.Goals as goal
+
+pub loop-item-init : goal.loop-item-init
+loop-item-init g c = record {
+  moves = stays c.args.self.now c.args.self.now _ refl;
+  later = omega arith;
+  settled = λ a h. (h, refl);
+  failed = λ h. inl h;
+}
+
+pub go_on-requires-clause-bound : goal.go_on-requires-clause-bound
+go_on-requires-clause-bound g c = bound_yet _ _ c.loop-item.invariant.moves.taken (Input Library) c.loop-item.invariant.moves.takes c.requires
+
+pub loop-item-smaller : goal.loop-item-smaller
+loop-item-smaller g c = smaller c.loop-item.self _ c.go_on.new.self refl refl refl (search rules) c.go_on.ensures.progress
+
+pub loop-item-preserved : goal.loop-item-preserved
+loop-item-preserved g c =
+    let none : c.loop-item.self.answer ≡ None = search rules in
+    record {
+      moves = moves_through _ _ _ _ _ _ _ refl c.loop-item.invariant.moves c.go_on.ensures.moves;
+      later = omega (arith, c.loop-item.invariant.later, c.go_on.ensures.later);
+      settled = λ a h. no_answer c.loop-item.self.answer a none (c.loop-item.invariant.settled a h).0.settled;
+      failed = λ f. inr (rose_since _ _ _ c.loop-item.invariant.later (c.go_on.ensures.failed f));
+    }

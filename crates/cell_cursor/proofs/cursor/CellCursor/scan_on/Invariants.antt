@@ -1,0 +1,14 @@
+use Rattle.std.proofs.Common.{◌≡◌, ◌≤◌, length}
+use Rattle.cell_cursor.specs.Progress.{taken_by}
+use Rattle.cell_cursor.proofs.cursor.CellCursor.scan_on.Given as goal
+
+abbrev pub invariant-loop-byte : goal.invariant-loop-byte
+invariant-loop-byte l = record {
+  limit : l.self.limit ≡ l.initial.self.limit;
+  answer : l.self.answer ≡ l.initial.self.answer;
+  taken : taken_by l.self ≡ taken_by l.initial.self;
+  shorter : length l.self.piece ≤ length l.initial.self.piece;
+}
+
+abbrev pub decreases-loop-byte : goal.decreases-loop-byte
+decreases-loop-byte l = length l.self.piece

@@ -1,0 +1,11 @@
+use Rattle.std.proofs.Common.{◌≡◌, ◌++◌, List, Ok, sym, ap, subst, ◌∙◌}
+use Rattle.liberty_groups.specs.Lexeme.{Lexeme}
+use Rattle.cell_cursor.specs.Items.{item_statement}
+use Rattle.cell_cursor.proofs.StatementSteps.{statement_ended_as}
+use Rattle.cell_cursor.proofs.statements.read_statement.Goals as goal
+
+pub returns-clause-ended : goal.returns-clause-ended
+returns-clause-ended c = λ ended more.
+    statement_ended_as c.args.items.now.items c.add.new.items.items c.args.cursor.now c.name.new.self c.in_ok-name.name c.in_ok-name.at c.in_ok-statement.statement c.statement.new.self more
+    c.in_ok-name.ensures.name c.in_ok-name.ensures.left c.in_ok-statement.ensures (sym c.has_ended-has_ended.ensures ∙ ended)
+    (c.in_ok-add.ensures ∙ ap (λ l. c.args.items.now.items ++ l) c.item_of.ensures)

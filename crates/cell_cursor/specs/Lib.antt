@@ -1,0 +1,11 @@
+pub mod Ends
+pub mod Finish
+pub mod Items
+pub mod Leads
+pub mod Part
+pub mod Piece
+pub mod Progress
+pub mod Reached
+pub mod Scanned
+pub mod Stands
+pub mod Taking

@@ -1,0 +1,11 @@
+-- How much a cursor has still to do.
+use Rattle.std.specs.Prelude.{ℕ, suc, ◌+◌, ◌-◌, ◌*◌, List, length, Option, Some, None}
+use Rattle.cell_cursor.specs.declared.cursor.CellCursor.{CellCursor}
+
+-- how many bytes of the library are taken
+abbrev pub taken_by : CellCursor → ℕ
+taken_by c = c.part.before + (length c.part.bytes + length c.piece)
+
+-- each byte up to the limit is read and scanned
+unfoldable pub to_do : CellCursor → ℕ
+to_do c = 2 * (c.limit - taken_by c) + length c.piece

@@ -1,0 +1,44 @@
+-- Bytes that are scanned.
+use Rattle.std.specs.Prelude.{◌≡◌, ℕ, ◌+◌, Bool, true, false, List, [], ◌∷◌, ◌++◌, length, Option, Some, None}
+use Rattle.liberty_text.specs.declared.token.Token.{Token}
+use Rattle.liberty_text.specs.declared.token.TokenKind.{TokenKind}
+use Rattle.liberty_text.specs.declared.token.TokenKind.TheVariants.{Brace, Semicolon}
+use Rattle.liberty_text.specs.declared.token.Stop.{Stop}
+use Rattle.liberty_text.specs.declared.token.Stop.TheVariants.{End, BadByte, OpenText, OpenComment, OpenContinuation}
+use Rattle.liberty_text.specs.declared.scanner.Mode.{Mode}
+use Rattle.liberty_text.specs.declared.scanner.Mode.TheVariants.{Between}
+use Rattle.liberty_text.specs.Scanner.{run, after_tokens}
+
+-- Part of a library: how many bytes stand before it, its bytes, the tokens that have ended in it, what stands open behind
+-- them, and how many of its braces are open.
+pub record Scanned : Type 0 where
+  pub before : ℕ
+  pub bytes : List ℕ
+  pub tokens : List Token
+  pub mode : Mode
+  pub depth : ℕ
+
+-- Whatever follows these bytes: the tokens of all are these tokens, and then those of what follows, where this much stands
+-- open.
+abbrev pub AreScanned : List ℕ → List Token → Mode → Type 0
+AreScanned bytes tokens mode = (more : List ℕ) → run (Between false) 0 (bytes ++ more) ≡ after_tokens tokens (run mode (length bytes) more)
+
+-- a stop in bytes that so many others stand before
+abbrev pub stop_behind : ℕ → Stop → Stop
+stop_behind n End = End
+stop_behind n (BadByte at) = BadByte (at + n)
+stop_behind n (OpenText at) = OpenText (at + n)
+stop_behind n (OpenComment at) = OpenComment (at + n)
+stop_behind n (OpenContinuation at) = OpenContinuation (at + n)
+
+-- with a token of this kind a statement may end
+abbrev pub ends_by : TokenKind → Bool
+ends_by (Brace byte) = true
+ends_by Semicolon = true
+ends_by _ = false
+
+-- the kind of the last of the tokens that one byte gives, of which there are at most two
+abbrev pub last_kind : List Token → Option TokenKind
+last_kind (t ∷ []) = Some t.kind
+last_kind (t ∷ u ∷ []) = Some u.kind
+last_kind _ = None

@@ -1,0 +1,43 @@
+//! A library that is read from a desk.
+
+ghost use Rattle.std.specs.Prelude.{◌<◌, ◌≤◌, ◌+◌, ◌^◌, length};
+
+use crate::fault::CursorFault;
+use crate::item::LibraryItem;
+use crate::part::{Part, Place};
+use crate::piece::Piece;
+use liberty_groups::LibraryFault;
+use std::alloc::Global;
+
+/// What is answered from now on.
+#[derive(Clone, Copy, Debug, PartialEq, Eq)]
+pub(crate) enum Answer {
+    /// More bytes than the limit.
+    Over,
+    /// The end of the library.
+    End,
+    /// A fault of the library whatever follows the bytes that were read.
+    Refused(LibraryFault),
+    /// Any other fault, one of the library among them that ended with these bytes.
+    Fault(CursorFault),
+}
+
+/// A library that is read from a desk, one item after another. It holds no more than a read, the bytes of the statement
+/// that has not ended, and the items of the statements that ended with it.
+#[derive(Drop)]
+pub struct CellCursor {
+    pub(crate) alloc: Global,
+    /// How many bytes a library may have.
+    pub(crate) limit: usize,
+    /// What was read and is not scanned yet.
+    pub(crate) piece: Piece,
+    /// What is scanned and not taken yet.
+    pub(crate) part: Part,
+    pub(crate) place: Place,
+    /// The items that were taken and not given yet, the last one first.
+    pub(crate) waiting: Vec<LibraryItem>,
+    /// What is answered where no item waits.
+    pub(crate) answer: Option<Answer>,
+    ghost fits: { limit < 2 ^ 64 },
+    ghost within: { part.before + (length part.bytes + length piece) ≤ limit },
+}

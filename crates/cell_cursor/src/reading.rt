@@ -1,0 +1,142 @@
+//! What the end of a library comes to.
+
+ghost use Rattle.std.specs.Prelude.{◌≡◌, ◌<◌, ◌+◌, ◌^◌, ◌&&◌, [], length, OnOk, IfOk};
+ghost use Rattle.grammar_rules.specs.Reading.{read};
+ghost use Rattle.liberty_text.specs.Scanner.{scan_of};
+ghost use Rattle.liberty_groups.specs.Answer.{is_last};
+ghost use Rattle.cell_cursor.specs.Items.{rest_at, items_in};
+ghost use Rattle.cell_cursor.specs.Finish.{part_outcome, part_halt, halt_in, goes_on_closed, may_go_on, answer_by, answer_at};
+ghost use Rattle.cell_cursor.specs.Leads.{is_start};
+ghost use Rattle.cell_cursor.specs.Scanned.{stop_behind};
+
+use crate::cursor::Answer;
+use crate::fault::{CursorFault, Memory};
+use crate::item::LibraryItem;
+use crate::part::{Part, Place};
+use crate::statements::read_rest;
+use liberty_groups::{Cursor, Halt, LibraryFault, Stop, fault_of};
+use liberty_text::{Scan, Stop as TextStop, scan};
+use std::alloc::Global;
+
+/// An offset in bytes that so many others stand before. Where that is no machine number, there is no memory for the bytes.
+fn moved(before: usize, at: usize) -> Result<usize, Memory>
+    ensures { IfOk result (λ all. all ≡ at + before) }
+{
+    match at.checked_add(before) {
+        Some(all) => Ok(all),
+        None => Err(Memory),
+    }
+}
+
+/// A stop in bytes that so many others stand before.
+fn stop_behind(before: usize, stop: TextStop) -> Result<TextStop, Memory>
+    ensures { IfOk result (λ moved. moved ≡ stop_behind before stop) }
+{
+    Ok(match stop {
+        TextStop::End => TextStop::End,
+        TextStop::BadByte(at) => TextStop::BadByte(moved(before, at)?),
+        TextStop::OpenText(at) => TextStop::OpenText(moved(before, at)?),
+        TextStop::OpenComment(at) => TextStop::OpenComment(moved(before, at)?),
+        TextStop::OpenContinuation(at) => TextStop::OpenContinuation(moved(before, at)?),
+    })
+}
+
+/// Where the tokens halt of a part that ends with the file at an offset, with the items that they give.
+fn halt_of(
+    alloc: Global,
+    cursor: &mut Cursor<'_>,
+    place: Place,
+    end: usize,
+    items: &mut Vec<LibraryItem>,
+) -> Result<Halt, Memory>
+    ensures halt { IfOk result (λ halt. halt ≡ halt_in end (is_start place && is_last cursor.old) (read (rest_at place items.old.items) cursor.old)) }
+    ensures items { OnOk result (items.new.items ≡ items_in (read (rest_at place items.old.items) cursor.old)) }
+{
+    let is_only = place == Place::Start && cursor.is_last();
+    let refusal = match read_rest(cursor, alloc, place, items) {
+        Ok(()) => return Ok(Halt::Whole),
+        Err(Stop::Memory) => return Err(Memory),
+        Err(Stop::Refused(refusal)) => refusal,
+    };
+    Ok(match cursor.peek() {
+        None => Halt::Short(refusal),
+        Some(token) => Halt::Refused {
+            refusal,
+            at: token.at,
+            unfinished: cursor.is_unfinished(end, is_only),
+        },
+    })
+}
+
+/// Whether some library goes on with a part that ends in an open text, once that is closed.
+#[tactic(auto, using(liberty_groups::proofs::Inside::lie_inside), unfolding(crate::specs::Finish::part_outcome))]
+fn goes_on_closed(alloc: Global, part: &Part, place: Place) -> Result<bool, Memory>
+    ensures { IfOk result (λ does. does ≡ goes_on_closed place part.now.before part.now.bytes) }
+{
+    let mut closed = Vec::from_slice(alloc, part.bytes())?;
+    closed.extend_from_slice(b" \"")?;
+    moved(part.before(), closed.len())?;
+    let Scan { tokens, .. } = scan(alloc, &closed)?;
+    let mut cursor = Cursor::behind(part.before(), &closed, &tokens);
+    let mut items = Vec::new(alloc);
+    if let Err(Stop::Memory) = read_rest(&mut cursor, alloc, place, &mut items) {
+        return Err(Memory);
+    }
+    Ok(cursor.peek().is_none())
+}
+
+/// Whether some library goes on with a part whose tokens halt and stop so.
+fn may_go_on(
+    alloc: Global,
+    part: &Part,
+    place: Place,
+    halt: Halt,
+    stop: TextStop,
+) -> Result<bool, Memory>
+    ensures { IfOk result (λ may. may ≡ may_go_on place part.now.before part.now.bytes halt stop) }
+{
+    if let Halt::Refused { unfinished, .. } = halt {
+        return Ok(stop == TextStop::End && unfinished);
+    }
+    match stop {
+        TextStop::BadByte(_) => Ok(false),
+        TextStop::OpenText(_) => goes_on_closed(alloc, part, place),
+        _ => Ok(true),
+    }
+}
+
+/// How a library ends that has this fault or none. Where it is not whole, the fault is there whatever follows.
+fn answer_by(whole: bool, fault: Option<LibraryFault>) -> Answer
+    ensures { result ≡ answer_by whole fault }
+{
+    match fault {
+        None => Answer::End,
+        Some(fault) if whole => Answer::Fault(CursorFault::Library(fault)),
+        Some(fault) => Answer::Refused(fault),
+    }
+}
+
+/// The items of a part that ends where the file does or, where that is not `whole`, where the limit is, and how it ends.
+#[tactic(auto, using(liberty_groups::proofs::Inside::lie_inside), unfolding(crate::specs::Finish::part_outcome, crate::specs::Finish::part_halt, crate::specs::Finish::answer_at))]
+pub(crate) fn read_end(
+    alloc: Global,
+    part: &Part,
+    place: Place,
+    whole: bool,
+    items: &mut Vec<LibraryItem>,
+) -> Result<Answer, Memory>
+    requires fits { part.now.before + length part.now.bytes < 2 ^ 64 }
+    requires nothing { items.old.items ≡ [] }
+    ensures answer { IfOk result (λ answer. answer ≡ answer_at place part.now.before part.now.bytes whole) }
+    ensures items { OnOk result (items.new.items ≡ items_in (part_outcome place part.now.before part.now.bytes)) }
+{
+    let end = part.before() + part.bytes().len();
+    let Scan { tokens, stop } = scan(alloc, part.bytes())?;
+    let mut cursor = Cursor::behind(part.before(), part.bytes(), &tokens);
+    let halt = halt_of(alloc, &mut cursor, place, end, items)?;
+    if !whole && may_go_on(alloc, part, place, halt, stop)? {
+        return Ok(Answer::Over);
+    }
+    let stop = stop_behind(part.before(), stop)?;
+    Ok(answer_by(whole, fault_of(end, halt, stop)))
+}

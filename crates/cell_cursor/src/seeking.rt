@@ -1,0 +1,210 @@
+//! The next item.
+
+ghost use Rattle.std.specs.Prelude.{◌≡◌, true, false, ◌<◌, ◌≤◌, ◌+◌, [], reverse, length, IsTrue, OnOk, IfOk, IfErr, Some, None, ◌⊎◌};
+ghost use Rattle.text_io.specs.declared.slots.InSlot.TheVariants.{Library};
+ghost use Rattle.text_io.specs.declared.slots.Slot.TheVariants.{Input};
+ghost use Rattle.text_io.specs.Desk.{is_bound, Rose};
+ghost use Rattle.liberty_text.specs.declared.scanner.Mode.TheVariants.{Between};
+ghost use Rattle.cell_cursor.specs.Finish.{part_outcome, answer_at};
+ghost use Rattle.cell_cursor.specs.Items.{items_in};
+ghost use Rattle.cell_cursor.specs.Progress.{taken_by, to_do};
+ghost use Rattle.cell_cursor.specs.Stands.{answered, is_going, is_failed, Moves, IsSettled, StaysSettled};
+
+use crate::cursor::{Answer, CellCursor};
+use crate::fault::{CursorFault, Memory};
+use crate::item::{LibraryItem, Next, next_of};
+use crate::part::{Part, Place};
+use crate::piece::Piece;
+use crate::reading::read_end;
+use crate::statements::{Reached, reach};
+use liberty_groups::{Cursor, LibraryFault};
+use std::alloc::Global;
+use text_io::{Desk, InSlot};
+
+impl CellCursor {
+    /// A cursor that has read nothing. It will read at most `limit` bytes of the library, and one more.
+    pub fn new(alloc: Global, limit: usize) -> Result<CellCursor, Memory>
+        ensures limit { IfOk result (λ cursor. cursor.limit ≡ limit) }
+    {
+        Ok(CellCursor {
+            alloc,
+            limit,
+            piece: Piece::new(),
+            part: Part::new(alloc, 0),
+            place: Place::Start,
+            waiting: Vec::new(alloc),
+            answer: None,
+        })
+    }
+
+    /// Scans what was read, up to a token with which a statement may end. Whether there was one.
+    fn scan_on(&mut self) -> Result<bool, Memory>
+        ensures limit { self.new.limit ≡ self.old.limit }
+        ensures answer { self.new.answer ≡ self.old.answer }
+        ensures taken { OnOk result (taken_by self.new ≡ taken_by self.old) }
+        ensures some { IfOk result (λ found. found ≡ true → (length self.new.piece < length self.old.piece) × (self.new.part.mode ≡ Between false)) }
+        ensures none { IfOk result (λ found. found ≡ false → self.new.piece ≡ []) }
+    {
+        while let Some(byte) = self.piece.take_byte() {
+            if self.part.scan(self.alloc, self.place, byte)? {
+                return Ok(true);
+            }
+        }
+        Ok(false)
+    }
+
+    /// Takes the statements of the part, if they have all ended.
+    fn take_part(&mut self) -> Result<(), Memory>
+        ensures limit { self.new.limit ≡ self.old.limit }
+        ensures taken { taken_by self.new ≡ taken_by self.old }
+        ensures piece { self.new.piece ≡ self.old.piece }
+        ensures never { is_failed self.old.answer ≡ false → is_failed self.new.answer ≡ false }
+    {
+        let mut items = Vec::new(self.alloc);
+        let end = self.part.before() + self.part.bytes().len();
+        let mut tokens = Cursor::behind(self.part.before(), self.part.bytes(), self.part.tokens());
+        match reach(&mut tokens, self.alloc, self.place, end, &mut items)? {
+            Reached::Unfinished => Ok(()),
+            Reached::Refused(fault) => {
+                self.refuse(fault, items);
+                Ok(())
+            }
+            Reached::To(place) => {
+                self.go_to(place, end, items);
+                Ok(())
+            }
+        }
+    }
+
+    /// A token is refused, behind these items.
+    fn refuse(&mut self, fault: LibraryFault, mut items: Vec<LibraryItem>)
+        ensures limit { self.new.limit ≡ self.old.limit }
+        ensures piece { self.new.piece ≡ self.old.piece }
+        ensures part { self.new.part ≡ self.old.part }
+        ensures answer { self.new.answer ≡ Some (Answer.Refused fault) }
+        ensures items { self.new.waiting.items ≡ reverse items.items }
+    {
+        items.reverse();
+        self.waiting = items;
+        self.answer = Some(Answer::Refused(fault));
+    }
+
+    /// The part led to a place, at an offset, behind these items.
+    fn go_to(&mut self, place: Place, end: usize, mut items: Vec<LibraryItem>)
+        requires { end + length self.old.piece ≤ self.old.limit }
+        ensures limit { self.new.limit ≡ self.old.limit }
+        ensures piece { self.new.piece ≡ self.old.piece }
+        ensures before { self.new.part.before ≡ end }
+        ensures bytes { self.new.part.bytes ≡ [] }
+        ensures place { self.new.place ≡ place }
+        ensures answer { self.new.answer ≡ self.old.answer }
+        ensures items { self.new.waiting.items ≡ reverse items.items }
+    {
+        items.reverse();
+        self.waiting = items;
+        self.place = place;
+        self.part = Part::new(self.alloc, end);
+    }
+
+    /// Takes what there is of a library that has ended or, where that is not `whole`, has come to the limit.
+    fn take_end(&mut self, whole: bool) -> Result<(), Memory>
+        ensures limit { self.new.limit ≡ self.old.limit }
+        ensures answer { OnOk result (self.new.answer ≡ Some (answer_at self.old.place self.old.part.before self.old.part.bytes whole)) }
+        ensures items { OnOk result (self.new.waiting.items ≡ reverse (items_in (part_outcome self.old.place self.old.part.before self.old.part.bytes))) }
+    {
+        let mut items = Vec::new(self.alloc);
+        let answer = read_end(self.alloc, &self.part, self.place, whole, &mut items)?;
+        items.reverse();
+        self.waiting = items;
+        self.answer = Some(answer);
+        Ok(())
+    }
+
+    /// Sees whether the library goes on behind the limit, and takes what there is of it.
+    fn take_at_limit<D: Desk>(&mut self, desk: &mut D) -> Result<(), CursorFault>
+        requires { IsTrue (is_bound (D.state desk.old) (Input Library)) }
+        ensures moves { Moves self.old self.new (D.state desk.old) (D.state desk.new) }
+        ensures settled { OnOk result (is_going self.new.answer ≡ false) }
+        ensures never { OnOk result (is_failed self.new.answer ≡ false) }
+        ensures later { D.faults desk.old ≤ D.faults desk.new }
+        ensures failed { IfErr result (λ fault. fault ≡ CursorFault.Failed → Rose (D.faults desk.old) (D.faults desk.new)) }
+    {
+        let mut byte = [0];
+        let count = desk.read(InSlot::Library, &mut byte)?;
+        self.take_end(count == 0)?;
+        Ok(())
+    }
+
+    /// Takes some statements, or reads on.
+    fn advance<D: Desk>(&mut self, desk: &mut D) -> Result<(), CursorFault>
+        requires bound { IsTrue (is_bound (D.state desk.old) (Input Library)) }
+        requires going { self.old.answer ≡ None }
+        ensures moves { Moves self.old self.new (D.state desk.old) (D.state desk.new) }
+        ensures progress { OnOk result (is_going self.new.answer ≡ true → to_do self.new < to_do self.old) }
+        ensures never { OnOk result (is_failed self.new.answer ≡ false) }
+        ensures later { D.faults desk.old ≤ D.faults desk.new }
+        ensures failed { IfErr result (λ fault. fault ≡ CursorFault.Failed → Rose (D.faults desk.old) (D.faults desk.new)) }
+    {
+        if self.scan_on()? {
+            self.take_part()?;
+            return Ok(());
+        }
+        let taken = self.part.before() + self.part.bytes().len();
+        if taken == self.limit {
+            return self.take_at_limit(desk);
+        }
+        if self.piece.read(desk, self.limit - taken)? == 0 {
+            self.take_end(true)?;
+        }
+        Ok(())
+    }
+
+    /// Takes some statements or reads on, or is settled with a fault.
+    fn go_on<D: Desk>(&mut self, desk: &mut D)
+        requires bound { IsTrue (is_bound (D.state desk.old) (Input Library)) }
+        requires going { self.old.answer ≡ None }
+        ensures moves { Moves self.old self.new (D.state desk.old) (D.state desk.new) }
+        ensures progress { is_going self.new.answer ≡ true → to_do self.new < to_do self.old }
+        ensures later { D.faults desk.old ≤ D.faults desk.new }
+        ensures failed { is_failed self.new.answer ≡ true → Rose (D.faults desk.old) (D.faults desk.new) }
+    {
+        if let Err(fault) = self.advance(desk) {
+            self.answer = Some(Answer::Fault(fault));
+        }
+    }
+
+    /// The next item of the library in the slot `Library`, or how it ends.
+    ///
+    /// It reads at most 4,096 bytes at once, and at most the limit and one byte in all. Faults: `Library` with the first fault of
+    /// the library, `Failed` where a read failed, `Memory`. After a fault, and after `Over` and `End`, it answers the same and reads
+    /// nothing.
+    pub fn next_cell<D: Desk>(&mut self, desk: &mut D) -> Result<Next, CursorFault>
+        requires { IsTrue (is_bound (D.state desk.old) (Input Library)) }
+        ensures moves { Moves self.old self.new (D.state desk.old) (D.state desk.new) }
+        ensures settled { (a : Answer) → IsSettled self.old a → StaysSettled a self.new (D.state desk.old) (D.state desk.new) result }
+        ensures later { D.faults desk.old ≤ D.faults desk.new }
+        ensures failed { IfErr result (λ fault. fault ≡ CursorFault.Failed → (is_failed self.old.answer ≡ true) ⊎ Rose (D.faults desk.old) (D.faults desk.new)) }
+    {
+        loop {
+            if let Some(item) = self.waiting.pop() {
+                return Ok(next_of(item));
+            }
+            if let Some(answer) = self.answer {
+                return answered(answer);
+            }
+            self.go_on(desk);
+        }
+    }
+}
+
+/// An answer, as what a call returns.
+fn answered(answer: Answer) -> Result<Next, CursorFault>
+    ensures { result ≡ answered answer }
+{
+    match answer {
+        Answer::Over => Ok(Next::Over),
+        Answer::End => Ok(Next::End),
+        Answer::Refused(fault) => Err(CursorFault::Library(fault)),
+        Answer::Fault(fault) => Err(fault),
+    }
+}

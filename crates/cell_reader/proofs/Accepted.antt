@@ -1,19 +1,30 @@
 -- The laws of accepted cells.
-use Rattle.std.proofs.Common.{◌≡◌, ℕ, ◌≤◌, [], ◌∷◌, length, map, flat_map, arith, refl, IsTrue, Bool, true, false}
+use Rattle.std.proofs.Common.{◌≡◌, ℕ, ◌≤◌, List, None, [], ◌∷◌, length, map, flat_map, arith, refl, IsTrue, Bool, true, false}
 use Rattle.std.specs.Prelude.{if◌then◌else◌}
+use Rattle.liberty_groups.specs.declared.tree.Group.{Group}
 use Rattle.cell_machine.specs.CellRules.{is_name}
+use Rattle.cell_machine.proofs.RuleLemmas.{cell_of_rules}
+use Rattle.timing_arcs.specs.declared.subject.Subject.{Subject}
 use Rattle.cell_parts.specs.Groups.{cell_name, state_groups}
 use Rattle.cell_parts.specs.Pins.{pins_of, owners_of}
-use Rattle.cell_parts.specs.Declarations.{declared_of, bad_names, bad_cell_name, bad_name_in}
+use Rattle.cell_parts.specs.Declarations.{declared_of, known_cell, clashes_after, bad_names, bad_cell_name, bad_name_in}
 use Rattle.cell_parts.specs.Vocabulary.{vocabulary}
 use Rattle.cell_parts.specs.StateReadings.{state_reading}
-use Rattle.cell_parts.specs.Limits.{first_past, place_of_group, state_at}
-use Rattle.cell_reader.specs.Refusals.{reasons_of, numbers_of, groups_of}
-use Rattle.cell_reader.specs.Laws.{AcceptedMeetsNone, AcceptedPinsAreSound, AcceptedStatesAreFew}
+use Rattle.cell_parts.specs.Texts.{malformed_at, unknown_at}
+use Rattle.cell_parts.specs.TextFaults.{malformed_in, unknown_in}
+use Rattle.cell_parts.specs.CellLaws.{readings_of, texts_of, numbers_of, groups_of, outputs_of, CellMeetsNone}
+use Rattle.cell_parts.specs.Limits.{first_past, place_of_group, state_at, no_support_in, wide_support_in, wide_output}
+use Rattle.cell_reader.specs.PinTimings.{check_at_in, arc_at_in, wide_in}
+use Rattle.cell_reader.specs.CellTexts.{subject_of}
+use Rattle.cell_reader.specs.Refusals.{reasons_of, refusal_of, timing_answers, checks_of, arcs_of}
+use Rattle.cell_reader.specs.Laws.{AcceptedMeetsNone, AcceptedPinsAreSound, AcceptedStatesAreFew, AcceptedCellsAreSound}
 use Rattle.cell_parts.proofs.Distinct.{nil_parts}
 use Rattle.cell_parts.proofs.PinRules.{within_limit, pins_are_sound}
 use Rattle.cell_parts.proofs.GroupCount.{group_count}
 use Rattle.cell_reader.proofs.Refused.{all_unmet}
+use Rattle.cell_reader.proofs.TimingRules.{checks_rules, arcs_rules, arcs_apart}
+use Rattle.cell_parts.proofs.CellGroups.{groups_keep_rules}
+use Rattle.cell_parts.proofs.CellOutputs.{outputs_keep_rules}
 
 pub accepted_meets_none : AcceptedMeetsNone
 accepted_meets_none pins earlier cell h = all_unmet (reasons_of pins earlier cell) h
@@ -44,3 +55,75 @@ accepted_states_are_few pins earlier cell h =
     let same : length (groups_of cell) ≡ length (flat_map state_at (state_groups cell)) =
     group_count (numbers_of cell) (state_reading (vocabulary cell) (length (pins_of cell))) (state_groups cell) in
     omega arith
+
+-- Nothing refuses the states and the outputs of an accepted cell.
+pub accepted_meets_none_here : (pins : Subject) (earlier : List (List ℕ)) (cell : Group) → refusal_of pins earlier cell ≡ None → CellMeetsNone cell
+accepted_meets_none_here pins earlier cell h =
+    let m = accepted_meets_none pins earlier cell h in
+    let m5 = m.1.1.1.1.1 in
+    let m6 = m5.1 in
+    let m12 = m6.1.1.1.1.1.1 in
+    let twice = nil_parts (known_cell earlier cell) (clashes_after [] (declared_of cell)) m5.0 in
+    let bad_states = nil_parts (flat_map malformed_in (readings_of cell)) _ m6.0 in
+    let bad_texts = nil_parts (flat_map malformed_at (texts_of cell)) _ bad_states.1 in
+    let lost_states = nil_parts (flat_map unknown_in (readings_of cell)) _ m6.1.0 in
+    let lost_texts = nil_parts (flat_map unknown_at (texts_of cell)) _ lost_states.1 in
+    let names = nil_parts (bad_names cell) _ m12.0 in
+    let counts = nil_parts (first_past 64 (map place_of_group (owners_of cell))) _ names.1 in
+    let states = nil_parts (first_past 16 (flat_map state_at (state_groups cell))) _ counts.1 in
+    let checks = nil_parts (first_past 256 (flat_map check_at_in (timing_answers pins cell))) _ states.1 in
+    let arcs = nil_parts (first_past 1024 (flat_map arc_at_in (timing_answers pins cell))) _ checks.1 in
+    let wide = nil_parts (flat_map wide_support_in (readings_of cell)) _ m12.1.0 in
+    let wide_texts =
+    nil_parts (flat_map (wide_output (vocabulary cell) (length (pins_of cell)) (groups_of cell) (numbers_of cell)) (owners_of cell)) _ wide.1 in
+    record {
+      none_twice = twice.1;
+      states_read = bad_states.0;
+      states_known = lost_states.0;
+      states_apart = m6.1.1.0;
+      texts_read = bad_texts.0;
+      texts_known = lost_texts.0;
+      driven = m6.1.1.1.0;
+      few_states = states.0;
+      some_support = arcs.1;
+      narrow_support = wide.0;
+      narrow_outputs = wide_texts.0;
+    }
+
+-- Nothing refuses the timing of an accepted cell.
+timing_limits :
+    (pins : Subject) (earlier : List (List ℕ)) (cell : Group)
+    → refusal_of pins earlier cell ≡ None
+    → (first_past 256 (flat_map check_at_in (timing_answers pins cell)) ≡ [])
+    × (first_past 1024 (flat_map arc_at_in (timing_answers pins cell)) ≡ [])
+    × (flat_map wide_in (timing_answers pins cell) ≡ [])
+timing_limits pins earlier cell h =
+    let m = accepted_meets_none pins earlier cell h in
+    let m12 = m.1.1.1.1.1.1.1.1.1.1.1.1 in
+    let names = nil_parts (bad_names cell) _ m12.0 in
+    let counts = nil_parts (first_past 64 (map place_of_group (owners_of cell))) _ names.1 in
+    let states = nil_parts (first_past 16 (flat_map state_at (state_groups cell))) _ counts.1 in
+    let checks = nil_parts (first_past 256 (flat_map check_at_in (timing_answers pins cell))) _ states.1 in
+    let arcs = nil_parts (first_past 1024 (flat_map arc_at_in (timing_answers pins cell))) _ checks.1 in
+    let wide = nil_parts (flat_map wide_support_in (readings_of cell)) _ m12.1.0 in
+    let wide_texts =
+    nil_parts (flat_map (wide_output (vocabulary cell) (length (pins_of cell)) (groups_of cell) (numbers_of cell)) (owners_of cell)) _ wide.1 in
+    (checks.0, arcs.0, wide_texts.1)
+
+pub accepted_cells_are_sound : AcceptedCellsAreSound
+accepted_cells_are_sound unit earlier cell h =
+    let subject : Subject = subject_of unit cell in
+    let here = accepted_meets_none_here subject earlier cell h in
+    let sound = accepted_pins_are_sound subject earlier cell h in
+    let timing = timing_limits subject earlier cell h in (
+      cell_of_rules (cell_name cell) (pins_of cell) (groups_of cell) (outputs_of cell) (checks_of subject cell) (arcs_of subject cell)
+          (record {
+            named = sound.0;
+            of_pins = sound.1;
+            of_groups = groups_keep_rules cell here;
+            of_outputs = outputs_keep_rules cell here;
+            of_checks = checks_rules subject (owners_of cell) timing.0 timing.2;
+            of_arcs = arcs_rules subject (owners_of cell) timing.1 timing.2;
+          }),
+      arcs_apart subject (owners_of cell),
+    )

@@ -1,5 +1,6 @@
 pub mod PinTimings
 pub mod Refusals
 pub mod CellTexts
+pub mod Parts
 pub mod ReasonWords
 pub mod Laws

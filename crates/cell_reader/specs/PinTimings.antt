@@ -87,9 +87,13 @@ type_text (Some group) = option_map_or (λ (a : Attribute). a.text) (attribute_o
 abbrev pub type_at : List Item → ℕ → List ℕ
 type_at items place = option_map_or (λ item. type_text (group_named (codes "timing") (out-Item item))) (slice_get items place) []
 
+-- the left-out timing group at this place among the statements of a pin
+abbrev pub left_out_as : ℕ → Group → ℕ → LeftOut
+left_out_as pin owner place = record { pin = pin; kind = type_at owner.items place }
+
 -- The timing groups of a pin that are left out, by their places among its statements.
 abbrev pub left_out_in : ℕ → Group → Answer → List LeftOut
-left_out_in pin owner (Ok timing) = map (λ place. record { pin = pin; kind = type_at owner.items place }) timing.left_out
+left_out_in pin owner (Ok timing) = map (left_out_as pin owner) timing.left_out
 left_out_in pin owner (Err e) = []
 
 abbrev pub left_out_from : ℕ → List Group → List Answer → List LeftOut

@@ -2,8 +2,6 @@
 use Rattle.std.specs.Prelude.{ℕ, List, [], ◌∷◌, ◌++◌, length, map, flat_map, Option, Some, None}
 use Rattle.timing_arcs.specs.declared.subject.Subject.{Subject}
 use Rattle.liberty_groups.specs.declared.tree.Group.{Group}
-use Rattle.cell_machine.specs.declared.groups.StateGroup.{StateGroup}
-use Rattle.cell_machine.specs.declared.outputs.OutputPin.{OutputPin}
 use Rattle.cell_machine.specs.declared.checks.Check.{Check}
 use Rattle.cell_machine.specs.declared.arcs.Arc.{Arc}
 use Rattle.timing_arcs.specs.Timing.{least}
@@ -11,46 +9,20 @@ use Rattle.cell_reader.specs.declared.refusal.Reason.{Reason}
 use Rattle.cell_reader.specs.declared.refusal.Reason.TheVariants as reason
 use Rattle.cell_reader.specs.declared.refusal.Refusal.{Refusal}
 use Rattle.cell_reader.specs.declared.left_out.LeftOut.{LeftOut}
-use Rattle.cell_parts.specs.declared.texts.Text.{Text}
-use Rattle.cell_parts.specs.declared.state_readings.StateReading.{StateReading}
-use Rattle.cell_parts.specs.Groups.{pin_groups, state_groups}
+use Rattle.cell_parts.specs.Groups.{state_groups}
 use Rattle.cell_parts.specs.Pins.{pins_of, owners_of}
-use Rattle.cell_parts.specs.States.{states_of}
 use Rattle.cell_parts.specs.Scans.{directions, three_states, banks, left_out_states, clear_presets, no_functions}
 use Rattle.cell_parts.specs.Declarations.{duplicates, bad_names}
 use Rattle.cell_parts.specs.Vocabulary.{vocabulary}
 use Rattle.cell_parts.specs.Texts.{malformed_at, unknown_at}
-use Rattle.cell_parts.specs.StateReadings.{state_reading}
-use Rattle.cell_parts.specs.Outputs.{pin_text}
 use Rattle.cell_parts.specs.TextFaults.{malformed_in, unknown_in, coupled_in}
 use Rattle.cell_reader.specs.PinTimings.{Answer, answers_from, malformed_timing, unknown_timing, own_timing, number_timing, checks_in, arcs_in, check_at_in, arc_at_in, wide_in, left_out_from}
-use Rattle.cell_parts.specs.Building.{cell_numbers, groups_from, outputs_from}
+use Rattle.cell_parts.specs.CellLaws.{readings_of, texts_of, numbers_of, groups_of}
 use Rattle.cell_parts.specs.Limits.{first_past, place_of_group, state_at, no_support_in, wide_support_in, wide_output}
-
--- The parts of a cell's group that its meaning is read from.
-
--- what the groups that hold states say
-abbrev pub readings_of : Group → List StateReading
-readings_of cell = map (state_reading (vocabulary cell) (length (pins_of cell))) (state_groups cell)
-
--- the texts of the pin groups
-abbrev pub texts_of : Group → List Text
-texts_of cell = map (pin_text (vocabulary cell)) (pin_groups cell)
 
 -- What reading the timing of each pin answers, where `pins` are the cell's pins with the time unit of the library.
 abbrev pub timing_answers : Subject → Group → List Answer
 timing_answers pins cell = answers_from pins 0 (owners_of cell)
-
--- The numbers in the cell of the names that its texts name.
-abbrev pub numbers_of : Group → List ℕ
-numbers_of cell = cell_numbers (states_of cell) (length (pins_of cell)) (vocabulary cell)
-
-abbrev pub groups_of : Group → List StateGroup
-groups_of cell = groups_from (numbers_of cell) (state_groups cell) (readings_of cell)
-
-abbrev pub outputs_of : Group → List OutputPin
-outputs_of cell =
-    outputs_from (vocabulary cell) (length (pins_of cell)) (groups_of cell) (numbers_of cell) 0 (owners_of cell)
 
 -- The checks and the arcs of a cell stand in the order of its pins.
 abbrev pub checks_of : Subject → Group → List Check
@@ -124,9 +96,9 @@ early_reasons earlier cell =
     ∷ met reason.Duplicate (duplicates earlier cell)
     ∷ []
 
--- the reasons that are tried after them
-abbrev pub later_reasons : Subject → Group → List Met
-later_reasons pins cell =
+-- the reasons that are tried after them, but for the last
+abbrev pub middle_reasons : Subject → Group → List Met
+middle_reasons pins cell =
     met reason.Malformed (malformed pins cell)
     ∷ met reason.UnknownName (unknown_names pins cell)
     ∷ met reason.Coupled (coupled cell)
@@ -134,8 +106,11 @@ later_reasons pins cell =
     ∷ met reason.OwnCondition (own_conditions pins cell)
     ∷ met reason.Number (numbers pins cell)
     ∷ met reason.Limit (limits pins cell)
-    ∷ met reason.UdpInputs (udp_inputs pins cell)
     ∷ []
+
+-- the reasons that are tried after the texts are read
+abbrev pub later_reasons : Subject → Group → List Met
+later_reasons pins cell = middle_reasons pins cell ++ met reason.UdpInputs (udp_inputs pins cell) ∷ []
 
 -- All fourteen reasons in their order.
 abbrev pub reasons_of : Subject → List (List ℕ) → Group → List Met

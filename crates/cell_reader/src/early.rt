@@ -28,7 +28,7 @@ fn duplicates(
     ensures { IfOk result (λ at. at ≡ least (duplicates_of earlier.now cell.now)) }
 {
     let declared = declared_of(alloc, groups)?;
-    let clash = first_clash(&declared);
+    let clash = first_clash(alloc, &declared)?;
     Ok(lesser(known_cell(earlier, cell), clash))
 }
 
@@ -44,7 +44,11 @@ fn left_out(cell: &Group, pins: &[&Group], states: &[&Group]) -> Option<usize>
 }
 
 /// This reason where it is met, else what comes later.
-fn refused_or(reason: Reason, at: Option<usize>, later: Option<Refusal>) -> Option<Refusal>
+pub(crate) fn refused_or(
+    reason: Reason,
+    at: Option<usize>,
+    later: Option<Refusal>,
+) -> Option<Refusal>
     ensures { result ≡ refused_or_of reason at later }
 {
     match at {

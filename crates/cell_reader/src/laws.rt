@@ -1,5 +1,5 @@
 //! Laws of the definitions: what holds of a cell that nothing refuses.
-ghost use Rattle.cell_reader.specs.Laws.{AcceptedMeetsNone, AcceptedPinsAreSound, AcceptedStatesAreFew};
+ghost use Rattle.cell_reader.specs.Laws.{AcceptedMeetsNone, AcceptedPinsAreSound, AcceptedStatesAreFew, AcceptedCellsAreSound};
 
 /// The law that an accepted cell meets no reason anywhere.
 #[tactic(auto, using(crate::proofs::Accepted::accepted_meets_none))]
@@ -17,4 +17,9 @@ pub fn accepted_pins_are_sound()
 #[tactic(auto, using(crate::proofs::Accepted::accepted_states_are_few))]
 pub fn accepted_states_are_few()
     ensures { AcceptedStatesAreFew }
+{}
+
+/// The law that an accepted cell keeps all rules of cells.
+pub fn accepted_cells_are_sound()
+    ensures { AcceptedCellsAreSound }
 {}

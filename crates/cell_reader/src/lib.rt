@@ -3,15 +3,26 @@
 
 mod answers;
 mod early;
+mod fault;
+mod later;
 mod laws;
 mod left_out;
 mod limits;
+mod numbered;
+mod offsets;
+mod parts;
+mod read;
 mod refusal;
 mod scans;
 mod text_faults;
 mod timing_faults;
+mod timings;
 
 pub use cell_parts::fault::Memory;
-pub use laws::{accepted_meets_none, accepted_pins_are_sound, accepted_states_are_few};
+pub use fault::CellFault;
+pub use laws::{
+    accepted_cells_are_sound, accepted_meets_none, accepted_pins_are_sound, accepted_states_are_few,
+};
 pub use left_out::LeftOut;
+pub use read::{ReadCell, read_cell};
 pub use refusal::{Reason, Refusal};

@@ -2,7 +2,7 @@
 ghost use Rattle.std.specs.Prelude.{◌≡◌, ◌++◌, OnOk, IfOk, map, flat_map};
 ghost use Rattle.timing_arcs.specs.Timing.{least};
 ghost use Rattle.cell_parts.specs.Declarations.{bad_cell_name as bad_cell_name_of, known_cell as known_cell_of};
-ghost use Rattle.cell_parts.specs.Limits.{first_past as first_past_of, place_of_state as place_of_state_in, state_at, no_support_in as no_support_in_of, wide_support_in as wide_support_in_of};
+ghost use Rattle.cell_parts.specs.Limits.{first_past as first_past_of, place_of_group, place_of_state as place_of_state_in, state_at, no_support_in as no_support_in_of, wide_support_in as wide_support_in_of};
 ghost use Rattle.cell_parts.specs.Shown.{shown_state};
 
 use bool_functions::Names;
@@ -21,6 +21,16 @@ pub(crate) fn first_past(limit: usize, offsets: &[usize]) -> Option<usize>
     match offsets.get(limit) {
         None => None,
         Some(at) => Some(*at),
+    }
+}
+
+/// The offset of the first of some groups that passes a limit of so many.
+pub(crate) fn first_group_past(limit: usize, groups: &[&Group]) -> Option<usize>
+    ensures { result ≡ least (first_past_of limit (map place_of_group (map (λ group. group.now) groups.now))) }
+{
+    match groups.get(limit) {
+        None => None,
+        Some(group) => Some(group.at),
     }
 }
 

@@ -1,0 +1,89 @@
+//! The refusals that are tried after the texts are read.
+ghost use Rattle.std.specs.Prelude.{◌≡◌, IfOk, map, flat_map, None, Option};
+ghost use Rattle.timing_arcs.specs.Timing.{least};
+ghost use Rattle.cell_parts.specs.Declarations.{bad_names as bad_names_of};
+ghost use Rattle.cell_reader.specs.Refusals.{malformed as malformed_of, unknown_names as unknown_names_of, limits as limits_of, middle_reasons, first_refusal};
+ghost use Rattle.cell_reader.specs.Parts.{subject_in, AreParts};
+
+use crate::early::refused_or;
+use crate::limits::{bad_cell_name, first_group_past, first_past, no_supports, state_offsets};
+use crate::offsets::{arc_offsets, check_offsets};
+use crate::parts::Parts;
+use crate::refusal::{Reason, Refusal};
+use crate::scans::no_functions;
+use crate::text_faults::{
+    coupled_states, malformed_pins, malformed_states, unknown_pins, unknown_states,
+};
+use crate::timing_faults::{malformed_timings, number_timings, own_timings, unknown_timings};
+use cell_parts::declarations::{declared_of, first_bad_name};
+use cell_parts::fault::Memory;
+use cell_parts::least::lesser;
+use std::alloc::Global;
+
+/// Where a text or a table of the cell does not read.
+#[tactic(auto, using(cell_parts::proofs::LeastLemmas::least_append))]
+fn malformed(parts: &Parts<'_>) -> Option<usize>
+    requires { AreParts parts.now }
+    ensures { result ≡ least (malformed_of (subject_in parts.now) parts.now.cell.now) }
+{
+    let states = malformed_states(parts.readings.as_slice());
+    let pins = malformed_pins(parts.texts.as_slice());
+    lesser(states, lesser(pins, malformed_timings(&parts.answers)))
+}
+
+/// Where a text of the cell names nothing of the kind that it may name.
+#[tactic(auto, using(cell_parts::proofs::LeastLemmas::least_append))]
+fn unknown_names(parts: &Parts<'_>) -> Option<usize>
+    requires { AreParts parts.now }
+    ensures { result ≡ least (unknown_names_of (subject_in parts.now) parts.now.cell.now) }
+{
+    let states = unknown_states(parts.readings.as_slice());
+    let pins = unknown_pins(parts.texts.as_slice());
+    lesser(states, lesser(pins, unknown_timings(&parts.answers)))
+}
+
+/// Where a name of the cell is none.
+#[tactic(auto, using(cell_parts::proofs::LeastLemmas::least_append))]
+fn bad_names(alloc: Global, parts: &Parts<'_>) -> Result<Option<usize>, Memory>
+    requires { AreParts parts.now }
+    ensures { IfOk result (λ at. at ≡ least (bad_names_of parts.now.cell.now)) }
+{
+    let declared = declared_of(alloc, &parts.groups)?;
+    Ok(lesser(bad_cell_name(parts.cell), first_bad_name(&declared)))
+}
+
+/// Where a limit of the cell is passed.
+#[tactic(auto, using(cell_parts::proofs::LeastLemmas::least_append))]
+fn limits(alloc: Global, parts: &Parts<'_>) -> Result<Option<usize>, Memory>
+    requires { AreParts parts.now }
+    ensures { IfOk result (λ at. at ≡ least (limits_of (subject_in parts.now) parts.now.cell.now)) }
+{
+    let names = bad_names(alloc, parts)?;
+    let pins = first_group_past(64, &parts.owners);
+    let states = state_offsets(alloc, &parts.state_groups)?;
+    let checks = check_offsets(alloc, &parts.answers)?;
+    let arcs = arc_offsets(alloc, &parts.answers)?;
+    let supports = no_supports(parts.readings.as_slice());
+    let timing = lesser(
+        first_past(256, &checks),
+        lesser(first_past(1024, &arcs), supports),
+    );
+    let counts = lesser(pins, lesser(first_past(16, &states), timing));
+    Ok(lesser(names, counts))
+}
+
+/// The first of the reasons that are tried after the texts are read, but for the last of all.
+pub(crate) fn middle_refusal(alloc: Global, parts: &Parts<'_>) -> Result<Option<Refusal>, Memory>
+    requires { AreParts parts.now }
+    ensures { IfOk result (λ refusal. refusal ≡ first_refusal (middle_reasons (subject_in parts.now) parts.now.cell.now)) }
+{
+    let over = limits(alloc, parts)?;
+    let later = refused_or(Reason::Limit, over, None);
+    let later = refused_or(Reason::Number, number_timings(&parts.answers), later);
+    let later = refused_or(Reason::OwnCondition, own_timings(&parts.answers), later);
+    let later = refused_or(Reason::NoFunction, no_functions(&parts.pin_groups), later);
+    let coupled = coupled_states(parts.readings.as_slice());
+    let later = refused_or(Reason::Coupled, coupled, later);
+    let later = refused_or(Reason::UnknownName, unknown_names(parts), later);
+    Ok(refused_or(Reason::Malformed, malformed(parts), later))
+}

@@ -1,0 +1,65 @@
+//! The names of a cell by their numbers in it, and its states over them.
+ghost use Rattle.std.specs.Prelude.{◌≡◌, IfOk, None, Option};
+ghost use Rattle.timing_arcs.specs.Timing.{least};
+ghost use Rattle.cell_reader.specs.Refusals.{middle_reasons, first_refusal, udp_inputs as udp_inputs_of};
+ghost use Rattle.cell_reader.specs.Parts.{subject_in, AreParts, AreNumbered};
+
+use crate::limits::wide_supports;
+use crate::offsets::wide_timings;
+use crate::parts::Parts;
+use cell_machine::StateGroup;
+use cell_parts::cell_numbers::cell_numbers;
+use cell_parts::fault::Memory;
+use cell_parts::least::lesser;
+use cell_parts::output_pins::wide_outputs;
+use cell_parts::state_groups::state_groups;
+use sqlite_items::Items;
+use std::alloc::Global;
+
+/// The numbers in a cell of the names that its texts name, and its state groups.
+#[derive(Drop)]
+pub struct Numbered {
+    pub numbers: Vec<usize>,
+    pub groups: Items<StateGroup>,
+}
+
+/// The numbers of the names of a cell, and its state groups.
+pub(crate) fn number_names(alloc: Global, parts: &Parts<'_>) -> Result<Numbered, Memory>
+    requires parts { AreParts parts.now }
+    requires unmet { first_refusal (middle_reasons (subject_in parts.now) parts.now.cell.now) ≡ None }
+    ensures { IfOk result (λ made. AreNumbered parts.now.cell.now made) }
+{
+    let pins = parts.pins.len();
+    let numbers = cell_numbers(alloc, &parts.states, pins, &parts.vocabulary)?;
+    let groups = state_groups(
+        alloc,
+        &numbers,
+        &parts.state_groups,
+        parts.readings.as_slice(),
+    )?;
+    Ok(Numbered { numbers, groups })
+}
+
+/// Where a state group names more than 8 pins, or an output function or a condition more than 10 names.
+#[tactic(auto, using(cell_parts::proofs::LeastLemmas::least_append))]
+pub(crate) fn udp_inputs(
+    alloc: Global,
+    parts: &Parts<'_>,
+    numbered: &Numbered,
+) -> Result<Option<usize>, Memory>
+    requires parts { AreParts parts.now }
+    requires numbered { AreNumbered parts.now.cell.now numbered.now }
+    requires unmet { first_refusal (middle_reasons (subject_in parts.now) parts.now.cell.now) ≡ None }
+    ensures { IfOk result (λ at. at ≡ least (udp_inputs_of (subject_in parts.now) parts.now.cell.now)) }
+{
+    let outputs = wide_outputs(
+        alloc,
+        &parts.vocabulary,
+        numbered.groups.as_slice(),
+        &numbered.numbers,
+        parts.pins.len(),
+        &parts.owners,
+    )?;
+    let states = wide_supports(parts.readings.as_slice());
+    Ok(lesser(states, lesser(outputs, wide_timings(&parts.answers))))
+}

@@ -11,6 +11,7 @@ ghost use Rattle.cell_machine.specs.Supports.{StatesBelow};
 ghost use Rattle.udp_tables.specs.CellData.{data_of};
 ghost use Rattle.udp_tables.specs.CellPrimitives.{sources_at, output_value_at};
 
+use crate::points::trit_of;
 use bool_functions::Function;
 use cell_machine::{Both, Cell, GroupKind, Source};
 use std::marker::Model;
@@ -102,7 +103,7 @@ impl NameValues {
     }
 }
 
-// The name of a source; that of a state beyond the groups is not looked at.
+// The name of a source.
 fn source_name(cell: &Cell, source: Source) -> usize
     requires { StatesBelow (length cell.now.groups) (source ∷ []) }
     ensures { result ≡ source_name (length cell.now.pins) source }
@@ -111,12 +112,6 @@ fn source_name(cell: &Cell, source: Source) -> usize
         Source::Pin(pin) => pin,
         Source::State(group) => cell.state_name(group),
     }
-}
-
-fn trit_of(value: bool) -> Trit
-    ensures { result ≡ trit_of value }
-{
-    if value { Trit::One } else { Trit::Zero }
 }
 
 fn both_value(both: Both, state: bool) -> Trit

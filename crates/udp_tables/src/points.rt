@@ -1,8 +1,8 @@
-//! The steps of a group and the values of its outputs at points.
+//! The steps of a group at points.
 ghost use Rattle.std.specs.Prelude.{◌≡◌, ◌+◌, ◌<◌, ◌≤◌, suc, [], ◌∷◌, ◌++◌, List, Bool, map, take, length};
-ghost use Rattle.trit_cubes.specs.Filling.{trit_of};
 ghost use Rattle.trit_cubes.specs.Sets.{gives};
 ghost use Rattle.cell_machine.specs.Machine.{insert, edge_value, forced_at};
+ghost use Rattle.cell_machine.specs.Step.{trit_of};
 ghost use Rattle.cell_machine.specs.CellTrace.{support_at, step_at};
 
 use cell_machine::{Cell, boolean_step, forced};
@@ -82,7 +82,8 @@ impl Bits {
     }
 }
 
-fn trit_of(bit: bool) -> Trit
+/// A known value as a trit.
+pub(crate) fn trit_of(bit: bool) -> Trit
     ensures { result ≡ trit_of bit }
 {
     if bit { Trit::One } else { Trit::Zero }

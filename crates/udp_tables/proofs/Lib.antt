@@ -1,3 +1,4 @@
+pub mod PairLemmas
 pub mod CountLemmas
 pub mod CellLaws
 pub mod ConditionLemmas

@@ -13,7 +13,7 @@ use cell_machine::{Arc, Cell};
 use std::alloc::Global;
 
 /// The conditions of a cell by first use, checks before arcs, equal trees once. An arc without condition uses, at its
-/// place, those of all arcs of its two pins in their order.
+/// place, those of all arcs of its two pins in their order. `Memory` comes only where memory is wanting.
 pub fn conditions(alloc: Global, cell: &Cell) -> Result<Vec<&Function>, Memory>
     ensures { IfOk result (λ found. map (λ condition. condition.now) found.items ≡ conditions_of (data_of cell.now)) }
 {
@@ -23,7 +23,8 @@ pub fn conditions(alloc: Global, cell: &Cell) -> Result<Vec<&Function>, Memory>
     Ok(found)
 }
 
-/// The number of a condition: the place of the first one that is the same tree, or their count where none is.
+/// The number of a condition, from 0: the place of the first one that is the same tree, or their count where none is. Takes
+/// no memory.
 pub fn condition_number(conditions: &[&Function], condition: &Function) -> usize
     ensures { result ≡ condition_place (map (λ other. other.now) conditions.now) condition.now }
 {

@@ -25,7 +25,7 @@ pub enum Part {
 }
 
 /// The primitive of a group, of which the cell has one with this number from 0. Its inputs are the pins of the group's
-/// support, and last the notifier exactly where the cell has checks.
+/// support, and last the notifier exactly where the cell has checks. `Memory` comes only where memory is wanting.
 pub fn sequential_udp(alloc: Global, cell: &Cell, group: usize) -> Result<Udp, Memory>
     requires { group < length cell.now.groups }
     ensures { IfOk result (λ udp. udp ≡ group_primitive (data_of cell.now) group) }
@@ -53,7 +53,7 @@ fn group_inputs(cell: &Cell, group: usize) -> usize
 }
 
 /// The primitive of an output or a condition that the cell has, of an output one that depends on anything. Its inputs are
-/// the pins, and then the states, of the support.
+/// the pins, and then the states, of the support. `Memory` comes only where memory is wanting.
 pub fn combinational_udp(alloc: Global, cell: &Cell, part: Part) -> Result<Udp, Memory>
     requires { IsPart (data_of cell.now) part }
     ensures { IfOk result (λ udp. udp ≡ part_primitive (data_of cell.now) part) }

@@ -11,7 +11,7 @@ use trit_cubes::Trit;
 
 /// The next state of a sequential primitive whose inputs are `inputs` after a change of the input with the number
 /// `changed`, which was `old` before it: that of the first row of levels that matches, else of the first row with a change
-/// entry that matches, else x (IEEE 1364-2005, clause 8).
+/// entry that matches, else x (IEEE 1364-2005, clause 8). Takes no memory.
 pub fn udp_next(udp: &Udp, state: Trit, inputs: &[Trit], changed: usize, old: Trit) -> Trit
     requires table { HasEntries udp.now }
     requires entries { length inputs.now ≡ length udp.now.inputs }

@@ -1,1 +1,9 @@
 pub mod OutputPins
+pub mod PortLemmas
+pub mod InstanceLemmas
+pub mod PrimitiveLemmas
+pub mod ApartLemmas
+pub mod RowLemmas
+pub mod ConditionLemmas
+pub mod Soundness
+mod Examples

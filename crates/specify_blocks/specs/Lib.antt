@@ -3,3 +3,4 @@ pub mod Sound
 pub mod Ports
 pub mod Names
 pub mod Generated
+pub mod Laws

@@ -24,7 +24,7 @@ abbrev pub changes_in : UdpRow → ℕ
 changes_in row = count_by (λ e. not (is_level e)) row.inputs
 
 -- A row with an entry for each input. In a primitive with a state at most one entry is a change, else none is. (IEEE
--- 1364-2005, 8.4 and 8.5.)
+-- 1364-2005, 8.2 and 8.4.)
 pub record IsRow (udp : Udp) (row : UdpRow) : Type 0 where
   pub entries : length row.inputs ≡ length udp.inputs
   pub changes : changes_in row ≤ (if udp.sequential then 1 else 0)

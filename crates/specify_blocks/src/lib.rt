@@ -3,12 +3,18 @@
 #![tactic(auto)]
 
 mod faults;
+mod generation;
 mod instances;
+mod laws;
 mod model;
 mod names;
 mod nets;
 mod ports;
+mod primitives;
+mod timing;
 
 pub use faults::Memory;
+pub use generation::verilog_model;
+pub use laws::generated_is_sound;
 pub use model::{Gate, Instance, VCheck, VModule, VNet, VPath};
 pub use ports::verilog_ports;

@@ -1,0 +1,7 @@
+use Rattle.std.proofs.Common.{◌≡◌, ◌++◌, map, drop}
+use Rattle.udp_tables.specs.CellData.{data_of}
+use Rattle.specify_blocks.specs.Generated.{path_of}
+use Rattle.specify_blocks.proofs.timing.paths_of.Given as goal
+
+abbrev pub invariant-loop-arc : goal.invariant-loop-arc
+invariant-loop-arc l = l.paths ++ map (path_of (data_of l.cell)) (drop l.arc-index l.cell.arcs) ≡ map (path_of (data_of l.cell)) l.cell.arcs

@@ -1,0 +1,143 @@
+//! The paths and the timing checks of a cell's module.
+ghost use Rattle.std.specs.Prelude.{◌≡◌, None, map, option_map, IfOk};
+ghost use Rattle.std.specs.List.{list_any};
+ghost use Rattle.udp_tables.specs.CellData.{data_of};
+ghost use Rattle.udp_tables.specs.Conditions.{conditions_of};
+ghost use Rattle.specify_blocks.specs.Generated.{wire_of, is_conditional, gate_by, path_of, event_of, check_of};
+
+use crate::faults::Memory;
+use crate::model::{Gate, VCheck, VPath};
+use crate::ports::port_number;
+use bool_functions::Function;
+use cell_machine::{Arc, Cell, Check, Event, Pin};
+use sqlite_items::Items;
+use std::alloc::Global;
+use udp_tables::condition_number;
+
+/// The paths of a cell's module, where these are the cell's conditions: one for each arc, in order.
+pub(crate) fn paths_of(
+    alloc: Global,
+    cell: &Cell,
+    conditions: &[&Function],
+) -> Result<Items<VPath>, Memory>
+    requires { map (λ f. f.now) conditions.now ≡ conditions_of (data_of cell.now) }
+    ensures { IfOk result (λ paths. paths ≡ map (path_of (data_of cell.now)) cell.now.arcs) }
+{
+    let mut paths = Items::new(alloc);
+    for arc in cell.arcs.as_slice() {
+        paths.push(path_of(cell, conditions, arc))?;
+    }
+    Ok(paths)
+}
+
+fn path_of(cell: &Cell, conditions: &[&Function], arc: &Arc) -> VPath
+    requires { map (λ f. f.now) conditions.now ≡ conditions_of (data_of cell.now) }
+    ensures { result ≡ path_of (data_of cell.now) arc.now }
+{
+    let pins = cell.pins.as_slice();
+    VPath {
+        from: port_number(pins, arc.from),
+        to: port_number(pins, arc.to),
+        rise: arc.rise,
+        fall: arc.fall,
+        gate: gate_of(cell, conditions, arc),
+    }
+}
+
+fn gate_of(cell: &Cell, conditions: &[&Function], arc: &Arc) -> Gate
+    requires { map (λ f. f.now) conditions.now ≡ conditions_of (data_of cell.now) }
+    ensures { result ≡ gate_by (data_of cell.now) arc.now arc.now.condition }
+{
+    match &arc.condition {
+        Some(condition) => Gate::If(wire_of(cell, conditions, condition)),
+        None => gate_without_condition(cell, arc),
+    }
+}
+
+/// When a path without condition counts.
+fn gate_without_condition(cell: &Cell, arc: &Arc) -> Gate
+    ensures { result ≡ gate_by (data_of cell.now) arc.now None }
+{
+    if has_conditional(cell.arcs.as_slice(), arc) {
+        Gate::IfNone
+    } else {
+        Gate::Always
+    }
+}
+
+/// Whether one of the arcs has a condition and the two pins of this one.
+fn has_conditional(arcs: &[Arc], arc: &Arc) -> bool
+    ensures { result ≡ list_any (is_conditional arc.now) arcs.now }
+{
+    arcs.iter().any(|other| is_conditional(arc, other))
+}
+
+/// Whether the other arc has a condition and the same two pins.
+fn is_conditional(arc: &Arc, other: &Arc) -> bool
+    ensures { result ≡ is_conditional arc.now other.now }
+{
+    arc.from == other.from && arc.to == other.to && other.condition.is_some()
+}
+
+/// The wire of a condition.
+fn wire_of(cell: &Cell, conditions: &[&Function], condition: &Function) -> usize
+    requires { map (λ f. f.now) conditions.now ≡ conditions_of (data_of cell.now) }
+    ensures { result ≡ wire_of (data_of cell.now) condition.now }
+{
+    cell.groups.len() + condition_number(conditions, condition)
+}
+
+/// The checks of a cell's module, where these are the cell's conditions.
+pub(crate) fn checks_of(
+    alloc: Global,
+    cell: &Cell,
+    conditions: &[&Function],
+) -> Result<Items<VCheck>, Memory>
+    requires { map (λ f. f.now) conditions.now ≡ conditions_of (data_of cell.now) }
+    ensures { IfOk result (λ checks. checks ≡ map (check_of (data_of cell.now)) cell.now.checks) }
+{
+    let mut checks = Items::new(alloc);
+    for check in cell.checks.as_slice() {
+        checks.push(check_of(cell, conditions, check))?;
+    }
+    Ok(checks)
+}
+
+fn check_of(cell: &Cell, conditions: &[&Function], check: &Check) -> VCheck
+    requires { map (λ f. f.now) conditions.now ≡ conditions_of (data_of cell.now) }
+    ensures { result ≡ check_of (data_of cell.now) check.now }
+{
+    let pins = cell.pins.as_slice();
+    VCheck {
+        kind: check.kind,
+        first: event_of(pins, check.first),
+        second: event_of(pins, check.second),
+        limit: check.limit,
+        condition: condition_wire(cell, conditions, &check.condition),
+    }
+}
+
+/// The wire of a condition, where there is one.
+fn condition_wire(
+    cell: &Cell,
+    conditions: &[&Function],
+    condition: &Option<Function>,
+) -> Option<usize>
+    requires { map (λ f. f.now) conditions.now ≡ conditions_of (data_of cell.now) }
+    ensures { result ≡ option_map (wire_of (data_of cell.now)) condition.now }
+{
+    match condition {
+        Some(condition) => Some(wire_of(cell, conditions, condition)),
+        None => None,
+    }
+}
+
+/// The event of a pin as one of its port.
+fn event_of(pins: &[Pin], event: Event) -> Event
+    ensures { result ≡ event_of pins.now event }
+{
+    Event {
+        pin: port_number(pins, event.pin),
+        edge: event.edge,
+    }
+}

@@ -40,6 +40,7 @@ use Rattle.udp_tables.specs.Conditions.{conditions_of, condition_place}
 use Rattle.udp_tables.specs.CellPrimitives.{has_notifier, group_support, step_of_group, group_inputs, group_primitive, condition_tree, condition_primitive, has_sources, sources_at, output_primitive, output_value_at, primitive_name, output_number, condition_number}
 use Rattle.udp_tables.specs.Generated.{primitive_of}
 use Rattle.udp_tables.proofs.TableLemmas.{primitive-combinational}
+use Rattle.udp_tables.proofs.CellLaws.{groups_are_sequential-lem}
 use Rattle.cell_machine.specs.Outputs.{condition_at}
 use Rattle.specify_blocks.specs.declared.model.VNet.{VNet}
 use Rattle.specify_blocks.specs.declared.model.VNet.TheVariants as net
@@ -48,7 +49,7 @@ use Rattle.specify_blocks.specs.declared.model.Instance.TheVariants as instance
 use Rattle.specify_blocks.specs.declared.model.Gate.TheVariants as gate
 use Rattle.specify_blocks.specs.declared.model.VModule.{VModule}
 use Rattle.specify_blocks.specs.Nets.{same_net, are_apart, is_sequential, is_driven, net_driven, has_state, is_state, is_value, feeds_state, feeds_value, drivers}
-use Rattle.specify_blocks.specs.Sound.{IsRow, IsPrimitive, IsInstance, AreInstances, is_gate, IsPath, has_written_events, is_enabling, IsCheck, IsSound}
+use Rattle.specify_blocks.specs.Sound.{IsTable, IsPrimitive, IsInstance, AreInstances, is_gate, IsPath, has_written_events, is_enabling, IsCheck, IsSound}
 use Rattle.specify_blocks.specs.Names.{notifier_name, state_wires, condition_wires}
 use Rattle.specify_blocks.specs.Ports.{port_number, ports_from}
 use Rattle.specify_blocks.specs.Generated.{condition_count, wires_of, notifier_of, pin_net, source_net, notifier_nets, condition_wire, each_from, group_instance, condition_instance, output_instance, after_output, output_instances, instances_of, output_primitives, group_primitives, condition_primitives, primitives_of, wire_of, is_conditional, gate_by, path_of, check_of, module_of}
@@ -57,7 +58,6 @@ use Rattle.specify_blocks.proofs.PortLemmas.{input_port, output_port, hits, outp
 use Rattle.specify_blocks.proofs.InstanceLemmas.{drivers-append, or-left, or-right, is_state-more, no_port, wire_before, wire_after, wire_once, no_wire, port_hits, are-append, each_are, any_each}
 use Rattle.specify_blocks.proofs.PrimitiveLemmas.{numbered-length, inputs-length, group_primitive-at, condition_primitive-at, output_primitive-at}
 use Rattle.specify_blocks.proofs.ApartLemmas.{apart_pins, apart_sources, wire_apart, wire_apart_all, apart_noted, output_apart}
-use Rattle.specify_blocks.proofs.RowLemmas.{levels_alone, sequential_fit}
 use Rattle.specify_blocks.proofs.ConditionLemmas.{support-ascending, is_over, conditions_over, check_found, arc_found, place_at}
 
 -- the support of each group
@@ -369,50 +369,32 @@ module _ (cell : CellData) (h : HoldsRules cell.name cell.pins cell.groups cell.
           )
   driven_once net.Notifier k = absurd cc
 
-  abbrev RowsHold : Udp → Type 0
-  RowsHold udp = All (IsRow udp) udp.rows
+  abbrev TableHolds : Udp → Type 0
+  TableHolds udp = IsTable udp.sequential udp
 
-  combinational_rows : (name : List ℕ) (n : ℕ) (f : List Bool → Trit) → RowsHold (primitive_of name n f)
-  combinational_rows name n f =
-      let table = primitive-combinational name n f in
-      λ k d within.
-      record {
-        entries = table.entries k d within;
-        changes =
-            let row : UdpRow = get_or (primitive_of name n f).rows k d in
-            let none = levels_alone row.inputs (table.levels k d within) in
-            omega (arith, none);
-      }
+  below_all : (f : ℕ → Udp) → ((i : ℕ) → TableHolds (f i)) → (n : ℕ) → All TableHolds (each_below (λ i. f i ∷ []) n)
+  below_all f k zero = All-nil TableHolds
+  below_all f k (suc n) = All-append TableHolds (each_below (λ i. f i ∷ []) n) (f n ∷ []) (below_all f k n) (All-cons TableHolds (f n) [] (k n) (All-nil TableHolds))
 
-  group_rows : (g : ℕ) → RowsHold (group_primitive cell g)
-  group_rows g =
-      λ k d within.
-      let fit = sequential_fit (has_notifier cell) (length (group_support cell g)) (step_of_group cell g) k d within in
-      record { entries = fit.0 ∙ sym (inputs-length (group_inputs cell g)); changes = fit.1 }
-
-  below_all : (f : ℕ → Udp) → ((i : ℕ) → RowsHold (f i)) → (n : ℕ) → All RowsHold (each_below (λ i. f i ∷ []) n)
-  below_all f k zero = All-nil RowsHold
-  below_all f k (suc n) = All-append RowsHold (each_below (λ i. f i ∷ []) n) (f n ∷ []) (below_all f k n) (All-cons RowsHold (f n) [] (k n) (All-nil RowsHold))
-
-  outputs_all : (i : ℕ) (outputs : List OutputPin) → All RowsHold (output_primitives cell i outputs)
-  outputs_all i [] = All-nil RowsHold
+  outputs_all : (i : ℕ) (outputs : List OutputPin) → All TableHolds (output_primitives cell i outputs)
+  outputs_all i [] = All-nil TableHolds
   outputs_all i (output ∷ outputs) = by (has_sources output) (outputs_all (i + 1) outputs)
     where
       by :
-          (b : Bool) → All RowsHold (output_primitives cell (i + 1) outputs)
-          → All RowsHold (if b then output_primitive cell i ∷ output_primitives cell (i + 1) outputs else output_primitives cell (i + 1) outputs)
+          (b : Bool) → All TableHolds (output_primitives cell (i + 1) outputs)
+          → All TableHolds (if b then output_primitive cell i ∷ output_primitives cell (i + 1) outputs else output_primitives cell (i + 1) outputs)
       by true rest =
-          All-cons RowsHold (output_primitive cell i) (output_primitives cell (i + 1) outputs)
-          (combinational_rows (primitive_name cell.number (output_number cell i)) (length (sources_at cell i)) (output_value_at cell i)) rest
+          All-cons TableHolds (output_primitive cell i) (output_primitives cell (i + 1) outputs)
+          (primitive-combinational (primitive_name cell.number (output_number cell i)) (length (sources_at cell i)) (output_value_at cell i)) rest
       by false rest = rest
 
-  rows_hold : All RowsHold (primitives_of cell)
-  rows_hold =
-      All-append RowsHold (group_primitives cell) (condition_primitives cell ++ output_primitives cell 0 cell.outputs)
-      (below_all (group_primitive cell) group_rows (length cell.groups))
-      (All-append RowsHold (condition_primitives cell) (output_primitives cell 0 cell.outputs)
+  tables_hold : All TableHolds (primitives_of cell)
+  tables_hold =
+      All-append TableHolds (group_primitives cell) (condition_primitives cell ++ output_primitives cell 0 cell.outputs)
+      (below_all (group_primitive cell) (groups_are_sequential-lem cell) (length cell.groups))
+      (All-append TableHolds (condition_primitives cell) (output_primitives cell 0 cell.outputs)
       (below_all (condition_primitive cell)
-      (λ i. combinational_rows (primitive_name cell.number (condition_number cell i)) (length (support_of (condition_tree cell i)))
+      (λ i. primitive-combinational (primitive_name cell.number (condition_number cell i)) (length (support_of (condition_tree cell i)))
       (condition_at (support_of (condition_tree cell i)) (condition_tree cell i)))
       (condition_count cell))
       (outputs_all 0 cell.outputs))
@@ -509,4 +491,4 @@ module _ (cell : CellData) (h : HoldsRules cell.name cell.pins cell.groups cell.
       })
 
   pub module_is_sound : IsSound (module_of cell)
-  module_is_sound = record { rows = rows_hold; instances = instances_are; driven = driven_once; paths = paths_are; checks = checks_are }
+  module_is_sound = record { tables = tables_hold; instances = instances_are; driven = driven_once; paths = paths_are; checks = checks_are }

@@ -1,14 +1,14 @@
 -- When a module is sound: each number and each net names a thing that its place allows, each row has the length of its table,
 -- and each wire and output is driven once. (IEEE 1364-2005, clauses 8, 12, 14 and 15; the restrictions on places are this
 -- project's.)
-use Rattle.std.specs.Prelude.{◌≡◌, ℕ, ◌≤◌, Bool, true, not, ◌&&◌, All, ⊤, List, [], ◌∷◌, ◌++◌, Option, Some, None, nat_eq, length, count_by, slice_get, is_some, IsTrue, if◌then◌else◌}
+use Rattle.std.specs.Prelude.{◌≡◌, ℕ, Bool, true, false, ◌&&◌, All, ⊤, List, [], ◌∷◌, ◌++◌, Option, Some, None, nat_eq, length, slice_get, is_some, IsTrue, if◌then◌else◌}
 use Rattle.std.specs.List.{list_all}
 use Rattle.cell_machine.specs.declared.checks.CheckKind.{CheckKind}
 use Rattle.cell_machine.specs.declared.checks.CheckKind.TheVariants as check_kind
 use Rattle.cell_machine.specs.CellRules.{is_any_edge, are_opposite}
-use Rattle.udp_tables.specs.declared.table.UdpRow.{UdpRow}
 use Rattle.udp_tables.specs.declared.table.Udp.{Udp}
-use Rattle.udp_tables.specs.Primitive.{is_level}
+use Rattle.udp_tables.specs.Primitive.{IsCombinational}
+use Rattle.udp_tables.specs.Sequential.{IsSequential}
 use Rattle.specify_blocks.specs.declared.model.VNet.{VNet}
 use Rattle.specify_blocks.specs.declared.model.Instance.{Instance}
 use Rattle.specify_blocks.specs.declared.model.Instance.TheVariants as instance
@@ -19,15 +19,11 @@ use Rattle.specify_blocks.specs.declared.model.VCheck.{VCheck}
 use Rattle.specify_blocks.specs.declared.model.VModule.{VModule}
 use Rattle.specify_blocks.specs.Nets.{are_apart, is_input_port, is_output_port, is_driven, holds_state, is_value, feeds_state, feeds_value, drivers}
 
--- how many entries of a row are changes
-abbrev pub changes_in : UdpRow → ℕ
-changes_in row = count_by (λ e. not (is_level e)) row.inputs
-
--- A row with an entry for each input. In a primitive with a state at most one entry is a change, else none is. (IEEE
--- 1364-2005, 8.2 and 8.4.)
-pub record IsRow (udp : Udp) (row : UdpRow) : Type 0 where
-  pub entries : length row.inputs ≡ length udp.inputs
-  pub changes : changes_in row ≤ (if udp.sequential then 1 else 0)
+-- The table of a primitive with a state, or of one without. Each row has an entry for each input. In one with a state at most
+-- one entry of a row is a change, else none is. (IEEE 1364-2005, 8.2 and 8.4.)
+abbrev pub IsTable : Bool → Udp → Type 0
+IsTable true udp = IsSequential udp
+IsTable false udp = IsCombinational udp
 
 -- An instance of a primitive, where these instances stand before it. One with a state drives a wire, and inputs and the
 -- register of the checks feed it; one without drives a wire or an output, and inputs and states feed it.
@@ -85,7 +81,7 @@ pub record IsCheck (m : VModule) (k : VCheck) : Type 0 where
 
 -- A sound module.
 pub record IsSound (m : VModule) : Type 0 where
-  pub rows : All (λ (udp : Udp). All (IsRow udp) udp.rows) m.udps
+  pub tables : All (λ (udp : Udp). IsTable udp.sequential udp) m.udps
   pub instances : AreInstances m [] m.instances
   pub driven : (n : VNet) → IsTrue (is_driven m n) → drivers m.instances n ≡ 1
   pub paths : All (IsPath m) m.paths

@@ -14,6 +14,9 @@ use cell_machine::{Cell, OutputPin, StateGroup};
 use sqlite_items::Items;
 use std::alloc::Global;
 
+/// The most names of a cell: 64 pins, and two variables for each of 16 groups.
+const NAMES: usize = 96;
+
 /// The instances of a cell's module, where these are the cell's conditions: groups, conditions, outputs.
 pub(crate) fn instances_of(
     alloc: Global,
@@ -138,7 +141,7 @@ fn output_instance(
     } else {
         Ok(Instance::Constant {
             output: net,
-            one: output.function.value(&[false; 96]),
+            one: output.function.value(&[false; NAMES]),
         })
     }
 }

@@ -214,7 +214,8 @@ may_same before bytes here items (halt.Refused k at u) stop leads = ap (λ (x : 
 
 -- the answer for a library that ends so
 abbrev pub answer_for : Bool → Ending → Answer
-answer_for w Whole = answer.End
+answer_for true Whole = answer.End
+answer_for false Whole = answer.Over
 answer_for w Cut = answer.Over
 answer_for true (Fault f) = answer.Fault (fault.Library f)
 answer_for false (Fault f) = answer.Refused f

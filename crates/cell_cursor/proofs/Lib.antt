@@ -8,5 +8,6 @@ pub mod Prefix
 pub mod ScannedLemmas
 pub mod SeekingLemmas
 pub mod Shift
+pub mod StandsLemmas
 pub mod StatementSteps
 pub mod TakingLemmas

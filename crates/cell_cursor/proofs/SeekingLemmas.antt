@@ -14,27 +14,7 @@ use Rattle.cell_cursor.specs.declared.part.Place.{Place}
 use Rattle.cell_cursor.specs.Finish.{part_halt, may_go_on, answer_by, answer_at}
 use Rattle.cell_cursor.specs.Progress.{taken_by, to_do}
 use Rattle.cell_cursor.specs.Scanned.{stop_behind}
-use Rattle.cell_cursor.specs.Stands.{is_going, is_failed, Moves, IsSettled}
-use Rattle.cell_cursor.specs.Taking.{Takes}
-use Rattle.cell_cursor.proofs.TakingLemmas.{takes_none, takes_more, takes_read}
-
--- nothing was read
-pub stays : (o n : CellCursor) (s : DeskState) → n.limit ≡ o.limit → Moves o n s s
-stays o n s e = record { taken = []; takes = takes_none s; limit = e }
-
-pub stays_at : (o n : CellCursor) (s t : DeskState) → t ≡ s → n.limit ≡ o.limit → Moves o n s t
-stays_at o n s t f e = subst (λ (u : DeskState). Moves o n s u) (sym f) (stays o n s e)
-
-pub moves_by : (o n : CellCursor) (s t : DeskState) (xs : List ℕ) → Takes s t xs → n.limit ≡ o.limit → Moves o n s t
-moves_by o n s t xs h e = record { taken = xs; takes = h; limit = e }
-
-pub moves_on : (o m n : CellCursor) (s t u : DeskState) → Moves o m s t → Moves m n t u → Moves o n s u
-moves_on o m n s t u h i = record { taken = h.taken ++ i.taken; takes = takes_more s t u h.taken i.taken h.takes i.takes; limit = i.limit ∙ h.limit }
-
--- a read of one byte
-pub takes_byte : (s t : DeskState) (into : List ℕ) (count : ℕ) → count ≤ length into → t ≡ took s Library count →
-    IfSome (s.left Library) (λ left. (take count into ≡ take count left) × (count ≤ length left)) → Takes s t (take count (into ++ []))
-takes_byte s t into count h e f = takes_read s t into [] count h e f
+use Rattle.cell_cursor.specs.Stands.{is_going, is_failed, is_ended}
 
 -- a byte was scanned, and the rest of the piece is shorter
 pub less_to_do : (o m n : CellCursor) → m.limit ≡ o.limit → taken_by m ≡ taken_by o → length m.piece < length o.piece → n.limit ≡ m.limit → taken_by n ≡ taken_by m → n.piece ≡ m.piece → to_do n < to_do o
@@ -75,9 +55,6 @@ smaller o m n a b c e h =
     subst (λ (v : Option Answer). cond (is_going n.answer) (to_do n + 1) 0 < cond (is_going v) (to_do o + 1) 0) (sym e)
     (smaller_by n (is_going n.answer) (to_do o) refl (λ f. subst (λ (k : ℕ). to_do n < k) (to_do_same o m a b c) (h f)))
 
-pub moves_through : (o m m' n : CellCursor) (s t u : DeskState) → m'.limit ≡ m.limit → Moves o m s t → Moves m' n t u → Moves o n s u
-moves_through o m m' n s t u e h i = record { taken = h.taken ++ i.taken; takes = takes_more s t u h.taken i.taken h.takes i.takes; limit = i.limit ∙ e ∙ h.limit }
-
 pub no_answer : {P : Type 0} (v : Option Answer) (a : Answer) → v ≡ None → v ≡ Some a → P
 no_answer v a e f = let k : None ≡ Some a = sym e ∙ f in absurd cc
 
@@ -98,6 +75,22 @@ never_failed here n bytes w =
     choice_never (not w && may_go_on here n bytes (part_halt here n bytes) (scan_of bytes).1)
     (answer_by w (fault_of (n + length bytes) (part_halt here n bytes) (stop_behind n (scan_of bytes).1)))
     (answered_never w (fault_of (n + length bytes) (part_halt here n bytes) (stop_behind n (scan_of bytes).1)))
+
+front_answered : (o : Option LibraryFault) → is_ended (Some (answer_by false o)) ≡ false
+front_answered None = refl
+front_answered (Some f) = refl
+
+front_choice : (x : Bool) (a : Answer) → is_ended (Some a) ≡ false → is_ended (Some (cond x answer.Over a)) ≡ false
+front_choice true a e = refl
+front_choice false a e = e
+
+-- at its limit a library does not end
+pub front_goes : (here : Place) (n : ℕ) (bytes : List ℕ) → is_ended (Some (answer_at here n bytes false)) ≡ false
+unfolding answer_at
+front_goes here n bytes =
+    front_choice (not false && may_go_on here n bytes (part_halt here n bytes) (scan_of bytes).1)
+    (answer_by false (fault_of (n + length bytes) (part_halt here n bytes) (stop_behind n (scan_of bytes).1)))
+    (front_answered (fault_of (n + length bytes) (part_halt here n bytes) (stop_behind n (scan_of bytes).1)))
 
 pub never_by : (a : Option Answer) (here : Place) (n : ℕ) (bytes : List ℕ) (w : Bool) → a ≡ Some (answer_at here n bytes w) → is_failed a ≡ false
 never_by a here n bytes w e = ap is_failed e ∙ never_failed here n bytes w

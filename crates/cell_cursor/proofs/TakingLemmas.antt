@@ -58,3 +58,13 @@ takes_read s t into back count h e f =
     let same : take count (into ++ back) ≡ take count into = take-append-le count into back h in
     let size : length (take count (into ++ back)) ≡ count = ap length same ∙ length-take-le count into h in
     record { state = e ∙ ap (took s Library) (sym size); told = told_seen (s.left Library) (take count (into ++ back)) into count size same f }
+
+pub length_front : (count : ℕ) (into : List ℕ) → count ≤ length into → length (take count into) ≡ count
+length_front count into h = length-take-le count into h
+
+-- a read of so many bytes
+pub takes_into : (s t : DeskState) (into : List ℕ) (count : ℕ) → count ≤ length into → t ≡ took s Library count →
+    IfSome (s.left Library) (λ left. (take count into ≡ take count left) × (count ≤ length left)) → Takes s t (take count into)
+takes_into s t into count h e f =
+    let size = length_front count into h in
+    record { state = e ∙ ap (took s Library) (sym size); told = told_seen (s.left Library) (take count into) into count size refl f }

@@ -50,8 +50,10 @@ abbrev pub may_go_on : Place → ℕ → List ℕ → Halt → Stop → Bool
 may_go_on here n bytes (halt.Refused k at u) stop = is_end stop && u
 may_go_on here n bytes _ stop = goes_on_from here n bytes stop
 
+-- How a library ends that has this fault or none. One that is not whole always has a fault, or goes on.
 abbrev pub answer_by : Bool → Option LibraryFault → Answer
-answer_by whole None = answer.End
+answer_by true None = answer.End
+answer_by false None = answer.Over
 answer_by true (Some f) = answer.Fault (fault.Library f)
 answer_by false (Some f) = answer.Refused f
 

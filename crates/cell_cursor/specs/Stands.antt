@@ -1,13 +1,19 @@
 -- Where a cursor stands in a library, and what a call does to it.
-use Rattle.std.specs.Prelude.{◌≡◌, ℕ, Bool, true, false, List, [], Option, Some, None, Result, Ok, Err}
+use Rattle.std.specs.Prelude.{◌≡◌, ℕ, ◌+◌, ◌≤◌, Bool, true, false, List, [], ◌∷◌, ◌++◌, reverse, length, Option, Some, None, Result, Ok, Err, IfSome}
+use Rattle.text_io.specs.declared.slots.InSlot.TheVariants.{Library}
 use Rattle.text_io.specs.Desk.{DeskState}
+use Rattle.liberty_groups.specs.declared.read.End.TheVariants.{Whole, Cut, Fault}
 use Rattle.cell_cursor.specs.declared.cursor.Answer.{Answer}
 use Rattle.cell_cursor.specs.declared.cursor.Answer.TheVariants as answer
 use Rattle.cell_cursor.specs.declared.cursor.CellCursor.{CellCursor}
 use Rattle.cell_cursor.specs.declared.fault.CursorFault.{CursorFault}
 use Rattle.cell_cursor.specs.declared.fault.CursorFault.TheVariants as fault
+use Rattle.cell_cursor.specs.declared.item.LibraryItem.{LibraryItem}
+use Rattle.cell_cursor.specs.declared.item.LibraryItem.TheVariants as item
 use Rattle.cell_cursor.specs.declared.item.Next.{Next}
 use Rattle.cell_cursor.specs.declared.item.Next.TheVariants as next
+use Rattle.cell_cursor.specs.Ends.{ReadsSo, AreFirst}
+use Rattle.cell_cursor.specs.Leads.{LeadTo}
 use Rattle.cell_cursor.specs.Taking.{Takes}
 
 -- an answer, as what a call returns
@@ -16,6 +22,42 @@ answered answer.Over = Ok next.Over
 answered answer.End = Ok next.End
 answered (answer.Refused f) = Err (fault.Library f)
 answered (answer.Fault f) = Err f
+
+-- the item that a call returned
+abbrev pub given_next : Next → List LibraryItem
+given_next (next.Cell group) = item.Cell group ∷ []
+given_next (next.Unit unit) = item.Unit unit ∷ []
+given_next (next.LeftOut at) = item.LeftOut at ∷ []
+given_next next.Over = []
+given_next next.End = []
+
+abbrev pub given_by : Result Next CursorFault → List LibraryItem
+given_by (Ok one) = given_next one
+given_by (Err f) = []
+
+-- The cursor has no answer yet: what it keeps is the end of the bytes that were taken, and those before it lead to its place,
+-- behind these items.
+pub record Goes (c : CellCursor) (bytes : List ℕ) (items : List LibraryItem) : Type 0 where
+  pub before : List ℕ
+  pub split : bytes ≡ before ++ (c.part.bytes ++ c.piece)
+  pub size : c.part.before ≡ length before
+  pub leads : LeadTo before c.place items
+
+-- what is known of the bytes that were taken, and of all items up to the answer
+abbrev pub Knows : Option Answer → CellCursor → List ℕ → List LibraryItem → Type 0
+Knows None c bytes items = Goes c bytes items
+Knows (Some answer.Over) c bytes items = (more : List ℕ) → ReadsSo c.limit (bytes ++ more) items Cut
+Knows (Some answer.End) c bytes items = ReadsSo c.limit bytes items Whole
+Knows (Some (answer.Refused f)) c bytes items = (more : List ℕ) → ReadsSo c.limit (bytes ++ more) items (Fault f)
+Knows (Some (answer.Fault (fault.Library f))) c bytes items = ReadsSo c.limit bytes items (Fault f)
+Knows (Some (answer.Fault fault.Failed)) c bytes items = AreFirst c.limit bytes items
+Knows (Some (answer.Fault fault.Memory)) c bytes items = AreFirst c.limit bytes items
+
+-- A cursor stands behind the bytes that it has taken of a library and the items that it has given: the items that wait are the
+-- next ones, and it knows what comes behind them.
+pub record Stands (c : CellCursor) (bytes : List ℕ) (items : List LibraryItem) : Type 0 where
+  pub known : Knows c.answer c bytes (items ++ reverse c.waiting.items)
+  pub within : length bytes ≤ c.limit + 1
 
 abbrev pub is_going : Option Answer → Bool
 is_going None = true
@@ -26,11 +68,52 @@ abbrev pub is_failed : Option Answer → Bool
 is_failed (Some (answer.Fault fault.Failed)) = true
 is_failed _ = false
 
--- some bytes of the library were read
-pub record Moves (old new : CellCursor) (before after : DeskState) : Type 0 where
+-- the library ended with its last byte
+abbrev pub is_ended : Option Answer → Bool
+is_ended (Some answer.End) = true
+is_ended (Some (answer.Fault (fault.Library f))) = true
+is_ended _ = false
+
+-- nothing is left of the library, where the desk tells that
+abbrev pub NothingLeft : DeskState → Type 0
+NothingLeft s = IfSome (s.left Library) (λ left. left ≡ [])
+
+abbrev pub is_library : CursorFault → Bool
+is_library (fault.Library f) = true
+is_library _ = false
+
+-- nothing was read of the desk, and some of what was read is scanned
+pub record Scans (old new : CellCursor) : Type 0 where
+  pub bytes : new.part.bytes ++ new.piece ≡ old.part.bytes ++ old.piece
+  pub before : new.part.before ≡ old.part.before
+  pub place : new.place ≡ old.place
+
+-- after a step the cursor stands behind these bytes or, where the step failed, the items that were given are the first ones
+abbrev pub StandsOr : Result (Unit {0}) CursorFault → CellCursor → List ℕ → List LibraryItem → Type 0
+StandsOr (Ok u) c bytes items = Stands c bytes items
+StandsOr (Err f) c bytes items = (c.waiting.items ≡ []) × AreFirst c.limit bytes items × (length bytes ≤ c.limit + 1)
+
+-- after a step with which a library ended nothing is left of it
+abbrev pub EndsOr : Result (Unit {0}) CursorFault → CellCursor → DeskState → Type 0
+EndsOr (Ok u) c s = is_ended c.answer ≡ true → NothingLeft s
+EndsOr (Err f) c s = Unit {0}
+
+-- a step of a cursor that goes on, with what was read in it
+pub record Advances (result : Result (Unit {0}) CursorFault) (old new : CellCursor) (before after : DeskState) : Type 0 where
   pub taken : List ℕ
   pub takes : Takes before after taken
   pub limit : new.limit ≡ old.limit
+  pub stands : (bytes : List ℕ) (items : List LibraryItem) → Goes old bytes items → StandsOr result new (bytes ++ taken) items
+  pub ended : EndsOr result new after
+
+-- Some bytes of the library were read, and these items given. Wherever the cursor stood before, it stands behind them now. Where
+-- it came to the end of the library, nothing is left of it.
+pub record Moves (old new : CellCursor) (before after : DeskState) (given : List LibraryItem) : Type 0 where
+  pub taken : List ℕ
+  pub takes : Takes before after taken
+  pub limit : new.limit ≡ old.limit
+  pub stands : (bytes : List ℕ) (items : List LibraryItem) → Stands old bytes items → Stands new (bytes ++ taken) (items ++ given)
+  pub ended : is_going old.answer ≡ true → is_ended new.answer ≡ true → NothingLeft after
 
 -- the cursor gives this answer from now on
 pub record IsSettled (c : CellCursor) (a : Answer) : Type 0 where

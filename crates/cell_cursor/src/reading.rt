@@ -110,7 +110,8 @@ fn answer_by(whole: bool, fault: Option<LibraryFault>) -> Answer
     ensures { result ≡ answer_by whole fault }
 {
     match fault {
-        None => Answer::End,
+        None if whole => Answer::End,
+        None => Answer::Over,
         Some(fault) if whole => Answer::Fault(CursorFault::Library(fault)),
         Some(fault) => Answer::Refused(fault),
     }

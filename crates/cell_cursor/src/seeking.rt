@@ -1,6 +1,6 @@
 //! The next item.
 
-ghost use Rattle.std.specs.Prelude.{◌≡◌, true, false, ◌<◌, ◌≤◌, ◌+◌, [], reverse, length, IsTrue, OnOk, IfOk, IfErr, Some, None, ◌⊎◌};
+ghost use Rattle.std.specs.Prelude.{◌≡◌, ℕ, true, false, ◌<◌, ◌≤◌, ◌+◌, List, [], reverse, length, IsTrue, OnOk, OnErr, IfOk, IfErr, Some, None, ◌⊎◌};
 ghost use Rattle.text_io.specs.declared.slots.InSlot.TheVariants.{Library};
 ghost use Rattle.text_io.specs.declared.slots.Slot.TheVariants.{Input};
 ghost use Rattle.text_io.specs.Desk.{is_bound, Rose};
@@ -8,7 +8,8 @@ ghost use Rattle.liberty_text.specs.declared.scanner.Mode.TheVariants.{Between};
 ghost use Rattle.cell_cursor.specs.Finish.{part_outcome, answer_at};
 ghost use Rattle.cell_cursor.specs.Items.{items_in};
 ghost use Rattle.cell_cursor.specs.Progress.{taken_by, to_do};
-ghost use Rattle.cell_cursor.specs.Stands.{answered, is_going, is_failed, Moves, IsSettled, StaysSettled};
+ghost use Rattle.cell_cursor.specs.declared.item.LibraryItem.{LibraryItem as Given};
+ghost use Rattle.cell_cursor.specs.Stands.{answered, given_by, is_going, is_failed, is_ended, is_library, Stands, Scans, Advances, Moves, IsSettled, StaysSettled};
 
 use crate::cursor::{Answer, CellCursor};
 use crate::fault::{CursorFault, Memory};
@@ -24,6 +25,7 @@ use text_io::{Desk, InSlot};
 impl CellCursor {
     /// A cursor that has read nothing. It will read at most `limit` bytes of the library, and one more.
     pub fn new(alloc: Global, limit: usize) -> Result<CellCursor, Memory>
+        ensures stands { IfOk result (λ cursor. Stands cursor [] []) }
         ensures limit { IfOk result (λ cursor. cursor.limit ≡ limit) }
     {
         Ok(CellCursor {
@@ -41,6 +43,8 @@ impl CellCursor {
     fn scan_on(&mut self) -> Result<bool, Memory>
         ensures limit { self.new.limit ≡ self.old.limit }
         ensures answer { self.new.answer ≡ self.old.answer }
+        ensures waiting { self.new.waiting.items ≡ self.old.waiting.items }
+        ensures scans { OnOk result (Scans self.old self.new) }
         ensures taken { OnOk result (taken_by self.new ≡ taken_by self.old) }
         ensures some { IfOk result (λ found. found ≡ true → (length self.new.piece < length self.old.piece) × (self.new.part.mode ≡ Between false)) }
         ensures none { IfOk result (λ found. found ≡ false → self.new.piece ≡ []) }
@@ -55,6 +59,12 @@ impl CellCursor {
 
     /// Takes the statements of the part, if they have all ended.
     fn take_part(&mut self) -> Result<(), Memory>
+        requires none_waits { self.old.waiting.items ≡ [] }
+        requires going { self.old.answer ≡ None }
+        requires mode { self.old.part.mode ≡ Between false }
+        ensures stands { OnOk result ((bytes : List ℕ) (items : List Given) → Stands self.old bytes items → Stands self.new bytes items) }
+        ensures err { OnErr result (self.new.waiting.items ≡ []) }
+        ensures open { OnOk result (is_ended self.new.answer ≡ false) }
         ensures limit { self.new.limit ≡ self.old.limit }
         ensures taken { taken_by self.new ≡ taken_by self.old }
         ensures piece { self.new.piece ≡ self.old.piece }
@@ -108,6 +118,7 @@ impl CellCursor {
 
     /// Takes what there is of a library that has ended or, where that is not `whole`, has come to the limit.
     fn take_end(&mut self, whole: bool) -> Result<(), Memory>
+        ensures err { OnErr result (self.new.waiting.items ≡ self.old.waiting.items) }
         ensures limit { self.new.limit ≡ self.old.limit }
         ensures answer { OnOk result (self.new.answer ≡ Some (answer_at self.old.place self.old.part.before self.old.part.bytes whole)) }
         ensures items { OnOk result (self.new.waiting.items ≡ reverse (items_in (part_outcome self.old.place self.old.part.before self.old.part.bytes))) }
@@ -122,8 +133,12 @@ impl CellCursor {
 
     /// Sees whether the library goes on behind the limit, and takes what there is of it.
     fn take_at_limit<D: Desk>(&mut self, desk: &mut D) -> Result<(), CursorFault>
-        requires { IsTrue (is_bound (D.state desk.old) (Input Library)) }
-        ensures moves { Moves self.old self.new (D.state desk.old) (D.state desk.new) }
+        requires bound { IsTrue (is_bound (D.state desk.old) (Input Library)) }
+        requires none_waits { self.old.waiting.items ≡ [] }
+        requires scanned { self.old.piece ≡ [] }
+        requires full { self.old.part.before + length self.old.part.bytes ≡ self.old.limit }
+        ensures advances { Advances result self.old self.new (D.state desk.old) (D.state desk.new) }
+        ensures library { IfErr result (λ fault. is_library fault ≡ false) }
         ensures settled { OnOk result (is_going self.new.answer ≡ false) }
         ensures never { OnOk result (is_failed self.new.answer ≡ false) }
         ensures later { D.faults desk.old ≤ D.faults desk.new }
@@ -139,7 +154,9 @@ impl CellCursor {
     fn advance<D: Desk>(&mut self, desk: &mut D) -> Result<(), CursorFault>
         requires bound { IsTrue (is_bound (D.state desk.old) (Input Library)) }
         requires going { self.old.answer ≡ None }
-        ensures moves { Moves self.old self.new (D.state desk.old) (D.state desk.new) }
+        requires none_waits { self.old.waiting.items ≡ [] }
+        ensures advances { Advances result self.old self.new (D.state desk.old) (D.state desk.new) }
+        ensures library { IfErr result (λ fault. is_library fault ≡ false) }
         ensures progress { OnOk result (is_going self.new.answer ≡ true → to_do self.new < to_do self.old) }
         ensures never { OnOk result (is_failed self.new.answer ≡ false) }
         ensures later { D.faults desk.old ≤ D.faults desk.new }
@@ -163,7 +180,8 @@ impl CellCursor {
     fn go_on<D: Desk>(&mut self, desk: &mut D)
         requires bound { IsTrue (is_bound (D.state desk.old) (Input Library)) }
         requires going { self.old.answer ≡ None }
-        ensures moves { Moves self.old self.new (D.state desk.old) (D.state desk.new) }
+        requires none_waits { self.old.waiting.items ≡ [] }
+        ensures moves { Moves self.old self.new (D.state desk.old) (D.state desk.new) [] }
         ensures progress { is_going self.new.answer ≡ true → to_do self.new < to_do self.old }
         ensures later { D.faults desk.old ≤ D.faults desk.new }
         ensures failed { is_failed self.new.answer ≡ true → Rose (D.faults desk.old) (D.faults desk.new) }
@@ -180,7 +198,7 @@ impl CellCursor {
     /// nothing.
     pub fn next_cell<D: Desk>(&mut self, desk: &mut D) -> Result<Next, CursorFault>
         requires { IsTrue (is_bound (D.state desk.old) (Input Library)) }
-        ensures moves { Moves self.old self.new (D.state desk.old) (D.state desk.new) }
+        ensures moves { Moves self.old self.new (D.state desk.old) (D.state desk.new) (given_by result) }
         ensures settled { (a : Answer) → IsSettled self.old a → StaysSettled a self.new (D.state desk.old) (D.state desk.new) result }
         ensures later { D.faults desk.old ≤ D.faults desk.new }
         ensures failed { IfErr result (λ fault. fault ≡ CursorFault.Failed → (is_failed self.old.answer ≡ true) ⊎ Rose (D.faults desk.old) (D.faults desk.new)) }

@@ -1,16 +1,28 @@
-use Rattle.std.proofs.Common.{◌∙◌, refl, sym, ap, length, arith}
+use Rattle.std.proofs.Common.{◌≡◌, ◌∙◌, [], refl, sym, ap, subst, length, arith}
 use Rattle.std.proofs.lemmas.Bool.Decides.{nat_tests}
-use Rattle.cell_cursor.proofs.SeekingLemmas.{stays, less_to_do, read_to_do, never_by}
+use Rattle.std.proofs.lemmas.Result.{err_from_is_err_and}
+use Rattle.cell_cursor.specs.Stands.{Advances}
+use Rattle.cell_cursor.proofs.SeekingLemmas.{less_to_do, read_to_do, never_by}
+use Rattle.cell_cursor.proofs.StandsLemmas.{advance_fails, advance_failed, advance_takes, advance_reads, advance_ends, advance_scanned, nil_of}
+use Rattle.cell_cursor.proofs.TakingLemmas.{takes_none}
 use Rattle.cell_cursor.proofs.cursor.CellCursor.advance.Goals as goal
 
-pub returns-in_err-scan_on-clause-moves : goal.returns-in_err-scan_on-clause-moves
-returns-in_err-scan_on-clause-moves g c = stays c.args.self.now c.scan_on.new.self _ c.scan_on.ensures.limit
+pub returns-in_err-scan_on-clause-advances : goal.returns-in_err-scan_on-clause-advances
+returns-in_err-scan_on-clause-advances g c =
+    let y = err_from_is_err_and c.from_residual.result c.from_residual.ensures.1 in
+    subst (λ r. Advances r c.args.self.now c.scan_on.new.self (g.D.Desk.state c.args.desk.now) (g.D.Desk.state c.args.desk.now)) (sym y.1)
+    (advance_fails c.args.self.now c.scan_on.new.self _ _ [] y.0 (takes_none _) c.scan_on.ensures.limit (c.scan_on.ensures.waiting ∙ c.requires.none_waits) (omega (arith, c.args.self.now.within)))
 
-pub returns-in_err-take_part-clause-moves : goal.returns-in_err-take_part-clause-moves
-returns-in_err-take_part-clause-moves g c = stays c.args.self.now c.take_part.new.self _ (c.take_part.ensures.limit ∙ c.scan_on.ensures.limit)
+pub returns-in_err-take_part-clause-advances : goal.returns-in_err-take_part-clause-advances
+returns-in_err-take_part-clause-advances g c =
+    let y = err_from_is_err_and c.from_residual-in_err-take_part.result c.from_residual-in_err-take_part.ensures.1 in
+    subst (λ r. Advances r c.args.self.now c.take_part.new.self (g.D.Desk.state c.args.desk.now) (g.D.Desk.state c.args.desk.now)) (sym y.1)
+    (advance_fails c.args.self.now c.take_part.new.self _ _ [] y.0 (takes_none _) (c.take_part.ensures.limit ∙ c.scan_on.ensures.limit) c.in_err-take_part.ensures.err (omega (arith, c.args.self.now.within)))
 
-pub returns-then-branch-clause-moves : goal.returns-then-branch-clause-moves
-returns-then-branch-clause-moves g c = stays c.args.self.now c.take_part.new.self _ (c.take_part.ensures.limit ∙ c.scan_on.ensures.limit)
+pub returns-then-branch-clause-advances : goal.returns-then-branch-clause-advances
+returns-then-branch-clause-advances g c =
+    advance_takes c.args.self.now c.scan_on.new.self c.take_part.new.self _ c.in_ok-scan_on.ensures.scans (c.scan_on.ensures.answer ∙ c.requires.going) (c.scan_on.ensures.waiting ∙ c.requires.none_waits)
+    c.scan_on.ensures.limit c.take_part.ensures.limit c.in_ok-take_part.ensures.stands c.in_ok-take_part.ensures.open
 
 pub returns-then-branch-clause-progress : goal.returns-then-branch-clause-progress
 returns-then-branch-clause-progress g c = λ _.
@@ -25,3 +37,31 @@ returns-else-branch-eq0-clause-progress g c = λ _.
     (let size = ap length c.bytes.ensures in
     read_to_do c.args.self.now c.scan_on.new.self _ c.in_ok-read.field-0 c.scan_on.ensures.limit c.in_ok-scan_on.ensures.taken (c.in_ok-scan_on.ensures.none c.if-branch.false)
     refl refl (sym c.in_ok-read.ensures.count) (grind (arith, nat_tests, c.if-branch-eq0.false)) (omega (arith, c.read.ensures.most, c.in_ok-read.ensures.count, c.before-2.ensures, size)))
+
+pub returns-in_ok-take_end-clause-advances : goal.returns-in_ok-take_end-clause-advances
+returns-in_ok-take_end-clause-advances g c =
+    let count = c.in_ok-read.ensures.count in
+    advance_ends c.args.self.now c.scan_on.new.self c.take_end.new.self _ _ c.read.new.self c.in_ok-scan_on.ensures.scans c.scan_on.ensures.limit (c.in_ok-scan_on.ensures.none c.if-branch.false)
+    c.read.ensures.takes (nil_of c.read.new.self (grind (arith, nat_tests, c.if-branch-eq0.true, count))) c.take_end.ensures.limit c.in_ok-take_end.ensures.answer c.in_ok-take_end.ensures.items
+    (c.in_ok-read.ensures.end (grind (arith, nat_tests, c.if-branch-eq0.true)) (let size = ap length c.bytes.ensures in grind (arith, nat_tests, c.if-taken-self.false, c.scan_on.new.self.within, c.before-2.ensures, size)))
+
+pub returns-else-branch-eq0-clause-advances : goal.returns-else-branch-eq0-clause-advances
+returns-else-branch-eq0-clause-advances g c =
+    advance_reads c.args.self.now c.scan_on.new.self _ _ _ c.read.new.self c.in_ok-scan_on.ensures.scans c.scan_on.ensures.limit (c.in_ok-scan_on.ensures.none c.if-branch.false)
+    c.read.ensures.takes refl (c.scan_on.ensures.answer ∙ c.requires.going) (c.scan_on.ensures.waiting ∙ c.requires.none_waits) refl refl refl
+
+pub returns-in_err-read-clause-advances : goal.returns-in_err-read-clause-advances
+returns-in_err-read-clause-advances g c =
+    let y = err_from_is_err_and c.from_residual-in_err-read.result c.from_residual-in_err-read.ensures.1 in
+    let size = ap length c.bytes.ensures in
+    let none = ap length (c.in_ok-scan_on.ensures.none c.if-branch.false) in
+    advance_failed _ y.0 c.args.self.now _ _ _ c.read.new.self y.1 c.read.ensures.takes c.scan_on.ensures.limit (c.scan_on.ensures.waiting ∙ c.requires.none_waits)
+    (omega (arith, c.in_ok-scan_on.ensures.taken, none, c.read.ensures.most, c.before-2.ensures, size, c.scan_on.ensures.limit, c.args.self.now.within))
+
+pub returns-in_err-take_end-clause-advances : goal.returns-in_err-take_end-clause-advances
+returns-in_err-take_end-clause-advances g c =
+    let y = err_from_is_err_and c.from_residual-in_err-take_end.result c.from_residual-in_err-take_end.ensures.1 in
+    let size = ap length c.bytes.ensures in
+    let none = ap length (c.in_ok-scan_on.ensures.none c.if-branch.false) in
+    advance_failed _ y.0 c.args.self.now _ _ _ c.read.new.self y.1 c.read.ensures.takes (c.take_end.ensures.limit ∙ c.scan_on.ensures.limit) (c.in_err-take_end.ensures.err ∙ c.scan_on.ensures.waiting ∙ c.requires.none_waits)
+    (omega (arith, c.in_ok-scan_on.ensures.taken, none, c.read.ensures.most, c.before-2.ensures, size, c.scan_on.ensures.limit, c.args.self.now.within))

@@ -1,13 +1,16 @@
-use Rattle.std.proofs.Common.{◌≡◌, inl, inr, None, refl, arith, rules}
+use Rattle.std.proofs.Common.{◌≡◌, ◌∙◌, ◌++◌, inl, inr, None, refl, ap, arith, rules}
+use Rattle.std.specs.Option.{option_to_list}
 use Rattle.text_io.specs.declared.slots.InSlot.TheVariants.{Library}
 use Rattle.text_io.specs.declared.slots.Slot.TheVariants.{Input}
-use Rattle.cell_cursor.proofs.SeekingLemmas.{stays, moves_through, smaller, rose_since, no_answer}
+use Rattle.cell_cursor.specs.Stands.{is_going}
+use Rattle.cell_cursor.proofs.SeekingLemmas.{smaller, rose_since, no_answer}
+use Rattle.cell_cursor.proofs.StandsLemmas.{moves_nothing, moves_through, moves_given, moves_answered}
 use Rattle.cell_cursor.proofs.TakingLemmas.{bound_yet}
 use Rattle.cell_cursor.proofs.cursor.CellCursor.next_cell.Goals as goal
 
 pub loop-item-init : goal.loop-item-init
 loop-item-init g c = record {
-  moves = stays c.args.self.now c.args.self.now _ refl;
+  moves = moves_nothing c.args.self.now _;
   later = omega arith;
   settled = λ a h. (h, refl);
   failed = λ h. inl h;
@@ -22,9 +25,20 @@ loop-item-smaller g c = smaller c.loop-item.self _ c.go_on.new.self refl refl re
 pub loop-item-preserved : goal.loop-item-preserved
 loop-item-preserved g c =
     let none : c.loop-item.self.answer ≡ None = search rules in
+    let same : c.pop.new.self.items ≡ c.loop-item.self.waiting.items = search rules in
     record {
-      moves = moves_through _ _ _ _ _ _ _ refl c.loop-item.invariant.moves c.go_on.ensures.moves;
+      moves = moves_through _ _ _ _ _ _ _ _ refl refl refl refl refl same (ap is_going none) c.loop-item.invariant.moves c.go_on.ensures.moves;
       later = omega (arith, c.loop-item.invariant.later, c.go_on.ensures.later);
       settled = λ a h. no_answer c.loop-item.self.answer a none (c.loop-item.invariant.settled a h).0.settled;
       failed = λ f. inr (rose_since _ _ _ c.loop-item.invariant.later (c.go_on.ensures.failed f));
     }
+
+pub returns-in-Some-clause-moves : goal.returns-in-Some-clause-moves
+returns-in-Some-clause-moves g c =
+    moves_given c.args.self.now c.loop-item.self _ _ _ c.in-Some.item c.next_of.result c.next_of.ensures (c.pop.ensures.items ∙ ap (λ r. c.pop.new.self.items ++ option_to_list r) c.in-Some.is)
+    refl refl refl refl refl c.loop-item.invariant.moves
+
+pub returns-in-Some-answer-clause-moves : goal.returns-in-Some-answer-clause-moves
+returns-in-Some-answer-clause-moves g c =
+    let same : c.pop.new.self.items ≡ c.loop-item.self.waiting.items = search rules in
+    moves_answered c.args.self.now c.loop-item.self _ _ _ c.in-Some-answer.answer c.answered.result c.answered.ensures refl refl refl refl refl same c.loop-item.invariant.moves

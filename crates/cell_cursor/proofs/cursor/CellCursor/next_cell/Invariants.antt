@@ -7,7 +7,7 @@ use Rattle.cell_cursor.proofs.cursor.CellCursor.next_cell.Given as goal
 
 abbrev pub invariant-loop-item : goal.invariant-loop-item
 invariant-loop-item g l = record {
-  moves : Moves l.initial.self l.self (g.D.Desk.state l.initial.desk) (g.D.Desk.state l.desk);
+  moves : Moves l.initial.self l.self (g.D.Desk.state l.initial.desk) (g.D.Desk.state l.desk) [];
   later : g.D.Desk.faults l.initial.desk ≤ g.D.Desk.faults l.desk;
   settled : (a : Answer) → IsSettled l.initial.self a → IsSettled l.self a × (g.D.Desk.state l.desk ≡ g.D.Desk.state l.initial.desk);
   failed : is_failed l.self.answer ≡ true → (is_failed l.initial.self.answer ≡ true) ⊎ Rose (g.D.Desk.faults l.initial.desk) (g.D.Desk.faults l.desk);

@@ -1,11 +1,16 @@
-use Rattle.std.proofs.Common.{◌≡◌, ◌≤◌, length}
+use Rattle.std.proofs.Common.{◌≡◌, ◌≤◌, ◌++◌, length}
 use Rattle.cell_cursor.specs.Progress.{taken_by}
+use Rattle.cell_cursor.specs.Stands.{Scans}
 use Rattle.cell_cursor.proofs.cursor.CellCursor.scan_on.Given as goal
 
 abbrev pub invariant-loop-byte : goal.invariant-loop-byte
 invariant-loop-byte l = record {
   limit : l.self.limit ≡ l.initial.self.limit;
   answer : l.self.answer ≡ l.initial.self.answer;
+  waiting : l.self.waiting.items ≡ l.initial.self.waiting.items;
+  place : l.self.place ≡ l.initial.self.place;
+  before : l.self.part.before ≡ l.initial.self.part.before;
+  bytes : l.self.part.bytes ++ l.self.piece ≡ l.initial.self.part.bytes ++ l.initial.self.piece;
   taken : taken_by l.self ≡ taken_by l.initial.self;
   shorter : length l.self.piece ≤ length l.initial.self.piece;
 }

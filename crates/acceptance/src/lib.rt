@@ -9,9 +9,15 @@ mod functions;
 #[cfg(test)]
 mod latches;
 #[cfg(test)]
+mod liberty;
+#[cfg(test)]
+mod libraries;
+#[cfg(test)]
 mod lines;
 #[cfg(test)]
 mod parts;
+#[cfg(test)]
+mod refusals;
 #[cfg(test)]
 mod tables;
 #[cfg(test)]

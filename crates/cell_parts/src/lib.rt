@@ -1,17 +1,13 @@
 //! The parts of the group of a Liberty cell: its pins, states, names, texts and outputs, and what is wrong with them.
 #![tactic(auto)]
 
-pub mod cell_numbers;
 pub mod declarations;
 pub mod fault;
 pub mod groups;
 mod laws;
 pub mod least;
-pub mod output_pins;
 pub mod outputs;
 pub mod pins;
-pub mod sources;
-pub mod state_groups;
 pub mod state_readings;
 pub mod states;
 pub mod texts;

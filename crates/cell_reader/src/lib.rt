@@ -2,6 +2,7 @@
 #![tactic(auto)]
 
 mod answers;
+mod cell_numbers;
 mod early;
 mod fault;
 mod later;
@@ -10,10 +11,13 @@ mod left_out;
 mod limits;
 mod numbered;
 mod offsets;
+mod output_pins;
 mod parts;
 mod read;
 mod refusal;
 mod scans;
+mod sources;
+mod state_groups;
 mod text_faults;
 mod timing_faults;
 mod timings;

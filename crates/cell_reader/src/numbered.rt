@@ -4,15 +4,15 @@ ghost use Rattle.timing_arcs.specs.Timing.{least};
 ghost use Rattle.cell_reader.specs.Refusals.{middle_reasons, first_refusal, udp_inputs as udp_inputs_of};
 ghost use Rattle.cell_reader.specs.Parts.{subject_in, AreParts, AreNumbered};
 
+use crate::cell_numbers::cell_numbers;
 use crate::limits::wide_supports;
 use crate::offsets::wide_timings;
+use crate::output_pins::wide_outputs;
 use crate::parts::Parts;
+use crate::state_groups::state_groups;
 use cell_machine::StateGroup;
-use cell_parts::cell_numbers::cell_numbers;
 use cell_parts::fault::Memory;
 use cell_parts::least::lesser;
-use cell_parts::output_pins::wide_outputs;
-use cell_parts::state_groups::state_groups;
 use sqlite_items::Items;
 use std::alloc::Global;
 

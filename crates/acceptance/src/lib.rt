@@ -1,5 +1,6 @@
-//! Tests that cross crates; no product code. Cells are built by hand and run by their own machine, along traces that
-//! were worked out by hand.
+//! Tests that cross crates; no product code. Cells, built by hand or read from Liberty texts, are run by their own
+//! machine along traces that were worked out by hand, and texts are refused by the numbers and at the places that the rules
+//! of refusals name.
 #![tactic(auto)]
 
 #[cfg(test)]
@@ -16,6 +17,8 @@ mod libraries;
 mod lines;
 #[cfg(test)]
 mod parts;
+#[cfg(test)]
+mod read_traces;
 #[cfg(test)]
 mod refusals;
 #[cfg(test)]

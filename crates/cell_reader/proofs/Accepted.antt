@@ -13,7 +13,7 @@ use Rattle.cell_parts.specs.StateReadings.{state_reading}
 use Rattle.cell_parts.specs.Texts.{malformed_at, unknown_at}
 use Rattle.cell_parts.specs.TextFaults.{malformed_in, unknown_in}
 use Rattle.cell_parts.specs.CellLaws.{readings_of, texts_of, numbers_of, groups_of, outputs_of, CellMeetsNone}
-use Rattle.cell_parts.specs.Limits.{first_past, place_of_group, state_at, no_support_in, wide_support_in, wide_output}
+use Rattle.cell_parts.specs.Limits.{first_past, place_of_group, state_at, wide_support_in, wide_output}
 use Rattle.cell_reader.specs.PinTimings.{check_at_in, arc_at_in, wide_in}
 use Rattle.cell_reader.specs.CellTexts.{subject_of}
 use Rattle.cell_reader.specs.Refusals.{reasons_of, refusal_of, timing_answers, checks_of, arcs_of}

@@ -1,5 +1,5 @@
 -- What a cell is made from: its groups, and what their texts and their timing say.
-use Rattle.std.specs.Prelude.{◌≡◌, ℕ, List, [], map, None, Option}
+use Rattle.std.specs.Prelude.{◌≡◌, map}
 use Rattle.liberty_groups.specs.declared.tree.Group.{Group}
 use Rattle.timing_arcs.specs.declared.subject.Subject.{Subject}
 use Rattle.cell_parts.specs.Groups.{inner_groups, pin_groups, state_groups}

@@ -1,4 +1,4 @@
-use Rattle.std.proofs.Common.{◌≡◌, ◌≤◌, ◌∙◌, length, map, sym, subst, ap}
+use Rattle.std.proofs.Common.{◌≤◌, ◌∙◌, length, map, sym, subst, ap}
 use Rattle.std.specs.Prelude.{All}
 use Rattle.cell_parts.specs.Vocabulary.{vocabulary}
 use Rattle.cell_parts.specs.Building.{FitsReading}

@@ -1,4 +1,4 @@
-use Rattle.std.proofs.Common.{◌≡◌, ◌≤◌, ◌∙◌, length, sym, subst, ap}
+use Rattle.std.proofs.Common.{◌≤◌, ◌∙◌, length, sym, subst, ap}
 use Rattle.cell_parts.specs.Pins.{pins_of}
 use Rattle.cell_parts.specs.States.{states_of}
 use Rattle.cell_parts.specs.Vocabulary.{Vocabulary}

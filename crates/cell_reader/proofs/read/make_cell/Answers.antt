@@ -1,10 +1,9 @@
-use Rattle.std.proofs.Common.{◌≡◌, ◌≤◌, ◌∙◌, length, map, sym, subst, ap}
+use Rattle.std.proofs.Common.{◌≤◌, ◌∙◌, length, map, sym, subst, ap}
 use Rattle.std.specs.Prelude.{flat_map}
 use Rattle.cell_parts.specs.Pins.{pins_of, owners_of}
 use Rattle.cell_parts.specs.States.{states_of}
 use Rattle.cell_parts.specs.Vocabulary.{Vocabulary}
 use Rattle.cell_parts.specs.Shown.{shown_vocabulary}
-use Rattle.cell_parts.specs.CellLaws.{numbers_of}
 use Rattle.cell_parts.proofs.Turns.{count_shown}
 use Rattle.cell_reader.specs.PinTimings.{checks_in, arcs_in}
 use Rattle.cell_reader.specs.Parts.{subject_in}

@@ -1,8 +1,8 @@
 -- Phrases that end with a token of their own end there, whatever follows.
-use Rattle.std.proofs.Common.{◌≡◌, ◌≢◌, ℕ, zero, suc, Bool, true, false, List, [], ◌∷◌, ◌++◌, Option, Some, None, Ok, Err, inl, inr, refl, sym, ap, subst, ◌∙◌}
+use Rattle.std.proofs.Common.{◌≡◌, ℕ, zero, suc, Bool, true, false, List, [], ◌∷◌, ◌++◌, Option, Ok, Err, inl, inr, refl, sym, ap, subst, ◌∙◌}
 use Rattle.grammar_rules.specs.Rule.{Rule, Verdict, Fits, Foul, Misfit, Stops}
 use Rattle.grammar_rules.specs.Rule as r
-use Rattle.grammar_rules.specs.Reading.{Outcome, and_then, marked, judge, choose, read}
+use Rattle.grammar_rules.specs.Reading.{Outcome, judge, read}
 use Rattle.grammar_rules.proofs.Steps.{value_is, rest_is, ok_pair, judge_ok, choose_ok, choose_fits, choose_stops, and_then_ok, and_then_at}
 use Rattle.grammar_rules.proofs.Local.{LeavesSome, extended, local}
 use Rattle.liberty_groups.specs.declared.fault.Expected.TheVariants as expected
@@ -14,8 +14,8 @@ use Rattle.liberty_groups.specs.declared.tree.Item.{Item}
 use Rattle.liberty_groups.specs.declared.tree.Item.TheVariants as item
 use Rattle.liberty_groups.specs.declared.tree.Item.TheViews.{outs-Simple, outs-Complex}
 use Rattle.liberty_groups.specs.Lexeme.{Lexeme}
-use Rattle.liberty_groups.specs.Grammar.{Grammar, ◌>>=◌, only_mark, expect, arguments, value, colon, simple, some_statements, statements, opens, group_of, complex_or_group, bracketed, after_name, body, statement}
-use Rattle.liberty_groups.specs.Library.{library_name, header, levels_inside}
+use Rattle.liberty_groups.specs.Grammar.{◌>>=◌, only_mark, expect, arguments, value, colon, simple, some_statements, opens, group_of, complex_or_group, bracketed, after_name, body, statement}
+use Rattle.liberty_groups.specs.Library.{library_name, header}
 use Rattle.liberty_groups.proofs.Pieces.{head_same, tail_same}
 use Rattle.cell_cursor.specs.Items.{is_group, is_group_by}
 

@@ -1,5 +1,5 @@
 -- What a reading that stops comes to.
-use Rattle.std.proofs.Common.{◌≡◌, false, List, [], ◌∷◌, ◌++◌, None, Result, Ok, Err, refl, sym, ap, ◌∙◌}
+use Rattle.std.proofs.Common.{◌≡◌, List, [], ◌∷◌, ◌++◌, None, Result, Ok, Err, refl, sym, ap, ◌∙◌}
 use Rattle.std.proofs.lemmas.List.{append-nil}
 use Rattle.grammar_rules.specs.Reading.{Outcome, and_then, marked, read}
 use Rattle.liberty_groups.specs.declared.fault.Expected.TheVariants as expected
@@ -15,7 +15,7 @@ use Rattle.cell_cursor.specs.declared.item.LibraryItem.{LibraryItem}
 use Rattle.cell_cursor.specs.declared.part.Place.TheVariants as place
 use Rattle.cell_cursor.specs.declared.statements.Reached.{Reached}
 use Rattle.cell_cursor.specs.declared.statements.Reached.TheVariants as reached
-use Rattle.cell_cursor.specs.Items.{Adds, telling, statements_after, file_end, library_end, rest_inside, rest_at}
+use Rattle.cell_cursor.specs.Items.{Adds, statements_after, file_end, library_end, rest_inside, rest_at}
 use Rattle.cell_cursor.specs.Reached.{ComesSo}
 use Rattle.cell_cursor.proofs.Closed.{reads_on, closed_header, closed_mark}
 use Rattle.cell_cursor.proofs.Prefix.{Told}

@@ -1,16 +1,15 @@
 -- The items in order, and the three lists of a reading: what is read is the same.
-use Rattle.std.proofs.Common.{◌≡◌, ◌≢◌, ℕ, zero, suc, ◌≤◌, Bool, true, false, List, [], ◌∷◌, ◌++◌, length, Option, Some, None, Ok, Err, cond, codes, refl, sym, ap, subst, ◌∙◌, arith}
+use Rattle.std.proofs.Common.{◌≡◌, ℕ, zero, suc, ◌≤◌, Bool, true, false, List, [], ◌∷◌, ◌++◌, length, Option, Some, None, Ok, Err, cond, codes, refl, sym, ap, ◌∙◌, arith}
 use Rattle.std.specs.Str.{bytes_eq}
 use Rattle.grammar_rules.specs.Rule.{Rule, Verdict, Fits, Foul, Misfit}
 use Rattle.grammar_rules.specs.Rule as r
-use Rattle.grammar_rules.specs.Reading.{Outcome, and_then, marked, judge_first, choose, read}
+use Rattle.grammar_rules.specs.Reading.{Outcome, and_then, marked, judge_first, read}
 use Rattle.grammar_rules.proofs.Exact.{parts_shrink, shrinks}
 use Rattle.grammar_rules.proofs.Turns.{turns, unroll}
 use Rattle.liberty_text.specs.Scanner.{scan_of}
 use Rattle.liberty_groups.specs.declared.fault.Expected.TheVariants as expected
 use Rattle.liberty_groups.specs.declared.fault.Refusal.{Refusal}
 use Rattle.liberty_groups.specs.declared.fault.Refusal.TheVariants.{Syntax}
-use Rattle.liberty_groups.specs.declared.read.Halt.{Halt}
 use Rattle.liberty_groups.specs.declared.reader.Mark.TheVariants as mark
 use Rattle.liberty_groups.specs.declared.reader.Start.{Start}
 use Rattle.liberty_groups.specs.declared.reader.Start.TheVariants as start
@@ -19,16 +18,16 @@ use Rattle.liberty_groups.specs.declared.tree.Item.{Item, out-Item}
 use Rattle.liberty_groups.specs.declared.tree.Item.TheOpen.{Item-F}
 use Rattle.liberty_groups.specs.declared.tree.Group.{Group, out-Group}
 use Rattle.liberty_groups.specs.Lexeme.{Lexeme, lexemes_of}
-use Rattle.liberty_groups.specs.Grammar.{Grammar, ◌>>=◌, expect, start_by, begun_by, starts, statement}
+use Rattle.liberty_groups.specs.Grammar.{◌>>=◌, expect, start_by, begun_by, starts, statement}
 use Rattle.liberty_groups.specs.Library.{Found, nothing_found, with_cell, with_unit, with_left_out, with_named, one_text, counted_by, counted, levels_inside, header, counted_statement, counting, contents, rest_of_library, library}
 use Rattle.liberty_groups.specs.Library as lib
 use Rattle.liberty_groups.specs.Answer.{found_in, halt_of, outcome_of}
 use Rattle.cell_cursor.specs.declared.item.LibraryItem.{LibraryItem}
 use Rattle.cell_cursor.specs.declared.item.LibraryItem.TheVariants as item
 use Rattle.cell_cursor.specs.declared.part.Place.TheVariants as place
-use Rattle.cell_cursor.specs.Items.{named_item, given_by, given, telling, item_statement, adding, statements_after, file_end, library_end, rest_inside, rest_at, items_in, items_outcome, with_item, gathered}
-use Rattle.cell_cursor.specs.Finish.{left_in, halt_in}
-use Rattle.cell_cursor.proofs.Prefix.{Told, begun_fits, begun_good}
+use Rattle.cell_cursor.specs.Items.{named_item, given_by, given, item_statement, adding, statements_after, file_end, library_end, rest_inside, rest_at, items_in, items_outcome, with_item, gathered}
+use Rattle.cell_cursor.specs.Finish.{halt_in}
+use Rattle.cell_cursor.proofs.Prefix.{Told}
 
 abbrev pub Lists : Type 0
 Lists = Outcome Lexeme (Found × Refusal) Found

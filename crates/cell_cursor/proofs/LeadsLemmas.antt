@@ -1,5 +1,5 @@
 -- How far a library has come, one part after another.
-use Rattle.std.proofs.Common.{◌≡◌, ◌≢◌, ℕ, ◌+◌, Bool, true, false, List, [], ◌∷◌, ◌++◌, length, map, slice_range, Ok, Err, ◌⊎◌, inl, inr, not, refl, sym, ap, subst, ◌∙◌, arith, length-append}
+use Rattle.std.proofs.Common.{◌≡◌, ◌≢◌, ℕ, ◌+◌, Bool, true, false, List, [], ◌∷◌, ◌++◌, length, slice_range, Ok, Err, ◌⊎◌, inl, inr, not, refl, sym, ap, ◌∙◌, arith, length-append}
 use Rattle.std.proofs.lemmas.List.{append-nil, append_assoc, map-append}
 use Rattle.grammar_rules.specs.Rule.{Verdict, Fits, Foul, Misfit}
 use Rattle.grammar_rules.specs.Reading.{Outcome, and_then, marked, judge, read}
@@ -8,23 +8,23 @@ use Rattle.liberty_text.specs.declared.token.Stop.{Stop}
 use Rattle.liberty_text.specs.declared.token.Stop.TheVariants.{End, BadByte, OpenText, OpenComment, OpenContinuation}
 use Rattle.liberty_text.specs.declared.scanner.Mode.{Mode}
 use Rattle.liberty_text.specs.declared.scanner.Mode.TheVariants.{Between}
-use Rattle.liberty_text.specs.Scanner.{token, run, after_tokens, scan_of}
+use Rattle.liberty_text.specs.Scanner.{token, run, scan_of}
 use Rattle.liberty_groups.specs.declared.fault.Expected.TheVariants as expected
 use Rattle.liberty_groups.specs.declared.fault.Refusal.{Refusal}
 use Rattle.liberty_groups.specs.declared.fault.Refusal.TheVariants.{Syntax, NotLibrary}
 use Rattle.liberty_groups.specs.declared.reader.Mark.TheVariants as mark
 use Rattle.liberty_groups.specs.Grammar.{◌>>=◌, expect, arguments}
-use Rattle.liberty_groups.specs.Lexeme.{Lexeme, lexeme_behind, lexeme_of, lexemes_of, behind, lexemes_behind, LieInside}
+use Rattle.liberty_groups.specs.Lexeme.{Lexeme, lexeme_behind, lexemes_of, behind, lexemes_behind, LieInside}
 use Rattle.liberty_groups.specs.Library.{header, library_name}
 use Rattle.liberty_groups.specs.Answer.{is_last}
 use Rattle.cell_cursor.specs.declared.item.LibraryItem.{LibraryItem}
 use Rattle.cell_cursor.specs.declared.part.Place.{Place}
 use Rattle.cell_cursor.specs.declared.part.Place.TheVariants as place
-use Rattle.cell_cursor.specs.Items.{rest_at, rest_inside, library_end, file_end, items_outcome}
+use Rattle.cell_cursor.specs.Items.{rest_at, rest_inside, library_end, items_outcome}
 use Rattle.cell_cursor.specs.Leads.{LeadTo, is_start}
 use Rattle.cell_cursor.specs.Scanned.{AreScanned, stop_behind}
 use Rattle.cell_cursor.proofs.Prefix.{Told, prefixed, rest_prefixed, rest_behind}
-use Rattle.cell_cursor.proofs.Shift.{all_moved, scan_on, lexemes_longer, lexemes_split}
+use Rattle.cell_cursor.proofs.Shift.{scan_on, lexemes_longer, lexemes_split}
 
 -- from the beginning
 

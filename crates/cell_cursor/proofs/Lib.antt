@@ -1,3 +1,4 @@
+pub mod Ascending
 pub mod Closed
 pub mod Comings
 pub mod EndsLemmas

@@ -1,5 +1,5 @@
 -- Behind a token with which a statement may end nothing stands open.
-use Rattle.std.proofs.Common.{◌≡◌, ℕ, ◌+◌, ◌==◌, ◌&&◌, ◌||◌, not, Bool, true, false, List, [], ◌∷◌, Option, Some, None, cond, refl, sym, ap, subst, ◌∙◌}
+use Rattle.std.proofs.Common.{◌≡◌, ℕ, ◌+◌, ◌==◌, ◌&&◌, ◌||◌, not, Bool, true, false, List, [], ◌∷◌, Some, None, cond, refl, sym, ap, ◌∙◌}
 use Rattle.liberty_text.specs.declared.token.TokenKind.{TokenKind}
 use Rattle.liberty_text.specs.declared.token.TokenKind.TheVariants.{Word, Text}
 use Rattle.liberty_text.specs.declared.token.Token.{Token}
@@ -7,7 +7,7 @@ use Rattle.liberty_text.specs.declared.class.Class.{Class}
 use Rattle.liberty_text.specs.declared.class.Class.TheVariants.{LineEnd, Blank, Mark, Quote, Backslash, WordByte, Bad}
 use Rattle.liberty_text.specs.declared.scanner.Mode.{Mode}
 use Rattle.liberty_text.specs.declared.scanner.Mode.TheVariants.{Between, InWord, InText, InComment, InContinuation, Stopped}
-use Rattle.liberty_text.specs.Scanner.{class_of, token, opened_by, opened, after_token, in_word_by, comment_in_word, in_word, in_text, in_comment, in_continuation, step}
+use Rattle.liberty_text.specs.Scanner.{class_of, token, opened_by, after_token, in_word_by, comment_in_word, in_continuation, step}
 use Rattle.cell_cursor.specs.Scanned.{ends_by, last_kind}
 
 abbrev Closes : Mode × List Token → Type 0

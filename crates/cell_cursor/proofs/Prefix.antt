@@ -1,9 +1,8 @@
 -- What was given before changes nothing in what a reading adds.
-use Rattle.std.proofs.Common.{◌≡◌, ◌≢◌, ℕ, zero, suc, ◌≤◌, List, [], ◌∷◌, ◌++◌, length, Option, Some, None, Ok, Err, refl, sym, ap, subst, ◌∙◌, arith}
+use Rattle.std.proofs.Common.{◌≡◌, ◌≢◌, ℕ, zero, suc, ◌≤◌, List, [], ◌∷◌, ◌++◌, length, Option, Some, None, Ok, Err, refl, sym, ap, ◌∙◌, arith}
 use Rattle.std.proofs.lemmas.List.{append-nil, append_assoc}
-use Rattle.grammar_rules.specs.Rule.{Rule, Verdict, Fits, Foul, Misfit}
-use Rattle.grammar_rules.specs.Rule as r
-use Rattle.grammar_rules.specs.Reading.{Outcome, and_then, marked, judge_first, choose, read}
+use Rattle.grammar_rules.specs.Rule.{Verdict, Fits, Foul, Misfit}
+use Rattle.grammar_rules.specs.Reading.{Outcome, and_then, marked, judge_first, read}
 use Rattle.grammar_rules.proofs.Exact.{parts_shrink, shrinks}
 use Rattle.grammar_rules.proofs.Turns.{turns, unroll}
 use Rattle.liberty_groups.specs.declared.fault.Expected.TheVariants as expected
@@ -14,12 +13,12 @@ use Rattle.liberty_groups.specs.declared.reader.Start.{Start}
 use Rattle.liberty_groups.specs.declared.reader.Start.TheVariants as start
 use Rattle.liberty_groups.specs.declared.tree.Item.{Item}
 use Rattle.liberty_groups.specs.Lexeme.{Lexeme}
-use Rattle.liberty_groups.specs.Grammar.{Grammar, ◌>>=◌, expect, start_by, begun_by, starts, statement}
+use Rattle.liberty_groups.specs.Grammar.{expect, start_by, begun_by, starts, statement}
 use Rattle.liberty_groups.specs.Library.{levels_inside, header}
 use Rattle.cell_cursor.specs.declared.item.LibraryItem.{LibraryItem}
 use Rattle.cell_cursor.specs.declared.part.Place.{Place}
 use Rattle.cell_cursor.specs.declared.part.Place.TheVariants as place
-use Rattle.cell_cursor.specs.Items.{given, telling, item_statement, adding, statements_after, file_end, library_end, rest_inside, rest_at, items_in}
+use Rattle.cell_cursor.specs.Items.{given, item_statement, adding, statements_after, file_end, library_end, rest_inside, rest_at, items_in}
 
 abbrev pub Told : Type 0
 Told = Outcome Lexeme (List LibraryItem × Refusal) (List LibraryItem)

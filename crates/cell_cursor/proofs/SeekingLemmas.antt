@@ -1,15 +1,13 @@
 -- What a call of a cursor has read and has still to do.
-use Rattle.std.proofs.Common.{◌≡◌, ◌⊎◌, inl, inr, ℕ, suc, ◌+◌, ◌-◌, ◌*◌, ◌^◌, ◌<◌, ◌≤◌, min, Bool, true, false, not, ◌&&◌, cond, List, [], ◌∷◌, ◌++◌, length, take, Option, Some, None, Ok, Err, Result, OnOk, OnErr, IfSome, refl, sym, ap, subst, ◌∙◌, arith, length-append}
+use Rattle.std.proofs.Common.{◌≡◌, ◌⊎◌, inr, ℕ, ◌+◌, ◌-◌, ◌*◌, ◌<◌, ◌≤◌, Bool, true, false, not, ◌&&◌, cond, List, [], ◌∷◌, ◌++◌, length, Option, Some, None, refl, sym, ap, subst, ◌∙◌, arith, length-append}
 use Rattle.std.specs.Option.{option_to_list}
-use Rattle.text_io.specs.declared.slots.InSlot.TheVariants.{Library}
-use Rattle.text_io.specs.Desk.{DeskState, took, Rose}
+use Rattle.text_io.specs.Desk.{Rose}
 use Rattle.liberty_groups.specs.declared.fault.LibraryFault.{LibraryFault}
 use Rattle.liberty_groups.specs.Answer.{fault_of}
 use Rattle.liberty_text.specs.Scanner.{scan_of}
 use Rattle.cell_cursor.specs.declared.cursor.Answer.{Answer}
 use Rattle.cell_cursor.specs.declared.cursor.Answer.TheVariants as answer
 use Rattle.cell_cursor.specs.declared.cursor.CellCursor.{CellCursor}
-use Rattle.cell_cursor.specs.declared.item.LibraryItem.{LibraryItem}
 use Rattle.cell_cursor.specs.declared.part.Place.{Place}
 use Rattle.cell_cursor.specs.Finish.{part_halt, may_go_on, answer_by, answer_at}
 use Rattle.cell_cursor.specs.Progress.{taken_by, to_do}

@@ -1,5 +1,5 @@
 -- A part of a text is scanned as it would be from its beginning, with its offsets moved.
-use Rattle.std.proofs.Common.{◌≡◌, ℕ, zero, suc, ◌+◌, ◌-◌, ◌==◌, ◌&&◌, ◌||◌, not, Bool, true, false, List, [], ◌∷◌, ◌++◌, map, length, take, drop, slice_range, Option, Some, None, if◌then◌else◌, cond, refl, sym, ap, subst, ◌∙◌, arith, zero-add}
+use Rattle.std.proofs.Common.{◌≡◌, ℕ, ◌+◌, ◌-◌, ◌==◌, ◌&&◌, ◌||◌, not, Bool, true, false, List, [], ◌∷◌, ◌++◌, map, length, take, drop, slice_range, Option, Some, None, cond, refl, sym, ap, ◌∙◌, arith, zero-add}
 use Rattle.std.specs.Option.{option_map}
 use Rattle.std.proofs.lemmas.List.{map-append, drop-drop}
 use Rattle.std.proofs.Math.Seq.{drop-append_seam}
@@ -11,7 +11,7 @@ use Rattle.liberty_text.specs.declared.class.Class.{Class}
 use Rattle.liberty_text.specs.declared.class.Class.TheVariants.{LineEnd, Blank, Mark, Quote, Backslash, WordByte, Bad}
 use Rattle.liberty_text.specs.declared.scanner.Mode.{Mode}
 use Rattle.liberty_text.specs.declared.scanner.Mode.TheVariants.{Between, InWord, InText, InComment, InContinuation, Stopped}
-use Rattle.liberty_text.specs.Scanner.{class_of, token, slash_at, opened_by, opened, after_token, in_word_by, comment_in_word, in_word, in_text, in_comment, in_continuation, step, closing, after_tokens, run, scan_of}
+use Rattle.liberty_text.specs.Scanner.{class_of, token, opened_by, opened, after_token, in_word_by, comment_in_word, in_word, in_text, in_continuation, step, closing, after_tokens, run, scan_of}
 use Rattle.liberty_groups.specs.Lexeme.{Lexeme, behind, lexeme_behind, lexemes_behind, LieInside}
 use Rattle.liberty_groups.proofs.Lexemes.{slice_more}
 use Rattle.cell_cursor.specs.Scanned.{stop_behind, AreScanned}

@@ -1,22 +1,20 @@
 -- One statement of the library after another.
-use Rattle.std.proofs.Common.{◌≡◌, ℕ, ◌+◌, ◌≤◌, Bool, true, false, not, List, [], ◌∷◌, ◌++◌, length, Option, Some, None, Ok, Err, refl, sym, ap, subst, ◌∙◌, arith}
+use Rattle.std.proofs.Common.{◌≡◌, ℕ, ◌+◌, ◌≤◌, Bool, true, List, [], ◌∷◌, ◌++◌, length, Option, Some, None, Ok, Err, refl, sym, ap, ◌∙◌, arith}
 use Rattle.std.proofs.lemmas.List.{append-nil}
-use Rattle.grammar_rules.specs.Rule.{Fits, Stops}
-use Rattle.grammar_rules.specs.Rule as r
-use Rattle.grammar_rules.specs.Reading.{Outcome, and_then, marked, choose, read}
-use Rattle.grammar_rules.proofs.Steps.{choose_fits, and_then_at, and_then_fails}
+use Rattle.grammar_rules.specs.Reading.{Outcome, and_then, read}
+use Rattle.grammar_rules.proofs.Steps.{choose_fits, and_then_fails}
 use Rattle.grammar_rules.proofs.Exact.{parts_shrink, shrinks}
-use Rattle.grammar_rules.proofs.Turns.{Shrinks, turns, unroll, turn, ends}
+use Rattle.grammar_rules.proofs.Turns.{turns, unroll, turn, ends}
 use Rattle.liberty_groups.specs.declared.fault.Refusal.{Refusal}
 use Rattle.liberty_groups.specs.declared.fault.Stop.{Stop}
 use Rattle.liberty_groups.specs.declared.fault.Stop.TheVariants.{Refused, Memory}
 use Rattle.liberty_groups.specs.declared.reader.Start.TheVariants as start
 use Rattle.liberty_groups.specs.declared.tree.Item.{Item}
 use Rattle.liberty_groups.specs.Lexeme.{Lexeme, next_bytes, rest}
-use Rattle.liberty_groups.specs.Grammar.{◌>>=◌, starts, next_start, next_at, statement}
+use Rattle.liberty_groups.specs.Grammar.{starts, next_start, next_at, statement}
 use Rattle.liberty_groups.specs.Library.{levels_inside}
 use Rattle.cell_cursor.specs.declared.item.LibraryItem.{LibraryItem}
-use Rattle.cell_cursor.specs.Items.{Adds, given, is_group, has_ended, item_statement, adding, statements_after}
+use Rattle.cell_cursor.specs.Items.{Adds, given, has_ended, item_statement, adding, statements_after}
 use Rattle.cell_cursor.specs.Reached.{ReadsOn}
 use Rattle.cell_cursor.proofs.Closed.{reads_on, closed_statement}
 

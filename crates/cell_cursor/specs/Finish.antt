@@ -15,7 +15,7 @@ use Rattle.cell_cursor.specs.declared.cursor.Answer.TheVariants as answer
 use Rattle.cell_cursor.specs.declared.fault.CursorFault.TheVariants as fault
 use Rattle.cell_cursor.specs.declared.item.LibraryItem.{LibraryItem}
 use Rattle.cell_cursor.specs.declared.part.Place.{Place}
-use Rattle.cell_cursor.specs.Items.{rest_at, items_in}
+use Rattle.cell_cursor.specs.Items.{rest_at}
 use Rattle.cell_cursor.specs.Leads.{is_start}
 use Rattle.cell_cursor.specs.Scanned.{stop_behind}
 

@@ -1,6 +1,6 @@
 -- The items of a library in the order of the file: cells, time units, and statements that name other files (Liberty
 -- Reference Manual, the `library` group).
-use Rattle.std.specs.Prelude.{◌≡◌, ℕ, ◌++◌, Bool, true, false, List, [], ◌∷◌, Option, Some, None, Result, Ok, Err, codes, if◌then◌else◌}
+use Rattle.std.specs.Prelude.{◌≡◌, ℕ, ◌+◌, ◌≤◌, ◌++◌, Bool, true, false, List, [], ◌∷◌, Option, Some, None, Result, Ok, Err, codes, if◌then◌else◌}
 use Rattle.std.specs.Str.{bytes_eq}
 use Rattle.grammar_rules.specs.Rule.{Rule}
 use Rattle.grammar_rules.specs.Rule as r
@@ -137,3 +137,8 @@ Adds outcome (Err Memory) items left = Unit {0}
 -- the items in order are those that a reading finds
 abbrev pub ItemsAreFound : List ℕ → Type 0
 ItemsAreFound bytes = found_of_bytes bytes ≡ gathered nothing_found (items_of_bytes bytes)
+
+-- from an offset on the offsets of these items ascend
+abbrev pub Ascend : ℕ → List LibraryItem → Type 0
+Ascend from [] = Unit {0}
+Ascend from (one ∷ items) = (from ≤ item_at one) × Ascend (item_at one + 1) items

@@ -1,5 +1,5 @@
 -- How much a cursor has still to do.
-use Rattle.std.specs.Prelude.{ℕ, suc, ◌+◌, ◌-◌, ◌*◌, List, length, Option, Some, None}
+use Rattle.std.specs.Prelude.{ℕ, ◌+◌, ◌-◌, ◌*◌, length}
 use Rattle.cell_cursor.specs.declared.cursor.CellCursor.{CellCursor}
 
 -- how many bytes of the library are taken

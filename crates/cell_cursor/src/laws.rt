@@ -1,9 +1,14 @@
-//! A law of the items: a function that does nothing, whose `ensures` holds of every list of bytes.
+//! Laws of the items: functions that do nothing, whose `ensures` holds of every list of bytes.
 
-ghost use Rattle.cell_cursor.specs.Items.{ItemsAreFound};
+ghost use Rattle.cell_cursor.specs.Items.{items_of_bytes, ItemsAreFound, Ascend};
 
 /// The items of a library in order are those that a reading of it finds: its cells, its time units, and the places of its
 /// statements that name other files.
 pub fn items_are_found(bytes: &[u8])
     ensures { ItemsAreFound bytes.now }
+{}
+
+/// The items of a library stand in the order of their offsets.
+pub fn items_ascend(bytes: &[u8])
+    ensures { Ascend 0 (items_of_bytes bytes.now) }
 {}

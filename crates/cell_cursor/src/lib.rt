@@ -15,4 +15,4 @@ mod statements;
 pub use cursor::CellCursor;
 pub use fault::{CursorFault, Memory};
 pub use item::{LibraryItem, Next};
-pub use laws::items_are_found;
+pub use laws::{items_are_found, items_ascend};

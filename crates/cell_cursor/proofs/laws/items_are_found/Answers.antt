@@ -1,4 +1,4 @@
-use Rattle.std.proofs.Common.{◌≡◌, sym, ap, ◌∙◌}
+use Rattle.std.proofs.Common.{ap, ◌∙◌}
 use Rattle.liberty_groups.specs.Answer.{found_in}
 use Rattle.cell_cursor.specs.Items.{items_outcome}
 use Rattle.cell_cursor.proofs.Gathers.{outcome_listed, found_listed}

@@ -1,4 +1,4 @@
-use Rattle.std.proofs.Common.{◌≡◌, Ok, refl, sym, ap, ◌∙◌}
+use Rattle.std.proofs.Common.{Ok, refl, sym, ap, ◌∙◌}
 use Rattle.cell_cursor.proofs.Comings.{no_next, header_reached}
 use Rattle.cell_cursor.proofs.statements.come_inside.Goals as goal
 

@@ -1,7 +1,6 @@
-use Rattle.std.proofs.Common.{◌≡◌, List, Err, refl, sym, ap, subst, ◌∙◌}
+use Rattle.std.proofs.Common.{Err, refl, sym, subst}
 use Rattle.std.proofs.lemmas.Result.{err_from_is_err_and}
 use Rattle.cell_cursor.specs.declared.part.Place.TheVariants as place
-use Rattle.cell_cursor.specs.Items.{Adds, file_end}
 use Rattle.cell_cursor.specs.Reached.{ComesSo}
 use Rattle.cell_cursor.proofs.Comings.{end_refused, end_reached}
 use Rattle.cell_cursor.proofs.statements.come_to_end.Goals as goal

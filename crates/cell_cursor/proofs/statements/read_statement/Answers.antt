@@ -1,6 +1,4 @@
-use Rattle.std.proofs.Common.{◌≡◌, ◌++◌, List, Ok, sym, ap, subst, ◌∙◌}
-use Rattle.liberty_groups.specs.Lexeme.{Lexeme}
-use Rattle.cell_cursor.specs.Items.{item_statement}
+use Rattle.std.proofs.Common.{◌++◌, sym, ap, ◌∙◌}
 use Rattle.cell_cursor.proofs.StatementSteps.{statement_ended_as}
 use Rattle.cell_cursor.proofs.statements.read_statement.Goals as goal
 

@@ -1,4 +1,4 @@
-use Rattle.std.proofs.Common.{◌≡◌, ◌+◌, ◌≤◌, length}
+use Rattle.std.proofs.Common.{◌+◌, ◌≤◌, length}
 use Rattle.cell_cursor.specs.Reached.{ReadsOn}
 use Rattle.cell_cursor.proofs.statements.read_statements.Given as goal
 

@@ -1,9 +1,9 @@
-use Rattle.std.proofs.Common.{◌≡◌, ◌∙◌, [], refl, sym, ap, subst, length, arith}
+use Rattle.std.proofs.Common.{◌∙◌, [], refl, sym, ap, subst, length, arith}
 use Rattle.std.proofs.lemmas.Bool.Decides.{nat_tests}
 use Rattle.std.proofs.lemmas.Result.{err_from_is_err_and}
 use Rattle.cell_cursor.specs.Stands.{Advances}
 use Rattle.cell_cursor.proofs.SeekingLemmas.{less_to_do, read_to_do, never_by}
-use Rattle.cell_cursor.proofs.StandsLemmas.{advance_fails, advance_failed, advance_takes, advance_reads, advance_ends, advance_scanned, nil_of}
+use Rattle.cell_cursor.proofs.StandsLemmas.{advance_fails, advance_failed, advance_takes, advance_reads, advance_ends, nil_of}
 use Rattle.cell_cursor.proofs.TakingLemmas.{takes_none}
 use Rattle.cell_cursor.proofs.cursor.CellCursor.advance.Goals as goal
 

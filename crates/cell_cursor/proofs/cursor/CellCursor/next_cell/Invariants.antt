@@ -1,4 +1,4 @@
-use Rattle.std.proofs.Common.{◌≡◌, ◌⊎◌, ◌≤◌, ◌+◌, true, [], Some, cond}
+use Rattle.std.proofs.Common.{◌≡◌, ◌⊎◌, ◌≤◌, ◌+◌, true, [], cond}
 use Rattle.text_io.specs.Desk.{Rose}
 use Rattle.cell_cursor.specs.declared.cursor.Answer.{Answer}
 use Rattle.cell_cursor.specs.Progress.{to_do}

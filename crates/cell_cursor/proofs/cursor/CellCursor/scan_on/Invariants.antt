@@ -1,6 +1,5 @@
 use Rattle.std.proofs.Common.{◌≡◌, ◌≤◌, ◌++◌, length}
 use Rattle.cell_cursor.specs.Progress.{taken_by}
-use Rattle.cell_cursor.specs.Stands.{Scans}
 use Rattle.cell_cursor.proofs.cursor.CellCursor.scan_on.Given as goal
 
 abbrev pub invariant-loop-byte : goal.invariant-loop-byte

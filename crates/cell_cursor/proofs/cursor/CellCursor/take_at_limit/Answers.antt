@@ -1,4 +1,4 @@
-use Rattle.std.proofs.Common.{◌∙◌, [], refl, sym, subst, take, ◌++◌, arith}
+use Rattle.std.proofs.Common.{◌∙◌, [], refl, sym, subst, take, arith}
 use Rattle.std.proofs.lemmas.Result.{err_from_is_err_and}
 use Rattle.cell_cursor.specs.Stands.{Advances}
 use Rattle.cell_cursor.proofs.SeekingLemmas.{never_by}

@@ -1,4 +1,4 @@
-use Rattle.std.proofs.Common.{◌≡◌, ◌∙◌, ◌+◌, length, ap}
+use Rattle.std.proofs.Common.{◌∙◌, ◌+◌, length, ap}
 use Rattle.cell_cursor.proofs.StandsLemmas.{part_refused, part_to}
 use Rattle.cell_cursor.proofs.cursor.CellCursor.take_part.Goals as goal
 

@@ -1,4 +1,3 @@
-use Rattle.std.proofs.Common.{rules, arith}
 use Rattle.cell_cursor.proofs.TakingLemmas.{takes_same, takes_read}
 use Rattle.cell_cursor.proofs.piece.Piece.read.Goals as goal
 

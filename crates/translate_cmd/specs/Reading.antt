@@ -1,9 +1,10 @@
 -- What words ask for. This project's rule; names are kept as in Verilog text, and function texts are Liberty's.
-use Rattle.std.specs.Prelude.{ℕ, ◌&&◌, List, [], ◌∷◌, length, nat_le, codes, Option, Some, None, Result, Ok, Err, if◌then◌else◌}
+use Rattle.std.specs.Prelude.{ℕ, Bool, true, false, ◌&&◌, List, [], ◌∷◌, length, nat_le, codes, Option, Some, None, Result, Ok, Err, if◌then◌else◌}
 use Rattle.std.specs.Str.{bytes_eq}
 use Rattle.bool_functions.specs.declared.tree.Node.{Node}
 use Rattle.bool_functions.specs.declared.faults.FunctionFault.{FunctionFault}
 use Rattle.bool_functions.specs.FunctionText.{free_names, reading_of}
+use Rattle.text_io.specs.Plan.{are_file_words}
 use Rattle.udp_tables.specs.declared.table.Udp.{Udp}
 use Rattle.udp_tables.specs.Generated.{function_primitive}
 use Rattle.verilog_names.specs.Kept.{is_kept_cell_name}
@@ -33,7 +34,19 @@ udp_reading (name ∷ []) = command.Usage
 udp_reading (name ∷ (text ∷ [])) = udp_command (asked_primitive name text)
 udp_reading (name ∷ (text ∷ (more ∷ others))) = command.Usage
 
+-- what the words after `translate` ask for: those of a library and of two files for its models, none empty and no two equal
+abbrev pub translate_reading : List (List ℕ) → Command
+translate_reading [] = command.Usage
+translate_reading (library ∷ []) = command.Usage
+translate_reading (library ∷ (verilog ∷ [])) = command.Usage
+translate_reading (library ∷ (verilog ∷ (vital ∷ []))) =
+    if are_file_words (library ∷ verilog ∷ vital ∷ []) then command.Translate else command.Usage
+translate_reading (library ∷ (verilog ∷ (vital ∷ (more ∷ others)))) = command.Usage
+
 -- what words ask for; usage where they have no reading
 abbrev pub reading : List (List ℕ) → Command
 reading [] = command.Usage
-reading (first ∷ words) = if bytes_eq first (codes "udp") then udp_reading words else command.Usage
+reading (first ∷ words) =
+    if bytes_eq first (codes "udp") then udp_reading words
+    else if bytes_eq first (codes "translate") then translate_reading words
+    else command.Usage

@@ -1,6 +1,7 @@
-ghost use Rattle.std.specs.Prelude.{◌≡◌, ◌≤◌, drop, Ok, IfOk};
+ghost use Rattle.std.specs.Prelude.{◌≡◌, ◌≤◌, [], ◌∷◌, drop, Ok, IfOk};
 ghost use Rattle.bool_functions.specs.Tree.{name_bound};
-ghost use Rattle.translate_cmd.specs.Reading.{asked_primitive, primitive_read, udp_reading, reading};
+ghost use Rattle.text_io.specs.Plan.{are_file_words};
+ghost use Rattle.translate_cmd.specs.Reading.{asked_primitive, primitive_read, udp_reading, translate_reading, reading};
 
 use bool_functions::{Function, FunctionFault, read_free};
 use std::alloc::Global;
@@ -13,6 +14,8 @@ use verilog_names::is_kept_cell_name;
 pub(crate) enum Command {
     /// The primitive of a function text, to be printed.
     Udp(Udp),
+    /// The models of the cells of a library, to be written.
+    Translate,
     /// Nothing: the words have no reading.
     Usage,
 }
@@ -30,9 +33,43 @@ pub(crate) fn asked<D: Desk>(alloc: Global, desk: &D) -> Result<Command, Memory>
     };
     if first == "udp" {
         asked_udp(alloc, desk)
+    } else if first == "translate" {
+        Ok(asked_translate(desk))
     } else {
         Ok(Command::Usage)
     }
+}
+
+/// What the words after `translate` ask for.
+fn asked_translate<D: Desk>(desk: &D) -> Command
+    ensures { result ≡ translate_reading (drop 1 (D.state desk.now).words) }
+{
+    let Some(library) = desk.word(1) else {
+        return Command::Usage;
+    };
+    let Some(verilog) = desk.word(2) else {
+        return Command::Usage;
+    };
+    let Some(vital) = desk.word(3) else {
+        return Command::Usage;
+    };
+    if desk.word(4).is_none() && are_file_words(library, verilog, vital) {
+        Command::Translate
+    } else {
+        Command::Usage
+    }
+}
+
+/// Whether three words can name files side by side: none is empty, and no two are equal as texts.
+fn are_file_words(first: &str, second: &str, third: &str) -> bool
+    ensures { result ≡ are_file_words (first.now ∷ second.now ∷ third.now ∷ []) }
+{
+    !first.is_empty()
+        && first != second
+        && first != third
+        && !second.is_empty()
+        && second != third
+        && !third.is_empty()
 }
 
 /// What the words after `udp` ask for.

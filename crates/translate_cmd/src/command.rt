@@ -1,12 +1,14 @@
-ghost use Rattle.std.specs.Prelude.{◌≡◌, ◌≤◌, IsTrue, MatchResult};
-ghost use Rattle.text_io.specs.Desk.{Folder, HasCause, Rose};
+ghost use Rattle.std.specs.Prelude.{◌≡◌, ◌≤◌, ◌↔◌, IsTrue, MatchResult};
+ghost use Rattle.text_io.specs.Desk.{HasCause, Rose};
 ghost use Rattle.text_io.specs.Sure.{sure_state};
 ghost use Rattle.translate_cmd.specs.Status.{is_decided};
-ghost use Rattle.translate_cmd.specs.Outcome.{outcome};
+ghost use Rattle.translate_cmd.specs.declared.asked.Command.TheVariants as command;
+ghost use Rattle.translate_cmd.specs.Reading.{reading};
 ghost use Rattle.translate_cmd.specs.Runs.{Runs};
 
 use crate::asked::{Command, Memory, asked};
 use crate::status::Status;
+use crate::translate::translate;
 use std::alloc::Global;
 use text_io::{Desk, Failed, OutSlot, SureDesk, write_whole};
 use verilog_writer::write_udp;
@@ -16,18 +18,20 @@ const USAGE: &[u8] = b"lib2sim: usage\n";
 
 /// Runs the command that the desk's words ask for.
 ///
-/// Words without a reading are usage. The status and the bytes appended to the report and the faults are those of the
-/// outcome of the words, `Outside` and `Memory` aside: `Outside` comes only where a call on the desk failed in this
-/// call, and `Memory` where there was none. Also after these two, what was appended is a prefix of the outcome's.
-/// Nothing is bound but what the words name.
+/// Words without a reading are usage. The status is that of the outcome of the words and the desk's files, and what was
+/// appended to the outputs is what the outcome appends, `Outside` and `Memory` aside: `Outside` comes only where a call
+/// on the desk failed in this call, and `Memory` where there was none. Also after these two, what was appended is a part
+/// of the outcome's. Nothing is bound but what the words name. Of a command that reads files this speaks where the desk
+/// tells its folder and what is left of its files.
 pub fn run<D: Desk>(alloc: Global, desk: &mut D) -> Status
-    ensures writes { (files : Folder) → Runs files (D.state desk.old) (D.state desk.new) result }
-    ensures status { (files : Folder) → IsTrue (is_decided result) → result ≡ (outcome (D.state desk.old).words files).status }
+    ensures writes { Runs (D.state desk.old) (D.state desk.new) result }
+    ensures usage { IsTrue (is_decided result) → (result ≡ Status.Usage ↔ reading (D.state desk.old).words ≡ command.Usage) }
     ensures outside { result ≡ Status.Outside → Rose (D.faults desk.old) (D.faults desk.new) }
     ensures later { D.faults desk.old ≤ D.faults desk.new }
 {
     match asked(alloc, desk) {
         Ok(Command::Udp(udp)) => ended(write_udp(desk, OutSlot::Report, &udp), Status::Done),
+        Ok(Command::Translate) => translate(alloc, desk),
         Ok(Command::Usage) => ended(write_whole(desk, OutSlot::Faults, USAGE), Status::Usage),
         Err(Memory) => Status::Memory,
     }
@@ -36,8 +40,8 @@ pub fn run<D: Desk>(alloc: Global, desk: &mut D) -> Status
 /// As `run`, over a desk on which no call fails, so that it never ends with `Outside`.
 pub fn run_sure(alloc: Global, desk: &mut SureDesk) -> Status
     ensures never { result ≡ Status.Outside → ⊥ }
-    ensures writes { (files : Folder) → Runs files (sure_state desk.old) (sure_state desk.new) result }
-    ensures status { (files : Folder) → IsTrue (is_decided result) → result ≡ (outcome (sure_state desk.old).words files).status }
+    ensures writes { Runs (sure_state desk.old) (sure_state desk.new) result }
+    ensures usage { IsTrue (is_decided result) → (result ≡ Status.Usage ↔ reading (sure_state desk.old).words ≡ command.Usage) }
 {
     run(alloc, desk)
 }

@@ -2,10 +2,17 @@
 #![tactic(auto)]
 
 mod asked;
+mod cells;
 mod command;
+mod items;
+mod progress;
 mod status;
+mod stop;
 #[cfg(test)]
 mod tests;
+mod translate;
+#[cfg(test)]
+mod translation_tests;
 
 pub use command::{run, run_sure};
 pub use status::Status;

@@ -4,11 +4,11 @@ use Rattle.translate_cmd.proofs.command.run.Goals as goal
 
 pub returns-in-Ok-Udp-clause-writes : goal.returns-in-Ok-Udp-clause-writes
 returns-in-Ok-Udp-clause-writes g c =
-    λ files. udp_runs files _ _ c.in-Ok-Udp.udp c.write_udp.result _ (sym c.in-Ok-Udp.ensures ∙ c.in-Ok-Udp.field-0-is) c.write_udp.ensures.text c.ended.ensures
+    udp_runs _ _ c.in-Ok-Udp.udp c.write_udp.result _ (sym c.in-Ok-Udp.ensures ∙ c.in-Ok-Udp.field-0-is) c.write_udp.ensures.text c.ended.ensures
 
 pub returns-in-Ok-Usage-clause-writes : goal.returns-in-Ok-Usage-clause-writes
 returns-in-Ok-Usage-clause-writes g c =
-    λ files. usage_runs files _ _ c.write_whole.result _ (sym c.in-Ok-Usage.ensures ∙ c.in-Ok-Usage.field-0-is) c.write_whole.ensures.text c.ended-in-Ok-Usage.ensures
+    usage_runs _ _ c.write_whole.result _ (sym c.in-Ok-Usage.ensures ∙ c.in-Ok-Usage.field-0-is) c.write_whole.ensures.text c.ended-in-Ok-Usage.ensures
 
 pub returns-in-Err-clause-writes : goal.returns-in-Err-clause-writes
-returns-in-Err-clause-writes g c = λ files. nothing_runs files _
+returns-in-Err-clause-writes g c = nothing_runs _

@@ -1,0 +1,392 @@
+-- Translating a library: binding its files, and what stands on the desk at each exit.
+use Rattle.std.proofs.Common.{◌≡◌, ℕ, Bool, true, false, List, [], ◌∷◌, ◌++◌, Option, Some, None, Result, Ok, Err, IsTrue, IsErr, IsSome, IfOk, IfSome, OnOk, OnErr, codes, slice_get, unwrap_or, if◌then◌else◌, refl, sym, ap, subst, ◌∙◌}
+use Rattle.std.proofs.lemmas.List.{append-nil}
+use Rattle.std.specs.Option.{option_map, option_and_then}
+use Rattle.std.specs.Str.{bytes_eq}
+use Rattle.text_io.specs.declared.outside.Failed.{Failed}
+use Rattle.text_io.specs.declared.slots.InSlot.TheVariants.{Library}
+use Rattle.text_io.specs.declared.slots.OutSlot.TheVariants.{VerilogText, VitalText, Report, Faults}
+use Rattle.text_io.specs.declared.slots.Slot.{Slot}
+use Rattle.text_io.specs.declared.slots.Slot.TheVariants.{Input, Output}
+use Rattle.text_io.specs.Plan.{plan, are_file_words}
+use Rattle.text_io.specs.Desk.{DeskState, Folder, is_bound, file_of, opened, created, took, wrote, IsFileAt, IsPrefix, WritesText}
+use Rattle.text_io.proofs.Wrote.{wrote-nil, wrote-wrote}
+use Rattle.text_io.proofs.Took.{took-zero}
+use Rattle.udp_tables.specs.declared.table.Udp.{Udp}
+use Rattle.verilog_writer.specs.Model.{prelude_text}
+use Rattle.translate_cmd.specs.declared.status.Status.{Status}
+use Rattle.translate_cmd.specs.declared.status.Status.TheVariants.{Outside}
+use Rattle.translate_cmd.specs.declared.stop.Stop.{Stop}
+use Rattle.translate_cmd.specs.declared.progress.Progress.{Progress}
+use Rattle.translate_cmd.specs.Items.{LibraryItem, items_within}
+use Rattle.translate_cmd.specs.declared.items.Ending.{Ending}
+use Rattle.translate_cmd.specs.declared.items.Ending.TheVariants as ending
+use Rattle.translate_cmd.specs.declared.asked.Command.{Command}
+use Rattle.translate_cmd.specs.declared.asked.Command.TheVariants as command
+use Rattle.translate_cmd.specs.Status.{is_decided}
+use Rattle.translate_cmd.specs.Reading.{reading, translate_reading, udp_reading, udp_command, asked_primitive}
+use Rattle.translate_cmd.specs.Written.{Written, nothing_written, in_verilog, in_report, joined, IsPart, wrote_all}
+use Rattle.translate_cmd.specs.Cells.{no_progress, progress_after, items_written}
+use Rattle.translate_cmd.specs.Binding.{Bound, Nothing, LibraryAlone, WithVerilog, WithVital, bound_state, IsLibrary, Binds}
+use Rattle.translate_cmd.specs.Library.{library_limit, ending_of, last_line, fault_line, status_at, Outcome, outcome_at, translate_outcome, IsPartOf, IsAllOf, IsHandled, Handles, IsFinished, Finishes, Translates}
+use Rattle.translate_cmd.specs.Outcome.{library_bytes, outcome, Tells}
+use Rattle.translate_cmd.specs.Runs.{Runs}
+use Rattle.translate_cmd.proofs.WrittenLaws.{wrote_all-nothing, wrote_all-joined, wrote_all-verilog, wrote_all-report, took-wrote_all, IsPart-nothing, IsPart-after, IsPart-front}
+
+nothing : (whole : List ℕ) → IsPrefix [] whole
+nothing whole = (whole, refl)
+
+-- what holds of every value holds of the one that is there
+pub IfSome-always : {X : Type 0} (o : Option X) (P : X → Type 0) → ((x : X) → P x) → IfSome o P
+IfSome-always None P f = tt
+IfSome-always (Some x) P f = f x
+
+pub IfSome-map : {X : Type 0} (o : Option X) (P Q : X → Type 0) → ((x : X) → P x → Q x) → IfSome o P → IfSome o Q
+IfSome-map None P Q f h = tt
+IfSome-map (Some x) P Q f h = f x h
+
+-- nothing is claimed of what an error gave
+IfOk-err : {T E : Type 0} (r : Result T E) (P : T → Type 0) → IsErr r → IfOk r P
+IfOk-err (Ok x) P e = absurd (cc)
+IfOk-err (Err y) P e = tt
+
+OnOk-err : {T E : Type 0} (r : Result T E) (P : Type 0) → IsErr r → OnOk r P
+OnOk-err (Ok x) P e = absurd (cc)
+OnOk-err (Err y) P e = tt
+
+-- The words of a command.
+
+printed : (udp : Option Udp) → udp_command udp ≡ command.Translate → ⊥
+printed None e = cc
+printed (Some udp) e = cc
+
+not_udp : (words : List (List ℕ)) → udp_reading words ≡ command.Translate → ⊥
+not_udp [] e = cc
+not_udp (name ∷ []) e = cc
+not_udp (name ∷ (text ∷ [])) e = printed (asked_primitive name text) e
+not_udp (name ∷ (text ∷ (more ∷ others))) e = cc
+
+abbrev files_planned : List (Slot × ℕ)
+files_planned = (Input Library, 1) ∷ (Output VerilogText, 2) ∷ (Output VitalText, 3) ∷ []
+
+planned_three : (first a b c : List ℕ) (are : Bool) → bytes_eq first (codes "translate") ≡ true → are_file_words (a ∷ b ∷ c ∷ []) ≡ are
+    → (if are then command.Translate else command.Usage) ≡ command.Translate → plan (first ∷ (a ∷ b ∷ c ∷ [])) ≡ files_planned
+planned_three first a b c true t w e = rw (t, w) refl
+planned_three first a b c false t w e = cc
+
+planned_by : (first : List ℕ) (files : List (List ℕ)) (prints translates : Bool) → bytes_eq first (codes "translate") ≡ translates
+    → (if prints then udp_reading files else if translates then translate_reading files else command.Usage) ≡ command.Translate
+    → plan (first ∷ files) ≡ files_planned
+planned_by first files true translates t e = absurd (not_udp files e)
+planned_by first files false false t e = cc
+planned_by first [] false true t e = cc
+planned_by first (a ∷ []) false true t e = cc
+planned_by first (a ∷ (b ∷ [])) false true t e = cc
+planned_by first (a ∷ (b ∷ (c ∷ []))) false true t e = planned_three first a b c (are_file_words (a ∷ b ∷ c ∷ [])) t refl e
+planned_by first (a ∷ (b ∷ (c ∷ (d ∷ others)))) false true t e = cc
+
+-- the files that words bind which ask for a translation
+pub planned_files : (words : List (List ℕ)) → reading words ≡ command.Translate
+    → plan words ≡ (Input Library, 1) ∷ (Output VerilogText, 2) ∷ (Output VitalText, 3) ∷ []
+planned_files [] e = cc
+planned_files (first ∷ files) e = planned_by first files (bytes_eq first (codes "udp")) (bytes_eq first (codes "translate")) refl e
+
+-- Binding.
+
+-- a call that fails after these files were bound
+pub binds_stopped : {T : Type 0} (old new : DeskState) (bound : Bound) (bytes : List ℕ) (r : Result T Failed)
+    → IsErr r → new ≡ bound_state old bound bytes → IsLibrary old bound bytes → Binds old new r
+binds_stopped old new bound bytes r e h f = record { bound = bound; bytes = bytes; state = h; file = f; whole = OnOk-err r _ e }
+
+-- a call that binds the last file
+pub binds_last : {T : Type 0} (old now new : DeskState) (bytes : List ℕ) (r : Result T Failed)
+    → now ≡ bound_state old WithVerilog bytes → IsFileAt old 1 bytes → OnOk r (new ≡ created now VitalText) → OnErr r (new ≡ now) → Binds old new r
+binds_last old now new bytes (Ok x) h f ok err =
+    record { bound = WithVital; bytes = bytes; state = ok ∙ ap (λ s. created s VitalText) h; file = f; whole = refl }
+binds_last old now new bytes (Err y) h f ok err =
+    record { bound = WithVerilog; bytes = bytes; state = err ∙ h; file = f; whole = tt }
+
+-- all of them were bound
+pub bound_all : {T : Type 0} (old new : DeskState) (x : T) (b : Binds {T = T} old new (Ok x)) → new ≡ bound_state old WithVital b.bytes
+bound_all old new x b = b.state ∙ ap (λ bound. bound_state old bound b.bytes) b.whole
+
+pub file_all : {T : Type 0} (old new : DeskState) (x : T) (b : Binds {T = T} old new (Ok x)) → IsFileAt old 1 b.bytes
+file_all old new x b = subst (λ bound. IsLibrary old bound b.bytes) b.whole b.file
+
+-- the library is bound then, and the file for Verilog text
+pub library_bound : (old now : DeskState) (bytes : List ℕ) → now ≡ bound_state old WithVital bytes → IsTrue (is_bound now (Input Library))
+unfolding opened created
+library_bound old now bytes e = rw e refl
+
+pub verilog_bound : (old now : DeskState) (bytes : List ℕ) → now ≡ bound_state old WithVital bytes → IsTrue (is_bound now (Output VerilogText))
+unfolding opened created
+verilog_bound old now bytes e = rw e refl
+
+left_bound : (old : DeskState) (bytes : List ℕ) → (bound_state old WithVital bytes).left Library ≡ option_map (λ _. bytes) (old.left Library)
+unfolding opened created
+left_bound old bytes = refl
+
+-- what is left of the library, where the desk tells it
+left_told : (left : Option (List ℕ)) (bytes : List ℕ) → IsSome left → option_map (λ _. bytes) left ≡ Some bytes
+left_told None bytes h = absurd cc
+left_told (Some x) bytes h = refl
+
+-- the bytes of the library, where the desk tells its files
+named_bytes : (words : List (List ℕ)) (folder : Option Folder) (files : Folder) (bytes : List ℕ) → folder ≡ Some files
+    → IfSome folder (λ told. option_and_then (file_of told) (slice_get words 1) ≡ Some bytes) → library_bytes words files ≡ bytes
+named_bytes words folder files bytes e f = ap (λ o. unwrap_or o []) (rw e at f)
+
+-- what holds of the bytes of the library that is bound holds of the file that the words name
+pub told : (P : List ℕ → Type 0) (old now : DeskState) (files : Folder) (bytes : List ℕ) → now ≡ bound_state old WithVital bytes → IsFileAt old 1 bytes
+    → old.folder ≡ Some files → IsSome (old.left Library) → IfSome (now.left Library) P → P (library_bytes old.words files)
+told P old now files bytes e f folder left h =
+    let known : now.left Library ≡ Some bytes = ap (λ s. s.left Library) e ∙ left_bound old bytes ∙ left_told (old.left Library) bytes left in
+    let same = named_bytes old.words old.folder files bytes folder f in
+    rw same (rw known at h)
+
+-- Exits of the whole.
+
+-- nothing was read or written
+untouched : (s : DeskState) → s ≡ wrote (wrote_all (took s Library 0) nothing_written) Faults []
+untouched s =
+    sym (took-zero s Library) ∙ sym (wrote_all-nothing (took s Library 0)) ∙ sym (wrote-nil (wrote_all (took s Library 0) nothing_written) Faults)
+
+-- a file could not be bound
+pub unbound_runs : (old new : DeskState) {T : Type 0} (r : Result T Failed) → reading old.words ≡ command.Translate → Binds old new r → Runs old new Outside
+unbound_runs old new r e b = record {
+  bound = b.bound;
+  library = b.bytes;
+  taken = 0;
+  text = nothing_written;
+  faults = [];
+  state = b.state ∙ untouched (bound_state old b.bound b.bytes);
+  planned = rw e tt;
+  file = b.file;
+  part = λ files _. record { text_part = IsPart-nothing _; faults_part = nothing _ };
+  all_bound = λ d. absurd cc;
+  whole = λ d. absurd cc;
+}
+
+-- all were bound, and the library was translated or not
+pub translated_runs : (old now new : DeskState) (bytes : List ℕ) (result : Status) (taken : ℕ) (text : Written) (faults : List ℕ)
+    → reading old.words ≡ command.Translate → now ≡ bound_state old WithVital bytes → IsFileAt old 1 bytes
+    → new ≡ wrote (wrote_all (took now Library taken) text) Faults faults
+    → IfSome (now.left Library) (λ all. IsPartOf text faults (translate_outcome all))
+    → (IsTrue (is_decided result) → IfSome (now.left Library) (λ all. IsAllOf result text faults (translate_outcome all)))
+    → Runs old new result
+translated_runs old now new bytes result taken text faults e h f state part whole = record {
+  bound = WithVital;
+  library = bytes;
+  taken = taken;
+  text = text;
+  faults = faults;
+  state = state ∙ ap (λ s. wrote (wrote_all (took s Library taken) text) Faults faults) h;
+  planned = rw e tt;
+  file = f;
+  part = λ files tells. let known = rw e at tells in rw e (told (λ all. IsPartOf text faults (translate_outcome all)) old now files bytes h f known.0 known.1 part);
+  all_bound = λ d. rw e refl;
+  whole = λ d files tells. let known = rw e at tells in rw e (told (λ all. IsAllOf result text faults (translate_outcome all)) old now files bytes h f known.0 known.1 (whole d));
+}
+
+-- Exits of the translation of a library that is bound.
+
+prelude_part : (items : List LibraryItem) (end : Ending) (part : List ℕ) → IsPrefix part prelude_text
+    → IsPartOf (in_verilog part) [] (outcome_at items end)
+unfolding outcome_at
+prelude_part items end part h =
+    let front : IsPart (in_verilog part) (in_verilog prelude_text) = record { verilog = h; vital = nothing []; report = nothing [] } in
+    record {
+      text_part = IsPart-front (in_verilog part) (joined (in_verilog prelude_text) (items_written no_progress items)) _
+          (IsPart-front (in_verilog part) (in_verilog prelude_text) (items_written no_progress items) front);
+      faults_part = nothing (fault_line end);
+    }
+
+-- a stop before the items
+pub prelude_stops : {S : Type 0} (old new : DeskState) (y : Failed) (r : Result Status Stop)
+    → WritesText {T = S} old new VerilogText prelude_text (Err y) → IsErr r → Translates old new r
+prelude_stops old new y r w e = record {
+  taken = 0;
+  text = in_verilog w.part.0;
+  faults = [];
+  state = w.part.2 ∙ sym (wrote_all-verilog old w.part.0) ∙ ap (λ s. wrote_all s (in_verilog w.part.0)) (sym (took-zero old Library))
+      ∙ sym (wrote-nil (wrote_all (took old Library 0) (in_verilog w.part.0)) Faults);
+  part = IfSome-always (old.left Library) (λ bytes. IsPartOf (in_verilog w.part.0) [] (translate_outcome bytes)) (λ bytes. prelude_part _ _ w.part.0 w.part.1);
+  whole = IfOk-err r _ e;
+}
+
+-- what is left of the library after the prelude was written
+left_behind : (old now : DeskState) (text : List ℕ) → now ≡ wrote old VerilogText text → now.left Library ≡ old.left Library
+unfolding wrote
+left_behind old now text e = ap (λ s. s.left Library) e
+
+-- the prelude, and then the items
+handled_state : (old now next : DeskState) (taken : ℕ) (text : Written) → now ≡ wrote old VerilogText prelude_text
+    → next ≡ wrote_all (took now Library taken) text → next ≡ wrote_all (took old Library taken) (joined (in_verilog prelude_text) text)
+handled_state old now next taken text first second =
+    second
+    ∙ ap (λ s. wrote_all (took s Library taken) text) (first ∙ sym (wrote_all-verilog old prelude_text))
+    ∙ ap (λ s. wrote_all s text) (took-wrote_all old (in_verilog prelude_text) taken)
+    ∙ wrote_all-joined (took old Library taken) (in_verilog prelude_text) text
+
+items_part : (items : List LibraryItem) (end : Ending) (text : Written) → IsPart text (items_written no_progress items)
+    → IsPartOf (joined (in_verilog prelude_text) text) [] (outcome_at items end)
+unfolding outcome_at
+items_part items end text h = record {
+  text_part = IsPart-front (joined (in_verilog prelude_text) text) (joined (in_verilog prelude_text) (items_written no_progress items)) _
+      (IsPart-after (in_verilog prelude_text) text (items_written no_progress items) h);
+  faults_part = nothing (fault_line end);
+}
+
+-- a stop within the items
+pub items_stop : (old now new : DeskState) (before after : Progress) (y : Stop) (r : Result Status Stop)
+    → now ≡ wrote old VerilogText prelude_text → before ≡ no_progress → Handles library_limit now new before after (Err y) → IsErr r → Translates old new r
+items_stop old now new before after y r first fresh h e =
+    let part = rw (left_behind old now prelude_text first, fresh) at h.part in
+    record {
+      taken = h.taken;
+      text = joined (in_verilog prelude_text) h.text;
+      faults = [];
+      state = handled_state old now new h.taken h.text first h.state ∙ sym (wrote-nil _ Faults);
+      part = IfSome-map (old.left Library) (λ bytes. IsPart h.text (items_written no_progress (items_within library_limit bytes)))
+          (λ bytes. IsPartOf (joined (in_verilog prelude_text) h.text) [] (translate_outcome bytes)) (λ bytes p. items_part _ _ h.text p) part;
+      whole = IfOk-err r _ e;
+    }
+
+-- the prelude, the items, and then some of the last lines
+finished_state : (old next new : DeskState) (taken : ℕ) (text : Written) (report faults : List ℕ) → next ≡ wrote_all (took old Library taken) text
+    → new ≡ wrote (wrote_all next (in_report report)) Faults faults
+    → new ≡ wrote (wrote_all (took old Library taken) (joined text (in_report report))) Faults faults
+finished_state old next new taken text report faults first second =
+    second
+    ∙ ap (λ s. wrote (wrote_all s (in_report report)) Faults faults) first
+    ∙ ap (λ s. wrote s Faults faults) (wrote_all-joined (took old Library taken) text (in_report report))
+
+finished_part : (items : List LibraryItem) (end : Ending) (text : Written) (after : Progress) (report faults : List ℕ)
+    → text ≡ items_written no_progress items → after ≡ progress_after no_progress items
+    → IsPrefix report (last_line end after) → IsPrefix faults (fault_line end)
+    → IsPartOf (joined (joined (in_verilog prelude_text) text) (in_report report)) faults (outcome_at items end)
+unfolding outcome_at
+finished_part items end text after report faults t a p q =
+    let last = rw a at p in
+    let line : IsPart (in_report report) (in_report (last_line end (progress_after no_progress items))) =
+    record { verilog = nothing []; vital = nothing []; report = last } in
+    rw t (record {
+      text_part = IsPart-after (joined (in_verilog prelude_text) (items_written no_progress items)) (in_report report) _ line;
+      faults_part = q;
+    })
+
+finished_all : (items : List LibraryItem) (end : Ending) (text : Written) (after : Progress) (status : Status) (report faults : List ℕ)
+    → text ≡ items_written no_progress items → after ≡ progress_after no_progress items → IsFinished after end status report faults
+    → IsAllOf status (joined (joined (in_verilog prelude_text) text) (in_report report)) faults (outcome_at items end)
+unfolding outcome_at
+finished_all items end text after status report faults t a f = record {
+  same_status = f.same_status ∙ ap (status_at end) a;
+  same_text = ap (λ w. joined (joined (in_verilog prelude_text) w) (in_report report)) t
+      ∙ ap (λ line. joined (joined (in_verilog prelude_text) (items_written no_progress items)) (in_report line)) (f.same_report ∙ ap (last_line end) a);
+  same_faults = f.same_faults;
+}
+
+part_behind : (bytes : List ℕ) (text : Written) (end : Ending) (before after : Progress) (report faults : List ℕ)
+    → before ≡ no_progress → IsHandled library_limit bytes before after text end → IsPrefix report (last_line end after) → IsPrefix faults (fault_line end)
+    → IsPartOf (joined (joined (in_verilog prelude_text) text) (in_report report)) faults (translate_outcome bytes)
+part_behind bytes text end before after report faults fresh h p q =
+    let t = rw fresh at h.same_text in
+    let a = rw fresh at h.same_progress in
+    rw (← h.same_ending) (finished_part (items_within library_limit bytes) end text after report faults t a p q)
+
+all_behind : (bytes : List ℕ) (text : Written) (end : Ending) (before after : Progress) (status : Status) (report faults : List ℕ)
+    → before ≡ no_progress → IsHandled library_limit bytes before after text end → IsFinished after end status report faults
+    → IsAllOf status (joined (joined (in_verilog prelude_text) text) (in_report report)) faults (translate_outcome bytes)
+all_behind bytes text end before after status report faults fresh h f =
+    let t = rw fresh at h.same_text in
+    let a = rw fresh at h.same_progress in
+    rw (← h.same_ending) (finished_all (items_within library_limit bytes) end text after status report faults t a f)
+
+-- a stop behind the items
+pub finish_stops : (old now next new : DeskState) (before after : Progress) (end : Ending) (y : Failed) (r : Result Status Stop)
+    → now ≡ wrote old VerilogText prelude_text → before ≡ no_progress → Handles library_limit now next before after (Ok end)
+    → Finishes next new after end (Err y) → IsErr r → Translates old new r
+finish_stops old now next new before after end y r first fresh h f e =
+    let whole = rw (left_behind old now prelude_text first) at h.whole in
+    record {
+      taken = h.taken;
+      text = joined (joined (in_verilog prelude_text) h.text) (in_report f.report);
+      faults = f.faults;
+      state = finished_state old next new h.taken _ f.report f.faults (handled_state old now next h.taken h.text first h.state) f.state;
+      part = IfSome-map (old.left Library) (λ bytes. IsHandled library_limit bytes before after h.text end)
+          (λ bytes. IsPartOf (joined (joined (in_verilog prelude_text) h.text) (in_report f.report)) f.faults (translate_outcome bytes))
+          (λ bytes k. part_behind bytes h.text end before after f.report f.faults fresh k f.report_part f.faults_part) whole;
+      whole = IfOk-err r _ e;
+    }
+
+-- the end
+pub finished : (old now next new : DeskState) (before after : Progress) (end : Ending) (status : Status)
+    → now ≡ wrote old VerilogText prelude_text → before ≡ no_progress → Handles library_limit now next before after (Ok end)
+    → Finishes next new after end (Ok status) → Translates old new (Ok status)
+finished old now next new before after end status first fresh h f =
+    let whole = rw (left_behind old now prelude_text first) at h.whole in
+    record {
+      taken = h.taken;
+      text = joined (joined (in_verilog prelude_text) h.text) (in_report f.report);
+      faults = f.faults;
+      state = finished_state old next new h.taken _ f.report f.faults (handled_state old now next h.taken h.text first h.state) f.state;
+      part = IfSome-map (old.left Library) (λ bytes. IsHandled library_limit bytes before after h.text end)
+          (λ bytes. IsPartOf (joined (joined (in_verilog prelude_text) h.text) (in_report f.report)) f.faults (translate_outcome bytes))
+          (λ bytes k. part_behind bytes h.text end before after f.report f.faults fresh k f.report_part f.faults_part) whole;
+      whole = IfSome-map (old.left Library) (λ bytes. IsHandled library_limit bytes before after h.text end)
+          (λ bytes. IsAllOf status (joined (joined (in_verilog prelude_text) h.text) (in_report f.report)) f.faults (translate_outcome bytes))
+          (λ bytes k. all_behind bytes h.text end before after status f.report f.faults fresh k f.whole) whole;
+    }
+
+-- Behind the items.
+
+-- a stop within the last line
+pub last_stops : {S : Type 0} (old new : DeskState) (p : Progress) (end : Ending) (y : Failed) (r : Result Status Failed)
+    → WritesText {T = S} old new Report (last_line end p) (Err y) → IsErr r → Finishes old new p end r
+last_stops old new p end y r w e = record {
+  report = w.part.0;
+  faults = [];
+  state = w.part.2 ∙ sym (wrote_all-report old w.part.0) ∙ sym (wrote-nil _ Faults);
+  report_part = w.part.1;
+  faults_part = nothing _;
+  whole = IfOk-err r _ e;
+}
+
+-- all of it, where nothing is to be told of the library
+pub last_told : (old new : DeskState) (p : Progress) (end : Ending) (status : Status)
+    → new ≡ wrote old Report (last_line end p) → [] ≡ fault_line end → status ≡ status_at end p → Finishes old new p end (Ok status)
+last_told old new p end status w none s = record {
+  report = last_line end p;
+  faults = [];
+  state = w ∙ sym (wrote_all-report old (last_line end p)) ∙ sym (wrote-nil _ Faults);
+  report_part = ([], append-nil (last_line end p));
+  faults_part = nothing _;
+  whole = record { same_report = refl; same_faults = none; same_status = s };
+}
+
+silent : (s : DeskState) (line : List ℕ) → wrote s Faults line ≡ wrote (wrote_all s (in_report [])) Faults line
+silent s line = ap (λ t. wrote t Faults line) (sym (wrote_all-nothing s))
+
+-- a stop within the line on the library
+pub fault_stops : {S : Type 0} (old new : DeskState) (p : Progress) (end : Ending) (y : Failed) (r : Result Status Failed)
+    → WritesText {T = S} old new Faults (fault_line end) (Err y) → IsErr r → Finishes old new p end r
+fault_stops old new p end y r w e = record {
+  report = [];
+  faults = w.part.0;
+  state = w.part.2 ∙ silent old w.part.0;
+  report_part = nothing _;
+  faults_part = w.part.1;
+  whole = IfOk-err r _ e;
+}
+
+-- all of it, where nothing is to be told of the cells
+pub fault_told : (old new : DeskState) (p : Progress) (end : Ending) (status : Status)
+    → new ≡ wrote old Faults (fault_line end) → [] ≡ last_line end p → status ≡ status_at end p → Finishes old new p end (Ok status)
+fault_told old new p end status w none s = record {
+  report = [];
+  faults = fault_line end;
+  state = w ∙ silent old (fault_line end);
+  report_part = nothing _;
+  faults_part = ([], append-nil (fault_line end));
+  whole = record { same_report = none; same_faults = refl; same_status = s };
+}

@@ -1,0 +1,107 @@
+-- What becomes of one item of a library: the models of a cell and the lines of the report. This project's rules.
+use Rattle.std.specs.Prelude.{ℕ, ◌+◌, Bool, List, [], ◌∷◌, ◌++◌, codes, Option, Some, None, is_none, is_some, if◌then◌else◌}
+use Rattle.liberty_text.specs.declared.time.Unit.{Unit}
+use Rattle.liberty_text.specs.declared.time.Unit.TheVariants.{Ns1}
+use Rattle.liberty_groups.specs.declared.tree.Group.{Group}
+use Rattle.bool_functions.specs.NameList.{number_of}
+use Rattle.cell_machine.specs.declared.pins.Pin.{Pin}
+use Rattle.cell_reader.specs.declared.refusal.Refusal.{Refusal}
+use Rattle.cell_reader.specs.declared.left_out.LeftOut.{LeftOut}
+use Rattle.cell_parts.specs.Groups.{cell_name}
+use Rattle.cell_parts.specs.Pins.{pins_of}
+use Rattle.cell_parts.specs.CellLaws.{groups_of, outputs_of}
+use Rattle.cell_reader.specs.Refusals.{refusal_of, checks_of, arcs_of, left_out_of}
+use Rattle.cell_reader.specs.CellTexts.{subject_of}
+use Rattle.udp_tables.specs.CellData.{CellData}
+use Rattle.specify_blocks.specs.Generated.{module_of}
+use Rattle.verilog_writer.specs.Model.{module_text}
+use Rattle.library_report.specs.CellLines.{accepted_line, refused_line}
+use Rattle.library_report.specs.LeftOutLines.{left_out_lines, left_out_file_line}
+use Rattle.translate_cmd.specs.declared.progress.Progress.{Progress}
+use Rattle.translate_cmd.specs.Items.{LibraryItem, Cell, TimeUnit, OtherFile}
+use Rattle.translate_cmd.specs.Written.{Written, nothing_written, in_verilog, in_report, joined}
+
+-- before the first item of a library: the unit is a nanosecond
+abbrev pub no_progress : Progress
+no_progress = record { unit = Some Ns1; names = []; accepted = 0; refused = 0 }
+
+-- the number of the next cell, from 1: cells are numbered by their place among all cells of the library
+abbrev pub next_number : Progress → ℕ
+next_number p = p.accepted + p.refused + 1
+
+-- the names of the cells so far, each once, and that of one more cell
+abbrev pub names_with : List (List ℕ) → List ℕ → List (List ℕ)
+names_with names name = if is_some (number_of names name) then names else names ++ name ∷ []
+
+-- why the next cell is refused, where it is
+unfoldable pub next_refusal : Progress → Group → Option Refusal
+next_refusal p group = refusal_of (subject_of p.unit group) p.names group
+
+-- the data of the next cell, where this group describes it
+unfoldable pub next_data : Progress → Group → CellData
+next_data p group = record {
+  name = cell_name group;
+  number = next_number p;
+  pins = pins_of group;
+  groups = groups_of group;
+  outputs = outputs_of group;
+  checks = checks_of (subject_of p.unit group) group;
+  arcs = arcs_of (subject_of p.unit group) group;
+}
+
+-- the report lines of an accepted cell: its own, and one for each of its timing groups that are left out
+unfoldable pub accepted_lines : ℕ → List ℕ → List Pin → List LeftOut → List ℕ
+accepted_lines number name pins left_out = accepted_line number name ++ left_out_lines number pins left_out
+
+-- the text of a cell's model
+unfoldable pub model_text : CellData → List ℕ
+model_text cell = module_text (module_of cell)
+
+-- the model of an accepted cell, and its lines
+unfoldable pub accepted_written : CellData → List LeftOut → Written
+accepted_written cell left_out =
+    joined (in_verilog (model_text cell)) (in_report (accepted_lines cell.number cell.name cell.pins left_out))
+
+-- the timing groups of the next cell that are left out
+unfoldable pub next_left_out : Progress → Group → List LeftOut
+next_left_out p group = left_out_of (subject_of p.unit group) group
+
+-- of an accepted cell its model and its lines, of a refused one its line alone
+abbrev pub written_by : Progress → Group → Option Refusal → Written
+written_by p group None = accepted_written (next_data p group) (next_left_out p group)
+written_by p group (Some refusal) = in_report (refused_line (next_number p) (cell_name group) refusal)
+
+-- the line of a statement `include_file`, at any offset
+abbrev pub file_line : ℕ → List ℕ
+file_line at = left_out_file_line
+
+-- what is written for an item
+abbrev pub item_written : Progress → LibraryItem → Written
+item_written p (Cell group) = written_by p group (next_refusal p group)
+item_written p (TimeUnit unit) = nothing_written
+item_written p OtherFile = in_report left_out_file_line
+
+-- after one more cell, which was accepted or refused; its name counts either way
+abbrev pub after_cell : Progress → List ℕ → Bool → Progress
+after_cell p name accepted = record {
+  unit = p.unit;
+  names = names_with p.names name;
+  accepted = if accepted then p.accepted + 1 else p.accepted;
+  refused = if accepted then p.refused else p.refused + 1;
+}
+
+-- after an item
+abbrev pub after_item : Progress → LibraryItem → Progress
+after_item p (Cell group) = after_cell p (cell_name group) (is_none (next_refusal p group))
+after_item p (TimeUnit unit) = record { unit = unit; names = p.names; accepted = p.accepted; refused = p.refused }
+after_item p OtherFile = p
+
+-- after these items, one after another
+abbrev pub progress_after : Progress → List LibraryItem → Progress
+progress_after p [] = p
+progress_after p (one ∷ items) = progress_after (after_item p one) items
+
+-- what is written for these items, one after another
+abbrev pub items_written : Progress → List LibraryItem → Written
+items_written p [] = nothing_written
+items_written p (one ∷ items) = joined (item_written p one) (items_written (after_item p one) items)

@@ -1,0 +1,123 @@
+-- What translating a library comes to. This project's rules.
+use Rattle.std.specs.Prelude.{◌≡◌, ℕ, Bool, true, false, List, [], ◌++◌, take, length, nat_lt, nat_eq, Result, IfOk, IfSome, if◌then◌else◌}
+use Rattle.liberty_groups.specs.declared.fault.LibraryFault.{LibraryFault}
+use Rattle.liberty_groups.specs.declared.read.End.{End}
+use Rattle.liberty_groups.specs.declared.read.End.TheVariants as ends
+use Rattle.translate_cmd.specs.Items.{LibraryItem, items_within, end_within}
+use Rattle.text_io.specs.declared.outside.Failed.{Failed}
+use Rattle.text_io.specs.declared.slots.InSlot.TheVariants.{Library}
+use Rattle.text_io.specs.declared.slots.OutSlot.TheVariants.{Faults}
+use Rattle.text_io.specs.Desk.{DeskState, took, wrote, IsPrefix}
+use Rattle.verilog_writer.specs.Model.{prelude_text}
+use Rattle.library_report.specs.CellLines.{totals_line}
+use Rattle.library_report.specs.FaultLines.{library_fault_line, library_too_long_line}
+use Rattle.translate_cmd.specs.declared.status.Status.{Status}
+use Rattle.translate_cmd.specs.declared.status.Status.TheVariants as status
+use Rattle.translate_cmd.specs.declared.stop.Stop.{Stop}
+use Rattle.translate_cmd.specs.declared.progress.Progress.{Progress}
+use Rattle.translate_cmd.specs.declared.items.Ending.{Ending}
+use Rattle.translate_cmd.specs.declared.items.Ending.TheVariants as ending
+use Rattle.translate_cmd.specs.Written.{Written, nothing_written, in_verilog, in_report, joined, IsPart, wrote_all}
+use Rattle.translate_cmd.specs.Cells.{no_progress, progress_after, items_written}
+
+-- the most bytes that a library may have
+abbrev pub library_limit : ℕ
+library_limit = 67108864
+
+-- how a library whose bytes are read so ends
+abbrev pub ending_by : End → Ending
+ending_by ends.Whole = ending.Whole
+ending_by ends.Cut = ending.TooLong
+ending_by (ends.Fault fault) = ending.Fault fault
+
+-- how a library ends: as its bytes do or, where it has more than this many, as the first of them do as the front of a file;
+-- it is too long where some library text begins with them
+abbrev pub ending_of : ℕ → List ℕ → Ending
+ending_of limit bytes = ending_by (end_within limit bytes)
+
+-- the line behind those of the cells, where the library was read to its end
+abbrev pub last_line : Ending → Progress → List ℕ
+last_line ending.Whole p = totals_line p.accepted p.refused
+last_line (ending.Fault fault) p = []
+last_line ending.TooLong p = []
+
+-- the line on a library that was not
+abbrev pub fault_line : Ending → List ℕ
+fault_line ending.Whole = []
+fault_line (ending.Fault fault) = library_fault_line fault
+fault_line ending.TooLong = library_too_long_line
+
+-- the status at the end
+abbrev pub status_at : Ending → Progress → Status
+status_at ending.Whole p = if nat_eq p.refused 0 then status.Done else status.Cells
+status_at (ending.Fault fault) p = status.Library
+status_at ending.TooLong p = status.TooLong
+
+-- a status, what is appended to the model files and the report, and the line of the faults
+pub record Outcome : Type 0 where
+  pub status : Status
+  pub text : Written
+  pub faults : List ℕ
+
+-- what translating a library with these items and this end comes to: the prelude, then what is written for each item, in
+-- order, then the last line
+unfoldable pub outcome_at : List LibraryItem → Ending → Outcome
+outcome_at items ending = record {
+  status = status_at ending (progress_after no_progress items);
+  text = joined (joined (in_verilog prelude_text) (items_written no_progress items)) (in_report (last_line ending (progress_after no_progress items)));
+  faults = fault_line ending;
+}
+
+-- what translating a library with these bytes comes to
+abbrev pub translate_outcome : List ℕ → Outcome
+translate_outcome bytes = outcome_at (items_within library_limit bytes) (ending_of library_limit bytes)
+
+-- a part of what an outcome appends
+pub record IsPartOf (text : Written) (faults : List ℕ) (outcome : Outcome) : Type 0 where
+  pub text_part : IsPart text outcome.text
+  pub faults_part : IsPrefix faults outcome.faults
+
+-- all of it, with its status
+pub record IsAllOf (status : Status) (text : Written) (faults : List ℕ) (outcome : Outcome) : Type 0 where
+  pub same_status : status ≡ outcome.status
+  pub same_text : text ≡ outcome.text
+  pub same_faults : faults ≡ outcome.faults
+
+-- the items of a library were handled, and it ended so
+pub record IsHandled (limit : ℕ) (bytes : List ℕ) (before after : Progress) (text : Written) (ending : Ending) : Type 0 where
+  pub same_text : text ≡ items_written before (items_within limit bytes)
+  pub same_progress : after ≡ progress_after before (items_within limit bytes)
+  pub same_ending : ending ≡ ending_of limit bytes
+
+-- after a call that handles the items of a library: what was appended is a part of what its bytes come to, where the desk
+-- tells them, and all of it where the call came to the library's end
+pub record Handles (limit : ℕ) (old new : DeskState) (before after : Progress) (result : Result Ending Stop) : Type 0 where
+  pub taken : ℕ
+  pub text : Written
+  pub state : new ≡ wrote_all (took old Library taken) text
+  pub part : IfSome (old.left Library) (λ bytes. IsPart text (items_written before (items_within limit bytes)))
+  pub whole : IfOk result (λ ending. IfSome (old.left Library) (λ bytes. IsHandled limit bytes before after text ending))
+
+-- all that stands behind the items was written, and the status is that of the end
+pub record IsFinished (p : Progress) (ending : Ending) (status : Status) (report faults : List ℕ) : Type 0 where
+  pub same_report : report ≡ last_line ending p
+  pub same_faults : faults ≡ fault_line ending
+  pub same_status : status ≡ status_at ending p
+
+-- after a call that writes what stands behind the items
+pub record Finishes (old new : DeskState) (p : Progress) (ending : Ending) (result : Result Status Failed) : Type 0 where
+  pub report : List ℕ
+  pub faults : List ℕ
+  pub state : new ≡ wrote (wrote_all old (in_report report)) Faults faults
+  pub report_part : IsPrefix report (last_line ending p)
+  pub faults_part : IsPrefix faults (fault_line ending)
+  pub whole : IfOk result (λ status. IsFinished p ending status report faults)
+
+-- after a call that translates the library that is bound
+pub record Translates (old new : DeskState) (result : Result Status Stop) : Type 0 where
+  pub taken : ℕ
+  pub text : Written
+  pub faults : List ℕ
+  pub state : new ≡ wrote (wrote_all (took old Library taken) text) Faults faults
+  pub part : IfSome (old.left Library) (λ bytes. IsPartOf text faults (translate_outcome bytes))
+  pub whole : IfOk result (λ status. IfSome (old.left Library) (λ bytes. IsAllOf status text faults (translate_outcome bytes)))

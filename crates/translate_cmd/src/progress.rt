@@ -1,0 +1,88 @@
+//! How far the items of a library are handled.
+ghost use Rattle.std.specs.Prelude.{◌≡◌, ◌+◌, ◌<◌, ◌^◌, OnOk};
+ghost use Rattle.translate_cmd.specs.declared.items.Ending.TheVariants as ending;
+ghost use Rattle.translate_cmd.specs.Library.{status_at};
+ghost use Rattle.translate_cmd.specs.Items.{unit_of};
+ghost use Rattle.translate_cmd.specs.Cells.{no_progress, next_number, after_cell};
+
+use crate::status::Status;
+use bool_functions::{Memory, Names};
+use liberty_text::Unit;
+use std::alloc::Global;
+
+/// What counts for the items of a library that come next.
+#[derive(Drop)]
+pub(crate) struct Progress {
+    /// The library's unit of time, where it is a known one.
+    pub unit: Option<Unit>,
+    /// The names of the cells so far, each once.
+    pub names: Names,
+    /// How many cells were accepted.
+    pub accepted: usize,
+    /// How many cells were refused.
+    pub refused: usize,
+}
+
+/// The unit of time that a text names.
+pub(crate) fn unit_of(text: &[u8]) -> Option<Unit>
+    ensures { result ≡ unit_of text.now }
+{
+    if text == b"1ns".as_slice() {
+        Some(Unit::Ns1)
+    } else if text == b"100ps".as_slice() {
+        Some(Unit::Ps100)
+    } else if text == b"10ps".as_slice() {
+        Some(Unit::Ps10)
+    } else if text == b"1ps".as_slice() {
+        Some(Unit::Ps1)
+    } else {
+        None
+    }
+}
+
+impl Progress {
+    /// Before the first item.
+    pub fn new(alloc: Global) -> Progress
+        ensures { result ≡ no_progress }
+    {
+        Progress {
+            unit: Some(Unit::Ns1),
+            names: Names::new(alloc),
+            accepted: 0,
+            refused: 0,
+        }
+    }
+
+    /// The number of the next cell, from 1.
+    pub fn next_number(&self) -> usize
+        requires { self.now.accepted + self.now.refused + 1 < 2 ^ 64 }
+        ensures { result ≡ next_number self.now }
+    {
+        self.accepted + self.refused + 1
+    }
+
+    /// The status where the library was read to its end.
+    pub fn status(&self) -> Status
+        ensures { result ≡ status_at ending.Whole self.now }
+    {
+        if self.refused == 0 {
+            Status::Done
+        } else {
+            Status::Cells
+        }
+    }
+
+    /// Counts a cell, which was accepted or refused.
+    pub fn count_cell(&mut self, name: &[u8], accepted: bool) -> Result<(), Memory>
+        requires { self.old.accepted + self.old.refused + 1 < 2 ^ 64 }
+        ensures { OnOk result (self.new ≡ after_cell self.old name.now accepted) }
+    {
+        self.names.add(name)?;
+        if accepted {
+            self.accepted += 1;
+        } else {
+            self.refused += 1;
+        }
+        Ok(())
+    }
+}

@@ -1,0 +1,68 @@
+//! Why a command stops before its end.
+ghost use Rattle.std.specs.Prelude.{◌≡◌};
+ghost use Rattle.translate_cmd.specs.declared.stop.Stop.TheVariants.{Failed as WasFault, Memory as NoMemory};
+
+use std::alloc::AllocError;
+use text_io::{Failed, ReadFault};
+
+/// Why a command stops before its end.
+#[derive(Clone, Copy, Debug, PartialEq, Eq)]
+pub(crate) enum Stop {
+    /// A call on the world outside failed.
+    Failed,
+    /// There was no memory.
+    Memory,
+}
+
+impl From<Failed> for Stop {
+    ghost from_gives = { λ _ made. made ≡ WasFault };
+
+    fn from(_failed: Failed) -> Stop {
+        Stop::Failed
+    }
+}
+
+impl From<AllocError> for Stop {
+    ghost from_gives = { λ _ made. made ≡ NoMemory };
+
+    fn from(_error: AllocError) -> Stop {
+        Stop::Memory
+    }
+}
+
+impl From<specify_blocks::Memory> for Stop {
+    ghost from_gives = { λ _ made. made ≡ NoMemory };
+
+    fn from(_error: specify_blocks::Memory) -> Stop {
+        Stop::Memory
+    }
+}
+
+impl From<bool_functions::Memory> for Stop {
+    ghost from_gives = { λ _ made. made ≡ NoMemory };
+
+    fn from(_error: bool_functions::Memory) -> Stop {
+        Stop::Memory
+    }
+}
+
+impl From<liberty_groups::Memory> for Stop {
+    ghost from_gives = { λ _ made. made ≡ NoMemory };
+
+    fn from(_error: liberty_groups::Memory) -> Stop {
+        Stop::Memory
+    }
+}
+
+impl From<ReadFault> for Stop {
+    ghost use Rattle.translate_cmd.specs.Written.{stop_of};
+
+    ghost from_gives = { λ fault made. made ≡ stop_of fault };
+
+    fn from(fault: ReadFault) -> Stop {
+        match fault {
+            ReadFault::Failed => Stop::Failed,
+            ReadFault::Memory => Stop::Memory,
+        }
+    }
+}

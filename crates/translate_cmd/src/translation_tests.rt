@@ -1,0 +1,190 @@
+//! Libraries that are translated, from bytes to bytes.
+use crate::{Status, run};
+use std::alloc::Global;
+use std::test::Fail;
+use text_io::{MemoryDesk, NamedFile, OutSlot};
+
+const THREE_CELLS: &str = "library (L) {
+cell (INV) { pin (A) { direction : input; } pin (Y) { direction : output; function : \"!A\"; } }
+cell (TB) { pin (A) { direction : input; } pin (Y) { direction : output; three_state : \"A\"; function : \"A\"; } }
+cell (BUF) { pin (A) { direction : input; } pin (Y) { direction : output; function : \"A\"; } }
+}
+";
+
+const TWO_MODULES: &str = "`timescale 1ps/1ps
+primitive lib_1_1 (q, i1);
+  output q;
+  input i1;
+  table
+    0 : 1;
+    1 : 0;
+  endtable
+endprimitive
+module INV (A, Y);
+  input A;
+  output Y;
+  lib_1_1 (Y, A);
+endmodule
+primitive lib_3_1 (q, i1);
+  output q;
+  input i1;
+  table
+    1 : 1;
+    0 : 0;
+  endtable
+endprimitive
+module BUF (A, Y);
+  input A;
+  output Y;
+  lib_3_1 (Y, A);
+endmodule
+";
+
+const FLIP_FLOP: &str = "library (L) {
+time_unit : \"1ps\";
+cell (DFFT) {
+ff (IQ, IQN) { next_state : \"D\"; clocked_on : \"CK\"; }
+pin (CK) { direction : input; }
+pin (D) { direction : input;
+timing () { timing_type : setup_rising; related_pin : \"CK\"; rise_constraint (s) { values (\"50\"); } fall_constraint (s) { values (\"50\"); } }
+}
+pin (Q) { direction : output; function : \"IQ\";
+timing () { timing_type : rising_edge; related_pin : \"CK\"; cell_rise (s) { values (\"100\"); } cell_fall (s) { values (\"120\"); } }
+}
+}
+}
+";
+
+const FLIP_FLOP_MODULE: &str = "`timescale 1ps/1ps
+primitive lib_1_1 (q, i1, i2, i3);
+  output q;
+  reg q;
+  input i1;
+  input i2;
+  input i3;
+  table
+    ? ? * : ? : x;
+    (01) 1 ? : ? : 1;
+    (1?) ? ? : 1 : 1;
+    (?0) ? ? : 1 : 1;
+    * 1 ? : 1 : 1;
+    (01) 0 ? : ? : 0;
+    (1?) ? ? : 0 : 0;
+    (?0) ? ? : 0 : 0;
+    * 0 ? : 0 : 0;
+    ? * ? : 1 : 1;
+    ? * ? : 0 : 0;
+  endtable
+endprimitive
+primitive lib_1_2 (q, i1);
+  output q;
+  input i1;
+  table
+    1 : 1;
+    0 : 0;
+  endtable
+endprimitive
+module DFFT (CK, D, Q);
+  input CK;
+  input D;
+  output Q;
+  wire lib_s1;
+  reg lib_n;
+  lib_1_1 (lib_s1, CK, D, lib_n);
+  lib_1_2 (Q, lib_s1);
+  specify
+    (CK => Q) = (100, 120);
+    $setup(D, posedge CK, 50, lib_n);
+  endspecify
+endmodule
+";
+
+const PORTS: &str = "library (L) { cell (P) {
+pin (a) { direction : input; } pin (A) { direction : input; } pin (end) { direction : input; }
+pin (D_1) { direction : output; function : \"1\"; } } }";
+
+const PORTS_MODULE: &str = "`timescale 1ps/1ps
+module P (a, A, pin3, D_1);
+  input a;
+  input A;
+  input pin3;
+  output D_1;
+  buf (D_1, 1'b1);
+endmodule
+";
+
+/// A desk with one file, the library, at which the calls with these numbers fail.
+fn desk(alloc: Global, library: &str, failing: &[u64]) -> Result<MemoryDesk, Fail> {
+    let mut words = Vec::new(alloc);
+    for word in ["translate", "in.lib", "out.v", "out.vhd"] {
+        words.push(String::from_str(alloc, word)?)?;
+    }
+    let mut folder = Vec::new(alloc);
+    folder.push(NamedFile {
+        name: String::from_str(alloc, "in.lib")?,
+        bytes: Vec::from_slice(alloc, library.as_bytes())?,
+    })?;
+    let failing = Vec::from_slice(alloc, failing)?;
+    Ok(MemoryDesk::new(alloc, words, folder, failing, 10000)?)
+}
+
+#[test]
+fn libraries_are_translated(rt: HostRuntime) -> Result<(), Fail> {
+    let alloc = rt.alloc();
+    for (library, status, verilog, report, faults) in [
+        (
+            THREE_CELLS,
+            Status::Cells,
+            TWO_MODULES,
+            "cell 1 INV ok\ncell 2 TB refused 2 three_state at 182\ncell 3 BUF ok\naccepted 2 refused 1\n",
+            "",
+        ),
+        (
+            FLIP_FLOP,
+            Status::Done,
+            FLIP_FLOP_MODULE,
+            "cell 1 DFFT ok\naccepted 1 refused 0\n",
+            "",
+        ),
+        (
+            PORTS,
+            Status::Done,
+            PORTS_MODULE,
+            "cell 1 P ok\naccepted 1 refused 0\n",
+            "",
+        ),
+        (
+            "library (L) { cell (A) { area : \"1",
+            Status::Library,
+            "`timescale 1ps/1ps\n",
+            "",
+            "library refused at 32: text not closed\n",
+        ),
+        (
+            "",
+            Status::Library,
+            "`timescale 1ps/1ps\n",
+            "",
+            "library refused at 0: not a library\n",
+        ),
+    ] {
+        let mut desk = desk(alloc, library, &[])?;
+        assert_eq!(rt; run(alloc, &mut desk), status);
+        assert_eq!(rt; desk.written(OutSlot::VerilogText), verilog.as_bytes());
+        assert_eq!(rt; desk.written(OutSlot::VitalText), b"".as_slice());
+        assert_eq!(rt; desk.written(OutSlot::Report), report.as_bytes());
+        assert_eq!(rt; desk.written(OutSlot::Faults), faults.as_bytes());
+    }
+    Ok(())
+}
+
+#[test]
+fn a_file_that_cannot_be_made_ends_the_run(rt: HostRuntime) -> Result<(), Fail> {
+    let alloc = rt.alloc();
+    let mut desk = desk(alloc, THREE_CELLS, &[2])?;
+    assert_eq!(rt; run(alloc, &mut desk).code(), 7);
+    for slot in [OutSlot::VerilogText, OutSlot::Report, OutSlot::Faults] {
+        assert_eq!(rt; desk.written(slot), b"".as_slice());
+    }
+    Ok(())
+}

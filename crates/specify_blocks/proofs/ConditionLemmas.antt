@@ -1,5 +1,5 @@
 -- The conditions of a cell: each is one of a check or an arc, and each of those has its place among them.
-use Rattle.std.proofs.Common.{◌≡◌, ℕ, zero, suc, ◌+◌, ◌<◌, ◌≤◌, Bool, true, false, not, ◌&&◌, ◌||◌, cond, ◌⊎◌, inl, inr, List, [], ◌∷◌, ◌++◌, length, filter, refl, sym, ap, ◌∙◌, subst, arith, IsTrue, Option, Some, None, slice_get, slice_index, get_or, if◌then◌else◌}
+use Rattle.std.proofs.Common.{◌≡◌, ℕ, zero, suc, ◌+◌, ◌<◌, ◌≤◌, Bool, true, false, not, ◌&&◌, ◌||◌, cond, inl, inr, List, [], ◌∷◌, ◌++◌, length, filter, refl, sym, ap, ◌∙◌, subst, arith, IsTrue, Option, Some, None, slice_get, slice_index, get_or, if◌then◌else◌}
 use Rattle.std.specs.List.{list_any, list_all, flat_map}
 use Rattle.std.specs.List.Sorted.{IsStrictlyIncreasing}
 use Rattle.std.proofs.lemmas.List.Folds.{list_any-append, list_all-append}
@@ -19,7 +19,7 @@ use Rattle.cell_machine.proofs.CellFacts.{list_all-implied}
 use Rattle.cell_machine.proofs.RuleLemmas.{check_parts, arc_condition}
 use Rattle.udp_tables.specs.SameTrees.{same_tree}
 use Rattle.udp_tables.specs.CellData.{CellData}
-use Rattle.udp_tables.specs.Conditions.{condition_list, conditions_beside, conditions_by, arc_conditions, used_conditions, added, added_all, conditions_of, condition_place}
+use Rattle.udp_tables.specs.Conditions.{condition_list, conditions_by, arc_conditions, used_conditions, added, added_all, conditions_of, condition_place}
 use Rattle.udp_tables.proofs.SameTreeLemmas.{same_tree-refl}
 use Rattle.specify_blocks.proofs.InstanceLemmas.{or-left, or-right}
 

@@ -1,17 +1,13 @@
 -- The definitions at small cells, by computing.
-use Rattle.std.proofs.Common.{◌≡◌, ℕ, Bool, true, false, List, [], ◌∷◌, Option, Some, None, map, codes, refl}
+use Rattle.std.proofs.Common.{◌≡◌, true, false, List, [], ◌∷◌, None, map, codes, refl}
 use Rattle.bool_functions.specs.declared.tree.Node.TheVariants as node
 use Rattle.cell_machine.specs.declared.pins.Direction.TheVariants as direction
 use Rattle.cell_machine.specs.declared.pins.Pin.{Pin}
 use Rattle.cell_machine.specs.declared.groups.Both.TheVariants as both
 use Rattle.cell_machine.specs.declared.groups.GroupKind.TheVariants as kind
-use Rattle.cell_machine.specs.declared.groups.StateGroup.{StateGroup}
 use Rattle.cell_machine.specs.declared.outputs.Source.TheVariants as source
-use Rattle.cell_machine.specs.declared.outputs.OutputPin.{OutputPin}
 use Rattle.cell_machine.specs.declared.checks.CheckKind.TheVariants as check_kind
 use Rattle.cell_machine.specs.declared.checks.Edge.TheVariants as edge
-use Rattle.cell_machine.specs.declared.checks.Check.{Check}
-use Rattle.cell_machine.specs.declared.arcs.Arc.{Arc}
 use Rattle.verilog_names.specs.Words.{verilog_words, is_verilog_word}
 use Rattle.verilog_names.specs.Kept.{is_kept_name}
 use Rattle.udp_tables.specs.CellData.{CellData}

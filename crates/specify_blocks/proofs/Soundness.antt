@@ -1,5 +1,5 @@
 -- The module of a cell is sound.
-use Rattle.std.proofs.Common.{◌≡◌, ℕ, zero, suc, ◌+◌, ◌*◌, ◌<◌, ◌≤◌, Bool, true, false, not, ◌&&◌, ◌||◌, cond, List, [], ◌∷◌, ◌++◌, length, map, refl, sym, ap, ◌∙◌, subst, arith, IsTrue, Option, Some, None, is_some, option_map, slice_get, slice_index_or, get_or, nat_eq, nat_lt, All, codes, length-append, if◌then◌else◌}
+use Rattle.std.proofs.Common.{◌≡◌, ℕ, zero, suc, ◌+◌, ◌<◌, ◌≤◌, Bool, true, false, not, ◌&&◌, List, [], ◌∷◌, ◌++◌, length, map, refl, sym, ap, ◌∙◌, subst, arith, IsTrue, Option, Some, None, is_some, option_map, slice_get, get_or, nat_eq, nat_lt, All, codes, length-append, if◌then◌else◌}
 use Rattle.std.specs.List.{list_any, list_all}
 use Rattle.std.specs.Option.{option_map_or}
 use Rattle.std.proofs.lemmas.List.{length-map, append-nil}
@@ -7,7 +7,6 @@ use Rattle.std.proofs.lemmas.List.Elements.{All-nil, All-cons, All-map, All-appe
 use Rattle.std.proofs.lemmas.List.Folds.{list_any-append, list_all-append}
 use Rattle.std.proofs.lemmas.Option.{slice_get_within, get_or_from_slice_get, slice_get-get_or, slice_get-map}
 use Rattle.std.proofs.lemmas.Bool.{and_parts, and_from, lt-ltb, ltb-true, ltb-false, eq-eqb, eqb-true}
-use Rattle.trit_cubes.specs.declared.trits.Trit.{Trit}
 use Rattle.bool_functions.specs.declared.tree.Node.{Node}
 use Rattle.bool_functions.specs.declared.tree.Node.TheVariants as node
 use Rattle.bool_functions.specs.Tree.{value_of}
@@ -19,26 +18,20 @@ use Rattle.cell_machine.specs.declared.outputs.Source.TheVariants as source
 use Rattle.cell_machine.specs.declared.outputs.OutputPin.{OutputPin}
 use Rattle.cell_machine.specs.declared.checks.CheckKind.{CheckKind}
 use Rattle.cell_machine.specs.declared.checks.CheckKind.TheVariants as check_kind
-use Rattle.cell_machine.specs.declared.checks.Edge.{Edge}
 use Rattle.cell_machine.specs.declared.checks.Check.{Check}
 use Rattle.cell_machine.specs.declared.arcs.Arc.{Arc}
 use Rattle.cell_machine.specs.Names.{source_name}
 use Rattle.cell_machine.specs.Values.{no_values}
-use Rattle.cell_machine.specs.Supports.{Ascending}
-use Rattle.cell_machine.specs.CellRules.{is_ascending, is_input_pin, is_output_pin, output_pins_from, is_output, is_support, is_group, are_groups_from, are_groups, is_source, is_output_of, are_outputs, has_events, are_opposite, is_any_edge, is_check, are_checks, is_arc, are_arcs, HoldsRules, longest_time, is_condition, is_in_order}
+use Rattle.cell_machine.specs.CellRules.{is_ascending, is_input_pin, is_output_pin, output_pins_from, is_output, is_support, is_group, are_groups_from, is_source, is_output_of, has_events, are_opposite, is_any_edge, is_check, is_arc, HoldsRules, is_in_order}
 use Rattle.cell_machine.proofs.OutputFacts.{all-at}
 use Rattle.cell_machine.proofs.StepLemmas.{ascending}
 use Rattle.cell_machine.proofs.RuleLemmas.{check_parts}
 use Rattle.udp_tables.specs.declared.table.Udp.{Udp}
-use Rattle.udp_tables.specs.declared.table.UdpRow.{UdpRow}
-use Rattle.udp_tables.specs.Primitive.{IsCombinational}
-use Rattle.udp_tables.specs.PortNames.{input_names}
 use Rattle.udp_tables.specs.SameTrees.{same_tree}
 use Rattle.udp_tables.specs.Edges.{each_below}
 use Rattle.udp_tables.specs.CellData.{CellData}
 use Rattle.udp_tables.specs.Conditions.{conditions_of, condition_place}
-use Rattle.udp_tables.specs.CellPrimitives.{has_notifier, group_support, step_of_group, group_inputs, group_primitive, condition_tree, condition_primitive, has_sources, sources_at, output_primitive, output_value_at, primitive_name, output_number, condition_number}
-use Rattle.udp_tables.specs.Generated.{primitive_of}
+use Rattle.udp_tables.specs.CellPrimitives.{has_notifier, group_support, group_inputs, group_primitive, condition_tree, condition_primitive, has_sources, sources_at, output_primitive, output_value_at, primitive_name, output_number, condition_number}
 use Rattle.udp_tables.proofs.TableLemmas.{primitive-combinational}
 use Rattle.udp_tables.proofs.CellLaws.{groups_are_sequential-lem}
 use Rattle.cell_machine.specs.Outputs.{condition_at}
@@ -47,12 +40,11 @@ use Rattle.specify_blocks.specs.declared.model.VNet.TheVariants as net
 use Rattle.specify_blocks.specs.declared.model.Instance.{Instance}
 use Rattle.specify_blocks.specs.declared.model.Instance.TheVariants as instance
 use Rattle.specify_blocks.specs.declared.model.Gate.TheVariants as gate
-use Rattle.specify_blocks.specs.declared.model.VModule.{VModule}
 use Rattle.specify_blocks.specs.Nets.{same_net, are_apart, is_sequential, is_driven, net_driven, has_state, is_state, is_value, feeds_state, feeds_value, drivers}
-use Rattle.specify_blocks.specs.Sound.{IsTable, IsPrimitive, IsInstance, AreInstances, is_gate, IsPath, has_written_events, is_enabling, IsCheck, IsSound}
+use Rattle.specify_blocks.specs.Sound.{IsTable, IsInstance, AreInstances, is_gate, IsPath, has_written_events, is_enabling, IsCheck, IsSound}
 use Rattle.specify_blocks.specs.Names.{notifier_name, state_wires, condition_wires}
-use Rattle.specify_blocks.specs.Ports.{port_number, ports_from}
-use Rattle.specify_blocks.specs.Generated.{condition_count, wires_of, notifier_of, pin_net, source_net, notifier_nets, condition_wire, each_from, group_instance, condition_instance, output_instance, after_output, output_instances, instances_of, output_primitives, group_primitives, condition_primitives, primitives_of, wire_of, is_conditional, gate_by, path_of, check_of, module_of}
+use Rattle.specify_blocks.specs.Ports.{port_number}
+use Rattle.specify_blocks.specs.Generated.{condition_count, wires_of, notifier_of, pin_net, source_net, notifier_nets, condition_wire, each_from, group_instance, condition_instance, output_instances, instances_of, output_primitives, group_primitives, condition_primitives, primitives_of, wire_of, is_conditional, gate_by, path_of, check_of, module_of}
 use Rattle.specify_blocks.proofs.OutputPins.{outputs_are_pins}
 use Rattle.specify_blocks.proofs.PortLemmas.{input_port, output_port, hits, output_once}
 use Rattle.specify_blocks.proofs.InstanceLemmas.{drivers-append, or-left, or-right, is_state-more, no_port, wire_before, wire_after, wire_once, no_wire, port_hits, are-append, each_are, any_each}

@@ -1,9 +1,8 @@
 -- The next cell of a library.
-use Rattle.std.proofs.Common.{◌≡◌, ℕ, List, Option, Some, None, ◌∙◌, ap}
+use Rattle.std.proofs.Common.{◌≡◌, ℕ, List, Some, None, ◌∙◌, ap}
 use Rattle.liberty_groups.specs.declared.tree.Group.{Group}
 use Rattle.cell_machine.specs.declared.cells.Cell.{Cell}
-use Rattle.timing_arcs.specs.declared.subject.Subject.{Subject}
-use Rattle.udp_tables.specs.CellData.{CellData, data_of}
+use Rattle.udp_tables.specs.CellData.{data_of}
 use Rattle.cell_reader.specs.declared.refusal.Refusal.{Refusal}
 use Rattle.cell_reader.specs.declared.left_out.LeftOut.{LeftOut}
 use Rattle.cell_parts.specs.Groups.{cell_name}
@@ -11,7 +10,7 @@ use Rattle.cell_reader.specs.CellTexts.{subject_of, IsCellOf}
 use Rattle.cell_reader.specs.Refusals.{refusal_of, left_out_of}
 use Rattle.library_report.specs.CellLines.{refused_line}
 use Rattle.translate_cmd.specs.declared.progress.Progress.{Progress}
-use Rattle.translate_cmd.specs.Written.{Written, in_report}
+use Rattle.translate_cmd.specs.Written.{in_report}
 use Rattle.translate_cmd.specs.Cells.{next_number, next_refusal, next_data, next_left_out, accepted_written, written_by}
 
 -- the cell that a group describes has the data of the next cell

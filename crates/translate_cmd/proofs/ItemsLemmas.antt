@@ -14,7 +14,6 @@ use Rattle.text_io.specs.declared.slots.OutSlot.TheVariants.{Report}
 use Rattle.text_io.specs.Desk.{DeskState, took, wrote, WritesText}
 use Rattle.text_io.specs.declared.reading.Taken.{Taken}
 use Rattle.text_io.specs.Read.{IsRead, ReadsAtMost}
-use Rattle.text_io.proofs.Took.{took-zero}
 use Rattle.translate_cmd.specs.declared.stop.Stop.{Stop}
 use Rattle.translate_cmd.specs.declared.progress.Progress.{Progress}
 use Rattle.translate_cmd.specs.declared.items.Ending.{Ending}

@@ -4,7 +4,7 @@ use Rattle.std.proofs.lemmas.List.{append-nil}
 use Rattle.text_io.specs.declared.outside.Failed.{Failed}
 use Rattle.text_io.specs.declared.slots.InSlot.TheVariants.{Library}
 use Rattle.text_io.specs.declared.slots.OutSlot.TheVariants.{Report, Faults}
-use Rattle.text_io.specs.Desk.{DeskState, Folder, took, wrote, IsPrefix, WritesText}
+use Rattle.text_io.specs.Desk.{DeskState, took, wrote, IsPrefix, WritesText}
 use Rattle.text_io.proofs.Wrote.{wrote-nil}
 use Rattle.text_io.proofs.Took.{took-zero}
 use Rattle.udp_tables.specs.declared.table.Udp.{Udp}
@@ -15,7 +15,7 @@ use Rattle.translate_cmd.specs.declared.asked.Command.{Command}
 use Rattle.translate_cmd.specs.declared.asked.Command.TheVariants as command
 use Rattle.translate_cmd.specs.Status.{is_decided}
 use Rattle.translate_cmd.specs.Reading.{reading}
-use Rattle.translate_cmd.specs.Written.{Written, nothing_written, in_report, wrote_all}
+use Rattle.translate_cmd.specs.Written.{nothing_written, in_report, wrote_all}
 use Rattle.translate_cmd.specs.Binding.{Nothing, IsBoundBy}
 use Rattle.translate_cmd.specs.Runs.{Runs}
 use Rattle.translate_cmd.proofs.WrittenLaws.{wrote_all-nothing, wrote_all-report, IsPart-nothing}

@@ -1,5 +1,5 @@
 -- Translating a library: binding its files, and what stands on the desk at each exit.
-use Rattle.std.proofs.Common.{◌≡◌, ℕ, Bool, true, false, List, [], ◌∷◌, ◌++◌, Option, Some, None, Result, Ok, Err, IsTrue, IsErr, IsSome, IfOk, IfSome, OnOk, OnErr, codes, slice_get, unwrap_or, if◌then◌else◌, refl, sym, ap, subst, ◌∙◌}
+use Rattle.std.proofs.Common.{◌≡◌, ℕ, Bool, true, false, List, [], ◌∷◌, Option, Some, None, Result, Ok, Err, IsTrue, IsErr, IsSome, IfOk, IfSome, OnOk, OnErr, codes, slice_get, unwrap_or, if◌then◌else◌, refl, sym, ap, subst, ◌∙◌}
 use Rattle.std.proofs.lemmas.List.{append-nil}
 use Rattle.std.specs.Option.{option_map, option_and_then}
 use Rattle.std.specs.Str.{bytes_eq}
@@ -10,7 +10,7 @@ use Rattle.text_io.specs.declared.slots.Slot.{Slot}
 use Rattle.text_io.specs.declared.slots.Slot.TheVariants.{Input, Output}
 use Rattle.text_io.specs.Plan.{plan, are_file_words}
 use Rattle.text_io.specs.Desk.{DeskState, Folder, is_bound, file_of, opened, created, took, wrote, IsFileAt, IsPrefix, WritesText}
-use Rattle.text_io.proofs.Wrote.{wrote-nil, wrote-wrote}
+use Rattle.text_io.proofs.Wrote.{wrote-nil}
 use Rattle.text_io.proofs.Took.{took-zero}
 use Rattle.udp_tables.specs.declared.table.Udp.{Udp}
 use Rattle.verilog_writer.specs.Model.{prelude_text}
@@ -20,16 +20,14 @@ use Rattle.translate_cmd.specs.declared.stop.Stop.{Stop}
 use Rattle.translate_cmd.specs.declared.progress.Progress.{Progress}
 use Rattle.translate_cmd.specs.Items.{LibraryItem, items_within}
 use Rattle.translate_cmd.specs.declared.items.Ending.{Ending}
-use Rattle.translate_cmd.specs.declared.items.Ending.TheVariants as ending
-use Rattle.translate_cmd.specs.declared.asked.Command.{Command}
 use Rattle.translate_cmd.specs.declared.asked.Command.TheVariants as command
 use Rattle.translate_cmd.specs.Status.{is_decided}
 use Rattle.translate_cmd.specs.Reading.{reading, translate_reading, udp_reading, udp_command, asked_primitive}
 use Rattle.translate_cmd.specs.Written.{Written, nothing_written, in_verilog, in_report, joined, IsPart, wrote_all}
 use Rattle.translate_cmd.specs.Cells.{no_progress, progress_after, items_written}
-use Rattle.translate_cmd.specs.Binding.{Bound, Nothing, LibraryAlone, WithVerilog, WithVital, bound_state, IsLibrary, Binds}
-use Rattle.translate_cmd.specs.Library.{library_limit, ending_of, last_line, fault_line, status_at, Outcome, outcome_at, translate_outcome, IsPartOf, IsAllOf, IsHandled, Handles, IsFinished, Finishes, Translates}
-use Rattle.translate_cmd.specs.Outcome.{library_bytes, outcome, Tells}
+use Rattle.translate_cmd.specs.Binding.{Bound, WithVerilog, WithVital, bound_state, IsLibrary, Binds}
+use Rattle.translate_cmd.specs.Library.{library_limit, last_line, fault_line, status_at, outcome_at, translate_outcome, IsPartOf, IsAllOf, IsHandled, Handles, IsFinished, Finishes, Translates}
+use Rattle.translate_cmd.specs.Outcome.{library_bytes}
 use Rattle.translate_cmd.specs.Runs.{Runs}
 use Rattle.translate_cmd.proofs.WrittenLaws.{wrote_all-nothing, wrote_all-joined, wrote_all-verilog, wrote_all-report, took-wrote_all, IsPart-nothing, IsPart-after, IsPart-front}
 

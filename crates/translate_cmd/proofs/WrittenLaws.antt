@@ -1,5 +1,5 @@
 -- Laws of what a command appends to its three outputs.
-use Rattle.std.proofs.Common.{◌≡◌, ℕ, ◌≤◌, List, [], ◌++◌, Option, Some, None, Result, Ok, Err, IsErr, OnErr, IfErr, refl, sym, ap, ◌∙◌, append_assoc, IsTrue}
+use Rattle.std.proofs.Common.{◌≡◌, ℕ, List, [], ◌++◌, Option, Some, None, Result, Ok, Err, IsErr, refl, sym, ap, ◌∙◌, append_assoc, IsTrue}
 use Rattle.std.specs.Option.{option_map}
 use Rattle.std.proofs.lemmas.List.{append-nil}
 use Rattle.text_io.specs.declared.outside.Failed.{Failed}
@@ -10,7 +10,7 @@ use Rattle.text_io.specs.declared.slots.Slot.{Slot}
 use Rattle.text_io.specs.Desk.{DeskState, is_bound, took, wrote, IsPrefix, WritesText}
 use Rattle.text_io.proofs.Wrote.{IsPrefix-append, IsPrefix-front}
 use Rattle.translate_cmd.specs.declared.stop.Stop.{Stop}
-use Rattle.translate_cmd.specs.Written.{Written, nothing_written, in_verilog, in_report, joined, IsPart, wrote_all, WritesPart, Writes}
+use Rattle.translate_cmd.specs.Written.{Written, nothing_written, in_verilog, in_report, joined, IsPart, wrote_all, Writes}
 
 appended-nil : (known : Option (List ℕ)) → option_map (λ before. before ++ []) known ≡ known
 appended-nil None = refl

@@ -1,6 +1,5 @@
 -- What becomes of one item of a library: the models of a cell and the lines of the report. This project's rules.
-use Rattle.std.specs.Prelude.{ℕ, ◌+◌, Bool, List, [], ◌∷◌, ◌++◌, codes, Option, Some, None, is_none, is_some, if◌then◌else◌}
-use Rattle.liberty_text.specs.declared.time.Unit.{Unit}
+use Rattle.std.specs.Prelude.{ℕ, ◌+◌, Bool, List, [], ◌∷◌, ◌++◌, Option, Some, None, is_none, is_some, if◌then◌else◌}
 use Rattle.liberty_text.specs.declared.time.Unit.TheVariants.{Ns1}
 use Rattle.liberty_groups.specs.declared.tree.Group.{Group}
 use Rattle.bool_functions.specs.NameList.{number_of}

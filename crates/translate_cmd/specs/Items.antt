@@ -1,5 +1,5 @@
 -- The items of a library in the order of the file (Liberty Reference Manual, the `library` group).
-use Rattle.std.specs.Prelude.{ℕ, ◌+◌, Bool, not, List, [], ◌∷◌, ◌++◌, map, take, drop, length, nat_le, nat_lt, position, unwrap_or, Option, codes, Some, None, if◌then◌else◌}
+use Rattle.std.specs.Prelude.{ℕ, ◌+◌, not, List, [], ◌∷◌, ◌++◌, map, take, drop, length, nat_lt, Option, codes, Some, None, if◌then◌else◌}
 use Rattle.std.specs.Str.{bytes_eq}
 use Rattle.liberty_text.specs.declared.time.Unit.{Unit}
 use Rattle.liberty_text.specs.declared.time.Unit.TheVariants.{Ps1, Ps10, Ps100, Ns1}

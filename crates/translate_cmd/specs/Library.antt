@@ -1,6 +1,5 @@
 -- What translating a library comes to. This project's rules.
-use Rattle.std.specs.Prelude.{◌≡◌, ℕ, Bool, true, false, List, [], ◌++◌, take, length, nat_lt, nat_eq, Result, IfOk, IfSome, if◌then◌else◌}
-use Rattle.liberty_groups.specs.declared.fault.LibraryFault.{LibraryFault}
+use Rattle.std.specs.Prelude.{◌≡◌, ℕ, List, [], nat_eq, Result, IfOk, IfSome, if◌then◌else◌}
 use Rattle.liberty_groups.specs.declared.read.End.{End}
 use Rattle.liberty_groups.specs.declared.read.End.TheVariants as ends
 use Rattle.translate_cmd.specs.Items.{LibraryItem, items_within, end_within}
@@ -17,7 +16,7 @@ use Rattle.translate_cmd.specs.declared.stop.Stop.{Stop}
 use Rattle.translate_cmd.specs.declared.progress.Progress.{Progress}
 use Rattle.translate_cmd.specs.declared.items.Ending.{Ending}
 use Rattle.translate_cmd.specs.declared.items.Ending.TheVariants as ending
-use Rattle.translate_cmd.specs.Written.{Written, nothing_written, in_verilog, in_report, joined, IsPart, wrote_all}
+use Rattle.translate_cmd.specs.Written.{Written, in_verilog, in_report, joined, IsPart, wrote_all}
 use Rattle.translate_cmd.specs.Cells.{no_progress, progress_after, items_written}
 
 -- the most bytes that a library may have

@@ -1,5 +1,5 @@
 -- What words ask for. This project's rule; names are kept as in Verilog text, and function texts are Liberty's.
-use Rattle.std.specs.Prelude.{ℕ, Bool, true, false, ◌&&◌, List, [], ◌∷◌, length, nat_le, codes, Option, Some, None, Result, Ok, Err, if◌then◌else◌}
+use Rattle.std.specs.Prelude.{ℕ, ◌&&◌, List, [], ◌∷◌, length, nat_le, codes, Option, Some, None, Result, Ok, Err, if◌then◌else◌}
 use Rattle.std.specs.Str.{bytes_eq}
 use Rattle.bool_functions.specs.declared.tree.Node.{Node}
 use Rattle.bool_functions.specs.declared.faults.FunctionFault.{FunctionFault}

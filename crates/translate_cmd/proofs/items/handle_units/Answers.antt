@@ -1,4 +1,4 @@
-use Rattle.std.proofs.Common.{sym, ap, ◌∙◌, map, ◌≡◌}
+use Rattle.std.proofs.Common.{ap, ◌∙◌, map}
 use Rattle.std.proofs.lemmas.List.{take_all}
 use Rattle.translate_cmd.specs.Items.{unit_of, unit_item}
 use Rattle.translate_cmd.specs.Cells.{progress_after}

@@ -1,6 +1,6 @@
 //! The next item.
 
-ghost use Rattle.std.specs.Prelude.{◌≡◌, ℕ, true, false, ◌<◌, ◌≤◌, ◌+◌, List, [], reverse, length, IsTrue, OnOk, OnErr, IfOk, IfErr, Some, None, ◌⊎◌};
+ghost use Rattle.std.specs.Prelude.{◌≡◌, ℕ, true, false, ◌<◌, ◌≤◌, ◌+◌, List, [], reverse, length, IsTrue, IsOk, OnOk, OnErr, IfOk, IfErr, Some, None, ◌⊎◌};
 ghost use Rattle.text_io.specs.declared.slots.InSlot.TheVariants.{Library};
 ghost use Rattle.text_io.specs.declared.slots.Slot.TheVariants.{Input};
 ghost use Rattle.text_io.specs.Desk.{is_bound, Rose};
@@ -23,8 +23,9 @@ use std::alloc::Global;
 use text_io::{Desk, InSlot};
 
 impl CellCursor {
-    /// A cursor that has read nothing. It will read at most `limit` bytes of the library, and one more.
+    /// A cursor that has read nothing. It will read at most `limit` bytes of the library, and one more. So far it takes no memory.
     pub fn new(alloc: Global, limit: usize) -> Result<CellCursor, Memory>
+        ensures made { IsOk result }
         ensures stands { IfOk result (λ cursor. Stands cursor [] []) }
         ensures limit { IfOk result (λ cursor. cursor.limit ≡ limit) }
     {

@@ -12,7 +12,10 @@ use Rattle.cell_cursor.specs.declared.part.Place.{Place}
 use Rattle.cell_cursor.specs.Finish.{part_halt, may_go_on, answer_by, answer_at}
 use Rattle.cell_cursor.specs.Progress.{taken_by, to_do}
 use Rattle.cell_cursor.specs.Scanned.{stop_behind}
-use Rattle.cell_cursor.specs.Stands.{is_going, is_failed, is_ended}
+use Rattle.cell_cursor.specs.declared.item.LibraryItem.{LibraryItem}
+use Rattle.cell_cursor.specs.declared.item.LibraryItem.TheVariants as item
+use Rattle.cell_cursor.specs.Items.{next_of}
+use Rattle.cell_cursor.specs.Stands.{given_next, is_going, is_failed, is_ended}
 
 -- a byte was scanned, and the rest of the piece is shorter
 pub less_to_do : (o m n : CellCursor) → m.limit ≡ o.limit → taken_by m ≡ taken_by o → length m.piece < length o.piece → n.limit ≡ m.limit → taken_by n ≡ taken_by m → n.piece ≡ m.piece → to_do n < to_do o
@@ -108,3 +111,13 @@ failed_since first old new a b c e h i j f = inr (rose_since a b c h (j f))
 
 pub none_popped : {T : Type 0} (old new : List T) (x : T) → old ≡ new ++ option_to_list (Some x) → old ≡ [] → ⊥
 none_popped old new x e f = let k = ap length (sym e ∙ f) in absurd (omega (arith, k, length-append new (x ∷ [])))
+
+-- a cursor that had an answer does not go on
+pub not_going : {B : Type 0} (now first : Option Answer) → now ≡ None → is_going first ≡ false → now ≡ first → B
+not_going now first e g k = absurd (let h : true ≡ false = sym (ap is_going (sym k ∙ e)) ∙ g in cc)
+
+-- an item is given
+pub item_given : (x : LibraryItem) → given_next (next_of x) ≡ [] → ⊥
+item_given (item.Cell group) e = cc
+item_given (item.Unit unit) e = cc
+item_given (item.LeftOut at) e = cc

@@ -120,6 +120,10 @@ pub record IsSettled (c : CellCursor) (a : Answer) : Type 0 where
   pub none_waits : c.waiting.items ≡ []
   pub settled : c.answer ≡ Some a
 
+-- The call returned the answer at which the cursor is settled from now on.
+abbrev pub IsAnswered : CellCursor → Result Next CursorFault → Type 0
+IsAnswered c result = (a : Answer) × IsSettled c a × (result ≡ answered a)
+
 -- A settled cursor answers as before, and reads nothing.
 pub record StaysSettled (a : Answer) (new : CellCursor) (before after : DeskState) (result : Result Next CursorFault) : Type 0 where
   pub same : IsSettled new a

@@ -9,7 +9,7 @@ ghost use Rattle.cell_cursor.specs.Finish.{part_outcome, answer_at};
 ghost use Rattle.cell_cursor.specs.Items.{items_in};
 ghost use Rattle.cell_cursor.specs.Progress.{taken_by, to_do};
 ghost use Rattle.cell_cursor.specs.declared.item.LibraryItem.{LibraryItem as Given};
-ghost use Rattle.cell_cursor.specs.Stands.{answered, given_by, is_going, is_failed, is_ended, is_library, Stands, Scans, Advances, Moves, IsSettled, StaysSettled};
+ghost use Rattle.cell_cursor.specs.Stands.{answered, given_by, is_going, is_failed, is_ended, is_library, Stands, Scans, Advances, Moves, IsSettled, IsAnswered, StaysSettled};
 
 use crate::cursor::{Answer, CellCursor};
 use crate::fault::{CursorFault, Memory};
@@ -27,6 +27,7 @@ impl CellCursor {
     pub fn new(alloc: Global, limit: usize) -> Result<CellCursor, Memory>
         ensures made { IsOk result }
         ensures stands { IfOk result (λ cursor. Stands cursor [] []) }
+        ensures going { IfOk result (λ cursor. cursor.answer ≡ None) }
         ensures limit { IfOk result (λ cursor. cursor.limit ≡ limit) }
     {
         Ok(CellCursor {
@@ -200,9 +201,12 @@ impl CellCursor {
     pub fn next_cell<D: Desk>(&mut self, desk: &mut D) -> Result<Next, CursorFault>
         requires { IsTrue (is_bound (D.state desk.old) (Input Library)) }
         ensures moves { Moves self.old self.new (D.state desk.old) (D.state desk.new) (given_by result) }
+        ensures answered { given_by result ≡ [] → IsAnswered self.new result }
+        ensures kept { is_going self.old.answer ≡ false → self.new.answer ≡ self.old.answer }
         ensures settled { (a : Answer) → IsSettled self.old a → StaysSettled a self.new (D.state desk.old) (D.state desk.new) result }
         ensures later { D.faults desk.old ≤ D.faults desk.new }
         ensures failed { IfErr result (λ fault. fault ≡ CursorFault.Failed → (is_failed self.old.answer ≡ true) ⊎ Rose (D.faults desk.old) (D.faults desk.new)) }
+        ensures failing { is_failed self.new.answer ≡ true → (is_failed self.old.answer ≡ true) ⊎ Rose (D.faults desk.old) (D.faults desk.new) }
     {
         loop {
             if let Some(item) = self.waiting.pop() {

@@ -3,7 +3,7 @@ use Rattle.std.specs.Option.{option_to_list}
 use Rattle.text_io.specs.declared.slots.InSlot.TheVariants.{Library}
 use Rattle.text_io.specs.declared.slots.Slot.TheVariants.{Input}
 use Rattle.cell_cursor.specs.Stands.{is_going}
-use Rattle.cell_cursor.proofs.SeekingLemmas.{smaller, rose_since, no_answer}
+use Rattle.cell_cursor.proofs.SeekingLemmas.{smaller, rose_since, no_answer, not_going, item_given}
 use Rattle.cell_cursor.proofs.StandsLemmas.{moves_nothing, moves_through, moves_given, moves_answered}
 use Rattle.cell_cursor.proofs.TakingLemmas.{bound_yet}
 use Rattle.cell_cursor.proofs.cursor.CellCursor.next_cell.Goals as goal
@@ -13,6 +13,7 @@ loop-item-init g c = record {
   moves = moves_nothing c.args.self.now _;
   later = omega arith;
   settled = λ a h. (h, refl);
+  kept = λ h. refl;
   failed = λ h. inl h;
 }
 
@@ -30,8 +31,16 @@ loop-item-preserved g c =
       moves = moves_through _ _ _ _ _ _ _ _ refl refl refl refl refl same (ap is_going none) c.loop-item.invariant.moves c.go_on.ensures.moves;
       later = omega (arith, c.loop-item.invariant.later, c.go_on.ensures.later);
       settled = λ a h. no_answer c.loop-item.self.answer a none (c.loop-item.invariant.settled a h).0.settled;
+      kept = λ h. not_going _ _ none h (c.loop-item.invariant.kept h);
       failed = λ f. inr (rose_since _ _ _ c.loop-item.invariant.later (c.go_on.ensures.failed f));
     }
+
+pub returns-in-Some-clause-answered : goal.returns-in-Some-clause-answered
+returns-in-Some-clause-answered g c = λ none. absurd (item_given c.in-Some.item (rw c.next_of.ensures at none))
+
+pub returns-in-Some-answer-clause-answered : goal.returns-in-Some-answer-clause-answered
+returns-in-Some-answer-clause-answered g c =
+    λ none. (c.in-Some-answer.answer, record { none_waits = search rules; settled = search rules }, c.answered.ensures)
 
 pub returns-in-Some-clause-moves : goal.returns-in-Some-clause-moves
 returns-in-Some-clause-moves g c =

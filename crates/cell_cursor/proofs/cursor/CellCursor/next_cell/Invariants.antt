@@ -1,4 +1,4 @@
-use Rattle.std.proofs.Common.{◌≡◌, ◌⊎◌, ◌≤◌, ◌+◌, true, [], cond}
+use Rattle.std.proofs.Common.{◌≡◌, ◌⊎◌, ◌≤◌, ◌+◌, true, false, [], cond}
 use Rattle.text_io.specs.Desk.{Rose}
 use Rattle.cell_cursor.specs.declared.cursor.Answer.{Answer}
 use Rattle.cell_cursor.specs.Progress.{to_do}
@@ -10,6 +10,7 @@ invariant-loop-item g l = record {
   moves : Moves l.initial.self l.self (g.D.Desk.state l.initial.desk) (g.D.Desk.state l.desk) [];
   later : g.D.Desk.faults l.initial.desk ≤ g.D.Desk.faults l.desk;
   settled : (a : Answer) → IsSettled l.initial.self a → IsSettled l.self a × (g.D.Desk.state l.desk ≡ g.D.Desk.state l.initial.desk);
+  kept : is_going l.initial.self.answer ≡ false → l.self.answer ≡ l.initial.self.answer;
   failed : is_failed l.self.answer ≡ true → (is_failed l.initial.self.answer ≡ true) ⊎ Rose (g.D.Desk.faults l.initial.desk) (g.D.Desk.faults l.desk);
 }
 

@@ -1,29 +1,32 @@
--- Handling the items of a library.
-use Rattle.std.proofs.Common.{◌≡◌, ℕ, ◌+◌, ◌≤◌, ◌<◌, Bool, not, List, [], ◌∷◌, ◌++◌, take, drop, length, map, nat_lt, get_or, true, false, Option, Some, None, Result, Ok, Err, IsErr, IfOk, IfSome, OnOk, is_none, refl, sym, ap, subst, ◌∙◌, append_assoc, arith, if◌then◌else◌}
-use Rattle.std.specs.List.{flat_map}
-use Rattle.std.proofs.lemmas.List.{append-nil, take_more, map-append, drop_more, drop_all}
-use Rattle.std.proofs.lemmas.Bool.Decides.{nat_tests}
-use Rattle.liberty_groups.specs.declared.tree.Group.{Group}
-use Rattle.liberty_groups.specs.declared.contents.UnitLine.{UnitLine}
-use Rattle.liberty_groups.specs.declared.read.End.{End}
-use Rattle.liberty_groups.specs.Library.{Found}
-use Rattle.liberty_groups.specs.Answer.{found_of_bytes, end_of_bytes}
-use Rattle.text_io.specs.declared.outside.Failed.{Failed}
+-- Handling the items of a library one after another.
+use Rattle.std.proofs.Common.{◌≡◌, ℕ, ◌+◌, ◌≤◌, Bool, true, false, List, [], ◌∷◌, ◌++◌, reverse, take, drop, length, Option, Some, None, Result, Ok, Err, IsErr, IfOk, IfSome, is_none, ◌⊎◌, inl, inr, refl, sym, ap, subst, ◌∙◌, append_assoc, length-append, length-drop, arith}
+use Rattle.std.proofs.lemmas.List.{append-nil, take-append-drop, drop_all}
+use Rattle.std.proofs.Math.Seq.{take-add}
+use Rattle.std.specs.Option.{option_map}
 use Rattle.text_io.specs.declared.slots.InSlot.TheVariants.{Library}
-use Rattle.text_io.specs.declared.slots.OutSlot.TheVariants.{Report}
-use Rattle.text_io.specs.Desk.{DeskState, took, wrote, WritesText}
-use Rattle.text_io.specs.declared.reading.Taken.{Taken}
-use Rattle.text_io.specs.Read.{IsRead, ReadsAtMost}
+use Rattle.text_io.specs.Desk.{DeskState, took, wrote, Rose}
+use Rattle.text_io.proofs.Took.{took-zero, took-took, left_after}
+use Rattle.cell_cursor.specs.declared.item.LibraryItem.{LibraryItem}
+use Rattle.cell_cursor.specs.declared.item.LibraryItem.TheVariants as item
+use Rattle.cell_cursor.specs.declared.cursor.Answer.{Answer}
+use Rattle.cell_cursor.specs.declared.cursor.Answer.TheVariants as answer
+use Rattle.cell_cursor.specs.declared.cursor.CellCursor.{CellCursor}
+use Rattle.cell_cursor.specs.declared.fault.CursorFault.TheVariants as fault
+use Rattle.cell_cursor.specs.Ends.{items_within, end_within}
+use Rattle.cell_cursor.specs.Taking.{Takes}
+use Rattle.cell_cursor.specs.Stands.{Knows, Stands, Moves, is_ended, is_going, is_failed, NothingLeft}
+use Rattle.cell_cursor.proofs.StandsLemmas.{first_of_going}
 use Rattle.translate_cmd.specs.declared.stop.Stop.{Stop}
 use Rattle.translate_cmd.specs.declared.progress.Progress.{Progress}
 use Rattle.translate_cmd.specs.declared.items.Ending.{Ending}
-use Rattle.translate_cmd.specs.Written.{Written, nothing_written, in_report, joined, IsPart, wrote_all, Writes}
-use Rattle.translate_cmd.specs.Items.{LibraryItem, Cell, units_before, files_before, unit_item, file_item, others_of, items_from, items_found, items_within, end_within}
-use Rattle.translate_cmd.specs.Cells.{next_refusal, item_written, after_item, after_cell, progress_after, items_written, file_line}
+use Rattle.translate_cmd.specs.declared.items.Ending.TheVariants as ending
+use Rattle.translate_cmd.specs.Written.{Written, nothing_written, joined, IsPart, wrote_all, Writes}
+use Rattle.translate_cmd.specs.Cells.{next_refusal, item_written, after_cell, after_item, progress_after, items_written}
 use Rattle.cell_parts.specs.Groups.{cell_name}
 use Rattle.translate_cmd.specs.Library.{ending_by, IsHandled, Handles}
-use Rattle.translate_cmd.proofs.WrittenLaws.{wrote_all-nothing, IsPart-nothing, IsPart-all, wrote_on, report_stops, report_whole, all_goes_on, all_stops}
-use Rattle.translate_cmd.proofs.TranslateLemmas.{IfSome-always, IfSome-map}
+use Rattle.translate_cmd.specs.Reached.{end_told, TellsEnd, IsAtEnd, Reached}
+use Rattle.translate_cmd.proofs.WrittenLaws.{wrote_all-nothing, took-wrote_all, wrote_on, IsPart-nothing, IsPart-all, IsPart-after, IsPart-front}
+use Rattle.translate_cmd.proofs.TranslateLemmas.{IfSome-always}
 
 -- Texts of items.
 
@@ -38,306 +41,316 @@ joined_assoc a b c = λ i. record {
 }
 
 -- what is written for some items, and then for others
-pub items_written-append : (p : Progress) (xs ys : List LibraryItem)
+items_written-append : (p : Progress) (xs ys : List LibraryItem)
     → items_written p (xs ++ ys) ≡ joined (items_written p xs) (items_written (progress_after p xs) ys)
 items_written-append p [] ys = refl
 items_written-append p (x ∷ xs) ys =
-    ap (joined (item_written p x)) (items_written-append (after_item p x) xs ys) ∙ sym (joined_assoc (item_written p x) (items_written (after_item p x) xs) _)
+    ap (joined (item_written p x)) (items_written-append (after_item p x) xs ys) ∙ sym (joined_assoc (item_written p x) _ _)
 
-pub progress_after-append : (p : Progress) (xs ys : List LibraryItem) → progress_after p (xs ++ ys) ≡ progress_after (progress_after p xs) ys
+progress_after-append : (p : Progress) (xs ys : List LibraryItem) → progress_after p (xs ++ ys) ≡ progress_after (progress_after p xs) ys
 progress_after-append p [] ys = refl
 progress_after-append p (x ∷ xs) ys = progress_after-append (after_item p x) xs ys
 
--- Time units write nothing, and statements that name other files change nothing.
+-- one item more
+items_written-more : (p q : Progress) (xs : List LibraryItem) (x : LibraryItem) → q ≡ progress_after p xs
+    → joined (items_written p xs) (item_written q x) ≡ items_written p (xs ++ x ∷ [])
+items_written-more p q xs x e =
+    ap (λ r. joined (items_written p xs) (item_written r x)) e
+    ∙ ap (joined (items_written p xs)) (sym (joined-nothing (item_written (progress_after p xs) x)))
+    ∙ sym (items_written-append p xs (x ∷ []))
 
-units_written : (p : Progress) (units : List UnitLine) → items_written p (map unit_item units) ≡ nothing_written
-units_written p [] = refl
-units_written p (line ∷ units) = units_written (after_item p (unit_item line)) units
+progress_after-more : (p q r : Progress) (xs : List LibraryItem) (x : LibraryItem) → q ≡ progress_after p xs → r ≡ after_item q x
+    → r ≡ progress_after p (xs ++ x ∷ [])
+progress_after-more p q r xs x e f = f ∙ ap (λ s. after_item s x) e ∙ sym (progress_after-append p xs (x ∷ []))
 
-files_written : (p : Progress) (files : List ℕ) → items_written p (map file_item files) ≡ in_report (flat_map file_line files)
-files_written p [] = refl
-files_written p (file ∷ files) = ap (joined (in_report (file_line file))) (files_written p files)
+-- what is written for the first items is a part of what is written for all
+first_part : (p : Progress) (text : Written) (xs others all : List LibraryItem) → xs ++ others ≡ all → IsPart text (items_written p xs)
+    → IsPart text (items_written p all)
+first_part p text xs others all e h =
+    rw (← e) (rw (items_written-append p xs others) (IsPart-front text (items_written p xs) (items_written (progress_after p xs) others) h))
 
-files_keep : (p : Progress) (files : List ℕ) → progress_after p (map file_item files) ≡ p
-files_keep p [] = refl
-files_keep p (file ∷ files) = files_keep p files
+-- Bytes.
 
-others_written : (p : Progress) (units : List UnitLine) (files : List ℕ) → items_written p (others_of units files) ≡ in_report (flat_map file_line files)
-others_written p units files =
-    items_written-append p (map unit_item units) (map file_item files)
-    ∙ ap (λ w. joined w (items_written (progress_after p (map unit_item units)) (map file_item files))) (units_written p units)
-    ∙ files_written (progress_after p (map unit_item units)) files
+abbrev IsFront : Option (List ℕ) → List ℕ → Type 0
+IsFront left taken = IfSome left (λ all. (taken ≡ take (length taken) all) × (length taken ≤ length all))
 
-pub others_kept : (p : Progress) (units : List UnitLine) (files : List ℕ) → progress_after p (map unit_item units) ≡ progress_after p (others_of units files)
-others_kept p units files =
-    sym (progress_after-append p (map unit_item units) (map file_item files) ∙ files_keep (progress_after p (map unit_item units)) files)
+front-nil : (left : Option (List ℕ)) → IsFront left []
+front-nil None = tt
+front-nil (Some all) = (refl, omega arith)
 
-pub others_stop : {S T : Type 0} (old new : DeskState) (p : Progress) (units : List UnitLine) (files : List ℕ) (y : Failed) (r : Result T Stop)
-    → WritesText {T = S} old new Report (flat_map file_line files) (Err y) → IsErr r → Writes old new (items_written p (others_of units files)) r
-others_stop old new p units files y r w e = rw (others_written p units files) (report_stops old new (flat_map file_line files) y r w e)
+-- with some more
+front-append : (left : Option (List ℕ)) (a b : List ℕ) → IsFront left a → IsFront (option_map (drop (length a)) left) b → IsFront left (a ++ b)
+front-append None a b h k = tt
+front-append (Some all) a b h k =
+    let size = length-append a b in
+    let same : a ++ b ≡ take (length a + length b) all =
+    ap (λ t. t ++ b) h.0 ∙ ap (λ t. take (length a) all ++ t) k.0 ∙ sym (take-add (length a) (length b) all) in
+    (same ∙ ap (λ n. take n all) (sym size), omega (arith, size, k.1, h.1, length-drop (length a) all))
 
-pub others_whole : (old new : DeskState) (p : Progress) (units : List UnitLine) (files : List ℕ)
-    → new ≡ wrote old Report (flat_map file_line files) → new ≡ wrote_all old (items_written p (others_of units files))
-others_whole old new p units files w = rw (others_written p units files) (report_whole old new (flat_map file_line files) w)
+-- some bytes of the library more
+more_state : (base now next : DeskState) (a b : List ℕ) (text : Written) → now ≡ wrote_all (took base Library (length a)) text
+    → next ≡ took now Library (length b) → next ≡ wrote_all (took base Library (length (a ++ b))) text
+more_state base now next a b text first second =
+    second
+    ∙ ap (λ s. took s Library (length b)) first
+    ∙ took-wrote_all (took base Library (length a)) text (length b)
+    ∙ ap (λ s. wrote_all s text) (took-took base Library (length a) (length b) ∙ ap (took base Library) (sym (length-append a b)))
 
--- one time unit more
-pub units_more : (p q r : Progress) (units : List UnitLine) (i : ℕ) (line : UnitLine) → i < length units → line ≡ get_or units i line
-    → q ≡ progress_after p (map unit_item (take i units)) → r ≡ after_item q (unit_item line) → r ≡ progress_after p (map unit_item (take (i + 1) units))
-units_more p q r units i line h e before one =
-    let last = ap (λ t. after_item t (unit_item line)) before in
-    let more = sym (progress_after-append p (map unit_item (take i units)) (unit_item line ∷ [])) in
-    let split : map unit_item (take (i + 1) units) ≡ map unit_item (take i units) ++ unit_item line ∷ [] =
-    ap (map unit_item) (take_more units i line h ∙ ap (λ x. take i units ++ x ∷ []) (sym e)) ∙ map-append unit_item (take i units) (line ∷ []) in
-    one ∙ last ∙ more ∙ ap (progress_after p) (sym split)
+left_now : (base now : DeskState) (taken : List ℕ) (text : Written) → now ≡ wrote_all (took base Library (length taken)) text
+    → now.left Library ≡ option_map (drop (length taken)) (base.left Library)
+unfolding wrote_all wrote
+left_now base now taken text e = ap (λ s. s.left Library) e ∙ left_after base (took base Library (length taken)) Library (length taken) refl
 
--- Handling in order.
+front_moved : (base now next : DeskState) (a b : List ℕ) (text : Written) → now ≡ wrote_all (took base Library (length a)) text
+    → IsFront (base.left Library) a → Takes now next b → IsFront (base.left Library) (a ++ b)
+front_moved base now next a b text e h t =
+    front-append (base.left Library) a b h (rw (left_now base now a text e) at t.told)
 
--- some items were handled, and those of the cells left come next
-pub record Handled (base now : DeskState) (before after : Progress) (cells : List Group) (units : List UnitLine) (files : List ℕ) (all : List LibraryItem) : Type 0 where
-  pub done : List LibraryItem
-  pub rest : done ++ items_from cells units files ≡ all
-  pub state : now ≡ wrote_all base (items_written before done)
-  pub progress : after ≡ progress_after before done
+left_written : (now next : DeskState) (text : Written) → next ≡ wrote_all now text → next.left Library ≡ now.left Library
+unfolding wrote_all wrote
+left_written now next text e = ap (λ s. s.left Library) e
 
--- Counting what stands before an offset.
+at_end_written : (c : CellCursor) (now next : DeskState) (text : Written) → next ≡ wrote_all now text → IsAtEnd c now → IsAtEnd c next
+at_end_written c now next text e h = λ ended. rw (left_written now next text e) (h ended)
 
-units_step : (at i : ℕ) (units : List UnitLine) (line : UnitLine) → i < length units → line ≡ get_or units i line
-    → units_before at (drop i units) ≡ (if nat_lt line.at at then units_before at (drop (i + 1) units) + 1 else 0)
-units_step at i units line h e = ap (units_before at) (drop_more units i line h ∙ ap (λ x. x ∷ drop (i + 1) units) (sym e))
+-- The loop.
 
-pub units_more_before : (at i : ℕ) (units : List UnitLine) (line : UnitLine) → i < length units → line ≡ get_or units i line → line.at < at
-    → units_before at units ≡ i + units_before at (drop i units) → units_before at units ≡ i + 1 + units_before at (drop (i + 1) units)
-units_more_before at i units line h e l k =
-    let test : nat_lt line.at at ≡ true = grind (arith, nat_tests, l) in
-    let step = rw test at (units_step at i units line h e) in
-    omega (arith, k, step)
+-- how many cells are counted
+cell_counted : (p : Progress) (name : List ℕ) (accepted : Bool) → (after_cell p name accepted).accepted + (after_cell p name accepted).refused ≤ p.accepted + p.refused + 1
+cell_counted p name true = omega arith
+cell_counted p name false = omega arith
 
-pub units_stop_before : (at i : ℕ) (units : List UnitLine) (line : UnitLine) → i < length units → line ≡ get_or units i line → at ≤ line.at
-    → units_before at units ≡ i + units_before at (drop i units) → i ≡ units_before at units
-units_stop_before at i units line h e l k =
-    let test : nat_lt line.at at ≡ false = grind (arith, nat_tests, l) in
-    let step = rw test at (units_step at i units line h e) in
-    omega (arith, k, step)
+item_counted : (p : Progress) (x : LibraryItem) → (after_item p x).accepted + (after_item p x).refused ≤ p.accepted + p.refused + 1
+item_counted p (item.Cell group) = cell_counted p (cell_name group) (is_none (next_refusal p group))
+item_counted p (item.Unit line) = omega arith
+item_counted p (item.LeftOut at) = omega arith
 
-pub units_all_before : (at i : ℕ) (units : List UnitLine) → length units ≤ i → i ≤ length units
-    → units_before at units ≡ i + units_before at (drop i units) → length units ≡ units_before at units
-units_all_before at i units h l k =
-    let none : units_before at (drop i units) ≡ 0 = ap (units_before at) (drop_all i units h) in
-    omega (arith, k, none)
+pub room_kept : (p q : Progress) (x : LibraryItem) (turn : ℕ) → q ≡ after_item p x → p.accepted + p.refused ≤ turn → q.accepted + q.refused ≤ turn + 1
+room_kept p q x turn e h = rw e (omega (arith, item_counted p x))
 
-files_step : (at i : ℕ) (files : List ℕ) (file : ℕ) → i < length files → file ≡ get_or files i file
-    → files_before at (drop i files) ≡ (if nat_lt file at then files_before at (drop (i + 1) files) + 1 else 0)
-files_step at i files file h e = ap (files_before at) (drop_more files i file h ∙ ap (λ x. x ∷ drop (i + 1) files) (sym e))
+-- a library of which nothing is left stays so
+nothing_taken : (left : Option (List ℕ)) (n : ℕ) → IfSome left (λ all. all ≡ []) → IfSome (option_map (drop n) left) (λ all. all ≡ [])
+nothing_taken None n h = tt
+nothing_taken (Some all) n h = let none = ap length h in drop_all n all (omega (arith, none))
 
-pub files_more_before : (at i : ℕ) (files : List ℕ) (file : ℕ) → i < length files → file ≡ get_or files i file → file < at
-    → files_before at files ≡ i + files_before at (drop i files) → files_before at files ≡ i + 1 + files_before at (drop (i + 1) files)
-files_more_before at i files file h e l k =
-    let test : nat_lt file at ≡ true = grind (arith, nat_tests, l) in
-    let step = rw test at (files_step at i files file h e) in
-    omega (arith, k, step)
+still_ended : (before after : DeskState) (n : ℕ) → after ≡ took before Library n → NothingLeft before → NothingLeft after
+still_ended before after n e h = rw (left_after before after Library n e) (nothing_taken (before.left Library) n h)
 
-pub files_stop_before : (at i : ℕ) (files : List ℕ) (file : ℕ) → i < length files → file ≡ get_or files i file → at ≤ file
-    → files_before at files ≡ i + files_before at (drop i files) → i ≡ files_before at files
-files_stop_before at i files file h e l k =
-    let test : nat_lt file at ≡ false = grind (arith, nat_tests, l) in
-    let step = rw test at (files_step at i files file h e) in
-    omega (arith, k, step)
+going_or : (o : Option Answer) → (is_going o ≡ true) ⊎ (is_going o ≡ false)
+going_or None = inl refl
+going_or (Some a) = inr refl
 
-pub files_all_before : (at i : ℕ) (files : List ℕ) → length files ≤ i → i ≤ length files
-    → files_before at files ≡ i + files_before at (drop i files) → length files ≡ files_before at files
-files_all_before at i files h l k =
-    let none : files_before at (drop i files) ≡ 0 = ap (files_before at) (drop_all i files h) in
-    omega (arith, k, none)
+-- a step that comes to the end leaves nothing
+pub ends_on : (c d : CellCursor) (before after : DeskState) (given : List LibraryItem) → Moves c d before after given
+    → (is_going c.answer ≡ false → d.answer ≡ c.answer) → IsAtEnd c before → IsAtEnd d after
+ends_on c d before after given m kept h =
+    elim (going_or c.answer) [
+      | inl going ↦ (λ ended. m.ended going ended)
+      | inr not_going ↦ (λ ended. still_ended before after (length m.taken) m.takes.state (h (ap is_ended (sym (kept not_going)) ∙ ended)))
+    ]
 
--- the next cell of a list, and its end
-pub handled_at : (base now : DeskState) (p q : Progress) (cells : List Group) (i : ℕ) (cell : Group) (units : List UnitLine) (files : List ℕ) (all : List LibraryItem)
-    → i < length cells → cell ≡ get_or cells i cell → Handled base now p q (drop i cells) units files all → Handled base now p q (cell ∷ drop (i + 1) cells) units files all
-handled_at base now p q cells i cell units files all h e k =
-    subst (λ rest. Handled base now p q rest units files all) (drop_more cells i cell h ∙ ap (λ x. x ∷ drop (i + 1) cells) (sym e)) k
+-- before the first item
+pub reached_start : (limit : ℕ) (base : DeskState) (p : Progress) (c : CellCursor) → c.limit ≡ limit → Stands c [] [] → c.answer ≡ None → Reached limit base base p p c
+reached_start limit base p c l h e = record {
+  taken = [];
+  items = [];
+  stands = h;
+  limit_is = l;
+  at_end = λ ended. let going = rw e at ended in cc;
+  state = sym (took-zero base Library) ∙ sym (wrote_all-nothing (took base Library 0));
+  told = front-nil (base.left Library);
+  progress = refl;
+}
 
-pub handled_end : (base now : DeskState) (p q : Progress) (cells : List Group) (i : ℕ) (units : List UnitLine) (files : List ℕ) (all : List LibraryItem)
-    → length cells ≤ i → Handled base now p q (drop i cells) units files all → Handled base now p q [] units files all
-handled_end base now p q cells i units files all h k = subst (λ rest. Handled base now p q rest units files all) (drop_all i cells h) k
-
--- before the first cell
-pub handled_start : (base : DeskState) (p : Progress) (cells : List Group) (units : List UnitLine) (files : List ℕ)
-    → Handled base base p p cells units files (items_from cells units files)
-handled_start base p cells units files = record { done = []; rest = refl; state = sym (wrote_all-nothing base); progress = refl }
-
-written_on : (p q : Progress) (xs ys : List LibraryItem) → q ≡ progress_after p xs
-    → joined (items_written p xs) (items_written q ys) ≡ items_written p (xs ++ ys)
-written_on p q xs ys e = ap (λ r. joined (items_written p xs) (items_written r ys)) e ∙ sym (items_written-append p xs ys)
-
-one_written : (q : Progress) (x : LibraryItem) → item_written q x ≡ items_written q (x ∷ [])
-one_written q x = sym (joined-nothing (item_written q x))
-
--- a cell with what stands before it
-abbrev pub before_cell : Group → List UnitLine → List ℕ → List LibraryItem
-before_cell cell units files = others_of (take (units_before cell.at units) units) (take (files_before cell.at files) files)
-
-cell_written : (q r : Progress) (xs : List LibraryItem) (x : LibraryItem) → r ≡ progress_after q xs
-    → joined (items_written q xs) (item_written r x) ≡ items_written q (xs ++ x ∷ [])
-cell_written q r xs x e = ap (joined (items_written q xs)) (one_written r x) ∙ written_on q r xs (x ∷ []) e
-
--- after one more cell
-pub handled_next : (base now mid new : DeskState) (p q r s : Progress) (cell : Group) (cells : List Group) (units : List UnitLine) (files : List ℕ) (all : List LibraryItem)
-    → Handled base now p q (cell ∷ cells) units files all
-    → mid ≡ wrote_all now (items_written q (before_cell cell units files)) → r ≡ progress_after q (before_cell cell units files)
-    → new ≡ wrote_all mid (item_written r (Cell cell)) → s ≡ after_item r (Cell cell)
-    → Handled base new p s cells (drop (units_before cell.at units) units) (drop (files_before cell.at files) files) all
-handled_next base now mid new p q r s cell cells units files all h w e v f =
-    let xs = before_cell cell units files in
-    let one = xs ++ Cell cell ∷ [] in
-    let rest = items_from cells (drop (units_before cell.at units) units) (drop (files_before cell.at files) files) in
-    let both = wrote_on now mid new (items_written q xs) (item_written r (Cell cell)) w v ∙ ap (wrote_all now) (cell_written q r xs (Cell cell) e) in
+-- after one more item
+pub reached_next : (limit : ℕ) (base now next new : DeskState) (p q r : Progress) (c d : CellCursor) (x : LibraryItem)
+    → Reached limit base now p q c → Moves c d now next (x ∷ []) → (IsAtEnd c now → IsAtEnd d next) → new ≡ wrote_all next (item_written q x) → r ≡ after_item q x
+    → Reached limit base new p r d
+reached_next limit base now next new p q r c d x h m a w e =
+    let state = more_state base now next h.taken m.taken (items_written p h.items) h.state m.takes.state in
     record {
-      done = h.done ++ one;
-      rest = append_assoc h.done one rest ∙ ap (λ ys. h.done ++ ys) (append_assoc xs (Cell cell ∷ []) rest) ∙ h.rest;
-      state = wrote_on base now new (items_written p h.done) (items_written q one) h.state both ∙ ap (wrote_all base) (written_on p q h.done one h.progress);
-      progress = f ∙ ap (λ t. after_item t (Cell cell)) e ∙ sym (progress_after-append q xs (Cell cell ∷ []))
-          ∙ ap (λ t. progress_after t one) h.progress ∙ sym (progress_after-append p h.done one);
+      taken = h.taken ++ m.taken;
+      items = h.items ++ x ∷ [];
+      stands = m.stands h.taken h.items h.stands;
+      limit_is = m.limit ∙ h.limit_is;
+      at_end = at_end_written d next new (item_written q x) w (a h.at_end);
+      state = wrote_on _ next new (items_written p h.items) (item_written q x) state w
+          ∙ ap (wrote_all (took base Library (length (h.taken ++ m.taken)))) (items_written-more p q h.items x h.progress);
+      told = front_moved base now next h.taken m.taken (items_written p h.items) h.state h.told m.takes;
+      progress = progress_after-more p q r h.items x h.progress e;
     }
 
--- a stop within items that come next
-pub handled_stops : {S T : Type 0} (base now new : DeskState) (p q : Progress) (cells : List Group) (units : List UnitLine) (files : List ℕ) (all xs ys : List LibraryItem) (y : Stop) (r : Result T Stop)
-    → Handled base now p q cells units files all → items_from cells units files ≡ xs ++ ys → Writes {T = S} now new (items_written q xs) (Err y) → IsErr r
-    → Writes base new (items_written p all) r
-handled_stops base now new p q cells units files all xs ys y r h e w is =
-    let split : items_written p all ≡ joined (joined (items_written p h.done) (items_written q xs)) (items_written (progress_after p (h.done ++ xs)) ys) =
-    ap (items_written p) (sym h.rest ∙ ap (λ zs. h.done ++ zs) e ∙ sym (append_assoc h.done xs ys))
-    ∙ items_written-append p (h.done ++ xs) ys
-    ∙ ap (λ t. joined t (items_written (progress_after p (h.done ++ xs)) ys)) (sym (written_on p q h.done xs h.progress)) in
-    rw split (all_stops base new (joined (items_written p h.done) (items_written q xs)) (items_written (progress_after p (h.done ++ xs)) ys) y r
-    (all_goes_on base now new (items_written p h.done) (items_written q xs) _ h.state w) is)
+-- what is known of all the bytes of a library that begins with those that were taken
+first_known : (o : Option Answer) (c : CellCursor) (bytes more : List ℕ) (items : List LibraryItem) → Knows o c bytes items
+    → (is_ended o ≡ true → more ≡ []) → (others : List LibraryItem) × (items ++ others ≡ items_within c.limit (bytes ++ more))
+first_known None c bytes more items k ended = first_of_going c bytes items c.limit refl k more
+first_known (Some answer.Over) c bytes more items k ended = ([], append-nil items ∙ (k more).items_are)
+first_known (Some answer.End) c bytes more items k ended =
+    let none = ended refl in
+    ([], append-nil items ∙ k.items_are ∙ ap (items_within c.limit) (sym (ap (λ t. bytes ++ t) none ∙ append-nil bytes)))
+first_known (Some (answer.Refused f)) c bytes more items k ended = ([], append-nil items ∙ (k more).items_are)
+first_known (Some (answer.Fault (fault.Library f))) c bytes more items k ended =
+    let none = ended refl in
+    ([], append-nil items ∙ k.items_are ∙ ap (items_within c.limit) (sym (ap (λ t. bytes ++ t) none ∙ append-nil bytes)))
+first_known (Some (answer.Fault fault.Failed)) c bytes more items k ended = k more
+first_known (Some (answer.Fault fault.Memory)) c bytes more items k ended = k more
 
--- a stop before the next cell
-pub handled_stops_before : {S T : Type 0} (base now new : DeskState) (p q : Progress) (cell : Group) (cells : List Group) (units : List UnitLine) (files : List ℕ) (all : List LibraryItem) (y : Stop) (r : Result T Stop)
-    → Handled base now p q (cell ∷ cells) units files all → Writes {T = S} now new (items_written q (before_cell cell units files)) (Err y) → IsErr r
-    → Writes base new (items_written p all) r
-handled_stops_before base now new p q cell cells units files all y r h w is =
-    handled_stops base now new p q (cell ∷ cells) units files all (before_cell cell units files) _ y r h refl w is
+-- the rest of the bytes, and what is left of them
+rest_of : (taken all : List ℕ) → taken ≡ take (length taken) all → taken ++ drop (length taken) all ≡ all
+rest_of taken all e = ap (λ t. t ++ drop (length taken) all) e ∙ take-append-drop (length taken) all
 
--- a stop within the next cell
-pub handled_stops_within : {S T : Type 0} (base now mid new : DeskState) (p q s : Progress) (cell : Group) (cells : List Group) (units : List UnitLine) (files : List ℕ) (all : List LibraryItem) (y : Stop) (r : Result T Stop)
-    → Handled base now p q (cell ∷ cells) units files all
-    → mid ≡ wrote_all now (items_written q (before_cell cell units files)) → s ≡ progress_after q (before_cell cell units files)
-    → Writes {T = S} mid new (item_written s (Cell cell)) (Err y) → IsErr r
-    → Writes base new (items_written p all) r
-handled_stops_within base now mid new p q s cell cells units files all y r h w e v is =
-    let xs = before_cell cell units files in
-    let rest = items_from cells (drop (units_before cell.at units) units) (drop (files_before cell.at files) files) in
-    let both = all_goes_on now mid new (items_written q xs) (item_written s (Cell cell)) (Err y) w v in
-    let one = rw (cell_written q s xs (Cell cell) e) at both in
-    handled_stops base now new p q (cell ∷ cells) units files all (xs ++ Cell cell ∷ []) rest y r h (sym (append_assoc xs (Cell cell ∷ []) rest)) one is
+nothing_more : (left : Option (List ℕ)) (taken all : List ℕ) → left ≡ Some all → IfSome (option_map (drop (length taken)) left) (λ rest. rest ≡ [])
+    → drop (length taken) all ≡ []
+nothing_more left taken all e h = rw e at h
 
--- behind the last cell
-pub handled_last : {T : Type 0} (base now new : DeskState) (p q : Progress) (units : List UnitLine) (files : List ℕ) (all : List LibraryItem) (r : Result T Stop)
-    → Handled base now p q [] units files all → Writes now new (items_written q (others_of units files)) r → Writes base new (items_written p all) r
-handled_last base now new p q units files all r h w =
-    let same : joined (items_written p h.done) (items_written q (others_of units files)) ≡ items_written p all =
-    written_on p q h.done (others_of units files) h.progress ∙ ap (items_written p) h.rest in
-    rw (← same) (all_goes_on base now new (items_written p h.done) (items_written q (others_of units files)) r h.state w)
+-- the items that were given are the first ones of the library
+first_items : (limit : ℕ) (base now : DeskState) (taken : List ℕ) (items : List LibraryItem) (text : Written) (c : CellCursor) (all : List ℕ)
+    → Stands c taken items → c.limit ≡ limit → IsAtEnd c now → now ≡ wrote_all (took base Library (length taken)) text
+    → IsFront (base.left Library) taken → base.left Library ≡ Some all → (others : List LibraryItem) × (items ++ others ≡ items_within limit all)
+first_items limit base now taken items text c all stands at_limit at_end state told e =
+    let front = rw e at told in
+    let ended : is_ended c.answer ≡ true → drop (length taken) all ≡ [] =
+    λ is. nothing_more (base.left Library) taken all e (rw (left_now base now taken text state) at (at_end is)) in
+    let known = first_known c.answer c taken (drop (length taken) all) (items ++ reverse c.waiting.items) stands.known ended in (
+      reverse c.waiting.items ++ known.0,
+      sym (append_assoc items (reverse c.waiting.items) known.0) ∙ known.1
+          ∙ ap (items_within c.limit) (rest_of taken all front.0) ∙ ap (λ n. items_within n all) at_limit,
+    )
 
-OnOk-map : {T E : Type 0} (r : Result T E) (P Q : Type 0) → (P → Q) → OnOk r P → OnOk r Q
-OnOk-map (Ok x) P Q f h = f h
-OnOk-map (Err y) P Q f h = tt
+first_given : (limit : ℕ) (base now : DeskState) (p q : Progress) (c : CellCursor) (all : List ℕ) (h : Reached limit base now p q c)
+    → base.left Library ≡ Some all → (others : List LibraryItem) × (h.items ++ others ≡ items_within limit all)
+first_given limit base now p q c all h e =
+    first_items limit base now h.taken h.items (items_written p h.items) c all h.stands h.limit_is h.at_end h.state h.told e
 
-pub progressed_last : {T : Type 0} (base now : DeskState) (p q s : Progress) (units : List UnitLine) (files : List ℕ) (all : List LibraryItem) (r : Result T Stop)
-    → Handled base now p q [] units files all → OnOk r (s ≡ progress_after q (others_of units files)) → OnOk r (s ≡ progress_after p all)
-progressed_last base now p q s units files all r h w =
-    OnOk-map r _ _ (λ (e : s ≡ progress_after q (others_of units files)).
-    e ∙ ap (λ t. progress_after t (others_of units files)) h.progress ∙ sym (progress_after-append p h.done (others_of units files)) ∙ ap (progress_after p) h.rest) w
-
--- how many cells were counted
-counted_more : (p : Progress) (name : List ℕ) (accepted : Bool) → (after_cell p name accepted).accepted + (after_cell p name accepted).refused ≡ p.accepted + p.refused + 1
-counted_more p name true = omega arith
-counted_more p name false = omega arith
-
-others_count : (q : Progress) (units : List UnitLine) (files : List ℕ)
-    → (progress_after q (others_of units files)).accepted + (progress_after q (others_of units files)).refused ≡ q.accepted + q.refused
-others_count q units files = rw (← others_kept q units files) (units_count q units)
-  where
-    units_count : (q : Progress) (units : List UnitLine)
-        → (progress_after q (map unit_item units)).accepted + (progress_after q (map unit_item units)).refused ≡ q.accepted + q.refused
-    units_count q [] = refl
-    units_count q (line ∷ units) = units_count (after_item q (unit_item line)) units
-
-pub room_kept : (q r : Progress) (units : List UnitLine) (files : List ℕ) → r ≡ progress_after q (others_of units files) → r.accepted + r.refused ≡ q.accepted + q.refused
-room_kept q r units files e = rw e (others_count q units files)
-
-pub room_less : (r s : Progress) (cell : Group) → s ≡ after_item r (Cell cell) → s.accepted + s.refused ≡ r.accepted + r.refused + 1
-room_less r s cell e = rw e (counted_more r (cell_name cell) (is_none (next_refusal r cell)))
-
--- The whole library.
+-- each value that is there
+IfSome-each : {X : Type 0} (o : Option X) (P : X → Type 0) → ((x : X) → o ≡ Some x → P x) → IfSome o P
+IfSome-each None P f = tt
+IfSome-each (Some x) P f = f x refl
 
 IfOk-error : {T E : Type 0} (r : Result T E) (P : T → Type 0) → IsErr r → IfOk r P
 IfOk-error (Ok x) P e = absurd (cc)
 IfOk-error (Err y) P e = tt
 
--- a stop while the library is read
-pub stops_reading : (limit most : ℕ) (base now : DeskState) (p : Progress) (r : Result Ending Stop) → ReadsAtMost base now Library most → IsErr r → Handles limit base now p p r
-stops_reading limit most base now p r h e = record {
-  taken = h.0;
+-- a stop before anything was read
+pub stops_first : (limit : ℕ) (base : DeskState) (p : Progress) (r : Result Ending Stop) → IsErr r → Handles limit base base p p r
+stops_first limit base p r e = record {
+  taken = 0;
   text = nothing_written;
-  state = h.2 ∙ sym (wrote_all-nothing (took base Library h.0));
-  part = IfSome-always (base.left Library) (λ bytes. IsPart nothing_written (items_written p (items_within limit bytes))) (λ bytes. IsPart-nothing _);
+  state = sym (took-zero base Library) ∙ sym (wrote_all-nothing (took base Library 0));
+  part = IfSome-always (base.left Library) (λ all. IsPart nothing_written (items_written p (items_within limit all))) (λ all. IsPart-nothing _);
   whole = IfOk-error r _ e;
 }
 
--- a stop after it was read
-pub stops_read : (limit : ℕ) (base now : DeskState) (p : Progress) (taken : Taken) (r : Result Ending Stop) → IsRead base now Library limit taken → IsErr r → Handles limit base now p p r
-stops_read limit base now p taken r h e = record {
-  taken = _;
-  text = nothing_written;
-  state = h.state ∙ sym (wrote_all-nothing _);
-  part = IfSome-always (base.left Library) (λ bytes. IsPart nothing_written (items_written p (items_within limit bytes))) (λ bytes. IsPart-nothing _);
+-- a stop where the next item is sought
+pub stops_seeking : (limit : ℕ) (base now next : DeskState) (p q : Progress) (c d : CellCursor) (r : Result Ending Stop)
+    → Reached limit base now p q c → Moves c d now next [] → IsErr r → Handles limit base next p q r
+stops_seeking limit base now next p q c d r h m e = record {
+  taken = length (h.taken ++ m.taken);
+  text = items_written p h.items;
+  state = more_state base now next h.taken m.taken (items_written p h.items) h.state m.takes.state;
+  part = IfSome-each (base.left Library) (λ all. IsPart (items_written p h.items) (items_written p (items_within limit all))) (λ all is. let first = first_given limit base now p q c all h is in first_part p _ h.items first.0 _ first.1 (IsPart-all _));
   whole = IfOk-error r _ e;
 }
 
--- the items that were found are those of the library
-found_within : (limit : ℕ) (bytes taken : List ℕ) (found : Found) → taken ≡ take limit bytes → found ≡ found_of_bytes taken → items_found found ≡ items_within limit bytes
-unfolding items_within
-found_within limit bytes taken found e f = ap items_found (f ∙ ap found_of_bytes e)
-
-ends_within : (limit : ℕ) (bytes taken : List ℕ) (more : Bool) (end : End) → taken ≡ take limit bytes → more ≡ nat_lt limit (length bytes)
-    → end ≡ end_of_bytes taken (not more) → end ≡ end_within limit bytes
-unfolding end_within
-ends_within limit bytes taken more end e m f = f ∙ ap (λ t. end_of_bytes t (not more)) e ∙ ap (λ b. end_of_bytes (take limit bytes) (not b)) m
-
-both_known : {X : Type 0} (o : Option X) (P Q : X → Type 0) → IfSome o P → IfSome o Q → IfSome o (λ x. P x × Q x)
-both_known None P Q p q = tt
-both_known (Some x) P Q p q = (p, q)
-
--- a stop within the items
-pub stops_handling : {S : Type 0} (limit : ℕ) (base now new : DeskState) (p q : Progress) (taken : Taken) (found : Found) (y : Stop) (r : Result Ending Stop)
-    → IsRead base now Library limit taken → found ≡ found_of_bytes taken.bytes.items
-    → Writes {T = S} now new (items_written p (items_found found)) (Err y) → IsErr r → Handles limit base new p q r
-stops_handling limit base now new p q taken found y r h f w e = record {
-  taken = _;
-  text = w.part.part;
-  state = w.part.state ∙ ap (λ s. wrote_all s w.part.part) h.state;
-  part = IfSome-map (base.left Library) (λ bytes. taken.bytes.items ≡ take limit bytes) (λ bytes. IsPart w.part.part (items_written p (items_within limit bytes)))
-      (λ bytes same. rw (← found_within limit bytes taken.bytes.items found same f) w.part.is_part) h.bytes;
+-- a stop between two items
+pub stops_between : (limit : ℕ) (base now : DeskState) (p q : Progress) (c : CellCursor) (r : Result Ending Stop)
+    → Reached limit base now p q c → IsErr r → Handles limit base now p q r
+stops_between limit base now p q c r h e = record {
+  taken = length h.taken;
+  text = items_written p h.items;
+  state = h.state;
+  part = IfSome-each (base.left Library) (λ all. IsPart (items_written p h.items) (items_written p (items_within limit all))) (λ all is. let first = first_given limit base now p q c all h is in first_part p _ h.items first.0 _ first.1 (IsPart-all _));
   whole = IfOk-error r _ e;
 }
 
--- all items
-pub handled_all : (limit : ℕ) (base now new : DeskState) (p q : Progress) (taken : Taken) (found : Found) (end : End) (ending : Ending)
-    → IsRead base now Library limit taken → found ≡ found_of_bytes taken.bytes.items → end ≡ end_of_bytes taken.bytes.items (not taken.more)
-    → new ≡ wrote_all now (items_written p (items_found found)) → q ≡ progress_after p (items_found found) → ending ≡ ending_by end
-    → Handles limit base new p q (Ok ending)
-handled_all limit base now new p q taken found end ending h f g w e k = record {
-  taken = _;
-  text = items_written p (items_found found);
-  state = w ∙ ap (λ s. wrote_all s (items_written p (items_found found))) h.state;
-  part = IfSome-map (base.left Library) (λ bytes. taken.bytes.items ≡ take limit bytes) (λ bytes. IsPart (items_written p (items_found found)) (items_written p (items_within limit bytes)))
-      (λ bytes same. rw (← found_within limit bytes taken.bytes.items found same f) (IsPart-all _)) h.bytes;
-  whole = IfSome-map (base.left Library) (λ bytes. (taken.bytes.items ≡ take limit bytes) × (taken.more ≡ nat_lt limit (length bytes)))
-      (λ bytes. IsHandled limit bytes p q (items_written p (items_found found)) ending)
-      (λ bytes known. record {
-        same_text = ap (items_written p) (found_within limit bytes taken.bytes.items found known.0 f);
-        same_progress = e ∙ ap (progress_after p) (found_within limit bytes taken.bytes.items found known.0 f);
-        same_ending = k ∙ ap ending_by (ends_within limit bytes taken.bytes.items taken.more end known.0 known.1 g);
-      })
-      (both_known (base.left Library) _ _ h.bytes h.more);
-}
+-- the item that comes next is the next one of the library
+next_given : (limit : ℕ) (base now next : DeskState) (p q : Progress) (c d : CellCursor) (x : LibraryItem) (all : List ℕ)
+    (h : Reached limit base now p q c) → Moves c d now next (x ∷ []) → (IsAtEnd c now → IsAtEnd d next) → base.left Library ≡ Some all
+    → (others : List LibraryItem) × ((h.items ++ x ∷ []) ++ others ≡ items_within limit all)
+next_given limit base now next p q c d x all h m a e =
+    let state = more_state base now next h.taken m.taken (items_written p h.items) h.state m.takes.state in
+    let front = front_moved base now next h.taken m.taken (items_written p h.items) h.state h.told m.takes in
+    first_items limit base next (h.taken ++ m.taken) (h.items ++ x ∷ []) (items_written p h.items) d all (m.stands h.taken h.items h.stands)
+    (m.limit ∙ h.limit_is) (a h.at_end) state front e
+
+-- a stop within an item
+pub stops_within : {S : Type 0} (limit : ℕ) (base now next new : DeskState) (p q s : Progress) (c d : CellCursor) (x : LibraryItem) (y : Stop) (r : Result Ending Stop)
+    → Reached limit base now p q c → Moves c d now next (x ∷ []) → (IsAtEnd c now → IsAtEnd d next) → Writes {T = S} next new (item_written q x) (Err y) → IsErr r → Handles limit base new p s r
+stops_within limit base now next new p q s c d x y r h m a w e =
+    let state = more_state base now next h.taken m.taken (items_written p h.items) h.state m.takes.state in
+    record {
+      taken = length (h.taken ++ m.taken);
+      text = joined (items_written p h.items) w.part.part;
+      state = wrote_on _ next new (items_written p h.items) w.part.part state w.part.state;
+      part = IfSome-each (base.left Library) (λ all. IsPart (joined (items_written p h.items) w.part.part) (items_written p (items_within limit all))) (λ all is.
+          let first = next_given limit base now next p q c d x all h m a is in
+          let within = IsPart-after (items_written p h.items) w.part.part (item_written q x) w.part.is_part in
+          first_part p _ (h.items ++ x ∷ []) first.0 _ first.1 (rw (items_written-more p q h.items x h.progress) at within));
+      whole = IfOk-error r _ e;
+    }
+
+-- what an answer tells of the whole library
+end_known : (a : Answer) (c : CellCursor) (bytes more : List ℕ) (items : List LibraryItem) (e : Ending) → Knows (Some a) c bytes items
+    → (is_ended (Some a) ≡ true → more ≡ []) → end_told a ≡ Some e
+    → (items ≡ items_within c.limit (bytes ++ more)) × (e ≡ ending_by (end_within c.limit (bytes ++ more)))
+end_known answer.Over c bytes more items e k ended t =
+    let known = k more in (known.items_are, rw known.end_is (let s : Some e ≡ Some ending.TooLong = sym t in cc))
+end_known answer.End c bytes more items e k ended t =
+    let same : bytes ≡ bytes ++ more = sym (ap (λ u. bytes ++ u) (ended refl) ∙ append-nil bytes) in
+    (k.items_are ∙ ap (items_within c.limit) same, rw (← same) (rw k.end_is (let s : Some e ≡ Some ending.Whole = sym t in cc)))
+end_known (answer.Refused f) c bytes more items e k ended t =
+    let known = k more in (known.items_are, rw known.end_is (let s : Some e ≡ Some (ending.Fault f) = sym t in cc))
+end_known (answer.Fault (fault.Library f)) c bytes more items e k ended t =
+    let same : bytes ≡ bytes ++ more = sym (ap (λ u. bytes ++ u) (ended refl) ∙ append-nil bytes) in
+    (k.items_are ∙ ap (items_within c.limit) same, rw (← same) (rw k.end_is (let s : Some e ≡ Some (ending.Fault f) = sym t in cc)))
+end_known (answer.Fault fault.Failed) c bytes more items e k ended t = absurd (let s : None ≡ Some e = t in cc)
+end_known (answer.Fault fault.Memory) c bytes more items e k ended t = absurd (let s : None ≡ Some e = t in cc)
+
+end_stands : (d : CellCursor) (bytes more : List ℕ) (items : List LibraryItem) (e : Ending) → Stands d bytes (items ++ []) → TellsEnd d e
+    → (is_ended d.answer ≡ true → more ≡ [])
+    → (items ≡ items_within d.limit (bytes ++ more)) × (e ≡ ending_by (end_within d.limit (bytes ++ more)))
+end_stands d bytes more items e h t ended =
+    let settled : Knows (Some t.answer) d bytes ((items ++ []) ++ reverse d.waiting.items) =
+    subst (λ o. Knows o d bytes ((items ++ []) ++ reverse d.waiting.items)) t.settled.settled h.known in
+    let none_waits : Knows (Some t.answer) d bytes ((items ++ []) ++ []) =
+    subst (λ (waiting : List LibraryItem). Knows (Some t.answer) d bytes ((items ++ []) ++ reverse waiting)) t.settled.none_waits settled in
+    let known : Knows (Some t.answer) d bytes items =
+    subst (λ all. Knows (Some t.answer) d bytes all) (append-nil (items ++ []) ∙ append-nil items) none_waits in
+    end_known t.answer d bytes more items e known (λ is. ended (ap is_ended t.settled.settled ∙ is)) t.told
+
+-- at the end
+pub ends_so : (limit : ℕ) (base now next : DeskState) (p q : Progress) (c d : CellCursor) (e : Ending)
+    → Reached limit base now p q c → Moves c d now next [] → (IsAtEnd c now → IsAtEnd d next) → TellsEnd d e → Handles limit base next p q (Ok e)
+ends_so limit base now next p q c d e h m a t =
+    let state = more_state base now next h.taken m.taken (items_written p h.items) h.state m.takes.state in
+    let front = front_moved base now next h.taken m.taken (items_written p h.items) h.state h.told m.takes in
+    let stands = m.stands h.taken h.items h.stands in
+    record {
+      taken = length (h.taken ++ m.taken);
+      text = items_written p h.items;
+      state = state;
+      part = IfSome-each (base.left Library) (λ all. IsPart (items_written p h.items) (items_written p (items_within limit all))) (λ all is. let first = first_given limit base now p q c all h is in first_part p _ h.items first.0 _ first.1 (IsPart-all _));
+      whole = IfSome-each (base.left Library) (λ all. IsHandled limit all p q (items_written p h.items) e) (λ all is.
+          let told = rw is at front in
+          let after_all : is_ended d.answer ≡ true → drop (length (h.taken ++ m.taken)) all ≡ [] =
+          λ ended. nothing_more (base.left Library) (h.taken ++ m.taken) all is (rw (left_now base next (h.taken ++ m.taken) _ state) at (a h.at_end ended)) in
+          let known = end_stands d (h.taken ++ m.taken) (drop (length (h.taken ++ m.taken)) all) h.items e stands t after_all in
+          let whole = rest_of (h.taken ++ m.taken) all told.0 in
+          let at_limit = m.limit ∙ h.limit_is in
+          record {
+            same_text = ap (items_written p) (known.0 ∙ ap (items_within d.limit) whole ∙ ap (λ n. items_within n all) at_limit);
+            same_progress = h.progress ∙ ap (progress_after p) (known.0 ∙ ap (items_within d.limit) whole ∙ ap (λ n. items_within n all) at_limit);
+            same_ending = known.1 ∙ ap (λ b. ending_by (end_within d.limit b)) whole ∙ ap (λ n. ending_by (end_within n all)) at_limit;
+          });
+    }
+
+-- where a read failed, in a step or before it
+pub failed_by : (first old new : ℕ) (failed : Bool) → first ≤ old → old ≤ new → (failed ≡ true → Rose first old) → (failed ≡ true) ⊎ Rose old new → Rose first new
+failed_by first old new failed h k before w =
+    elim w [ inl was ↦ (let r = before was in omega (arith, r)) | inr rose ↦ omega (arith, rose) ]
+
+pub failed_later : (first old new : ℕ) → Rose first old → old ≤ new → Rose first new
+failed_later first old new r h = omega (arith, r, h)
+
+pub never_failed : {B : Type 0} (o : Option Answer) → o ≡ None → is_failed o ≡ true → B
+never_failed o e f = absurd (let h : false ≡ true = sym (ap is_failed e) ∙ f in cc)

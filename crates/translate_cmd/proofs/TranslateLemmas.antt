@@ -18,7 +18,8 @@ use Rattle.translate_cmd.specs.declared.status.Status.{Status}
 use Rattle.translate_cmd.specs.declared.status.Status.TheVariants.{Outside}
 use Rattle.translate_cmd.specs.declared.stop.Stop.{Stop}
 use Rattle.translate_cmd.specs.declared.progress.Progress.{Progress}
-use Rattle.translate_cmd.specs.Items.{LibraryItem, items_within}
+use Rattle.cell_cursor.specs.declared.item.LibraryItem.{LibraryItem}
+use Rattle.cell_cursor.specs.Ends.{items_within}
 use Rattle.translate_cmd.specs.declared.items.Ending.{Ending}
 use Rattle.translate_cmd.specs.declared.asked.Command.TheVariants as command
 use Rattle.translate_cmd.specs.Status.{is_decided}

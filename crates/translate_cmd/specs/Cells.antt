@@ -1,6 +1,8 @@
 -- What becomes of one item of a library: the models of a cell and the lines of the report. This project's rules.
-use Rattle.std.specs.Prelude.{ℕ, ◌+◌, Bool, List, [], ◌∷◌, ◌++◌, Option, Some, None, is_none, is_some, if◌then◌else◌}
-use Rattle.liberty_text.specs.declared.time.Unit.TheVariants.{Ns1}
+use Rattle.std.specs.Prelude.{ℕ, ◌+◌, Bool, List, [], ◌∷◌, ◌++◌, codes, Option, Some, None, is_none, is_some, if◌then◌else◌}
+use Rattle.std.specs.Str.{bytes_eq}
+use Rattle.liberty_text.specs.declared.time.Unit.{Unit}
+use Rattle.liberty_text.specs.declared.time.Unit.TheVariants.{Ps1, Ps10, Ps100, Ns1}
 use Rattle.liberty_groups.specs.declared.tree.Group.{Group}
 use Rattle.bool_functions.specs.NameList.{number_of}
 use Rattle.cell_machine.specs.declared.pins.Pin.{Pin}
@@ -17,8 +19,18 @@ use Rattle.verilog_writer.specs.Model.{module_text}
 use Rattle.library_report.specs.CellLines.{accepted_line, refused_line}
 use Rattle.library_report.specs.LeftOutLines.{left_out_lines, left_out_file_line}
 use Rattle.translate_cmd.specs.declared.progress.Progress.{Progress}
-use Rattle.translate_cmd.specs.Items.{LibraryItem, Cell, TimeUnit, OtherFile}
+use Rattle.cell_cursor.specs.declared.item.LibraryItem.{LibraryItem}
+use Rattle.cell_cursor.specs.declared.item.LibraryItem.TheVariants as item
 use Rattle.translate_cmd.specs.Written.{Written, nothing_written, in_verilog, in_report, joined}
+
+-- the unit of time that a text names (Liberty Reference Manual, `time_unit`)
+abbrev pub unit_of : List ℕ → Option Unit
+unit_of text =
+    if bytes_eq text (codes "1ns") then Some Ns1
+    else if bytes_eq text (codes "100ps") then Some Ps100
+    else if bytes_eq text (codes "10ps") then Some Ps10
+    else if bytes_eq text (codes "1ps") then Some Ps1
+    else None
 
 -- before the first item of a library: the unit is a nanosecond
 abbrev pub no_progress : Progress
@@ -70,15 +82,11 @@ abbrev pub written_by : Progress → Group → Option Refusal → Written
 written_by p group None = accepted_written (next_data p group) (next_left_out p group)
 written_by p group (Some refusal) = in_report (refused_line (next_number p) (cell_name group) refusal)
 
--- the line of a statement `include_file`, at any offset
-abbrev pub file_line : ℕ → List ℕ
-file_line at = left_out_file_line
-
 -- what is written for an item
 abbrev pub item_written : Progress → LibraryItem → Written
-item_written p (Cell group) = written_by p group (next_refusal p group)
-item_written p (TimeUnit unit) = nothing_written
-item_written p OtherFile = in_report left_out_file_line
+item_written p (item.Cell group) = written_by p group (next_refusal p group)
+item_written p (item.Unit line) = nothing_written
+item_written p (item.LeftOut at) = in_report left_out_file_line
 
 -- after one more cell, which was accepted or refused; its name counts either way
 abbrev pub after_cell : Progress → List ℕ → Bool → Progress
@@ -91,9 +99,9 @@ after_cell p name accepted = record {
 
 -- after an item
 abbrev pub after_item : Progress → LibraryItem → Progress
-after_item p (Cell group) = after_cell p (cell_name group) (is_none (next_refusal p group))
-after_item p (TimeUnit unit) = record { unit = unit; names = p.names; accepted = p.accepted; refused = p.refused }
-after_item p OtherFile = p
+after_item p (item.Cell group) = after_cell p (cell_name group) (is_none (next_refusal p group))
+after_item p (item.Unit line) = record { unit = unit_of line.value; names = p.names; accepted = p.accepted; refused = p.refused }
+after_item p (item.LeftOut at) = p
 
 -- after these items, one after another
 abbrev pub progress_after : Progress → List LibraryItem → Progress

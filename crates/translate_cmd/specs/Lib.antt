@@ -1,9 +1,9 @@
 pub mod Status
 pub mod Reading
 pub mod Written
-pub mod Items
 pub mod Cells
 pub mod Library
 pub mod Binding
 pub mod Outcome
 pub mod Runs
+pub mod Reached

@@ -2,7 +2,7 @@
 use Rattle.std.specs.Prelude.{◌≡◌, ℕ, List, [], nat_eq, Result, IfOk, IfSome, if◌then◌else◌}
 use Rattle.liberty_groups.specs.declared.read.End.{End}
 use Rattle.liberty_groups.specs.declared.read.End.TheVariants as ends
-use Rattle.translate_cmd.specs.Items.{LibraryItem, items_within, end_within}
+use Rattle.cell_cursor.specs.Ends.{items_within, end_within}
 use Rattle.text_io.specs.declared.outside.Failed.{Failed}
 use Rattle.text_io.specs.declared.slots.InSlot.TheVariants.{Library}
 use Rattle.text_io.specs.declared.slots.OutSlot.TheVariants.{Faults}
@@ -14,6 +14,7 @@ use Rattle.translate_cmd.specs.declared.status.Status.{Status}
 use Rattle.translate_cmd.specs.declared.status.Status.TheVariants as status
 use Rattle.translate_cmd.specs.declared.stop.Stop.{Stop}
 use Rattle.translate_cmd.specs.declared.progress.Progress.{Progress}
+use Rattle.cell_cursor.specs.declared.item.LibraryItem.{LibraryItem}
 use Rattle.translate_cmd.specs.declared.items.Ending.{Ending}
 use Rattle.translate_cmd.specs.declared.items.Ending.TheVariants as ending
 use Rattle.translate_cmd.specs.Written.{Written, in_verilog, in_report, joined, IsPart, wrote_all}

@@ -3,9 +3,7 @@ use Rattle.std.specs.Prelude.{◌≡◌, ◌≤◌, ℕ, List, [], ◌++◌, Res
 use Rattle.text_io.specs.declared.slots.OutSlot.TheVariants.{VerilogText, VitalText, Report}
 use Rattle.text_io.specs.Desk.{DeskState, wrote, Rose, IsPrefix}
 use Rattle.translate_cmd.specs.declared.stop.Stop.{Stop}
-use Rattle.translate_cmd.specs.declared.stop.Stop.TheVariants.{Failed, Memory}
-use Rattle.text_io.specs.declared.reading.ReadFault.{ReadFault}
-use Rattle.text_io.specs.declared.reading.ReadFault.TheVariants as fault
+use Rattle.translate_cmd.specs.declared.stop.Stop.TheVariants.{Failed}
 
 -- the bytes for each of the three
 pub record Written : Type 0 where
@@ -53,8 +51,3 @@ pub record Writes {T : Type 0} (old new : DeskState) (text : Written) (result : 
 pub record StopsWithCause {T : Type 0} (before now : ℕ) (result : Result T Stop) : Type 0 where
   pub later : before ≤ now
   pub failed : IfErr result (λ stop. stop ≡ Failed → Rose before now)
-
--- why a command stops that could not read a file
-abbrev pub stop_of : ReadFault → Stop
-stop_of fault.Failed = Failed
-stop_of fault.Memory = Memory

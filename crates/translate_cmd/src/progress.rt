@@ -2,8 +2,7 @@
 ghost use Rattle.std.specs.Prelude.{◌≡◌, ◌+◌, ◌<◌, ◌^◌, OnOk};
 ghost use Rattle.translate_cmd.specs.declared.items.Ending.TheVariants as ending;
 ghost use Rattle.translate_cmd.specs.Library.{status_at};
-ghost use Rattle.translate_cmd.specs.Items.{unit_of};
-ghost use Rattle.translate_cmd.specs.Cells.{no_progress, next_number, after_cell};
+ghost use Rattle.translate_cmd.specs.Cells.{unit_of, no_progress, next_number, after_cell};
 
 use crate::status::Status;
 use bool_functions::{Memory, Names};

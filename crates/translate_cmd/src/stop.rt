@@ -3,7 +3,7 @@ ghost use Rattle.std.specs.Prelude.{◌≡◌};
 ghost use Rattle.translate_cmd.specs.declared.stop.Stop.TheVariants.{Failed as WasFault, Memory as NoMemory};
 
 use std::alloc::AllocError;
-use text_io::{Failed, ReadFault};
+use text_io::Failed;
 
 /// Why a command stops before its end.
 #[derive(Clone, Copy, Debug, PartialEq, Eq)]
@@ -46,23 +46,10 @@ impl From<bool_functions::Memory> for Stop {
     }
 }
 
-impl From<liberty_groups::Memory> for Stop {
+impl From<cell_cursor::Memory> for Stop {
     ghost from_gives = { λ _ made. made ≡ NoMemory };
 
-    fn from(_error: liberty_groups::Memory) -> Stop {
+    fn from(_error: cell_cursor::Memory) -> Stop {
         Stop::Memory
-    }
-}
-
-impl From<ReadFault> for Stop {
-    ghost use Rattle.translate_cmd.specs.Written.{stop_of};
-
-    ghost from_gives = { λ fault made. made ≡ stop_of fault };
-
-    fn from(fault: ReadFault) -> Stop {
-        match fault {
-            ReadFault::Failed => Stop::Failed,
-            ReadFault::Memory => Stop::Memory,
-        }
     }
 }

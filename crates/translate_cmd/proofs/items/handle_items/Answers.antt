@@ -1,33 +1,63 @@
-use Rattle.std.proofs.Common.{ap, ◌∙◌, not}
+use Rattle.std.proofs.Common.{refl, arith}
+use Rattle.text_io.specs.declared.slots.InSlot.TheVariants.{Library}
 use Rattle.text_io.specs.declared.slots.OutSlot.TheVariants.{VerilogText}
-use Rattle.text_io.specs.declared.slots.Slot.TheVariants.{Output}
+use Rattle.text_io.specs.declared.slots.Slot.TheVariants.{Input, Output}
 use Rattle.text_io.proofs.Took.{bound_still}
-use Rattle.liberty_groups.specs.Answer.{found_in_reading, found_of_bytes, end_of_bytes}
-use Rattle.translate_cmd.proofs.ItemsLemmas.{stops_reading, stops_read, stops_handling, handled_all}
+use Rattle.translate_cmd.proofs.WrittenLaws.{still_bound_all}
+use Rattle.translate_cmd.proofs.ItemsLemmas.{room_kept, ends_on, failed_by, failed_later, never_failed, reached_start, reached_next, stops_first, stops_seeking, stops_between, stops_within, ends_so}
 use Rattle.translate_cmd.proofs.items.handle_items.Goals as goal
 
-pub returns-in_err-taken-clause-text : goal.returns-in_err-taken-clause-text
-returns-in_err-taken-clause-text g c = stops_reading c.args.limit _ _ _ c.args.progress.now _ c.in_err-taken.ensures.err c.from_residual.ensures.0
+pub returns-in_err-cursor-clause-text : goal.returns-in_err-cursor-clause-text
+returns-in_err-cursor-clause-text g c = stops_first _ _ _ _ c.from_residual.ensures.0
 
-pub returns-in_err-found-clause-text : goal.returns-in_err-found-clause-text
-returns-in_err-found-clause-text g c = stops_read c.args.limit _ _ c.args.progress.now _ _ c.in_ok-taken.ensures.ok c.from_residual-in_err-found.ensures.0
+pub loop-turn-init : goal.loop-turn-init
+loop-turn-init g c = record {
+  reached = reached_start c.args.limit _ c.args.progress.now c.in_ok-cursor.cursor c.in_ok-cursor.ensures.limit c.in_ok-cursor.ensures.stands c.in_ok-cursor.ensures.going;
+  library = c.requires.library;
+  verilog = c.requires.verilog;
+  room = omega arith;
+  later = omega arith;
+  failing = never_failed c.in_ok-cursor.cursor.answer c.in_ok-cursor.ensures.going;
+}
 
-pub handle_found-requires-clause-verilog : goal.handle_found-requires-clause-verilog
-handle_found-requires-clause-verilog g c = bound_still _ _ _ _ (Output VerilogText) c.in_ok-taken.ensures.ok.state c.requires.verilog
+pub returns-in-Err-clause-text : goal.returns-in-Err-clause-text
+returns-in-Err-clause-text g c =
+    stops_seeking c.args.limit _ _ _ _ _ _ _ _ c.loop-turn.invariant.reached c.in-Err.ensures.steps.moves refl
 
-pub returns-in_err-handle_found-clause-text : goal.returns-in_err-handle_found-clause-text
-returns-in_err-handle_found-clause-text g c =
-    stops_handling c.args.limit _ _ _ c.args.progress.now c.handle_found.new.progress c.in_ok-taken.taken (found_in_reading c.in_ok-found.found) _ _ c.in_ok-taken.ensures.ok
-    (c.in_ok-found.ensures.found ∙ ap found_of_bytes c.as_slice.ensures.value)
-    (rw (c.as_slice-cells.ensures.value, c.as_slice-units.ensures.value, c.as_slice-files.ensures.value) at c.in_err-handle_found.ensures.text)
-    c.from_residual-in_err-handle_found.ensures.0
+pub returns-in-Err-clause-cause : goal.returns-in-Err-clause-cause
+returns-in-Err-clause-cause g c = record {
+  later = omega (arith, c.in-Err.ensures.later, c.loop-turn.invariant.later);
+  failed = λ e. failed_by _ _ _ _ c.loop-turn.invariant.later c.in-Err.ensures.later c.loop-turn.invariant.failing (c.in-Err.ensures.failed e);
+}
+
+pub handle_item-requires-clause-bound : goal.handle_item-requires-clause-bound
+handle_item-requires-clause-bound g c =
+    bound_still _ _ _ _ (Output VerilogText) c.in-Ok-Item.ensures.steps.moves.takes.state c.loop-turn.invariant.verilog
+
+pub returns-in_err-handle_item-in-Ok-Item-clause-text : goal.returns-in_err-handle_item-in-Ok-Item-clause-text
+returns-in_err-handle_item-in-Ok-Item-clause-text g c =
+    let moves = rw c.in-Ok-Item.field-0-is at c.in-Ok-Item.ensures.steps.moves in
+    stops_within c.args.limit _ _ _ _ _ _ _ _ _ c.in-Ok-Item.item _ _ c.loop-turn.invariant.reached moves (ends_on _ _ _ _ _ moves c.in-Ok-Item.ensures.kept)
+    c.in_err-handle_item-in-Ok-Item.ensures.text c.from_residual-in_err-handle_item-in-Ok-Item.ensures.0
+
+pub returns-in-Ok-Ended-clause-text : goal.returns-in-Ok-Ended-clause-text
+returns-in-Ok-Ended-clause-text g c =
+    let moves = rw c.in-Ok-Ended.field-0-is at c.in-Ok-Ended.ensures.steps.moves in
+    ends_so c.args.limit _ _ _ _ _ _ _ c.in-Ok-Ended.ending c.loop-turn.invariant.reached moves (ends_on _ _ _ _ _ moves c.in-Ok-Ended.ensures.kept)
+    (rw c.in-Ok-Ended.field-0-is at c.in-Ok-Ended.ensures.steps.ended)
+
+pub loop-turn-preserved : goal.loop-turn-preserved
+loop-turn-preserved g c =
+    let moves = rw c.in-Ok-Item.field-0-is at c.in-Ok-Item.ensures.steps.moves in
+    let text = c.in_ok-handle_item-in-Ok-Item.ensures.text.whole in
+    record {
+      reached = reached_next c.args.limit _ _ _ _ _ _ _ _ _ c.in-Ok-Item.item c.loop-turn.invariant.reached moves (ends_on _ _ _ _ _ moves c.in-Ok-Item.ensures.kept) text c.in_ok-handle_item-in-Ok-Item.ensures.progress;
+      library = still_bound_all _ _ _ (Input Library) text (bound_still _ _ _ _ (Input Library) moves.takes.state c.loop-turn.invariant.library);
+      verilog = still_bound_all _ _ _ (Output VerilogText) text (bound_still _ _ _ _ (Output VerilogText) moves.takes.state c.loop-turn.invariant.verilog);
+      room = room_kept c.loop-turn.progress c.handle_item.new.progress c.in-Ok-Item.item c.loop-turn._turn c.in_ok-handle_item-in-Ok-Item.ensures.progress c.loop-turn.invariant.room;
+      later = omega (arith, c.in-Ok-Item.ensures.later, c.in_ok-handle_item-in-Ok-Item.ensures.cause.later);
+      failing = λ f. failed_later _ _ _ (failed_by _ _ _ _ c.loop-turn.invariant.later c.in-Ok-Item.ensures.later c.loop-turn.invariant.failing (c.in-Ok-Item.ensures.failing f)) c.in_ok-handle_item-in-Ok-Item.ensures.cause.later;
+    }
 
 pub returns-clause-text : goal.returns-clause-text
-returns-clause-text g c =
-    handled_all c.args.limit _ _ _ c.args.progress.now c.handle_found.new.progress c.in_ok-taken.taken (found_in_reading c.in_ok-found.found) c.in_ok-found.found.end c.ending_by.result
-    c.in_ok-taken.ensures.ok
-    (c.in_ok-found.ensures.found ∙ ap found_of_bytes c.as_slice.ensures.value)
-    (c.in_ok-found.ensures.end ∙ ap (λ t. end_of_bytes t (not c.in_ok-taken.taken.more)) c.as_slice.ensures.value)
-    (rw (c.as_slice-cells.ensures.value, c.as_slice-units.ensures.value, c.as_slice-files.ensures.value) at c.in_ok-handle_found.ensures.text.whole)
-    (rw (c.as_slice-cells.ensures.value, c.as_slice-units.ensures.value, c.as_slice-files.ensures.value) at c.in_ok-handle_found.ensures.progress)
-    c.ending_by.ensures
+returns-clause-text g c = stops_between c.args.limit _ _ _ _ _ _ c.loop-turn.invariant.reached refl

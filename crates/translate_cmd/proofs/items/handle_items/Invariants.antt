@@ -1,0 +1,18 @@
+use Rattle.std.proofs.Common.{◌≡◌, ◌+◌, ◌≤◌, true, IsTrue}
+use Rattle.text_io.specs.declared.slots.InSlot.TheVariants.{Library}
+use Rattle.text_io.specs.declared.slots.OutSlot.TheVariants.{VerilogText}
+use Rattle.text_io.specs.declared.slots.Slot.TheVariants.{Input, Output}
+use Rattle.text_io.specs.Desk.{is_bound, Rose}
+use Rattle.cell_cursor.specs.Stands.{is_failed}
+use Rattle.translate_cmd.specs.Reached.{Reached}
+use Rattle.translate_cmd.proofs.items.handle_items.Given as goal
+
+abbrev pub invariant-loop-turn : goal.invariant-loop-turn
+invariant-loop-turn g l = record {
+  reached : Reached l.limit (g.D.Desk.state l.fn.desk) (g.D.Desk.state l.desk) l.fn.progress l.progress l.cursor;
+  library : IsTrue (is_bound (g.D.Desk.state l.desk) (Input Library));
+  verilog : IsTrue (is_bound (g.D.Desk.state l.desk) (Output VerilogText));
+  room : l.progress.accepted + l.progress.refused ≤ l._turn;
+  later : g.D.Desk.faults l.fn.desk ≤ g.D.Desk.faults l.desk;
+  failing : is_failed l.cursor.answer ≡ true → Rose (g.D.Desk.faults l.fn.desk) (g.D.Desk.faults l.desk);
+}

@@ -113,6 +113,62 @@ module P (a, A, pin3, D_1);
 endmodule
 ";
 
+const CLOCK_GATE: &str = "library (L) { time_unit : \"1ps\"; cell (GATE) {
+pin (CK) { direction : input; } pin (E) { direction : input; } pin (SE) { direction : input; }
+pin (IQ) { direction : internal; internal_node : \"IQ\"; }
+pin (GCK) { direction : output; state_function : \"CK * IQ\"; }
+statetable (\"CK E SE\", \"IQ\") { table : \"L L L : - : L, L L H : - : H, L H L : - : H, L H H : - : H, H - - : - : N\"; }
+} }";
+
+const CLOCK_GATE_MODULE: &str = "module GATE (CK, E, SE, GCK);
+  input CK;
+  input E;
+  input SE;
+  output GCK;
+  wire lib_s1;
+  lib_1_1 (lib_s1, CK, E, SE);
+  lib_1_2 (GCK, CK, lib_s1);
+endmodule
+";
+
+const SCAN_FLIP_FLOP: &str = "library (L) { time_unit : \"1ns\"; cell (SDFFR) {
+pin (D) { direction : input;
+timing () { timing_type : setup_rising; related_pin : \"CK\"; rise_constraint (s) { values (\"0.05, 0.0612\"); } }
+timing () { timing_type : hold_rising; related_pin : \"CK\"; rise_constraint (s) { values (\"-0.012\"); } }
+}
+pin (SI SE CK RN) { direction : input; }
+ff (IQ, IQN) { next_state : \"(SE*SI)+(D*!SE)\"; clocked_on : \"CK\"; clear : \"!RN\"; }
+pin (Q) { direction : output; function : \"IQ\";
+timing () { related_pin : \"CK\"; when : \"SE\"; cell_rise (s) { values (\"0.1105\"); } cell_fall (s) { values (\"0.0981\"); } }
+timing () { related_pin : \"CK\"; when : \"!SE\"; cell_rise (s) { values (\"0.1082\"); } cell_fall (s) { values (\"0.0990\"); } }
+timing () { related_pin : \"CK\"; cell_rise (s) { values (\"0.1105\"); } cell_fall (s) { values (\"0.0990\"); } }
+}
+} }";
+
+const SCAN_FLIP_FLOP_MODULE: &str = "module SDFFR (D, SI, SE, CK, RN, Q);
+  input D;
+  input SI;
+  input SE;
+  input CK;
+  input RN;
+  output Q;
+  wire lib_s1;
+  wire lib_c1;
+  wire lib_c2;
+  reg lib_n;
+  lib_1_1 (lib_s1, D, SI, SE, CK, RN, lib_n);
+  lib_1_2 (lib_c1, SE);
+  lib_1_3 (lib_c2, SE);
+  lib_1_4 (Q, lib_s1);
+  specify
+    if (lib_c1) (CK => Q) = (111, 99);
+    if (lib_c2) (CK => Q) = (109, 99);
+    ifnone (CK => Q) = (111, 99);
+    $setup(D, posedge CK, 62, lib_n);
+  endspecify
+endmodule
+";
+
 /// A desk with one file, the library, at which the calls with these numbers fail.
 fn desk(alloc: Global, library: &str, failing: &[u64]) -> Result<MemoryDesk, Fail> {
     let mut words = Vec::new(alloc);
@@ -174,6 +230,21 @@ fn libraries_are_translated(rt: HostRuntime) -> Result<(), Fail> {
         assert_eq!(rt; desk.written(OutSlot::VitalText), b"".as_slice());
         assert_eq!(rt; desk.written(OutSlot::Report), report.as_bytes());
         assert_eq!(rt; desk.written(OutSlot::Faults), faults.as_bytes());
+    }
+    Ok(())
+}
+
+#[test]
+fn modules_stand_behind_their_primitives(rt: HostRuntime) -> Result<(), Fail> {
+    let alloc = rt.alloc();
+    for (library, module) in [
+        (CLOCK_GATE, CLOCK_GATE_MODULE),
+        (SCAN_FLIP_FLOP, SCAN_FLIP_FLOP_MODULE),
+    ] {
+        let mut desk = desk(alloc, library, &[])?;
+        assert_eq!(rt; run(alloc, &mut desk), Status::Done);
+        let verilog = desk.written(OutSlot::VerilogText);
+        assert!(rt; verilog.ends_with(module.as_bytes()));
     }
     Ok(())
 }

@@ -12,3 +12,4 @@ pub mod Appearances
 pub mod Readings
 pub mod Bounds
 pub mod Renamings
+pub mod SameTreeLemmas

@@ -9,3 +9,4 @@ pub mod Machine
 pub mod State
 pub mod FunctionText
 pub mod Laws
+pub mod SameTrees

@@ -4,6 +4,7 @@ ghost use Rattle.std.specs.List.{list_any};
 ghost use Rattle.std.specs.List.Sorted.{IsStrictlyIncreasing};
 ghost use Rattle.bool_functions.specs.Tree.{value_of, value_by, name_bound, names_of, Has, renamed_by};
 ghost use Rattle.bool_functions.specs.Support.{inserted, insert_all, support_of};
+ghost use Rattle.bool_functions.specs.SameTrees.{same_tree};
 ghost use Rattle.bool_functions.specs.Point.{entry_of, IsTable, HasValues};
 ghost use Rattle.bool_functions.specs.declared.tree.Node.TheVariants as tree;
 
@@ -79,7 +80,8 @@ impl Function {
 
     /// Whether the two trees are equal. Takes no memory.
     pub fn same(&self, other: &Function) -> bool
-        ensures { IsTrue result ↔ (self.now ≡ other.now) }
+        ensures equal { IsTrue result ↔ (self.now ≡ other.now) }
+        ensures test { result ≡ same_tree self.now other.now }
     {
         same(&self.node, &other.node)
     }

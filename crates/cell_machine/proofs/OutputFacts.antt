@@ -2,9 +2,11 @@
 use Rattle.std.proofs.Common.{◌≡◌, ℕ, zero, suc, ◌+◌, ◌*◌, ◌<◌, ◌≤◌, Bool, true, false, List, [], ◌∷◌, length, map, refl, sym, ◌∙◌, subst, arith, IsTrue, Some, slice_get, nat_eq, nat_lt, eqb-true, if◌then◌else◌}
 use Rattle.std.specs.Prelude.{flat_map}
 use Rattle.std.specs.List.{list_all}
+use Rattle.std.specs.Option.{option_map_or}
 use Rattle.std.proofs.lemmas.List.Folds.{list_all-append}
 use Rattle.std.proofs.lemmas.List.{length-map}
 use Rattle.std.proofs.lemmas.Bool.{and_parts, and_from, ltb-true, lt-ltb, leb-true}
+use Rattle.trit_cubes.specs.declared.trits.Trit.TheVariants.{Unknown}
 use Rattle.bool_functions.specs.Tree.{names_of}
 use Rattle.cell_machine.specs.declared.pins.Pin.{Pin}
 use Rattle.cell_machine.specs.declared.groups.StateGroup.{StateGroup}
@@ -14,6 +16,8 @@ use Rattle.cell_machine.specs.declared.outputs.OutputPin.{OutputPin}
 use Rattle.cell_machine.specs.declared.cells.Cell.{Cell}
 use Rattle.cell_machine.specs.Names.{has, source_name}
 use Rattle.cell_machine.specs.CellRules.{is_input_pin, second_names, names_behind, is_source, is_output_of}
+use Rattle.cell_machine.specs.Outputs.{output_at}
+use Rattle.cell_machine.specs.CellTrace.{value_of_output}
 use Rattle.cell_machine.specs.Supports.{StatesBelow, OutputFacts}
 use Rattle.cell_machine.proofs.RuleLemmas.{few_pins, few_groups, outputs_hold}
 use Rattle.cell_machine.proofs.CellFacts.{input-below, has-all, name_bound-below}
@@ -106,3 +110,10 @@ pub cell_output_facts :
 cell_output_facts cell i output e =
     output_facts cell.pins cell.groups output (few_pins cell) (few_groups cell)
     (all-at (is_output_of cell.pins cell.groups) cell.outputs i output (outputs_hold cell) e)
+
+-- the value of the output that has the number i
+pub value_of_output-is :
+    (cell : Cell) (i : ℕ) (output : OutputPin)
+    → slice_get cell.outputs i ≡ Some output → value_of_output cell i ≡ output_at (length cell.pins) cell.groups output
+value_of_output-is cell i output e =
+    λ j point. option_map_or (λ (o : OutputPin). output_at (length cell.pins) cell.groups o point) (e j) Unknown

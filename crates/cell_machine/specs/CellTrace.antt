@@ -150,6 +150,16 @@ abbrev pub output_value : List Pin → List StateGroup → List Trit → List Tr
 output_value pins groups v states output =
     res (output_at (length pins) groups output) (map (source_value pins v states) output.support)
 
+-- the support of output i, none where there is no such output
+abbrev pub sources_of_output : Cell → ℕ → List Source
+sources_of_output cell i = option_map_or (λ (output : OutputPin). output.support) (slice_get cell.outputs i) []
+
+-- the value of output i at a point of its support, X where there is no such output
+abbrev pub value_of_output : Cell → ℕ → List Bool → Trit
+value_of_output cell i point =
+    option_map_or (λ (output : OutputPin). output_at (length cell.pins) cell.groups output point)
+    (slice_get cell.outputs i) Unknown
+
 abbrev pub output_after : Cell → List Change → OutputPin → Trit
 output_after cell h output =
     output_value cell.pins cell.groups (inputs_after (inputs_of cell) h) (states_after cell h) output
@@ -168,7 +178,7 @@ abbrev pub is_quiet : List Pin → List Trit → Arc → Arc → Bool
 is_quiet pins v arc other = not (same_pins arc other) || is_off pins v other.condition
 
 -- Whether an arc is active: one with a condition where that is not 0; one without where the conditions of all other
--- arcs of its two pins are 0 (IEEE 1364-2005, clause 14.2.4.3: ifnone; this project's rule for unknowns).
+-- arcs of its two pins are 0 (IEEE 1364-2005, clause 14.2.4.4: ifnone; this project's rule for unknowns).
 abbrev pub is_active : List Pin → List Arc → List Trit → Arc → Option Node → Bool
 is_active pins arcs v arc None = list_all (is_quiet pins v arc) arcs
 is_active pins arcs v arc (Some f) = not (is_zero (condition_value pins v f))

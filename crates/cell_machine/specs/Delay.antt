@@ -30,6 +30,6 @@ abbrev pub active_delays : Trit → Trit → List Path → List ℕ
 active_delays a b paths = map (path_delay a b) (filter (λ (path : Path). path.active) paths)
 
 -- The delay of an output's change from a to b: the least over the active paths, 0 where none is active. (IEEE
--- 1364-2005, clause 14.4, and IEEE 1076.4-2000, VitalPathDelay01, as this project reads them.)
+-- 1364-2005, clause 14.3.3, and IEEE 1076.4-2000, VitalPathDelay01, as this project reads them.)
 abbrev pub least_delay : Trit → Trit → List Path → ℕ
 least_delay a b paths = unwrap_or (least (active_delays a b paths)) 0

@@ -55,7 +55,7 @@ is_within at limit (Some opened) = nat_lt at (opened + limit)
 
 -- Whether a check reports at the newest change of a history of n inputs: the change is its second event, its condition
 -- is 1 with the values after the change, and the last first event before it came less than the limit before.
--- (IEEE 1364-2005, clause 15, and IEEE 1076.4-2000, clause 10, as this project reads them: the condition counts at the
+-- (IEEE 1364-2005, clause 15, and IEEE 1076.4-2000, as this project reads them: the condition counts at the
 -- second event alone, and a distance that equals the limit is no violation.)
 abbrev pub report : ℕ → InputCheck → List Change → Bool
 report n k [] = false

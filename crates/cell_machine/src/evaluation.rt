@@ -8,7 +8,7 @@ ghost use Rattle.cell_machine.specs.Values.{no_values, written, IsBounded};
 ghost use Rattle.cell_machine.specs.Step.{trit_of, KindIsBounded};
 ghost use Rattle.cell_machine.specs.Outputs.{second_by, second_value, second_names, second_trits, chosen_value, condition_at, is_one, is_zero};
 ghost use Rattle.cell_machine.specs.Inputs.{pin_value, pin_values};
-ghost use Rattle.cell_machine.specs.CellTrace.{source_value, output_value, condition_value};
+ghost use Rattle.cell_machine.specs.CellTrace.{source_value, sources_of_output, value_of_output, output_value, condition_value};
 ghost use Rattle.cell_machine.specs.Supports.{StatesBelow, OutputFacts};
 
 use crate::cells::Cell;
@@ -158,6 +158,34 @@ fn source_value(pins: &[Pin], inputs: &[Trit], states: &[Trit], source: Source) 
             None => Trit::Unknown,
         },
     }
+}
+
+// The values of the names where these sources have the values of a point.
+fn values_at(cell: &Cell, sources: &[Source], point: &[bool]) -> Values
+    requires lengths { length sources.now ≡ length point.now }
+    requires states { StatesBelow (length cell.now.groups) sources.now }
+    ensures { result ≡ written no_values (map (source_name (length cell.now.pins)) sources.now) point.now }
+{
+    let mut values = Values::new();
+    for i in 0..sources.len() {
+        values = values.with(source_name(cell, sources[i]), point[i]);
+    }
+    values
+}
+
+/// The value of the output with this number from 0, where the pins and the states of its support have the values of
+/// `point`, one for each. The second variable of a group is what the group gives there; where it may have either value
+/// and the output is not the same for both, the answer is unknown. (Liberty Reference Manual, `function`, and
+/// `clear_preset_var2` of `ff` and `latch` groups.)
+pub fn output_at(cell: &Cell, output: usize, point: &[bool]) -> Trit
+    requires output { output < length cell.now.outputs }
+    requires point { length point.now ≡ length (sources_of_output cell.now output) }
+    ensures { result ≡ value_of_output cell.now output point.now }
+{
+    let output = cell.output_pin(output);
+    let sources = output.support.as_slice();
+    let values = values_at(cell, sources, point);
+    chosen_from(cell, &output.function, sources, &values, values)
 }
 
 /// The value of an output where the inputs and the states have these values.

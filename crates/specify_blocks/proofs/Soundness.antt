@@ -27,7 +27,7 @@ use Rattle.cell_machine.proofs.OutputFacts.{all-at}
 use Rattle.cell_machine.proofs.StepLemmas.{ascending}
 use Rattle.cell_machine.proofs.RuleLemmas.{check_parts}
 use Rattle.udp_tables.specs.declared.table.Udp.{Udp}
-use Rattle.udp_tables.specs.SameTrees.{same_tree}
+use Rattle.bool_functions.specs.SameTrees.{same_tree}
 use Rattle.udp_tables.specs.Edges.{each_below}
 use Rattle.udp_tables.specs.CellData.{CellData}
 use Rattle.udp_tables.specs.Conditions.{conditions_of, condition_place}

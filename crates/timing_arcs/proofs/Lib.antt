@@ -5,6 +5,5 @@ pub mod Lists
 pub mod MergingLemmas
 pub mod OffsetLemmas
 pub mod RelatedLemmas
-pub mod SameTree
 pub mod SoundLemmas
 pub mod SumLemmas

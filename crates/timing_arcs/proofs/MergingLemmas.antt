@@ -11,10 +11,10 @@ use Rattle.std.proofs.Math.Logic.{inl, inr}
 use Rattle.bool_functions.specs.declared.tree.Node.{Node}
 use Rattle.cell_machine.specs.declared.arcs.Arc.{Arc}
 use Rattle.timing_arcs.specs.Tables.{greatest}
-use Rattle.timing_arcs.specs.Merging.{same_tree, same_condition, same_path, Placed, firsts_after, firsts, merged_into, merged, merged_at}
+use Rattle.timing_arcs.specs.Merging.{same_condition, same_path, Placed, firsts_after, firsts, merged_into, merged, merged_at}
 use Rattle.timing_arcs.specs.Adding.{joined_with, with_arc}
 use Rattle.timing_arcs.proofs.Lists.{or-false}
-use Rattle.timing_arcs.proofs.SameTree.{same_tree-equal, same_tree-refl}
+use Rattle.bool_functions.proofs.SameTreeLemmas.{same_tree-equal, same_tree-refl}
 use Rattle.timing_arcs.proofs.SumLemmas.{greatest-append}
 
 -- equal conditions are equal

@@ -1,7 +1,7 @@
 //! Arcs that are merged as they come.
 ghost use Rattle.std.specs.Prelude.{◌≡◌, [], ◌∷◌, ◌++◌, ◌==◌, map, IfOk, IsTrue, not};
 ghost use Rattle.std.specs.List.{list_any};
-ghost use Rattle.timing_arcs.specs.Merging.{same_tree, same_condition, same_path};
+ghost use Rattle.timing_arcs.specs.Merging.{same_condition, same_path};
 ghost use Rattle.timing_arcs.specs.Adding.{joined_with, with_arc};
 
 use crate::fault::Memory;
@@ -30,20 +30,13 @@ impl Model for ArcList {
     ghost view = { λ a. a.arcs.items };
 }
 
-/// Whether two trees are equal.
-fn same_tree(one: &Function, other: &Function) -> bool
-    ensures { result ≡ same_tree one.now other.now }
-{
-    one.same(other)
-}
-
 /// Whether two conditions are equal: the same tree, or none.
 fn same_condition(one: &Option<Function>, other: &Option<Function>) -> bool
     ensures { result ≡ same_condition one.now other.now }
 {
     match (one, other) {
         (None, None) => true,
-        (Some(one), Some(other)) => same_tree(one, other),
+        (Some(one), Some(other)) => one.same(other),
         (None, Some(_)) => false,
         (Some(_), None) => false,
     }

@@ -6,14 +6,14 @@ use Rattle.trit_cubes.proofs.ListLemmas.{Among, contains-among, append-among_lef
 use Rattle.bool_functions.specs.declared.tree.Node.{Node}
 use Rattle.udp_tables.specs.declared.cell_primitives.Part.TheVariants as part
 use Rattle.udp_tables.specs.declared.table.UdpRow.{UdpRow}
-use Rattle.udp_tables.specs.SameTrees.{same_tree}
+use Rattle.bool_functions.specs.SameTrees.{same_tree}
 use Rattle.udp_tables.specs.Sequential.{udp_next, noted, sequential_rows, changes_in}
 use Rattle.udp_tables.specs.Conditions.{added, added_all, used_conditions, condition_place}
 use Rattle.udp_tables.specs.CellPrimitives.{has_notifier, group_support, step_of_group, group_inputs, sources_at, output_value_at, part_places, part_value}
 use Rattle.udp_tables.specs.PortNames.{input_names}
 use Rattle.udp_tables.specs.Laws.{PartsResolve, GroupsAreMachines, GroupsAreForced, GroupsAreSequential, ConditionsAreNumbered}
 use Rattle.udp_tables.proofs.FirstLemmas.{any-found}
-use Rattle.udp_tables.proofs.SameTreeLemmas.{same_tree-equal, same_tree-refl}
+use Rattle.bool_functions.proofs.SameTreeLemmas.{same_tree-equal, same_tree-refl}
 use Rattle.udp_tables.proofs.TableLemmas.{function_rows-res, length-input_names}
 use Rattle.udp_tables.proofs.CountLemmas.{sequential-fit, all-rows}
 use Rattle.udp_tables.proofs.LawLemmas.{rows_are_machine-lem, notifier_forces-lem}

@@ -12,7 +12,6 @@ pub mod GroupLemmas
 pub mod FirstLemmas
 pub mod ColumnLemmas
 pub mod CubeLemmas
-pub mod SameTreeLemmas
 pub mod TableLemmas
 pub mod GenerationLemmas
 pub mod RowLemmas

@@ -23,7 +23,7 @@ use Rattle.cell_machine.proofs.RuleLemmas.{few_pins, checks_hold, arcs_hold, che
 use Rattle.cell_machine.proofs.CellFacts.{input-below, list_all-implied, name_bound-below}
 use Rattle.cell_machine.proofs.TimingFacts.{support-passes}
 use Rattle.udp_tables.specs.CellData.{data_of}
-use Rattle.udp_tables.specs.SameTrees.{same_tree}
+use Rattle.bool_functions.specs.SameTrees.{same_tree}
 use Rattle.udp_tables.specs.Conditions.{condition_list, conditions_by, arc_conditions, used_conditions, added, added_all, conditions_of, IsSmall}
 use Rattle.udp_tables.specs.CellPrimitives.{sources_at, output_value_at}
 

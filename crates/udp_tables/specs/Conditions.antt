@@ -8,7 +8,7 @@ use Rattle.bool_functions.specs.Support.{support_of}
 use Rattle.cell_machine.specs.declared.checks.Check.{Check}
 use Rattle.cell_machine.specs.declared.arcs.Arc.{Arc}
 use Rattle.cell_machine.specs.CellTrace.{same_pins}
-use Rattle.udp_tables.specs.SameTrees.{same_tree}
+use Rattle.bool_functions.specs.SameTrees.{same_tree}
 use Rattle.udp_tables.specs.CellData.{CellData}
 
 -- a condition that may be absent, as a list
@@ -21,7 +21,7 @@ abbrev pub conditions_beside : List Arc → Arc → List Node
 conditions_beside arcs arc = flat_map (λ (other : Arc). condition_list other.condition) (filter (same_pins arc) arcs)
 
 -- What an arc uses: its condition. One without uses those of all arcs of its two pins, since it is active where they are
--- all 0 (IEEE 1364-2005, clause 14.2.4.3: ifnone).
+-- all 0 (IEEE 1364-2005, clause 14.2.4.4: ifnone).
 abbrev pub conditions_by : List Arc → Arc → Option Node → List Node
 conditions_by arcs arc None = conditions_beside arcs arc
 conditions_by arcs arc (Some f) = f ∷ []

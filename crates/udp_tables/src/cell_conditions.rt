@@ -3,7 +3,7 @@ ghost use Rattle.std.specs.Prelude.{◌≡◌, map, flat_map, IfOk, OnOk};
 ghost use Rattle.cell_machine.specs.declared.checks.Check.{Check};
 ghost use Rattle.std.specs.List.{list_any};
 ghost use Rattle.cell_machine.specs.CellTrace.{same_pins};
-ghost use Rattle.udp_tables.specs.SameTrees.{same_tree};
+ghost use Rattle.bool_functions.specs.SameTrees.{same_tree};
 ghost use Rattle.udp_tables.specs.CellData.{data_of};
 ghost use Rattle.udp_tables.specs.Conditions.{condition_list, conditions_beside, arc_conditions, added, added_all, conditions_of, condition_place};
 
@@ -29,18 +29,11 @@ pub fn condition_number(conditions: &[&Function], condition: &Function) -> usize
     ensures { result ≡ condition_place (map (λ other. other.now) conditions.now) condition.now }
 {
     for (i, other) in conditions.iter().enumerate() {
-        if same_tree(condition, other) {
+        if condition.same(other) {
             return i;
         }
     }
     conditions.len()
-}
-
-// Whether two trees are equal.
-fn same_tree(one: &Function, other: &Function) -> bool
-    ensures { result ≡ same_tree one.now other.now }
-{
-    one.same(other)
 }
 
 // Whether one of the conditions is this tree.
@@ -48,7 +41,7 @@ fn holds(conditions: &[&Function], condition: &Function) -> bool
     ensures { result ≡ list_any (same_tree condition.now) (map (λ other. other.now) conditions.now) }
 {
     for other in conditions {
-        if same_tree(condition, other) {
+        if condition.same(other) {
             return true;
         }
     }

@@ -5,7 +5,7 @@ ghost use Rattle.cell_machine.specs.Machine.{insert, edge_value, forced_at};
 ghost use Rattle.cell_machine.specs.Step.{trit_of};
 ghost use Rattle.cell_machine.specs.CellTrace.{support_at, step_at};
 
-use cell_machine::{Cell, boolean_step, forced};
+use cell_machine::{Cell, boolean_step, forced, trit_of};
 use std::marker::Model;
 use trit_cubes::Trit;
 
@@ -80,13 +80,6 @@ impl Bits {
     {
         &self.bits[..self.len]
     }
-}
-
-/// A known value as a trit.
-pub(crate) fn trit_of(bit: bool) -> Trit
-    ensures { result ≡ trit_of bit }
-{
-    if bit { Trit::One } else { Trit::Zero }
 }
 
 /// Whether each change to this point and no change force the state of a group to the value.

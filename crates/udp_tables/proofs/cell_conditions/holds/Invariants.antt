@@ -1,6 +1,6 @@
 use Rattle.std.proofs.Common.{◌≡◌, map, drop}
 use Rattle.std.specs.List.{list_any}
-use Rattle.udp_tables.specs.SameTrees.{same_tree}
+use Rattle.bool_functions.specs.SameTrees.{same_tree}
 use Rattle.udp_tables.proofs.cell_conditions.holds.Given as goal
 
 abbrev pub invariant-loop-other : goal.invariant-loop-other

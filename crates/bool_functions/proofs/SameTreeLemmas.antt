@@ -8,7 +8,7 @@ use Rattle.bool_functions.specs.declared.tree.Node.TheVariants as node
 use Rattle.bool_functions.specs.declared.tree.Node.TheOpen.{Node-F}
 use Rattle.bool_functions.specs.declared.tree.Node.TheViews.{roll-out-Node, out-roll-Node, rolls-Zero, rolls-One, rolls-Name, rolls-Not, rolls-Xor, rolls-And, rolls-Or}
 use Rattle.bool_functions.proofs.Trees.{every_tree, fold-Zero, fold-One, fold-Name, fold-Not, fold-Xor, fold-And, fold-Or}
-use Rattle.udp_tables.specs.SameTrees.{same_step, same_tree}
+use Rattle.bool_functions.specs.SameTrees.{same_step, same_tree}
 
 -- what an operator that equals another one is
 from_zero : (k : Node-F Node) → same_step Node-F.Zero k ≡ true → k ≡ Node-F.Zero

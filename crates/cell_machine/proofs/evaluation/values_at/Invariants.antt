@@ -2,7 +2,7 @@ use Rattle.std.proofs.Common.{◌≡◌, map, drop, length}
 use Rattle.cell_machine.specs.Names.{source_name}
 use Rattle.cell_machine.specs.Values.{no_values, written}
 use Rattle.cell_machine.specs.Supports.{StatesBelow}
-use Rattle.udp_tables.proofs.cell_values.NameValues.at.Given as goal
+use Rattle.cell_machine.proofs.evaluation.values_at.Given as goal
 
 -- writing the rest gives what writing all gives
 abbrev pub invariant-loop-i : goal.invariant-loop-i

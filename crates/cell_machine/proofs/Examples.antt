@@ -13,7 +13,8 @@ use Rattle.cell_machine.specs.declared.changes.Change.{Change}
 use Rattle.cell_machine.specs.Report.{InputCheck, report}
 use Rattle.cell_machine.specs.Machine.{Step, machine_step, forced}
 use Rattle.cell_machine.specs.Values.{no_values}
-use Rattle.cell_machine.specs.Step.{trit_of, group_step}
+use Rattle.trit_cubes.specs.Filling.{trit_of}
+use Rattle.cell_machine.specs.Step.{group_step}
 use Rattle.cell_machine.specs.Delay.{least_delay}
 
 -- A flip-flop of a clock and a data input.

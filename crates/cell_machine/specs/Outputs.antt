@@ -3,6 +3,7 @@ use Rattle.std.specs.Prelude.{ℕ, ◌+◌, Bool, true, false, not, ◌&&◌, Li
 use Rattle.std.specs.Option.{option_map_or}
 use Rattle.trit_cubes.specs.declared.trits.Trit.{Trit}
 use Rattle.trit_cubes.specs.declared.trits.Trit.TheVariants.{Zero, One, Unknown}
+use Rattle.trit_cubes.specs.Filling.{trit_of}
 use Rattle.trit_cubes.specs.Resolution.{res}
 use Rattle.bool_functions.specs.declared.tree.Node.{Node}
 use Rattle.bool_functions.specs.Tree.{value_of}
@@ -15,7 +16,7 @@ use Rattle.cell_machine.specs.declared.outputs.Source.TheVariants as source
 use Rattle.cell_machine.specs.declared.outputs.OutputPin.{OutputPin}
 use Rattle.cell_machine.specs.Names.{state_name, source_name}
 use Rattle.cell_machine.specs.Values.{no_values, written, is_on}
-use Rattle.cell_machine.specs.Step.{trit_of, both_value}
+use Rattle.cell_machine.specs.Step.{both_value}
 
 -- The second variable of a group at a point with the state s: the value given for that where clear and preset are both
 -- 1, else the inverse of the state (Liberty Reference Manual, clear_preset_var2). X stands for either value.

@@ -1,7 +1,8 @@
 -- The step of a group over points: its next state, given the inputs before and after a change and the state, all known.
-use Rattle.std.specs.Prelude.{ℕ, Bool, true, false, not, ◌&&◌, List, Option, Some, None, if◌then◌else◌, ◌≤◌, ⊤}
+use Rattle.std.specs.Prelude.{ℕ, Bool, not, ◌&&◌, List, Option, Some, None, if◌then◌else◌, ◌≤◌, ⊤}
 use Rattle.trit_cubes.specs.declared.trits.Trit.{Trit}
 use Rattle.trit_cubes.specs.declared.trits.Trit.TheVariants.{Zero, One, Unknown}
+use Rattle.trit_cubes.specs.Filling.{trit_of}
 use Rattle.bool_functions.specs.declared.tree.Node.{Node}
 use Rattle.bool_functions.specs.Tree.{value_of, name_bound}
 use Rattle.statetables.specs.Step.{table_step}
@@ -14,11 +15,6 @@ use Rattle.cell_machine.specs.declared.groups.GroupKind.TheVariants as kind
 use Rattle.cell_machine.specs.declared.groups.StateGroup.{StateGroup}
 use Rattle.cell_machine.specs.Machine.{Step}
 use Rattle.cell_machine.specs.Values.{no_values, written, picked, is_on, with_state, IsBounded}
-
--- a known value as a trit
-abbrev pub trit_of : Bool → Trit
-trit_of false = Zero
-trit_of true = One
 
 -- a value as a trit, X where there is none
 abbrev pub trit_or_unknown : Option Bool → Trit

@@ -1,11 +1,12 @@
 //! The values of outputs and conditions: a function is tried on each filling of what it names.
 ghost use Rattle.std.specs.Prelude.{◌≡◌, ◌+◌, ◌<◌, ◌≤◌, Bool, true, false, List, [], ◌∷◌, length, map};
+ghost use Rattle.trit_cubes.specs.Filling.{trit_of};
 ghost use Rattle.trit_cubes.specs.Resolution.{agreed, res};
 ghost use Rattle.bool_functions.specs.Tree.{value_of, name_bound};
 ghost use Rattle.bool_functions.specs.Support.{support_of};
 ghost use Rattle.cell_machine.specs.Names.{source_name};
 ghost use Rattle.cell_machine.specs.Values.{no_values, written, IsBounded};
-ghost use Rattle.cell_machine.specs.Step.{trit_of, KindIsBounded};
+ghost use Rattle.cell_machine.specs.Step.{KindIsBounded};
 ghost use Rattle.cell_machine.specs.Outputs.{second_by, second_value, second_names, second_trits, chosen_value, condition_at, is_one, is_zero};
 ghost use Rattle.cell_machine.specs.Inputs.{pin_value, pin_values};
 ghost use Rattle.cell_machine.specs.CellTrace.{source_value, sources_of_output, value_of_output, output_value, condition_value};
@@ -16,7 +17,7 @@ use crate::groups::{Both, GroupKind};
 use crate::outputs::{OutputPin, Source};
 use crate::pin_values::pin_value;
 use crate::pins::Pin;
-use crate::steps::{both_value, trit_of};
+use crate::steps::both_value;
 use crate::values::Values;
 use bool_functions::Function;
 use trit_cubes::Trit;
@@ -36,7 +37,7 @@ fn second_by(
     if values.is_on(clear) && values.is_on(preset) {
         both_value(both, state)
     } else {
-        trit_of(!state)
+        Trit::from(!state)
     }
 }
 
@@ -57,7 +58,7 @@ impl GroupKind {
                 values,
                 state,
             ),
-            GroupKind::Table { .. } => trit_of(!state),
+            GroupKind::Table { .. } => Trit::from(!state),
         }
     }
 }
@@ -87,7 +88,7 @@ fn chosen_from(
     ensures { result ≡ res (λ choice. trit_of (value_of (written filled (second_names (length cell.now.pins) rest.now) choice) function.now)) (second_trits (length cell.now.pins) cell.now.groups values.now rest.now) }
 {
     let Some((first, rest)) = rest.split_first() else {
-        return trit_of(filled.value(function));
+        return Trit::from(filled.value(function));
     };
     let Source::State(g) = *first else {
         return chosen_from(cell, function, rest, values, filled);
@@ -215,7 +216,7 @@ fn condition_from(
     ensures { result ≡ res (λ p. trit_of (value_of (written values rest.now p) condition.now)) (pin_values pins.now inputs.now rest.now) }
 {
     let Some((first, rest)) = rest.split_first() else {
-        return trit_of(values.value(condition));
+        return Trit::from(values.value(condition));
     };
     let name = *first;
     match pin_value(pins, inputs, name) {

@@ -44,4 +44,3 @@ pub use liberty_sim::LibertySim;
 pub use outputs::{OutputPin, Source};
 pub use pins::{Direction, Pin};
 pub use simulators::CellSim;
-pub use steps::trit_of;

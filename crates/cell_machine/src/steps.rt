@@ -5,20 +5,13 @@ ghost use Rattle.trit_cubes.specs.Resolution.{agreed, res};
 ghost use Rattle.statetables.specs.Step.{table_step, inputs_match, row_matches, row_gives};
 ghost use Rattle.cell_machine.specs.Machine.{around, over};
 ghost use Rattle.cell_machine.specs.Values.{no_values, written, picked, IsBounded};
-ghost use Rattle.cell_machine.specs.Step.{trit_of, trit_or_unknown, both_value, cleared_step, clocked_value, clocked_step, gated_value, gated_step, KindIsBounded};
+ghost use Rattle.cell_machine.specs.Step.{trit_or_unknown, both_value, cleared_step, clocked_value, clocked_step, gated_value, gated_step, KindIsBounded};
 
 use crate::groups::{Both, Clocked, Gated, GroupKind};
 use crate::values::Values;
 use bool_functions::Function;
 use statetables::{InSymbol, StateTable, TableRow};
 use trit_cubes::Trit;
-
-/// A known value as a trit.
-pub fn trit_of(value: bool) -> Trit
-    ensures { result ≡ trit_of value }
-{
-    if value { Trit::One } else { Trit::Zero }
-}
 
 /// What a variable with the value `state` becomes where clear and preset are both 1.
 pub fn both_value(both: Both, state: bool) -> Trit
@@ -27,7 +20,7 @@ pub fn both_value(both: Both, state: bool) -> Trit
     match both {
         Both::Low => Trit::Zero,
         Both::High => Trit::One,
-        Both::Keep => trit_of(state),
+        Both::Keep => Trit::from(state),
         Both::Unknown => Trit::Unknown,
     }
 }
@@ -61,9 +54,9 @@ fn clocked_value(kind: &Clocked, name: usize, before: &Values, after: &Values, s
     ensures { result ≡ clocked_value kind.now name before.now after.now state }
 {
     if !before.value(&kind.clocked_on) && after.value(&kind.clocked_on) {
-        trit_of(after.with_state(name, state).value(&kind.next_state))
+        Trit::from(after.with_state(name, state).value(&kind.next_state))
     } else {
-        trit_of(state)
+        Trit::from(state)
     }
 }
 
@@ -89,9 +82,9 @@ fn gated_value(kind: &Gated, name: usize, after: &Values, state: bool) -> Trit
     ensures { result ≡ gated_value kind.now name after.now state }
 {
     if after.is_on(&kind.enable) {
-        trit_of(after.with_state(name, state).is_on(&kind.data_in))
+        Trit::from(after.with_state(name, state).is_on(&kind.data_in))
     } else {
-        trit_of(state)
+        Trit::from(state)
     }
 }
 
@@ -191,7 +184,7 @@ impl GroupKind {
                 node,
                 inputs,
             } => match table_step(table, *node, inputs.as_slice(), before, after, state) {
-                Some(next) => trit_of(next),
+                Some(next) => Trit::from(next),
                 None => Trit::Unknown,
             },
         }

@@ -1,7 +1,7 @@
 -- What is put together statement by statement is what the definition says of all statements.
-use Rattle.std.proofs.Common.{◌≡◌, ℕ, ◌+◌, Bool, true, false, not, ◌==◌, List, [], ◌∷◌, ◌++◌, map, length, refl, sym, ap, ◌∙◌, arith, append_assoc, append-nil}
-use Rattle.std.specs.Prelude.{Option, Some, None, fold, filter, flat_map, codes, is_none, unwrap_or, Result, Ok, Err, if◌then◌else◌}
-use Rattle.std.specs.List.{list_any, filter_map, cons_option}
+use Rattle.std.proofs.Common.{◌≡◌, ℕ, ◌+◌, Bool, true, false, ◌==◌, List, [], ◌∷◌, ◌++◌, map, refl, sym, ap, ◌∙◌, append_assoc, append-nil}
+use Rattle.std.specs.Prelude.{Option, Some, None, filter, flat_map, codes, Result, Ok, Err, if◌then◌else◌}
+use Rattle.std.specs.List.{list_any, cons_option}
 use Rattle.std.proofs.lemmas.Bool.{cases_Bool}
 use Rattle.std.proofs.lemmas.List.{map-append}
 use Rattle.std.proofs.lemmas.List.Elements.{filter-append}
@@ -19,14 +19,13 @@ use Rattle.timing_arcs.specs.declared.subject.PinTiming.{PinTiming}
 use Rattle.timing_arcs.specs.declared.fault.TimingFault.{TimingFault}
 use Rattle.timing_arcs.specs.declared.fault.TimingFault.TheVariants as fault
 use Rattle.timing_arcs.specs.Attributes.{Attribute, group_named, groups_named}
-use Rattle.timing_arcs.specs.Offsets.{lesser, least}
+use Rattle.timing_arcs.specs.Offsets.{least}
 use Rattle.timing_arcs.specs.Times.{time_of}
 use Rattle.timing_arcs.specs.RelatedPins.{inputs_of, is_left_out}
-use Rattle.timing_arcs.specs.Making.{check, event, has_limit, checks_from, arcs_from, is_made, checks_in, arcs_in}
+use Rattle.timing_arcs.specs.Making.{check, event, has_limit, checks_from, arcs_from, is_made, checks_in}
 use Rattle.timing_arcs.specs.Merging.{Placed, same_path, merged, merged_at}
-use Rattle.timing_arcs.specs.Timing.{timing_groups, malformed_in, unknown_in, own_in, wide_in, bad_numbers_in, pulse_high, pulse_low, pulse_check, pulse_checks, pulse_check_at, bad_pulse, at_each, placed_arcs_in, left_out_at, left_out_from, checks_of, check_at_of, placed_arcs, malformed_at, unknown_names_at, own_conditions_at, numbers_at, wide_at, reading_answer, Gives}
-use Rattle.timing_arcs.specs.Readings.{joined, offsets_in}
-use Rattle.timing_arcs.specs.Adding.{with_check, with_placed, with_checks, with_arcs, with_related, with_inputs, with_noted, with_group, with_optional, with_items, with_number, with_width, with_pulse, nothing_found, found_of, answer_found}
+use Rattle.timing_arcs.specs.Timing.{timing_groups, malformed_in, unknown_in, own_in, wide_in, bad_numbers_in, pulse_high, pulse_low, pulse_checks, pulse_check_at, bad_pulse, at_each, placed_arcs_in, left_out_at, left_out_from, checks_of, check_at_of, numbers_at, reading_answer, Gives}
+use Rattle.timing_arcs.specs.Adding.{with_placed, with_checks, with_arcs, with_inputs, with_noted, with_group, with_optional, with_items, with_width, with_pulse, found_of, answer_found}
 use Rattle.timing_arcs.proofs.OffsetLemmas.{least-append}
 use Rattle.timing_arcs.proofs.MergingLemmas.{merged-append, merged_at-append}
 

@@ -1,6 +1,6 @@
 -- The laws of the timing that is read.
-use Rattle.std.proofs.Common.{◌≡◌, ℕ, zero, suc, ◌+◌, ◌<◌, ◌≤◌, Bool, true, false, not, ◌&&◌, ◌||◌, ◌==◌, List, [], ◌∷◌, ◌++◌, map, length, nat_eq, nat_le, nat_lt, refl, sym, ap, ◌∙◌, subst, arith}
-use Rattle.std.specs.Prelude.{Option, Some, None, Result, Ok, Err, max, codes, filter, flat_map, unwrap_or, slice_get, if◌then◌else◌}
+use Rattle.std.proofs.Common.{◌≡◌, ℕ, zero, suc, ◌+◌, ◌<◌, ◌≤◌, Bool, true, false, not, ◌&&◌, ◌||◌, List, [], ◌∷◌, ◌++◌, map, length, nat_eq, nat_le, nat_lt, refl, sym, ap, ◌∙◌, subst, arith}
+use Rattle.std.specs.Prelude.{Option, Some, None, Result, Ok, codes, filter, flat_map, unwrap_or, slice_get, if◌then◌else◌}
 use Rattle.std.specs.List.{list_all, list_any}
 use Rattle.std.proofs.lemmas.Bool.{cases_Bool, and_parts}
 use Rattle.std.proofs.lemmas.Bool.Decides.{nat_tests}
@@ -14,7 +14,7 @@ use Rattle.cell_machine.specs.declared.checks.Edge.TheVariants.{Rise, Fall}
 use Rattle.cell_machine.specs.declared.checks.Check.{Check}
 use Rattle.cell_machine.specs.declared.arcs.Arc.{Arc}
 use Rattle.cell_machine.specs.declared.pins.Pin.{Pin}
-use Rattle.cell_machine.specs.CellRules.{longest_time, is_input_pin, is_output_pin, is_condition, are_opposite, has_events, is_check, is_arc, AreApart}
+use Rattle.cell_machine.specs.CellRules.{longest_time, is_input_pin, is_output_pin, is_condition, are_opposite, is_check, is_arc, AreApart}
 use Rattle.timing_arcs.specs.declared.fault.TimingFault.{TimingFault}
 use Rattle.timing_arcs.specs.declared.fault.TimingFault.TheVariants as fault
 use Rattle.timing_arcs.specs.declared.subject.Subject.{Subject}
@@ -33,7 +33,7 @@ use Rattle.timing_arcs.specs.Timing.{timing_groups, malformed_at, unknown_names_
 use Rattle.timing_arcs.specs.Laws.{ChecksAreSound, ArcsAreSound, ArcsEndHere, ArcsAreApart, IsPlaced, TimingsArePlaced}
 use Rattle.timing_arcs.proofs.AllLemmas.{both, all-append, all-filter, all-flat_map, all-map, all-weaker}
 use Rattle.timing_arcs.proofs.MergingLemmas.{path-equal}
-use Rattle.timing_arcs.proofs.SoundLemmas.{time_of-within, group-checks, group-arcs, check-kept, is_kept, has-same}
+use Rattle.timing_arcs.proofs.SoundLemmas.{time_of-within, group-checks, group-arcs, check-kept, has-same}
 
 -- Where the answer is a timing nothing is wrong.
 no_fault : (wrong : ℕ → TimingFault) (o : Option ℕ) (answer : Result PinTiming TimingFault) (t : PinTiming) → unless_at wrong o answer ≡ Ok t → (o ≡ None) × (answer ≡ Ok t)

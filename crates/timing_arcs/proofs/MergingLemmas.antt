@@ -1,5 +1,5 @@
 -- Merging one more arc.
-use Rattle.std.proofs.Common.{◌≡◌, ℕ, ◌+◌, Bool, true, false, ◌&&◌, ◌||◌, ◌==◌, List, [], ◌∷◌, ◌++◌, map, refl, sym, ap, ◌∙◌, subst, arith, append-nil}
+use Rattle.std.proofs.Common.{◌≡◌, ℕ, Bool, true, false, ◌&&◌, ◌||◌, ◌==◌, List, [], ◌∷◌, ◌++◌, map, refl, sym, ap, ◌∙◌, arith, append-nil}
 use Rattle.std.specs.Prelude.{Option, Some, None, max, filter, if◌then◌else◌}
 use Rattle.std.specs.List.{list_any}
 use Rattle.std.proofs.lemmas.Bool.{and_parts, eqb-true, cases_Bool}
@@ -13,7 +13,6 @@ use Rattle.cell_machine.specs.declared.arcs.Arc.{Arc}
 use Rattle.timing_arcs.specs.Tables.{greatest}
 use Rattle.timing_arcs.specs.Merging.{same_condition, same_path, Placed, firsts_after, firsts, merged_into, merged, merged_at}
 use Rattle.timing_arcs.specs.Adding.{joined_with, with_arc}
-use Rattle.timing_arcs.proofs.Lists.{or-false}
 use Rattle.bool_functions.proofs.SameTreeLemmas.{same_tree-equal, same_tree-refl}
 use Rattle.timing_arcs.proofs.SumLemmas.{greatest-append}
 

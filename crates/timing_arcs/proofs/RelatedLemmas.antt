@@ -1,5 +1,5 @@
 -- What the names of a timing group are.
-use Rattle.std.proofs.Common.{◌≡◌, ℕ, Bool, true, false, not, ◌||◌, ◌==◌, List, [], ◌∷◌, length, refl}
+use Rattle.std.proofs.Common.{◌≡◌, Bool, true, false, not, ◌||◌, ◌==◌, List, [], ◌∷◌, length, refl}
 use Rattle.std.specs.List.{list_any}
 use Rattle.timing_arcs.specs.declared.related.Related.{Related}
 use Rattle.timing_arcs.specs.RelatedPins.{is_driven}

@@ -1,9 +1,9 @@
 -- The checks and arcs of a group that is read keep the rules of a cell.
-use Rattle.std.proofs.Common.{◌≡◌, ℕ, ◌+◌, ◌≤◌, Bool, true, false, not, ◌&&◌, ◌||◌, ◌==◌, List, [], ◌∷◌, ◌++◌, map, length, nat_eq, nat_le, nat_lt, refl, sym, ap, ◌∙◌, subst, arith}
-use Rattle.std.specs.Prelude.{Option, Some, None, Result, Ok, Err, max, codes, bytes_eq, filter, flat_map, find, unwrap_or, slice_get, ◌⊎◌, if◌then◌else◌}
+use Rattle.std.proofs.Common.{◌≡◌, ℕ, ◌≤◌, Bool, true, false, not, ◌&&◌, ◌||◌, ◌==◌, List, [], ◌∷◌, ◌++◌, map, length, nat_eq, nat_le, nat_lt, refl, sym, ap, ◌∙◌, subst, arith}
+use Rattle.std.specs.Prelude.{Option, Some, None, Result, Ok, Err, max, codes, bytes_eq, flat_map, find, unwrap_or, slice_get, ◌⊎◌, if◌then◌else◌}
 use Rattle.std.specs.Option.{option_map, option_map_or}
 use Rattle.std.specs.List.{list_all, list_any, filter_map, cons_option}
-use Rattle.std.proofs.lemmas.Bool.{cases_Bool, and_parts, eqb-true}
+use Rattle.std.proofs.lemmas.Bool.{cases_Bool, and_parts}
 use Rattle.std.proofs.lemmas.Bool.Decides.{nat_tests}
 use Rattle.std.proofs.Math.Logic.{inl, inr}
 use Rattle.bool_functions.specs.declared.tree.Node.{Node}
@@ -17,20 +17,16 @@ use Rattle.liberty_text.specs.declared.decimal.Fixed.{Fixed}
 use Rattle.liberty_text.specs.declared.decimal.NumberFault.{NumberFault}
 use Rattle.liberty_text.specs.declared.time.Unit.{Unit as TimeUnit}
 use Rattle.liberty_text.specs.Number.{fixed_of}
-use Rattle.liberty_text.specs.Time.{picoseconds_of, bounded, rounded_up, time_exponent}
+use Rattle.liberty_text.specs.Time.{bounded, rounded_up, time_exponent}
 use Rattle.liberty_groups.specs.declared.tree.Group.{Group}
 use Rattle.cell_machine.specs.declared.checks.CheckKind.TheVariants as kind
-use Rattle.cell_machine.specs.declared.checks.Edge.{Edge}
 use Rattle.cell_machine.specs.declared.checks.Edge.TheVariants.{Any, Rise, Fall}
-use Rattle.cell_machine.specs.declared.checks.Event.{Event}
 use Rattle.cell_machine.specs.declared.checks.Check.{Check}
-use Rattle.cell_machine.specs.declared.arcs.Arc.{Arc}
 use Rattle.cell_machine.specs.declared.pins.Pin.{Pin}
-use Rattle.cell_machine.specs.CellRules.{longest_time, is_input, is_output, is_input_pin, is_output_pin, is_condition, is_one_edge, has_events, is_check, is_arc}
+use Rattle.cell_machine.specs.CellRules.{longest_time, is_input_pin, is_condition, is_one_edge, has_events, is_check, is_arc}
 use Rattle.cell_machine.specs.Names.{has}
 use Rattle.timing_arcs.specs.declared.condition.Condition.{Condition}
 use Rattle.timing_arcs.specs.declared.condition.Condition.TheVariants as condition
-use Rattle.timing_arcs.specs.declared.related.Related.{Related}
 use Rattle.timing_arcs.specs.declared.related.Related.TheVariants as related
 use Rattle.timing_arcs.specs.declared.subject.Subject.{Subject}
 use Rattle.timing_arcs.specs.declared.timing_type.TimingType.{TimingType}
@@ -39,11 +35,11 @@ use Rattle.timing_arcs.specs.Attributes.{Attribute, attribute_of, place_of}
 use Rattle.timing_arcs.specs.Times.{time_as, time_of}
 use Rattle.timing_arcs.specs.TimingTypes.{delay_words, check_words, type_named, type_of, stands_under, rise_table, fall_table, has_table, is_used}
 use Rattle.timing_arcs.specs.RelatedPins.{related_words, related_as, related_by, related_of, is_driven, input_of, inputs_of, is_read}
-use Rattle.timing_arcs.specs.Conditions.{constant_or, condition_of_tree, condition_as, condition_in, condition_of, tree_of, may_hold, named_pins, names_one, is_wide}
+use Rattle.timing_arcs.specs.Conditions.{constant_or, condition_of_tree, condition_as, condition_in, condition_of, tree_of, may_hold, names_one, is_wide}
 use Rattle.timing_arcs.specs.Tables.{Values, values_named, greatest, times_of, limit_of}
 use Rattle.timing_arcs.specs.Making.{event, check, has_limit, checks_with, arcs_with, is_made, rise_of, fall_of, checks_from, arcs_from, checks_in, arcs_in}
 use Rattle.timing_arcs.specs.Timing.{own_in, wide_in}
-use Rattle.timing_arcs.proofs.AllLemmas.{both, implied, all-append, all-filter, all-find, all-weaker, all-both, all-flat_map, has-here, has-later, all-has, all-apart}
+use Rattle.timing_arcs.proofs.AllLemmas.{both, implied, all-filter, all-find, all-weaker, all-both, all-flat_map, has-here, has-later, all-has, all-apart}
 use Rattle.timing_arcs.proofs.SumLemmas.{greatest-append}
 
 -- Times are not above the longest.

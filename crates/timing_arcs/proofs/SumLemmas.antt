@@ -1,5 +1,5 @@
 -- The sums of entries, and what they are of a list that is put together.
-use Rattle.std.proofs.Common.{◌≡◌, ℕ, ◌+◌, ◌<◌, Bool, true, false, not, cond, ◌||◌, ◌==◌, List, [], ◌∷◌, ◌++◌, map, length, refl, sym, ap, ◌∙◌, arith, append-nil}
+use Rattle.std.proofs.Common.{◌≡◌, ℕ, ◌<◌, Bool, true, false, not, ◌||◌, ◌==◌, List, [], ◌∷◌, ◌++◌, length, refl, sym, ap, ◌∙◌, arith, append-nil}
 use Rattle.std.specs.Prelude.{Option, Some, None, max, min, fold, is_none, flat_map, codes, bytes_eq, if◌then◌else◌}
 use Rattle.std.specs.List.{list_any, filter_map, cons_option}
 use Rattle.std.proofs.lemmas.Grind.{flat_map-append}
@@ -18,7 +18,7 @@ use Rattle.timing_arcs.proofs.OffsetLemmas.{lesser-none, lesser-assoc, least-app
 use Rattle.timing_arcs.specs.Times.{time_of}
 use Rattle.timing_arcs.specs.Attributes.{first_of, words_between, group_named, groups_named}
 use Rattle.timing_arcs.specs.Tables.{is_separator, Values, entries_of, values_as, values_of, values_named, greatest, times_of, limit_of, has_entry, bad_values_at, bad_numbers_at, empty_tables_at}
-use Rattle.timing_arcs.specs.Sums.{first_unless, no_sum, with_time, with_entry, with_text, with_arguments, with_item, with_table, with_optional, with_tables}
+use Rattle.timing_arcs.specs.Sums.{first_unless, no_sum, with_time, with_entry, with_text, with_arguments, with_item, with_optional, with_tables}
 
 pub greatest-append : (xs ys : List ℕ) → greatest (xs ++ ys) ≡ max (greatest xs) (greatest ys)
 greatest-append [] ys = omega arith

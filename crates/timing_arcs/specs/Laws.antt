@@ -1,5 +1,5 @@
 -- What holds of every timing that is read: laws over the definitions.
-use Rattle.std.specs.Prelude.{◌≡◌, ℕ, List, length, nat_eq, nat_lt, IsTrue, None, Ok}
+use Rattle.std.specs.Prelude.{◌≡◌, length, nat_eq, nat_lt, IsTrue, None, Ok}
 use Rattle.std.specs.List.{list_all}
 use Rattle.liberty_groups.specs.declared.tree.Group.{Group}
 use Rattle.cell_machine.specs.declared.arcs.Arc.{Arc}

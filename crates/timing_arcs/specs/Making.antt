@@ -1,5 +1,5 @@
 -- The checks and arcs of a timing group (Liberty Reference Manual, `timing` group; IEEE 1364-2005, clauses 14 and 15).
-use Rattle.std.specs.Prelude.{ℕ, max, Bool, not, ◌&&◌, ◌==◌, List, [], ◌∷◌, filter, flat_map, Option, Some, None, if◌then◌else◌}
+use Rattle.std.specs.Prelude.{ℕ, max, Bool, not, ◌&&◌, ◌==◌, List, [], ◌∷◌, filter, flat_map, Option, if◌then◌else◌}
 use Rattle.bool_functions.specs.declared.tree.Node.{Node}
 use Rattle.liberty_groups.specs.declared.tree.Group.{Group}
 use Rattle.cell_machine.specs.declared.checks.CheckKind.{CheckKind}

@@ -1,5 +1,5 @@
 -- What is read of one timing group before anything is made of it.
-use Rattle.std.specs.Prelude.{◌≡◌, ℕ, Bool, List, [], Option, None, false, if◌then◌else◌}
+use Rattle.std.specs.Prelude.{◌≡◌, ℕ, Bool, [], Option, None, false, if◌then◌else◌}
 use Rattle.liberty_groups.specs.declared.tree.Group.{Group}
 use Rattle.timing_arcs.specs.declared.offsets.Offsets.{Offsets}
 use Rattle.timing_arcs.specs.declared.reading.Reading.{Reading}
@@ -9,7 +9,7 @@ use Rattle.timing_arcs.specs.Offsets.{lesser, least}
 use Rattle.timing_arcs.specs.TimingTypes.{type_of}
 use Rattle.timing_arcs.specs.RelatedPins.{inputs_of, is_read, is_left_out}
 use Rattle.timing_arcs.specs.Making.{is_made, rise_of, fall_of}
-use Rattle.timing_arcs.specs.Timing.{malformed_in, unknown_related_in, unknown_condition_in, unknown_in, own_in, wide_in, bad_numbers_in}
+use Rattle.timing_arcs.specs.Timing.{malformed_in, unknown_condition_in, unknown_in, own_in, wide_in, bad_numbers_in}
 
 -- an offset, where something is so
 abbrev pub where_so : Bool → Option ℕ → Option ℕ

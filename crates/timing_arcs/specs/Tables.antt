@@ -1,7 +1,6 @@
 -- The tables of timing groups and the times in them (Liberty Reference Manual, `cell_rise`, `rise_constraint` and their
 -- kin, and `values`).
-use Rattle.std.specs.Prelude.{ℕ, max, Bool, true, false, ◌&&◌, ◌||◌, not, ◌==◌, List, [], ◌∷◌, ◌++◌, length, codes, bytes_eq, flat_map, Option, Some, None, is_none, if◌then◌else◌}
-use Rattle.std.specs.Option.{option_map_or}
+use Rattle.std.specs.Prelude.{ℕ, max, Bool, ◌||◌, not, ◌==◌, List, [], ◌∷◌, ◌++◌, length, codes, bytes_eq, flat_map, Option, Some, None, is_none, if◌then◌else◌}
 use Rattle.std.specs.List.{list_any, filter_map}
 use Rattle.liberty_text.specs.declared.time.Unit.{Unit as TimeUnit}
 use Rattle.liberty_groups.specs.declared.tree.Value.{Value}

@@ -1,6 +1,6 @@
 -- The types of timing groups: under which pins each stands, and which tables it uses (Liberty Reference Manual,
 -- `timing` group, `timing_type`).
-use Rattle.std.specs.Prelude.{ℕ, Bool, true, false, ◌&&◌, ◌||◌, not, ◌==◌, List, [], ◌∷◌, length, codes, find, bytes_eq, unwrap_or, slice_get, if◌then◌else◌}
+use Rattle.std.specs.Prelude.{ℕ, Bool, false, ◌&&◌, ◌||◌, not, ◌==◌, List, [], ◌∷◌, length, codes, find, bytes_eq, unwrap_or, slice_get, if◌then◌else◌}
 use Rattle.std.specs.List.{list_any}
 use Rattle.std.specs.Option.{option_map, option_map_or}
 use Rattle.liberty_groups.specs.declared.tree.Group.{Group}

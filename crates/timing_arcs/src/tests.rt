@@ -135,8 +135,10 @@ fn scan_flip_flop_output(rt: HostRuntime) -> Result<(), Fail> {
     Ok(())
 }
 
-/// The kind, the edge of the pin and the edge of the related pin of a check under D, or of both ends of a pulse.
-fn edges(check: &Check) -> (CheckKind, Edge, Edge, u64) {
+/// A check under D, or of both ends of a pulse: its kind, the edge of the pin, the edge of the related pin, the limit.
+type Edges = (CheckKind, Edge, Edge, u64);
+
+fn edges(check: &Check) -> Edges {
     let (own, other) = if check.first.pin == DATA {
         (check.first.edge, check.second.edge)
     } else {
@@ -145,8 +147,8 @@ fn edges(check: &Check) -> (CheckKind, Edge, Edge, u64) {
     (check.kind, own, other, check.limit)
 }
 
-/// The checks of a timing group of this type under D, with 10 and 20 picoseconds.
-fn checks_of_type(alloc: Global, timing_type: &str) -> Result<PinTiming, Fail> {
+/// The timing of a group of this type under D, with 10 and 20 picoseconds.
+fn timing_of_type(alloc: Global, timing_type: &str) -> Result<PinTiming, Fail> {
     let text = format!(in alloc;
         "library (L) {{ cell (C) {{ pin (D) {{ timing () {{ related_pin : CK; timing_type : {timing_type};
         rise_constraint (t) {{ values (\"0.01\"); }} fall_constraint (t) {{ values (\"0.02\"); }} }} }} }} }}"
@@ -154,49 +156,60 @@ fn checks_of_type(alloc: Global, timing_type: &str) -> Result<PinTiming, Fail> {
     read(alloc, text.as_bytes(), DATA)
 }
 
-#[test]
-fn every_type_of_check(rt: HostRuntime) -> Result<(), Fail> {
-    use CheckKind::{Hold, Recovery, Removal, Setup, Width};
-    use Edge::{Any, Fall, Rise};
-    let alloc = rt.alloc();
-    let types = [
-        ("setup_rising", (Setup, Any, Rise, 20), None),
-        ("setup_falling", (Setup, Any, Fall, 20), None),
-        ("hold_rising", (Hold, Any, Rise, 20), None),
-        ("hold_falling", (Hold, Any, Fall, 20), None),
-        (
-            "recovery_rising",
-            (Recovery, Rise, Rise, 10),
-            Some((Recovery, Fall, Rise, 20)),
-        ),
-        (
-            "recovery_falling",
-            (Recovery, Rise, Fall, 10),
-            Some((Recovery, Fall, Fall, 20)),
-        ),
-        (
-            "removal_rising",
-            (Removal, Rise, Rise, 10),
-            Some((Removal, Fall, Rise, 20)),
-        ),
-        (
-            "removal_falling",
-            (Removal, Rise, Fall, 10),
-            Some((Removal, Fall, Fall, 20)),
-        ),
-        (
-            "min_pulse_width",
-            (Width, Rise, Fall, 10),
-            Some((Width, Fall, Rise, 20)),
-        ),
-    ];
-    for (timing_type, first, second) in types {
-        let timing = checks_of_type(alloc, timing_type)?;
-        assert_eq!(rt; timing.checks.get(0).map(|check| edges(check)), Some(first));
-        assert_eq!(rt; timing.checks.get(1).map(|check| edges(check)), second);
-        assert_eq!(rt; timing.left_out.len(), 0);
+/// The first check and the second one of such a group, which is not left out.
+fn checks_of_type(
+    alloc: Global,
+    timing_type: &str,
+) -> Result<(Option<Edges>, Option<Edges>), Fail> {
+    let timing = timing_of_type(alloc, timing_type)?;
+    if timing.left_out.len() > 0 {
+        Err("the group is left out")?;
     }
-    let other = checks_of_type(alloc, "minimum_period")?;
-    assert_eq!(rt; other.left_out.as_slice(), [0].as_slice());
+    let first = timing.checks.get(0).map(|check| edges(check));
+    let second = timing.checks.get(1).map(|check| edges(check));
+    Ok((first, second))
+}
+
+#[test]
+fn setup_and_hold_are_one_check(rt: HostRuntime) -> Result<(), Fail> {
+    use CheckKind::{Hold, Setup};
+    use Edge::{Any, Fall, Rise};
+    let types = [
+        ("setup_rising", (Setup, Any, Rise, 20)),
+        ("setup_falling", (Setup, Any, Fall, 20)),
+        ("hold_rising", (Hold, Any, Rise, 20)),
+        ("hold_falling", (Hold, Any, Fall, 20)),
+    ];
+    for (timing_type, check) in types {
+        let (first, second) = checks_of_type(rt.alloc(), timing_type)?;
+        assert_eq!(rt; first, Some(check));
+        assert_eq!(rt; second, None);
+    }
+    Ok(())
+}
+
+#[test]
+fn recovery_removal_and_width_are_a_check_of_each_edge(rt: HostRuntime) -> Result<(), Fail> {
+    use CheckKind::{Recovery, Removal, Width};
+    use Edge::{Fall, Rise};
+    let types = [
+        ("recovery_rising", Recovery, Rise, Rise),
+        ("recovery_falling", Recovery, Fall, Fall),
+        ("removal_rising", Removal, Rise, Rise),
+        ("removal_falling", Removal, Fall, Fall),
+        ("min_pulse_width", Width, Fall, Rise),
+    ];
+    for (timing_type, kind, beside_rise, beside_fall) in types {
+        let (first, second) = checks_of_type(rt.alloc(), timing_type)?;
+        assert_eq!(rt; first, Some((kind, Rise, beside_rise, 10)));
+        assert_eq!(rt; second, Some((kind, Fall, beside_fall, 20)));
+    }
+    Ok(())
+}
+
+#[test]
+fn a_period_in_a_timing_group_is_left_out(rt: HostRuntime) -> Result<(), Fail> {
+    let timing = timing_of_type(rt.alloc(), "minimum_period")?;
+    assert_eq!(rt; timing.left_out.as_slice(), [0].as_slice());
     Ok(())
 }

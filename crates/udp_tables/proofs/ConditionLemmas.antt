@@ -1,10 +1,10 @@
 -- The table of a condition over the pins that it names gives its values at points of them.
-use Rattle.std.proofs.Common.{◌≡◌, ℕ, suc, ◌+◌, ◌<◌, Bool, true, false, not, List, [], ◌∷◌, map, length, slice_get, Some, inl, inr, refl, sym, ◌∙◌, ap, subst, arith}
+use Rattle.std.proofs.Common.{◌≡◌, ℕ, suc, ◌+◌, ◌<◌, Bool, false, not, List, [], ◌∷◌, map, length, slice_get, Some, inl, inr, refl, sym, ◌∙◌, ap, subst, arith}
 use Rattle.std.specs.List.Sorted.{IsStrictlyIncreasing}
 use Rattle.std.proofs.lemmas.Option.{get_or_from_slice_get, slice_get_within}
 use Rattle.std.proofs.lemmas.List.{get_or-map}
 use Rattle.trit_cubes.specs.declared.trits.Trit.TheVariants.{Zero, One}
-use Rattle.trit_cubes.specs.Filling.{number, same}
+use Rattle.trit_cubes.specs.Filling.{number}
 use Rattle.trit_cubes.specs.Sets.{has, gives}
 use Rattle.trit_cubes.specs.Prime.{prime_list}
 use Rattle.trit_cubes.proofs.ListLemmas.{Among, among-contains}
@@ -16,13 +16,12 @@ use Rattle.bool_functions.specs.Point.{number as number_of_bits, bits_at, HasVal
 use Rattle.bool_functions.proofs.Supports.{support_ascends, support_has}
 use Rattle.bool_functions.proofs.Bounds.{has_below}
 use Rattle.cell_machine.specs.Values.{no_values, written}
-use Rattle.cell_machine.specs.Step.{trit_of}
 use Rattle.cell_machine.specs.Outputs.{condition_at}
 use Rattle.cell_machine.specs.Supports.{AllAbove, Ascending, AllBelow}
 use Rattle.cell_machine.proofs.StepLemmas.{picked-written}
 use Rattle.cell_machine.proofs.GroupSteps.{length-no_values}
 use Rattle.udp_tables.specs.Conditions.{IsSmall}
-use Rattle.udp_tables.proofs.GenerationLemmas.{number-same}
+use Rattle.udp_tables.proofs.GenerationLemmas.{number-same, same-one, same-zero}
 
 -- the support of a condition as the machine's lemmas take it
 above-less : (x y : ℕ) (ys : List ℕ) → x < y → AllAbove y ys → AllAbove x ys
@@ -62,14 +61,6 @@ condition-entry f values p small h long =
     = picked-written (support_of f) p no_values (increasing-ascends (support_of f) (support_ascends f))
     (subst (λ n. AllBelow n (support_of f)) (sym length-no_values) (support-below f small)) (sym long) in
     ap (slice_get values) (sym (ap number_of_bits places ∙ number-same p)) ∙ h (written no_values (support_of f) p)
-
-same-one : (b : Bool) → b ≡ same One (trit_of b)
-same-one true = refl
-same-one false = refl
-
-same-zero : (b : Bool) → not b ≡ same Zero (trit_of b)
-same-zero true = refl
-same-zero false = refl
 
 pub condition-ones :
     (f : Node) (values : List Bool)

@@ -46,11 +46,12 @@ table-at n f values p h long =
     let same_bits : bits_at (numbers_below n) p ≡ p = bits_at-below n p (omega arith) ∙ take_all n p (omega arith) in
     ap (slice_get values) (sym (ap number_of_bits same_bits ∙ number-same p)) ∙ h p
 
-same-one : (b : Bool) → b ≡ same One (trit_of b)
+-- a known value is told by each of the two trits
+pub same-one : (b : Bool) → b ≡ same One (trit_of b)
 same-one true = refl
 same-one false = refl
 
-same-zero : (b : Bool) → not b ≡ same Zero (trit_of b)
+pub same-zero : (b : Bool) → not b ≡ same Zero (trit_of b)
 same-zero true = refl
 same-zero false = refl
 

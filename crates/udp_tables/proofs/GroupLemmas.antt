@@ -2,7 +2,7 @@
 use Rattle.std.proofs.Common.{◌≡◌, ℕ, zero, suc, ◌+◌, ◌-◌, ◌<◌, ◌≤◌, Bool, false, true, List, [], ◌∷◌, ◌++◌, map, take, drop, length, get_or, slice_get, Some, refl, sym, ◌∙◌, ap, arith, flat_map}
 use Rattle.std.proofs.lemmas.List.{drop_more, length-map}
 use Rattle.trit_cubes.specs.declared.trits.Trit.{Trit}
-use Rattle.cell_machine.specs.Step.{trit_of}
+use Rattle.trit_cubes.specs.Filling.{trit_of}
 use Rattle.trit_cubes.specs.Resolution.{res}
 use Rattle.bool_functions.specs.declared.tree.Node.{Node}
 use Rattle.cell_machine.specs.declared.arcs.Arc.{Arc}

@@ -1,5 +1,5 @@
 //! The primitives of a cell.
-ghost use Rattle.std.specs.Prelude.{◌≡◌, ◌<◌, ◌≤◌, length, take, count_by, IfOk};
+ghost use Rattle.std.specs.Prelude.{◌≡◌, ◌<◌, ◌≤◌, map, length, take, count_by, IfOk};
 ghost use Rattle.udp_tables.specs.CellData.{data_of};
 ghost use Rattle.udp_tables.specs.Conditions.{conditions_of, IsSmall};
 ghost use Rattle.udp_tables.specs.CellPrimitives.{group_inputs, group_primitive, has_sources, output_number, output_primitive, condition_udp, condition_primitive, part_primitive, IsPart};
@@ -58,17 +58,39 @@ pub fn combinational_udp(alloc: Global, cell: &Cell, part: Part) -> Result<Udp, 
     requires { IsPart (data_of cell.now) part }
     ensures { IfOk result (λ udp. udp ≡ part_primitive (data_of cell.now) part) }
 {
+    let conditions = conditions(alloc, cell)?;
+    let udp = part_udp(alloc, cell, &conditions, part)?;
+    Ok(udp)
+}
+
+/// The same for a caller that holds the cell's conditions, and so need not have them found again for each part.
+pub fn part_udp(
+    alloc: Global,
+    cell: &Cell,
+    conditions: &[&Function],
+    part: Part,
+) -> Result<Udp, Memory>
+    requires part { IsPart (data_of cell.now) part }
+    requires conditions { map (λ condition. condition.now) conditions.now ≡ conditions_of (data_of cell.now) }
+    ensures { IfOk result (λ udp. udp ≡ part_primitive (data_of cell.now) part) }
+{
     match part {
-        Part::Output(output) => output_udp(alloc, cell, output),
-        Part::Condition(condition) => condition_udp(alloc, cell, condition),
+        Part::Output(output) => output_udp(alloc, cell, conditions, output),
+        Part::Condition(condition) => condition_udp(alloc, cell, conditions, condition),
     }
 }
 
-fn output_udp(alloc: Global, cell: &Cell, output: usize) -> Result<Udp, Memory>
-    requires { output < length cell.now.outputs }
+fn output_udp(
+    alloc: Global,
+    cell: &Cell,
+    conditions: &[&Function],
+    output: usize,
+) -> Result<Udp, Memory>
+    requires output { output < length cell.now.outputs }
+    requires conditions { map (λ condition. condition.now) conditions.now ≡ conditions_of (data_of cell.now) }
     ensures { IfOk result (λ udp. udp ≡ output_primitive (data_of cell.now) output) }
 {
-    let number = output_number(alloc, cell, output)?;
+    let number = output_number(cell, conditions, output);
     Ok(Udp {
         name: primitive_name(alloc, cell.number, number)?,
         output: output_name(alloc)?,
@@ -80,13 +102,13 @@ fn output_udp(alloc: Global, cell: &Cell, output: usize) -> Result<Udp, Memory>
 
 // The number of the primitive of an output: after the groups, the conditions and the outputs before it that depend on
 // anything.
-fn output_number(alloc: Global, cell: &Cell, output: usize) -> Result<usize, Memory>
-    requires { output < length cell.now.outputs }
-    ensures { IfOk result (λ number. number ≡ output_number (data_of cell.now) output) }
+fn output_number(cell: &Cell, conditions: &[&Function], output: usize) -> usize
+    requires output { output < length cell.now.outputs }
+    requires conditions { map (λ condition. condition.now) conditions.now ≡ conditions_of (data_of cell.now) }
+    ensures { result ≡ output_number (data_of cell.now) output }
 {
-    let conditions = conditions(alloc, cell)?;
     let before = outputs_before(cell.outputs.as_slice(), output);
-    Ok(cell.groups.len() + conditions.len() + before + 1)
+    cell.groups.len() + conditions.len() + before + 1
 }
 
 // How many of the first outputs depend on anything.
@@ -109,11 +131,16 @@ fn has_sources(output: &OutputPin) -> bool
     !output.support.is_empty()
 }
 
-fn condition_udp(alloc: Global, cell: &Cell, number: usize) -> Result<Udp, Memory>
-    requires { number < length (conditions_of (data_of cell.now)) }
+fn condition_udp(
+    alloc: Global,
+    cell: &Cell,
+    conditions: &[&Function],
+    number: usize,
+) -> Result<Udp, Memory>
+    requires number { number < length (conditions_of (data_of cell.now)) }
+    requires conditions { map (λ condition. condition.now) conditions.now ≡ conditions_of (data_of cell.now) }
     ensures { IfOk result (λ udp. udp ≡ condition_primitive (data_of cell.now) number) }
 {
-    let conditions = conditions(alloc, cell)?;
     let condition = conditions[number];
     let name = primitive_name(alloc, cell.number, cell.groups.len() + number + 1)?;
     let udp = udp_of_condition(alloc, name, condition)?;

@@ -19,7 +19,7 @@ mod sequential;
 mod table;
 
 pub use cell_conditions::{condition_number, conditions};
-pub use cell_primitives::{Part, combinational_udp, sequential_udp};
+pub use cell_primitives::{Part, combinational_udp, part_udp, sequential_udp};
 pub use combinational::udp_level;
 pub use faults::Memory;
 pub use generation::function_udp;

@@ -2,10 +2,9 @@
 ghost use Rattle.std.specs.Prelude.{◌≡◌, ◌+◌, ◌<◌, ◌≤◌, suc, [], ◌∷◌, ◌++◌, List, Bool, map, take, length};
 ghost use Rattle.trit_cubes.specs.Sets.{gives};
 ghost use Rattle.cell_machine.specs.Machine.{insert, edge_value, forced_at};
-ghost use Rattle.cell_machine.specs.Step.{trit_of};
 ghost use Rattle.cell_machine.specs.CellTrace.{support_at, step_at};
 
-use cell_machine::{Cell, boolean_step, forced, trit_of};
+use cell_machine::{Cell, boolean_step, forced};
 use std::marker::Model;
 use trit_cubes::Trit;
 
@@ -103,7 +102,7 @@ fn forced_value(cell: &Cell, group: usize, point: &[bool]) -> Trit
 {
     let mut trits = [Trit::Unknown; Bits::MOST];
     for i in 0..point.len() {
-        trits[i] = trit_of(point[i]);
+        trits[i] = Trit::from(point[i]);
     }
     forced(cell, group, &trits[..point.len()])
 }

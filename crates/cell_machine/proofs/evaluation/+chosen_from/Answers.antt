@@ -3,7 +3,7 @@ use Rattle.cell_machine.proofs.evaluation.+chosen_from.Goals as goal
 
 pub returns-in_default : goal.returns-in_default
 returns-in_default t c =
-    rw (nil_from_length c.args.rest.now c.in_default.ensures.cases) (rw c.value.ensures at c.trit_of.ensures)
+    rw (nil_from_length c.args.rest.now c.in_default.ensures.cases) (rw c.value.ensures at c.from.ensures)
 
 pub returns-in_default-first : goal.returns-in_default-first
 returns-in_default-first t c = rw (c.in-Some.ensures.cases.0, c.in_default-first.is) c.chosen_from.ensures

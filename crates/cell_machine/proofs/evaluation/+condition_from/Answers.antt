@@ -3,7 +3,7 @@ use Rattle.cell_machine.proofs.evaluation.+condition_from.Goals as goal
 
 pub returns-in_default : goal.returns-in_default
 returns-in_default t c =
-    rw (nil_from_length c.args.rest.now c.in_default.ensures.cases) (rw c.value.ensures at c.trit_of.ensures)
+    rw (nil_from_length c.args.rest.now c.in_default.ensures.cases) (rw c.value.ensures at c.from.ensures)
 
 pub returns-in-Zero : goal.returns-in-Zero
 returns-in-Zero t c =

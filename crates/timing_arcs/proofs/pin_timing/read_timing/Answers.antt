@@ -1,5 +1,5 @@
 use Rattle.std.proofs.Common.{◌≡◌}
-use Rattle.timing_arcs.specs.Adding.{answer_found, found_of}
+use Rattle.timing_arcs.specs.Adding.{found_of}
 use Rattle.timing_arcs.proofs.FoundLemmas.{answer-is, gives-same}
 use Rattle.timing_arcs.proofs.pin_timing.read_timing.Goals as goal
 

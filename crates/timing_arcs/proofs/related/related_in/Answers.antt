@@ -1,4 +1,3 @@
-use Rattle.std.proofs.Common.{map}
 use Rattle.timing_arcs.specs.RelatedPins.{related_as}
 use Rattle.timing_arcs.proofs.Lists.{map-both}
 use Rattle.timing_arcs.proofs.related.related_in.Goals as goal

@@ -1,6 +1,6 @@
 use Rattle.std.proofs.Common.{◌≡◌, map, take, length, sym, ap, ◌∙◌, arith}
 use Rattle.std.proofs.lemmas.List.{take_all}
-use Rattle.cell_machine.specs.Step.{trit_of}
+use Rattle.trit_cubes.specs.Filling.{trit_of}
 use Rattle.cell_machine.specs.Machine.{forced, forced_at}
 use Rattle.cell_machine.specs.CellTrace.{step_at}
 use Rattle.udp_tables.proofs.GroupLemmas.{res-known}

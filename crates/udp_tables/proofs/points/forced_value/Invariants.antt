@@ -1,5 +1,5 @@
 use Rattle.std.proofs.Common.{◌≡◌, map, take, length}
-use Rattle.cell_machine.specs.Step.{trit_of}
+use Rattle.trit_cubes.specs.Filling.{trit_of}
 use Rattle.udp_tables.proofs.points.forced_value.Given as goal
 
 -- the values of the inputs so far stand in front

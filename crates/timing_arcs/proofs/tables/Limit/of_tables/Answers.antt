@@ -1,5 +1,3 @@
-use Rattle.std.proofs.Common.{◌≡◌, ap, ◌∙◌}
-use Rattle.timing_arcs.specs.Sums.{no_sum, with_tables}
 use Rattle.timing_arcs.proofs.SumLemmas.{tables-limit, bad_numbers-least}
 use Rattle.timing_arcs.proofs.tables.Limit.of_tables.Goals as goal
 

@@ -1,5 +1,6 @@
 pub mod Ends
 pub mod Finish
+pub mod Given
 pub mod Items
 pub mod Leads
 pub mod Part

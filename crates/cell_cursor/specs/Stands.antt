@@ -13,6 +13,7 @@ use Rattle.cell_cursor.specs.declared.item.LibraryItem.TheVariants as item
 use Rattle.cell_cursor.specs.declared.item.Next.{Next}
 use Rattle.cell_cursor.specs.declared.item.Next.TheVariants as next
 use Rattle.cell_cursor.specs.Ends.{ReadsSo, AreFirst}
+use Rattle.cell_cursor.specs.Given.{HasGiven}
 use Rattle.cell_cursor.specs.Leads.{LeadTo}
 use Rattle.cell_cursor.specs.Taking.{Takes}
 
@@ -54,10 +55,12 @@ Knows (Some (answer.Fault fault.Failed)) c bytes items = AreFirst c.limit bytes 
 Knows (Some (answer.Fault fault.Memory)) c bytes items = AreFirst c.limit bytes items
 
 -- A cursor stands behind the bytes that it has taken of a library and the items that it has given: the items that wait are the
--- next ones, and it knows what comes behind them.
+-- next ones, and it knows what comes behind them. No cell of a library that goes on waits long: what was taken behind its
+-- closing brace is little.
 pub record Stands (c : CellCursor) (bytes : List ℕ) (items : List LibraryItem) : Type 0 where
   pub known : Knows c.answer c bytes (items ++ reverse c.waiting.items)
   pub within : length bytes ≤ c.limit + 1
+  pub given : HasGiven bytes items
 
 abbrev pub is_going : Option Answer → Bool
 is_going None = true
@@ -106,13 +109,15 @@ pub record Advances (result : Result (Unit {0}) CursorFault) (old new : CellCurs
   pub stands : (bytes : List ℕ) (items : List LibraryItem) → Goes old bytes items → StandsOr result new (bytes ++ taken) items
   pub ended : EndsOr result new after
 
--- Some bytes of the library were read, and these items given. Wherever the cursor stood before, it stands behind them now. Where
--- it came to the end of the library, nothing is left of it.
+-- Some bytes of the library were read, and these items given. Wherever the cursor stood before, it stands behind them now. No
+-- more bytes were read than those behind which the items that were given before are enough: a cell that is given now has its
+-- closing brace among the last of them. Where it came to the end of the library, nothing is left of it.
 pub record Moves (old new : CellCursor) (before after : DeskState) (given : List LibraryItem) : Type 0 where
   pub taken : List ℕ
   pub takes : Takes before after taken
   pub limit : new.limit ≡ old.limit
   pub stands : (bytes : List ℕ) (items : List LibraryItem) → Stands old bytes items → Stands new (bytes ++ taken) (items ++ given)
+  pub given_before : (bytes : List ℕ) (items : List LibraryItem) → Stands old bytes items → HasGiven (bytes ++ taken) items
   pub ended : is_going old.answer ≡ true → is_ended new.answer ≡ true → NothingLeft after
 
 -- the cursor gives this answer from now on

@@ -101,10 +101,10 @@ closed_body (suc levels) =
     closed_after any (some_statements (after_name levels (body levels)) []) (λ items. expect mark.End (Syntax expected.Statement) >>= λ _. r.Gives items)
     (λ items. closed_end any items) (λ items b q e h. absurd cc)
 
-no_group_simple : (name : List ℕ) (found : List Value) (at : ℕ) → is_group (item.Simple name found at) ≡ false
+pub no_group_simple : (name : List ℕ) (found : List Value) (at : ℕ) → is_group (item.Simple name found at) ≡ false
 no_group_simple name found at = ap is_group_by (outs-Simple name found at)
 
-no_group_complex : (name : List ℕ) (found : List Value) (at : ℕ) → is_group (item.Complex name found at) ≡ false
+pub no_group_complex : (name : List ℕ) (found : List Value) (at : ℕ) → is_group (item.Complex name found at) ≡ false
 no_group_complex name found at = ap is_group_by (outs-Complex name found at)
 
 no_group : (a b : Item) → is_group a ≡ false → a ≡ b → is_group b ≡ true → ⊥

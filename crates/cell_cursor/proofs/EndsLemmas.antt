@@ -37,7 +37,7 @@ use Rattle.cell_cursor.specs.declared.part.Place.TheVariants as place
 use Rattle.cell_cursor.specs.Items.{rest_at, items_in, items_outcome, items_of_bytes}
 use Rattle.cell_cursor.specs.Finish.{part_outcome, left_in, halt_in, part_halt, goes_on_closed, goes_on_from, may_go_on, answer_by, answer_at}
 use Rattle.cell_cursor.specs.Leads.{LeadTo, is_start}
-use Rattle.cell_cursor.specs.Reached.{is_final}
+use Rattle.cell_cursor.specs.Reached.{is_settled}
 use Rattle.cell_cursor.specs.Scanned.{AreScanned, stop_behind}
 use Rattle.cell_cursor.proofs.Closed.{refuses_on}
 use Rattle.cell_cursor.proofs.Gathers.{listed, library_listed, outcome_listed, halt_listed}
@@ -70,9 +70,10 @@ final_word Colon a e len c h i = refl
 final_word Semicolon a e len c h i = refl
 final_word Comma a e len c h i = refl
 
-final_finished : (e len : ℕ) (is_only : Bool) (x : Lexeme) (m : List Lexeme) → is_final e x.token ≡ true → e ≤ len → is_unfinished len is_only (x ∷ m) ≡ false
-final_finished e len is_only x [] h i = final_word x.token.kind x.token.end e len (may_become_other is_only x.bytes) h i
-final_finished e len is_only x (y ∷ m) h i = refl
+final_finished : (e len : ℕ) (is_only : Bool) (x : Lexeme) (m others : List Lexeme) → is_settled e x m ≡ true → e ≤ len → is_unfinished len is_only (x ∷ (m ++ others)) ≡ false
+final_finished e len is_only x [] [] h i = final_word x.token.kind x.token.end e len (may_become_other is_only x.bytes) h i
+final_finished e len is_only x [] (y ∷ others) h i = refl
+final_finished e len is_only x (y ∷ m) others h i = refl
 
 stays_refused : (b : List ℕ) (w : Bool) (k : Refusal) (at : ℕ) (u : Bool) (stop : Stop) → u ≡ false → end_of b w (halt.Refused k at u) stop ≡ Fault (fault_at k at)
 stays_refused b true k at u stop e = refl
@@ -80,12 +81,12 @@ stays_refused b false k at u stop e =
     ap (λ (x : Bool). cond (is_end stop && x) Cut (Fault (fault_at k at))) e
     ∙ ap (λ (x : Bool). cond x Cut (Fault (fault_at k at))) (and_false (is_end stop))
 
-refused_end : (b : List ℕ) (w : Bool) (items : List LibraryItem) (k : Refusal) (x : Lexeme) (m : List Lexeme) (e : ℕ) → items_outcome b ≡ Err ((items, k), x ∷ m) →
-    is_final e x.token ≡ true → e ≤ length b → end_of_bytes b w ≡ Fault (fault_at k x.token.at)
-refused_end b w items k x m e h f i =
+refused_end : (b : List ℕ) (w : Bool) (items : List LibraryItem) (k : Refusal) (x : Lexeme) (m others : List Lexeme) (e : ℕ) → items_outcome b ≡ Err ((items, k), x ∷ (m ++ others)) →
+    is_settled e x m ≡ true → e ≤ length b → end_of_bytes b w ≡ Fault (fault_at k x.token.at)
+refused_end b w items k x m others e h f i =
     ends_so b w
     ∙ ap (λ (o : Told). end_of b w (halt_in (length b) (is_last (tokens_of b)) o) (scan_of b).1) h
-    ∙ stays_refused b w k x.token.at (is_unfinished (length b) (is_last (tokens_of b)) (x ∷ m)) (scan_of b).1 (final_finished e (length b) (is_last (tokens_of b)) x m f i)
+    ∙ stays_refused b w k x.token.at (is_unfinished (length b) (is_last (tokens_of b)) (x ∷ (m ++ others))) (scan_of b).1 (final_finished e (length b) (is_last (tokens_of b)) x m others f i)
 
 -- a token of a part that is refused is refused whatever follows the part
 pub refused_on : (before bytes : List ℕ) (tokens : List Token) (mode : Mode) (here : Place) (items all : List LibraryItem) (k : Refusal) (x : Lexeme) (m : List Lexeme) (more : List ℕ) →
@@ -102,13 +103,13 @@ refused_on before bytes tokens mode here items all k x m more leads scanned insi
 
 pub refused_reads : (before bytes : List ℕ) (tokens : List Token) (mode : Mode) (here : Place) (items all : List LibraryItem) (k : Refusal) (x : Lexeme) (m : List Lexeme) (more : List ℕ) →
     LeadTo before here items → AreScanned bytes tokens mode → LieInside bytes tokens → read (rest_at here []) (lexemes_behind (length before) bytes tokens) ≡ Err ((all, k), x ∷ m) →
-    is_final (length before + length bytes) x.token ≡ true →
+    is_settled (length before + length bytes) x m ≡ true →
     (items ++ all ≡ items_of_bytes (before ++ (bytes ++ more))) × ((w : Bool) → end_of_bytes (before ++ (bytes ++ more)) w ≡ Fault (fault_at k x.token.at))
 refused_reads before bytes tokens mode here items all k x m more leads scanned inside e f =
     let on = refused_on before bytes tokens mode here items all k x m more leads scanned inside e in
     let size : length before + length bytes ≤ length (before ++ (bytes ++ more)) = omega (arith, length-append before (bytes ++ more), length-append bytes more) in (
       sym (ap items_in on.1),
-      λ w. refused_end (before ++ (bytes ++ more)) w (items ++ all) k x (m ++ on.0) (length before + length bytes) on.1 f size,
+      λ w. refused_end (before ++ (bytes ++ more)) w (items ++ all) k x m on.0 (length before + length bytes) on.1 f size,
     )
 
 -- the end of the last part

@@ -1,10 +1,18 @@
+pub mod AdvanceLemmas
 pub mod Ascending
 pub mod Closed
 pub mod Comings
+pub mod Depths
 pub mod EndsLemmas
 pub mod Gathers
+pub mod GivenLemmas
+pub mod GroupWalks
+pub mod LastCell
 pub mod LeadsLemmas
 pub mod Marks
+pub mod MovesLemmas
+pub mod OneByte
+pub mod OpenParts
 pub mod Prefix
 pub mod ScannedLemmas
 pub mod SeekingLemmas
@@ -12,3 +20,4 @@ pub mod Shift
 pub mod StandsLemmas
 pub mod StatementSteps
 pub mod TakingLemmas
+pub mod Walks

@@ -1,5 +1,5 @@
 -- How far a cursor has read behind the cells that it has given.
-use Rattle.std.specs.Prelude.{◌≡◌, ℕ, ◌+◌, ◌≤◌, List, [], ◌∷◌, ◌++◌, take, length}
+use Rattle.std.specs.Prelude.{◌≡◌, ℕ, ◌+◌, ◌<◌, ◌≤◌, List, [], ◌∷◌, ◌++◌, take, length}
 use Rattle.cell_cursor.specs.declared.item.LibraryItem.{LibraryItem}
 use Rattle.cell_cursor.specs.declared.item.LibraryItem.TheVariants as item
 use Rattle.cell_cursor.specs.Items.{items_of_bytes}
@@ -32,3 +32,7 @@ most_beyond = 65536
 -- behind it, in order, with the items before it.
 abbrev pub HasGiven : List ℕ → List LibraryItem → Type 0
 HasGiven bytes items = (e : ℕ) → e + most_beyond ≤ length bytes → IsFrontOf (closed_items (take e bytes)) items
+
+-- The cells that are closed in the first of these bytes, as far as they are fewer than so many, are among these items.
+abbrev pub HasSeen : ℕ → List ℕ → List LibraryItem → Type 0
+HasSeen n bytes items = (e : ℕ) → e < n → IsFrontOf (closed_items (take e bytes)) items

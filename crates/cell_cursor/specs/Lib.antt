@@ -1,3 +1,4 @@
+pub mod Braces
 pub mod Ends
 pub mod Finish
 pub mod Given

@@ -6,6 +6,10 @@ use Rattle.cell_cursor.specs.declared.cursor.CellCursor.{CellCursor}
 abbrev pub taken_by : CellCursor → ℕ
 taken_by c = c.part.before + (length c.part.bytes + length c.piece)
 
+-- how many bytes of the library are scanned
+abbrev pub scanned_by : CellCursor → ℕ
+scanned_by c = c.part.before + length c.part.bytes
+
 -- each byte up to the limit is read and scanned
 unfoldable pub to_do : CellCursor → ℕ
 to_do c = 2 * (c.limit - taken_by c) + length c.piece

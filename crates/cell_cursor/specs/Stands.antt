@@ -12,9 +12,11 @@ use Rattle.cell_cursor.specs.declared.item.LibraryItem.{LibraryItem}
 use Rattle.cell_cursor.specs.declared.item.LibraryItem.TheVariants as item
 use Rattle.cell_cursor.specs.declared.item.Next.{Next}
 use Rattle.cell_cursor.specs.declared.item.Next.TheVariants as next
+use Rattle.cell_cursor.specs.Braces.{has_outer, LastMayBeOuter, kinds_of}
 use Rattle.cell_cursor.specs.Ends.{ReadsSo, AreFirst}
-use Rattle.cell_cursor.specs.Given.{HasGiven}
+use Rattle.cell_cursor.specs.Given.{HasSeen, HasGiven}
 use Rattle.cell_cursor.specs.Leads.{LeadTo}
+use Rattle.cell_cursor.specs.Progress.{scanned_by}
 use Rattle.cell_cursor.specs.Taking.{Takes}
 
 -- an answer, as what a call returns
@@ -36,13 +38,30 @@ abbrev pub given_by : Result Next CursorFault → List LibraryItem
 given_by (Ok one) = given_next one
 given_by (Err f) = []
 
--- The cursor has no answer yet: what it keeps is the end of the bytes that were taken, and those before it lead to its place,
--- behind these items.
-pub record Goes (c : CellCursor) (bytes : List ℕ) (items : List LibraryItem) : Type 0 where
+-- What the cursor keeps is the end of the bytes that were taken, and those before it lead to its place, behind these items.
+pub record Keeps (c : CellCursor) (bytes : List ℕ) (items : List LibraryItem) : Type 0 where
   pub before : List ℕ
   pub split : bytes ≡ before ++ (c.part.bytes ++ c.piece)
   pub size : c.part.before ≡ length before
   pub leads : LeadTo before c.place items
+
+-- The cursor has no answer yet. No group of the library has ended in its part, and each cell that is closed in the bytes that
+-- are scanned is among these items.
+pub record Goes (c : CellCursor) (bytes : List ℕ) (items : List LibraryItem) : Type 0 where
+  pub keeps : Keeps c bytes items
+  pub inner : has_outer c.place (kinds_of c.part.tokens) ≡ false
+  pub seen : HasSeen (scanned_by c + 1) bytes items
+
+-- A group of the library may have ended with the last token of its part, and none before.
+pub record MayTake (c : CellCursor) (bytes : List ℕ) (items : List LibraryItem) : Type 0 where
+  pub keeps : Keeps c bytes items
+  pub last : LastMayBeOuter c.place (kinds_of c.part.tokens)
+  pub seen : HasSeen (scanned_by c) bytes items
+
+-- after scanning, as this says whether a statement may have ended
+abbrev pub GoesBy : Bool → CellCursor → List ℕ → List LibraryItem → Type 0
+GoesBy true c bytes items = MayTake c bytes items
+GoesBy false c bytes items = Goes c bytes items
 
 -- what is known of the bytes that were taken, and of all items up to the answer
 abbrev pub Knows : Option Answer → CellCursor → List ℕ → List LibraryItem → Type 0
@@ -55,8 +74,7 @@ Knows (Some (answer.Fault fault.Failed)) c bytes items = AreFirst c.limit bytes 
 Knows (Some (answer.Fault fault.Memory)) c bytes items = AreFirst c.limit bytes items
 
 -- A cursor stands behind the bytes that it has taken of a library and the items that it has given: the items that wait are the
--- next ones, and it knows what comes behind them. No cell of a library that goes on waits long: what was taken behind its
--- closing brace is little.
+-- next ones, and it knows what comes behind them. Each cell is given whose closing brace has 65,536 bytes or more behind it.
 pub record Stands (c : CellCursor) (bytes : List ℕ) (items : List LibraryItem) : Type 0 where
   pub known : Knows c.answer c bytes (items ++ reverse c.waiting.items)
   pub within : length bytes ≤ c.limit + 1
@@ -85,12 +103,6 @@ abbrev pub is_library : CursorFault → Bool
 is_library (fault.Library f) = true
 is_library _ = false
 
--- nothing was read of the desk, and some of what was read is scanned
-pub record Scans (old new : CellCursor) : Type 0 where
-  pub bytes : new.part.bytes ++ new.piece ≡ old.part.bytes ++ old.piece
-  pub before : new.part.before ≡ old.part.before
-  pub place : new.place ≡ old.place
-
 -- after a step the cursor stands behind these bytes or, where the step failed, the items that were given are the first ones
 abbrev pub StandsOr : Result (Unit {0}) CursorFault → CellCursor → List ℕ → List LibraryItem → Type 0
 StandsOr (Ok u) c bytes items = Stands c bytes items
@@ -107,11 +119,12 @@ pub record Advances (result : Result (Unit {0}) CursorFault) (old new : CellCurs
   pub takes : Takes before after taken
   pub limit : new.limit ≡ old.limit
   pub stands : (bytes : List ℕ) (items : List LibraryItem) → Goes old bytes items → StandsOr result new (bytes ++ taken) items
+  pub given : (bytes : List ℕ) (items : List LibraryItem) → Goes old bytes items → HasGiven (bytes ++ taken) items
   pub ended : EndsOr result new after
 
--- Some bytes of the library were read, and these items given. Wherever the cursor stood before, it stands behind them now. No
--- more bytes were read than those behind which the items that were given before are enough: a cell that is given now has its
--- closing brace among the last of them. Where it came to the end of the library, nothing is left of it.
+-- Some bytes of the library were read, and these items given. Wherever the cursor stood before, it stands behind them now. Each
+-- cell whose closing brace has 65,536 bytes or more behind it in all that was read was given before: a cell that is given now has
+-- fewer. Where it came to the end of the library, nothing is left of it.
 pub record Moves (old new : CellCursor) (before after : DeskState) (given : List LibraryItem) : Type 0 where
   pub taken : List ℕ
   pub takes : Takes before after taken

@@ -1,9 +1,10 @@
 //! The part of a library that is scanned and whose statements have not all ended.
 
-ghost use Rattle.std.specs.Prelude.{◌≡◌, true, false, ◌<◌, ◌+◌, ◌^◌, [], ◌∷◌, ◌++◌, length, IfOk, OnOk, OnErr};
+ghost use Rattle.std.specs.Prelude.{◌≡◌, ℕ, true, false, ◌<◌, ◌+◌, ◌^◌, [], ◌∷◌, ◌++◌, length, IfOk, OnOk, OnErr};
 ghost use Rattle.liberty_text.specs.declared.scanner.Mode.TheVariants.{Between};
 ghost use Rattle.liberty_groups.specs.Lexeme.{LieInside};
 ghost use Rattle.liberty_text.specs.Scanner.{step};
+ghost use Rattle.cell_cursor.specs.Braces.{depth_behind, is_outer, has_outer, ShowsOuter, kinds_of};
 ghost use Rattle.cell_cursor.specs.Scanned.{AreScanned, ends_by, last_kind};
 
 use crate::fault::Memory;
@@ -50,6 +51,7 @@ impl Part {
     pub(crate) fn new(alloc: Global, before: usize) -> Part
         ensures before { result.before ≡ before }
         ensures bytes { result.bytes ≡ [] }
+        ensures tokens { result.tokens ≡ [] }
     {
         Part {
             before,
@@ -80,44 +82,54 @@ impl Part {
         self.scanner.tokens()
     }
 
-    /// Scans the next byte. Whether a statement may have ended with it. Without memory the part is lost.
+    /// Scans the next byte. Whether a statement may have ended with it: it has not, where the byte ends no outer brace.
+    /// Without memory the part is lost.
     pub(crate) fn scan(&mut self, alloc: Global, place: Place, byte: u8) -> Result<bool, Memory>
         requires { length self.old.bytes + 1 < 2 ^ 64 }
         ensures before { self.new.before ≡ self.old.before }
         ensures bytes { OnOk result (self.new.bytes ≡ self.old.bytes ++ byte ∷ []) }
         ensures lost { OnErr result (self.new.bytes ≡ []) }
         ensures mode { IfOk result (λ may. may ≡ true → self.new.mode ≡ Between false) }
+        ensures scanned { AreScanned self.new.bytes self.new.tokens self.new.mode }
+        ensures outer { IfOk result (λ may. has_outer place (kinds_of self.old.tokens) ≡ false → ShowsOuter may place (kinds_of self.new.tokens)) }
     {
         match scan_byte(&mut self.bytes, &mut self.scanner, byte) {
-            Ok(Some(kind)) => Ok(self.may_end(place, kind)),
+            Ok(Some(kind)) => {
+                self.depth = depth_behind(self.depth, kind);
+                Ok(may_end(place, kind, self.depth))
+            }
             Ok(None) => Ok(false),
             Err(fault) => {
                 self.bytes.clear();
                 self.scanner = Scanner::new(alloc);
+                self.depth = 0;
                 Err(fault)
             }
         }
     }
+}
 
-    /// Whether a statement may have ended with a token of this kind, and what is open behind it.
-    fn may_end(&mut self, place: Place, kind: TokenKind) -> bool
-        ensures before { self.new.before ≡ self.old.before }
-        ensures bytes { self.new.bytes ≡ self.old.bytes }
-        ensures mode { self.new.mode ≡ self.old.mode }
-        ensures kind { result ≡ true → ends_by kind ≡ true }
-    {
-        match kind {
-            TokenKind::Brace(b'{') => {
-                self.depth = self.depth.saturating_add(1);
-                place != Place::Inside
-            }
-            TokenKind::Brace(b'}') => {
-                self.depth = self.depth.saturating_sub(1);
-                self.depth == 0 || place == Place::Behind
-            }
-            TokenKind::Semicolon => self.depth == 0 || place == Place::Behind,
-            _ => false,
-        }
+/// How many braces are open behind a token of this kind, where so many are open before it.
+fn depth_behind(depth: usize, kind: TokenKind) -> usize
+    requires { depth + 1 < 2 ^ 64 }
+    ensures { result ≡ depth_behind depth kind }
+{
+    match kind {
+        TokenKind::Brace(b'{') => depth + 1,
+        TokenKind::Brace(b'}') => depth.saturating_sub(1),
+        _ => depth,
+    }
+}
+
+/// Whether a statement may have ended with a token of this kind, behind which so many braces of the part are open.
+fn may_end(place: Place, kind: TokenKind, depth: usize) -> bool
+    ensures kind { result ≡ true → ends_by kind ≡ true }
+    ensures outer { result ≡ false → (before : ℕ) → depth ≡ depth_behind before kind → is_outer place before kind ≡ false }
+{
+    match kind {
+        TokenKind::Brace(b'{') => place != Place::Inside,
+        TokenKind::Brace(b'}') | TokenKind::Semicolon => depth == 0 || place == Place::Behind,
+        _ => false,
     }
 }
 

@@ -9,7 +9,7 @@ ghost use Rattle.cell_cursor.specs.Finish.{part_outcome, answer_at};
 ghost use Rattle.cell_cursor.specs.Items.{items_in};
 ghost use Rattle.cell_cursor.specs.Progress.{taken_by, to_do};
 ghost use Rattle.cell_cursor.specs.declared.item.LibraryItem.{LibraryItem as Given};
-ghost use Rattle.cell_cursor.specs.Stands.{answered, given_by, is_going, is_failed, is_ended, is_library, Stands, Scans, Advances, Moves, IsSettled, IsAnswered, StaysSettled};
+ghost use Rattle.cell_cursor.specs.Stands.{answered, given_by, is_going, is_failed, is_ended, is_library, Goes, MayTake, GoesBy, Stands, Advances, Moves, IsSettled, IsAnswered, StaysSettled};
 
 use crate::cursor::{Answer, CellCursor};
 use crate::fault::{CursorFault, Memory};
@@ -46,7 +46,7 @@ impl CellCursor {
         ensures limit { self.new.limit ≡ self.old.limit }
         ensures answer { self.new.answer ≡ self.old.answer }
         ensures waiting { self.new.waiting.items ≡ self.old.waiting.items }
-        ensures scans { OnOk result (Scans self.old self.new) }
+        ensures goes { IfOk result (λ found. (bytes : List ℕ) (items : List Given) → Goes self.old bytes items → GoesBy found self.new bytes items) }
         ensures taken { OnOk result (taken_by self.new ≡ taken_by self.old) }
         ensures some { IfOk result (λ found. found ≡ true → (length self.new.piece < length self.old.piece) × (self.new.part.mode ≡ Between false)) }
         ensures none { IfOk result (λ found. found ≡ false → self.new.piece ≡ []) }
@@ -64,7 +64,7 @@ impl CellCursor {
         requires none_waits { self.old.waiting.items ≡ [] }
         requires going { self.old.answer ≡ None }
         requires mode { self.old.part.mode ≡ Between false }
-        ensures stands { OnOk result ((bytes : List ℕ) (items : List Given) → Stands self.old bytes items → Stands self.new bytes items) }
+        ensures stands { OnOk result ((bytes : List ℕ) (items : List Given) → MayTake self.old bytes items → Stands self.new bytes items) }
         ensures err { OnErr result (self.new.waiting.items ≡ []) }
         ensures open { OnOk result (is_ended self.new.answer ≡ false) }
         ensures limit { self.new.limit ≡ self.old.limit }
@@ -108,6 +108,7 @@ impl CellCursor {
         ensures piece { self.new.piece ≡ self.old.piece }
         ensures before { self.new.part.before ≡ end }
         ensures bytes { self.new.part.bytes ≡ [] }
+        ensures tokens { self.new.part.tokens ≡ [] }
         ensures place { self.new.place ≡ place }
         ensures answer { self.new.answer ≡ self.old.answer }
         ensures items { self.new.waiting.items ≡ reverse items.items }
@@ -195,9 +196,12 @@ impl CellCursor {
 
     /// The next item of the library in the slot `Library`, or how it ends.
     ///
-    /// It reads at most 4,096 bytes at once, and at most the limit and one byte in all. Faults: `Library` with the first fault of
-    /// the library, `Failed` where a read failed, `Memory`. After a fault, and after `Over` and `End`, it answers the same and reads
-    /// nothing.
+    /// It reads at most 4,096 bytes at once, and at most the limit and one byte in all. It does not read far ahead: when it answers
+    /// a cell, the bytes that were read end at most 65,536 bytes behind the closing brace of the cell. After any call, also one that
+    /// ends with a fault, each cell was given whose closing brace has 65,536 bytes or more behind it among the bytes that were read.
+    ///
+    /// Faults: `Library` with the first fault of the library, `Failed` where a read failed, `Memory`. After a fault, and after `Over`
+    /// and `End`, it answers the same and reads nothing.
     pub fn next_cell<D: Desk>(&mut self, desk: &mut D) -> Result<Next, CursorFault>
         requires { IsTrue (is_bound (D.state desk.old) (Input Library)) }
         ensures moves { Moves self.old self.new (D.state desk.old) (D.state desk.new) (given_by result) }

@@ -1,14 +1,16 @@
 //! The statements of a library, read from tokens up to where they end.
 
-ghost use Rattle.std.specs.Prelude.{◌≡◌, ◌++◌, true, false, [], List, OnOk, IfOk};
+ghost use Rattle.std.specs.Prelude.{◌≡◌, ◌++◌, ◌||◌, not, true, false, [], List, OnOk, IfOk};
 ghost use Rattle.std.specs.Option.{option_to_list};
 ghost use Rattle.grammar_rules.specs.Reading.{read};
 ghost use Rattle.liberty_groups.specs.Lexeme.{Lexeme, next_bytes, rest};
+ghost use Rattle.liberty_groups.specs.Answer.{is_last};
 ghost use Rattle.liberty_groups.specs.Grammar.{next_at};
 ghost use Rattle.cell_cursor.specs.Items.{Adds, has_ended, item_statement, statements_after, file_end, rest_inside, rest_at};
 ghost use Rattle.cell_cursor.specs.declared.part.Place.TheVariants as place;
 ghost use Rattle.cell_cursor.specs.declared.item.LibraryItem.{LibraryItem as Given};
-ghost use Rattle.cell_cursor.specs.Reached.{ReadsOn, Comes, ComesSo, is_final};
+ghost use Rattle.cell_cursor.specs.Braces.{has_outer, LastIsNotOuter, lexeme_kinds};
+ghost use Rattle.cell_cursor.specs.Reached.{ReadsOn, Comes, ComesSo, EndsInner, is_final};
 
 use crate::fault::Memory;
 use crate::item::{LibraryItem, item_of};
@@ -60,6 +62,7 @@ fn read_statement(
     ensures added { Adds (read (item_statement items.old.items (next_bytes cursor.old) (next_at cursor.old)) (rest cursor.old)) result items.new.items cursor.new }
     ensures ended { IfOk result (λ ended. ended ≡ true → (more : List Lexeme) → read (item_statement items.old.items (next_bytes cursor.old) (next_at cursor.old)) (rest cursor.old ++ more) ≡ Ok (items.new.items, cursor.new ++ more)) }
     ensures open { IfOk result (λ ended. ended ≡ false → cursor.new ≡ []) }
+    ensures inner { IfOk result (λ ended. ended ≡ false → has_outer place.Inside (lexeme_kinds (rest cursor.old)) ≡ false) }
 {
     let (name, at) = cursor.name(alloc)?;
     let statement = cursor.statement(alloc, LEVELS_INSIDE, name, at)?;
@@ -76,6 +79,8 @@ fn read_statements(
 ) -> Result<bool, Stop>
     ensures added { Adds (read (statements_after items.old.items) cursor.old) result items.new.items cursor.new }
     ensures ended { IfOk result (λ ended. ended ≡ true → ReadsOn items.old.items cursor.old items.new.items cursor.new) }
+    ensures open { IfOk result (λ ended. ended ≡ false → LastIsNotOuter place.Inside (lexeme_kinds cursor.old)) }
+    ensures inner { EndsInner result cursor.old cursor.new }
 {
     for _turn in 0..cursor.left() {
         match cursor.start() {
@@ -136,7 +141,8 @@ pub(crate) fn read_rest(
 
 /// Behind the library.
 fn come_to_end(cursor: &Cursor<'_>) -> Result<Reached, Stop>
-    ensures { (items : List Given) → ComesSo result place.Behind items cursor.now items cursor.now }
+    ensures comes { (items : List Given) → ComesSo result place.Behind items cursor.now items cursor.now }
+    ensures behind { IfOk result (λ reached. reached ≡ Reached.To Place.Behind) }
 {
     read_file_end(cursor)?;
     Ok(Reached::To(Place::Behind))
@@ -195,6 +201,13 @@ fn is_final(token: Token, end: usize) -> bool
     token.kind != TokenKind::Word || token.end < end
 }
 
+/// Whether this next token is the same whatever follows the bytes up to this offset: also a Word is, where a token follows it.
+fn is_settled(cursor: &Cursor<'_>, token: Token, end: usize) -> bool
+    ensures { result ≡ (not (is_last cursor.now) || is_final end token) }
+{
+    !cursor.is_last() || is_final(token, end)
+}
+
 /// What the tokens of a part come to that begins at this place and ends at an offset, with the items that they give.
 pub(crate) fn reach(
     cursor: &mut Cursor<'_>,
@@ -211,7 +224,9 @@ pub(crate) fn reach(
         Err(Stop::Refused(refusal)) => refusal,
     };
     Ok(match cursor.peek() {
-        Some(token) if is_final(token, end) => Reached::Refused(fault_at(refusal, token.at)),
+        Some(token) if is_settled(cursor, token, end) => {
+            Reached::Refused(fault_at(refusal, token.at))
+        }
         _ => Reached::Unfinished,
     })
 }

@@ -1,27 +1,37 @@
-use Rattle.std.proofs.Common.{◌∙◌, [], refl, sym, ap, subst, length, arith}
+use Rattle.std.proofs.Common.{◌≡◌, ◌∙◌, ℕ, Bool, true, false, List, [], refl, sym, ap, subst, length, arith}
 use Rattle.std.proofs.lemmas.Bool.Decides.{nat_tests}
 use Rattle.std.proofs.lemmas.Result.{err_from_is_err_and}
-use Rattle.cell_cursor.specs.Stands.{Advances}
+use Rattle.cell_cursor.specs.declared.cursor.CellCursor.{CellCursor}
+use Rattle.cell_cursor.specs.declared.item.LibraryItem.{LibraryItem}
+use Rattle.cell_cursor.specs.Stands.{Goes, MayTake, GoesBy, Advances}
 use Rattle.cell_cursor.proofs.SeekingLemmas.{less_to_do, read_to_do, never_by}
-use Rattle.cell_cursor.proofs.StandsLemmas.{advance_fails, advance_failed, advance_takes, advance_reads, advance_ends, nil_of}
+use Rattle.cell_cursor.proofs.AdvanceLemmas.{advance_scanned, advance_fails, advance_failed, advance_takes, advance_reads, advance_ends, nil_of}
 use Rattle.cell_cursor.proofs.TakingLemmas.{takes_none}
 use Rattle.cell_cursor.proofs.cursor.CellCursor.advance.Goals as goal
+
+may_take : {o m : CellCursor} {found : Bool} → found ≡ true → ((bytes : List ℕ) (items : List LibraryItem) → Goes o bytes items → GoesBy found m bytes items) →
+    (bytes : List ℕ) (items : List LibraryItem) → Goes o bytes items → MayTake m bytes items
+may_take {o} {m} e h bytes items g = subst (λ (b : Bool). GoesBy b m bytes items) e (h bytes items g)
+
+goes_still : {o m : CellCursor} {found : Bool} → found ≡ false → ((bytes : List ℕ) (items : List LibraryItem) → Goes o bytes items → GoesBy found m bytes items) →
+    (bytes : List ℕ) (items : List LibraryItem) → Goes o bytes items → Goes m bytes items
+goes_still {o} {m} e h bytes items g = subst (λ (b : Bool). GoesBy b m bytes items) e (h bytes items g)
 
 pub returns-in_err-scan_on-clause-advances : goal.returns-in_err-scan_on-clause-advances
 returns-in_err-scan_on-clause-advances g c =
     let y = err_from_is_err_and c.from_residual.result c.from_residual.ensures.1 in
     subst (λ r. Advances r c.args.self.now c.scan_on.new.self (g.D.Desk.state c.args.desk.now) (g.D.Desk.state c.args.desk.now)) (sym y.1)
-    (advance_fails c.args.self.now c.scan_on.new.self _ _ [] y.0 (takes_none _) c.scan_on.ensures.limit (c.scan_on.ensures.waiting ∙ c.requires.none_waits) (omega (arith, c.args.self.now.within)))
+    (advance_fails c.args.self.now c.scan_on.new.self _ _ [] y.0 (takes_none _) c.scan_on.ensures.limit (c.scan_on.ensures.waiting ∙ c.requires.none_waits) (omega arith) (omega (arith, c.args.self.now.within)))
 
 pub returns-in_err-take_part-clause-advances : goal.returns-in_err-take_part-clause-advances
 returns-in_err-take_part-clause-advances g c =
     let y = err_from_is_err_and c.from_residual-in_err-take_part.result c.from_residual-in_err-take_part.ensures.1 in
     subst (λ r. Advances r c.args.self.now c.take_part.new.self (g.D.Desk.state c.args.desk.now) (g.D.Desk.state c.args.desk.now)) (sym y.1)
-    (advance_fails c.args.self.now c.take_part.new.self _ _ [] y.0 (takes_none _) (c.take_part.ensures.limit ∙ c.scan_on.ensures.limit) c.in_err-take_part.ensures.err (omega (arith, c.args.self.now.within)))
+    (advance_fails c.args.self.now c.take_part.new.self _ _ [] y.0 (takes_none _) (c.take_part.ensures.limit ∙ c.scan_on.ensures.limit) c.in_err-take_part.ensures.err (omega arith) (omega (arith, c.args.self.now.within)))
 
 pub returns-then-branch-clause-advances : goal.returns-then-branch-clause-advances
 returns-then-branch-clause-advances g c =
-    advance_takes c.args.self.now c.scan_on.new.self c.take_part.new.self _ c.in_ok-scan_on.ensures.scans (c.scan_on.ensures.answer ∙ c.requires.going) (c.scan_on.ensures.waiting ∙ c.requires.none_waits)
+    advance_takes c.args.self.now c.scan_on.new.self c.take_part.new.self _ (may_take c.if-branch.true c.in_ok-scan_on.ensures.goes)
     c.scan_on.ensures.limit c.take_part.ensures.limit c.in_ok-take_part.ensures.stands c.in_ok-take_part.ensures.open
 
 pub returns-then-branch-clause-progress : goal.returns-then-branch-clause-progress
@@ -41,13 +51,13 @@ returns-else-branch-eq0-clause-progress g c = λ _.
 pub returns-in_ok-take_end-clause-advances : goal.returns-in_ok-take_end-clause-advances
 returns-in_ok-take_end-clause-advances g c =
     let count = c.in_ok-read.ensures.count in
-    advance_ends c.args.self.now c.scan_on.new.self c.take_end.new.self _ _ c.read.new.self c.in_ok-scan_on.ensures.scans c.scan_on.ensures.limit (c.in_ok-scan_on.ensures.none c.if-branch.false)
+    advance_ends c.args.self.now c.scan_on.new.self c.take_end.new.self _ _ c.read.new.self (goes_still c.if-branch.false c.in_ok-scan_on.ensures.goes) c.scan_on.ensures.limit (c.in_ok-scan_on.ensures.none c.if-branch.false)
     c.read.ensures.takes (nil_of c.read.new.self (grind (arith, nat_tests, c.if-branch-eq0.true, count))) c.take_end.ensures.limit c.in_ok-take_end.ensures.answer c.in_ok-take_end.ensures.items
     (c.in_ok-read.ensures.end (grind (arith, nat_tests, c.if-branch-eq0.true)) (let size = ap length c.bytes.ensures in grind (arith, nat_tests, c.if-taken-self.false, c.scan_on.new.self.within, c.before-2.ensures, size)))
 
 pub returns-else-branch-eq0-clause-advances : goal.returns-else-branch-eq0-clause-advances
 returns-else-branch-eq0-clause-advances g c =
-    advance_reads c.args.self.now c.scan_on.new.self _ _ _ c.read.new.self c.in_ok-scan_on.ensures.scans c.scan_on.ensures.limit (c.in_ok-scan_on.ensures.none c.if-branch.false)
+    advance_reads c.args.self.now c.scan_on.new.self _ _ _ c.read.new.self (goes_still c.if-branch.false c.in_ok-scan_on.ensures.goes) c.scan_on.ensures.limit (c.in_ok-scan_on.ensures.none c.if-branch.false)
     c.read.ensures.takes refl (c.scan_on.ensures.answer ∙ c.requires.going) (c.scan_on.ensures.waiting ∙ c.requires.none_waits) refl refl refl
 
 pub returns-in_err-read-clause-advances : goal.returns-in_err-read-clause-advances
@@ -55,7 +65,7 @@ returns-in_err-read-clause-advances g c =
     let y = err_from_is_err_and c.from_residual-in_err-read.result c.from_residual-in_err-read.ensures.1 in
     let size = ap length c.bytes.ensures in
     let none = ap length (c.in_ok-scan_on.ensures.none c.if-branch.false) in
-    advance_failed _ y.0 c.args.self.now _ _ _ c.read.new.self y.1 c.read.ensures.takes c.scan_on.ensures.limit (c.scan_on.ensures.waiting ∙ c.requires.none_waits)
+    advance_failed _ y.0 c.args.self.now _ _ _ c.read.new.self y.1 c.read.ensures.takes c.scan_on.ensures.limit (c.scan_on.ensures.waiting ∙ c.requires.none_waits) c.read.ensures.at_once
     (omega (arith, c.in_ok-scan_on.ensures.taken, none, c.read.ensures.most, c.before-2.ensures, size, c.scan_on.ensures.limit, c.args.self.now.within))
 
 pub returns-in_err-take_end-clause-advances : goal.returns-in_err-take_end-clause-advances
@@ -63,5 +73,9 @@ returns-in_err-take_end-clause-advances g c =
     let y = err_from_is_err_and c.from_residual-in_err-take_end.result c.from_residual-in_err-take_end.ensures.1 in
     let size = ap length c.bytes.ensures in
     let none = ap length (c.in_ok-scan_on.ensures.none c.if-branch.false) in
-    advance_failed _ y.0 c.args.self.now _ _ _ c.read.new.self y.1 c.read.ensures.takes (c.take_end.ensures.limit ∙ c.scan_on.ensures.limit) (c.in_err-take_end.ensures.err ∙ c.scan_on.ensures.waiting ∙ c.requires.none_waits)
+    advance_failed _ y.0 c.args.self.now _ _ _ c.read.new.self y.1 c.read.ensures.takes (c.take_end.ensures.limit ∙ c.scan_on.ensures.limit) (c.in_err-take_end.ensures.err ∙ c.scan_on.ensures.waiting ∙ c.requires.none_waits) c.read.ensures.at_once
     (omega (arith, c.in_ok-scan_on.ensures.taken, none, c.read.ensures.most, c.before-2.ensures, size, c.scan_on.ensures.limit, c.args.self.now.within))
+
+pub returns-then-taken-self-clause-advances : goal.returns-then-taken-self-clause-advances
+returns-then-taken-self-clause-advances g c =
+    advance_scanned _ c.args.self.now c.scan_on.new.self c.take_at_limit.new.self _ _ (goes_still c.if-branch.false c.in_ok-scan_on.ensures.goes) c.scan_on.ensures.limit c.take_at_limit.ensures.advances

@@ -4,7 +4,7 @@ use Rattle.text_io.specs.declared.slots.InSlot.TheVariants.{Library}
 use Rattle.text_io.specs.declared.slots.Slot.TheVariants.{Input}
 use Rattle.cell_cursor.specs.Stands.{is_going}
 use Rattle.cell_cursor.proofs.SeekingLemmas.{smaller, rose_since, no_answer, not_going, item_given}
-use Rattle.cell_cursor.proofs.StandsLemmas.{moves_nothing, moves_through, moves_given, moves_answered}
+use Rattle.cell_cursor.proofs.MovesLemmas.{moves_nothing, moves_through, moves_given, moves_answered}
 use Rattle.cell_cursor.proofs.TakingLemmas.{bound_yet}
 use Rattle.cell_cursor.proofs.cursor.CellCursor.next_cell.Goals as goal
 

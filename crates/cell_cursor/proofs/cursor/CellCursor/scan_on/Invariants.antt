@@ -1,5 +1,7 @@
-use Rattle.std.proofs.Common.{◌≡◌, ◌≤◌, ◌++◌, length}
+use Rattle.std.proofs.Common.{◌≡◌, ℕ, ◌≤◌, List, length}
+use Rattle.cell_cursor.specs.declared.item.LibraryItem.{LibraryItem}
 use Rattle.cell_cursor.specs.Progress.{taken_by}
+use Rattle.cell_cursor.specs.Stands.{Goes}
 use Rattle.cell_cursor.proofs.cursor.CellCursor.scan_on.Given as goal
 
 abbrev pub invariant-loop-byte : goal.invariant-loop-byte
@@ -7,9 +9,7 @@ invariant-loop-byte l = record {
   limit : l.self.limit ≡ l.initial.self.limit;
   answer : l.self.answer ≡ l.initial.self.answer;
   waiting : l.self.waiting.items ≡ l.initial.self.waiting.items;
-  place : l.self.place ≡ l.initial.self.place;
-  before : l.self.part.before ≡ l.initial.self.part.before;
-  bytes : l.self.part.bytes ++ l.self.piece ≡ l.initial.self.part.bytes ++ l.initial.self.piece;
+  goes : (bytes : List ℕ) (items : List LibraryItem) → Goes l.initial.self bytes items → Goes l.self bytes items;
   taken : taken_by l.self ≡ taken_by l.initial.self;
   shorter : length l.self.piece ≤ length l.initial.self.piece;
 }

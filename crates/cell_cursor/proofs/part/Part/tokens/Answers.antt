@@ -9,7 +9,7 @@ pub returns-clause-inside : goal.returns-clause-inside
 returns-clause-inside c =
     subst (λ (v : Scanned). LieInside v.bytes c.tokens.result.now) c.self.view_is
     (subst (λ (ts : List Token). LieInside c.self.inside.bytes.items ts) (sym c.tokens.ensures)
-    (scanned_inside c.self.inside.bytes.items c.self.inside.scanner.tokens.items c.self.inside.scanner.mode c.self.invariant))
+    (scanned_inside c.self.inside.bytes.items c.self.inside.scanner.tokens.items c.self.inside.scanner.mode c.self.invariant.scanned))
 
 pub returns-clause-scanned : goal.returns-clause-scanned
-returns-clause-scanned c = subst (λ (v : Scanned). AreScanned v.bytes v.tokens v.mode) c.self.view_is c.self.invariant
+returns-clause-scanned c = subst (λ (v : Scanned). AreScanned v.bytes v.tokens v.mode) c.self.view_is c.self.invariant.scanned

@@ -1,0 +1,190 @@
+-- The tokens that one byte gives, and the braces among them.
+use Rattle.std.proofs.Common.{◌≡◌, ℕ, ◌+◌, ◌-◌, ◌≤◌, ◌==◌, ◌&&◌, ◌||◌, not, Bool, true, false, List, [], ◌∷◌, ◌++◌, length, Option, Some, None, cond, ◌⊎◌, inl, inr, refl, sym, ap, subst, ◌∙◌, arith, length-append}
+use Rattle.std.proofs.lemmas.List.{append_assoc, append-nil}
+use Rattle.liberty_text.specs.declared.token.TokenKind.{TokenKind}
+use Rattle.liberty_text.specs.declared.token.TokenKind.TheVariants.{Word, Text}
+use Rattle.liberty_text.specs.declared.token.Token.{Token}
+use Rattle.liberty_text.specs.declared.class.Class.{Class}
+use Rattle.liberty_text.specs.declared.class.Class.TheVariants.{LineEnd, Blank, Mark, Quote, Backslash, WordByte, Bad}
+use Rattle.liberty_text.specs.declared.scanner.Mode.{Mode}
+use Rattle.liberty_text.specs.declared.scanner.Mode.TheVariants.{Between, InWord, InText, InComment, InContinuation, Stopped}
+use Rattle.liberty_text.specs.Scanner.{class_of, token, opened_by, after_token, in_word_by, comment_in_word, in_continuation, step, closing}
+use Rattle.cell_cursor.specs.declared.part.Place.{Place}
+use Rattle.cell_cursor.specs.Braces.{begins_group, ends_group, depth_behind, depth_after, is_outer, has_outer, ShowsOuter, kinds_of}
+use Rattle.cell_cursor.specs.Scanned.{last_kind}
+use Rattle.cell_cursor.proofs.Depths.{or_false, depth_append, shows_append, kinds_append, plain_depth, word_plain, word_last}
+
+-- no token, or one, with a Word before it or not
+abbrev pub EndWith : Option TokenKind → List TokenKind → Type 0
+EndWith None kinds = kinds ≡ []
+EndWith (Some k) kinds = (kinds ≡ k ∷ []) ⊎ (kinds ≡ Word ∷ k ∷ [])
+
+abbrev GiveFew : Mode × List Token → Type 0
+GiveFew p = EndWith (last_kind p.1) (kinds_of p.1)
+
+opened_few : (line : Bool) (at b : ℕ) (c : Class) → GiveFew (opened_by line at b c)
+opened_few line at b LineEnd = refl
+opened_few line at b Blank = refl
+opened_few line at b (Mark kind) = inl refl
+opened_few line at b Quote = refl
+opened_few line at b Backslash = refl
+opened_few line at b WordByte = refl
+opened_few line at b Bad = refl
+
+word_few : (begun at b : ℕ) (line : Bool) (c : Class) → GiveFew (after_token (token Word begun at line) (opened_by false at b c))
+word_few begun at b line LineEnd = inl refl
+word_few begun at b line Blank = inl refl
+word_few begun at b line (Mark kind) = inr refl
+word_few begun at b line Quote = inl refl
+word_few begun at b line Backslash = inl refl
+word_few begun at b line WordByte = inl refl
+word_few begun at b line Bad = inl refl
+
+in_word_few : (begun at b : ℕ) (line : Bool) (c : Class) → GiveFew (in_word_by begun line at b c)
+in_word_few begun at b line LineEnd = word_few begun at b line (class_of b)
+in_word_few begun at b line Blank = word_few begun at b line (class_of b)
+in_word_few begun at b line (Mark kind) = word_few begun at b line (class_of b)
+in_word_few begun at b line Quote = word_few begun at b line (class_of b)
+in_word_few begun at b line Backslash = word_few begun at b line (class_of b)
+in_word_few begun at b line WordByte = refl
+in_word_few begun at b line Bad = word_few begun at b line (class_of b)
+
+choice_few : (x : Bool) (p q : Mode × List Token) → GiveFew p → GiveFew q → GiveFew (cond x p q)
+choice_few true p q h i = h
+choice_few false p q h i = i
+
+continuation_few : (begun : ℕ) (line : Bool) (c : Class) → GiveFew (in_continuation begun line c)
+continuation_few begun line LineEnd = refl
+continuation_few begun line Blank = refl
+continuation_few begun line (Mark kind) = refl
+continuation_few begun line Quote = refl
+continuation_few begun line Backslash = refl
+continuation_few begun line WordByte = refl
+continuation_few begun line Bad = refl
+
+pub step_few : (mode : Mode) (at b : ℕ) → EndWith (last_kind (step mode at b).1) (kinds_of (step mode at b).1)
+step_few (Between line) at b = opened_few line at b (class_of b)
+step_few (InWord begun line None) at b = in_word_few begun at b line (class_of b)
+step_few (InWord begun line (Some slash)) at b =
+    choice_few (b == 42) (comment_in_word begun line slash) (in_word_by begun line at b (class_of b))
+    (choice_few (begun == slash) (InComment slash line false, []) (InComment slash false false, token Word begun slash line ∷ []) refl (inl refl))
+    (in_word_few begun at b line (class_of b))
+step_few (InText begun line escaped) at b =
+    choice_few (b == 34 && not escaped) (Between false, token Text begun (at + 1) line ∷ []) (InText begun line (b == 92), []) (inl refl) refl
+step_few (InComment begun line star) at b =
+    choice_few (b == 47 && star) (Between line, []) (InComment begun (line || b == 10) (b == 42), []) refl refl
+step_few (InContinuation begun line) at b = continuation_few begun line (class_of b)
+step_few (Stopped begun) at b = refl
+
+-- how many groups are open behind the tokens of a byte
+abbrev pub depth_with : ℕ → Option TokenKind → ℕ
+depth_with d None = d
+depth_with d (Some k) = depth_behind d k
+
+few_depth : (d : ℕ) (o : Option TokenKind) (kinds : List TokenKind) → EndWith o kinds → depth_after d kinds ≡ depth_with d o
+few_depth d None kinds e = ap (depth_after d) e
+few_depth d (Some k) kinds (inl e) = ap (depth_after d) e
+few_depth d (Some k) kinds (inr e) = ap (depth_after d) e ∙ ap (λ (n : ℕ). depth_behind n k) (plain_depth d Word word_plain)
+
+-- as found by the code
+pub byte_depth : (ts ts' : List Token) (mode : Mode) (at b : ℕ) (o : Option TokenKind) → ts' ≡ ts ++ (step mode at b).1 → o ≡ last_kind (step mode at b).1 →
+    depth_after 0 (kinds_of ts') ≡ depth_with (depth_after 0 (kinds_of ts)) o
+byte_depth ts ts' mode at b o e f =
+    ap (λ (l : List Token). depth_after 0 (kinds_of l)) e
+    ∙ ap (depth_after 0) (kinds_append ts (step mode at b).1)
+    ∙ depth_append 0 (kinds_of ts) (kinds_of (step mode at b).1)
+    ∙ few_depth (depth_after 0 (kinds_of ts)) o (kinds_of (step mode at b).1) (subst (λ (l : Option TokenKind). EndWith l (kinds_of (step mode at b).1)) (sym f) (step_few mode at b))
+
+pub depth_more : (d : ℕ) (k : TokenKind) → depth_behind d k ≤ d + 1
+depth_more d k = by_kind (begins_group k) (ends_group k)
+  where
+    by_kind : (x y : Bool) → cond x (d + 1) (cond y (d - 1) d) ≤ d + 1
+    by_kind true y = omega arith
+    by_kind false true = omega arith
+    by_kind false false = omega arith
+
+none_outer : (here : Place) (kinds kinds' more : List TokenKind) → kinds' ≡ kinds ++ more → more ≡ [] → has_outer here kinds ≡ false → has_outer here kinds' ≡ false
+none_outer here kinds kinds' more e f h = ap (has_outer here) (e ∙ ap (λ (l : List TokenKind). kinds ++ l) f ∙ append-nil kinds) ∙ h
+
+with_word : (here : Place) (kinds : List TokenKind) → has_outer here kinds ≡ false → has_outer here (kinds ++ Word ∷ []) ≡ false
+with_word here kinds h = word_last here 0 kinds ∙ h
+
+one_outer : (here : Place) (kinds : List TokenKind) (k : TokenKind) → has_outer here kinds ≡ false → is_outer here (depth_after 0 kinds) k ≡ false → has_outer here (kinds ++ k ∷ []) ≡ false
+one_outer here kinds k h i =
+    shows_append (is_outer here) 0 kinds (k ∷ []) ∙ ap (λ (x : Bool). x || (is_outer here (depth_after 0 kinds) k || false)) h ∙ or_false (is_outer here (depth_after 0 kinds) k) ∙ i
+
+word_depth : (kinds : List TokenKind) → depth_after 0 (kinds ++ Word ∷ []) ≡ depth_after 0 kinds
+word_depth kinds = depth_append 0 kinds (Word ∷ []) ∙ plain_depth (depth_after 0 kinds) Word word_plain
+
+abbrev pub AskedOuter : Place → ℕ → Bool → Option TokenKind → Type 0
+AskedOuter here d may None = may ≡ false
+AskedOuter here d may (Some k) = may ≡ false → is_outer here d k ≡ false
+
+few_outer : (here : Place) (kinds kinds' more : List TokenKind) (o : Option TokenKind) (may : Bool) → EndWith o more → kinds' ≡ kinds ++ more → has_outer here kinds ≡ false →
+    AskedOuter here (depth_after 0 kinds) may o → ShowsOuter may here kinds'
+few_outer here kinds kinds' more None false few e h asked = none_outer here kinds kinds' more e few h
+few_outer here kinds kinds' more None true few e h asked = absurd cc
+few_outer here kinds kinds' more (Some k) false (inl f) e h asked =
+    ap (has_outer here) (e ∙ ap (λ (l : List TokenKind). kinds ++ l) f) ∙ one_outer here kinds k h (asked refl)
+few_outer here kinds kinds' more (Some k) false (inr f) e h asked =
+    ap (has_outer here) (e ∙ ap (λ (l : List TokenKind). kinds ++ l) f ∙ sym (append_assoc kinds (Word ∷ []) (k ∷ [])))
+    ∙ one_outer here (kinds ++ Word ∷ []) k (with_word here kinds h) (ap (λ (d : ℕ). is_outer here d k) (word_depth kinds) ∙ asked refl)
+few_outer here kinds kinds' more (Some k) true (inl f) e h asked = (kinds, k, e ∙ ap (λ (l : List TokenKind). kinds ++ l) f, h)
+few_outer here kinds kinds' more (Some k) true (inr f) e h asked =
+    (kinds ++ Word ∷ [], k, e ∙ ap (λ (l : List TokenKind). kinds ++ l) f ∙ sym (append_assoc kinds (Word ∷ []) (k ∷ [])), with_word here kinds h)
+
+-- as found by the code
+pub byte_outer : (here : Place) (ts ts' : List Token) (mode : Mode) (at b : ℕ) (o : Option TokenKind) (may : Bool) → ts' ≡ ts ++ (step mode at b).1 → o ≡ last_kind (step mode at b).1 →
+    AskedOuter here (depth_after 0 (kinds_of ts)) may o → has_outer here (kinds_of ts) ≡ false → ShowsOuter may here (kinds_of ts')
+byte_outer here ts ts' mode at b o may e f asked h =
+    few_outer here (kinds_of ts) (kinds_of ts') (kinds_of (step mode at b).1) o may (subst (λ (l : Option TokenKind). EndWith l (kinds_of (step mode at b).1)) (sym f) (step_few mode at b))
+    (ap kinds_of e ∙ kinds_append ts (step mode at b).1) h asked
+
+closing_few : (mode : Mode) (at : ℕ) → (kinds_of (closing mode at).0 ≡ []) ⊎ (kinds_of (closing mode at).0 ≡ Word ∷ [])
+closing_few (Between line) at = inl refl
+closing_few (InWord begun line slash) at = inr refl
+closing_few (InText begun line escaped) at = inl refl
+closing_few (InComment begun line star) at = inl refl
+closing_few (InContinuation begun line) at = inl refl
+closing_few (Stopped begun) at = inl refl
+
+-- what is open at the end of the bytes adds no brace
+pub closing_outer : (here : Place) (ts : List Token) (mode : Mode) (at : ℕ) → has_outer here (kinds_of ts) ≡ false → has_outer here (kinds_of (ts ++ (closing mode at).0)) ≡ false
+closing_outer here ts mode at h =
+    ap (has_outer here) (kinds_append ts (closing mode at).0)
+    ∙ elim (closing_few mode at) [
+      | inl e ↦ (ap (λ (l : List TokenKind). has_outer here (kinds_of ts ++ l)) e ∙ ap (has_outer here) (append-nil (kinds_of ts)) ∙ h)
+      | inr e ↦ (ap (λ (l : List TokenKind). has_outer here (kinds_of ts ++ l)) e ∙ with_word here (kinds_of ts) h)
+    ]
+
+-- with the names of the code: how many groups are open behind the last token, of whose kind there are two names
+
+pub counted_some : (ts ts' : List Token) (mode : Mode) (at b d d' : ℕ) (k kind : TokenKind) → ts' ≡ ts ++ (step mode at b).1 → Some k ≡ last_kind (step mode at b).1 →
+    d ≡ depth_after 0 (kinds_of ts) → kind ≡ k → d' ≡ depth_behind d kind → d' ≡ depth_after 0 (kinds_of ts')
+counted_some ts ts' mode at b d d' k kind e f g same h =
+    h ∙ ap (λ (n : ℕ). depth_behind n kind) g ∙ ap (depth_behind (depth_after 0 (kinds_of ts))) same ∙ sym (byte_depth ts ts' mode at b (Some k) e f)
+
+pub counted_none : (ts ts' : List Token) (mode : Mode) (at b d : ℕ) → ts' ≡ ts ++ (step mode at b).1 → None ≡ last_kind (step mode at b).1 →
+    d ≡ depth_after 0 (kinds_of ts) → d ≡ depth_after 0 (kinds_of ts')
+counted_none ts ts' mode at b d e f g = g ∙ sym (byte_depth ts ts' mode at b None e f)
+
+pub outer_some : (here : Place) (ts ts' : List Token) (mode : Mode) (at b d d' : ℕ) (k kind : TokenKind) (may : Bool) → ts' ≡ ts ++ (step mode at b).1 → Some k ≡ last_kind (step mode at b).1 →
+    d ≡ depth_after 0 (kinds_of ts) → kind ≡ k → d' ≡ depth_behind d kind → (may ≡ false → (before : ℕ) → d' ≡ depth_behind before kind → is_outer here before kind ≡ false) →
+    has_outer here (kinds_of ts) ≡ false → ShowsOuter may here (kinds_of ts')
+outer_some here ts ts' mode at b d d' k kind may e f g same h asked none =
+    byte_outer here ts ts' mode at b (Some k) may e f
+    (λ no. ap (λ (n : ℕ). is_outer here n k) (sym g) ∙ ap (is_outer here d) (sym same) ∙ asked no d h) none
+
+pub outer_none : (here : Place) (ts ts' : List Token) (mode : Mode) (at b : ℕ) → ts' ≡ ts ++ (step mode at b).1 → None ≡ last_kind (step mode at b).1 →
+    has_outer here (kinds_of ts) ≡ false → has_outer here (kinds_of ts') ≡ false
+outer_none here ts ts' mode at b e f none = byte_outer here ts ts' mode at b None false e f refl none
+
+pub few_more : (bytes bytes' : List ℕ) (b d d' : ℕ) (kind : TokenKind) → bytes' ≡ bytes ++ b ∷ [] → d' ≡ depth_behind d kind → d ≤ length bytes → d' ≤ length bytes'
+few_more bytes bytes' b d d' kind e f h =
+    let size = ap length e in
+    omega (arith, size, length-append bytes (b ∷ []), f, depth_more d kind, h)
+
+pub few_still : (bytes bytes' : List ℕ) (b d : ℕ) → bytes' ≡ bytes ++ b ∷ [] → d ≤ length bytes → d ≤ length bytes'
+few_still bytes bytes' b d e h =
+    let size = ap length e in
+    omega (arith, size, length-append bytes (b ∷ []), h)

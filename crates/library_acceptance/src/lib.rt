@@ -1,0 +1,13 @@
+//! Liberty texts whose cells are read, run or refused, with answers that were worked out by hand; no product code.
+#![tactic(auto)]
+
+#[cfg(test)]
+mod liberty;
+#[cfg(test)]
+mod libraries;
+#[cfg(test)]
+mod limits;
+#[cfg(test)]
+mod read_traces;
+#[cfg(test)]
+mod refusals;

@@ -1,0 +1,87 @@
+//! Cells of Liberty texts.
+use bool_functions::Names;
+use cell_reader::{CellFault, ReadCell, read_cell};
+use liberty_groups::{Group, read_library};
+use liberty_text::Unit;
+use std::alloc::Global;
+use std::process::Abort;
+use std::test::Fail;
+
+/// What is read of a cell: the cell, or the number and the offset of its refusal.
+pub type Answer = Result<ReadCell, (u8, usize)>;
+
+/// The cell of a group, or the number and the offset of its refusal.
+fn answer(
+    alloc: Global,
+    group: &Group,
+    number: usize,
+    unit: Option<Unit>,
+    earlier: &Names,
+) -> Result<Answer, Fail> {
+    match read_cell(alloc, group, number, unit, earlier) {
+        Ok(read) => Ok(Ok(read)),
+        Err(CellFault::Refused(refusal)) => Ok(Err((refusal.reason.number(), refusal.at))),
+        Err(CellFault::Memory) => Err("no memory".into()),
+    }
+}
+
+/// What is read of each cell of a library.
+pub fn answers(alloc: Global, text: &[u8], unit: Option<Unit>) -> Result<Vec<Answer>, Fail> {
+    let reading = read_library(alloc, text, true)?;
+    let mut earlier = Names::new(alloc);
+    let mut found = Vec::new(alloc);
+    for (number, group) in reading.cells.iter().enumerate() {
+        found.push(answer(alloc, group, number, unit, &earlier)?)?;
+        if let Some(name) = group.arguments.get(0) {
+            earlier.add(name.bytes.as_slice())?;
+        }
+    }
+    Ok(found)
+}
+
+/// What is read of the last cell of a library.
+pub fn last_answer(alloc: Global, text: &[u8], unit: Option<Unit>) -> Result<Answer, Fail> {
+    let mut found = answers(alloc, text, unit)?;
+    Ok(found.pop().ok_or("no cell")?)
+}
+
+/// A text without its mark `@`, and the place of the mark.
+fn unmarked(alloc: Global, text: &str) -> Result<(String, usize), Fail> {
+    let (before, after) = text.split_once("@").ok_or("no mark")?;
+    Ok((format!(in alloc; "{before}{after}")?, before.len()))
+}
+
+/// Wants the last cell of a library with these statements to be refused by this number at the mark `@`.
+pub fn refuses_with(
+    rt: &impl Abort,
+    alloc: Global,
+    unit: Option<Unit>,
+    number: u8,
+    statements: &str,
+) -> Result<(), Fail> {
+    let marked = format!(in alloc; "library (L) {{ {statements} }}")?;
+    let (text, at) = unmarked(alloc, marked.as_str())?;
+    match last_answer(alloc, text.as_bytes(), unit)? {
+        Ok(_) => assert!(rt; false, "accepted: {statements}"),
+        Err(refusal) => assert_eq!(rt; refusal, (number, at), "{statements}"),
+    }
+    Ok(())
+}
+
+/// The same of each of several libraries in picoseconds.
+pub fn refuses(rt: &impl Abort, alloc: Global, number: u8, libraries: &[&str]) -> Result<(), Fail> {
+    for statements in libraries {
+        refuses_with(rt, alloc, Some(Unit::Ps1), number, statements)?;
+    }
+    Ok(())
+}
+
+/// Wants the last cell of each library in picoseconds to be accepted.
+pub fn accepts(rt: &impl Abort, alloc: Global, libraries: &[&str]) -> Result<(), Fail> {
+    for statements in libraries {
+        let text = format!(in alloc; "library (L) {{ {statements} }}")?;
+        let answer = last_answer(alloc, text.as_bytes(), Some(Unit::Ps1))?;
+        assert!(rt; answer.is_ok(), "{statements}");
+    }
+    Ok(())
+}

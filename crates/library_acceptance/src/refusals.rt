@@ -1,0 +1,161 @@
+//! Which cells are refused, by which number and where. The mark `@` stands at the offset of the refusal.
+use crate::liberty::{accepts, refuses, refuses_with};
+use liberty_text::Unit;
+use std::alloc::Global;
+use std::test::Fail;
+
+/// The direction of a pin is absent or none of the three.
+const DIRECTION: [&str; 4] = [
+    "cell (C) { @pin (A) { } }",
+    "cell (C) { pin (A) { @direction : inout; } }",
+    "cell (C) { pin (A) { direction : input; @direction : sideways; } }",
+    "cell (C) { pin (A) { direction : \"input\" } @pin (B) { } pin (Y) { direction : out; } }",
+];
+
+/// A pin has `three_state`.
+const THREE_STATE: [&str; 2] = [
+    "cell (C) { pin (A) { direction : input; } pin (Y) { direction : output; function : \"A\"; @three_state : \"A\"; } }",
+    "cell (C) { pin (A) { direction : input; @three_state : \"A\"; three_state : \"\"; } }",
+];
+
+/// The cell has a bus, a bundle or a bank.
+const BANK: [&str; 4] = [
+    "cell (C) { @bus (D) { } }",
+    "cell (C) { @bundle (D) { } }",
+    "cell (C) { @ff_bank (IQ, IQN, 2) { } }",
+    "cell (C) { pin (A) { direction : input; } @latch_bank (IQ, IQN, 2) { } }",
+];
+
+/// An attribute of states that is left out stands in a state group or pin.
+const LEFT_OUT_STATE: [&str; 3] = [
+    "cell (C) { pin (A B) { direction : input; } ff (IQ, IQN) { next_state : \"A\"; clocked_on : \"B\"; @clocked_on_also : \"A\"; } }",
+    "cell (C) { pin (A B) { direction : input; } latch (IQ, IQN) { data_in : \"A\"; enable : \"B\"; @enable_also : \"A\"; } }",
+    "cell (C) { pin (A) { direction : input; @input_map : \"A\"; } }",
+];
+
+/// What a variable becomes where clear and preset are both on is none of the values that it may have.
+const CLEAR_PRESET: [&str; 3] = [
+    "cell (C) { pin (A B) { direction : input; } ff (IQ, IQN) { next_state : \"A\"; clocked_on : \"B\"; @clear_preset_var1 : T; } }",
+    "cell (C) { pin (A B) { direction : input; } ff (IQ, IQN) { next_state : \"A\"; clocked_on : \"B\"; clear_preset_var1 : N; @clear_preset_var2 : N; } }",
+    "cell (C) { pin (A B) { direction : input; } latch (IQ, IQN) { data_in : \"A\"; enable : \"B\"; clear_preset_var1 : L; @clear_preset_var1 : \"\"; } }",
+];
+
+/// Two pins, variables or nodes share a name, or an earlier cell has the name.
+const DUPLICATE: [&str; 7] = [
+    "cell (C) { pin (A) { direction : input; } @pin (A) { direction : input; } }",
+    "cell (C) { @pin (A A) { direction : input; } }",
+    "cell (C) { pin (IQ B) { direction : input; } @ff (IQ, IQN) { next_state : \"B\"; clocked_on : \"B\"; } }",
+    "cell (C) { pin (A) { direction : input; } @ff (IQ, IQ) { next_state : \"A\"; clocked_on : \"A\"; } }",
+    "cell (C) { pin (A) { direction : input; } statetable (\"A\", \"N\") { table : \"L : - : L\"; } @pin (N) { direction : input; } }",
+    "cell (C) { } @cell (C) { }",
+    "cell (C) { pin (A) { } } @cell (C) { }",
+];
+
+/// A function text does not read.
+const MALFORMED_FUNCTION: [&str; 4] = [
+    "cell (C) { pin (A) { direction : input; } pin (Y) { direction : output; @function : \"A*\"; } }",
+    "cell (C) { pin (A) { direction : input; } pin (Y) { direction : output; function : \"A\"; @function : \"A B)\"; } }",
+    "cell (C) { pin (A) { direction : input; } pin (Y) { direction : output; function : \"A\"; timing () { related_pin : \"A\"; @when : \"(A\"; cell_rise (t) { values (\"1\"); } } } }",
+    "cell (C) { pin (A B) { direction : input; } ff (IQ, IQN) { @next_state : \"\"; clocked_on : \"B\"; } }",
+];
+
+/// A needed attribute is absent, the arguments of a group are not two, or a table does not read.
+const MALFORMED_STATE: [&str; 8] = [
+    "cell (C) { pin (A B) { direction : input; } @ff (IQ, IQN) { next_state : \"A\"; } }",
+    "cell (C) { pin (A B) { direction : input; } @ff (IQ, IQN) { clocked_on : \"B\"; } }",
+    "cell (C) { pin (A B) { direction : input; } @ff (IQ) { next_state : \"A\"; clocked_on : \"B\"; } }",
+    "cell (C) { pin (A B) { direction : input; } @latch (IQ, IQN) { data_in : \"A\"; } }",
+    "cell (C) { pin (A B) { direction : input; } @latch (IQ, IQN) { enable : \"A\"; } }",
+    "cell (C) { pin (A) { direction : input; } @statetable (\"A\", \"N\") { } }",
+    "cell (C) { pin (A) { direction : input; } @statetable (\"A\", \"N\", \"M\") { table : \"L : - : L\"; } }",
+    "cell (C) { pin (A) { direction : input; } statetable (\"A\", \"N\") { @table : \"L : - : Q\"; } }",
+];
+
+/// A text names nothing of the kind that it may name.
+const UNKNOWN_NAME: [&str; 7] = [
+    "cell (C) { pin (A) { direction : input; } pin (Y) { direction : output; @function : \"A*Z\"; } }",
+    "cell (C) { pin (A) { direction : input; } pin (Y) { direction : output; @internal_node : \"N\"; } }",
+    "cell (C) { pin (A) { direction : input; } pin (Y) { direction : output; function : \"A\"; timing () { @related_pin : \"A Z\"; cell_rise (t) { values (\"1\"); } } } }",
+    "cell (C) { pin (A) { direction : input; } pin (Y) { direction : output; function : \"A\"; timing () { related_pin : \"A\"; @when : \"Z\"; cell_rise (t) { values (\"1\"); } } } }",
+    "cell (C) { pin (A) { direction : input; } @statetable (\"A Z\", \"N\") { table : \"L L : - : L\"; } }",
+    "cell (C) { pin (A) { direction : input; } statetable (\"A\", \"N\") { table : \"L : - : L\"; } pin (Y) { direction : output; @function : \"N\"; } }",
+    "cell (C) { pin (A) { direction : input; } statetable (\"A\", \"N\") { table : \"L : - : L\"; } pin (I) { direction : internal; internal_node : \"N\"; } ff (IQ, IQN) { @next_state : \"I\"; clocked_on : \"A\"; } }",
+];
+
+/// A state hangs on another one, or on itself where it may not.
+const COUPLED: [&str; 5] = [
+    "cell (C) { pin (A B) { direction : input; } ff (IQ, IQN) { next_state : \"A\"; clocked_on : \"B\"; } ff (JQ, JQN) { @next_state : \"IQN\"; clocked_on : \"B\"; } }",
+    "cell (C) { pin (A B) { direction : input; } ff (IQ, IQN) { next_state : \"IQ\"; clocked_on : \"B\"; @clear : \"IQ\"; } }",
+    "cell (C) { pin (A) { direction : input; } statetable (\"A\", \"M N\") { @table : \"L : H - : L H\"; } }",
+    "cell (C) { pin (A) { direction : input; } @statetable (\"A M\", \"M\") { table : \"L L : - : L\"; } }",
+    "cell (C) { pin (A) { direction : input; } statetable (\"A\", \"N\") { table : \"L : - : L\"; } ff (IQ, IQN) { @next_state : \"N\"; clocked_on : \"A\"; } }",
+];
+
+/// An output has no function.
+const NO_FUNCTION: [&str; 2] = [
+    "cell (C) { @pin (Y) { direction : output; } }",
+    "cell (C) { pin (A) { direction : input; } pin (X) { direction : output; function : \"A\"; } @pin (Y) { direction : output; } }",
+];
+
+/// A condition names a pin of its own events, or the pin where its arc starts.
+const OWN_CONDITION: [&str; 3] = [
+    "cell (C) { pin (A B) { direction : input; } pin (Y) { direction : output; function : \"A\"; timing () { related_pin : \"A\"; @when : \"A*B\"; cell_rise (t) { values (\"1\"); } } } }",
+    "cell (C) { pin (A) { direction : input; } pin (B) { direction : input; timing () { related_pin : \"A\"; timing_type : setup_rising; @when : \"B\"; rise_constraint (t) { values (\"1\"); } } } }",
+    "cell (C) { pin (A) { direction : input; } pin (B) { direction : input; timing () { related_pin : \"A\"; timing_type : hold_falling; @when : \"A\"; rise_constraint (t) { values (\"0\"); } } } }",
+];
+
+/// A time is absent, no number or too great.
+const NUMBER: [&str; 4] = [
+    "cell (C) { pin (A) { direction : input; } pin (Y) { direction : output; function : \"A\"; timing () { related_pin : \"A\"; cell_rise (t) { @values (\"1, fast\"); } } } }",
+    "cell (C) { pin (A) { direction : input; } pin (Y) { direction : output; function : \"A\"; timing () { related_pin : \"A\"; @cell_rise (t) { } } } }",
+    "cell (C) { pin (A) { direction : input; } pin (Y) { direction : output; function : \"A\"; timing () { related_pin : \"A\"; cell_rise (t) { values (\"1\"); @values (\"1000000000000000\"); } } } }",
+    "cell (C) { pin (A) { direction : input; @min_pulse_width_high : \"wide\"; } }",
+];
+
+/// A name is empty or has a byte that it may not have, or a state names no pin.
+const LIMIT: [&str; 5] = [
+    "@cell () { }",
+    "@cell (\"A B\") { }",
+    "cell (C) { @pin (\"\") { direction : input; } }",
+    "cell (C) { pin (A) { direction : input; } @pin (B \"A B\") { direction : input; } }",
+    "cell (C) { @ff (IQ, IQN) { next_state : \"1\"; clocked_on : \"0\"; } }",
+];
+
+/// Of several reasons the one with the least number is answered, at its least offset.
+const LEAST: [&str; 2] = [
+    "cell (C) { pin (Y) { direction : output; three_state : A; } bus (B) { } @pin (A) { } }",
+    "cell (C) { pin (Y) { direction : output; function : Z; } pin (Y) { @direction : none; } }",
+];
+
+/// Cells that are nearly refused.
+const ACCEPTED: [&str; 3] = [
+    "cell (C) { pin (A) { direction : input; } statetable (\"A\", \"N\") { table : \"L : - : L\"; } pin (N) { direction : internal; internal_node : \"N\"; } }",
+    "cell (C) { } cell (D) { }",
+    "cell (C) { pin (A) { direction : input; min_pulse_width_high : 999999999999999; } }",
+];
+
+/// A cell that reads a time, where the time unit is not known.
+const WITHOUT_UNIT: &str =
+    "cell (C) { pin (A) { direction : input; } pin (Y) { direction : output; function : \"A\"; timing () { related_pin : \"A\"; cell_rise (t) { @values (\"1\"); } } } }";
+
+#[test]
+fn refused_cells(rt: HostRuntime) -> Result<(), Fail> {
+    let alloc = rt.alloc();
+    refuses(&rt, alloc, 1, &DIRECTION)?;
+    refuses(&rt, alloc, 2, &THREE_STATE)?;
+    refuses(&rt, alloc, 3, &BANK)?;
+    refuses(&rt, alloc, 4, &LEFT_OUT_STATE)?;
+    refuses(&rt, alloc, 5, &CLEAR_PRESET)?;
+    refuses(&rt, alloc, 6, &DUPLICATE)?;
+    refuses(&rt, alloc, 7, &MALFORMED_FUNCTION)?;
+    refuses(&rt, alloc, 7, &MALFORMED_STATE)?;
+    refuses(&rt, alloc, 8, &UNKNOWN_NAME)?;
+    refuses(&rt, alloc, 9, &COUPLED)?;
+    refuses(&rt, alloc, 10, &NO_FUNCTION)?;
+    refuses(&rt, alloc, 11, &OWN_CONDITION)?;
+    refuses(&rt, alloc, 12, &NUMBER)?;
+    refuses(&rt, alloc, 13, &LIMIT)?;
+    refuses(&rt, alloc, 1, &LEAST)?;
+    refuses_with(&rt, alloc, None, 12, WITHOUT_UNIT)?;
+    accepts(&rt, alloc, &ACCEPTED)
+}

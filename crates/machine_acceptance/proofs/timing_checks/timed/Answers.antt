@@ -1,0 +1,20 @@
+use Rattle.std.proofs.Common.{◌∙◌, ◌∷◌, [], refl}
+use Rattle.machine_acceptance.proofs.Cells.{sound}
+use Rattle.bool_functions.proofs.Trees.{names_Name}
+use Rattle.machine_acceptance.proofs.timing_checks.timed.Goals as goal
+
+pub invariant_of-result-clause-sound : goal.invariant_of-result-clause-sound
+invariant_of-result-clause-sound c =
+    sound c.in_ok-name.ensures c.in_ok-pins.ensures
+    (c.in_ok-groups.ensures ∙ (λ i. c.in_ok-flip_flop.ensures i ∷ []))
+    (c.in_ok-outputs.ensures ∙ (λ i. c.in_ok-shows.ensures i ∷ []))
+    (c.in_ok-checks.ensures ∙ (λ i. c.setup.ensures i ∷ []))
+    (c.in_ok-arcs.ensures ∙ (λ i. c.delays.ensures i ∷ []))
+    (record {
+      named = refl;
+      of_pins = refl;
+      of_groups = simp names_Name;
+      of_outputs = simp names_Name;
+      of_checks = refl;
+      of_arcs = refl;
+    })

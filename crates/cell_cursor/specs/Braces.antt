@@ -1,4 +1,5 @@
--- The braces of a part of a library, and those with which it may end.
+-- The braces of a part of a library, and those with which a group of the library ends (Liberty Reference Manual, general syntax
+-- of a library file).
 use Rattle.std.specs.Prelude.{◌≡◌, ℕ, ◌+◌, ◌-◌, ◌==◌, ◌&&◌, ◌||◌, Bool, true, false, List, [], ◌∷◌, ◌++◌, if◌then◌else◌}
 use Rattle.liberty_text.specs.declared.token.Token.{Token}
 use Rattle.liberty_text.specs.declared.token.TokenKind.{TokenKind}
@@ -25,14 +26,15 @@ abbrev pub depth_after : ℕ → List TokenKind → ℕ
 depth_after depth [] = depth
 depth_after depth (kind ∷ kinds) = depth_after (depth_behind depth kind) kinds
 
--- An outer brace of a part, where so many groups of the part are open before it: at the start of a file the one that begins
--- the library, and among its statements one behind which no group is open.
+-- An outer brace of a part, where so many groups of the part are open before it: at the start of a file a brace that begins a
+-- group, as the library does, and among the statements of the library one that ends a group and behind which none is open, as it
+-- is at the end of a cell.
 abbrev pub is_outer : Place → ℕ → TokenKind → Bool
 is_outer place.Start depth kind = begins_group kind
 is_outer place.Inside depth kind = ends_group kind && depth_behind depth kind == 0
 is_outer place.Behind depth kind = false
 
--- one of these tokens is such a one, told by its kind and by how many groups are open before it
+-- this holds of one of the tokens, told by its kind and by how many groups are open before it
 abbrev pub shows : (ℕ → TokenKind → Bool) → ℕ → List TokenKind → Bool
 shows is depth [] = false
 shows is depth (kind ∷ kinds) = is depth kind || shows is (depth_behind depth kind) kinds
@@ -48,7 +50,7 @@ LastMayBeOuter here kinds = (front : List TokenKind) × (last : TokenKind) × (k
 abbrev pub LastIsNotOuter : Place → List TokenKind → Type 0
 LastIsNotOuter here kinds = (front : List TokenKind) (last : TokenKind) → kinds ≡ front ++ last ∷ [] → has_outer here front ≡ false → has_outer here kinds ≡ false
 
--- one more token was scanned, or two; whether the last one may be an outer brace
+-- whether the last of the tokens may be an outer brace; none before it is one
 abbrev pub ShowsOuter : Bool → Place → List TokenKind → Type 0
 ShowsOuter true here kinds = LastMayBeOuter here kinds
 ShowsOuter false here kinds = has_outer here kinds ≡ false

@@ -27,7 +27,7 @@ ReadsOn items s all left = (more : List Lexeme) → read (statements_after items
 abbrev pub is_final : ℕ → Token → Bool
 is_final end t = not (is_word t.kind) || nat_lt t.end end
 
--- a token with these behind it is the same whatever follows the bytes up to this offset
+-- A token with these behind it is the same whatever follows the bytes up to this offset: only the last one may go on.
 abbrev pub is_settled : ℕ → Lexeme → List Lexeme → Bool
 is_settled end x left = not (is_nil left) || is_final end x.token
 

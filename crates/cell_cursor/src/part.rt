@@ -31,7 +31,7 @@ pub(crate) struct Part {
     bytes: Vec<u8>,
     /// The tokens of the part, with offsets from its beginning.
     scanner: Scanner,
-    /// How many braces of the part are open.
+    /// How many groups of the part are open.
     depth: usize,
 }
 
@@ -82,7 +82,7 @@ impl Part {
         self.scanner.tokens()
     }
 
-    /// Scans the next byte. Whether a statement may have ended with it: it has not, where the byte ends no outer brace.
+    /// Scans the next byte. Whether a statement may have ended with it: a group of the library does not end where it has not.
     /// Without memory the part is lost.
     pub(crate) fn scan(&mut self, alloc: Global, place: Place, byte: u8) -> Result<bool, Memory>
         requires { length self.old.bytes + 1 < 2 ^ 64 }
@@ -109,7 +109,7 @@ impl Part {
     }
 }
 
-/// How many braces are open behind a token of this kind, where so many are open before it.
+/// How many groups are open behind a token of this kind, where so many are open before it.
 fn depth_behind(depth: usize, kind: TokenKind) -> usize
     requires { depth + 1 < 2 ^ 64 }
     ensures { result ≡ depth_behind depth kind }
@@ -121,7 +121,7 @@ fn depth_behind(depth: usize, kind: TokenKind) -> usize
     }
 }
 
-/// Whether a statement may have ended with a token of this kind, behind which so many braces of the part are open.
+/// Whether a statement may have ended with a token of this kind, behind which so many groups of the part are open.
 fn may_end(place: Place, kind: TokenKind, depth: usize) -> bool
     ensures kind { result ≡ true → ends_by kind ≡ true }
     ensures outer { result ≡ false → (before : ℕ) → depth ≡ depth_behind before kind → is_outer place before kind ≡ false }

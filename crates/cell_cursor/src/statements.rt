@@ -201,7 +201,8 @@ fn is_final(token: Token, end: usize) -> bool
     token.kind != TokenKind::Word || token.end < end
 }
 
-/// Whether this next token is the same whatever follows the bytes up to this offset: also a Word is, where a token follows it.
+/// Whether this next token is the same whatever follows the bytes up to this offset: also a Word is where another token stands
+/// behind it.
 fn is_settled(cursor: &Cursor<'_>, token: Token, end: usize) -> bool
     ensures { result ≡ (not (is_last cursor.now) || is_final end token) }
 {

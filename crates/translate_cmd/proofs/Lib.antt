@@ -3,5 +3,7 @@ pub mod RunsLemmas
 pub mod AskedLemmas
 pub mod WrittenLaws
 pub mod CellLemmas
+pub mod ItemTexts
 pub mod TranslateLemmas
 pub mod ItemsLemmas
+pub mod CompleteLemmas

@@ -131,7 +131,7 @@ left_told None bytes h = absurd cc
 left_told (Some x) bytes h = refl
 
 -- the bytes of the library, where the desk tells its files
-named_bytes : (words : List (List ℕ)) (folder : Option Folder) (files : Folder) (bytes : List ℕ) → folder ≡ Some files
+pub named_bytes : (words : List (List ℕ)) (folder : Option Folder) (files : Folder) (bytes : List ℕ) → folder ≡ Some files
     → IfSome folder (λ told. option_and_then (file_of told) (slice_get words 1) ≡ Some bytes) → library_bytes words files ≡ bytes
 named_bytes words folder files bytes e f = ap (λ o. unwrap_or o []) (rw e at f)
 

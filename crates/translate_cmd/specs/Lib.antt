@@ -7,3 +7,4 @@ pub mod Binding
 pub mod Outcome
 pub mod Runs
 pub mod Reached
+pub mod Complete

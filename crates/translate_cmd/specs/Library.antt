@@ -89,8 +89,8 @@ pub record IsHandled (limit : ℕ) (bytes : List ℕ) (before after : Progress) 
   pub same_progress : after ≡ progress_after before (items_within limit bytes)
   pub same_ending : ending ≡ ending_of limit bytes
 
--- after a call that handles the items of a library: what was appended is a part of what its bytes come to, where the desk
--- tells them, and all of it where the call came to the library's end
+-- After a call that handles the items of a library: what was appended is a part of what its bytes come to, where the desk
+-- tells them, and all of it where the call came to the library's end.
 pub record Handles (limit : ℕ) (old new : DeskState) (before after : Progress) (result : Result Ending Stop) : Type 0 where
   pub taken : ℕ
   pub text : Written

@@ -5,6 +5,7 @@ ghost use Rattle.translate_cmd.specs.Status.{is_decided};
 ghost use Rattle.translate_cmd.specs.declared.asked.Command.TheVariants as command;
 ghost use Rattle.translate_cmd.specs.Reading.{reading};
 ghost use Rattle.translate_cmd.specs.Runs.{Runs};
+ghost use Rattle.translate_cmd.specs.Complete.{Completes};
 
 use crate::asked::{Command, Memory, asked};
 use crate::status::Status;
@@ -16,18 +17,24 @@ use verilog_writer::write_udp;
 /// The line that tells of words without a reading.
 const USAGE: &[u8] = b"lib2sim: usage\n";
 
-/// Runs the command that the desk's words ask for.
+/// Runs the command that the desk's words ask for: `udp` prints a primitive, `translate` writes the models of a library's
+/// cells and a report of them, and words without a reading are `Usage`.
 ///
-/// Words without a reading are usage. The status is that of the outcome of the words and the desk's files, and what was
-/// appended to the outputs is what the outcome appends, `Outside` and `Memory` aside: `Outside` comes only where a call
-/// on the desk failed in this call, and `Memory` where there was none. Also after these two, what was appended is a part
-/// of the outcome's. Nothing is bound but what the words name. Of a command that reads files this speaks where the desk
-/// tells its folder and what is left of its files.
+/// It ends with the status of the outcome of the words and the desk's files, and all that the outcome appends was appended,
+/// or with one of two others: `Outside`, only where a call on the desk failed in this call, and `Memory`, where there was
+/// none. After these two what was appended is the first part of what the outcome appends to each output.
+///
+/// Where no call failed, words of `udp` with a reading come to `Done` or `Memory`, and a whole library of at most 67,108,864
+/// bytes, its cells refused or not, to `Done`, `Cells` or `Memory`.
+///
+/// Nothing is bound but what the words name. Of a command that reads files all this is said where the desk tells its folder
+/// and what is left of its files.
 pub fn run<D: Desk>(alloc: Global, desk: &mut D) -> Status
     ensures writes { Runs (D.state desk.old) (D.state desk.new) result }
     ensures usage { IsTrue (is_decided result) → (result ≡ Status.Usage ↔ reading (D.state desk.old).words ≡ command.Usage) }
     ensures outside { result ≡ Status.Outside → Rose (D.faults desk.old) (D.faults desk.new) }
     ensures later { D.faults desk.old ≤ D.faults desk.new }
+    ensures complete { (Rose (D.faults desk.old) (D.faults desk.new) → ⊥) → Completes (D.state desk.old) (D.state desk.new) result }
 {
     match asked(alloc, desk) {
         Ok(Command::Udp(udp)) => ended(write_udp(desk, OutSlot::Report, &udp), Status::Done),
@@ -42,6 +49,7 @@ pub fn run_sure(alloc: Global, desk: &mut SureDesk) -> Status
     ensures never { result ≡ Status.Outside → ⊥ }
     ensures writes { Runs (sure_state desk.old) (sure_state desk.new) result }
     ensures usage { IsTrue (is_decided result) → (result ≡ Status.Usage ↔ reading (sure_state desk.old).words ≡ command.Usage) }
+    ensures complete { Completes (sure_state desk.old) (sure_state desk.new) result }
 {
     run(alloc, desk)
 }

@@ -4,12 +4,22 @@
 mod asked;
 mod cells;
 mod command;
+#[cfg(test)]
+mod cut_library_tests;
+#[cfg(test)]
+mod failing_call_tests;
+#[cfg(test)]
+mod far_reading_tests;
 mod items;
+#[cfg(test)]
+mod library_desk;
 mod progress;
 mod status;
 mod stop;
 #[cfg(test)]
 mod tests;
+#[cfg(test)]
+mod three_cells;
 mod translate;
 #[cfg(test)]
 mod translation_tests;

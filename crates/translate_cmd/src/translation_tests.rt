@@ -1,44 +1,9 @@
 //! Libraries that are translated, from bytes to bytes.
-use crate::{Status, run};
-use std::alloc::Global;
+use crate::Status;
+use crate::library_desk::translated;
+use crate::three_cells::{NO_MODULE, THREE_CELLS, THREE_LINES, TWO_MODULES};
 use std::test::Fail;
-use text_io::{MemoryDesk, NamedFile, OutSlot};
-
-const THREE_CELLS: &str = "library (L) {
-cell (INV) { pin (A) { direction : input; } pin (Y) { direction : output; function : \"!A\"; } }
-cell (TB) { pin (A) { direction : input; } pin (Y) { direction : output; three_state : \"A\"; function : \"A\"; } }
-cell (BUF) { pin (A) { direction : input; } pin (Y) { direction : output; function : \"A\"; } }
-}
-";
-
-const TWO_MODULES: &str = "`timescale 1ps/1ps
-primitive lib_1_1 (q, i1);
-  output q;
-  input i1;
-  table
-    0 : 1;
-    1 : 0;
-  endtable
-endprimitive
-module INV (A, Y);
-  input A;
-  output Y;
-  lib_1_1 (Y, A);
-endmodule
-primitive lib_3_1 (q, i1);
-  output q;
-  input i1;
-  table
-    1 : 1;
-    0 : 0;
-  endtable
-endprimitive
-module BUF (A, Y);
-  input A;
-  output Y;
-  lib_3_1 (Y, A);
-endmodule
-";
+use text_io::OutSlot;
 
 const FLIP_FLOP: &str = "library (L) {
 time_unit : \"1ps\";
@@ -169,67 +134,74 @@ const SCAN_FLIP_FLOP_MODULE: &str = "module SDFFR (D, SI, SE, CK, RN, Q);
 endmodule
 ";
 
-/// A desk with one file, the library, at which the calls with these numbers fail.
-fn desk(alloc: Global, library: &str, failing: &[u64]) -> Result<MemoryDesk, Fail> {
-    let mut words = Vec::new(alloc);
-    for word in ["translate", "in.lib", "out.v", "out.vhd"] {
-        words.push(String::from_str(alloc, word)?)?;
-    }
-    let mut folder = Vec::new(alloc);
-    folder.push(NamedFile {
-        name: String::from_str(alloc, "in.lib")?,
-        bytes: Vec::from_slice(alloc, library.as_bytes())?,
-    })?;
-    let failing = Vec::from_slice(alloc, failing)?;
-    Ok(MemoryDesk::new(alloc, words, folder, failing, 10000)?)
-}
+/// Without the semicolons behind the unit and the direction.
+const WITHOUT_SEMICOLONS: &str = "library (L) { time_unit : \"1ps\"
+cell (TIE) { pin (A) { direction : input } pin (Y) { function : \"1\" ; direction : output } }
+}";
+
+const TIE_MODULE: &str = "`timescale 1ps/1ps
+module TIE (A, Y);
+  input A;
+  output Y;
+  buf (Y, 1'b1);
+endmodule
+";
 
 #[test]
 fn libraries_are_translated(rt: HostRuntime) -> Result<(), Fail> {
     let alloc = rt.alloc();
-    for (library, status, verilog, report, faults) in [
-        (
-            THREE_CELLS,
-            Status::Cells,
-            TWO_MODULES,
-            "cell 1 INV ok\ncell 2 TB refused 2 three_state at 182\ncell 3 BUF ok\naccepted 2 refused 1\n",
-            "",
-        ),
+    let one_line = "accepted 1 refused 0\n";
+    for (library, status, verilog, cell_lines, last_line) in [
+        (THREE_CELLS, Status::Cells, TWO_MODULES, THREE_LINES, ""),
         (
             FLIP_FLOP,
             Status::Done,
             FLIP_FLOP_MODULE,
-            "cell 1 DFFT ok\naccepted 1 refused 0\n",
-            "",
+            "cell 1 DFFT ok\n",
+            one_line,
         ),
+        (PORTS, Status::Done, PORTS_MODULE, "cell 1 P ok\n", one_line),
         (
-            PORTS,
+            WITHOUT_SEMICOLONS,
             Status::Done,
-            PORTS_MODULE,
-            "cell 1 P ok\naccepted 1 refused 0\n",
-            "",
-        ),
-        (
-            "library (L) { cell (A) { area : \"1",
-            Status::Library,
-            "`timescale 1ps/1ps\n",
-            "",
-            "library refused at 32: text not closed\n",
-        ),
-        (
-            "",
-            Status::Library,
-            "`timescale 1ps/1ps\n",
-            "",
-            "library refused at 0: not a library\n",
+            TIE_MODULE,
+            "cell 1 TIE ok\n",
+            one_line,
         ),
     ] {
-        let mut desk = desk(alloc, library, &[])?;
-        assert_eq!(rt; run(alloc, &mut desk), status);
+        let (reached, desk) = translated(alloc, library.as_bytes(), &[], usize::MAX)?;
+        assert_eq!(rt; reached, status);
         assert_eq!(rt; desk.written(OutSlot::VerilogText), verilog.as_bytes());
         assert_eq!(rt; desk.written(OutSlot::VitalText), b"".as_slice());
-        assert_eq!(rt; desk.written(OutSlot::Report), report.as_bytes());
-        assert_eq!(rt; desk.written(OutSlot::Faults), faults.as_bytes());
+        let report = desk.written(OutSlot::Report);
+        assert_eq!(rt; report.len(), cell_lines.len() + last_line.len());
+        assert!(rt; report.starts_with(cell_lines.as_bytes()));
+        assert!(rt; report.ends_with(last_line.as_bytes()));
+        assert_eq!(rt; desk.written(OutSlot::Faults), b"".as_slice());
+    }
+    Ok(())
+}
+
+#[test]
+fn refused_libraries_are_told(rt: HostRuntime) -> Result<(), Fail> {
+    let alloc = rt.alloc();
+    let mut deep = String::from_str(alloc, "library (L) {")?;
+    for _ in 0..32 {
+        deep.push_str("a(){")?;
+    }
+    for (library, line) in [
+        (
+            "library (L) { cell (A) { area : \"1",
+            "library refused at 32: text not closed\n",
+        ),
+        ("", "library refused at 0: not a library\n"),
+        (deep.as_str(), "library refused at 140: too deep\n"),
+    ] {
+        let (status, desk) = translated(alloc, library.as_bytes(), &[], usize::MAX)?;
+        assert_eq!(rt; status, Status::Library);
+        assert_eq!(rt; desk.written(OutSlot::VerilogText), NO_MODULE.as_bytes());
+        assert_eq!(rt; desk.written(OutSlot::Report), b"".as_slice());
+        assert_eq!(rt; desk.written(OutSlot::Faults), line.as_bytes());
     }
     Ok(())
 }
@@ -241,21 +213,10 @@ fn modules_stand_behind_their_primitives(rt: HostRuntime) -> Result<(), Fail> {
         (CLOCK_GATE, CLOCK_GATE_MODULE),
         (SCAN_FLIP_FLOP, SCAN_FLIP_FLOP_MODULE),
     ] {
-        let mut desk = desk(alloc, library, &[])?;
-        assert_eq!(rt; run(alloc, &mut desk), Status::Done);
+        let (status, desk) = translated(alloc, library.as_bytes(), &[], usize::MAX)?;
+        assert_eq!(rt; status, Status::Done);
         let verilog = desk.written(OutSlot::VerilogText);
         assert!(rt; verilog.ends_with(module.as_bytes()));
-    }
-    Ok(())
-}
-
-#[test]
-fn a_file_that_cannot_be_made_ends_the_run(rt: HostRuntime) -> Result<(), Fail> {
-    let alloc = rt.alloc();
-    let mut desk = desk(alloc, THREE_CELLS, &[2])?;
-    assert_eq!(rt; run(alloc, &mut desk).code(), 7);
-    for slot in [OutSlot::VerilogText, OutSlot::Report, OutSlot::Faults] {
-        assert_eq!(rt; desk.written(slot), b"".as_slice());
     }
     Ok(())
 }

@@ -1,5 +1,6 @@
 use Rattle.std.proofs.Common.{sym, ◌∙◌}
 use Rattle.translate_cmd.proofs.RunsLemmas.{udp_runs, usage_runs, nothing_runs}
+use Rattle.translate_cmd.proofs.CompleteLemmas.{completes, unwritten}
 use Rattle.translate_cmd.proofs.command.run.Goals as goal
 
 pub returns-in-Ok-Udp-clause-writes : goal.returns-in-Ok-Udp-clause-writes
@@ -12,3 +13,10 @@ returns-in-Ok-Usage-clause-writes g c =
 
 pub returns-in-Err-clause-writes : goal.returns-in-Err-clause-writes
 returns-in-Err-clause-writes g c = nothing_runs _
+
+pub returns-in-Ok-Udp-clause-complete : goal.returns-in-Ok-Udp-clause-complete
+returns-in-Ok-Udp-clause-complete g c = λ sound.
+    completes _ _ _ (returns-in-Ok-Udp-clause-writes g c) (λ outside. sound (unwritten _ _ c.write_udp.result _ c.write_udp.ensures.cause c.ended.ensures outside))
+
+pub returns-in-Ok-Translate-clause-complete : goal.returns-in-Ok-Translate-clause-complete
+returns-in-Ok-Translate-clause-complete g c = λ sound. completes _ _ _ c.translate.ensures.writes (λ outside. sound (c.translate.ensures.outside outside))

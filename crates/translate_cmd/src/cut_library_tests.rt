@@ -1,0 +1,54 @@
+//! A library that is cut at each of its bytes: the cells that ended before the cut are written.
+use crate::library_desk::translated;
+use crate::three_cells::{NO_MODULE, ONE_MODULE, THREE_CELLS, THREE_LINES, TWO_MODULES};
+use std::test::Fail;
+use text_io::OutSlot;
+
+/// The status, the Verilog text, and how many lines the report has, where the library is cut to this length.
+fn cut_to(length: usize) -> (u8, &'static str, usize) {
+    match length {
+        0..=107 => (2, NO_MODULE, 0),
+        108..=219 => (2, ONE_MODULE, 1),
+        220..=313 => (2, ONE_MODULE, 2),
+        314..=315 => (2, TWO_MODULES, 3),
+        _ => (3, TWO_MODULES, 4),
+    }
+}
+
+#[test]
+fn cells_before_a_cut_are_written(rt: HostRuntime) -> Result<(), Fail> {
+    let alloc = rt.alloc();
+    assert_eq!(rt; THREE_CELLS.len(), 317);
+    for piece in [1, 7, 4096] {
+        for length in 0..318 {
+            let library = THREE_CELLS.as_bytes().get(..length).ok_or("too long")?;
+            let (code, verilog, lines) = cut_to(length);
+            let (status, desk) = translated(alloc, library, &[], piece)?;
+            assert_eq!(rt; status.code(), code, "cut to {length}");
+            assert_eq!(rt; desk.written(OutSlot::VerilogText), verilog.as_bytes());
+            let report = desk.written(OutSlot::Report);
+            assert!(rt; THREE_LINES.as_bytes().starts_with(report));
+            assert_eq!(rt; report.iter().filter(|byte| **byte == b'\n').count(), lines);
+        }
+    }
+    Ok(())
+}
+
+#[test]
+fn a_cut_is_told_where_it_is(rt: HostRuntime) -> Result<(), Fail> {
+    let alloc = rt.alloc();
+    for (length, line) in [
+        (198, "library refused at 196: text not closed\n"),
+        (200, "library refused at 200: expected statement\n"),
+    ] {
+        let library = THREE_CELLS.as_bytes().get(..length).ok_or("too long")?;
+        let (status, desk) = translated(alloc, library, &[], usize::MAX)?;
+        assert_eq!(rt; status.code(), 2);
+        assert_eq!(rt;
+            desk.written(OutSlot::Report),
+            b"cell 1 INV ok\n".as_slice()
+        );
+        assert_eq!(rt; desk.written(OutSlot::Faults), line.as_bytes());
+    }
+    Ok(())
+}

@@ -1,0 +1,67 @@
+//! A library of three cells, of which the second is refused, and what it comes to.
+
+/// The library.
+pub(crate) const THREE_CELLS: &str = "library (L) {
+cell (INV) { pin (A) { direction : input; } pin (Y) { direction : output; function : \"!A\"; } }
+cell (TB) { pin (A) { direction : input; } pin (Y) { direction : output; three_state : \"A\"; function : \"A\"; } }
+cell (BUF) { pin (A) { direction : input; } pin (Y) { direction : output; function : \"A\"; } }
+}
+";
+
+/// The Verilog file without a cell.
+pub(crate) const NO_MODULE: &str = "`timescale 1ps/1ps
+";
+
+/// The Verilog file with the first cell.
+pub(crate) const ONE_MODULE: &str = "`timescale 1ps/1ps
+primitive lib_1_1 (q, i1);
+  output q;
+  input i1;
+  table
+    0 : 1;
+    1 : 0;
+  endtable
+endprimitive
+module INV (A, Y);
+  input A;
+  output Y;
+  lib_1_1 (Y, A);
+endmodule
+";
+
+/// The Verilog file with the first and the third cell.
+pub(crate) const TWO_MODULES: &str = "`timescale 1ps/1ps
+primitive lib_1_1 (q, i1);
+  output q;
+  input i1;
+  table
+    0 : 1;
+    1 : 0;
+  endtable
+endprimitive
+module INV (A, Y);
+  input A;
+  output Y;
+  lib_1_1 (Y, A);
+endmodule
+primitive lib_3_1 (q, i1);
+  output q;
+  input i1;
+  table
+    1 : 1;
+    0 : 0;
+  endtable
+endprimitive
+module BUF (A, Y);
+  input A;
+  output Y;
+  lib_3_1 (Y, A);
+endmodule
+";
+
+/// The report.
+pub(crate) const THREE_LINES: &str = "cell 1 INV ok
+cell 2 TB refused 2 three_state at 182
+cell 3 BUF ok
+accepted 2 refused 1
+";

@@ -13,6 +13,7 @@ use Rattle.cell_cursor.specs.declared.cursor.Answer.TheVariants as answer
 use Rattle.cell_cursor.specs.declared.cursor.CellCursor.{CellCursor}
 use Rattle.cell_cursor.specs.declared.fault.CursorFault.TheVariants as fault
 use Rattle.cell_cursor.specs.Ends.{items_within, end_within}
+use Rattle.cell_cursor.specs.Given.{HasGiven}
 use Rattle.cell_cursor.specs.Taking.{Takes}
 use Rattle.cell_cursor.specs.Stands.{Knows, Stands, Moves, is_ended, is_going, is_failed, NothingLeft}
 use Rattle.cell_cursor.proofs.StandsLemmas.{first_of_going}
@@ -23,11 +24,13 @@ use Rattle.translate_cmd.specs.declared.items.Ending.TheVariants as ending
 use Rattle.translate_cmd.specs.Written.{Written, nothing_written, joined, IsPart, wrote_all, Writes}
 use Rattle.translate_cmd.specs.Cells.{next_refusal, item_written, after_cell, after_item, progress_after, items_written}
 use Rattle.cell_parts.specs.Groups.{cell_name}
+use Rattle.translate_cmd.specs.Models.{HoldsCells}
 use Rattle.translate_cmd.specs.Library.{ending_by, IsHandled, Handles}
 use Rattle.translate_cmd.specs.Reached.{end_told, TellsEnd, IsAtEnd, Reached}
-use Rattle.translate_cmd.proofs.WrittenLaws.{wrote_all-nothing, took-wrote_all, wrote_on, IsPart-nothing, IsPart-all, IsPart-after}
+use Rattle.translate_cmd.proofs.WrittenLaws.{wrote_all-nothing, took-wrote_all, wrote_on, IsPart-nothing, IsPart-all, IsPart-after, IsPart-front}
 use Rattle.translate_cmd.proofs.ItemTexts.{items_written-more, progress_after-more, first_part}
-use Rattle.translate_cmd.proofs.TranslateLemmas.{IfSome-always}
+use Rattle.translate_cmd.proofs.ModelsLemmas.{given_held, no_cell_owed}
+use Rattle.translate_cmd.proofs.TranslateLemmas.{IfSome-always, IfSome-map}
 
 -- Bytes.
 
@@ -191,6 +194,13 @@ IfOk-error : {T E : Type 0} (r : Result T E) (P : T → Type 0) → IsErr r → 
 IfOk-error (Ok x) P e = absurd (cc)
 IfOk-error (Err y) P e = tt
 
+-- what was given is written
+cells_held : (base : DeskState) (p : Progress) (taken : List ℕ) (items : List LibraryItem) (text : Written) → HasGiven taken items
+    → IsFront (base.left Library) taken → IsPart (items_written p items) text → IfSome (base.left Library) (λ all. HoldsCells p all (length taken) text)
+cells_held base p taken items text given front part =
+    IfSome-map (base.left Library) (λ all. (taken ≡ take (length taken) all) × (length taken ≤ length all)) (λ all. HoldsCells p all (length taken) text)
+    (λ all front. given_held p taken all items text given front.0 part) front
+
 -- a stop before anything was read
 pub stops_first : (limit : ℕ) (base : DeskState) (p : Progress) (r : Result Ending Stop) → IsErr r → Handles limit base base p p r
 stops_first limit base p r e = record {
@@ -198,6 +208,7 @@ stops_first limit base p r e = record {
   text = nothing_written;
   state = sym (took-zero base Library) ∙ sym (wrote_all-nothing (took base Library 0));
   part = IfSome-always (base.left Library) (λ all. IsPart nothing_written (items_written p (items_within limit all))) (λ all. IsPart-nothing _);
+  cells = IfSome-always (base.left Library) (λ all. HoldsCells p all 0 nothing_written) (λ all. no_cell_owed p all nothing_written);
   whole = IfOk-error r _ e;
 }
 
@@ -209,6 +220,7 @@ stops_seeking limit base now next p q c d r h m e = record {
   text = items_written p h.items;
   state = more_state base now next h.taken m.taken (items_written p h.items) h.state m.takes.state;
   part = IfSome-each (base.left Library) (λ all. IsPart (items_written p h.items) (items_written p (items_within limit all))) (λ all is. let first = first_given limit base now p q c all h is in first_part p _ h.items first.0 _ first.1 (IsPart-all _));
+  cells = cells_held base p (h.taken ++ m.taken) h.items _ (m.given_before h.taken h.items h.stands) (front_moved base now next h.taken m.taken (items_written p h.items) h.state h.told m.takes) (IsPart-all _);
   whole = IfOk-error r _ e;
 }
 
@@ -220,6 +232,7 @@ stops_between limit base now p q c r h e = record {
   text = items_written p h.items;
   state = h.state;
   part = IfSome-each (base.left Library) (λ all. IsPart (items_written p h.items) (items_written p (items_within limit all))) (λ all is. let first = first_given limit base now p q c all h is in first_part p _ h.items first.0 _ first.1 (IsPart-all _));
+  cells = cells_held base p h.taken h.items _ h.stands.given h.told (IsPart-all _);
   whole = IfOk-error r _ e;
 }
 
@@ -246,6 +259,7 @@ stops_within limit base now next new p q s c d x y r h m a w e =
           let first = next_given limit base now next p q c d x all h m a is in
           let within = IsPart-after (items_written p h.items) w.part.part (item_written q x) w.part.is_part in
           first_part p _ (h.items ++ x ∷ []) first.0 _ first.1 (rw (items_written-more p q h.items x h.progress) at within));
+      cells = cells_held base p (h.taken ++ m.taken) h.items _ (m.given_before h.taken h.items h.stands) (front_moved base now next h.taken m.taken (items_written p h.items) h.state h.told m.takes) (IsPart-front _ (items_written p h.items) w.part.part (IsPart-all _));
       whole = IfOk-error r _ e;
     }
 
@@ -290,6 +304,7 @@ ends_so limit base now next p q c d e h m a t =
       text = items_written p h.items;
       state = state;
       part = IfSome-each (base.left Library) (λ all. IsPart (items_written p h.items) (items_written p (items_within limit all))) (λ all is. let first = first_given limit base now p q c all h is in first_part p _ h.items first.0 _ first.1 (IsPart-all _));
+      cells = cells_held base p (h.taken ++ m.taken) h.items _ (m.given_before h.taken h.items h.stands) front (IsPart-all _);
       whole = IfSome-each (base.left Library) (λ all. IsHandled limit all p q (items_written p h.items) e) (λ all is.
           let told = rw is at front in
           let after_all : is_ended d.answer ≡ true → drop (length (h.taken ++ m.taken)) all ≡ [] =

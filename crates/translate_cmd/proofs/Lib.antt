@@ -4,6 +4,7 @@ pub mod AskedLemmas
 pub mod WrittenLaws
 pub mod CellLemmas
 pub mod ItemTexts
+pub mod ModelsLemmas
 pub mod TranslateLemmas
 pub mod ItemsLemmas
 pub mod CompleteLemmas

@@ -18,6 +18,7 @@ use Rattle.translate_cmd.specs.Reading.{reading}
 use Rattle.translate_cmd.specs.Written.{nothing_written, in_report, wrote_all}
 use Rattle.translate_cmd.specs.Binding.{Nothing, IsBoundBy}
 use Rattle.translate_cmd.specs.Runs.{Runs}
+use Rattle.translate_cmd.proofs.ModelsLemmas.{no_model_owed}
 use Rattle.translate_cmd.proofs.WrittenLaws.{wrote_all-nothing, wrote_all-report, IsPart-nothing}
 
 nothing : (whole : List ℕ) → IsPrefix [] whole
@@ -56,6 +57,7 @@ udp_runs old new udp (Ok x) result e w r = record {
     text_part = record { verilog = nothing _; vital = nothing _; report = whole_prefix (primitive_text udp) };
     faults_part = nothing _;
   });
+  models = λ files _. no_model_owed _ _;
   all_bound = λ _. rw e refl;
   whole = λ _ files _. rw e (record { same_status = r; same_text = refl; same_faults = refl });
 }
@@ -72,6 +74,7 @@ udp_runs old new udp (Err y) result e w r = record {
     text_part = record { verilog = nothing _; vital = nothing _; report = w.part.1 };
     faults_part = nothing _;
   });
+  models = λ files _. no_model_owed _ _;
   all_bound = λ d. undecided result r d;
   whole = λ d. undecided result r d;
 }
@@ -89,6 +92,7 @@ usage_runs old new (Ok x) result e w r = record {
   planned = rw e refl;
   file = tt;
   part = λ files _. rw e (record { text_part = IsPart-nothing nothing_written; faults_part = whole_prefix _ });
+  models = λ files _. no_model_owed _ _;
   all_bound = λ _. rw e refl;
   whole = λ _ files _. rw e (record { same_status = r; same_text = refl; same_faults = refl });
 }
@@ -102,6 +106,7 @@ usage_runs old new (Err y) result e w r = record {
   planned = rw e refl;
   file = tt;
   part = λ files _. rw e (record { text_part = IsPart-nothing nothing_written; faults_part = w.part.1 });
+  models = λ files _. no_model_owed _ _;
   all_bound = λ d. undecided result r d;
   whole = λ d. undecided result r d;
 }
@@ -123,6 +128,7 @@ nothing_runs old = record {
   planned = nothing_bound (reading old.words);
   file = tt;
   part = λ files _. record { text_part = IsPart-nothing _; faults_part = nothing _ };
+  models = λ files _. no_model_owed _ _;
   all_bound = λ d. absurd cc;
   whole = λ d. absurd cc;
 }

@@ -30,6 +30,8 @@ use Rattle.translate_cmd.specs.Binding.{Bound, WithVerilog, WithVital, bound_sta
 use Rattle.translate_cmd.specs.Library.{library_limit, last_line, fault_line, status_at, outcome_at, translate_outcome, IsPartOf, IsAllOf, IsHandled, Handles, IsFinished, Finishes, Translates}
 use Rattle.translate_cmd.specs.Outcome.{library_bytes}
 use Rattle.translate_cmd.specs.Runs.{Runs}
+use Rattle.translate_cmd.specs.Models.{HoldsCells, HoldsModels}
+use Rattle.translate_cmd.proofs.ModelsLemmas.{no_model_owed, behind_prelude, with_more}
 use Rattle.translate_cmd.proofs.WrittenLaws.{wrote_all-nothing, wrote_all-joined, wrote_all-verilog, wrote_all-report, took-wrote_all, IsPart-nothing, IsPart-after, IsPart-front}
 
 nothing : (whole : List ℕ) → IsPrefix [] whole
@@ -162,6 +164,7 @@ unbound_runs old new r e b = record {
   planned = rw e tt;
   file = b.file;
   part = λ files _. record { text_part = IsPart-nothing _; faults_part = nothing _ };
+  models = λ files _. no_model_owed _ nothing_written;
   all_bound = λ d. absurd cc;
   whole = λ d. absurd cc;
 }
@@ -171,9 +174,10 @@ pub translated_runs : (old now new : DeskState) (bytes : List ℕ) (result : Sta
     → reading old.words ≡ command.Translate → now ≡ bound_state old WithVital bytes → IsFileAt old 1 bytes
     → new ≡ wrote (wrote_all (took now Library taken) text) Faults faults
     → IfSome (now.left Library) (λ all. IsPartOf text faults (translate_outcome all))
+    → IfSome (now.left Library) (λ all. HoldsModels all taken text)
     → (IsTrue (is_decided result) → IfSome (now.left Library) (λ all. IsAllOf result text faults (translate_outcome all)))
     → Runs old new result
-translated_runs old now new bytes result taken text faults e h f state part whole = record {
+translated_runs old now new bytes result taken text faults e h f state part models whole = record {
   bound = WithVital;
   library = bytes;
   taken = taken;
@@ -183,6 +187,7 @@ translated_runs old now new bytes result taken text faults e h f state part whol
   planned = rw e tt;
   file = f;
   part = λ files tells. let known = rw e at tells in rw e (told (λ all. IsPartOf text faults (translate_outcome all)) old now files bytes h f known.0 known.1 part);
+  models = λ files tells. let known = rw e at tells in told (λ all. HoldsModels all taken text) old now files bytes h f known.0 known.1 models;
   all_bound = λ d. rw e refl;
   whole = λ d files tells. let known = rw e at tells in rw e (told (λ all. IsAllOf result text faults (translate_outcome all)) old now files bytes h f known.0 known.1 (whole d));
 }
@@ -210,6 +215,7 @@ prelude_stops old new y r w e = record {
   state = w.part.2 ∙ sym (wrote_all-verilog old w.part.0) ∙ ap (λ s. wrote_all s (in_verilog w.part.0)) (sym (took-zero old Library))
       ∙ sym (wrote-nil (wrote_all (took old Library 0) (in_verilog w.part.0)) Faults);
   part = IfSome-always (old.left Library) (λ bytes. IsPartOf (in_verilog w.part.0) [] (translate_outcome bytes)) (λ bytes. prelude_part _ _ w.part.0 w.part.1);
+  models = IfSome-always (old.left Library) (λ bytes. HoldsModels bytes 0 (in_verilog w.part.0)) (λ bytes. no_model_owed bytes _);
   whole = IfOk-err r _ e;
 }
 
@@ -236,6 +242,24 @@ items_part items end text h = record {
   faults_part = nothing (fault_line end);
 }
 
+-- the cells that are written whole, behind the prelude
+models_behind : (old now : DeskState) (before : Progress) (taken : ℕ) (text : Written) → now ≡ wrote old VerilogText prelude_text → before ≡ no_progress
+    → IfSome (now.left Library) (λ bytes. HoldsCells before bytes taken text)
+    → IfSome (old.left Library) (λ bytes. HoldsModels bytes taken (joined (in_verilog prelude_text) text))
+models_behind old now before taken text first fresh held =
+    let cells = rw (left_behind old now prelude_text first, fresh) at held in
+    IfSome-map (old.left Library) (λ bytes. HoldsCells no_progress bytes taken text) (λ bytes. HoldsModels bytes taken (joined (in_verilog prelude_text) text))
+    (λ bytes. behind_prelude bytes taken text) cells
+
+-- and before the last line
+models_before : (old now : DeskState) (before : Progress) (taken : ℕ) (text last : Written) → now ≡ wrote old VerilogText prelude_text → before ≡ no_progress
+    → IfSome (now.left Library) (λ bytes. HoldsCells before bytes taken text)
+    → IfSome (old.left Library) (λ bytes. HoldsModels bytes taken (joined (joined (in_verilog prelude_text) text) last))
+models_before old now before taken text last first fresh held =
+    IfSome-map (old.left Library) (λ bytes. HoldsModels bytes taken (joined (in_verilog prelude_text) text))
+    (λ bytes. HoldsModels bytes taken (joined (joined (in_verilog prelude_text) text) last))
+    (λ bytes. with_more bytes taken (joined (in_verilog prelude_text) text) last) (models_behind old now before taken text first fresh held)
+
 -- a stop within the items
 pub items_stop : (old now new : DeskState) (before after : Progress) (y : Stop) (r : Result Status Stop)
     → now ≡ wrote old VerilogText prelude_text → before ≡ no_progress → Handles library_limit now new before after (Err y) → IsErr r → Translates old new r
@@ -248,6 +272,7 @@ items_stop old now new before after y r first fresh h e =
       state = handled_state old now new h.taken h.text first h.state ∙ sym (wrote-nil _ Faults);
       part = IfSome-map (old.left Library) (λ bytes. IsPart h.text (items_written no_progress (items_within library_limit bytes)))
           (λ bytes. IsPartOf (joined (in_verilog prelude_text) h.text) [] (translate_outcome bytes)) (λ bytes p. items_part _ _ h.text p) part;
+      models = models_behind old now before h.taken h.text first fresh h.cells;
       whole = IfOk-err r _ e;
     }
 
@@ -315,6 +340,7 @@ finish_stops old now next new before after end y r first fresh h f e =
       part = IfSome-map (old.left Library) (λ bytes. IsHandled library_limit bytes before after h.text end)
           (λ bytes. IsPartOf (joined (joined (in_verilog prelude_text) h.text) (in_report f.report)) f.faults (translate_outcome bytes))
           (λ bytes k. part_behind bytes h.text end before after f.report f.faults fresh k f.report_part f.faults_part) whole;
+      models = models_before old now before h.taken h.text (in_report f.report) first fresh h.cells;
       whole = IfOk-err r _ e;
     }
 
@@ -332,6 +358,7 @@ finished old now next new before after end status first fresh h f =
       part = IfSome-map (old.left Library) (λ bytes. IsHandled library_limit bytes before after h.text end)
           (λ bytes. IsPartOf (joined (joined (in_verilog prelude_text) h.text) (in_report f.report)) f.faults (translate_outcome bytes))
           (λ bytes k. part_behind bytes h.text end before after f.report f.faults fresh k f.report_part f.faults_part) whole;
+      models = models_before old now before h.taken h.text (in_report f.report) first fresh h.cells;
       whole = IfSome-map (old.left Library) (λ bytes. IsHandled library_limit bytes before after h.text end)
           (λ bytes. IsAllOf status (joined (joined (in_verilog prelude_text) h.text) (in_report f.report)) f.faults (translate_outcome bytes))
           (λ bytes k. all_behind bytes h.text end before after status f.report f.faults fresh k f.whole) whole;

@@ -2,6 +2,7 @@ pub mod Status
 pub mod Reading
 pub mod Written
 pub mod Cells
+pub mod Models
 pub mod Library
 pub mod Binding
 pub mod Outcome

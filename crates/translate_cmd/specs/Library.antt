@@ -19,6 +19,7 @@ use Rattle.translate_cmd.specs.declared.items.Ending.{Ending}
 use Rattle.translate_cmd.specs.declared.items.Ending.TheVariants as ending
 use Rattle.translate_cmd.specs.Written.{Written, in_verilog, in_report, joined, IsPart, wrote_all}
 use Rattle.translate_cmd.specs.Cells.{no_progress, progress_after, items_written}
+use Rattle.translate_cmd.specs.Models.{HoldsCells, HoldsModels}
 
 -- the most bytes that a library may have
 abbrev pub library_limit : ℕ
@@ -90,12 +91,14 @@ pub record IsHandled (limit : ℕ) (bytes : List ℕ) (before after : Progress) 
   pub same_ending : ending ≡ ending_of limit bytes
 
 -- After a call that handles the items of a library: what was appended is a part of what its bytes come to, where the desk
--- tells them, and all of it where the call came to the library's end.
+-- tells them, and all of it where the call came to the library's end. However the call ended, the cells are written that ended
+-- well before the last byte taken.
 pub record Handles (limit : ℕ) (old new : DeskState) (before after : Progress) (result : Result Ending Stop) : Type 0 where
   pub taken : ℕ
   pub text : Written
   pub state : new ≡ wrote_all (took old Library taken) text
   pub part : IfSome (old.left Library) (λ bytes. IsPart text (items_written before (items_within limit bytes)))
+  pub cells : IfSome (old.left Library) (λ bytes. HoldsCells before bytes taken text)
   pub whole : IfOk result (λ ending. IfSome (old.left Library) (λ bytes. IsHandled limit bytes before after text ending))
 
 -- all that stands behind the items was written, and the status is that of the end
@@ -120,4 +123,5 @@ pub record Translates (old new : DeskState) (result : Result Status Stop) : Type
   pub faults : List ℕ
   pub state : new ≡ wrote (wrote_all (took old Library taken) text) Faults faults
   pub part : IfSome (old.left Library) (λ bytes. IsPartOf text faults (translate_outcome bytes))
+  pub models : IfSome (old.left Library) (λ bytes. HoldsModels bytes taken text)
   pub whole : IfOk result (λ status. IfSome (old.left Library) (λ bytes. IsAllOf status text faults (translate_outcome bytes)))

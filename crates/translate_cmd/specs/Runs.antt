@@ -9,12 +9,14 @@ use Rattle.translate_cmd.specs.Reading.{reading}
 use Rattle.translate_cmd.specs.Written.{Written, wrote_all}
 use Rattle.translate_cmd.specs.Binding.{Bound, bound_state, bound_by, IsLibrary, IsBoundBy}
 use Rattle.translate_cmd.specs.Library.{IsPartOf, IsAllOf}
-use Rattle.translate_cmd.specs.Outcome.{outcome, Tells}
+use Rattle.translate_cmd.specs.Models.{HoldsModels}
+use Rattle.translate_cmd.specs.Outcome.{outcome, library_bytes, Tells}
 
 -- After the run some of the files that the command names were bound, in order, some bytes of the library were read, some
 -- bytes were appended, and nothing else changed. Where the desk tells its files, what was appended is a part of what the
 -- outcome appends, whatever the status, and all of it where no call failed and memory was found: then every file of the
--- command was bound, the library was there, and the status is the outcome's.
+-- command was bound, the library was there, and the status is the outcome's. Whatever the status, the whole models are there
+-- of the accepted cells whose closing braces lie more than 65,536 bytes before the end of the bytes that were read.
 pub record Runs (old new : DeskState) (result : Status) : Type 0 where
   pub bound : Bound
   pub library : List ℕ
@@ -25,5 +27,6 @@ pub record Runs (old new : DeskState) (result : Status) : Type 0 where
   pub planned : IsBoundBy (reading old.words) bound
   pub file : IsLibrary old bound library
   pub part : (files : Folder) → Tells old files → IsPartOf text faults (outcome old.words files)
+  pub models : (files : Folder) → Tells old files → HoldsModels (library_bytes old.words files) taken text
   pub all_bound : IsTrue (is_decided result) → bound ≡ bound_by (reading old.words)
   pub whole : IsTrue (is_decided result) → (files : Folder) → Tells old files → IsAllOf result text faults (outcome old.words files)

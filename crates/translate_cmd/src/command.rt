@@ -24,6 +24,9 @@ const USAGE: &[u8] = b"lib2sim: usage\n";
 /// or with one of two others: `Outside`, only where a call on the desk failed in this call, and `Memory`, where there was
 /// none. After these two what was appended is the first part of what the outcome appends to each output.
 ///
+/// However `translate` ends, these two among the ways, all is there that is written for the cells whose closing braces lie
+/// more than 65,536 bytes before the end of the bytes that it read: the whole models of the accepted ones, and their lines.
+///
 /// Where no call failed, words of `udp` with a reading come to `Done` or `Memory`, and a whole library of at most 67,108,864
 /// bytes, its cells refused or not, to `Done`, `Cells` or `Memory`.
 ///

@@ -1,0 +1,17 @@
+-- Which cells are written whole however a translation ends. This project's promise.
+use Rattle.std.specs.Prelude.{ℕ, ◌+◌, ◌≤◌, List, take}
+use Rattle.cell_cursor.specs.Given.{closed_items, most_beyond}
+use Rattle.verilog_writer.specs.Model.{prelude_text}
+use Rattle.translate_cmd.specs.declared.progress.Progress.{Progress}
+use Rattle.translate_cmd.specs.Written.{Written, in_verilog, joined, IsPart}
+use Rattle.translate_cmd.specs.Cells.{no_progress, items_written}
+
+-- So many bytes of a library were taken: of each cell whose closing brace has 65,536 bytes or more of them behind it these
+-- outputs hold all that is written for it, the whole model of an accepted cell and the lines of the report.
+abbrev pub HoldsCells : Progress → List ℕ → ℕ → Written → Type 0
+HoldsCells before bytes taken text = (e : ℕ) → e + most_beyond ≤ taken → IsPart (items_written before (closed_items (take e bytes))) text
+
+-- the same of the outputs of a whole translation, which begin with the prelude
+abbrev pub HoldsModels : List ℕ → ℕ → Written → Type 0
+HoldsModels bytes taken text =
+    (e : ℕ) → e + most_beyond ≤ taken → IsPart (joined (in_verilog prelude_text) (items_written no_progress (closed_items (take e bytes)))) text

@@ -1,3 +1,4 @@
+//! The faults of function texts.
 use std::alloc::{AllocError, AllocFailed};
 use thiserror::Error;
 

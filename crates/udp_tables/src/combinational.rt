@@ -1,3 +1,4 @@
+//! The output of a combinational primitive, by IEEE 1364-2005, clause 8.
 ghost use Rattle.std.specs.Prelude.{◌≡◌, length};
 ghost use Rattle.udp_tables.specs.Tables.{columns_match};
 ghost use Rattle.udp_tables.specs.Primitive.{entry_matches, inputs_match, level_output, IsCombinational};

@@ -1,3 +1,4 @@
+//! The names of primitives and of their ports.
 ghost use Rattle.std.specs.Prelude.{◌≡◌, IfOk};
 ghost use Rattle.udp_tables.specs.PortNames.{output_name, input_name, input_names};
 ghost use Rattle.udp_tables.specs.CellPrimitives.{primitive_name};

@@ -1,3 +1,4 @@
+//! The table of a primitive, by IEEE 1364-2005, clause 8.
 use sqlite_items::Items;
 
 /// A user-defined primitive, by IEEE 1364-2005, clause 8: one output, its inputs in the order of the header, and a

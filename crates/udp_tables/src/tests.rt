@@ -1,3 +1,4 @@
+//! The rows of functions whose tables are written out by hand.
 use crate::generation::function_udp;
 use crate::table::{Entry, Level, Next, Udp, UdpRow};
 use bool_functions::read_free;

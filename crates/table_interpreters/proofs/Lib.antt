@@ -1,0 +1,4 @@
+pub mod Fronts
+pub mod LeastPaths
+pub mod ModuleSteps
+pub mod WiringLemmas

@@ -1,0 +1,17 @@
+//! Stimulus files: the changes that a simulator is given, section by section, and the lines of a trace that it shows.
+#![tactic(auto)]
+
+mod catalog;
+mod faults;
+mod judged;
+mod lines;
+mod read;
+mod sections;
+mod times;
+mod written;
+
+pub use catalog::{Catalog, CellFound, PinFound};
+pub use faults::{Cause, Memory, StimulusFault};
+pub use judged::MAX_CHANGES;
+pub use read::read_stimulus;
+pub use sections::Section;

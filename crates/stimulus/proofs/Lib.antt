@@ -1,3 +1,4 @@
 pub mod Cuts
 pub mod TimeBounds
 pub mod Steps
+pub mod TraceTexts

@@ -5,3 +5,4 @@ pub mod Catalog
 pub mod Judged
 pub mod Sections
 pub mod Stimulus
+pub mod TraceLine

@@ -8,6 +8,7 @@ mod lines;
 mod read;
 mod sections;
 mod times;
+mod trace;
 mod written;
 
 pub use catalog::{Catalog, CellFound, PinFound};
@@ -15,3 +16,4 @@ pub use faults::{Cause, Memory, StimulusFault};
 pub use judged::MAX_CHANGES;
 pub use read::read_stimulus;
 pub use sections::Section;
+pub use trace::trace_line;

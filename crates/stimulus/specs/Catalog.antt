@@ -27,7 +27,7 @@ pub record Listing : Type 0 where
 -- what the first entry of a name says
 abbrev pub entry_of : {A : Type 0} → List (List ℕ × A) → List ℕ → Option A
 entry_of [] name = None
-entry_of (entry ∷ entries) name = if bytes_eq entry.0 name then Some entry.1 else entry_of entries name
+entry_of (entry ∷ entries) name = if bytes_eq name entry.0 then Some entry.1 else entry_of entries name
 
 abbrev pub cell_answer : Option CellEntry → CellFound
 cell_answer None = cells.Unknown

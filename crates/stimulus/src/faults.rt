@@ -38,6 +38,29 @@ pub enum Cause {
     Time,
 }
 
+impl Cause {
+    ghost use Rattle.std.specs.Prelude.{◌≡◌};
+    ghost use Rattle.stimulus.specs.CauseWords.{word_of_cause};
+
+    /// The word of the cause.
+    pub fn word(self) -> &'static [u8]
+        ensures { result.now ≡ word_of_cause self }
+    {
+        match self {
+            Cause::Form => b"form",
+            Cause::UnknownCell => b"unknown cell",
+            Cause::RefusedCell(_) => b"refused cell",
+            Cause::VerilogPorts(_) => b"verilog ports",
+            Cause::VitalPorts(_) => b"vital ports",
+            Cause::Count => b"count",
+            Cause::UnknownPin => b"unknown pin",
+            Cause::OutputPin => b"output pin",
+            Cause::Value => b"value",
+            Cause::Time => b"time",
+        }
+    }
+}
+
 /// Why a stimulus is not read.
 #[derive(Clone, Copy, Debug, PartialEq, Eq, Error)]
 pub enum StimulusFault {
@@ -89,6 +112,12 @@ impl From<AllocError> for Memory {
 
 impl<T: Drop> From<AllocFailed<T>> for Memory {
     fn from(_: AllocFailed<T>) -> Memory {
+        Memory
+    }
+}
+
+impl From<bool_functions::Memory> for Memory {
+    fn from(_: bool_functions::Memory) -> Memory {
         Memory
     }
 }

@@ -4,7 +4,9 @@
 mod catalog;
 mod faults;
 mod judged;
+mod laws;
 mod lines;
+mod ports;
 mod read;
 mod sections;
 mod times;
@@ -14,6 +16,8 @@ mod written;
 pub use catalog::{Catalog, CellFound, PinFound};
 pub use faults::{Cause, Memory, StimulusFault};
 pub use judged::MAX_CHANGES;
+pub use laws::{ports_are_inputs, sections_are_proper};
+pub use ports::{PortCatalog, Ports, Standing};
 pub use read::read_stimulus;
 pub use sections::Section;
 pub use trace::trace_line;

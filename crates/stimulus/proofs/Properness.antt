@@ -11,12 +11,13 @@ use Rattle.stimulus.specs.declared.catalog.CellFound.{CellFound}
 use Rattle.stimulus.specs.declared.catalog.CellFound.TheVariants as cells
 use Rattle.stimulus.specs.declared.catalog.PinFound.{PinFound}
 use Rattle.stimulus.specs.declared.catalog.PinFound.TheVariants as pins
-use Rattle.stimulus.specs.declared.judged.Context.{Context}
-use Rattle.stimulus.specs.declared.judged.Said.{Said}
-use Rattle.stimulus.specs.declared.judged.Said.TheVariants.{Nothing, Begins, Changes}
+use Rattle.stimulus.specs.declared.context.Context.{Context}
+use Rattle.stimulus.specs.declared.context.Said.{Said}
+use Rattle.stimulus.specs.declared.context.Said.TheVariants.{Nothing, Begins, Changes}
 use Rattle.stimulus.specs.declared.judged.TheConstants.{MAX_CHANGES}
 use Rattle.stimulus.specs.Catalog.{Listing, cell_found, pin_found}
-use Rattle.stimulus.specs.Judged.{and_then, start, after, begun, input_of, value_of, is_later, changed_at, changed, judged_as, judged}
+use Rattle.stimulus.specs.Context.{start, after}
+use Rattle.stimulus.specs.Judged.{and_then, begun, input_of, value_of, is_later, changed_at, changed, judged_as, judged}
 use Rattle.stimulus.specs.Times.{time_of}
 use Rattle.stimulus.specs.Written.{Written, no_words, section_line, change_line, other_line, written_in}
 use Rattle.stimulus.specs.Sections.{changes_ahead, sections_of}

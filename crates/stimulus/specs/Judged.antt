@@ -1,5 +1,5 @@
 -- What a line of a stimulus says, and for which cause it is bad (this project's format).
-use Rattle.std.specs.Prelude.{ℕ, ◌+◌, Bool, true, nat_lt, nat_le, List, codes, Option, Some, None, Result, Ok, Err, ok_or, if◌then◌else◌}
+use Rattle.std.specs.Prelude.{ℕ, Bool, true, nat_lt, nat_le, List, codes, Option, Some, None, Result, Ok, Err, ok_or, if◌then◌else◌}
 use Rattle.std.specs.Str.{bytes_eq}
 use Rattle.trit_cubes.specs.declared.trits.Trit.{Trit}
 use Rattle.trit_cubes.specs.declared.trits.Trit.TheVariants.{Zero, One, Unknown}
@@ -9,9 +9,9 @@ use Rattle.stimulus.specs.declared.catalog.CellFound.{CellFound}
 use Rattle.stimulus.specs.declared.catalog.CellFound.TheVariants as cells
 use Rattle.stimulus.specs.declared.catalog.PinFound.{PinFound}
 use Rattle.stimulus.specs.declared.catalog.PinFound.TheVariants as pins
-use Rattle.stimulus.specs.declared.judged.Context.{Context}
-use Rattle.stimulus.specs.declared.judged.Said.{Said}
-use Rattle.stimulus.specs.declared.judged.Said.TheVariants.{Nothing, Begins, Changes}
+use Rattle.stimulus.specs.declared.context.Context.{Context}
+use Rattle.stimulus.specs.declared.context.Said.{Said}
+use Rattle.stimulus.specs.declared.context.Said.TheVariants.{Nothing, Begins, Changes}
 use Rattle.stimulus.specs.declared.judged.TheConstants.{MAX_CHANGES}
 use Rattle.stimulus.specs.Catalog.{Listing, cell_found, pin_found}
 use Rattle.stimulus.specs.Times.{time_of}
@@ -21,17 +21,6 @@ use Rattle.stimulus.specs.Written.{Written, no_words, section_line, change_line,
 abbrev pub and_then : {A B E : Type 0} → Result A E → (A → Result B E) → Result B E
 and_then (Ok a) next = next a
 and_then (Err e) next = Err e
-
--- ahead of the first line no section has begun
-abbrev pub start : Context
-start = record { cell = None; last = None; changes = 0 }
-
--- What is known after a line: a section starts its cell anew, so its first change may have any time. The changes of all
--- sections are counted together.
-abbrev pub after : Context → Said → Context
-after context Nothing = context
-after context (Begins cell) = record { cell = Some cell; last = None; changes = context.changes }
-after context (Changes change) = record { cell = context.cell; last = Some change.at; changes = context.changes + 1 }
 
 -- the beginning of a section on a cell of which the catalog says this
 abbrev pub begun : CellFound → Result Said Cause

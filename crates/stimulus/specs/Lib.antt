@@ -5,6 +5,7 @@ pub mod Catalog
 pub mod PortEntries
 pub mod PortPlaces
 pub mod CauseWords
+pub mod Context
 pub mod Judged
 pub mod Sections
 pub mod Stimulus

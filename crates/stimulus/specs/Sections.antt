@@ -1,8 +1,8 @@
 -- The sections of a stimulus (this project's format).
 use Rattle.std.specs.Prelude.{List, [], ◌∷◌, ◌++◌, Option, Some, None}
 use Rattle.cell_machine.specs.declared.changes.Change.{Change}
-use Rattle.stimulus.specs.declared.judged.Said.{Said}
-use Rattle.stimulus.specs.declared.judged.Said.TheVariants.{Nothing, Begins, Changes}
+use Rattle.stimulus.specs.declared.context.Said.{Said}
+use Rattle.stimulus.specs.declared.context.Said.TheVariants.{Nothing, Begins, Changes}
 use Rattle.stimulus.specs.declared.sections.Section.{Section}
 
 -- the changes ahead of the next section

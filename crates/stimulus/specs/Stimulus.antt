@@ -3,11 +3,12 @@ use Rattle.std.specs.Prelude.{◌≡◌, ℕ, ◌+◌, List, [], ◌∷◌, Resu
 use Rattle.stimulus.specs.declared.faults.Cause.{Cause}
 use Rattle.stimulus.specs.declared.faults.StimulusFault.{StimulusFault}
 use Rattle.stimulus.specs.declared.faults.StimulusFault.TheVariants as fault
-use Rattle.stimulus.specs.declared.judged.Context.{Context}
-use Rattle.stimulus.specs.declared.judged.Said.{Said}
+use Rattle.stimulus.specs.declared.context.Context.{Context}
+use Rattle.stimulus.specs.declared.context.Said.{Said}
 use Rattle.stimulus.specs.declared.sections.Section.{Section}
 use Rattle.stimulus.specs.Catalog.{Listing}
-use Rattle.stimulus.specs.Judged.{and_then, start, after, judged}
+use Rattle.stimulus.specs.Context.{start, after}
+use Rattle.stimulus.specs.Judged.{and_then, judged}
 use Rattle.stimulus.specs.Sections.{sections_of}
 use Rattle.stimulus.specs.Text.{lines_of}
 

@@ -1,8 +1,9 @@
 //! What a line says, after the lines before it.
-ghost use Rattle.std.specs.Prelude.{◌≡◌, ◌+◌, ◌<◌, ◌^◌};
-ghost use Rattle.stimulus.specs.Judged.{after as after_of, start, judged as judged_of, begun as begun_of, changed as changed_of, input_of as input_of_answer, value_of as value_of_word, is_later as is_later_of};
+ghost use Rattle.std.specs.Prelude.{◌≡◌};
+ghost use Rattle.stimulus.specs.Judged.{judged as judged_of, begun as begun_of, changed as changed_of, input_of as input_of_answer, value_of as value_of_word, is_later as is_later_of};
 
 use crate::catalog::{Catalog, CellFound, PinFound};
+use crate::context::{Context, Said};
 use crate::faults::Cause;
 use crate::times::time_of;
 use crate::written::{Written, written_in};
@@ -11,61 +12,6 @@ use trit_cubes::Trit;
 
 /// The greatest number of changes in a stimulus.
 pub const MAX_CHANGES: usize = 1_000_000;
-
-/// What a line says.
-#[derive(Clone, Copy, Debug)]
-pub(crate) enum Said {
-    /// Nothing.
-    Nothing,
-    /// A section on the cell with this number begins.
-    Begins(usize),
-    /// The section's cell is given a change.
-    Changes(Change),
-}
-
-/// What the lines so far leave to be known.
-#[derive(Clone, Copy, Debug)]
-pub(crate) struct Context {
-    /// The cell of the section that the last of them stands in, if a section has begun.
-    pub cell: Option<usize>,
-    /// The time, in picoseconds, of the section's last change, if it has one.
-    pub last: Option<u64>,
-    /// How many changes the file has so far.
-    pub changes: usize,
-}
-
-impl Context {
-    /// What is known ahead of the first line.
-    pub(crate) fn new() -> Context
-        ensures { result ≡ start }
-    {
-        Context {
-            cell: None,
-            last: None,
-            changes: 0,
-        }
-    }
-
-    /// What is known after a line that says this.
-    pub(crate) fn after(self, said: Said) -> Context
-        requires { self.changes + 1 < 2 ^ 64 }
-        ensures { result ≡ after_of self said }
-    {
-        match said {
-            Said::Nothing => self,
-            Said::Begins(cell) => Context {
-                cell: Some(cell),
-                last: None,
-                changes: self.changes,
-            },
-            Said::Changes(change) => Context {
-                cell: self.cell,
-                last: Some(change.at),
-                changes: self.changes + 1,
-            },
-        }
-    }
-}
 
 /// What a line says, or the first of the causes for which it is bad.
 pub(crate) fn judged<C: Catalog>(catalog: &C, context: Context, line: &[u8]) -> Result<Said, Cause>

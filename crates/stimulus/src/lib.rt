@@ -2,6 +2,7 @@
 #![tactic(auto)]
 
 mod catalog;
+mod context;
 mod faults;
 mod judged;
 mod laws;
@@ -9,6 +10,8 @@ mod lines;
 mod ports;
 mod read;
 mod sections;
+#[cfg(test)]
+mod tests;
 mod times;
 mod trace;
 mod written;

@@ -3,8 +3,9 @@ ghost use Rattle.std.specs.Prelude.{◌≡◌};
 ghost use Rattle.stimulus.specs.Stimulus.{stimulus_of, at_line as at_line_of, Gives};
 
 use crate::catalog::Catalog;
+use crate::context::Context;
 use crate::faults::{Cause, StimulusFault};
-use crate::judged::{Context, judged};
+use crate::judged::judged;
 use crate::lines::first_line;
 use crate::sections::{Section, Sections};
 use std::alloc::Global;

@@ -1,9 +1,9 @@
 //! Sections, gathered from what the lines say.
 ghost use Rattle.std.specs.Prelude.{◌≡◌, [], ◌∷◌, OnOk, IfOk, List};
-ghost use Rattle.stimulus.specs.declared.judged.Said.{Said as SaidOf};
+ghost use Rattle.stimulus.specs.declared.context.Said.{Said as SaidOf};
 ghost use Rattle.stimulus.specs.Sections.{gathered};
 
-use crate::judged::Said;
+use crate::context::Said;
 use cell_machine::Change;
 use sqlite_items::Items;
 use std::alloc::{AllocError, Global};

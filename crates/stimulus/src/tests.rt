@@ -63,7 +63,7 @@ fn first_bad_lines(rt: HostRuntime) -> Result<(), Fail> {
         (b"\xff", 1, Cause::Form),
         (b"\ncell TB", 2, Cause::RefusedCell(1)),
         (b"cell OR", 1, Cause::VitalPorts(2)),
-        (b"cell DFF\n417 D 0\n# c\n437 D11\r", 4, Cause::Form),
+        (b"cell DFF\n417 D 0\n# c\n437 CK1\r", 4, Cause::Form),
         (b"cell DFF\n4 Q 2", 2, Cause::OutputPin),
         (b"cell _x", 1, Cause::UnknownCell),
     ];

@@ -1,0 +1,6 @@
+pub mod SymbolLemmas
+pub mod StateRows
+pub mod EdgeRows
+pub mod TruthRows
+pub mod RowLawLemmas
+pub mod RowExamples

@@ -1,2 +1,4 @@
 pub mod Symbols
 pub mod LookUps
+pub mod Rows
+pub mod RowLaws

@@ -1,10 +1,19 @@
 //! VHDL models of cells by VITAL (IEEE 1076.4-2000): truth tables, state tables, and the entities that they stand in.
 #![tactic(auto)]
 
+mod faults;
+mod kept;
 pub mod laws;
 mod lookups;
 mod matching;
+mod names;
+mod ports;
 mod table;
+mod words;
 
+pub use faults::Memory;
 pub use lookups::{lookup_state, lookup_truth};
+pub use names::entity_name;
+pub use ports::vital_ports;
 pub use table::{Trits, TruthRow, TruthTable, VNext, VStateRow, VStateTable, VSymbol};
+pub use words::is_vhdl_word;

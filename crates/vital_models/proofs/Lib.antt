@@ -4,3 +4,4 @@ pub mod EdgeRows
 pub mod TruthRows
 pub mod RowLawLemmas
 pub mod RowExamples
+pub mod TranslationLemmas

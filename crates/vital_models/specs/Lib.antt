@@ -5,3 +5,5 @@ pub mod RowLaws
 pub mod Words
 pub mod Kept
 pub mod Ports
+pub mod Generated
+pub mod Translation

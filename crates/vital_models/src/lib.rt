@@ -6,6 +6,7 @@ mod kept;
 pub mod laws;
 mod lookups;
 mod matching;
+mod model;
 mod names;
 mod ports;
 mod table;
@@ -13,6 +14,7 @@ mod words;
 
 pub use faults::Memory;
 pub use lookups::{lookup_state, lookup_truth};
+pub use model::{HCheck, HGate, HPath, OutValue, VEntity, VOutput, VState, VTruth};
 pub use names::entity_name;
 pub use ports::vital_ports;
 pub use table::{Trits, TruthRow, TruthTable, VNext, VStateRow, VStateTable, VSymbol};

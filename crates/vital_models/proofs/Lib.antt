@@ -1,3 +1,4 @@
+pub mod ListLemmas
 pub mod SymbolLemmas
 pub mod StateRows
 pub mod EdgeRows

@@ -179,7 +179,7 @@ notifier-from false n = refl
 notifier-from true n =
     (λ i. record {
       inputs = (noted-columns (map prim.level_entry (replicate n Unknown)) entry.Star
-      ∙ ap (λ es. violation_from entry.Star ∷ es) (levels-symbols (replicate n Unknown))) i;
+          ∙ ap (λ es. violation_from entry.Star ∷ es) (levels-symbols (replicate n Unknown))) i;
       state = level_from level.Any;
       result = result_from (prim.next_to Unknown);
     } ∷ [])
@@ -208,3 +208,8 @@ state-from checks n step =
     ∙ from-append checks forced (notes ++ changes)
     ∙ ap (λ rows. state_rows_from checks forced ++ rows) (from-append checks notes changes)
     ∙ (λ i. forced-from checks n step i ++ (notifier-from checks n i ++ below-from checks (edge_rows (seq.edge_row checks) step n) (edge_rows (edge_row checks) step n) (edges-from checks step n) n i))
+
+-- free places in a row of their own
+pub free-columns : (n : ℕ) → replicate n (level_symbol Unknown) ≡ map level_symbol (replicate n Unknown)
+free-columns zero = refl
+free-columns (suc n) = ap (λ es. level_symbol Unknown ∷ es) (free-columns n)

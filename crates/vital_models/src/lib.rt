@@ -2,6 +2,7 @@
 #![tactic(auto)]
 
 mod faults;
+mod generation;
 mod kept;
 pub mod laws;
 mod lookups;
@@ -10,9 +11,13 @@ mod model;
 mod names;
 mod ports;
 mod table;
+mod tables;
+mod timing;
+mod translation;
 mod words;
 
 pub use faults::Memory;
+pub use generation::vital_model;
 pub use lookups::{lookup_state, lookup_truth};
 pub use model::{HCheck, HGate, HPath, OutValue, VEntity, VOutput, VState, VTruth};
 pub use names::entity_name;

@@ -6,3 +6,8 @@ pub mod TruthRows
 pub mod RowLawLemmas
 pub mod RowExamples
 pub mod TranslationLemmas
+pub mod CellLaws
+pub mod PortFacts
+pub mod Widths
+pub mod ConditionFacts
+pub mod Soundness

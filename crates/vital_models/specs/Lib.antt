@@ -7,3 +7,5 @@ pub mod Kept
 pub mod Ports
 pub mod Generated
 pub mod Translation
+pub mod Sound
+pub mod Laws

@@ -2,6 +2,7 @@ pub mod ListLemmas
 pub mod SymbolLemmas
 pub mod StateRows
 pub mod EdgeRows
+pub mod CompactRows
 pub mod TruthRows
 pub mod RowLawLemmas
 pub mod RowExamples

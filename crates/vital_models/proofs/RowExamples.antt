@@ -1,5 +1,5 @@
 -- The definitions at small steps, by computing.
-use Rattle.std.proofs.Common.{◌≡◌, Bool, true, false, not, ◌&&◌, List, [], ◌∷◌, refl, if◌then◌else◌}
+use Rattle.std.proofs.Common.{◌≡◌, true, false, not, ◌&&◌, List, [], ◌∷◌, refl, if◌then◌else◌}
 use Rattle.trit_cubes.specs.declared.trits.Trit.TheVariants as trit
 use Rattle.cell_machine.specs.Machine.{Step}
 use Rattle.cell_machine.specs.Step.{trit_of}
@@ -10,7 +10,7 @@ use Rattle.vital_models.specs.declared.table.VSymbol.TheVariants as symbol
 use Rattle.vital_models.specs.declared.table.VNext.{VNext}
 use Rattle.vital_models.specs.declared.table.VNext.TheVariants as next
 use Rattle.vital_models.specs.declared.table.VStateRow.{VStateRow}
-use Rattle.vital_models.specs.Rows.{state_rows}
+use Rattle.vital_models.specs.Rows.{state_rows, compact_rows}
 
 -- A flip-flop of a clock and a data input.
 abbrev flip_flop : Step
@@ -45,6 +45,21 @@ flip_flop-rows : state_rows true 2 flip_flop
     ∷ row (any ∷ any ∷ any ∷ []) trits.Any next.Unknown ∷ []
 unfolding row any zero one
 flip_flop-rows = refl
+
+-- in compact form
+flip_flop-compact : compact_rows true 2 flip_flop
+    ≡ row (zero ∷ symbol.Steady ∷ symbol.Steady ∷ []) trits.Any next.Keep
+    ∷ row (symbol.Level trits.Unknown ∷ any ∷ any ∷ []) trits.Any next.Unknown
+    ∷ row (any ∷ symbol.Rise ∷ one ∷ []) trits.Any next.One
+    ∷ row (any ∷ symbol.From1 ∷ any ∷ []) trits.Any next.Keep
+    ∷ row (any ∷ symbol.To0 ∷ any ∷ []) trits.Any next.Keep
+    ∷ row (any ∷ symbol.Change ∷ one ∷ []) trits.One next.One
+    ∷ row (any ∷ symbol.Rise ∷ zero ∷ []) trits.Any next.Zero
+    ∷ row (any ∷ symbol.Change ∷ zero ∷ []) trits.Zero next.Zero
+    ∷ row (any ∷ any ∷ symbol.Change ∷ []) trits.Any next.Keep
+    ∷ row (any ∷ any ∷ any ∷ []) trits.Any next.Unknown ∷ []
+unfolding row any zero one
+flip_flop-compact = refl
 
 -- A clear that is 1 forces the state; without checks there is no column of the violation.
 abbrev cleared : Step

@@ -1,5 +1,5 @@
 -- The entity of a cell is sound.
-use Rattle.std.proofs.Common.{◌≡◌, ℕ, zero, suc, ◌+◌, ◌<◌, ◌≤◌, Bool, true, false, ◌&&◌, All, List, [], ◌∷◌, ◌++◌, length, map, inl, inr, refl, sym, ap, ◌∙◌, subst, arith, IsTrue, Option, Some, None, option_map, slice_get, slice_index_or, nat_eq, nat_lt, nat_le, length-append, if◌then◌else◌}
+use Rattle.std.proofs.Common.{◌≡◌, ℕ, zero, suc, ◌+◌, ◌<◌, Bool, true, false, ◌&&◌, All, List, [], ◌∷◌, length, map, inl, inr, refl, sym, ap, ◌∙◌, subst, arith, IsTrue, Option, Some, None, option_map, slice_get, slice_index_or, nat_eq, nat_lt, nat_le, length-append, if◌then◌else◌}
 use Rattle.std.specs.Prelude.{filter}
 use Rattle.std.specs.List.{list_all}
 use Rattle.std.specs.Option.{option_map_or}
@@ -30,14 +30,12 @@ use Rattle.udp_tables.specs.CellData.{CellData}
 use Rattle.udp_tables.specs.Conditions.{conditions_of, conditions_beside, conditions_by, condition_list}
 use Rattle.udp_tables.specs.CellPrimitives.{group_support, step_of_group, has_sources}
 use Rattle.udp_tables.proofs.CubeLemmas.{below-among}
-use Rattle.vital_models.specs.declared.model.VState.{VState}
 use Rattle.vital_models.specs.declared.model.OutValue.TheVariants as value
 use Rattle.vital_models.specs.declared.model.VOutput.{VOutput}
-use Rattle.vital_models.specs.declared.model.HCheck.{HCheck}
 use Rattle.vital_models.specs.declared.model.VEntity.{VEntity}
 use Rattle.vital_models.specs.Ports.{port_number, ports_of}
 use Rattle.vital_models.specs.Generated.{has_violation, ports_at, state_of, states_of, condition_of, source_at, output_table, value_of_output, place_of, all_zero, gate_by, path_of, output_of, check_of, entity_of}
-use Rattle.vital_models.specs.Sound.{is_input_port, output_ports_from, IsState, IsTruth, feeds, IsValue, is_condition_number, is_gate, IsPath, IsOutput, has_events, is_enabling, IsCheck, IsSound}
+use Rattle.vital_models.specs.Sound.{is_input_port, IsState, IsTruth, feeds, IsValue, is_condition_number, is_gate, IsPath, IsOutput, has_events, is_enabling, IsCheck, IsSound}
 use Rattle.vital_models.proofs.PortFacts.{input_port, output_ports}
 use Rattle.vital_models.proofs.Widths.{truth-width, width, state-width}
 use Rattle.vital_models.proofs.ConditionFacts.{all-among, check-numbered, arc-numbered, condition-over}

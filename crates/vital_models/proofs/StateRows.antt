@@ -1,23 +1,22 @@
 -- Rows of a step whose changes serve give the machine's steps.
-use Rattle.std.proofs.Common.{◌≡◌, ◌≢◌, ℕ, zero, suc, ◌<◌, ◌≤◌, Bool, true, false, cond, ◌&&◌, List, [], ◌∷◌, ◌++◌, map, length, replicate, get_or, inl, inr, refl, sym, ◌∙◌, ap, subst, arith}
+use Rattle.std.proofs.Common.{◌≡◌, ◌≢◌, ℕ, zero, suc, ◌<◌, ◌≤◌, Bool, true, false, cond, ◌&&◌, List, [], ◌∷◌, ◌++◌, length, replicate, get_or, inl, inr, refl, sym, ◌∙◌, ap, subst, arith}
 use Rattle.std.specs.List.{list_any}
-use Rattle.std.proofs.lemmas.Bool.{and_left, cases_lt}
+use Rattle.std.proofs.lemmas.Bool.{cases_lt}
 use Rattle.trit_cubes.specs.declared.trits.Trit.{Trit}
 use Rattle.trit_cubes.specs.declared.trits.Trit.TheVariants.{Zero, One, Unknown}
 use Rattle.trit_cubes.specs.Filling.{same, covers}
 use Rattle.trit_cubes.specs.Sets.{gives}
 use Rattle.trit_cubes.specs.Prime.{prime_list}
-use Rattle.trit_cubes.proofs.ListLemmas.{Among, among-append, append-among_left, append-among_right}
+use Rattle.trit_cubes.proofs.ListLemmas.{Among, among-append, append-among_right}
 use Rattle.cell_machine.specs.Machine.{Step, insert, machine_step, forced_at, forced}
 use Rattle.cell_machine.proofs.ForcedLemmas.{forced_is_step-lem}
-use Rattle.udp_tables.specs.Tables.{first, columns_match}
+use Rattle.udp_tables.specs.Tables.{first}
 use Rattle.udp_tables.specs.Edges.{forced_rows, each_below}
 use Rattle.udp_tables.proofs.FirstLemmas.{found-any, any-found, first-gives}
 use Rattle.udp_tables.proofs.ColumnLemmas.{length-insert, at-other}
 use Rattle.udp_tables.proofs.CubeLemmas.{known-or, prime-gives, prime-found, value_rows-among, among-value_rows, below-among, among-below}
 use Rattle.vital_models.specs.declared.table.VStateRow.{VStateRow}
-use Rattle.vital_models.specs.declared.table.VSymbol.TheVariants as symbol
-use Rattle.vital_models.specs.Symbols.{symbol_matches, next_of}
+use Rattle.vital_models.specs.Symbols.{next_of}
 use Rattle.vital_models.specs.LookUps.{state_matches, row_next, lookup_state}
 use Rattle.vital_models.specs.Rows.{violated, next_to, steady_row, level_row, violation_rows, closing_row, step_rows}
 use Rattle.vital_models.proofs.SymbolLemmas.{levels-cover, steady-matches, steady-moved, level_row-matches}

@@ -1,5 +1,5 @@
 -- The rows of primitives in the symbols of VITAL are the rows of VITAL's tables.
-use Rattle.std.proofs.Common.{◌≡◌, ℕ, zero, suc, Bool, true, false, ◌||◌, List, [], ◌∷◌, ◌++◌, map, replicate, refl, sym, ◌∙◌, ap, append_assoc}
+use Rattle.std.proofs.Common.{◌≡◌, ℕ, zero, suc, Bool, true, false, ◌||◌, List, [], ◌∷◌, ◌++◌, map, replicate, refl, ◌∙◌, ap, append_assoc}
 use Rattle.std.specs.Prelude.{filter}
 use Rattle.std.proofs.lemmas.List.{map-append}
 use Rattle.std.proofs.lemmas.List.Elements.{filter-append}
@@ -17,7 +17,6 @@ use Rattle.udp_tables.specs.Tables.{value_rows, or_row}
 use Rattle.udp_tables.specs.Generated as prim
 use Rattle.udp_tables.specs.Edges.{forced_rows, edge_cubes, edge_rows, each_below}
 use Rattle.udp_tables.specs.Sequential as seq
-use Rattle.vital_models.specs.declared.table.VSymbol.{VSymbol}
 use Rattle.vital_models.specs.declared.table.VStateRow.{VStateRow}
 use Rattle.vital_models.specs.Rows.{level_of, level_symbol, edge_symbol, truth_row, truth_rows, level_row, violation_rows, edge_columns, edge_row}
 use Rattle.vital_models.specs.Translation.{level_from, trits_from, truth_row_from, symbol_from, violation_from, columns_from, result_from, state_row_from, is_written, state_rows_from}

@@ -1,18 +1,17 @@
 -- The truth table of a function gives its resolution.
-use Rattle.std.proofs.Common.{◌≡◌, ◌≢◌, ℕ, Bool, true, false, cond, List, [], ◌∷◌, length, replicate, inl, inr, refl, sym, ◌∙◌, ap}
+use Rattle.std.proofs.Common.{◌≡◌, Bool, true, false, cond, List, [], ◌∷◌, replicate, inl, inr, refl, sym, ◌∙◌, ap}
 use Rattle.trit_cubes.specs.declared.trits.Trit.{Trit}
 use Rattle.trit_cubes.specs.declared.trits.Trit.TheVariants.{Zero, One, Unknown}
 use Rattle.trit_cubes.specs.Filling.{covers}
 use Rattle.trit_cubes.specs.Resolution.{res}
 use Rattle.trit_cubes.specs.Sets.{gives}
 use Rattle.trit_cubes.specs.Prime.{prime_list}
-use Rattle.trit_cubes.proofs.ListLemmas.{Among}
 use Rattle.udp_tables.specs.Tables.{first, value_rows, or_row}
 use Rattle.udp_tables.proofs.FirstLemmas.{found-any, first-gives}
 use Rattle.udp_tables.proofs.CubeLemmas.{known-or, prime-gives, prime-found, value_rows-among, among-value_rows}
 use Rattle.vital_models.specs.declared.table.TruthRow.{TruthRow}
-use Rattle.vital_models.specs.LookUps.{truth_matches, lookup_truth}
-use Rattle.vital_models.specs.Rows.{truth_row, truth_rows}
+use Rattle.vital_models.specs.LookUps.{truth_matches}
+use Rattle.vital_models.specs.Rows.{truth_row}
 use Rattle.vital_models.specs.RowLaws.{TruthRowsResolve}
 use Rattle.vital_models.proofs.SymbolLemmas.{truth-covers}
 

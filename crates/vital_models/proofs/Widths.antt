@@ -1,5 +1,5 @@
 -- The rows of generated tables have a symbol for each column.
-use Rattle.std.proofs.Common.{◌≡◌, ℕ, zero, suc, ◌+◌, ◌<◌, ◌≤◌, Bool, true, false, List, [], ◌∷◌, ◌++◌, map, length, replicate, inl, inr, refl, sym, ◌∙◌, ap, subst, arith, if◌then◌else◌}
+use Rattle.std.proofs.Common.{◌≡◌, ℕ, suc, ◌+◌, ◌<◌, Bool, true, false, List, [], ◌∷◌, ◌++◌, map, length, replicate, inl, inr, refl, sym, ◌∙◌, ap, subst, arith, if◌then◌else◌}
 use Rattle.std.proofs.lemmas.List.{length-map, length-replicate}
 use Rattle.trit_cubes.specs.declared.trits.Trit.{Trit}
 use Rattle.trit_cubes.specs.declared.trits.Trit.TheVariants.{Zero, One, Unknown}
@@ -7,7 +7,7 @@ use Rattle.trit_cubes.specs.Sets.{gives}
 use Rattle.trit_cubes.specs.Prime.{prime_list}
 use Rattle.trit_cubes.proofs.ListLemmas.{Among, among-append}
 use Rattle.trit_cubes.proofs.SplitLemmas.{prime_list-length}
-use Rattle.cell_machine.specs.Machine.{Step, insert, init, forced_at}
+use Rattle.cell_machine.specs.Machine.{Step, init, forced_at}
 use Rattle.udp_tables.specs.Tables.{value_rows, or_row}
 use Rattle.udp_tables.specs.Edges.{forced_rows, edge_cubes, edge_rows, each_below}
 use Rattle.udp_tables.proofs.ColumnLemmas.{length-insert}

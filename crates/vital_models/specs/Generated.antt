@@ -1,6 +1,6 @@
 -- The entity of a cell: its states, conditions, outputs and checks, over the numbers of ports. (IEEE 1076.4-2000; what is generated
 -- and the order is this project's choice.)
-use Rattle.std.specs.Prelude.{ℕ, ◌+◌, Bool, true, false, List, [], ◌∷◌, Option, Some, None, length, map, filter, nat_eq, option_map, if◌then◌else◌}
+use Rattle.std.specs.Prelude.{ℕ, Bool, List, [], ◌∷◌, Option, Some, None, length, map, filter, nat_eq, option_map, if◌then◌else◌}
 use Rattle.bool_functions.specs.declared.tree.Node.{Node}
 use Rattle.bool_functions.specs.Tree.{value_of}
 use Rattle.bool_functions.specs.Support.{support_of}

@@ -39,3 +39,22 @@ StateRowsAreMachine = AreMachine state_rows
 -- So does the one in compact form.
 abbrev pub CompactRowsAreMachine : Type 0
 CompactRowsAreMachine = AreMachine compact_rows
+
+-- Both forms of a step's state table give the same next state: at each change of one pin without a violation, where no pin changes,
+-- and with a violation.
+pub record FormsAgree : Type 0 where
+  pub steps :
+      (checks : Bool) (n : ℕ) (step : Step) (p : ℕ) (old : Trit) (inputs : List Trit) (violation state : Trit)
+      → length inputs ≡ n → p < n → old ≢ slice_index_or inputs p Unknown
+      → lookup_state (compact_rows checks n step) (violated checks violation (slice_set inputs p old)) (violated checks Zero inputs) state
+      ≡ lookup_state (state_rows checks n step) (violated checks violation (slice_set inputs p old)) (violated checks Zero inputs) state
+  pub keeps :
+      (checks : Bool) (n : ℕ) (step : Step) (inputs : List Trit) (violation state : Trit)
+      → length inputs ≡ n
+      → lookup_state (compact_rows checks n step) (violated checks violation inputs) (violated checks Zero inputs) state
+      ≡ lookup_state (state_rows checks n step) (violated checks violation inputs) (violated checks Zero inputs) state
+  pub forces :
+      (n : ℕ) (step : Step) (before inputs : List Trit) (state : Trit)
+      → length inputs ≡ n → length before ≡ suc n
+      → lookup_state (compact_rows true n step) before (Unknown ∷ inputs) state
+      ≡ lookup_state (state_rows true n step) before (Unknown ∷ inputs) state

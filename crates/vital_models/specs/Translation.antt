@@ -1,7 +1,6 @@
 -- The rows that this project writes for primitives, in the symbols of VITAL. Both languages have the same primes, in other
 -- symbols and in another order of columns.
-use Rattle.std.specs.Prelude.{Bool, true, false, not, ◌||◌, List, [], ◌∷◌, map, filter}
-use Rattle.trit_cubes.specs.declared.trits.Trit.{Trit}
+use Rattle.std.specs.Prelude.{Bool, true, false, not, ◌||◌, List, ◌∷◌, map, filter}
 use Rattle.trit_cubes.specs.declared.trits.Trit.TheVariants as trit
 use Rattle.cell_machine.specs.Machine.{init, last}
 use Rattle.udp_tables.specs.declared.table.Level.{Level}

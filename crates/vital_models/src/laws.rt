@@ -1,5 +1,5 @@
 //! Theorems on the definitions, for the proofs of other crates. The functions do nothing.
-ghost use Rattle.vital_models.specs.RowLaws.{TruthRowsResolve, StateRowsAreMachine};
+ghost use Rattle.vital_models.specs.RowLaws.{TruthRowsResolve, StateRowsAreMachine, CompactRowsAreMachine, FormsAgree};
 ghost use Rattle.vital_models.specs.Laws.{StatesAreMachines, OutputsResolve, ConditionsResolve, GeneratedIsSound};
 
 /// The truth table of a function gives its resolution, for every list of trits.
@@ -11,6 +11,16 @@ pub fn truth_rows_resolve()
 /// gives the forced value, else X, where there is a violation.
 pub fn state_rows_are_machine()
     ensures { StateRowsAreMachine }
+{}
+
+/// So does the state table in compact form, in which two rows that hold the state are one.
+pub fn compact_rows_are_machine()
+    ensures { CompactRowsAreMachine }
+{}
+
+/// Both forms of a step's state table give the same next state.
+pub fn forms_agree()
+    ensures { FormsAgree }
 {}
 
 /// The state table of each group of a cell gives the machine's step at each change of one pin of the group's support, keeps the

@@ -24,3 +24,6 @@ pub use names::entity_name;
 pub use ports::vital_ports;
 pub use table::{Trits, TruthRow, TruthTable, VNext, VStateRow, VStateTable, VSymbol};
 pub use words::is_vhdl_word;
+
+#[cfg(test)]
+mod tests;

@@ -1,4 +1,4 @@
-use Rattle.std.proofs.Common.{◌≡◌, ◌<◌, [], ◌∷◌, ◌++◌, length, sym, ◌∙◌, ap, arith}
+use Rattle.std.proofs.Common.{[], ◌∷◌, ◌++◌, sym, ◌∙◌, ap, arith}
 use Rattle.udp_tables.specs.CellData.{data_of}
 use Rattle.vital_models.specs.Generated.{output_of}
 use Rattle.vital_models.proofs.ListLemmas.{map-more}

@@ -1,4 +1,4 @@
-use Rattle.std.proofs.Common.{◌≡◌, ◌≤◌, length, drop}
+use Rattle.std.proofs.Common.{◌≡◌, drop}
 use Rattle.vital_models.specs.Ports.{ports_of, ports_after}
 use Rattle.vital_models.proofs.ports.vital_ports.Given as goal
 

@@ -1,5 +1,4 @@
-use Rattle.std.proofs.Common.{map, length, sym, ◌∙◌, ap}
-use Rattle.cell_machine.specs.Outputs.{output_at}
+use Rattle.std.proofs.Common.{map, length, ◌∙◌, ap}
 use Rattle.udp_tables.specs.declared.table.Udp.{Udp}
 use Rattle.udp_tables.specs.CellData.{data_of}
 use Rattle.udp_tables.specs.CellPrimitives.{sources_at, output_value_at}

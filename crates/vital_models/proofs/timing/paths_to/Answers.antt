@@ -1,4 +1,4 @@
-use Rattle.std.proofs.Common.{◌≡◌, ◌<◌, [], ◌∷◌, ◌++◌, nat_eq, length, get_or, sym, ◌∙◌, ap, subst, arith}
+use Rattle.std.proofs.Common.{◌≡◌, ◌<◌, [], ◌∷◌, ◌++◌, nat_eq, length, get_or, sym, ◌∙◌, ap, subst}
 use Rattle.cell_machine.specs.declared.arcs.Arc.{Arc}
 use Rattle.udp_tables.specs.CellData.{data_of}
 use Rattle.vital_models.specs.Generated.{path_of}

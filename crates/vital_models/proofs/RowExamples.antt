@@ -2,7 +2,7 @@
 use Rattle.std.proofs.Common.{◌≡◌, true, false, not, ◌&&◌, List, [], ◌∷◌, refl, if◌then◌else◌}
 use Rattle.trit_cubes.specs.declared.trits.Trit.TheVariants as trit
 use Rattle.cell_machine.specs.Machine.{Step}
-use Rattle.cell_machine.specs.Step.{trit_of}
+use Rattle.trit_cubes.specs.Filling.{trit_of}
 use Rattle.vital_models.specs.declared.table.Trits.{Trits}
 use Rattle.vital_models.specs.declared.table.Trits.TheVariants as trits
 use Rattle.vital_models.specs.declared.table.VSymbol.{VSymbol}

@@ -1,3 +1,4 @@
+//! The fault of this crate.
 use std::alloc::{AllocError, AllocFailed};
 use thiserror::Error;
 

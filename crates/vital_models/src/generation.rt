@@ -82,7 +82,7 @@ fn conditions_of(
 {
     let mut truths = Items::new(alloc);
     for (i, condition) in conditions.iter().enumerate() {
-        truths.push(condition_of(alloc, cell, i, condition)?)?;
+        truths.push(condition_of(alloc, cell, conditions, i, condition)?)?;
     }
     Ok(truths)
 }
@@ -91,16 +91,18 @@ fn conditions_of(
 fn condition_of(
     alloc: Global,
     cell: &Cell,
+    conditions: &[&Function],
     number: usize,
     condition: &Function,
 ) -> Result<VTruth, Memory>
+    requires all { map (λ f. f.now) conditions.now ≡ conditions_of (data_of cell.now) }
     requires number { number < length (conditions_of (data_of cell.now)) }
     requires is { condition_tree (data_of cell.now) number ≡ condition.now }
     ensures { IfOk result (λ truth. truth ≡ condition_of cell.now.pins condition.now) }
 {
     let names = condition.support(alloc)?;
     Ok(VTruth {
-        table: condition_table(alloc, cell, number)?,
+        table: condition_table(alloc, cell, conditions, number)?,
         inputs: ports_at(alloc, cell.pins.as_slice(), &names)?,
     })
 }
@@ -137,7 +139,7 @@ fn output_of(
 {
     Ok(VOutput {
         port: port_number(cell.pins.as_slice(), output.pin),
-        value: value_of(alloc, cell, number, output)?,
+        value: value_of(alloc, cell, conditions, number, output)?,
         paths: paths_to(alloc, cell, conditions, output.pin)?,
     })
 }
@@ -147,16 +149,18 @@ fn output_of(
 fn value_of(
     alloc: Global,
     cell: &Cell,
+    conditions: &[&Function],
     number: usize,
     output: &OutputPin,
 ) -> Result<OutValue, Memory>
+    requires all { map (λ f. f.now) conditions.now ≡ conditions_of (data_of cell.now) }
     requires is { slice_get cell.now.outputs number ≡ Some output.now }
     requires bounded { name_bound output.now.function ≤ 96 }
     ensures { IfOk result (λ value. value ≡ value_of_output (data_of cell.now) output.now) }
 {
     if has_sources(output) {
         Ok(OutValue::Table {
-            table: output_table(alloc, cell, number, output)?,
+            table: output_table(alloc, cell, conditions, number, output)?,
             inputs: sources_at(alloc, cell.pins.as_slice(), output.support.as_slice())?,
         })
     } else {

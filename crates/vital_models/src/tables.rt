@@ -1,22 +1,19 @@
 //! The tables of a cell: of its groups, conditions and outputs.
-ghost use Rattle.std.specs.Prelude.{◌≡◌, ◌<◌, length, replicate, slice_index_or, slice_get, Some, IfOk};
-ghost use Rattle.trit_cubes.specs.declared.trits.Trit.TheVariants as trit;
-ghost use Rattle.bool_functions.specs.declared.tree.Node.TheVariants as node;
+ghost use Rattle.std.specs.Prelude.{◌≡◌, ◌<◌, map, length, replicate, slice_get, Some, IfOk};
 ghost use Rattle.udp_tables.specs.CellData.{data_of};
 ghost use Rattle.udp_tables.specs.Conditions.{conditions_of};
 ghost use Rattle.udp_tables.specs.CellPrimitives.{condition_tree};
-ghost use Rattle.vital_models.specs.declared.table.VSymbol.TheVariants as symbol;
-ghost use Rattle.vital_models.specs.declared.table.Trits.TheVariants as trits;
 ghost use Rattle.vital_models.specs.Rows.{violated, steady_row, closing_row};
 ghost use Rattle.vital_models.specs.Generated.{has_violation, state_table, condition_table, output_table};
 
 use crate::faults::Memory;
 use crate::table::{Trits, TruthTable, VNext, VStateRow, VStateTable, VSymbol};
 use crate::translation::{add_state_rows, truth_rows_from};
+use bool_functions::Function;
 use cell_machine::{Cell, OutputPin};
 use sqlite_items::Items;
 use std::alloc::Global;
-use udp_tables::{Part, combinational_udp, sequential_udp};
+use udp_tables::{Part, part_udp, sequential_udp};
 
 /// Whether state tables have a column of the violation: the cell has checks.
 pub(crate) fn has_violation(cell: &Cell) -> bool
@@ -87,33 +84,39 @@ fn columns(
     Ok(Items::from_vec(columns))
 }
 
-/// The truth table of a condition, which the cell has with this number, over the pins that it names.
+/// The truth table of a condition, which the cell has with this number, over the pins that it names. These are the cell's
+/// conditions.
 pub(crate) fn condition_table(
     alloc: Global,
     cell: &Cell,
+    conditions: &[&Function],
     number: usize,
 ) -> Result<TruthTable, Memory>
-    requires { number < length (conditions_of (data_of cell.now)) }
+    requires all { map (λ f. f.now) conditions.now ≡ conditions_of (data_of cell.now) }
+    requires number { number < length (conditions_of (data_of cell.now)) }
     ensures { IfOk result (λ table. table ≡ condition_table (condition_tree (data_of cell.now) number)) }
 {
-    let udp = combinational_udp(alloc, cell, Part::Condition(number))?;
+    let udp = part_udp(alloc, cell, conditions, Part::Condition(number))?;
     Ok(TruthTable {
         rows: truth_rows_from(alloc, udp.rows.as_slice())?,
     })
 }
 
-/// The truth table of an output, which the cell has with this number and which depends on something, over its support.
+/// The truth table of an output, which the cell has with this number and which depends on something, over its support. These are
+/// the cell's conditions.
 pub(crate) fn output_table(
     alloc: Global,
     cell: &Cell,
+    conditions: &[&Function],
     number: usize,
     output: &OutputPin,
 ) -> Result<TruthTable, Memory>
+    requires all { map (λ f. f.now) conditions.now ≡ conditions_of (data_of cell.now) }
     requires is { slice_get cell.now.outputs number ≡ Some output.now }
     requires some { 0 < length output.now.support }
     ensures { IfOk result (λ table. table ≡ output_table (data_of cell.now) output.now) }
 {
-    let udp = combinational_udp(alloc, cell, Part::Output(number))?;
+    let udp = part_udp(alloc, cell, conditions, Part::Output(number))?;
     Ok(TruthTable {
         rows: truth_rows_from(alloc, udp.rows.as_slice())?,
     })

@@ -21,6 +21,7 @@ condition_of-requires c =
     let within : c.loop-i.i < length trees
     = omega (arith, c.loop-i-test.true, ap length c.requires, length-map c.args.conditions.now (λ f. f.now)) in
     record {
+      all = c.requires;
       number = within;
       is = condition-item c.args.conditions.now (λ f. f.now) trees c.loop-i.i c.index-conditions-i.result node.Zero c.requires within c.index-conditions-i.is;
     }

@@ -4,3 +4,4 @@ pub mod Ports
 pub mod Names
 pub mod Generated
 pub mod Laws
+pub mod VerilogTokens

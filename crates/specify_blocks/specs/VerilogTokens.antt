@@ -122,7 +122,7 @@ scan in_table at zero (b ∷ bs) =
     at_front in_table at (b ∷ bs) (λ open_then n. scan open_then (at + 1) n bs) (separator_length (b ∷ bs)) (token_length in_table (b ∷ bs))
 
 -- the tokens of a text before its lexical fault, and the offset of the fault, if there is one
-unfoldable pub scan_of : List ℕ → List Token × Option ℕ
+abbrev pub scan_of : List ℕ → List Token × Option ℕ
 scan_of bytes = scan false 0 0 bytes
 
 -- the bytes of each token

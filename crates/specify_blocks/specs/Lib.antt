@@ -5,3 +5,8 @@ pub mod Names
 pub mod Generated
 pub mod Laws
 pub mod VerilogTokens
+pub mod VerilogRules
+pub mod VerilogPrimitives
+pub mod VerilogModules
+pub mod VerilogBlocks
+pub mod VerilogText

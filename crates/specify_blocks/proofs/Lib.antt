@@ -6,3 +6,5 @@ pub mod ApartLemmas
 pub mod ConditionLemmas
 pub mod Soundness
 mod Examples
+mod VerilogExamples
+mod VerilogReadings

@@ -10,3 +10,4 @@ pub mod VerilogPrimitives
 pub mod VerilogModules
 pub mod VerilogBlocks
 pub mod VerilogText
+pub mod VerilogSeparators

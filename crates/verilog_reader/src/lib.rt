@@ -1,9 +1,13 @@
 //! Verilog text to modules. (IEEE 1364-2005, clauses 3, 8, 12, 14 and 15.)
 #![tactic(auto)]
 
+mod cursor;
 mod fronts;
 mod scanner;
 mod span;
 
 pub use scanner::scan;
 pub use span::{Memory, Scan, Span};
+
+#[cfg(test)]
+mod tests;

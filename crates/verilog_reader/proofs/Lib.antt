@@ -1,3 +1,4 @@
 pub mod Turns
 pub mod Alike
 pub mod Stays
+pub mod Padding

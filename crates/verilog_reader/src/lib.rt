@@ -3,9 +3,11 @@
 
 mod cursor;
 mod fronts;
+mod laws;
 mod scanner;
 mod span;
 
+pub use laws::added_separators_change_no_token;
 pub use scanner::scan;
 pub use span::{Memory, Scan, Span};
 

@@ -11,3 +11,4 @@ pub mod VerilogModules
 pub mod VerilogBlocks
 pub mod VerilogText
 pub mod VerilogSeparators
+pub mod VerilogPlaces

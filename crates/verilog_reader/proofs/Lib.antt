@@ -2,3 +2,4 @@ pub mod Turns
 pub mod Alike
 pub mod Stays
 pub mod Padding
+pub mod Places

@@ -7,7 +7,7 @@ mod laws;
 mod scanner;
 mod span;
 
-pub use laws::added_separators_change_no_token;
+pub use laws::{added_separators_change_no_token, tokens_stand_in_order};
 pub use scanner::scan;
 pub use span::{Memory, Scan, Span};
 

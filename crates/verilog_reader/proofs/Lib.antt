@@ -3,3 +3,4 @@ pub mod Alike
 pub mod Stays
 pub mod Padding
 pub mod Places
+pub mod Repeats

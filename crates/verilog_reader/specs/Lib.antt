@@ -1,3 +1,5 @@
 pub mod Spans
 pub mod Cursor
 pub mod Next
+pub mod Reading
+pub mod Headers

@@ -4,6 +4,9 @@
 mod cursor;
 mod fronts;
 mod laws;
+mod primitive;
+mod refusal;
+mod rules;
 mod scanner;
 mod span;
 

@@ -35,7 +35,7 @@ any_offset t at z n [] = refl
 any_offset t at z (suc n) (b ∷ s) = any_offset t (at + 1) (z + 1) n s
 any_offset t at z zero (b ∷ s) =
     any_front t at z (b ∷ s) (λ o k. scan o (at + 1) k s) (λ o k. scan o (z + 1) k s) (separator_length (b ∷ s)) (token_length t (b ∷ s))
-      (λ o k. any_offset o (at + 1) (z + 1) k s)
+    (λ o k. any_offset o (at + 1) (z + 1) k s)
 
 -- bytes of what stands before are passed over
 passes : (t : Bool) (at z : ℕ) (w r : List ℕ) → spelled (scan t at (length w) (w ++ r)) ≡ spelled (scan t z 0 r)
@@ -171,11 +171,11 @@ no_separator : (t : Bool) (b : ℕ) (w : List ℕ) {r p : List ℕ} → Alike r 
 no_separator t b w {r} {p} h e f =
     let all : Alike (b ∷ w ++ r) (b ∷ w ++ p) = behind (b ∷ w) h in
     separator_by (is_blank b) (begins_with (b ∷ w ++ r) (codes "//")) (begins_with (b ∷ w ++ r) (codes "/*"))
-      (begins_with (b ∷ w ++ p) (codes "//")) (begins_with (b ∷ w ++ p) (codes "/*"))
-      (prefix_len (λ c. not (c == 10)) (b ∷ w ++ r)) (block_length (b ∷ w ++ r))
-      (prefix_len (λ c. not (c == 10)) (b ∷ w ++ p)) (block_length (b ∷ w ++ p))
-      (line_some b (w ++ r)) (no_block t b (w ++ r) (length w) f)
-      (begins_not (codes "//") refl all) (begins_not (codes "/*") refl all) e
+    (begins_with (b ∷ w ++ p) (codes "//")) (begins_with (b ∷ w ++ p) (codes "/*"))
+    (prefix_len (λ c. not (c == 10)) (b ∷ w ++ r)) (block_length (b ∷ w ++ r))
+    (prefix_len (λ c. not (c == 10)) (b ∷ w ++ p)) (block_length (b ∷ w ++ p))
+    (line_some b (w ++ r)) (no_block t b (w ++ r) (length w) f)
+    (begins_not (codes "//") refl all) (begins_not (codes "/*") refl all) e
 
 padded_same : {t : Bool} {b q : List ℕ} → Padded t b q → (at z : ℕ) → spelled (scan t at 0 b) ≡ spelled (scan t z 0 q)
 padded_same (pad.same {in_table = t} {bytes = s}) at z = any_offset t at z 0 s

@@ -24,7 +24,7 @@ front t at len b s go zero (suc m) e o =
     let r = go (is_open_after t (b ∷ take m s)) m in
     let l = front_short m s in
     first at len token r (omega arith) (omega arith) (omega (arith, l.1))
-      (earlier (at + 1 + m) (at + suc (length (take m s))) len r.0 r.1 (omega (arith, l.0)) (o (is_open_after t (b ∷ take m s)) m))
+    (earlier (at + 1 + m) (at + suc (length (take m s))) len r.0 r.1 (omega (arith, l.0)) (o (is_open_after t (b ∷ take m s)) m))
 front t at len b s go (suc n) m e o = earlier (at + 1 + n) at len (go t n).0 (go t n).1 (omega arith) (o t n)
 
 in_order : (t : Bool) (at n len : ℕ) (s : List ℕ) → len ≡ at + length s → AreInOrder (at + n) len (scan t at n s).0 (scan t at n s).1
@@ -38,7 +38,7 @@ in_order t at zero len (b ∷ s) e =
     let go = λ (o : Bool) (k : ℕ). scan o (at + 1) k s in
     let r = at_front t at (b ∷ s) go (separator_length (b ∷ s)) (token_length t (b ∷ s)) in
     earlier at (at + 0) len r.0 r.1 (omega arith)
-      (front t at len b s go (separator_length (b ∷ s)) (token_length t (b ∷ s)) e (λ o k. in_order o (at + 1) k len s h))
+    (front t at len b s go (separator_length (b ∷ s)) (token_length t (b ∷ s)) e (λ o k. in_order o (at + 1) k len s h))
 
 pub stand_in_order : (text : List ℕ) → StandInOrder text
 stand_in_order text = earlier (0 + 0) 0 (length text) (scan_of text).0 (scan_of text).1 (omega arith) (in_order false 0 0 (length text) text (omega arith))

@@ -14,9 +14,11 @@ blanks c b f space tab line_end = first (nat_eq 32 c) refl b
     third : (t : Bool) → nat_eq 10 c ≡ t → (t || false) ≡ true → f c ≡ false
     third true e h = ap f (sym (eqb-true 10 c e)) ∙ line_end
     third false e h = absurd cc
+
     second : (t : Bool) → nat_eq 9 c ≡ t → (t || (nat_eq 10 c || false)) ≡ true → f c ≡ false
     second true e h = ap f (sym (eqb-true 9 c e)) ∙ tab
     second false e h = third (nat_eq 10 c) refl h
+
     first : (t : Bool) → nat_eq 32 c ≡ t → (t || (nat_eq 9 c || (nat_eq 10 c || false))) ≡ true → f c ≡ false
     first true e h = ap f (sym (eqb-true 32 c e)) ∙ space
     first false e h = second (nat_eq 9 c) refl h
@@ -38,8 +40,8 @@ word_by false letters names others more n f g e = let s = g (omega arith) in ome
 word : (b : ℕ) (w : List ℕ) {r p : List ℕ} → Alike r p → word_length (b ∷ w ++ r) ≡ suc (length w) → word_length (b ∷ w ++ p) ≡ suc (length w)
 word b w {r} {p} h e =
     word_by (is_one_of (codes "$`") b) (prefix_len is_ascii_alphabetic (w ++ r)) (prefix_len is_name_byte (w ++ r))
-      (prefix_len is_ascii_alphabetic (w ++ p)) (prefix_len is_name_byte (w ++ p)) (length w)
-      (run_ends is_ascii_alphabetic no_letter w h) (run_ends is_name_byte no_name_byte w h) e
+    (prefix_len is_ascii_alphabetic (w ++ p)) (prefix_len is_name_byte (w ++ p)) (length w)
+    (run_ends is_ascii_alphabetic no_letter w h) (run_ends is_name_byte no_name_byte w h) e
 
 number_by : (unit low high unit_then low_then high_then : Bool) (run run_then n : ℕ) →
     (unit ≡ false → unit_then ≡ false) → (unit ≡ true → 3 ≡ suc n → unit_then ≡ true) →
@@ -61,12 +63,12 @@ number : (b : ℕ) (w : List ℕ) {r p : List ℕ} → Alike r p → number_leng
 number b w {r} {p} h e =
     let all : Alike (b ∷ w ++ r) (b ∷ w ++ p) = behind (b ∷ w) h in
     number_by (begins_with (b ∷ w ++ r) (codes "1ps")) (begins_with (b ∷ w ++ r) (codes "1'b0")) (begins_with (b ∷ w ++ r) (codes "1'b1"))
-      (begins_with (b ∷ w ++ p) (codes "1ps")) (begins_with (b ∷ w ++ p) (codes "1'b0")) (begins_with (b ∷ w ++ p) (codes "1'b1"))
-      (prefix_len is_ascii_digit (b ∷ w ++ r)) (prefix_len is_ascii_digit (b ∷ w ++ p)) (length w)
-      (begins_not (codes "1ps") refl all) (λ f g. begins_still (codes "1ps") (b ∷ w) r p (omega arith) f)
-      (begins_not (codes "1'b0") refl all) (λ f g. begins_still (codes "1'b0") (b ∷ w) r p (omega arith) f)
-      (begins_not (codes "1'b1") refl all) (λ f g. begins_still (codes "1'b1") (b ∷ w) r p (omega arith) f)
-      (run_ends is_ascii_digit no_digit (b ∷ w) h) e
+    (begins_with (b ∷ w ++ p) (codes "1ps")) (begins_with (b ∷ w ++ p) (codes "1'b0")) (begins_with (b ∷ w ++ p) (codes "1'b1"))
+    (prefix_len is_ascii_digit (b ∷ w ++ r)) (prefix_len is_ascii_digit (b ∷ w ++ p)) (length w)
+    (begins_not (codes "1ps") refl all) (λ f g. begins_still (codes "1ps") (b ∷ w) r p (omega arith) f)
+    (begins_not (codes "1'b0") refl all) (λ f g. begins_still (codes "1'b0") (b ∷ w) r p (omega arith) f)
+    (begins_not (codes "1'b1") refl all) (λ f g. begins_still (codes "1'b1") (b ∷ w) r p (omega arith) f)
+    (run_ends is_ascii_digit no_digit (b ∷ w) h) e
 
 sign_by : (three two one line block slash three' two' one' line' block' slash' : Bool) (n : ℕ) →
     (three ≡ false → three' ≡ false) → (three ≡ true → 3 ≡ suc n → three' ≡ true) →
@@ -89,14 +91,14 @@ sign : (b : ℕ) (w : List ℕ) {r p : List ℕ} → Alike r p → sign_length (
 sign b w {r} {p} h e =
     let all : Alike (b ∷ w ++ r) (b ∷ w ++ p) = behind (b ∷ w) h in
     sign_by (begins_with (b ∷ w ++ r) (codes "&&&")) (begins_with (b ∷ w ++ r) (codes "=>")) (begins_with (b ∷ w ++ r) (codes "="))
-      (begins_with (b ∷ w ++ r) (codes "//")) (begins_with (b ∷ w ++ r) (codes "/*")) (begins_with (b ∷ w ++ r) (codes "/"))
-      (begins_with (b ∷ w ++ p) (codes "&&&")) (begins_with (b ∷ w ++ p) (codes "=>")) (begins_with (b ∷ w ++ p) (codes "="))
-      (begins_with (b ∷ w ++ p) (codes "//")) (begins_with (b ∷ w ++ p) (codes "/*")) (begins_with (b ∷ w ++ p) (codes "/")) (length w)
-      (begins_not (codes "&&&") refl all) (λ f g. begins_still (codes "&&&") (b ∷ w) r p (omega arith) f)
-      (begins_not (codes "=>") refl all) (λ f g. begins_still (codes "=>") (b ∷ w) r p (omega arith) f)
-      (begins_not (codes "=") refl all) (λ f g. begins_still (codes "=") (b ∷ w) r p (omega arith) f)
-      (begins_not (codes "//") refl all) (begins_not (codes "/*") refl all)
-      (λ f g. begins_still (codes "/") (b ∷ w) r p (omega arith) f) e
+    (begins_with (b ∷ w ++ r) (codes "//")) (begins_with (b ∷ w ++ r) (codes "/*")) (begins_with (b ∷ w ++ r) (codes "/"))
+    (begins_with (b ∷ w ++ p) (codes "&&&")) (begins_with (b ∷ w ++ p) (codes "=>")) (begins_with (b ∷ w ++ p) (codes "="))
+    (begins_with (b ∷ w ++ p) (codes "//")) (begins_with (b ∷ w ++ p) (codes "/*")) (begins_with (b ∷ w ++ p) (codes "/")) (length w)
+    (begins_not (codes "&&&") refl all) (λ f g. begins_still (codes "&&&") (b ∷ w) r p (omega arith) f)
+    (begins_not (codes "=>") refl all) (λ f g. begins_still (codes "=>") (b ∷ w) r p (omega arith) f)
+    (begins_not (codes "=") refl all) (λ f g. begins_still (codes "=") (b ∷ w) r p (omega arith) f)
+    (begins_not (codes "//") refl all) (begins_not (codes "/*") refl all)
+    (λ f g. begins_still (codes "/") (b ∷ w) r p (omega arith) f) e
 
 token_by : (symbol mark letter digit : Bool) (one two three one' two' three' n : ℕ) →
     (one ≡ suc n → one' ≡ suc n) → (two ≡ suc n → two' ≡ suc n) → (three ≡ suc n → three' ≡ suc n) →
@@ -112,6 +114,6 @@ token_by false false false false one two three one' two' three' n f g h e = h e
 pub token_stays : (t : Bool) (b : ℕ) (w : List ℕ) {r p : List ℕ} → Alike r p → token_length t (b ∷ w ++ r) ≡ suc (length w) → token_length t (b ∷ w ++ p) ≡ suc (length w)
 token_stays t b w {r} {p} h e =
     token_by (t && is_symbol b) (is_mark b) (begins_word b) (is_ascii_digit b)
-      (word_length (b ∷ w ++ r)) (number_length (b ∷ w ++ r)) (sign_length (b ∷ w ++ r))
-      (word_length (b ∷ w ++ p)) (number_length (b ∷ w ++ p)) (sign_length (b ∷ w ++ p)) (length w)
-      (word b w h) (number b w h) (sign b w h) e
+    (word_length (b ∷ w ++ r)) (number_length (b ∷ w ++ r)) (sign_length (b ∷ w ++ r))
+    (word_length (b ∷ w ++ p)) (number_length (b ∷ w ++ p)) (sign_length (b ∷ w ++ p)) (length w)
+    (word b w h) (number b w h) (sign b w h) e

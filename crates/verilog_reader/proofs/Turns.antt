@@ -32,9 +32,9 @@ separator text spans t next at (suc n) h k z e =
     let a : next - at ≡ 0 = omega arith in
     let b : at + suc n - (at + 1) ≡ n = omega arith in
     ap (after_tokens (tokens_of text spans))
-      (ap (λ (m : ℕ). scan t (at + 1) m (drop (at + 1) text)) b
-      ∙ ap (λ (m : ℕ). at_front t at (drop at text) (λ o i. scan o (at + 1) i (drop (at + 1) text)) m (token_length t (drop at text))) e
-      ∙ sym (ap (λ (m : ℕ). scan t at m (drop at text)) a ∙ scan_front t at text h))
+    (ap (λ (m : ℕ). scan t (at + 1) m (drop (at + 1) text)) b
+    ∙ ap (λ (m : ℕ). at_front t at (drop at text) (λ o i. scan o (at + 1) i (drop (at + 1) text)) m (token_length t (drop at text))) e
+    ∙ sym (ap (λ (m : ℕ). scan t at m (drop at text)) a ∙ scan_front t at text h))
 
 nothing_of : (t : Bool) (at : ℕ) (text : List ℕ) → at < length text → 0 ≡ separator_length (drop at text) → (n : ℕ) → n ≡ token_length t (drop at text) →
     scan t at 0 (drop at text) ≡ at_front t at (drop at text) (λ o i. scan o (at + 1) i (drop (at + 1) text)) 0 n

@@ -1,6 +1,7 @@
 //! Verilog text to modules. (IEEE 1364-2005, clauses 3, 8, 12, 14 and 15.)
 #![tactic(auto)]
 
+mod answer;
 mod cursor;
 mod fronts;
 mod laws;
@@ -10,6 +11,7 @@ mod rules;
 mod scanner;
 mod span;
 
+pub use answer::text_has_one_answer;
 pub use laws::{added_separators_change_no_token, tokens_stand_in_order};
 pub use scanner::scan;
 pub use span::{Memory, Scan, Span};

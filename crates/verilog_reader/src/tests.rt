@@ -23,8 +23,22 @@ fn has_tokens(
 
 #[test]
 fn the_longest_token(rt: HostRuntime) -> Result<(), Fail> {
-    assert!(rt; has_tokens(&rt, b"`timescale 1ps/1psx", b"`timescale 1ps / 1ps x ", None)?);
-    assert!(rt; has_tokens(&rt, b"(A=>B)=(1'b0&&&1,11ps", b"( A => B ) = ( 1'b0 &&& 1 , 11 ps ", None)?);
+    assert!(rt;
+        has_tokens(
+            &rt,
+            b"`timescale 1ps/1psx",
+            b"`timescale 1ps / 1ps x ",
+            None
+        )?
+    );
+    assert!(rt;
+        has_tokens(
+            &rt,
+            b"(A=>B)=(1'b0&&&1,11ps",
+            b"( A => B ) = ( 1'b0 &&& 1 , 11 ps ",
+            None
+        )?
+    );
     assert!(rt; has_tokens(&rt, b"$set_up2$", b"$set _up2 $ ", None)?);
     assert!(rt; has_tokens(&rt, b"000000000000015", b"000000000000015 ", None)?);
     Ok(())
@@ -32,8 +46,22 @@ fn the_longest_token(rt: HostRuntime) -> Result<(), Fail> {
 
 #[test]
 fn the_symbols_of_a_table(rt: HostRuntime) -> Result<(), Fail> {
-    assert!(rt; has_tokens(&rt, b"table\n01?:1:1;xendtable xr;", b"table 0 1 ? : 1 : 1 ; x endtable xr ; ", None)?);
-    assert!(rt; has_tokens(&rt, b"table(01)-*BReg 23X", b"table ( 0 1 ) - * B R eg 23 X ", None)?);
+    assert!(rt;
+        has_tokens(
+            &rt,
+            b"table\n01?:1:1;xendtable xr;",
+            b"table 0 1 ? : 1 : 1 ; x endtable xr ; ",
+            None
+        )?
+    );
+    assert!(rt;
+        has_tokens(
+            &rt,
+            b"table(01)-*BReg 23X",
+            b"table ( 0 1 ) - * B R eg 23 X ",
+            None
+        )?
+    );
     assert!(rt; has_tokens(&rt, b"table1 10", b"table1 10 ", None)?);
     Ok(())
 }

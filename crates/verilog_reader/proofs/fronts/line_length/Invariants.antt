@@ -1,6 +1,5 @@
 use Rattle.std.proofs.Common.{◌≡◌, ◌+◌, drop, not, ◌==◌}
 use Rattle.std.specs.List.{prefix_len}
-
 use Rattle.verilog_reader.proofs.fronts.line_length.Given as goal
 
 abbrev pub invariant-loop-at : goal.invariant-loop-at

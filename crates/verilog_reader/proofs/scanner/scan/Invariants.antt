@@ -6,5 +6,5 @@ use Rattle.verilog_reader.proofs.scanner.scan.Given as goal
 abbrev pub invariant-loop-at : goal.invariant-loop-at
 invariant-loop-at l = record {
   found : from_here l.text l.scanner.tokens.items l.scanner.in_table l.scanner.next l.at ≡ scan_of l.text;
-  inside : LieInside l.text l.scanner.tokens.items
+  inside : LieInside l.text l.scanner.tokens.items;
 }

@@ -29,12 +29,12 @@ pub record Header : Type 0 where
   pub inputs : List (List ℕ)
 
 -- "," NAME
-abbrev pub next_input : List ℕ → List (List ℕ) → Grammar (List (List ℕ))
+unfoldable pub next_input : List ℕ → List (List ℕ) → Grammar (List (List ℕ))
 next_input output inputs = do
   input ← new_name (output ∷ inputs)
   r.Gives (inputs ++ input ∷ [])
 
-abbrev pub more_inputs : List ℕ → List (List ℕ) → Grammar (List (List ℕ))
+unfoldable pub more_inputs : List ℕ → List (List ℕ) → Grammar (List (List ℕ))
 more_inputs output inputs = r.Many (λ _. begins (codes ",")) (λ found _. next_input output found) inputs
 
 -- "(" NAME "," NAME { "," NAME } ")" ";" (8.1.1: the output is the first port)
@@ -157,12 +157,12 @@ abbrev pub begins_next_entry : Bool → List Entry → List ℕ → Option (Verd
 begins_next_entry sequential entries x =
     if begins_entry sequential x then Some (if has_change entries && begins_change x then Foul TwoEdges x else Fits x) else None
 
-abbrev pub next_entry : List Entry → List ℕ → Grammar (List Entry)
+unfoldable pub next_entry : List Entry → List ℕ → Grammar (List Entry)
 next_entry entries x = do
   e ← entry_after x
   r.Gives (entries ++ e ∷ [])
 
-abbrev pub more_entries : Bool → List Entry → Grammar (List Entry)
+unfoldable pub more_entries : Bool → List Entry → Grammar (List Entry)
 more_entries sequential entries = r.Many (begins_next_entry sequential) next_entry entries
 
 -- level ":" next ";" behind the entries and their ":", in a primitive with a state (8.1.4)
@@ -200,7 +200,7 @@ first_of_row sequential x = if begins_entry sequential x then Fits x else Misfit
 abbrev pub begins_row : Bool → List ℕ → Option (Verdict (List ℕ) Refusal)
 begins_row sequential x = if begins_entry sequential x then Some (Fits x) else None
 
-abbrev pub next_row : Bool → ℕ → List UdpRow → List ℕ → Grammar (List UdpRow)
+unfoldable pub next_row : Bool → ℕ → List UdpRow → List ℕ → Grammar (List UdpRow)
 next_row sequential n rows x = do
   another ← row sequential n x
   r.Gives (rows ++ another ∷ [])

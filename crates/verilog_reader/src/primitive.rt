@@ -1,6 +1,6 @@
 //! Primitives, by recursive descent. (IEEE 1364-2005, clause 8.)
 
-ghost use Rattle.std.specs.Prelude.{◌≡◌, ◌∷◌, length};
+ghost use Rattle.std.specs.Prelude.{◌≡◌, [], ◌∷◌};
 ghost use Rattle.grammar_rules.specs.Reading.{read};
 ghost use Rattle.specify_blocks.specs.VerilogRules.{new_name, is_among};
 ghost use Rattle.specify_blocks.specs.VerilogPrimitives as spec;
@@ -47,7 +47,7 @@ impl Cursor<'_> {
         self.fresh_name(alloc, taken)
     }
 
-    #[tactic(auto, using(crate::proofs::Repeats::turn, crate::proofs::Repeats::choose_begun, crate::proofs::Repeats::choose_other))]
+    #[tactic(auto, unfolding(specify_blocks::specs::VerilogPrimitives::more_inputs, specify_blocks::specs::VerilogPrimitives::next_input), using(crate::proofs::Repeats::turn, crate::proofs::Repeats::choose_begun, crate::proofs::Repeats::choose_other))]
     fn more_inputs(
         &mut self,
         alloc: Global,
@@ -64,5 +64,87 @@ impl Cursor<'_> {
             inputs.push(self.new_input(alloc, output, inputs.as_slice())?)?;
         }
         Ok(inputs)
+    }
+
+    #[tactic(auto, unfolding(specify_blocks::specs::VerilogPrimitives::next_input))]
+    fn first_input(&mut self, alloc: Global, output: &[u8]) -> Result<Items<Items<u8>>, Stop>
+        ensures { Reads (read (spec.next_input output.now []) self.old) result self.new }
+    {
+        let mut inputs = Items::new(alloc);
+        inputs.push(self.new_input(alloc, output, inputs.as_slice())?)?;
+        Ok(inputs)
+    }
+
+    #[tactic(auto, unfolding(specify_blocks::specs::VerilogPrimitives::header))]
+    fn primitive_header(&mut self, alloc: Global) -> Result<Header, Stop>
+        ensures { ReadsAs header_of (read spec.header self.old) result self.new }
+    {
+        self.expect(b"(")?;
+        let output = self.any_name(alloc)?;
+        self.expect(b",")?;
+        let first = self.first_input(alloc, output.as_slice())?;
+        let inputs = self.more_inputs(alloc, output.as_slice(), first)?;
+        self.expect_where(inputs.len() <= MOST_INPUTS, Refusal::Width, b")")?;
+        self.expect(b";")?;
+        Ok(Header { output, inputs })
+    }
+
+    #[tactic(auto, unfolding(specify_blocks::specs::VerilogPrimitives::declared_output))]
+    fn primitive_output(&mut self, output: &[u8]) -> Result<(), Stop>
+        ensures { Reads (read (spec.declared_output output.now) self.old) result self.new }
+    {
+        self.expect(b"output")?;
+        self.this_name(output)?;
+        self.expect(b";")
+    }
+
+    #[tactic(auto, unfolding(specify_blocks::specs::VerilogPrimitives::declared_state))]
+    fn primitive_state(&mut self, output: &[u8]) -> Result<bool, Stop>
+        ensures { Reads (read (spec.declared_state output.now) self.old) result self.new }
+    {
+        self.this_name(output)?;
+        self.expect(b";")?;
+        Ok(true)
+    }
+
+    /// Whether the primitive has a state.
+    #[tactic(auto, unfolding(specify_blocks::specs::VerilogPrimitives::register))]
+    fn primitive_register(&mut self, header: &Header) -> Result<bool, Stop>
+        ensures { Reads (read (spec.register (header_of header.now)) self.old) result self.new }
+    {
+        if !self.is_next(b"reg") {
+            return Ok(false);
+        }
+        let may = header.inputs.len() <= MOST_INPUTS_WITH_STATE;
+        self.expect_where(may, Refusal::Width, b"reg")?;
+        self.primitive_state(header.output.as_slice())
+    }
+
+    /// One more declared input, where so many are declared.
+    #[tactic(auto, unfolding(specify_blocks::specs::VerilogPrimitives::declared_input))]
+    fn primitive_input(&mut self, inputs: &[Items<u8>], count: usize) -> Result<usize, Stop>
+        ensures { Reads (read (spec.declared_input inputs.now count) self.old) result self.new }
+    {
+        let Some(name) = inputs.get(count) else {
+            return Err(Stop::Refused(self.no_name()));
+        };
+        self.this_name(name.as_slice())?;
+        self.expect(b";")?;
+        Ok(count + 1)
+    }
+
+    #[tactic(auto, unfolding(specify_blocks::specs::VerilogPrimitives::declared_inputs), using(crate::proofs::Repeats::turn, crate::proofs::Repeats::choose_begun, crate::proofs::Repeats::choose_other))]
+    fn primitive_inputs(&mut self, inputs: &[Items<u8>]) -> Result<(), Stop>
+        ensures { Reads (read (spec.declared_inputs inputs.now) self.old) result self.new }
+    {
+        let mut count = 0;
+        for _turn in 0..self.left() {
+            if !self.is_next(b"input") {
+                break;
+            }
+            self.skip();
+            count = self.primitive_input(inputs, count)?;
+        }
+        self.go_on_where(count == inputs.len())
     }
 }

@@ -1,6 +1,6 @@
 //! The words of the grammar: a token that must stand here, and the places of names.
 
-ghost use Rattle.std.specs.Prelude.{◌≡◌, ℕ, List, ◌∷◌, Some};
+ghost use Rattle.std.specs.Prelude.{◌≡◌, ℕ, List, ◌∷◌, Some, None, Err};
 ghost use Rattle.grammar_rules.specs.Reading.{read};
 ghost use Rattle.specify_blocks.specs.VerilogTokens as tokens;
 ghost use Rattle.specify_blocks.specs.VerilogRules as spec;
@@ -99,6 +99,25 @@ impl Cursor<'_> {
         let name = Items::from_slice(alloc, self.bytes())?;
         self.skip();
         Ok(name)
+    }
+
+    /// A name that is declared here, and was none of these before.
+    pub fn new_name(&mut self, alloc: Global, names: &[Items<u8>]) -> Result<Items<u8>, Stop>
+        ensures { Reads (read (spec.new_name names.now) self.old) result self.new }
+    {
+        let taken = is_among(names, self.bytes());
+        self.fresh_name(alloc, taken)
+    }
+
+    /// Why a place refuses the next token that allows no name.
+    pub fn no_name(&self) -> Refusal
+        ensures { read (spec.this_name None) self.now ≡ Err (refusal_of result, self.now) }
+    {
+        if is_name(self.bytes()) {
+            Refusal::Undefined
+        } else {
+            Refusal::Syntax
+        }
     }
 
     /// This name.

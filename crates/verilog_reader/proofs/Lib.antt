@@ -4,3 +4,4 @@ pub mod Stays
 pub mod Padding
 pub mod Places
 pub mod Repeats
+pub mod Entries

@@ -7,6 +7,7 @@ mod fronts;
 mod laws;
 mod primitive;
 mod refusal;
+mod row;
 mod rules;
 mod scanner;
 mod span;

@@ -147,4 +147,54 @@ impl Cursor<'_> {
         }
         self.go_on_where(count == inputs.len())
     }
+
+    /// One more row, behind its first token.
+    #[tactic(auto, unfolding(specify_blocks::specs::VerilogPrimitives::next_row))]
+    fn first_row(
+        &mut self,
+        alloc: Global,
+        sequential: bool,
+        inputs: usize,
+        first: &[u8],
+    ) -> Result<Items<UdpRow>, Stop>
+        ensures { Reads (read (spec.next_row sequential inputs [] first.now) self.old) result self.new }
+    {
+        let mut rows = Items::new(alloc);
+        rows.push(self.row(alloc, sequential, inputs, first)?)?;
+        Ok(rows)
+    }
+
+    #[tactic(auto, unfolding(specify_blocks::specs::VerilogPrimitives::next_row), using(crate::proofs::Repeats::turn, crate::proofs::Entries::no_row, crate::proofs::Entries::one_row))]
+    fn more_rows(
+        &mut self,
+        alloc: Global,
+        sequential: bool,
+        inputs: usize,
+        mut rows: Items<UdpRow>,
+    ) -> Result<Items<UdpRow>, Stop>
+        ensures { Reads (read (Many (λ _. spec.begins_row sequential) (spec.next_row sequential inputs) rows) self.old) result self.new }
+    {
+        for _turn in 0..self.left() {
+            let token = self.bytes();
+            if !begins_entry(sequential, token) {
+                break;
+            }
+            self.skip();
+            rows.push(self.row(alloc, sequential, inputs, token)?)?;
+        }
+        Ok(rows)
+    }
+
+    /// The first token of a table's first row.
+    fn begin_row(&mut self, sequential: bool) -> Result<&[u8], Stop>
+        ensures row { IfOk result (λ first. read (Token (spec.first_of_row sequential) Syntax) self.old ≡ Ok (first.now, self.new)) }
+        ensures other { IfErr result (λ e. (e ≡ Refused Refusal.Syntax) × (read (Token (spec.first_of_row sequential) Syntax) self.old ≡ Err (Syntax, self.new))) }
+    {
+        let token = self.bytes();
+        if !begins_entry(sequential, token) {
+            return Err(Stop::Refused(Refusal::Syntax));
+        }
+        self.skip();
+        Ok(token)
+    }
 }

@@ -1,17 +1,21 @@
 //! Primitives, by recursive descent. (IEEE 1364-2005, clause 8.)
 
 ghost use Rattle.std.specs.Prelude.{◌≡◌, [], ◌∷◌};
+ghost use Rattle.grammar_rules.specs.Rule.{Token, Many};
 ghost use Rattle.grammar_rules.specs.Reading.{read};
-ghost use Rattle.specify_blocks.specs.VerilogRules.{new_name, is_among};
+ghost use Rattle.specify_blocks.specs.VerilogRules.{Syntax, new_name, is_among};
 ghost use Rattle.specify_blocks.specs.VerilogPrimitives as spec;
 ghost use Rattle.verilog_reader.specs.Reading.{Reads, ReadsAs};
+ghost use Rattle.verilog_reader.specs.Next.{next_bytes};
 ghost use Rattle.verilog_reader.specs.Headers.{header_of};
 
 use crate::cursor::Cursor;
 use crate::refusal::{Refusal, Stop};
+use crate::row::begins_entry;
 use crate::rules::is_among;
 use sqlite_items::Items;
 use std::alloc::Global;
+use udp_tables::{Udp, UdpRow};
 
 /// How many inputs a primitive may have.
 const MOST_INPUTS: usize = 10;
@@ -185,16 +189,54 @@ impl Cursor<'_> {
         Ok(rows)
     }
 
-    /// The first token of a table's first row.
-    fn begin_row(&mut self, sequential: bool) -> Result<&[u8], Stop>
-        ensures row { IfOk result (λ first. read (Token (spec.first_of_row sequential) Syntax) self.old ≡ Ok (first.now, self.new)) }
-        ensures other { IfErr result (λ e. (e ≡ Refused Refusal.Syntax) × (read (Token (spec.first_of_row sequential) Syntax) self.old ≡ Err (Syntax, self.new))) }
+    /// Goes behind the first token of a table's first row.
+    fn begin_row(&mut self, sequential: bool) -> Result<(), Stop>
+        ensures { ReadsAs (λ _. next_bytes self.old) (read (Token (spec.first_of_row sequential) Syntax) self.old) result self.new }
     {
-        let token = self.bytes();
-        if !begins_entry(sequential, token) {
+        if !begins_entry(sequential, self.bytes()) {
             return Err(Stop::Refused(Refusal::Syntax));
         }
         self.skip();
-        Ok(token)
+        Ok(())
+    }
+
+    #[tactic(auto, unfolding(specify_blocks::specs::VerilogPrimitives::table))]
+    fn table(
+        &mut self,
+        alloc: Global,
+        sequential: bool,
+        inputs: usize,
+    ) -> Result<Items<UdpRow>, Stop>
+        ensures { Reads (read (spec.table sequential inputs) self.old) result self.new }
+    {
+        self.expect(b"table")?;
+        let token = self.bytes();
+        self.begin_row(sequential)?;
+        let first = self.first_row(alloc, sequential, inputs, token)?;
+        let rows = self.more_rows(alloc, sequential, inputs, first)?;
+        self.expect(b"endtable")?;
+        Ok(rows)
+    }
+
+    /// A primitive behind the word `primitive`, where primitives and modules of these names stand before it.
+    #[tactic(auto, unfolding(specify_blocks::specs::VerilogPrimitives::primitive))]
+    pub fn primitive(&mut self, alloc: Global, names: &[Items<u8>]) -> Result<Udp, Stop>
+        ensures { Reads (read (spec.primitive names.now) self.old) result self.new }
+    {
+        let name = self.new_name(alloc, names)?;
+        let header = self.primitive_header(alloc)?;
+        self.primitive_output(header.output.as_slice())?;
+        let sequential = self.primitive_register(&header)?;
+        self.primitive_inputs(header.inputs.as_slice())?;
+        let rows = self.table(alloc, sequential, header.inputs.len())?;
+        self.expect(b"endprimitive")?;
+        let Header { output, inputs } = header;
+        Ok(Udp {
+            name,
+            output,
+            inputs,
+            sequential,
+            rows,
+        })
     }
 }

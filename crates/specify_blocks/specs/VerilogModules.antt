@@ -41,10 +41,13 @@ next_port ports = do
 abbrev pub first_port : List ℕ → Option (Verdict (List ℕ) Refusal)
 first_port x = if is_name x then Some (Fits x) else None
 
+-- { "," NAME }
+unfoldable pub more_ports : List VPort → Grammar (List VPort)
+more_ports ports = r.Many (λ _. begins (codes ",")) (λ ports _. next_port ports) ports
+
 -- [ NAME { "," NAME } ]
-abbrev pub some_ports : Grammar (List VPort)
-some_ports =
-    r.Choice first_port (λ name. r.Many (λ _. begins (codes ",")) (λ ports _. next_port ports) (plain_port name ∷ [])) (r.Gives [])
+unfoldable pub some_ports : Grammar (List VPort)
+some_ports = r.Choice first_port (λ name. more_ports (plain_port name ∷ [])) (r.Gives [])
 
 -- "(" [ NAME { "," NAME } ] ")" ";" (12.3.1)
 unfoldable pub header : Grammar (List VPort)
@@ -75,7 +78,7 @@ declared_input found = do
   r.Gives more
 
 -- { "input" NAME ";" } (12.3.3)
-abbrev pub declared_inputs : Inputs → Grammar Inputs
+unfoldable pub declared_inputs : Inputs → Grammar Inputs
 declared_inputs found = r.Many (λ _. begins (codes "input")) (λ found _. declared_input found) found
 
 -- the next place, from this one on, of a name of the header that is no input
@@ -111,7 +114,7 @@ declared_wire ports wires = do
   r.Gives (wires ++ name ∷ [])
 
 -- { "wire" NAME ";" } (A.2.1.3)
-abbrev pub declared_wires : List VPort → Grammar (List (List ℕ))
+unfoldable pub declared_wires : List VPort → Grammar (List (List ℕ))
 declared_wires ports = r.Many (λ _. begins (codes "wire")) (λ wires _. declared_wire ports wires) []
 
 -- NAME ";" behind "reg"
@@ -122,7 +125,7 @@ declared_notifier ports wires = do
   r.Gives (Some name)
 
 -- [ "reg" NAME ";" ] (A.2.1.3)
-abbrev pub notifier : List VPort → List (List ℕ) → Grammar (Option (List ℕ))
+unfoldable pub notifier : List VPort → List (List ℕ) → Grammar (Option (List ℕ))
 notifier ports wires = r.Choice (begins (codes "reg")) (λ _. declared_notifier ports wires) (r.Gives None)
 
 -- The declarations behind the name of a module, which has these primitives: the module without instances.

@@ -5,3 +5,4 @@ pub mod Padding
 pub mod Places
 pub mod Repeats
 pub mod Entries
+pub mod Among

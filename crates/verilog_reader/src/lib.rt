@@ -3,8 +3,10 @@
 
 mod answer;
 mod cursor;
+mod declarations;
 mod fronts;
 mod laws;
+mod ports;
 mod primitive;
 mod refusal;
 mod row;

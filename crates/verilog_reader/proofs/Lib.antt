@@ -6,3 +6,4 @@ pub mod Places
 pub mod Repeats
 pub mod Entries
 pub mod Among
+pub mod Known

@@ -2,6 +2,8 @@
 use Rattle.std.proofs.Common.{◌≡◌, ℕ, zero, suc, ◌+◌, ◌-◌, ◌<◌, Bool, true, false, List, [], ◌∷◌, Option, Some, None, Ok, refl, ap, ◌∙◌, arith}
 use Rattle.grammar_rules.specs.Rule.{Verdict}
 use Rattle.grammar_rules.specs.Reading.{Outcome, and_then, choose, repeat, read}
+use Rattle.specify_blocks.specs.VerilogTokens.{is_name}
+use Rattle.specify_blocks.specs.VerilogModules.{first_port}
 use Rattle.specify_blocks.specs.VerilogRules.{Refusal, Grammar, begins, new_name, is_among}
 use Rattle.verilog_reader.specs.Next.{is_next, next_bytes, rest}
 
@@ -23,3 +25,14 @@ pub choose_other : {B : Type 0} (text : List ℕ) (s : List (List ℕ)) (go : Un
     is_next text s ≡ false → choose (begins text) s go other ≡ other
 choose_other text [] go other e = refl
 choose_other text (x ∷ s) go other e = rw e refl
+
+-- a header has a port, where a name is next, and else none
+pub choose_port : {B : Type 0} (s : List (List ℕ)) (go : List ℕ → List (List ℕ) → Outcome (List ℕ) Refusal B) (other : Outcome (List ℕ) Refusal B) →
+    is_name (next_bytes s) ≡ true → choose first_port s go other ≡ go (next_bytes s) (rest s)
+choose_port [] go other e = absurd cc
+choose_port (x ∷ s) go other e = rw e refl
+
+pub choose_no_port : {B : Type 0} (s : List (List ℕ)) (go : List ℕ → List (List ℕ) → Outcome (List ℕ) Refusal B) (other : Outcome (List ℕ) Refusal B) →
+    is_name (next_bytes s) ≡ false → choose first_port s go other ≡ other
+choose_no_port [] go other e = refl
+choose_no_port (x ∷ s) go other e = rw e refl

@@ -1,6 +1,6 @@
 //! The ports of a module's header.
 
-ghost use Rattle.std.specs.Prelude.{◌≡◌, ◌++◌, not};
+ghost use Rattle.std.specs.Prelude.{◌≡◌, ◌<◌, ◌++◌, length, IfSome};
 ghost use Rattle.std.specs.Str.{bytes_eq};
 ghost use Rattle.specify_blocks.specs.VerilogRules.{is_among, place_from};
 ghost use Rattle.specify_blocks.specs.VerilogModules.{port_names, output_place};
@@ -31,7 +31,8 @@ pub fn is_declared(ports: &[VPort], wires: &[Items<u8>], name: &[u8]) -> bool
 
 /// The first place, from this one on, of a port of this name.
 pub fn port_place(ports: &[VPort], from: usize, name: &[u8]) -> Option<usize>
-    ensures { result ≡ place_from (λ (port : VPort). bytes_eq name.now port.name) from ports.now }
+    ensures value { result ≡ place_from (λ (port : VPort). bytes_eq name.now port.name) from ports.now }
+    ensures within { IfSome result (λ place. place < length ports.now) }
 {
     for at in from..ports.len() {
         if name == ports[at].name.as_slice() {

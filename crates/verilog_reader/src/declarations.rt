@@ -91,7 +91,7 @@ impl Cursor<'_> {
     }
 
     /// The name of a port behind those that are declared inputs, which it becomes.
-    fn input_name(&mut self, alloc: Global, found: Inputs) -> Result<Inputs, Stop>
+    fn module_input_name(&mut self, alloc: Global, found: Inputs) -> Result<Inputs, Stop>
         ensures { ReadsAs inputs_of (read (known (spec.input_at (inputs_of found))) self.old) result self.new }
     {
         let name = self.bytes();
@@ -117,7 +117,7 @@ impl Cursor<'_> {
     fn module_input(&mut self, alloc: Global, found: Inputs) -> Result<Inputs, Stop>
         ensures { ReadsAs inputs_of (read (spec.declared_input (inputs_of found)) self.old) result self.new }
     {
-        let more = self.input_name(alloc, found)?;
+        let more = self.module_input_name(alloc, found)?;
         self.expect(b";")?;
         Ok(more)
     }
@@ -215,7 +215,7 @@ impl Cursor<'_> {
     }
 
     #[tactic(auto, unfolding(specify_blocks::specs::VerilogModules::declared_notifier))]
-    fn notifier_name(
+    fn declared_notifier(
         &mut self,
         alloc: Global,
         ports: &[VPort],
@@ -241,7 +241,7 @@ impl Cursor<'_> {
             return Ok(None);
         }
         self.skip();
-        self.notifier_name(alloc, ports, wires)
+        self.declared_notifier(alloc, ports, wires)
     }
 
     /// The declarations of a module behind its name, where it has these primitives: the module without instances.

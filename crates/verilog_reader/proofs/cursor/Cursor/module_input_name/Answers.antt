@@ -6,7 +6,7 @@ use Rattle.specify_blocks.specs.VerilogRules.{place_from}
 use Rattle.specify_blocks.specs.VerilogModules.{Inputs, input_at, with_input}
 use Rattle.verilog_reader.specs.Headers.{inputs_of}
 use Rattle.verilog_reader.proofs.Known.{known_none, known_some, input_found}
-use Rattle.verilog_reader.proofs.cursor.Cursor.input_name.Goals as goal
+use Rattle.verilog_reader.proofs.cursor.Cursor.module_input_name.Goals as goal
 
 abbrev place : List ℕ → ℕ → List VPort → Option ℕ
 place x behind ports = place_from (λ (port : VPort). bytes_eq x port.name) behind ports

@@ -179,12 +179,12 @@ abbrev pub feeding_terminal : VModule → Bool → List VNet → Grammar VNet
 feeding_terminal m sequential terminals = terminal m (may_feed m sequential) (λ n. list_any (same_net n) terminals)
 
 -- NAME behind ",": one more input of an instance that drives this net
-abbrev pub next_input : VModule → Bool → VNet → List VNet → Grammar (List VNet)
+unfoldable pub next_input : VModule → Bool → VNet → List VNet → Grammar (List VNet)
 next_input m sequential output inputs = do
   n ← feeding_terminal m sequential (output ∷ inputs)
   r.Gives (inputs ++ n ∷ [])
 
-abbrev pub more_inputs : VModule → Bool → VNet → List VNet → Grammar (List VNet)
+unfoldable pub more_inputs : VModule → Bool → VNet → List VNet → Grammar (List VNet)
 more_inputs m sequential output inputs = r.Many (λ _. begins (codes ",")) (λ found _. next_input m sequential output found) inputs
 
 -- how many inputs the primitive with this number has
@@ -251,7 +251,7 @@ one_instance m None = constant m
 one_instance m (Some j) = call m j
 
 -- { instance }
-abbrev pub instances : VModule → Grammar VModule
+unfoldable pub instances : VModule → Grammar VModule
 instances m = r.Many (λ m x. begins_instance m.udps x) one_instance m
 
 -- the outputs among ports, of which the first has this number

@@ -7,3 +7,4 @@ pub mod Repeats
 pub mod Entries
 pub mod Among
 pub mod Known
+pub mod NamedNets

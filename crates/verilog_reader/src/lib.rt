@@ -5,7 +5,9 @@ mod answer;
 mod cursor;
 mod declarations;
 mod fronts;
+mod instances;
 mod laws;
+mod nets;
 mod ports;
 mod primitive;
 mod refusal;
@@ -13,6 +15,7 @@ mod row;
 mod rules;
 mod scanner;
 mod span;
+mod terminals;
 
 pub use answer::text_has_one_answer;
 pub use laws::{added_separators_change_no_token, tokens_stand_in_order};

@@ -1,5 +1,5 @@
 -- The grammar of specify blocks in Verilog text: paths and timing checks. (IEEE 1364-2005, 14.1 to 14.3, 15.2 and 15.3, and A.7.)
-use Rattle.std.specs.Prelude.{ℕ, ◌+◌, ◌*◌, ◌-◌, Bool, true, false, ◌==◌, if◌then◌else◌, List, [], ◌∷◌, ◌++◌, slice_get, Option, Some, None, codes}
+use Rattle.std.specs.Prelude.{ℕ, ◌+◌, ◌*◌, ◌-◌, Bool, true, false, ◌&&◌, ◌||◌, ◌==◌, nat_le, length, if◌then◌else◌, List, [], ◌∷◌, ◌++◌, slice_get, Option, Some, None, codes}
 use Rattle.std.specs.List.{position}
 use Rattle.std.specs.Option.{option_map}
 use Rattle.std.specs.Str.{bytes_eq}
@@ -18,7 +18,7 @@ use Rattle.specify_blocks.specs.declared.model.VPath.{VPath}
 use Rattle.specify_blocks.specs.declared.model.VCheck.{VCheck}
 use Rattle.specify_blocks.specs.declared.model.VModule.{VModule}
 use Rattle.specify_blocks.specs.Nets.{is_input_port, is_output_port, is_value}
-use Rattle.specify_blocks.specs.VerilogRules.{Refusal, Syntax, Unequal, Grammar, ◌>>=◌, expect, begins, valued, known, this_name}
+use Rattle.specify_blocks.specs.VerilogRules.{Refusal, Syntax, Unequal, Grammar, ◌>>=◌, expect, begins, begins_by, begins_as, valued, known, this_name}
 use Rattle.specify_blocks.specs.VerilogModules.{port_name}
 
 -- the number that digits spell, behind a number that was spelled before them
@@ -26,9 +26,9 @@ abbrev pub number_after : ℕ → List ℕ → ℕ
 number_after n [] = n
 number_after n (d ∷ ds) = number_after (n * 10 + (d - 48)) ds
 
--- the number of a token: an unsigned decimal number (3.5.1)
+-- the number of a token: an unsigned decimal number (3.5.1), here of at most 15 digits
 abbrev pub number_of : List ℕ → Option ℕ
-number_of x = if is_number x then Some (number_after 0 x) else None
+number_of x = if is_number x && nat_le (length x) 15 then Some (number_after 0 x) else None
 
 abbrev pub a_number : Grammar ℕ
 a_number = valued number_of
@@ -54,12 +54,8 @@ abbrev pub a_condition : VModule → Grammar ℕ
 a_condition m = known (λ x. kept (is_value m m.instances) (position (bytes_eq x) m.wires))
 
 -- the first token of a path: "if", "ifnone" or "("
-abbrev pub begins_path : List ℕ → Option (Verdict (List ℕ) Refusal)
-begins_path x =
-    if bytes_eq x (codes "if") then Some (Fits x)
-    else (if bytes_eq x (codes "ifnone") then Some (Fits x)
-    else (if bytes_eq x (codes "(") then Some (Fits x)
-    else None))
+abbrev pub is_path_start : List ℕ → Bool
+is_path_start x = bytes_eq x (codes "if") || bytes_eq x (codes "ifnone") || bytes_eq x (codes "(")
 
 -- "(" NAME ")" "(" behind "if" (14.2.4.1)
 unfoldable pub if_gate : VModule → Grammar Gate
@@ -110,19 +106,16 @@ next_path m paths x = do
 
 -- { path }
 abbrev pub paths : VModule → Grammar (List VPath)
-paths m = r.Many (λ _. begins_path) (next_path m) []
+paths m = r.Many (λ _. begins_by is_path_start) (next_path m) []
 
 -- the events that a word before a port allows
 abbrev pub edge_of : List ℕ → Option Edge
 edge_of x =
     if bytes_eq x (codes "posedge") then Some edge.Rise else (if bytes_eq x (codes "negedge") then Some edge.Fall else None)
 
-abbrev pub begins_edge : List ℕ → Option (Verdict Edge Refusal)
-begins_edge x = option_map Fits (edge_of x)
-
 -- [ "posedge" | "negedge" ]
 abbrev pub any_edge : Grammar Edge
-any_edge = r.Choice begins_edge r.Gives (r.Gives edge.Any)
+any_edge = r.Choice (begins_as edge_of) (λ e. r.Gives e) (r.Gives edge.Any)
 
 -- [ "posedge" | "negedge" ] NAME (15.3.1)
 unfoldable pub an_event : VModule → Grammar Event
@@ -259,9 +252,6 @@ check_of x =
     else (if bytes_eq x (codes "$period") then Some check_kind.Period
     else None)))))
 
-abbrev pub begins_check : List ℕ → Option (Verdict CheckKind Refusal)
-begins_check x = option_map Fits (check_of x)
-
 -- what stands behind the word of a check and "("
 abbrev pub check_of_kind : VModule → CheckKind → Grammar VCheck
 check_of_kind m check_kind.Setup = ordered_check check_kind.Setup m
@@ -284,7 +274,7 @@ next_check m checks kind = do
 
 -- { check }
 abbrev pub checks : VModule → Grammar (List VCheck)
-checks m = r.Many (λ _. begins_check) (next_check m) []
+checks m = r.Many (λ _. begins_as check_of) (next_check m) []
 
 -- the module with these paths and checks
 abbrev pub with_block : VModule → List VPath → List VCheck → VModule

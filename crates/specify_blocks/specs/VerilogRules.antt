@@ -2,6 +2,7 @@
 -- 1364-2005 are read, and which name stands at which place, is this project's subset.
 use Rattle.std.specs.Prelude.{ℕ, Bool, true, false, if◌then◌else◌, List, Option, Some, None, drop}
 use Rattle.std.specs.List.{list_any, position_from}
+use Rattle.std.specs.Option.{option_map}
 use Rattle.std.specs.Str.{bytes_eq}
 use Rattle.udp_tables.specs.declared.models.ModelFault.{ModelFault}
 use Rattle.udp_tables.specs.declared.models.ModelFault.TheVariants as fault
@@ -62,6 +63,14 @@ begins text x = if bytes_eq x text then Some (Fits tt) else None
 -- a part that begins with this token, which breaks a strict rule of this kind unless the condition holds
 abbrev pub begins_where : Bool → Refusal → List ℕ → List ℕ → Option (Verdict (Unit {0}) Refusal)
 begins_where holds k text x = if bytes_eq x text then Some (if holds then Fits tt else Foul k tt) else None
+
+-- a part that begins with a token of which the test holds
+abbrev pub begins_by : (List ℕ → Bool) → List ℕ → Option (Verdict (List ℕ) Refusal)
+begins_by test x = if test x then Some (Fits x) else None
+
+-- a part that begins with a token that stands for a value
+abbrev pub begins_as : {A : Type 0} → (List ℕ → Option A) → List ℕ → Option (Verdict A Refusal)
+begins_as find x = option_map Fits (find x)
 
 -- what a place allows: the value that a token stands for there, and else a refusal of this kind
 abbrev pub allowed_by : {A : Type 0} → Refusal → Option A → Verdict A Refusal

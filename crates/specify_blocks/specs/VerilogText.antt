@@ -1,6 +1,6 @@
 -- Verilog text: the modules that its bytes are, or its fault. (IEEE 1364-2005, A.1, source text, and 19.8, `timescale; the subset is this
 -- project's.)
-use Rattle.std.specs.Prelude.{◌≡◌, ◌<◌, ◌≤◌, ◌⊎◌, ◌↔◌, ℕ, ◌==◌, Bool, true, false, if◌then◌else◌, List, [], ◌∷◌, ◌++◌, length, Option, Some, None, Result, Ok, Err, codes}
+use Rattle.std.specs.Prelude.{◌≡◌, ◌<◌, ◌≤◌, ◌⊎◌, ◌↔◌, ℕ, ◌==◌, Bool, true, false, ◌||◌, if◌then◌else◌, List, [], ◌∷◌, ◌++◌, length, Option, Some, None, Result, Ok, Err, codes}
 use Rattle.std.specs.Str.{bytes_eq}
 use Rattle.grammar_rules.specs.Rule.{Verdict, Fits, Takes, Refuses}
 use Rattle.grammar_rules.specs.Rule as r
@@ -11,7 +11,7 @@ use Rattle.udp_tables.specs.declared.models.ModelFault.{ModelFault}
 use Rattle.udp_tables.specs.declared.models.ModelFault.TheVariants as fault
 use Rattle.specify_blocks.specs.declared.model.VModule.{VModule}
 use Rattle.specify_blocks.specs.VerilogTokens.{Token, scan_of, spellings}
-use Rattle.specify_blocks.specs.VerilogRules.{Refusal, Syntax, Undriven, fault_at, Grammar, ◌>>=◌, expect, expect_where, begins, new_name}
+use Rattle.specify_blocks.specs.VerilogRules.{Refusal, Syntax, Undriven, fault_at, Grammar, ◌>>=◌, expect, expect_where, begins, begins_by, new_name}
 use Rattle.specify_blocks.specs.VerilogPrimitives.{primitive}
 use Rattle.specify_blocks.specs.VerilogModules.{declarations, instances, are_all_driven}
 use Rattle.specify_blocks.specs.VerilogBlocks.{specify}
@@ -57,8 +57,8 @@ primitives_and_module before = do
   next_module more
 
 -- the first token of { primitive } module
-abbrev pub begins_design : List ℕ → Option (Verdict (List ℕ) Refusal)
-begins_design x = if bytes_eq x (codes "primitive") then Some (Fits x) else (if bytes_eq x (codes "module") then Some (Fits x) else None)
+abbrev pub is_design_start : List ℕ → Bool
+is_design_start x = bytes_eq x (codes "primitive") || bytes_eq x (codes "module")
 
 abbrev pub design_by : Before → Bool → Grammar Before
 design_by before true = primitives_and_module before
@@ -70,7 +70,7 @@ design before x = design_by before (bytes_eq x (codes "primitive"))
 
 -- { { primitive } module }
 abbrev pub designs : Grammar Before
-designs = r.Many (λ _. begins_design) design nothing
+designs = r.Many (λ _. begins_by is_design_start) design nothing
 
 -- "`timescale" "1ps" "/" "1ps" (19.8)
 unfoldable pub prelude : Grammar (Unit {0})

@@ -8,3 +8,6 @@ pub mod Entries
 pub mod Among
 pub mod Known
 pub mod NamedNets
+pub mod DigitLemmas
+pub mod Values
+pub mod Choices

@@ -3,3 +3,4 @@ pub mod Cursor
 pub mod Next
 pub mod Reading
 pub mod Headers
+pub mod Digits

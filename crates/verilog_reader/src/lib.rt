@@ -8,6 +8,8 @@ mod fronts;
 mod instances;
 mod laws;
 mod nets;
+mod numbers;
+mod paths;
 mod ports;
 mod primitive;
 mod refusal;

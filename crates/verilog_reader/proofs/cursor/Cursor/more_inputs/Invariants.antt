@@ -7,4 +7,4 @@ use Rattle.verilog_reader.proofs.cursor.Cursor.more_inputs.Given as goal
 abbrev pub invariant-loop-turn : goal.invariant-loop-turn
 invariant-loop-turn l =
     repeat (λ _. begins (codes ",")) (λ found a r. read (next_input l.output found) r) (l._turn-end - l._turn) l.inputs l.self
-      ≡ read (more_inputs l.output l.initial.inputs) l.initial.self
+    ≡ read (more_inputs l.output l.initial.inputs) l.initial.self

@@ -29,7 +29,7 @@ rows :
     × Fails (codes "`timescale 1ps/1ps\nprimitive p (q, a);\n  output q;\n  reg q;\n  input a;\n  table 0 : b : ?;") (fault.Syntax 87)
     × Fails (codes "`timescale 1ps/1ps\nprimitive p (q, a);\n  output q;\n  reg q;\n  input a;\n  table 0 : B : -; xy") (fault.Syntax 91)
     × Fails (codes "`timescale 1ps/1ps\nprimitive p (q, a);\n  output q;\n  input a;\n  table 0 : 1; xendtabl") (fault.Syntax 78)
-unfolding verilog_words is_verilog_word verilog_text text.file text.prelude text.next_module text.primitives_and_module udp.primitive udp.table udp.row udp.state_and_next udp.output_level udp.pair udp.declared_inputs udp.declared_input udp.register udp.declared_state udp.declared_output udp.header udp.next_input udp.more_inputs udp.next_entry udp.more_entries udp.next_row m.header m.next_port m.more_ports m.some_ports m.declared_inputs m.declared_wires m.notifier m.next_input m.more_inputs m.instances m.declared_input m.declared_output m.declared_outputs m.declared_wire m.declared_notifier m.declarations m.call m.constant block.if_gate block.ifnone_gate block.path block.an_event block.an_edge_event block.condition_name block.check_end block.ordered_check block.turned_check block.width_check block.second_period block.period_check block.check block.block
+unfolding verilog_words is_verilog_word verilog_text text.file text.prelude text.next_module text.primitives_and_module udp.primitive udp.table udp.row udp.state_and_next udp.output_level udp.pair udp.declared_inputs udp.declared_input udp.register udp.declared_state udp.declared_output udp.header udp.next_input udp.more_inputs udp.next_entry udp.more_entries udp.next_row m.header m.next_port m.more_ports m.some_ports m.declared_inputs m.declared_wires m.notifier m.next_input m.more_inputs m.instances m.declared_input m.declared_output m.declared_outputs m.declared_wire m.declared_notifier m.declarations m.call m.constant block.a_number block.an_input block.an_output block.a_condition block.path_gate block.next_path block.paths block.any_edge block.condition block.same_condition block.same_number block.check_of_kind block.next_check block.checks block.specify block.if_gate block.ifnone_gate block.path block.an_event block.an_edge_event block.condition_name block.check_end block.ordered_check block.turned_check block.width_check block.second_period block.period_check block.check block.block
 rows = (refl, refl, refl, refl, refl, refl, refl, refl, refl, refl, refl, refl, refl, refl)
 
 -- Headers and declarations: of a primitive, and of a module.
@@ -54,7 +54,7 @@ headers :
     × Fails (codes "`timescale 1ps/1ps\nmodule M (); endmodule module M ();") (fault.Twice 49)
     × Fails (codes "`timescale 1ps/1ps\nprimitive inv (q, a);\n  output q;\n  input a;\n  table\n    0 : 1;\n    1 : 0;\n  endtable\nendprimitive\nmodule inv ();") (fault.Twice 125)
     × Fails (codes "`timescale 1ps/1ps\nmodule wire ();") (fault.Syntax 26)
-unfolding verilog_words is_verilog_word verilog_text text.file text.prelude text.next_module text.primitives_and_module udp.primitive udp.table udp.row udp.state_and_next udp.output_level udp.pair udp.declared_inputs udp.declared_input udp.register udp.declared_state udp.declared_output udp.header udp.next_input udp.more_inputs udp.next_entry udp.more_entries udp.next_row m.header m.next_port m.more_ports m.some_ports m.declared_inputs m.declared_wires m.notifier m.next_input m.more_inputs m.instances m.declared_input m.declared_output m.declared_outputs m.declared_wire m.declared_notifier m.declarations m.call m.constant block.if_gate block.ifnone_gate block.path block.an_event block.an_edge_event block.condition_name block.check_end block.ordered_check block.turned_check block.width_check block.second_period block.period_check block.check block.block
+unfolding verilog_words is_verilog_word verilog_text text.file text.prelude text.next_module text.primitives_and_module udp.primitive udp.table udp.row udp.state_and_next udp.output_level udp.pair udp.declared_inputs udp.declared_input udp.register udp.declared_state udp.declared_output udp.header udp.next_input udp.more_inputs udp.next_entry udp.more_entries udp.next_row m.header m.next_port m.more_ports m.some_ports m.declared_inputs m.declared_wires m.notifier m.next_input m.more_inputs m.instances m.declared_input m.declared_output m.declared_outputs m.declared_wire m.declared_notifier m.declarations m.call m.constant block.a_number block.an_input block.an_output block.a_condition block.path_gate block.next_path block.paths block.any_edge block.condition block.same_condition block.same_number block.check_of_kind block.next_check block.checks block.specify block.if_gate block.ifnone_gate block.path block.an_event block.an_edge_event block.condition_name block.check_end block.ordered_check block.turned_check block.width_check block.second_period block.period_check block.check block.block
 headers = (refl, refl, refl, refl, refl, refl, refl, refl, refl, refl, refl, refl, refl, refl, refl, refl, refl, refl, refl, refl)
 
 -- Instances: which primitives and nets may stand where, and what drives a net.
@@ -77,7 +77,7 @@ instances :
     × Fails (codes "`timescale 1ps/1ps\nprimitive keep (q, c, d, n);\n  output q;\n  reg q;\n  input c;\n  input d;\n  input n;\n  table\n    (01) 1 ? : ? : 1;\n  endtable\nendprimitive\nprimitive inv (q, a);\n  output q;\n  input a;\n  table\n    0 : 1;\n    1 : 0;\n  endtable\nendprimitive\nmodule M (C, D, Q);\n  input C;\n  input D;\n  output Q;\n  wire s;\n  reg n;\n  keep (s, C, D, n); inv (Q, n);") (fault.Undefined 357)
     × Fails (codes "`timescale 1ps/1ps\nprimitive keep (q, c, d, n);\n  output q;\n  reg q;\n  input c;\n  input d;\n  input n;\n  table\n    (01) 1 ? : ? : 1;\n  endtable\nendprimitive\nprimitive inv (q, a);\n  output q;\n  input a;\n  table\n    0 : 1;\n    1 : 0;\n  endtable\nendprimitive\nmodule M (C, D, Q);\n  input C;\n  input D;\n  output Q;\n  wire s;\n  reg n;\n  keep (s, C, D, n); inv (Q, s); specify $setup(D, C &&& s, 1, n);") (fault.Undefined 385)
     × Fails (codes "`timescale 1ps/1ps\nprimitive keep (q, c, d, n);\n  output q;\n  reg q;\n  input c;\n  input d;\n  input n;\n  table\n    (01) 1 ? : ? : 1;\n  endtable\nendprimitive\nprimitive inv (q, a);\n  output q;\n  input a;\n  table\n    0 : 1;\n    1 : 0;\n  endtable\nendprimitive\nmodule M (C, D, Q);\n  input C;\n  input D;\n  output Q;\n  wire s;\n  reg n;\n  keep (s, C, D, n); endmodule") (fault.Undriven 349)
-unfolding verilog_words is_verilog_word verilog_text text.file text.prelude text.next_module text.primitives_and_module udp.primitive udp.table udp.row udp.state_and_next udp.output_level udp.pair udp.declared_inputs udp.declared_input udp.register udp.declared_state udp.declared_output udp.header udp.next_input udp.more_inputs udp.next_entry udp.more_entries udp.next_row m.header m.next_port m.more_ports m.some_ports m.declared_inputs m.declared_wires m.notifier m.next_input m.more_inputs m.instances m.declared_input m.declared_output m.declared_outputs m.declared_wire m.declared_notifier m.declarations m.call m.constant block.if_gate block.ifnone_gate block.path block.an_event block.an_edge_event block.condition_name block.check_end block.ordered_check block.turned_check block.width_check block.second_period block.period_check block.check block.block
+unfolding verilog_words is_verilog_word verilog_text text.file text.prelude text.next_module text.primitives_and_module udp.primitive udp.table udp.row udp.state_and_next udp.output_level udp.pair udp.declared_inputs udp.declared_input udp.register udp.declared_state udp.declared_output udp.header udp.next_input udp.more_inputs udp.next_entry udp.more_entries udp.next_row m.header m.next_port m.more_ports m.some_ports m.declared_inputs m.declared_wires m.notifier m.next_input m.more_inputs m.instances m.declared_input m.declared_output m.declared_outputs m.declared_wire m.declared_notifier m.declarations m.call m.constant block.a_number block.an_input block.an_output block.a_condition block.path_gate block.next_path block.paths block.any_edge block.condition block.same_condition block.same_number block.check_of_kind block.next_check block.checks block.specify block.if_gate block.ifnone_gate block.path block.an_event block.an_edge_event block.condition_name block.check_end block.ordered_check block.turned_check block.width_check block.second_period block.period_check block.check block.block
 instances = (refl, refl, refl, refl, refl, refl, refl, refl, refl, refl, refl, refl, refl, refl, refl, refl, refl, refl)
 
 -- Specify blocks.
@@ -94,7 +94,7 @@ blocks :
     × Fails (codes "`timescale 1ps/1ps\nprimitive keep (q, c, d, n);\n  output q;\n  reg q;\n  input c;\n  input d;\n  input n;\n  table\n    (01) 1 ? : ? : 1;\n  endtable\nendprimitive\nprimitive inv (q, a);\n  output q;\n  input a;\n  table\n    0 : 1;\n    1 : 0;\n  endtable\nendprimitive\nmodule M (C, D, Q);\n  input C;\n  input D;\n  output Q;\n  wire s;\n  reg n;\n  keep (s, C, D, n);\n  inv (Q, s);\n  specify $period(posedge C, 10, n); $period(negedge C, 11, n);") (fault.Unequal 419)
     × Fails (codes "`timescale 1ps/1ps\nprimitive keep (q, c, d, n);\n  output q;\n  reg q;\n  input c;\n  input d;\n  input n;\n  table\n    (01) 1 ? : ? : 1;\n  endtable\nendprimitive\nprimitive inv (q, a);\n  output q;\n  input a;\n  table\n    0 : 1;\n    1 : 0;\n  endtable\nendprimitive\nmodule M (C, D, Q);\n  input C;\n  input D;\n  output Q;\n  wire s;\n  reg n;\n  keep (s, C, D, n);\n  inv (Q, s);\n  specify $period(posedge C, 10, n); $period(negedge D, 10, n);") (fault.Undefined 416)
     × Fails (codes "`timescale 1ps/1ps\nprimitive keep (q, c, d, n);\n  output q;\n  reg q;\n  input c;\n  input d;\n  input n;\n  table\n    (01) 1 ? : ? : 1;\n  endtable\nendprimitive\nprimitive inv (q, a);\n  output q;\n  input a;\n  table\n    0 : 1;\n    1 : 0;\n  endtable\nendprimitive\nmodule M (C, D, Q);\n  input C;\n  input D;\n  output Q;\n  wire s;\n  reg n;\n  keep (s, C, D, n);\n  inv (Q, s);\n  specify $period(posedge C, 10, n); $hold(C, D, 10, n);") (fault.Syntax 400)
-unfolding verilog_words is_verilog_word verilog_text text.file text.prelude text.next_module text.primitives_and_module udp.primitive udp.table udp.row udp.state_and_next udp.output_level udp.pair udp.declared_inputs udp.declared_input udp.register udp.declared_state udp.declared_output udp.header udp.next_input udp.more_inputs udp.next_entry udp.more_entries udp.next_row m.header m.next_port m.more_ports m.some_ports m.declared_inputs m.declared_wires m.notifier m.next_input m.more_inputs m.instances m.declared_input m.declared_output m.declared_outputs m.declared_wire m.declared_notifier m.declarations m.call m.constant block.if_gate block.ifnone_gate block.path block.an_event block.an_edge_event block.condition_name block.check_end block.ordered_check block.turned_check block.width_check block.second_period block.period_check block.check block.block
+unfolding verilog_words is_verilog_word verilog_text text.file text.prelude text.next_module text.primitives_and_module udp.primitive udp.table udp.row udp.state_and_next udp.output_level udp.pair udp.declared_inputs udp.declared_input udp.register udp.declared_state udp.declared_output udp.header udp.next_input udp.more_inputs udp.next_entry udp.more_entries udp.next_row m.header m.next_port m.more_ports m.some_ports m.declared_inputs m.declared_wires m.notifier m.next_input m.more_inputs m.instances m.declared_input m.declared_output m.declared_outputs m.declared_wire m.declared_notifier m.declarations m.call m.constant block.a_number block.an_input block.an_output block.a_condition block.path_gate block.next_path block.paths block.any_edge block.condition block.same_condition block.same_number block.check_of_kind block.next_check block.checks block.specify block.if_gate block.ifnone_gate block.path block.an_event block.an_edge_event block.condition_name block.check_end block.ordered_check block.turned_check block.width_check block.second_period block.period_check block.check block.block
 blocks = (refl, refl, refl, refl, refl, refl, refl, refl, refl, refl, refl, refl)
 
 -- The first fault decides, and tokens that stop.
@@ -107,5 +107,5 @@ tokens :
     × Fails (codes "`timescale 1ps/1ps\nprimitive inv (q, a);\n  output q;\n  input a;\n  table\n    0 : 1;\n    1 : 0;\n  endtable\nendprimitive\n") (fault.Syntax 118)
     × Fails (codes "") (fault.Syntax 0)
     × Fails (codes "`timescale 1ps/1ps\nprimitive inv (q, a);\n  output q;\n  input a;\n  table\n    0 : 1;\n    1 : 0;\n  endtable\nendprimitive\nmodule M (A, Y); input A; output Y; inv (Y, A); endmodule ?") (fault.Lexical 176)
-unfolding verilog_words is_verilog_word verilog_text text.file text.prelude text.next_module text.primitives_and_module udp.primitive udp.table udp.row udp.state_and_next udp.output_level udp.pair udp.declared_inputs udp.declared_input udp.register udp.declared_state udp.declared_output udp.header udp.next_input udp.more_inputs udp.next_entry udp.more_entries udp.next_row m.header m.next_port m.more_ports m.some_ports m.declared_inputs m.declared_wires m.notifier m.next_input m.more_inputs m.instances m.declared_input m.declared_output m.declared_outputs m.declared_wire m.declared_notifier m.declarations m.call m.constant block.if_gate block.ifnone_gate block.path block.an_event block.an_edge_event block.condition_name block.check_end block.ordered_check block.turned_check block.width_check block.second_period block.period_check block.check block.block
+unfolding verilog_words is_verilog_word verilog_text text.file text.prelude text.next_module text.primitives_and_module udp.primitive udp.table udp.row udp.state_and_next udp.output_level udp.pair udp.declared_inputs udp.declared_input udp.register udp.declared_state udp.declared_output udp.header udp.next_input udp.more_inputs udp.next_entry udp.more_entries udp.next_row m.header m.next_port m.more_ports m.some_ports m.declared_inputs m.declared_wires m.notifier m.next_input m.more_inputs m.instances m.declared_input m.declared_output m.declared_outputs m.declared_wire m.declared_notifier m.declarations m.call m.constant block.a_number block.an_input block.an_output block.a_condition block.path_gate block.next_path block.paths block.any_edge block.condition block.same_condition block.same_number block.check_of_kind block.next_check block.checks block.specify block.if_gate block.ifnone_gate block.path block.an_event block.an_edge_event block.condition_name block.check_end block.ordered_check block.turned_check block.width_check block.second_period block.period_check block.check block.block
 tokens = (refl, refl, refl, refl, refl, refl, refl, refl)

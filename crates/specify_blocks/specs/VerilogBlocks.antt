@@ -30,7 +30,7 @@ number_after n (d ∷ ds) = number_after (n * 10 + (d - 48)) ds
 abbrev pub number_of : List ℕ → Option ℕ
 number_of x = if is_number x && nat_le (length x) 15 then Some (number_after 0 x) else None
 
-abbrev pub a_number : Grammar ℕ
+unfoldable pub a_number : Grammar ℕ
 a_number = valued number_of
 
 -- keeps what the test allows
@@ -42,15 +42,15 @@ abbrev pub port_of : VModule → List ℕ → Option ℕ
 port_of m x = position (λ (port : VPort). bytes_eq x port.name) m.ports
 
 -- the name of an input
-abbrev pub an_input : VModule → Grammar ℕ
+unfoldable pub an_input : VModule → Grammar ℕ
 an_input m = known (λ x. kept (is_input_port m.ports) (port_of m x))
 
 -- the name of an output
-abbrev pub an_output : VModule → Grammar ℕ
+unfoldable pub an_output : VModule → Grammar ℕ
 an_output m = known (λ x. kept (is_output_port m.ports) (port_of m x))
 
 -- the name of a condition: a wire that an instance without a state drives
-abbrev pub a_condition : VModule → Grammar ℕ
+unfoldable pub a_condition : VModule → Grammar ℕ
 a_condition m = known (λ x. kept (is_value m m.instances) (position (bytes_eq x) m.wires))
 
 -- the first token of a path: "if", "ifnone" or "("
@@ -78,7 +78,7 @@ gate_by m true is_ifnone = if_gate m
 gate_by m false true = ifnone_gate
 gate_by m false false = r.Gives gate.Always
 
-abbrev pub path_gate : VModule → List ℕ → Grammar Gate
+unfoldable pub path_gate : VModule → List ℕ → Grammar Gate
 path_gate m x = gate_by m (bytes_eq x (codes "if")) (bytes_eq x (codes "ifnone"))
 
 -- [ "if" "(" NAME ")" | "ifnone" ] "(" NAME "=>" NAME ")" "=" "(" NUM "," NUM ")" ";" behind its first token: a parallel path from an
@@ -99,13 +99,13 @@ path m x = do
   _ ← expect (codes ";")
   r.Gives (record { from = from; to = to; rise = rise; fall = fall; gate = when })
 
-abbrev pub next_path : VModule → List VPath → List ℕ → Grammar (List VPath)
+unfoldable pub next_path : VModule → List VPath → List ℕ → Grammar (List VPath)
 next_path m paths x = do
   another ← path m x
   r.Gives (paths ++ another ∷ [])
 
 -- { path }
-abbrev pub paths : VModule → Grammar (List VPath)
+unfoldable pub paths : VModule → Grammar (List VPath)
 paths m = r.Many (λ _. begins_by is_path_start) (next_path m) []
 
 -- the events that a word before a port allows
@@ -114,7 +114,7 @@ edge_of x =
     if bytes_eq x (codes "posedge") then Some edge.Rise else (if bytes_eq x (codes "negedge") then Some edge.Fall else None)
 
 -- [ "posedge" | "negedge" ]
-abbrev pub any_edge : Grammar Edge
+unfoldable pub any_edge : Grammar Edge
 any_edge = r.Choice (begins_as edge_of) (λ e. r.Gives e) (r.Gives edge.Any)
 
 -- [ "posedge" | "negedge" ] NAME (15.3.1)
@@ -138,7 +138,7 @@ condition_name m = do
   r.Gives (Some w)
 
 -- [ "&&&" NAME ] (15.5)
-abbrev pub condition : VModule → Grammar (Option ℕ)
+unfoldable pub condition : VModule → Grammar (Option ℕ)
 condition m = r.Choice (begins (codes "&&&")) (λ _. condition_name m) (r.Gives None)
 
 -- "," NAME ")" ";": the register of the module
@@ -199,7 +199,7 @@ width_check m = do
   })
 
 -- the same condition as before, where there was one
-abbrev pub same_condition : VModule → Option ℕ → Grammar (Unit {0})
+unfoldable pub same_condition : VModule → Option ℕ → Grammar (Unit {0})
 same_condition m None = r.Gives tt
 same_condition m (Some w) = expect (codes "&&&") >>= λ _. this_name (slice_get m.wires w)
 
@@ -208,7 +208,7 @@ equal_to limit None = Misfit Syntax
 equal_to limit (Some n) = if n == limit then Fits tt else Foul Unequal tt
 
 -- the same number as before
-abbrev pub same_number : ℕ → Grammar (Unit {0})
+unfoldable pub same_number : ℕ → Grammar (Unit {0})
 same_number limit = r.Token (λ x. equal_to limit (number_of x)) Syntax
 
 -- the second line of a period: of the falls of the same port, with the same condition and the same limit
@@ -253,7 +253,7 @@ check_of x =
     else None)))))
 
 -- what stands behind the word of a check and "("
-abbrev pub check_of_kind : VModule → CheckKind → Grammar VCheck
+unfoldable pub check_of_kind : VModule → CheckKind → Grammar VCheck
 check_of_kind m check_kind.Setup = ordered_check check_kind.Setup m
 check_of_kind m check_kind.Hold = ordered_check check_kind.Hold m
 check_of_kind m check_kind.Recovery = ordered_check check_kind.Recovery m
@@ -267,13 +267,13 @@ check m kind = do
   _ ← expect (codes "(")
   check_of_kind m kind
 
-abbrev pub next_check : VModule → List VCheck → CheckKind → Grammar (List VCheck)
+unfoldable pub next_check : VModule → List VCheck → CheckKind → Grammar (List VCheck)
 next_check m checks kind = do
   another ← check m kind
   r.Gives (checks ++ another ∷ [])
 
 -- { check }
-abbrev pub checks : VModule → Grammar (List VCheck)
+unfoldable pub checks : VModule → Grammar (List VCheck)
 checks m = r.Many (λ _. begins_as check_of) (next_check m) []
 
 -- the module with these paths and checks
@@ -299,5 +299,5 @@ block m = do
   r.Gives (with_block m some_paths some_checks)
 
 -- [ "specify" { path } { check } "endspecify" ]
-abbrev pub specify : VModule → Grammar VModule
+unfoldable pub specify : VModule → Grammar VModule
 specify m = r.Choice (begins (codes "specify")) (λ _. block m) (r.Gives m)

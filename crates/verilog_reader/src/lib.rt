@@ -2,6 +2,7 @@
 #![tactic(auto)]
 
 mod answer;
+mod checks;
 mod cursor;
 mod declarations;
 mod fronts;

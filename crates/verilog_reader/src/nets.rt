@@ -12,10 +12,10 @@ use sqlite_items::Items;
 use udp_tables::{Udp, VPort};
 
 /// The number of the port with this name.
-pub fn port_of(module: &VModule, name: &[u8]) -> Option<usize>
-    ensures { result ≡ port_of module.now name.now }
+pub fn port_of(model: &VModule, name: &[u8]) -> Option<usize>
+    ensures { result ≡ port_of model.now name.now }
 {
-    module
+    model
         .ports
         .as_slice()
         .iter()
@@ -60,21 +60,21 @@ pub fn is_sequential(udps: &[Udp], udp: usize) -> bool
 }
 
 /// The number of the input with this name.
-pub fn input_of(module: &VModule, name: &[u8]) -> Option<usize>
-    ensures { result ≡ kept (spec.is_input_port module.now.ports) (port_of module.now name.now) }
+pub fn input_of(model: &VModule, name: &[u8]) -> Option<usize>
+    ensures { result ≡ kept (spec.is_input_port model.now.ports) (port_of model.now name.now) }
 {
-    match port_of(module, name) {
-        Some(port) if is_input_port(module.ports.as_slice(), port) => Some(port),
+    match port_of(model, name) {
+        Some(port) if is_input_port(model.ports.as_slice(), port) => Some(port),
         _ => None,
     }
 }
 
 /// The number of the output with this name.
-pub fn output_of(module: &VModule, name: &[u8]) -> Option<usize>
-    ensures { result ≡ kept (spec.is_output_port module.now.ports) (port_of module.now name.now) }
+pub fn output_of(model: &VModule, name: &[u8]) -> Option<usize>
+    ensures { result ≡ kept (spec.is_output_port model.now.ports) (port_of model.now name.now) }
 {
-    match port_of(module, name) {
-        Some(port) if is_output_port(module.ports.as_slice(), port) => Some(port),
+    match port_of(model, name) {
+        Some(port) if is_output_port(model.ports.as_slice(), port) => Some(port),
         _ => None,
     }
 }
@@ -112,11 +112,11 @@ pub fn same_net(net: VNet, other: VNet) -> bool
 }
 
 /// Whether an instance without a state drives this wire.
-pub fn is_value(module: &VModule, wire: usize) -> bool
-    ensures { result ≡ spec.is_value module.now module.now.instances wire }
+pub fn is_value(model: &VModule, wire: usize) -> bool
+    ensures { result ≡ spec.is_value model.now model.now.instances wire }
 {
-    for instance in module.instances.as_slice() {
-        if !has_state(module.udps.as_slice(), instance)
+    for instance in model.instances.as_slice() {
+        if !has_state(model.udps.as_slice(), instance)
             && same_net(net_driven(instance), VNet::Wire(wire))
         {
             return true;
@@ -126,11 +126,11 @@ pub fn is_value(module: &VModule, wire: usize) -> bool
 }
 
 /// The number of the condition with this name: a wire that an instance without a state drives.
-pub fn condition_of(module: &VModule, name: &[u8]) -> Option<usize>
-    ensures { result ≡ kept (spec.is_value module.now module.now.instances) (position (bytes_eq name.now) module.now.wires) }
+pub fn condition_of(model: &VModule, name: &[u8]) -> Option<usize>
+    ensures { result ≡ kept (spec.is_value model.now model.now.instances) (position (bytes_eq name.now) model.now.wires) }
 {
-    match wire_of(module.wires.as_slice(), name) {
-        Some(wire) if is_value(module, wire) => Some(wire),
+    match wire_of(model.wires.as_slice(), name) {
+        Some(wire) if is_value(model, wire) => Some(wire),
         _ => None,
     }
 }

@@ -65,7 +65,7 @@ pub fn number_of(token: &[u8]) -> Option<u64>
 
 impl Cursor<'_> {
     /// The number that stands next.
-    #[tactic(auto, using(crate::proofs::Values::valued_some, crate::proofs::Values::valued_none))]
+    #[tactic(auto, using(crate::proofs::Values::valued_some, crate::proofs::Values::valued_none), unfolding(specify_blocks::specs::VerilogBlocks::a_number))]
     pub fn number(&mut self) -> Result<u64, Stop>
         ensures { Reads (read spec.a_number self.old) result self.new }
     {

@@ -39,36 +39,39 @@ impl Cursor<'_> {
     }
 
     /// The name of an input.
-    pub fn an_input(&mut self, module: &VModule) -> Result<usize, Stop>
-        ensures { Reads (read (spec.an_input module.now) self.old) result self.new }
+    #[tactic(auto, unfolding(specify_blocks::specs::VerilogBlocks::an_input))]
+    pub fn input_name(&mut self, model: &VModule) -> Result<usize, Stop>
+        ensures { Reads (read (spec.an_input model.now) self.old) result self.new }
     {
-        let found = input_of(module, self.bytes());
+        let found = input_of(model, self.bytes());
         self.known_number(found)
     }
 
     /// The name of an output.
-    fn an_output(&mut self, module: &VModule) -> Result<usize, Stop>
-        ensures { Reads (read (spec.an_output module.now) self.old) result self.new }
+    #[tactic(auto, unfolding(specify_blocks::specs::VerilogBlocks::an_output))]
+    fn output_name(&mut self, model: &VModule) -> Result<usize, Stop>
+        ensures { Reads (read (spec.an_output model.now) self.old) result self.new }
     {
-        let found = output_of(module, self.bytes());
+        let found = output_of(model, self.bytes());
         self.known_number(found)
     }
 
     /// The name of a condition.
-    pub fn a_condition(&mut self, module: &VModule) -> Result<usize, Stop>
-        ensures { Reads (read (spec.a_condition module.now) self.old) result self.new }
+    #[tactic(auto, unfolding(specify_blocks::specs::VerilogBlocks::a_condition))]
+    pub fn condition_name(&mut self, model: &VModule) -> Result<usize, Stop>
+        ensures { Reads (read (spec.a_condition model.now) self.old) result self.new }
     {
-        let found = condition_of(module, self.bytes());
+        let found = condition_of(model, self.bytes());
         self.known_number(found)
     }
 
     /// What stands behind `if` and before the ports of a path.
     #[tactic(auto, unfolding(specify_blocks::specs::VerilogBlocks::if_gate))]
-    fn if_gate(&mut self, module: &VModule) -> Result<Gate, Stop>
-        ensures { Reads (read (spec.if_gate module.now) self.old) result self.new }
+    fn if_gate(&mut self, model: &VModule) -> Result<Gate, Stop>
+        ensures { Reads (read (spec.if_gate model.now) self.old) result self.new }
     {
         self.expect(b"(")?;
-        let wire = self.a_condition(module)?;
+        let wire = self.condition_name(model)?;
         self.expect(b")")?;
         self.expect(b"(")?;
         Ok(Gate::If(wire))
@@ -84,13 +87,14 @@ impl Cursor<'_> {
     }
 
     /// What stands before the ports of a path, of which the first token is next.
-    fn path_gate(&mut self, module: &VModule) -> Result<Gate, Stop>
-        ensures { Reads (read (spec.path_gate module.now (next_bytes self.old)) (rest self.old)) result self.new }
+    #[tactic(auto, unfolding(specify_blocks::specs::VerilogBlocks::path_gate))]
+    fn path_gate(&mut self, model: &VModule) -> Result<Gate, Stop>
+        ensures { Reads (read (spec.path_gate model.now (next_bytes self.old)) (rest self.old)) result self.new }
     {
         let first = self.bytes();
         self.skip();
         if first == b"if".as_slice() {
-            self.if_gate(module)
+            self.if_gate(model)
         } else if first == b"ifnone".as_slice() {
             self.ifnone_gate()
         } else {
@@ -100,13 +104,13 @@ impl Cursor<'_> {
 
     /// A path, of which the first token is next.
     #[tactic(auto, unfolding(specify_blocks::specs::VerilogBlocks::path))]
-    fn path(&mut self, module: &VModule) -> Result<VPath, Stop>
-        ensures { Reads (read (spec.path module.now (next_bytes self.old)) (rest self.old)) result self.new }
+    fn path(&mut self, model: &VModule) -> Result<VPath, Stop>
+        ensures { Reads (read (spec.path model.now (next_bytes self.old)) (rest self.old)) result self.new }
     {
-        let gate = self.path_gate(module)?;
-        let from = self.an_input(module)?;
+        let gate = self.path_gate(model)?;
+        let from = self.input_name(model)?;
         self.expect(b"=>")?;
-        let to = self.an_output(module)?;
+        let to = self.output_name(model)?;
         self.expect(b")")?;
         self.expect(b"=")?;
         self.expect(b"(")?;
@@ -125,16 +129,16 @@ impl Cursor<'_> {
     }
 
     /// The paths of a specify block.
-    #[tactic(auto, using(crate::proofs::Repeats::turn, crate::proofs::Choices::choose_by, crate::proofs::Choices::choose_not_by))]
-    pub fn paths(&mut self, alloc: Global, module: &VModule) -> Result<Items<VPath>, Stop>
-        ensures { Reads (read (spec.paths module.now) self.old) result self.new }
+    #[tactic(auto, using(crate::proofs::Repeats::turn, crate::proofs::Choices::choose_by, crate::proofs::Choices::choose_not_by), unfolding(specify_blocks::specs::VerilogBlocks::paths, specify_blocks::specs::VerilogBlocks::next_path))]
+    pub fn paths(&mut self, alloc: Global, model: &VModule) -> Result<Items<VPath>, Stop>
+        ensures { Reads (read (spec.paths model.now) self.old) result self.new }
     {
         let mut paths = Items::new(alloc);
         for _turn in 0..self.left() {
             if !is_path_start(self.bytes()) {
                 break;
             }
-            paths.push(self.path(module)?)?;
+            paths.push(self.path(model)?)?;
         }
         Ok(paths)
     }

@@ -4,4 +4,4 @@ use Rattle.verilog_reader.proofs.nets.is_value.Given as goal
 
 abbrev pub invariant-loop-instance : goal.invariant-loop-instance
 invariant-loop-instance l =
-    is_value l.module (drop l.instance-index l.module.instances) l.wire ≡ is_value l.module l.module.instances l.wire
+    is_value l.model (drop l.instance-index l.model.instances) l.wire ≡ is_value l.model l.model.instances l.wire

@@ -167,7 +167,7 @@ may_drive m false n = is_driven m n
 abbrev pub is_driven_already : VModule → VNet → Bool
 is_driven_already m n = nat_lt 0 (drivers m.instances n)
 
-abbrev pub driven_terminal : VModule → Bool → Grammar VNet
+unfoldable pub driven_terminal : VModule → Bool → Grammar VNet
 driven_terminal m sequential = terminal m (may_drive m sequential) (is_driven_already m)
 
 -- a net that may feed an instance with a state or without one, and is none of its terminals
@@ -175,7 +175,7 @@ abbrev pub may_feed : VModule → Bool → VNet → Bool
 may_feed m true n = feeds_state m n
 may_feed m false n = feeds_value m m.instances n
 
-abbrev pub feeding_terminal : VModule → Bool → List VNet → Grammar VNet
+unfoldable pub feeding_terminal : VModule → Bool → List VNet → Grammar VNet
 feeding_terminal m sequential terminals = terminal m (may_feed m sequential) (λ n. list_any (same_net n) terminals)
 
 -- NAME behind ",": one more input of an instance that drives this net
@@ -252,7 +252,7 @@ one_instance m (Some j) = call m j
 
 -- { instance }
 unfoldable pub instances : VModule → Grammar VModule
-instances m = r.Many (λ m x. begins_instance m.udps x) one_instance m
+instances m = r.Many (λ (m : VModule). begins_instance m.udps) one_instance m
 
 -- the outputs among ports, of which the first has this number
 abbrev pub output_nets : ℕ → List VPort → List VNet

@@ -11,3 +11,4 @@ pub mod NamedNets
 pub mod DigitLemmas
 pub mod Values
 pub mod Choices
+pub mod Begun

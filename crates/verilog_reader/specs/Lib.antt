@@ -4,3 +4,4 @@ pub mod Next
 pub mod Reading
 pub mod Headers
 pub mod Digits
+pub mod Begun

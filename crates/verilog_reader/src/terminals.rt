@@ -1,6 +1,6 @@
 //! What the terminals of an instance may be. (IEEE 1364-2005, 8.6; the restrictions on places are this project's.)
 
-ghost use Rattle.std.specs.Prelude.{◌≡◌, ◌∷◌, ◌++◌};
+ghost use Rattle.std.specs.Prelude.{◌≡◌, ◌==◌, ◌∷◌, ◌++◌, length};
 ghost use Rattle.std.specs.List.{list_any, list_all, position};
 ghost use Rattle.std.specs.Str.{bytes_eq};
 
@@ -97,13 +97,20 @@ pub fn is_terminal(output: VNet, inputs: &[VNet], net: VNet) -> bool
 }
 
 /// How many inputs the primitive with this number has.
-pub fn input_count(udps: &[Udp], udp: usize) -> usize
+fn input_count(udps: &[Udp], udp: usize) -> usize
     ensures { result ≡ spec.input_count udps.now udp }
 {
     match udps.get(udp) {
         Some(udp) => udp.inputs.len(),
         None => 0,
     }
+}
+
+/// Whether there are as many inputs as the primitive with this number has.
+pub fn has_all_inputs(udps: &[Udp], udp: usize, inputs: &[VNet]) -> bool
+    ensures { result ≡ (length inputs.now == spec.input_count udps.now udp) }
+{
+    inputs.len() == input_count(udps, udp)
 }
 
 /// The number of the primitive of a name.

@@ -67,7 +67,7 @@ faults-of-rows :
     × Fails rows-of-one-with-state (codes "0 : b : ?;") fault.Syntax 8
     × Fails rows-of-one-with-state (codes "0 : B : -; xy") fault.Syntax 12
     × Fails rows-of-one (codes "0 : 1; xendtabl") fault.Syntax 8
-unfolding verilog_words is_verilog_word verilog_text text.file text.prelude text.next_module text.primitives_and_module udp.primitive udp.table udp.row udp.state_and_next udp.output_level udp.pair udp.declared_inputs udp.declared_input udp.register udp.declared_state udp.declared_output udp.header udp.next_input udp.more_inputs udp.next_entry udp.more_entries udp.next_row m.header m.next_port m.more_ports m.some_ports m.declared_inputs m.declared_wires m.notifier m.driven_terminal m.feeding_terminal m.next_input m.more_inputs m.instances m.declared_input m.declared_output m.declared_outputs m.declared_wire m.declared_notifier m.declarations m.call m.constant block.a_number block.an_input block.an_output block.a_condition block.path_gate block.next_path block.paths block.any_edge block.condition block.same_condition block.same_number block.check_of_kind block.next_check block.checks block.specify block.if_gate block.ifnone_gate block.path block.an_event block.an_edge_event block.condition_name block.check_end block.ordered_check block.turned_check block.width_check block.second_period block.period_check block.check block.block
+unfolding verilog_words is_verilog_word verilog_text text.file text.prelude text.designs text.one_module text.next_primitive text.more_primitives text.next_module text.primitives_and_module udp.primitive udp.table udp.row udp.state_and_next udp.output_level udp.pair udp.declared_inputs udp.declared_input udp.register udp.declared_state udp.declared_output udp.header udp.next_input udp.more_inputs udp.next_entry udp.more_entries udp.next_row m.header m.next_port m.more_ports m.some_ports m.declared_inputs m.declared_wires m.notifier m.driven_terminal m.feeding_terminal m.next_input m.more_inputs m.instances m.declared_input m.declared_output m.declared_outputs m.declared_wire m.declared_notifier m.declarations m.call m.constant block.a_number block.an_input block.an_output block.a_condition block.path_gate block.next_path block.paths block.any_edge block.condition block.same_condition block.same_number block.check_of_kind block.next_check block.checks block.specify block.if_gate block.ifnone_gate block.path block.an_event block.an_edge_event block.condition_name block.check_end block.ordered_check block.turned_check block.width_check block.second_period block.period_check block.check block.block
 faults-of-rows = (refl, refl, refl, refl, refl, refl, refl, refl, refl, refl, refl, refl, refl, refl)
 
 -- Headers and declarations: of a primitive, and of a module.
@@ -92,7 +92,7 @@ faults-of-headers :
     × Fails behind-prelude (codes "module M (); endmodule module M ();") fault.Twice 30
     × Fails behind-inverter (codes "module inv ();") fault.Twice 7
     × Fails behind-prelude (codes "module wire ();") fault.Syntax 7
-unfolding verilog_words is_verilog_word verilog_text text.file text.prelude text.next_module text.primitives_and_module udp.primitive udp.table udp.row udp.state_and_next udp.output_level udp.pair udp.declared_inputs udp.declared_input udp.register udp.declared_state udp.declared_output udp.header udp.next_input udp.more_inputs udp.next_entry udp.more_entries udp.next_row m.header m.next_port m.more_ports m.some_ports m.declared_inputs m.declared_wires m.notifier m.driven_terminal m.feeding_terminal m.next_input m.more_inputs m.instances m.declared_input m.declared_output m.declared_outputs m.declared_wire m.declared_notifier m.declarations m.call m.constant block.a_number block.an_input block.an_output block.a_condition block.path_gate block.next_path block.paths block.any_edge block.condition block.same_condition block.same_number block.check_of_kind block.next_check block.checks block.specify block.if_gate block.ifnone_gate block.path block.an_event block.an_edge_event block.condition_name block.check_end block.ordered_check block.turned_check block.width_check block.second_period block.period_check block.check block.block
+unfolding verilog_words is_verilog_word verilog_text text.file text.prelude text.designs text.one_module text.next_primitive text.more_primitives text.next_module text.primitives_and_module udp.primitive udp.table udp.row udp.state_and_next udp.output_level udp.pair udp.declared_inputs udp.declared_input udp.register udp.declared_state udp.declared_output udp.header udp.next_input udp.more_inputs udp.next_entry udp.more_entries udp.next_row m.header m.next_port m.more_ports m.some_ports m.declared_inputs m.declared_wires m.notifier m.driven_terminal m.feeding_terminal m.next_input m.more_inputs m.instances m.declared_input m.declared_output m.declared_outputs m.declared_wire m.declared_notifier m.declarations m.call m.constant block.a_number block.an_input block.an_output block.a_condition block.path_gate block.next_path block.paths block.any_edge block.condition block.same_condition block.same_number block.check_of_kind block.next_check block.checks block.specify block.if_gate block.ifnone_gate block.path block.an_event block.an_edge_event block.condition_name block.check_end block.ordered_check block.turned_check block.width_check block.second_period block.period_check block.check block.block
 faults-of-headers = (refl, refl, refl, refl, refl, refl, refl, refl, refl, refl, refl, refl, refl, refl, refl, refl, refl, refl, refl, refl)
 
 -- Instances: which primitives and nets may stand where, and what drives a net.
@@ -115,7 +115,7 @@ faults-of-instances :
     × Fails in-module-with-state (codes "  keep (s, C, D, n); inv (Q, n);") fault.Undefined 29
     × Fails in-module-with-state (codes "  keep (s, C, D, n); inv (Q, s); specify $setup(D, C &&& s, 1, n);") fault.Undefined 57
     × Fails in-module-with-state (codes "  keep (s, C, D, n); endmodule") fault.Undriven 21
-unfolding verilog_words is_verilog_word verilog_text text.file text.prelude text.next_module text.primitives_and_module udp.primitive udp.table udp.row udp.state_and_next udp.output_level udp.pair udp.declared_inputs udp.declared_input udp.register udp.declared_state udp.declared_output udp.header udp.next_input udp.more_inputs udp.next_entry udp.more_entries udp.next_row m.header m.next_port m.more_ports m.some_ports m.declared_inputs m.declared_wires m.notifier m.driven_terminal m.feeding_terminal m.next_input m.more_inputs m.instances m.declared_input m.declared_output m.declared_outputs m.declared_wire m.declared_notifier m.declarations m.call m.constant block.a_number block.an_input block.an_output block.a_condition block.path_gate block.next_path block.paths block.any_edge block.condition block.same_condition block.same_number block.check_of_kind block.next_check block.checks block.specify block.if_gate block.ifnone_gate block.path block.an_event block.an_edge_event block.condition_name block.check_end block.ordered_check block.turned_check block.width_check block.second_period block.period_check block.check block.block
+unfolding verilog_words is_verilog_word verilog_text text.file text.prelude text.designs text.one_module text.next_primitive text.more_primitives text.next_module text.primitives_and_module udp.primitive udp.table udp.row udp.state_and_next udp.output_level udp.pair udp.declared_inputs udp.declared_input udp.register udp.declared_state udp.declared_output udp.header udp.next_input udp.more_inputs udp.next_entry udp.more_entries udp.next_row m.header m.next_port m.more_ports m.some_ports m.declared_inputs m.declared_wires m.notifier m.driven_terminal m.feeding_terminal m.next_input m.more_inputs m.instances m.declared_input m.declared_output m.declared_outputs m.declared_wire m.declared_notifier m.declarations m.call m.constant block.a_number block.an_input block.an_output block.a_condition block.path_gate block.next_path block.paths block.any_edge block.condition block.same_condition block.same_number block.check_of_kind block.next_check block.checks block.specify block.if_gate block.ifnone_gate block.path block.an_event block.an_edge_event block.condition_name block.check_end block.ordered_check block.turned_check block.width_check block.second_period block.period_check block.check block.block
 faults-of-instances = (refl, refl, refl, refl, refl, refl, refl, refl, refl, refl, refl, refl, refl, refl, refl, refl, refl, refl)
 
 -- Specify blocks.
@@ -132,7 +132,7 @@ faults-of-blocks :
     × Fails in-block-with-state (codes "$period(posedge C, 10, n); $period(negedge C, 11, n);") fault.Unequal 46
     × Fails in-block-with-state (codes "$period(posedge C, 10, n); $period(negedge D, 10, n);") fault.Undefined 43
     × Fails in-block-with-state (codes "$period(posedge C, 10, n); $hold(C, D, 10, n);") fault.Syntax 27
-unfolding verilog_words is_verilog_word verilog_text text.file text.prelude text.next_module text.primitives_and_module udp.primitive udp.table udp.row udp.state_and_next udp.output_level udp.pair udp.declared_inputs udp.declared_input udp.register udp.declared_state udp.declared_output udp.header udp.next_input udp.more_inputs udp.next_entry udp.more_entries udp.next_row m.header m.next_port m.more_ports m.some_ports m.declared_inputs m.declared_wires m.notifier m.driven_terminal m.feeding_terminal m.next_input m.more_inputs m.instances m.declared_input m.declared_output m.declared_outputs m.declared_wire m.declared_notifier m.declarations m.call m.constant block.a_number block.an_input block.an_output block.a_condition block.path_gate block.next_path block.paths block.any_edge block.condition block.same_condition block.same_number block.check_of_kind block.next_check block.checks block.specify block.if_gate block.ifnone_gate block.path block.an_event block.an_edge_event block.condition_name block.check_end block.ordered_check block.turned_check block.width_check block.second_period block.period_check block.check block.block
+unfolding verilog_words is_verilog_word verilog_text text.file text.prelude text.designs text.one_module text.next_primitive text.more_primitives text.next_module text.primitives_and_module udp.primitive udp.table udp.row udp.state_and_next udp.output_level udp.pair udp.declared_inputs udp.declared_input udp.register udp.declared_state udp.declared_output udp.header udp.next_input udp.more_inputs udp.next_entry udp.more_entries udp.next_row m.header m.next_port m.more_ports m.some_ports m.declared_inputs m.declared_wires m.notifier m.driven_terminal m.feeding_terminal m.next_input m.more_inputs m.instances m.declared_input m.declared_output m.declared_outputs m.declared_wire m.declared_notifier m.declarations m.call m.constant block.a_number block.an_input block.an_output block.a_condition block.path_gate block.next_path block.paths block.any_edge block.condition block.same_condition block.same_number block.check_of_kind block.next_check block.checks block.specify block.if_gate block.ifnone_gate block.path block.an_event block.an_edge_event block.condition_name block.check_end block.ordered_check block.turned_check block.width_check block.second_period block.period_check block.check block.block
 faults-of-blocks = (refl, refl, refl, refl, refl, refl, refl, refl, refl, refl, refl, refl)
 
 -- The first fault decides, and tokens that stop.
@@ -145,5 +145,5 @@ faults-of-tokens :
     × Fails behind-inverter (codes "") fault.Syntax 0
     × Fails [] (codes "") fault.Syntax 0
     × Fails behind-inverter (codes "module M (A, Y); input A; output Y; inv (Y, A); endmodule ?") fault.Lexical 58
-unfolding verilog_words is_verilog_word verilog_text text.file text.prelude text.next_module text.primitives_and_module udp.primitive udp.table udp.row udp.state_and_next udp.output_level udp.pair udp.declared_inputs udp.declared_input udp.register udp.declared_state udp.declared_output udp.header udp.next_input udp.more_inputs udp.next_entry udp.more_entries udp.next_row m.header m.next_port m.more_ports m.some_ports m.declared_inputs m.declared_wires m.notifier m.driven_terminal m.feeding_terminal m.next_input m.more_inputs m.instances m.declared_input m.declared_output m.declared_outputs m.declared_wire m.declared_notifier m.declarations m.call m.constant block.a_number block.an_input block.an_output block.a_condition block.path_gate block.next_path block.paths block.any_edge block.condition block.same_condition block.same_number block.check_of_kind block.next_check block.checks block.specify block.if_gate block.ifnone_gate block.path block.an_event block.an_edge_event block.condition_name block.check_end block.ordered_check block.turned_check block.width_check block.second_period block.period_check block.check block.block
+unfolding verilog_words is_verilog_word verilog_text text.file text.prelude text.designs text.one_module text.next_primitive text.more_primitives text.next_module text.primitives_and_module udp.primitive udp.table udp.row udp.state_and_next udp.output_level udp.pair udp.declared_inputs udp.declared_input udp.register udp.declared_state udp.declared_output udp.header udp.next_input udp.more_inputs udp.next_entry udp.more_entries udp.next_row m.header m.next_port m.more_ports m.some_ports m.declared_inputs m.declared_wires m.notifier m.driven_terminal m.feeding_terminal m.next_input m.more_inputs m.instances m.declared_input m.declared_output m.declared_outputs m.declared_wire m.declared_notifier m.declarations m.call m.constant block.a_number block.an_input block.an_output block.a_condition block.path_gate block.next_path block.paths block.any_edge block.condition block.same_condition block.same_number block.check_of_kind block.next_check block.checks block.specify block.if_gate block.ifnone_gate block.path block.an_event block.an_edge_event block.condition_name block.check_end block.ordered_check block.turned_check block.width_check block.second_period block.period_check block.check block.block
 faults-of-tokens = (refl, refl, refl, refl, refl, refl, refl, refl)

@@ -33,26 +33,37 @@ abbrev pub with_module : Before → VModule → Before
 with_module before m = record { modules = before.modules ++ m ∷ []; names = before.names ++ m.name ∷ []; udps = [] }
 
 -- primitive, behind the word "primitive"
-abbrev pub next_primitive : Before → Grammar Before
+unfoldable pub next_primitive : Before → Grammar Before
 next_primitive before = do
   udp ← primitive before.names
   r.Gives (with_primitive before udp)
 
--- module, behind the word "module": its declarations, its instances and its specify block; all outputs and wires are driven
-unfoldable pub next_module : Before → Grammar Before
-next_module before = do
-  name ← new_name before.names
-  declared ← declarations name before.udps
+-- A module behind the word "module", where primitives and modules of these names stand before it and these primitives behind the
+-- module before: its declarations, its instances and its specify block. All its outputs and wires are driven.
+unfoldable pub one_module : List (List ℕ) → List Udp → Grammar VModule
+one_module names udps = do
+  name ← new_name names
+  declared ← declarations name udps
   joined ← instances declared
   m ← specify joined
   _ ← expect_where (are_all_driven m) Undriven (codes "endmodule")
+  r.Gives m
+
+-- module, behind the word "module"
+unfoldable pub next_module : Before → Grammar Before
+next_module before = do
+  m ← one_module before.names before.udps
   r.Gives (with_module before m)
+
+-- { primitive } behind others
+unfoldable pub more_primitives : Before → Grammar Before
+more_primitives before = r.Many (λ _. begins (codes "primitive")) (λ more _. next_primitive more) before
 
 -- { primitive } module, behind the word "primitive"
 unfoldable pub primitives_and_module : Before → Grammar Before
 primitives_and_module before = do
   first ← next_primitive before
-  more ← r.Many (λ _. begins (codes "primitive")) (λ more _. next_primitive more) first
+  more ← more_primitives first
   _ ← expect (codes "module")
   next_module more
 
@@ -69,7 +80,7 @@ abbrev pub design : Before → List ℕ → Grammar Before
 design before x = design_by before (bytes_eq x (codes "primitive"))
 
 -- { { primitive } module }
-abbrev pub designs : Grammar Before
+unfoldable pub designs : Grammar Before
 designs = r.Many (λ _. begins_by is_design_start) design nothing
 
 -- "`timescale" "1ps" "/" "1ps" (19.8)

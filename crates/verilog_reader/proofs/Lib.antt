@@ -12,3 +12,4 @@ pub mod DigitLemmas
 pub mod Values
 pub mod Choices
 pub mod Begun
+pub mod Spelled

@@ -5,3 +5,4 @@ pub mod Reading
 pub mod Headers
 pub mod Digits
 pub mod Begun
+pub mod File

@@ -5,6 +5,7 @@ mod answer;
 mod checks;
 mod cursor;
 mod declarations;
+mod file;
 mod fronts;
 mod instances;
 mod laws;
@@ -13,6 +14,7 @@ mod numbers;
 mod paths;
 mod ports;
 mod primitive;
+mod read;
 mod refusal;
 mod row;
 mod rules;
@@ -22,6 +24,7 @@ mod terminals;
 
 pub use answer::text_has_one_answer;
 pub use laws::{added_separators_change_no_token, tokens_stand_in_order};
+pub use read::read_models;
 pub use scanner::scan;
 pub use span::{Memory, Scan, Span};
 

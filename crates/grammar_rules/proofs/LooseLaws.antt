@@ -332,8 +332,8 @@ fouls_in_fronts {T} {K} {A} p = record {
       (let b = bounds s k m h in let e = ap length (ap rest_of (refuses (loose p) s j n i)) in omega arith);
   one_kind = λ s k j m n h i e.
       (let z : (k, m) ≡ (j, n) =
-          same_length (suc (length s)) (length (rest_of (read (loose p) s))) (k, m) (j, n) (marks p s) (falls p s) (marked_foul p s k m h)
-          (marked_foul p s j n i) (sym e) in
+      same_length (suc (length s)) (length (rest_of (read (loose p) s))) (k, m) (j, n) (marks p s) (falls p s) (marked_foul p s k m h)
+      (marked_foul p s j n i) (sym e) in
       (ap (λ (z : K × List T). z.0) z, ap (λ (z : K × List T). z.1) z));
 }
   where

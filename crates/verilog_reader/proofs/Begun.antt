@@ -98,6 +98,6 @@ pub preserved : (n i : ℕ) (m : VModule) (s left more : List (List ℕ)) (x y :
 preserved n i m s left more x y udps starts found p j joined whole h ex es et eu ey ef ep em er ej ew =
     let start : is_instance_start (next_bytes s) ≡ true = ap is_instance_start (sym ex) ∙ sym es ∙ et in
     let which : instance_primitive m.udps (next_bytes s) ≡ Some p =
-      ap (λ (z : List ℕ). instance_primitive m.udps z) (sym ey) ∙ ap (λ (us : List Udp). instance_primitive us y) (sym eu) ∙ sym ef ∙ ep in
+    ap (λ (z : List ℕ). instance_primitive m.udps z) (sym ey) ∙ ap (λ (us : List Udp). instance_primitive us y) (sym eu) ∙ sym ef ∙ ep in
     let reads : read (one_instance m p) (rest s) ≡ Ok (with_instance m j, left) = ap (λ (q : List (List ℕ)). read (one_instance m p) q) (sym em) ∙ er in
     ap (λ (is : List Instance). turns (n - (i + 1)) (with_instances m is) left) ej ∙ taken n i m s left p j h start which reads ∙ ew

@@ -154,7 +154,13 @@ impl Cursor<'_> {
         self.expect(b",")?;
         let limit = self.number()?;
         self.check_end(model)?;
-        Ok(VCheck { kind, first, second, limit, condition })
+        Ok(VCheck {
+            kind,
+            first,
+            second,
+            limit,
+            condition,
+        })
     }
 
     /// A check whose first argument is the later event.
@@ -169,7 +175,13 @@ impl Cursor<'_> {
         self.expect(b",")?;
         let limit = self.number()?;
         self.check_end(model)?;
-        Ok(VCheck { kind, first, second, limit, condition })
+        Ok(VCheck {
+            kind,
+            first,
+            second,
+            limit,
+            condition,
+        })
     }
 
     /// The width of a pulse.
@@ -184,8 +196,17 @@ impl Cursor<'_> {
         self.expect(b",")?;
         self.expect(b"0")?;
         self.check_end(model)?;
-        let second = Event { pin: first.pin, edge: opposite(first.edge) };
-        Ok(VCheck { kind: CheckKind::Width, first, second, limit, condition })
+        let second = Event {
+            pin: first.pin,
+            edge: opposite(first.edge),
+        };
+        Ok(VCheck {
+            kind: CheckKind::Width,
+            first,
+            second,
+            limit,
+            condition,
+        })
     }
 
     /// The name of this wire.
@@ -268,8 +289,17 @@ impl Cursor<'_> {
         let limit = self.number()?;
         self.check_end(model)?;
         self.second_period(model, pin, condition, limit)?;
-        let event = Event { pin, edge: Edge::Any };
-        Ok(VCheck { kind: CheckKind::Period, first: event, second: event, limit, condition })
+        let event = Event {
+            pin,
+            edge: Edge::Any,
+        };
+        Ok(VCheck {
+            kind: CheckKind::Period,
+            first: event,
+            second: event,
+            limit,
+            condition,
+        })
     }
 
     /// A check of a kind, behind its bracket.

@@ -33,11 +33,7 @@ impl Cursor<'_> {
     }
 
     #[tactic(auto, unfolding(specify_blocks::specs::VerilogModules::next_port))]
-    fn next_port(
-        &mut self,
-        alloc: Global,
-        mut ports: Items<VPort>,
-    ) -> Result<Items<VPort>, Stop>
+    fn next_port(&mut self, alloc: Global, mut ports: Items<VPort>) -> Result<Items<VPort>, Stop>
         ensures { Reads (read (spec.next_port ports) self.old) result self.new }
     {
         let name = self.new_port_name(alloc, ports.as_slice())?;
@@ -46,11 +42,7 @@ impl Cursor<'_> {
     }
 
     #[tactic(auto, unfolding(specify_blocks::specs::VerilogModules::more_ports), using(crate::proofs::Repeats::turn, crate::proofs::Repeats::choose_begun, crate::proofs::Repeats::choose_other))]
-    fn more_ports(
-        &mut self,
-        alloc: Global,
-        mut ports: Items<VPort>,
-    ) -> Result<Items<VPort>, Stop>
+    fn more_ports(&mut self, alloc: Global, mut ports: Items<VPort>) -> Result<Items<VPort>, Stop>
         ensures { Reads (read (spec.more_ports ports) self.old) result self.new }
     {
         for _turn in 0..self.left() {
@@ -102,10 +94,13 @@ impl Cursor<'_> {
         let Some(place) = port_place(ports.as_slice(), behind, name) else {
             return Err(Stop::Refused(Refusal::Undefined));
         };
-        ports.set(place, VPort {
-            name: Items::from_slice(alloc, name)?,
-            input: true,
-        });
+        ports.set(
+            place,
+            VPort {
+                name: Items::from_slice(alloc, name)?,
+                input: true,
+            },
+        );
         self.skip();
         Ok(Inputs {
             ports,
@@ -196,11 +191,7 @@ impl Cursor<'_> {
     }
 
     #[tactic(auto, unfolding(specify_blocks::specs::VerilogModules::declared_wires), using(crate::proofs::Repeats::turn, crate::proofs::Repeats::choose_begun, crate::proofs::Repeats::choose_other))]
-    fn module_wires(
-        &mut self,
-        alloc: Global,
-        ports: &[VPort],
-    ) -> Result<Items<Items<u8>>, Stop>
+    fn module_wires(&mut self, alloc: Global, ports: &[VPort]) -> Result<Items<Items<u8>>, Stop>
         ensures { Reads (read (spec.declared_wires ports.now) self.old) result self.new }
     {
         let mut wires = Items::new(alloc);
@@ -255,10 +246,13 @@ impl Cursor<'_> {
         ensures { Reads (read (spec.declarations name udps) self.old) result self.new }
     {
         let plain = self.module_header(alloc)?;
-        let Inputs { ports, .. } = self.module_inputs(alloc, Inputs {
-            ports: plain,
-            behind: 0,
-        })?;
+        let Inputs { ports, .. } = self.module_inputs(
+            alloc,
+            Inputs {
+                ports: plain,
+                behind: 0,
+            },
+        )?;
         self.module_outputs(ports.as_slice())?;
         let wires = self.module_wires(alloc, ports.as_slice())?;
         let notifier = self.module_notifier(alloc, ports.as_slice(), wires.as_slice())?;

@@ -137,12 +137,7 @@ impl Cursor<'_> {
 
     /// The terminals of an instance of the primitive with this number, behind its name.
     #[tactic(auto, unfolding(specify_blocks::specs::VerilogModules::call))]
-    fn call(
-        &mut self,
-        alloc: Global,
-        module: &VModule,
-        udp: usize,
-    ) -> Result<Instance, Stop>
+    fn call(&mut self, alloc: Global, module: &VModule, udp: usize) -> Result<Instance, Stop>
         ensures { ReadsAs (spec.with_instance module.now) (read (spec.call module.now udp) self.old) result self.new }
     {
         let sequential = is_sequential(module.udps.as_slice(), udp);
@@ -200,11 +195,7 @@ impl Cursor<'_> {
     }
 
     #[tactic(auto, unfolding(specify_blocks::specs::VerilogModules::instances), using(crate::proofs::Repeats::turn, crate::proofs::Begun::no_instance, crate::proofs::Begun::undefined, crate::proofs::Begun::some_instance))]
-    pub fn instances(
-        &mut self,
-        alloc: Global,
-        mut module: VModule,
-    ) -> Result<VModule, Stop>
+    pub fn instances(&mut self, alloc: Global, mut module: VModule) -> Result<VModule, Stop>
         ensures { Reads (read (spec.instances «module») self.old) result self.new }
     {
         for _turn in 0..self.left() {

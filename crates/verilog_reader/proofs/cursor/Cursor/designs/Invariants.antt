@@ -8,4 +8,4 @@ use Rattle.verilog_reader.proofs.cursor.Cursor.designs.Given as goal
 abbrev pub invariant-loop-turn : goal.invariant-loop-turn
 invariant-loop-turn l =
     repeat (λ _. begins_by is_design_start) (λ before x r. read (design before x) r) (l._turn-end - l._turn) (before_of l.before) l.self
-      ≡ repeat (λ _. begins_by is_design_start) (λ before x r. read (design before x) r) l._turn-end nothing l.initial.self
+    ≡ repeat (λ _. begins_by is_design_start) (λ before x r. read (design before x) r) l._turn-end nothing l.initial.self

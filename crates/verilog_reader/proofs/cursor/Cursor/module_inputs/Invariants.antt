@@ -8,4 +8,4 @@ use Rattle.verilog_reader.proofs.cursor.Cursor.module_inputs.Given as goal
 abbrev pub invariant-loop-turn : goal.invariant-loop-turn
 invariant-loop-turn l =
     repeat (λ _. begins (codes "input")) (λ found _ r. read (declared_input found) r) (l._turn-end - l._turn) (inputs_of l.found) l.self
-      ≡ repeat (λ _. begins (codes "input")) (λ found _ r. read (declared_input found) r) l._turn-end (inputs_of l.initial.found) l.initial.self
+    ≡ repeat (λ _. begins (codes "input")) (λ found _ r. read (declared_input found) r) l._turn-end (inputs_of l.initial.found) l.initial.self

@@ -7,4 +7,4 @@ use Rattle.verilog_reader.proofs.cursor.Cursor.module_outputs.Given as goal
 abbrev pub invariant-loop-turn : goal.invariant-loop-turn
 invariant-loop-turn l =
     repeat (λ _. begins (codes "output")) (λ u _ r. read (declared_output l.ports u) r) (l._turn-end - l._turn) l.from l.self
-      ≡ repeat (λ _. begins (codes "output")) (λ u _ r. read (declared_output l.ports u) r) l._turn-end 0 l.initial.self
+    ≡ repeat (λ _. begins (codes "output")) (λ u _ r. read (declared_output l.ports u) r) l._turn-end 0 l.initial.self

@@ -7,4 +7,4 @@ use Rattle.verilog_reader.proofs.cursor.Cursor.module_wires.Given as goal
 abbrev pub invariant-loop-turn : goal.invariant-loop-turn
 invariant-loop-turn l =
     repeat (λ _. begins (codes "wire")) (λ u _ r. read (declared_wire l.ports u) r) (l._turn-end - l._turn) l.wires l.self
-      ≡ repeat (λ _. begins (codes "wire")) (λ u _ r. read (declared_wire l.ports u) r) l._turn-end [] l.initial.self
+    ≡ repeat (λ _. begins (codes "wire")) (λ u _ r. read (declared_wire l.ports u) r) l._turn-end [] l.initial.self

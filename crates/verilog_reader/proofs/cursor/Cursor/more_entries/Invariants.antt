@@ -6,4 +6,4 @@ use Rattle.verilog_reader.proofs.cursor.Cursor.more_entries.Given as goal
 abbrev pub invariant-loop-turn : goal.invariant-loop-turn
 invariant-loop-turn l =
     repeat (begins_next_entry l.sequential) (λ found x r. read (next_entry found x) r) (l._turn-end - l._turn) l.entries l.self
-      ≡ repeat (begins_next_entry l.sequential) (λ found x r. read (next_entry found x) r) l._turn-end l.initial.entries l.initial.self
+    ≡ repeat (begins_next_entry l.sequential) (λ found x r. read (next_entry found x) r) l._turn-end l.initial.entries l.initial.self

@@ -8,4 +8,4 @@ use Rattle.verilog_reader.proofs.cursor.Cursor.more_primitives.Given as goal
 abbrev pub invariant-loop-turn : goal.invariant-loop-turn
 invariant-loop-turn l =
     repeat (λ _. begins (codes "primitive")) (λ more _ r. read (next_primitive more) r) (l._turn-end - l._turn) (before_of l.before) l.self
-      ≡ repeat (λ _. begins (codes "primitive")) (λ more _ r. read (next_primitive more) r) l._turn-end (before_of l.initial.before) l.initial.self
+    ≡ repeat (λ _. begins (codes "primitive")) (λ more _ r. read (next_primitive more) r) l._turn-end (before_of l.initial.before) l.initial.self

@@ -6,4 +6,4 @@ use Rattle.verilog_reader.proofs.cursor.Cursor.new_net_name.Goals as goal
 pub returns : goal.returns
 returns c =
     c.fresh_name.ensures (port_names c.args.ports.now ++ c.args.wires.now)
-      (c.is_declared-taken.ensures ∙ ap (is_among (port_names c.args.ports.now ++ c.args.wires.now)) c.bytes.ensures)
+    (c.is_declared-taken.ensures ∙ ap (is_among (port_names c.args.ports.now ++ c.args.wires.now)) c.bytes.ensures)

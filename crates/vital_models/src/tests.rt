@@ -75,15 +75,16 @@ fn shows(
     })
 }
 
+const PINS: [(&str, Direction); 3] = [
+    ("CK", Direction::Input),
+    ("D", Direction::Input),
+    ("Q", Direction::Output),
+];
+
 // A flip-flop with the pins CK, D and Q, a setup time of 50 before the rising clock, and delays of 100 and 120.
 fn flip_flop(alloc: Global) -> Result<Cell, AllocError> {
     let name = Items::from_slice(alloc, b"DFFT")?;
-    let listed = [
-        ("CK", Direction::Input),
-        ("D", Direction::Input),
-        ("Q", Direction::Output),
-    ];
-    let pins = pins(alloc, &listed)?;
+    let pins = pins(alloc, &PINS)?;
     let groups = one(alloc, group(alloc)?)?;
     let outputs = one(alloc, shows(alloc, 2, 3, &[Source::State(0)])?)?;
     let check = Check {

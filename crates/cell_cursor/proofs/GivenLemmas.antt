@@ -1,8 +1,8 @@
--- Which cells a cursor has given, byte after byte.
-use Rattle.std.proofs.Common.{◌≡◌, ◌⊎◌, inl, inr, ℕ, ◌+◌, ◌<◌, ◌≤◌, nat_lt, Bool, true, false, List, [], ◌∷◌, ◌++◌, take, length, refl, sym, ap, subst, ◌∙◌, arith, length-append}
+-- Which cells a cursor has given, run after run of bytes.
+use Rattle.std.proofs.Common.{◌≡◌, ◌⊎◌, inl, inr, ℕ, ◌+◌, ◌-◌, ◌<◌, ◌≤◌, nat_lt, Bool, true, false, List, [], ◌++◌, take, drop, length, refl, sym, ap, subst, ◌∙◌, arith, length-append}
 use Rattle.std.proofs.lemmas.Bool.Decides.{nat_tests}
-use Rattle.std.proofs.lemmas.List.{append-nil, append_assoc, take-append-le}
-use Rattle.std.proofs.Math.Seq.{take-append_seam}
+use Rattle.std.proofs.lemmas.List.{append-nil, append_assoc, take-append-le, length-take-le, take-append-drop}
+use Rattle.std.proofs.Math.Seq.{take-append_seam, take-append-add}
 use Rattle.grammar_rules.specs.Reading.{read}
 use Rattle.liberty_text.specs.declared.token.Token.{Token}
 use Rattle.liberty_text.specs.declared.token.Stop.{Stop}
@@ -20,12 +20,12 @@ use Rattle.cell_cursor.specs.Given.{up_to_last_cell, closed_items, IsFrontOf, mo
 use Rattle.cell_cursor.specs.Items.{rest_inside, library_end, rest_at, items_in, items_outcome, items_of_bytes}
 use Rattle.cell_cursor.specs.Leads.{LeadTo, is_start}
 use Rattle.cell_cursor.specs.Progress.{scanned_by}
-use Rattle.cell_cursor.specs.Scanned.{AreScanned}
+use Rattle.cell_cursor.specs.Scanned.{AreScanned, NoneEnds}
 use Rattle.cell_cursor.specs.Stands.{Keeps, Goes, MayTake, GoesBy}
 use Rattle.cell_cursor.proofs.Depths.{lexeme_kinds_behind}
 use Rattle.cell_cursor.proofs.EndsLemmas.{part_items}
 use Rattle.cell_cursor.proofs.LastCell.{no_cell_behind, last_cell_front, front_of_more}
-use Rattle.cell_cursor.proofs.OneByte.{closing_outer}
+use Rattle.cell_cursor.proofs.RunTokens.{closing_outer}
 use Rattle.cell_cursor.proofs.OpenParts.{part_no_cell}
 use Rattle.cell_cursor.proofs.ScannedLemmas.{scan_splits}
 
@@ -110,43 +110,86 @@ goes_open c bytes items k scanned none seen = record {
       (front_same (take (scanned_by c) bytes) items (ap closed_items (keeps_front c bytes items k) ∙ part_closed k.before c.part.bytes c.part.tokens c.part.mode c.place items k.leads scanned none));
 }
 
--- one more byte is scanned
-pub goes_byte : (o n : CellCursor) (may : Bool) (b : ℕ) (bytes : List ℕ) (items : List LibraryItem) → n.place ≡ o.place → n.part.before ≡ o.part.before → n.part.bytes ≡ o.part.bytes ++ b ∷ [] → o.piece ≡ b ∷ n.piece →
-    AreScanned n.part.bytes n.part.tokens n.part.mode → (has_outer o.place (kinds_of o.part.tokens) ≡ false → ShowsOuter may o.place (kinds_of n.part.tokens)) → Goes o bytes items → GoesBy may n bytes items
-goes_byte o n may b bytes items place_is before_is bytes_are piece_is scanned outer g = by_answer may (subst (λ (p : Place). ShowsOuter may p (kinds_of n.part.tokens)) (sym place_is) (outer g.inner))
+-- as far as no token has ended since
+seen_within : (o : CellCursor) (count : ℕ) (bytes : List ℕ) (items : List LibraryItem) → NoneEnds o.part.bytes o.part.tokens o.piece count → Goes o bytes items → HasSeen (scanned_by o + count) bytes items
+seen_within o count bytes items none g e less = by_test (nat_lt e (scanned_by o + 1)) refl
+  where
+    behind : (j : ℕ) → e ≡ scanned_by o + j → j < count → IsFrontOf (closed_items (take e bytes)) items
+    behind j e_is within =
+        let k = g.keeps in
+        let front = k.before ++ o.part.bytes in
+        let size : scanned_by o ≡ length front = ap (λ (n : ℕ). n + length o.part.bytes) k.size ∙ sym (length-append k.before o.part.bytes) in
+        let same : take e bytes ≡ k.before ++ (o.part.bytes ++ take j o.piece) =
+        ap (λ (n : ℕ). take n bytes) (e_is ∙ ap (λ (n : ℕ). n + j) size)
+        ∙ ap (take (length front + j)) (k.split ∙ sym (append_assoc k.before o.part.bytes o.piece))
+        ∙ take-append-add front o.piece j
+        ∙ append_assoc k.before o.part.bytes (take j o.piece) in
+        let there = none j within in
+        front_same (take e bytes) items (ap closed_items same ∙ part_closed k.before (o.part.bytes ++ take j o.piece) o.part.tokens there.0 o.place items k.leads there.1 g.inner)
+
+    by_test : (b : Bool) → nat_lt e (scanned_by o + 1) ≡ b → IsFrontOf (closed_items (take e bytes)) items
+    by_test true t = g.seen e (grind (arith, nat_tests, t))
+    by_test false t =
+        let far : scanned_by o + 1 ≤ e = grind (arith, nat_tests, t) in
+        behind (e - scanned_by o) (omega (arith, far)) (omega (arith, far, less))
+
+-- more bytes are scanned
+pub goes_run : (o n : CellCursor) (may : Bool) (count : ℕ) (bytes : List ℕ) (items : List LibraryItem) → n.place ≡ o.place → n.part.before ≡ o.part.before → n.part.bytes ≡ o.part.bytes ++ take count o.piece →
+    n.piece ≡ drop count o.piece → count ≤ length o.piece → AreScanned n.part.bytes n.part.tokens n.part.mode → NoneEnds o.part.bytes o.part.tokens o.piece count →
+    (has_outer o.place (kinds_of o.part.tokens) ≡ false → ShowsOuter may o.place (kinds_of n.part.tokens)) → Goes o bytes items → GoesBy may n bytes items
+goes_run o n may count bytes items place_is before_is bytes_are piece_is within scanned none outer g = by_answer may (subst (λ (p : Place). ShowsOuter may p (kinds_of n.part.tokens)) (sym place_is) (outer g.inner))
   where
     keeps : Keeps n bytes items
     keeps = record {
       before = g.keeps.before;
       split =
           g.keeps.split
-          ∙ ap (λ (s : List ℕ). g.keeps.before ++ (o.part.bytes ++ s)) piece_is
-          ∙ ap (λ (s : List ℕ). g.keeps.before ++ s) (sym (append_assoc o.part.bytes (b ∷ []) n.piece))
-          ∙ ap (λ (s : List ℕ). g.keeps.before ++ (s ++ n.piece)) (sym bytes_are);
+          ∙ ap (λ (s : List ℕ). g.keeps.before ++ (o.part.bytes ++ s)) (sym (take-append-drop count o.piece))
+          ∙ ap (λ (s : List ℕ). g.keeps.before ++ s) (sym (append_assoc o.part.bytes (take count o.piece) (drop count o.piece)))
+          ∙ ap (λ (s : List ℕ). g.keeps.before ++ (s ++ drop count o.piece)) (sym bytes_are)
+          ∙ ap (λ (s : List ℕ). g.keeps.before ++ (n.part.bytes ++ s)) (sym piece_is);
       size = before_is ∙ g.keeps.size;
       leads = subst (λ (p : Place). LeadTo g.keeps.before p items) (sym place_is) g.keeps.leads;
     }
 
-    one_more : scanned_by n ≡ scanned_by o + 1
-    one_more = let size = ap length bytes_are in omega (arith, before_is, size, length-append o.part.bytes (b ∷ []))
+    so_many : scanned_by n ≡ scanned_by o + count
+    so_many = let size = ap length bytes_are in omega (arith, before_is, size, length-append o.part.bytes (take count o.piece), length-take-le count o.piece within)
 
     seen : HasSeen (scanned_by n) bytes items
-    seen = subst (λ (k : ℕ). HasSeen k bytes items) (sym one_more) g.seen
+    seen = subst (λ (k : ℕ). HasSeen k bytes items) (sym so_many) (seen_within o count bytes items none g)
 
     by_answer : (a : Bool) → ShowsOuter a n.place (kinds_of n.part.tokens) → GoesBy a n bytes items
-    by_answer false none = goes_open n bytes items keeps scanned none seen
+    by_answer false inner = goes_open n bytes items keeps scanned inner seen
     by_answer true last = record { keeps = keeps; last = last; seen = seen }
 
--- as found by the code
+-- as found by the code, which has a second name for what was not scanned
 
-pub goes_further : (o n : CellCursor) (may : Bool) (b : ℕ) → may ≡ false → n.place ≡ o.place → n.part.before ≡ o.part.before → n.part.bytes ≡ o.part.bytes ++ b ∷ [] → o.piece ≡ b ∷ n.piece →
-    AreScanned n.part.bytes n.part.tokens n.part.mode → (has_outer o.place (kinds_of o.part.tokens) ≡ false → ShowsOuter may o.place (kinds_of n.part.tokens)) →
-    (bytes : List ℕ) (items : List LibraryItem) → Goes o bytes items → Goes n bytes items
-goes_further o n may b e place_is before_is bytes_are piece_is scanned outer bytes items g =
-    subst (λ (x : Bool). GoesBy x n bytes items) e (goes_byte o n may b bytes items place_is before_is bytes_are piece_is scanned outer g)
+goes_seen : (o n : CellCursor) (may : Bool) (count : ℕ) (unread : List ℕ) → unread ≡ o.piece → n.place ≡ o.place → n.part.before ≡ o.part.before → n.part.bytes ≡ o.part.bytes ++ take count unread →
+    n.piece ≡ drop count o.piece → count ≤ length unread → AreScanned n.part.bytes n.part.tokens n.part.mode → NoneEnds o.part.bytes o.part.tokens unread count →
+    (has_outer o.place (kinds_of o.part.tokens) ≡ false → ShowsOuter may o.place (kinds_of n.part.tokens)) → (bytes : List ℕ) (items : List LibraryItem) → Goes o bytes items → GoesBy may n bytes items
+goes_seen o n may count unread same place_is before_is bytes_are piece_is within scanned none outer bytes items g =
+    goes_run o n may count bytes items place_is before_is (bytes_are ∙ ap (λ (s : List ℕ). o.part.bytes ++ take count s) same) piece_is (subst (λ (s : List ℕ). count ≤ length s) same within) scanned
+    (subst (λ (s : List ℕ). NoneEnds o.part.bytes o.part.tokens s count) same none) outer g
 
-pub goes_so_far : (o n : CellCursor) (may : Bool) (b : ℕ) → may ≡ true → n.place ≡ o.place → n.part.before ≡ o.part.before → n.part.bytes ≡ o.part.bytes ++ b ∷ [] → o.piece ≡ b ∷ n.piece →
-    AreScanned n.part.bytes n.part.tokens n.part.mode → (has_outer o.place (kinds_of o.part.tokens) ≡ false → ShowsOuter may o.place (kinds_of n.part.tokens)) →
-    (bytes : List ℕ) (items : List LibraryItem) → Goes o bytes items → MayTake n bytes items
-goes_so_far o n may b e place_is before_is bytes_are piece_is scanned outer bytes items g =
-    subst (λ (x : Bool). GoesBy x n bytes items) e (goes_byte o n may b bytes items place_is before_is bytes_are piece_is scanned outer g)
+pub goes_further : (o n : CellCursor) (may : Bool) (count : ℕ) (unread : List ℕ) → may ≡ false → unread ≡ o.piece → n.place ≡ o.place → n.part.before ≡ o.part.before → n.part.bytes ≡ o.part.bytes ++ take count unread →
+    n.piece ≡ drop count o.piece → count ≤ length unread → AreScanned n.part.bytes n.part.tokens n.part.mode → NoneEnds o.part.bytes o.part.tokens unread count →
+    (has_outer o.place (kinds_of o.part.tokens) ≡ false → ShowsOuter may o.place (kinds_of n.part.tokens)) → (bytes : List ℕ) (items : List LibraryItem) → Goes o bytes items → Goes n bytes items
+goes_further o n may count unread e same place_is before_is bytes_are piece_is within scanned none outer bytes items g =
+    subst (λ (x : Bool). GoesBy x n bytes items) e (goes_seen o n may count unread same place_is before_is bytes_are piece_is within scanned none outer bytes items g)
+
+pub goes_so_far : (o n : CellCursor) (may : Bool) (count : ℕ) (unread : List ℕ) → may ≡ true → unread ≡ o.piece → n.place ≡ o.place → n.part.before ≡ o.part.before → n.part.bytes ≡ o.part.bytes ++ take count unread →
+    n.piece ≡ drop count o.piece → count ≤ length unread → AreScanned n.part.bytes n.part.tokens n.part.mode → NoneEnds o.part.bytes o.part.tokens unread count →
+    (has_outer o.place (kinds_of o.part.tokens) ≡ false → ShowsOuter may o.place (kinds_of n.part.tokens)) → (bytes : List ℕ) (items : List LibraryItem) → Goes o bytes items → MayTake n bytes items
+goes_so_far o n may count unread e same place_is before_is bytes_are piece_is within scanned none outer bytes items g =
+    subst (λ (x : Bool). GoesBy x n bytes items) e (goes_seen o n may count unread same place_is before_is bytes_are piece_is within scanned none outer bytes items g)
+
+-- what was scanned and what is left are all
+pub sizes_of : (bytes bytes' piece piece' : List ℕ) (count : ℕ) (unread : List ℕ) → unread ≡ piece → bytes' ≡ bytes ++ take count unread → piece' ≡ drop count piece → count ≤ length unread →
+    (length bytes' ≡ length bytes + count) × (length piece' + count ≡ length piece)
+sizes_of bytes bytes' piece piece' count unread same bytes_are piece_is within =
+    let size : length (take count unread) ≡ count = length-take-le count unread within in
+    let all = ap length bytes_are in
+    let left = ap length piece_is in
+    let both : length piece ≡ length (take count piece) + length (drop count piece) = ap length (sym (take-append-drop count piece)) ∙ length-append (take count piece) (drop count piece) in
+    let front : length (take count piece) ≡ count = ap (λ (s : List ℕ). length (take count s)) (sym same) ∙ size in
+    (omega (arith, all, size, length-append bytes (take count unread)), omega (arith, left, both, front))

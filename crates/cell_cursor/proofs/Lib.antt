@@ -11,9 +11,9 @@ pub mod LastCell
 pub mod LeadsLemmas
 pub mod Marks
 pub mod MovesLemmas
-pub mod OneByte
 pub mod OpenParts
 pub mod Prefix
+pub mod RunTokens
 pub mod ScannedLemmas
 pub mod SeekingLemmas
 pub mod Shift

@@ -1,5 +1,5 @@
 -- Behind a token with which a statement may end nothing stands open.
-use Rattle.std.proofs.Common.{◌≡◌, ℕ, ◌+◌, ◌==◌, ◌&&◌, ◌||◌, not, Bool, true, false, List, [], ◌∷◌, Some, None, cond, refl, sym, ap, ◌∙◌}
+use Rattle.std.proofs.Common.{◌≡◌, ℕ, ◌+◌, ◌==◌, ◌&&◌, ◌||◌, not, Bool, true, false, List, [], ◌∷◌, Some, None, cond, refl, ap, ◌∙◌}
 use Rattle.liberty_text.specs.declared.token.TokenKind.{TokenKind}
 use Rattle.liberty_text.specs.declared.token.TokenKind.TheVariants.{Word, Text}
 use Rattle.liberty_text.specs.declared.token.Token.{Token}
@@ -76,7 +76,3 @@ step_closes (InContinuation begun line) at b = blanks_close begun line (class_of
     blanks_close begun line WordByte k e h = absurd cc
     blanks_close begun line Bad k e h = absurd cc
 step_closes (Stopped begun) at b = λ k e h. absurd cc
-
--- as found by the code
-pub scanned_closes : (mode mode' : Mode) (at b : ℕ) (k : TokenKind) → mode' ≡ (step mode at b).0 → Some k ≡ last_kind (step mode at b).1 → ends_by k ≡ true → mode' ≡ Between false
-scanned_closes mode mode' at b k e f h = e ∙ step_closes mode at b k (sym f) h

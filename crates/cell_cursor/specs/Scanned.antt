@@ -1,5 +1,5 @@
 -- Bytes that are scanned.
-use Rattle.std.specs.Prelude.{◌≡◌, ℕ, ◌+◌, Bool, true, false, List, [], ◌∷◌, ◌++◌, length, Option, Some, None}
+use Rattle.std.specs.Prelude.{◌≡◌, ℕ, ◌+◌, ◌<◌, Bool, true, false, List, [], ◌∷◌, ◌++◌, take, length, Option, Some, None}
 use Rattle.liberty_text.specs.declared.token.Token.{Token}
 use Rattle.liberty_text.specs.declared.token.TokenKind.{TokenKind}
 use Rattle.liberty_text.specs.declared.token.TokenKind.TheVariants.{Brace, Semicolon}
@@ -23,6 +23,10 @@ pub record Scanned : Type 0 where
 abbrev pub AreScanned : List ℕ → List Token → Mode → Type 0
 AreScanned bytes tokens mode = (more : List ℕ) → run (Between false) 0 (bytes ++ more) ≡ after_tokens tokens (run mode (length bytes) more)
 
+-- With fewer than so many of the bytes that follow these no token ends.
+abbrev pub NoneEnds : List ℕ → List Token → List ℕ → ℕ → Type 0
+NoneEnds bytes tokens more count = (n : ℕ) → n < count → (mode : Mode) × AreScanned (bytes ++ take n more) tokens mode
+
 -- a stop in bytes that so many others stand before
 abbrev pub stop_behind : ℕ → Stop → Stop
 stop_behind n End = End
@@ -37,7 +41,7 @@ ends_by (Brace byte) = true
 ends_by Semicolon = true
 ends_by _ = false
 
--- the kind of the last of the tokens that one byte gives, of which there are at most two
+-- the kind of the last of the tokens that end with one byte, of which there are at most two
 abbrev pub last_kind : List Token → Option TokenKind
 last_kind (t ∷ []) = Some t.kind
 last_kind (t ∷ u ∷ []) = Some u.kind

@@ -1,11 +1,11 @@
 //! The part of a library that is scanned and whose statements have not all ended.
 
-ghost use Rattle.std.specs.Prelude.{◌≡◌, ℕ, true, false, ◌<◌, ◌+◌, ◌^◌, [], ◌∷◌, ◌++◌, length, IfOk, OnOk, OnErr};
+ghost use Rattle.std.specs.Prelude.{◌≡◌, ℕ, true, false, ◌<◌, ◌≤◌, ◌+◌, ◌^◌, [], ◌++◌, take, length, IfOk, OnErr};
 ghost use Rattle.liberty_text.specs.declared.scanner.Mode.TheVariants.{Between};
 ghost use Rattle.liberty_groups.specs.Lexeme.{LieInside};
-ghost use Rattle.liberty_text.specs.Scanner.{step};
+ghost use Rattle.liberty_text.specs.Runs.{mode_behind, tokens_ended};
 ghost use Rattle.cell_cursor.specs.Braces.{depth_behind, is_outer, has_outer, ShowsOuter, kinds_of};
-ghost use Rattle.cell_cursor.specs.Scanned.{AreScanned, ends_by, last_kind};
+ghost use Rattle.cell_cursor.specs.Scanned.{AreScanned, NoneEnds, ends_by, last_kind};
 
 use crate::fault::Memory;
 use liberty_text::{Scanner, Token, TokenKind};
@@ -21,6 +21,14 @@ pub(crate) enum Place {
     Inside,
     /// Behind the library.
     Behind,
+}
+
+/// How many bytes were scanned at once, up to one with which a token ended.
+#[derive(Clone, Copy, Debug, PartialEq, Eq)]
+pub(crate) struct Run {
+    pub(crate) count: usize,
+    /// Whether a statement may have ended with the last of them.
+    pub(crate) may_end: bool,
 }
 
 /// The bytes from the end of the last statement that was taken on, as far as they are scanned.
@@ -82,23 +90,30 @@ impl Part {
         self.scanner.tokens()
     }
 
-    /// Scans the next byte. Whether a statement may have ended with it: a group of the library does not end where it has not.
-    /// Without memory the part is lost.
-    pub(crate) fn scan(&mut self, alloc: Global, place: Place, byte: u8) -> Result<bool, Memory>
-        requires { length self.old.bytes + 1 < 2 ^ 64 }
+    /// Scans the next bytes, up to the first one with which a token ends, and that one too. A group of the library does not end
+    /// where no statement may have ended. Without memory the part is lost.
+    pub(crate) fn scan(&mut self, alloc: Global, place: Place, bytes: &[u8]) -> Result<Run, Memory>
+        requires { length self.old.bytes + length bytes.now < 2 ^ 64 }
         ensures before { self.new.before ≡ self.old.before }
-        ensures bytes { OnOk result (self.new.bytes ≡ self.old.bytes ++ byte ∷ []) }
+        ensures count { IfOk result (λ run. run.count ≤ length bytes.now) }
+        ensures some { IfOk result (λ run. 0 < length bytes.now → 0 < run.count) }
+        ensures bytes { IfOk result (λ run. self.new.bytes ≡ self.old.bytes ++ take run.count bytes.now) }
         ensures lost { OnErr result (self.new.bytes ≡ []) }
-        ensures mode { IfOk result (λ may. may ≡ true → self.new.mode ≡ Between false) }
+        ensures mode { IfOk result (λ run. run.may_end ≡ true → self.new.mode ≡ Between false) }
         ensures scanned { AreScanned self.new.bytes self.new.tokens self.new.mode }
-        ensures outer { IfOk result (λ may. has_outer place (kinds_of self.old.tokens) ≡ false → ShowsOuter may place (kinds_of self.new.tokens)) }
+        ensures none_before { IfOk result (λ run. NoneEnds self.old.bytes self.old.tokens bytes.now run.count) }
+        ensures outer { IfOk result (λ run. has_outer place (kinds_of self.old.tokens) ≡ false → ShowsOuter run.may_end place (kinds_of self.new.tokens)) }
     {
-        match scan_byte(&mut self.bytes, &mut self.scanner, byte) {
-            Ok(Some(kind)) => {
+        match scan_run(&mut self.bytes, &mut self.scanner, bytes) {
+            Ok((count, Some(kind))) => {
                 self.depth = depth_behind(self.depth, kind);
-                Ok(may_end(place, kind, self.depth))
+                let may_end = may_end(place, kind, self.depth);
+                Ok(Run { count, may_end })
             }
-            Ok(None) => Ok(false),
+            Ok((count, None)) => Ok(Run {
+                count,
+                may_end: false,
+            }),
             Err(fault) => {
                 self.bytes.clear();
                 self.scanner = Scanner::new(alloc);
@@ -133,25 +148,29 @@ fn may_end(place: Place, kind: TokenKind, depth: usize) -> bool
     }
 }
 
-/// Scans one more byte. The kind of the token that ended last with it, if one did.
-fn scan_byte(
+/// Scans more bytes, up to the first one with which a token ends, and that one too. How many they are, and the kind of the
+/// token that ended last, if one did.
+fn scan_run(
     bytes: &mut Vec<u8>,
     scanner: &mut Scanner,
-    byte: u8,
-) -> Result<Option<TokenKind>, Memory>
-    requires { length bytes.old.items + 1 < 2 ^ 64 }
-    ensures bytes { OnOk result (bytes.new.items ≡ bytes.old.items ++ byte ∷ []) }
-    ensures tokens { OnOk result (scanner.new.tokens.items ≡ scanner.old.tokens.items ++ (step scanner.old.mode (length bytes.old.items) byte).1) }
-    ensures mode { OnOk result (scanner.new.mode ≡ (step scanner.old.mode (length bytes.old.items) byte).0) }
-    ensures kind { IfOk result (λ kind. kind ≡ last_kind (step scanner.old.mode (length bytes.old.items) byte).1) }
+    more: &[u8],
+) -> Result<(usize, Option<TokenKind>), Memory>
+    requires { length bytes.old.items + length more.now < 2 ^ 64 }
+    ensures count { IfOk result (λ run. run.0 ≤ length more.now) }
+    ensures some { IfOk result (λ run. 0 < length more.now → 0 < run.0) }
+    ensures bytes { IfOk result (λ run. bytes.new.items ≡ bytes.old.items ++ take run.0 more.now) }
+    ensures tokens { IfOk result (λ run. scanner.new.tokens.items ≡ scanner.old.tokens.items ++ tokens_ended scanner.old.mode (length bytes.old.items) (take run.0 more.now)) }
+    ensures mode { IfOk result (λ run. scanner.new.mode ≡ mode_behind scanner.old.mode (length bytes.old.items) (take run.0 more.now)) }
+    ensures none_before { IfOk result (λ run. (n : ℕ) → n < run.0 → tokens_ended scanner.old.mode (length bytes.old.items) (take n more.now) ≡ []) }
+    ensures kind { IfOk result (λ run. run.1 ≡ last_kind (tokens_ended scanner.old.mode (length bytes.old.items) (take run.0 more.now))) }
 {
-    let at = bytes.len();
-    let count = scanner.tokens().len();
-    bytes.push(byte)?;
-    scanner.step(at, byte)?;
-    Ok(match &scanner.tokens()[count..] {
+    let ended = scanner.tokens().len();
+    let count = scanner.step_on(bytes.len(), more)?;
+    bytes.extend_from_slice(&more[..count])?;
+    let kind = match &scanner.tokens()[ended..] {
         [token] => Some(token.kind),
         [_, token] => Some(token.kind),
         _ => None,
-    })
+    };
+    Ok((count, kind))
 }

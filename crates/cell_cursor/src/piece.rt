@@ -1,6 +1,6 @@
-//! Bytes that were read from a desk, and are taken out one at a time.
+//! Bytes that were read from a desk, and are taken out some at a time.
 
-ghost use Rattle.std.specs.Prelude.{◌≡◌, ◌<◌, ◌≤◌, ℕ, List, [], ◌∷◌, length, take, IsTrue, IfOk, IfSome, OnErr, MatchOption};
+ghost use Rattle.std.specs.Prelude.{◌≡◌, ◌<◌, ◌≤◌, ℕ, List, [], length, drop, IsTrue, IfOk, IfSome, OnErr};
 ghost use Rattle.text_io.specs.declared.slots.InSlot.TheVariants.{Library};
 ghost use Rattle.text_io.specs.declared.slots.Slot.TheVariants.{Input};
 ghost use Rattle.text_io.specs.Desk.{is_bound, HasCause};
@@ -44,16 +44,19 @@ impl Piece {
         }
     }
 
-    /// Takes out the next byte.
-    pub(crate) fn take_byte(&mut self) -> Option<u8>
-        ensures { MatchOption result ((self.old ≡ []) × (self.new ≡ [])) (λ byte. self.old ≡ byte ∷ self.new) }
+    /// The bytes that are not taken out yet.
+    pub(crate) fn unread(&self) -> &[u8]
+        ensures { result.now ≡ self.now }
     {
-        if self.next == self.end {
-            return None;
-        }
-        let byte = self.bytes[self.next];
-        self.next += 1;
-        Some(byte)
+        &self.bytes[self.next..self.end]
+    }
+
+    /// Takes out so many bytes.
+    pub(crate) fn take_out(&mut self, count: usize)
+        requires { count ≤ length self.old }
+        ensures { self.new ≡ drop count self.old }
+    {
+        self.next += count;
     }
 
     /// Reads the next bytes of the library, as many as the room is for and at most `most`, and answers how many. What was

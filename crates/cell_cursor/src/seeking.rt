@@ -51,8 +51,10 @@ impl CellCursor {
         ensures some { IfOk result (λ found. found ≡ true → (length self.new.piece < length self.old.piece) × (self.new.part.mode ≡ Between false)) }
         ensures none { IfOk result (λ found. found ≡ false → self.new.piece ≡ []) }
     {
-        while let Some(byte) = self.piece.take_byte() {
-            if self.part.scan(self.alloc, self.place, byte)? {
+        while !self.piece.unread().is_empty() {
+            let run = self.part.scan(self.alloc, self.place, self.piece.unread())?;
+            self.piece.take_out(run.count);
+            if run.may_end {
                 return Ok(true);
             }
         }

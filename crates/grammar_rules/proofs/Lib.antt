@@ -4,4 +4,6 @@ pub mod Exact
 pub mod Refusals
 pub mod Fronts
 pub mod Local
+pub mod Marks
 pub mod Places
+pub mod LooseLaws

@@ -97,7 +97,7 @@ local (Marked h p) s more i = marked_local h (read p s) (read p (s ++ more)) mor
 abbrev pub AtMost : {T K A : Type 0} → ℕ → Outcome T K A → Type 0
 AtMost n o = length (rest_of o) ≤ n
 
-then_within : {T K A B : Type 0} (o : Outcome T K A) (g : A → List T → Outcome T K B) (n : ℕ) → AtMost n o → ((a : A) (r : List T) → o ≡ Ok (a, r) → AtMost (length r) (g a r)) → AtMost n (and_then o g)
+pub then_within : {T K A B : Type 0} (o : Outcome T K A) (g : A → List T → Outcome T K B) (n : ℕ) → AtMost n o → ((a : A) (r : List T) → o ≡ Ok (a, r) → AtMost (length r) (g a r)) → AtMost n (and_then o g)
 then_within (Ok p) g n h i = let j = i p.0 p.1 refl in omega arith
 then_within (Err z) g n h i = h
 
@@ -114,7 +114,7 @@ first_within (Some (Fits a)) x m next other h i = let j = h a in omega arith
 first_within (Some (Foul k a)) x m next other h i = omega arith
 first_within (Some (Misfit k)) x m next other h i = omega arith
 
-repeat_within : {T K A S : Type 0} (f : S → T → Option (Verdict A K)) (go : S → A → List T → Outcome T K S) → ((w : S) (a : A) (m : List T) → AtMost (length m) (go w a m)) →
+pub repeat_within : {T K A S : Type 0} (f : S → T → Option (Verdict A K)) (go : S → A → List T → Outcome T K S) → ((w : S) (a : A) (m : List T) → AtMost (length m) (go w a m)) →
     (n : ℕ) (u : S) (s : List T) → AtMost (length s) (repeat f go n u s)
 repeat_within f go h zero u s = omega arith
 repeat_within f go h (suc n) u [] = omega arith

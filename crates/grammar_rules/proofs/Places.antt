@@ -28,7 +28,7 @@ has_one_reading {T} {K} {A} p = record {
 abbrev pub Suffix : {T : Type 0} → List T → List T → Type 0
 Suffix {T} s r = (front : List T) × (s ≡ front ++ r)
 
-suffix_trans : {T : Type 0} (s m r : List T) → Suffix s m → Suffix m r → Suffix s r
+pub suffix_trans : {T : Type 0} (s m r : List T) → Suffix s m → Suffix m r → Suffix s r
 suffix_trans s m r (f, e) (g, i) = (f ++ g, e ∙ ap (λ q. f ++ q) i ∙ sym (append_assoc f g r))
 
 then_suffix : {T K A B : Type 0} (o : Outcome T K A) (g : A → List T → Outcome T K B) (s : List T) → Suffix s (rest_of o) →
@@ -75,7 +75,7 @@ suffix (Marked h p) s = marked_suffix h (read p s) s (suffix p s)
     marked_suffix h (Ok p) s i = i
     marked_suffix h (Err z) s i = i
 
-rest-extended : {T K A : Type 0} (more : List T) (o : Outcome T K A) → rest_of (extended more o) ≡ rest_of o ++ more
+pub rest-extended : {T K A : Type 0} (more : List T) (o : Outcome T K A) → rest_of (extended more o) ≡ rest_of o ++ more
 rest-extended more (Ok p) = refl
 rest-extended more (Err z) = refl
 

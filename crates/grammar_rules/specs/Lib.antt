@@ -1,3 +1,4 @@
 pub mod Rule
 pub mod Reading
+pub mod Loose
 pub mod Laws

@@ -7,7 +7,8 @@
 #![tactic(auto)]
 
 ghost use Rattle.grammar_rules.specs.Rule.{Rule};
-ghost use Rattle.grammar_rules.specs.Laws.{ReadsExactly, HasOneReading, RefusesAtFirst, LooksOneAhead, FrontsAreUsedUp};
+ghost use Rattle.grammar_rules.specs.Loose.{loose};
+ghost use Rattle.grammar_rules.specs.Laws.{ReadsExactly, HasOneReading, RefusesAtFirst, LooksOneAhead, FrontsAreUsedUp, IsStricterThanLoose, FoulsInFronts};
 
 /// A grammar over tokens, with kinds of faults, whose phrases stand for values.
 pub trait Grammar {
@@ -45,4 +46,20 @@ pub fn looks_one_ahead<G: Grammar>()
 /// Tokens are a front exactly where the rule takes them all, or refuses the end of the text after them.
 pub fn fronts_are_used_up<G: Grammar>()
     ensures { (g : G) → FrontsAreUsedUp (G.rule g) }
+{}
+
+/// What a rule takes and refuses is told by its loose subset, where tokens that break a strict rule are taken: a phrase has
+/// no such token, and a refusal is at the first of them, or, where there is none, where the loose subset refuses.
+pub fn is_stricter_than_loose<G: Grammar>()
+    ensures { (g : G) → IsStricterThanLoose (G.rule g) }
+{}
+
+/// A token that breaks a strict rule ends a front of the loose subset, and breaks one strict rule.
+pub fn fouls_in_fronts<G: Grammar>()
+    ensures { (g : G) → FoulsInFronts (G.rule g) }
+{}
+
+/// The place of a refusal of the loose subset is the first token with which the tokens so far are no front of it.
+pub fn loose_place_is_first<G: Grammar>()
+    ensures { (g : G) → RefusesAtFirst (loose (G.rule g)) }
 {}

@@ -5,6 +5,7 @@ pub mod Joined
 pub mod Numbers
 pub mod Places
 pub mod Quoting
+pub mod Runs
 pub mod Sound
 pub mod Spelling
 pub mod TextValues

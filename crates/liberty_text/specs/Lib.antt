@@ -1,5 +1,6 @@
 pub mod Cover
 pub mod Number
+pub mod Runs
 pub mod Scanner
 pub mod TextValue
 pub mod Time

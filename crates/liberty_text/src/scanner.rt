@@ -1,8 +1,9 @@
 //! Liberty text to tokens, byte by byte.
 
-ghost use Rattle.std.specs.Prelude.{◌≡◌, ◌++◌, ◌+◌, ◌<◌, ◌^◌, length, OnOk, IfOk, IfErr};
+ghost use Rattle.std.specs.Prelude.{◌≡◌, ◌++◌, ◌+◌, ◌<◌, ◌≤◌, ◌^◌, ℕ, length, take, OnOk, IfOk, IfErr};
 ghost use Rattle.std.specs.Prelude.{false, [], ◌∷◌};
 ghost use Rattle.liberty_text.specs.Scanner.{class_of, token, slash_at, opened, in_word_by, comment_in_word, in_text, in_comment, in_continuation, step, closing, scan_of};
+ghost use Rattle.liberty_text.specs.Runs.{mode_behind, tokens_ended};
 ghost use Rattle.std.specs.Prelude.{All};
 ghost use Rattle.liberty_text.specs.declared.token.Stop.TheVariants.{End};
 ghost use Rattle.liberty_text.specs.declared.scanner.Mode.TheVariants.{Between};
@@ -185,7 +186,7 @@ impl Scanner {
     }
 
     /// The byte at an offset, after those before it.
-    pub fn step(&mut self, at: usize, byte: u8) -> Result<(), Memory>
+    fn step(&mut self, at: usize, byte: u8) -> Result<(), Memory>
         requires { at + 1 < 2 ^ 64 }
         ensures mode { OnOk result (self.new.mode ≡ (step self.old.mode at byte).0) }
         ensures tokens { OnOk result (self.new.tokens.items ≡ self.old.tokens.items ++ (step self.old.mode at byte).1) }
@@ -219,6 +220,26 @@ impl Scanner {
             Mode::Stopped { .. } => {}
         }
         Ok(())
+    }
+
+    /// Reads bytes that begin at an offset, up to the first one with which a token ends, and that one too. How many they are:
+    /// all of them, where no token ends with them.
+    pub fn step_on(&mut self, at: usize, bytes: &[u8]) -> Result<usize, Memory>
+        requires { at + length bytes.now < 2 ^ 64 }
+        ensures count { IfOk result (λ count. count ≤ length bytes.now) }
+        ensures mode { IfOk result (λ count. self.new.mode ≡ mode_behind self.old.mode at (take count bytes.now)) }
+        ensures tokens { IfOk result (λ count. self.new.tokens.items ≡ self.old.tokens.items ++ tokens_ended self.old.mode at (take count bytes.now)) }
+        ensures none_before { IfOk result (λ count. (n : ℕ) → n < count → tokens_ended self.old.mode at (take n bytes.now) ≡ []) }
+        ensures all { IfOk result (λ count. tokens_ended self.old.mode at (take count bytes.now) ≡ [] → count ≡ length bytes.now) }
+    {
+        let ended = self.tokens().len();
+        for (index, byte) in bytes.iter().enumerate() {
+            self.step(at + index, *byte)?;
+            if self.tokens().len() != ended {
+                return Ok(index + 1);
+            }
+        }
+        Ok(bytes.len())
     }
 
     /// What there is where the bytes end, at an offset.

@@ -6,3 +6,6 @@ pub mod ApartLemmas
 pub mod ConditionLemmas
 pub mod Soundness
 mod Examples
+pub mod VerilogAnswers
+mod VerilogExamples
+mod VerilogReadings

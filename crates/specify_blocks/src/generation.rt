@@ -27,7 +27,7 @@ pub fn verilog_model(alloc: Global, cell: &Cell) -> Result<VModule, Memory>
         ports: verilog_ports(alloc, cell.pins.as_slice())?,
         wires: wires_of(alloc, cell, conditions.len())?,
         notifier: notifier_of(alloc, cell)?,
-        udps: primitives_of(alloc, cell, conditions.len())?,
+        udps: primitives_of(alloc, cell, &conditions)?,
         instances: instances_of(alloc, cell, &conditions)?,
         paths: paths_of(alloc, cell, &conditions)?,
         checks: checks_of(alloc, cell, &conditions)?,

@@ -1,28 +1,30 @@
 //! The primitives of a cell's module.
-ghost use Rattle.std.specs.Prelude.{◌≡◌, ◌++◌, IfOk, OnOk};
+ghost use Rattle.std.specs.Prelude.{◌≡◌, ◌++◌, map, IfOk, OnOk};
 ghost use Rattle.udp_tables.specs.CellData.{data_of};
-ghost use Rattle.specify_blocks.specs.Generated.{condition_count, group_primitives, condition_primitives, output_primitives, primitives_of};
+ghost use Rattle.udp_tables.specs.Conditions.{conditions_of};
+ghost use Rattle.specify_blocks.specs.Generated.{group_primitives, condition_primitives, output_primitives, primitives_of};
 
 use crate::faults::Memory;
 use crate::instances::has_sources;
+use bool_functions::Function;
 use cell_machine::Cell;
 use sqlite_items::Items;
 use std::alloc::Global;
-use udp_tables::{Part, Udp, combinational_udp, sequential_udp};
+use udp_tables::{Part, Udp, part_udp, sequential_udp};
 
-/// The primitives of a cell's module, where the cell has so many conditions: groups, conditions, outputs.
+/// The primitives of a cell's module, where these are the cell's conditions: groups, conditions, outputs.
 pub(crate) fn primitives_of(
     alloc: Global,
     cell: &Cell,
-    conditions: usize,
+    conditions: &[&Function],
 ) -> Result<Items<Udp>, Memory>
-    requires { conditions ≡ condition_count (data_of cell.now) }
+    requires { map (λ condition. condition.now) conditions.now ≡ conditions_of (data_of cell.now) }
     ensures { IfOk result (λ udps. udps ≡ primitives_of (data_of cell.now)) }
 {
     let mut udps = Items::new(alloc);
     add_groups(alloc, &mut udps, cell)?;
     add_conditions(alloc, &mut udps, cell, conditions)?;
-    add_outputs(alloc, &mut udps, cell)?;
+    add_outputs(alloc, &mut udps, cell, conditions)?;
     Ok(udps)
 }
 
@@ -41,25 +43,31 @@ fn add_conditions(
     alloc: Global,
     udps: &mut Items<Udp>,
     cell: &Cell,
-    count: usize,
+    conditions: &[&Function],
 ) -> Result<(), Memory>
-    requires { count ≡ condition_count (data_of cell.now) }
+    requires { map (λ condition. condition.now) conditions.now ≡ conditions_of (data_of cell.now) }
     ensures { OnOk result (udps.new ≡ udps.old ++ condition_primitives (data_of cell.now)) }
 {
-    for condition in 0..count {
-        udps.push(combinational_udp(alloc, cell, Part::Condition(condition))?)?;
+    for condition in 0..conditions.len() {
+        udps.push(part_udp(alloc, cell, conditions, Part::Condition(condition))?)?;
     }
     Ok(())
 }
 
 /// Adds the primitives of the outputs that depend on something.
-fn add_outputs(alloc: Global, udps: &mut Items<Udp>, cell: &Cell) -> Result<(), Memory>
+fn add_outputs(
+    alloc: Global,
+    udps: &mut Items<Udp>,
+    cell: &Cell,
+    conditions: &[&Function],
+) -> Result<(), Memory>
+    requires { map (λ condition. condition.now) conditions.now ≡ conditions_of (data_of cell.now) }
     ensures { OnOk result (udps.new ≡ udps.old ++ output_primitives (data_of cell.now) 0 cell.now.outputs) }
 {
     for i in 0..cell.outputs.len() {
         let output = cell.output_pin(i);
         if has_sources(output) {
-            udps.push(combinational_udp(alloc, cell, Part::Output(i))?)?;
+            udps.push(part_udp(alloc, cell, conditions, Part::Output(i))?)?;
         }
     }
     Ok(())

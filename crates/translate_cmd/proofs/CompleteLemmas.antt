@@ -1,11 +1,10 @@
 -- A run on which no call failed did all that it was asked for.
-use Rattle.std.proofs.Common.{◌≡◌, ◌≤◌, ℕ, Bool, true, false, List, [], take, length, nat_le, ◌⊎◌, inl, inr, if◌then◌else◌, IsTrue, Result, Ok, Err, MatchResult, refl, sym, ap, ◌∙◌, arith}
+use Rattle.std.proofs.Common.{◌≡◌, ◌≤◌, ℕ, Bool, true, false, List, [], take, length, nat_le, ◌⊎◌, inl, inr, if◌then◌else◌, IsTrue, refl, sym, ap, ◌∙◌, arith}
 use Rattle.std.proofs.lemmas.List.{take_all}
 use Rattle.std.proofs.lemmas.Bool.Decides.{nat_tests}
-use Rattle.text_io.specs.declared.outside.Failed.{Failed}
 use Rattle.text_io.specs.declared.slots.InSlot.TheVariants.{Library}
 use Rattle.text_io.specs.declared.slots.OutSlot.TheVariants.{Faults}
-use Rattle.text_io.specs.Desk.{DeskState, Folder, took, wrote, Rose, HasCause}
+use Rattle.text_io.specs.Desk.{DeskState, Folder, took, wrote}
 use Rattle.text_io.proofs.Wrote.{wrote-nil}
 use Rattle.cell_cursor.specs.Ends.{end_within}
 use Rattle.cell_cursor.specs.declared.item.LibraryItem.{LibraryItem}
@@ -24,12 +23,6 @@ use Rattle.translate_cmd.specs.Outcome.{outcome_of, outcome, library_bytes, Tell
 use Rattle.translate_cmd.specs.Runs.{Runs}
 use Rattle.translate_cmd.specs.Complete.{IsWholeLibrary, CanBeDone, IsAllDone, Completes}
 use Rattle.translate_cmd.proofs.TranslateLemmas.{named_bytes}
-
--- the primitive could not be written
-pub unwritten : {T : Type 0} (before now : ℕ) (written : Result T Failed) (result : Status) → HasCause before now written
-    → MatchResult written (λ _. result ≡ status.Done) (λ _. result ≡ status.Outside) → result ≡ status.Outside → Rose before now
-unwritten before now (Ok x) result cause r outside = absurd (let h : status.Done ≡ status.Outside = sym r ∙ outside in cc)
-unwritten before now (Err y) result cause r outside = cause.failed
 
 -- how a status came about
 decided_or : (s : Status) → (s ≡ status.Outside) ⊎ ((s ≡ status.Memory) ⊎ IsTrue (is_decided s))

@@ -39,6 +39,16 @@ pub fn run<D: Desk>(alloc: Global, desk: &mut D) -> Status
     ensures later { D.faults desk.old ≤ D.faults desk.new }
     ensures complete { (Rose (D.faults desk.old) (D.faults desk.new) → ⊥) → Completes (D.state desk.old) (D.state desk.new) result }
 {
+    carry_out(alloc, desk)
+}
+
+/// Carries out the command that the desk's words ask for.
+fn carry_out<D: Desk>(alloc: Global, desk: &mut D) -> Status
+    ensures writes { Runs (D.state desk.old) (D.state desk.new) result }
+    ensures usage { IsTrue (is_decided result) → (result ≡ Status.Usage ↔ reading (D.state desk.old).words ≡ command.Usage) }
+    ensures outside { result ≡ Status.Outside → Rose (D.faults desk.old) (D.faults desk.new) }
+    ensures later { D.faults desk.old ≤ D.faults desk.new }
+{
     match asked(alloc, desk) {
         Ok(Command::Udp(udp)) => ended(write_udp(desk, OutSlot::Report, &udp), Status::Done),
         Ok(Command::Translate) => translate(alloc, desk),

@@ -1,6 +1,7 @@
 //! A library that is cut at each of its bytes: the cells that ended before the cut are written.
 use crate::library_desk::translated;
 use crate::three_cells::{NO_MODULE, ONE_MODULE, THREE_CELLS, THREE_LINES, TWO_MODULES};
+use std::alloc::Global;
 use std::test::Fail;
 use text_io::OutSlot;
 
@@ -15,21 +16,27 @@ fn cut_to(length: usize) -> (u8, &'static str, usize) {
     }
 }
 
+/// Whether the library of three cells, cut to this length, comes to that, where a call moves at most `piece` bytes.
+fn is_cut_well(alloc: Global, length: usize, piece: usize) -> Result<bool, Fail> {
+    let library = THREE_CELLS.as_bytes().get(..length).ok_or("too long")?;
+    let (code, verilog, lines) = cut_to(length);
+    let (status, desk) = translated(alloc, library, &[], piece)?;
+    let report = desk.written(OutSlot::Report);
+    Ok(
+        status.code() == code
+            && desk.written(OutSlot::VerilogText) == verilog.as_bytes()
+            && THREE_LINES.as_bytes().starts_with(report)
+            && report.iter().filter(|byte| **byte == b'\n').count() == lines,
+    )
+}
+
 #[test]
 fn cells_before_a_cut_are_written(rt: HostRuntime) -> Result<(), Fail> {
-    let alloc = rt.alloc();
     assert_eq!(rt; THREE_CELLS.len(), 317);
-    for piece in [1, 7, 4096] {
-        for length in 0..318 {
-            let library = THREE_CELLS.as_bytes().get(..length).ok_or("too long")?;
-            let (code, verilog, lines) = cut_to(length);
-            let (status, desk) = translated(alloc, library, &[], piece)?;
-            assert_eq!(rt; status.code(), code, "cut to {length}");
-            assert_eq!(rt; desk.written(OutSlot::VerilogText), verilog.as_bytes());
-            let report = desk.written(OutSlot::Report);
-            assert!(rt; THREE_LINES.as_bytes().starts_with(report));
-            assert_eq!(rt; report.iter().filter(|byte| **byte == b'\n').count(), lines);
-        }
+    for length in 0..318 {
+        assert!(rt; is_cut_well(rt.alloc(), length, 1)?, "cut to {length}");
+        assert!(rt; is_cut_well(rt.alloc(), length, 7)?, "cut to {length}");
+        assert!(rt; is_cut_well(rt.alloc(), length, 4096)?, "cut to {length}");
     }
     Ok(())
 }

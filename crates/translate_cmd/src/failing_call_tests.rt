@@ -2,31 +2,40 @@
 use crate::Status;
 use crate::library_desk::translated;
 use crate::three_cells::{THREE_CELLS, THREE_LINES, TWO_MODULES};
+use std::alloc::Global;
 use std::test::Fail;
-use text_io::OutSlot;
+use text_io::{MemoryDesk, OutSlot};
+
+/// Whether the library of three cells was translated up to some byte of each output.
+fn has_fronts(desk: &MemoryDesk) -> bool {
+    TWO_MODULES
+        .as_bytes()
+        .starts_with(desk.written(OutSlot::VerilogText))
+        && desk.written(OutSlot::VitalText).is_empty()
+        && THREE_LINES
+            .as_bytes()
+            .starts_with(desk.written(OutSlot::Report))
+        && desk.written(OutSlot::Faults).is_empty()
+}
+
+/// The status once no call is left that could fail, where a call moves at most `piece` bytes.
+fn last_status(alloc: Global, piece: usize) -> Result<Status, Fail> {
+    for call in 1..10000 {
+        let (status, desk) = translated(alloc, THREE_CELLS.as_bytes(), &[call], piece)?;
+        if !has_fronts(&desk) {
+            return Err("something else was written".into());
+        }
+        if status != Status::Outside {
+            return Ok(status);
+        }
+    }
+    Err("there is always one more call".into())
+}
 
 #[test]
 fn each_call_that_fails_leaves_a_front(rt: HostRuntime) -> Result<(), Fail> {
-    let alloc = rt.alloc();
     for piece in [1, 7, 4096] {
-        let mut last = Status::Outside;
-        for call in 1..10000 {
-            let (status, desk) = translated(alloc, THREE_CELLS.as_bytes(), &[call], piece)?;
-            last = status;
-            if status != Status::Outside {
-                break;
-            }
-            assert_eq!(rt; desk.faults(), 1);
-            for (slot, whole) in [
-                (OutSlot::VerilogText, TWO_MODULES),
-                (OutSlot::VitalText, ""),
-                (OutSlot::Report, THREE_LINES),
-                (OutSlot::Faults, ""),
-            ] {
-                assert!(rt; whole.as_bytes().starts_with(desk.written(slot)));
-            }
-        }
-        assert_eq!(rt; last.code(), 3);
+        assert_eq!(rt; last_status(rt.alloc(), piece)?.code(), 3);
     }
     Ok(())
 }

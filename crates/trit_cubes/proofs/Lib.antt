@@ -8,3 +8,4 @@ pub mod HalvesLemmas
 pub mod TryingLemmas
 pub mod RowLemmas
 pub mod PointLemmas
+pub mod ConstantLemmas

@@ -1,4 +1,4 @@
-ghost use Rattle.std.specs.Prelude.{◌≡◌, ◌↔◌, ◌<◌, ◌≤◌, [], ◌∷◌, length, slice_get, IsNone, IfSome};
+ghost use Rattle.std.specs.Prelude.{◌≡◌, ◌↔◌, ◌<◌, ◌≤◌, [], ◌∷◌, length, replicate, slice_get, IsNone, IfSome};
 ghost use Rattle.trit_cubes.specs.Words.{fixed_word, value_word};
 
 use crate::trits::Trit;
@@ -39,6 +39,18 @@ impl Cube {
     {
         Cube {
             len: 0,
+            fixed: 0,
+            values: 0,
+        }
+    }
+
+    /// The cube of `n` free places.
+    pub fn free(n: usize) -> Cube
+        requires { n ≤ 10 }
+        ensures { result ≡ replicate n Trit.Unknown }
+    {
+        Cube {
+            len: n,
             fixed: 0,
             values: 0,
         }

@@ -1,4 +1,4 @@
-ghost use Rattle.std.specs.Prelude.{◌≡◌, ◌+◌, ◌*◌, ◌/◌, ◌^◌, ◌<◌, ◌≤◌, Bool, List, ◌∷◌, ◌&&◌, length, IfOk, vec_len};
+ghost use Rattle.std.specs.Prelude.{◌≡◌, ℕ, ◌+◌, ◌*◌, ◌/◌, ◌^◌, ◌<◌, ◌≤◌, Bool, false, List, ◌∷◌, ◌&&◌, length, slice_index_or, IfOk, IfSome, IsNone, vec_len};
 ghost use Rattle.trit_cubes.specs.Sets.{has, common};
 ghost use Rattle.trit_cubes.specs.Prime.{prime_list};
 
@@ -14,8 +14,8 @@ pub fn primes(alloc: Global, n: usize, set: &[bool]) -> Result<Vec<Cube>, Memory
     requires entries { length set.now ≡ 2 ^ n }
     ensures { IfOk result (λ found. found.items ≡ prime_list n (has set.now)) }
 {
-    if n == 0 {
-        return of_no_places(alloc, set[0]);
+    if let Some(all) = common_entry(set) {
+        return of_all_or_none(alloc, n, all);
     }
     let zero_half = half(alloc, set, false)?;
     let one_half = half(alloc, set, true)?;
@@ -27,14 +27,30 @@ pub fn primes(alloc: Global, n: usize, set: &[bool]) -> Result<Vec<Cube>, Memory
     Ok(found)
 }
 
-// The primes of a set over no places, which has the one point or not.
-fn of_no_places(alloc: Global, whole: bool) -> Result<Vec<Cube>, Memory>
-    ensures { IfOk result (λ found. found.items ≡ prime_list 0 (λ _. whole)) }
+// The value that all entries of a table have, if they have one.
+fn common_entry(set: &[bool]) -> Option<bool>
+    requires { 0 < length set.now }
+    ensures some { IfSome result (λ all. (k : ℕ) → k < length set.now → slice_index_or set.now k false ≡ all) }
+    ensures none { IsNone result → 1 < length set.now }
+{
+    let first = set[0];
+    if set.iter().all(|entry| *entry == first) {
+        Some(first)
+    } else {
+        None
+    }
+}
+
+// The primes of the set of all points, or of the empty set.
+fn of_all_or_none(alloc: Global, n: usize, all: bool) -> Result<Vec<Cube>, Memory>
+    requires { n ≤ 10 }
+    ensures { IfOk result (λ found. found.items ≡ prime_list n (λ _. all)) }
 {
     let mut found = Vec::new(alloc);
-    if whole {
-        found.push(Cube::empty())?;
+    if !all {
+        return Ok(found);
     }
+    found.push(Cube::free(n))?;
     Ok(found)
 }
 

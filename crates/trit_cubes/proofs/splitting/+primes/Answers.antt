@@ -1,44 +1,45 @@
-use Rattle.std.proofs.Common.{◌-◌, Bool, List, ap, ◌∙◌, arith}
+use Rattle.std.proofs.Common.{◌-◌, Bool, List, refl, ap, ◌∙◌, arith}
 use Rattle.trit_cubes.specs.declared.trits.Trit.{Trit}
 use Rattle.trit_cubes.specs.Sets.{has, common}
 use Rattle.trit_cubes.specs.Prime.{prime_list}
+use Rattle.trit_cubes.proofs.ConstantLemmas.{primes-of-entries, some-places}
 use Rattle.trit_cubes.proofs.HalvesLemmas.{length-half, primes-short, primes-halves}
 use Rattle.trit_cubes.proofs.splitting.+primes.Goals as goal
 
 pub primes-requires : goal.primes-requires
 primes-requires m c =
-    let zero = length-half c.args.n _ _ c.if-n-eq0.false c.requires.entries c.in_ok-zero_half.ensures.entries in
-    (omega (arith, c.decreases, c.if-n-eq0.false), (omega (arith, c.requires.short), c.deref-3.ensures.len ∙ zero.0))
+    let zero = length-half c.args.n _ _ (some-places _ _ c.requires.entries (c.in_default.ensures.none refl)) c.requires.entries c.in_ok-zero_half.ensures.entries in
+    (omega (arith, c.decreases, (some-places _ _ c.requires.entries (c.in_default.ensures.none refl))), (omega (arith, c.requires.short), c.deref-3.ensures.len ∙ zero.0))
 
 pub primes-requires-2 : goal.primes-requires-2
 primes-requires-2 m c =
-    let one = length-half c.args.n _ _ c.if-n-eq0.false c.requires.entries c.in_ok-one_half.ensures.entries in
-    (omega (arith, c.decreases, c.if-n-eq0.false), (omega (arith, c.requires.short), c.deref-4.ensures.len ∙ one.0))
+    let one = length-half c.args.n _ _ (some-places _ _ c.requires.entries (c.in_default.ensures.none refl)) c.requires.entries c.in_ok-one_half.ensures.entries in
+    (omega (arith, c.decreases, (some-places _ _ c.requires.entries (c.in_default.ensures.none refl))), (omega (arith, c.requires.short), c.deref-4.ensures.len ∙ one.0))
 
 pub primes-requires-3 : goal.primes-requires-3
 primes-requires-3 m c =
-    let zero = length-half c.args.n _ _ c.if-n-eq0.false c.requires.entries c.in_ok-zero_half.ensures.entries in
-    (omega (arith, c.decreases, c.if-n-eq0.false), (omega (arith, c.requires.short), c.deref-5.ensures.len ∙ c.in_ok-both_halves.ensures.entries ∙ c.deref.ensures.len ∙ zero.0))
+    let zero = length-half c.args.n _ _ (some-places _ _ c.requires.entries (c.in_default.ensures.none refl)) c.requires.entries c.in_ok-zero_half.ensures.entries in
+    (omega (arith, c.decreases, (some-places _ _ c.requires.entries (c.in_default.ensures.none refl))), (omega (arith, c.requires.short), c.deref-5.ensures.len ∙ c.in_ok-both_halves.ensures.entries ∙ c.deref.ensures.len ∙ zero.0))
 
 pub merge-requires-clause-zero_short : goal.merge-requires-clause-zero_short
-merge-requires-clause-zero_short m c = primes-short (c.args.n - 1) (has c.deref-3.result.now) _ (c.deref-6.ensures.value ∙ c.in_ok-zero.ensures) (omega (arith, c.requires.short, c.if-n-eq0.false))
+merge-requires-clause-zero_short m c = primes-short (c.args.n - 1) (has c.deref-3.result.now) _ (c.deref-6.ensures.value ∙ c.in_ok-zero.ensures) (omega (arith, c.requires.short, (some-places _ _ c.requires.entries (c.in_default.ensures.none refl))))
 
 pub merge-requires-clause-one_short : goal.merge-requires-clause-one_short
-merge-requires-clause-one_short m c = primes-short (c.args.n - 1) (has c.deref-4.result.now) _ (c.deref-7.ensures.value ∙ c.in_ok-one.ensures) (omega (arith, c.requires.short, c.if-n-eq0.false))
+merge-requires-clause-one_short m c = primes-short (c.args.n - 1) (has c.deref-4.result.now) _ (c.deref-7.ensures.value ∙ c.in_ok-one.ensures) (omega (arith, c.requires.short, (some-places _ _ c.requires.entries (c.in_default.ensures.none refl))))
 
 pub merge-requires-clause-both_short : goal.merge-requires-clause-both_short
-merge-requires-clause-both_short m c = primes-short (c.args.n - 1) (has c.deref-5.result.now) _ (c.deref-8.ensures.value ∙ c.in_ok-both.ensures) (omega (arith, c.requires.short, c.if-n-eq0.false))
+merge-requires-clause-both_short m c = primes-short (c.args.n - 1) (has c.deref-5.result.now) _ (c.deref-8.ensures.value ∙ c.in_ok-both.ensures) (omega (arith, c.requires.short, (some-places _ _ c.requires.entries (c.in_default.ensures.none refl))))
 
 pub returns : goal.returns
 returns m c =
     let zero_half = c.in_ok-zero_half.zero_half.items in
     let one_half = c.in_ok-one_half.one_half.items in
     let both_half = c.in_ok-both_halves.both_halves.items in
-    let zero_long = (length-half c.args.n _ _ c.if-n-eq0.false c.requires.entries c.in_ok-zero_half.ensures.entries).1 in
-    let one_long = (length-half c.args.n _ _ c.if-n-eq0.false c.requires.entries c.in_ok-one_half.ensures.entries).1 in
+    let zero_long = (length-half c.args.n _ _ (some-places _ _ c.requires.entries (c.in_default.ensures.none refl)) c.requires.entries c.in_ok-zero_half.ensures.entries).1 in
+    let one_long = (length-half c.args.n _ _ (some-places _ _ c.requires.entries (c.in_default.ensures.none refl)) c.requires.entries c.in_ok-one_half.ensures.entries).1 in
     let primes_of : List Bool → List (List Trit) = λ t. prime_list (c.args.n - 1) (has t) in
     c.in_ok-found.ensures
-    ∙ primes-halves c.args.n c.args.set.now zero_half one_half both_half _ _ _ c.if-n-eq0.false
+    ∙ primes-halves c.args.n c.args.set.now zero_half one_half both_half _ _ _ (some-places _ _ c.requires.entries (c.in_default.ensures.none refl))
     (λ p. c.in_ok-zero_half.ensures.values p zero_long)
     (λ p. c.in_ok-one_half.ensures.values p one_long)
     (λ p. c.in_ok-both_halves.ensures.values p
@@ -47,3 +48,7 @@ returns m c =
     (c.deref-6.ensures.value ∙ c.in_ok-zero.ensures ∙ ap primes_of c.deref-3.ensures.value)
     (c.deref-7.ensures.value ∙ c.in_ok-one.ensures ∙ ap primes_of c.deref-4.ensures.value)
     (c.deref-8.ensures.value ∙ c.in_ok-both.ensures ∙ ap primes_of c.deref-5.ensures.value)
+
+pub returns-in-Some : goal.returns-in-Some
+returns-in-Some m c =
+    rw (← primes-of-entries c.args.n c.args.set.now c.in-Some.all c.requires.entries c.in-Some.ensures.some) c.of_all_or_none.ensures

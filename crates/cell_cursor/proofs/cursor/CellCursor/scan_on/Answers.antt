@@ -1,28 +1,26 @@
-use Rattle.std.proofs.Common.{◌∷◌, ◌∙◌, [], refl, sym, ap, length, arith, length-append}
-use Rattle.cell_cursor.proofs.GivenLemmas.{goes_further, goes_so_far}
+use Rattle.std.proofs.Common.{refl, arith}
+use Rattle.cell_cursor.proofs.GivenLemmas.{goes_further, goes_so_far, sizes_of}
 use Rattle.cell_cursor.proofs.StandsLemmas.{goes_same}
 use Rattle.cell_cursor.proofs.cursor.CellCursor.scan_on.Goals as goal
 
-pub loop-byte-preserved : goal.loop-byte-preserved
-loop-byte-preserved c =
-    let size = ap length c.in_ok-scan.ensures.bytes in
-    let less = ap length c.in-Some.ensures in
+pub loop-self-preserved : goal.loop-self-preserved
+loop-self-preserved c =
+    let sizes = sizes_of c.loop-self.self.part.bytes c.scan.new.self.bytes c.loop-self.self.piece c.take_out.new.self c.in_ok-run.run'.count c.unread-in-loop-self.result.now c.unread-in-loop-self.ensures c.in_ok-run.ensures.bytes c.take_out.ensures c.in_ok-run.ensures.count in
     record {
-      limit = c.loop-byte.invariant.limit;
-      answer = c.loop-byte.invariant.answer;
-      waiting = c.loop-byte.invariant.waiting;
+      limit = c.loop-self.invariant.limit;
+      answer = c.loop-self.invariant.answer;
+      waiting = c.loop-self.invariant.waiting;
       goes = λ bytes items g.
-          goes_further c.loop-byte.self _ c.in_ok-scan.field-0 c.in-Some.byte c.if-branch.false refl c.in_ok-scan.ensures.before c.in_ok-scan.ensures.bytes c.in-Some.ensures c.in_ok-scan.ensures.scanned
-          c.in_ok-scan.ensures.outer bytes items (c.loop-byte.invariant.goes bytes items g);
-      taken = omega (arith, c.loop-byte.invariant.taken, size, less, c.in_ok-scan.ensures.before, length-append c.loop-byte.self.part.bytes (c.in-Some.byte ∷ []));
-      shorter = omega (arith, c.loop-byte.invariant.shorter, less);
+          goes_further c.loop-self.self _ c.in_ok-run.run'.may_end c.in_ok-run.run'.count c.unread-in-loop-self.result.now c.if-run.false c.unread-in-loop-self.ensures refl c.in_ok-run.ensures.before
+          c.in_ok-run.ensures.bytes c.take_out.ensures c.in_ok-run.ensures.count c.in_ok-run.ensures.scanned c.in_ok-run.ensures.none_before c.in_ok-run.ensures.outer bytes items (c.loop-self.invariant.goes bytes items g);
+      taken = omega (arith, c.loop-self.invariant.taken, sizes.0, sizes.1, c.in_ok-run.ensures.before);
+      shorter = omega (arith, c.loop-self.invariant.shorter, sizes.1);
     }
 
-pub returns-then-branch-clause-goes : goal.returns-then-branch-clause-goes
-returns-then-branch-clause-goes c = λ bytes items g.
-    goes_so_far c.loop-byte.self _ c.in_ok-scan.field-0 c.in-Some.byte c.if-branch.true refl c.in_ok-scan.ensures.before c.in_ok-scan.ensures.bytes c.in-Some.ensures c.in_ok-scan.ensures.scanned
-    c.in_ok-scan.ensures.outer bytes items (c.loop-byte.invariant.goes bytes items g)
+pub returns-then-run-clause-goes : goal.returns-then-run-clause-goes
+returns-then-run-clause-goes c = λ bytes items g.
+    goes_so_far c.loop-self.self _ c.in_ok-run.run'.may_end c.in_ok-run.run'.count c.unread-in-loop-self.result.now c.if-run.true c.unread-in-loop-self.ensures refl c.in_ok-run.ensures.before
+    c.in_ok-run.ensures.bytes c.take_out.ensures c.in_ok-run.ensures.count c.in_ok-run.ensures.scanned c.in_ok-run.ensures.none_before c.in_ok-run.ensures.outer bytes items (c.loop-self.invariant.goes bytes items g)
 
 pub returns-clause-goes : goal.returns-clause-goes
-returns-clause-goes c = λ bytes items g.
-    goes_same c.loop-byte.self _ refl (let none = c.in_default.ensures in none.1 ∙ sym none.0) refl bytes items (c.loop-byte.invariant.goes bytes items g)
+returns-clause-goes c = λ bytes items g. goes_same c.loop-self.self _ refl refl refl bytes items (c.loop-self.invariant.goes bytes items g)

@@ -4,8 +4,8 @@ use Rattle.cell_cursor.specs.Progress.{taken_by}
 use Rattle.cell_cursor.specs.Stands.{Goes}
 use Rattle.cell_cursor.proofs.cursor.CellCursor.scan_on.Given as goal
 
-abbrev pub invariant-loop-byte : goal.invariant-loop-byte
-invariant-loop-byte l = record {
+abbrev pub invariant-loop-self : goal.invariant-loop-self
+invariant-loop-self l = record {
   limit : l.self.limit ≡ l.initial.self.limit;
   answer : l.self.answer ≡ l.initial.self.answer;
   waiting : l.self.waiting.items ≡ l.initial.self.waiting.items;
@@ -14,5 +14,5 @@ invariant-loop-byte l = record {
   shorter : length l.self.piece ≤ length l.initial.self.piece;
 }
 
-abbrev pub decreases-loop-byte : goal.decreases-loop-byte
-decreases-loop-byte l = length l.self.piece
+abbrev pub decreases-loop-self : goal.decreases-loop-self
+decreases-loop-self l = length l.self.piece

@@ -1,6 +1,6 @@
--- The tokens that one byte gives, and the braces among them.
-use Rattle.std.proofs.Common.{◌≡◌, ℕ, ◌+◌, ◌-◌, ◌≤◌, ◌==◌, ◌&&◌, ◌||◌, not, Bool, true, false, List, [], ◌∷◌, ◌++◌, length, Option, Some, None, cond, ◌⊎◌, inl, inr, refl, sym, ap, subst, ◌∙◌, arith, length-append}
-use Rattle.std.proofs.lemmas.List.{append_assoc, append-nil}
+-- The tokens that some bytes give, of which there are at most two, and the braces among them.
+use Rattle.std.proofs.Common.{◌≡◌, ℕ, suc, ◌+◌, ◌-◌, ◌<◌, ◌≤◌, ◌==◌, ◌&&◌, ◌||◌, not, Bool, true, false, List, [], ◌∷◌, ◌++◌, take, length, Option, Some, None, cond, ◌⊎◌, inl, inr, refl, sym, ap, subst, ◌∙◌, arith, length-append}
+use Rattle.std.proofs.lemmas.List.{append_assoc, append-nil, length-take-le, take-take}
 use Rattle.liberty_text.specs.declared.token.TokenKind.{TokenKind}
 use Rattle.liberty_text.specs.declared.token.TokenKind.TheVariants.{Word, Text}
 use Rattle.liberty_text.specs.declared.token.Token.{Token}
@@ -11,7 +11,9 @@ use Rattle.liberty_text.specs.declared.scanner.Mode.TheVariants.{Between, InWord
 use Rattle.liberty_text.specs.Scanner.{class_of, token, opened_by, after_token, in_word_by, comment_in_word, in_continuation, step, closing}
 use Rattle.cell_cursor.specs.declared.part.Place.{Place}
 use Rattle.cell_cursor.specs.Braces.{begins_group, ends_group, depth_behind, depth_after, is_outer, has_outer, ShowsOuter, kinds_of}
-use Rattle.cell_cursor.specs.Scanned.{last_kind}
+use Rattle.liberty_text.specs.Runs.{mode_behind, tokens_ended}
+use Rattle.cell_cursor.specs.Scanned.{ends_by, last_kind}
+use Rattle.cell_cursor.proofs.Marks.{step_closes}
 use Rattle.cell_cursor.proofs.Depths.{or_false, depth_append, shows_append, kinds_append, plain_depth, word_plain, word_last}
 
 -- no token, or one, with a Word before it or not
@@ -86,14 +88,51 @@ few_depth d None kinds e = ap (depth_after d) e
 few_depth d (Some k) kinds (inl e) = ap (depth_after d) e
 few_depth d (Some k) kinds (inr e) = ap (depth_after d) e ∙ ap (λ (n : ℕ). depth_behind n k) (plain_depth d Word word_plain)
 
--- as found by the code
-pub byte_depth : (ts ts' : List Token) (mode : Mode) (at b : ℕ) (o : Option TokenKind) → ts' ≡ ts ++ (step mode at b).1 → o ≡ last_kind (step mode at b).1 →
-    depth_after 0 (kinds_of ts') ≡ depth_with (depth_after 0 (kinds_of ts)) o
-byte_depth ts ts' mode at b o e f =
+-- Bytes with which no token ends but with the last of them
+
+-- no token ends with the first of these bytes, as far as they are fewer than all
+abbrev pub NoneBefore : Mode → ℕ → List ℕ → Type 0
+NoneBefore mode at bytes = (n : ℕ) → n < length bytes → tokens_ended mode at (take n bytes) ≡ []
+
+first_none : (mode : Mode) (at b c : ℕ) (bs : List ℕ) → NoneBefore mode at (b ∷ c ∷ bs) → (step mode at b).1 ≡ []
+first_none mode at b c bs h = sym (append-nil (step mode at b).1) ∙ h 1 (omega arith)
+
+rest_none : (mode : Mode) (at b c : ℕ) (bs : List ℕ) → NoneBefore mode at (b ∷ c ∷ bs) → NoneBefore (step mode at b).0 (at + 1) (c ∷ bs)
+rest_none mode at b c bs h n less =
+    ap (λ (l : List Token). l ++ tokens_ended (step mode at b).0 (at + 1) (take n (c ∷ bs))) (sym (first_none mode at b c bs h)) ∙ h (suc n) (omega (arith, less))
+
+rest_ended : (mode : Mode) (at b c : ℕ) (bs : List ℕ) → NoneBefore mode at (b ∷ c ∷ bs) → tokens_ended (step mode at b).0 (at + 1) (c ∷ bs) ≡ tokens_ended mode at (b ∷ c ∷ bs)
+rest_ended mode at b c bs h = ap (λ (l : List Token). l ++ tokens_ended (step mode at b).0 (at + 1) (c ∷ bs)) (sym (first_none mode at b c bs h))
+
+-- the tokens are few
+abbrev pub AreFew : List Token → Type 0
+AreFew new = EndWith (last_kind new) (kinds_of new)
+
+pub run_few : (mode : Mode) (at : ℕ) (bytes : List ℕ) → NoneBefore mode at bytes → AreFew (tokens_ended mode at bytes)
+run_few mode at [] h = refl
+run_few mode at (b ∷ []) h = subst AreFew (sym (append-nil (step mode at b).1)) (step_few mode at b)
+run_few mode at (b ∷ c ∷ bs) h = subst AreFew (rest_ended mode at b c bs h) (run_few (step mode at b).0 (at + 1) (c ∷ bs) (rest_none mode at b c bs h))
+
+-- where a statement may end with the last of them nothing stands open behind it
+pub run_closes : (mode : Mode) (at : ℕ) (bytes : List ℕ) (k : TokenKind) → NoneBefore mode at bytes → last_kind (tokens_ended mode at bytes) ≡ Some k → ends_by k ≡ true →
+    mode_behind mode at bytes ≡ Between false
+run_closes mode at [] k h e i = absurd cc
+run_closes mode at (b ∷ []) k h e i = step_closes mode at b k (ap last_kind (sym (append-nil (step mode at b).1)) ∙ e) i
+run_closes mode at (b ∷ c ∷ bs) k h e i = run_closes (step mode at b).0 (at + 1) (c ∷ bs) k (rest_none mode at b c bs h) (ap last_kind (rest_ended mode at b c bs h) ∙ e) i
+
+-- with names of the code: the first of more bytes
+pub none_before_of : (mode : Mode) (at : ℕ) (more : List ℕ) (count : ℕ) → count ≤ length more → ((n : ℕ) → n < count → tokens_ended mode at (take n more) ≡ []) → NoneBefore mode at (take count more)
+none_before_of mode at more count within h n less =
+    let size : length (take count more) ≡ count = length-take-le count more within in
+    let l : n < count = omega (arith, less, size) in
+    ap (tokens_ended mode at) (take-take n count more (omega (arith, l))) ∙ h n l
+
+pub more_depth : (ts ts' new : List Token) (o : Option TokenKind) → ts' ≡ ts ++ new → o ≡ last_kind new → AreFew new → depth_after 0 (kinds_of ts') ≡ depth_with (depth_after 0 (kinds_of ts)) o
+more_depth ts ts' new o e f few =
     ap (λ (l : List Token). depth_after 0 (kinds_of l)) e
-    ∙ ap (depth_after 0) (kinds_append ts (step mode at b).1)
-    ∙ depth_append 0 (kinds_of ts) (kinds_of (step mode at b).1)
-    ∙ few_depth (depth_after 0 (kinds_of ts)) o (kinds_of (step mode at b).1) (subst (λ (l : Option TokenKind). EndWith l (kinds_of (step mode at b).1)) (sym f) (step_few mode at b))
+    ∙ ap (depth_after 0) (kinds_append ts new)
+    ∙ depth_append 0 (kinds_of ts) (kinds_of new)
+    ∙ few_depth (depth_after 0 (kinds_of ts)) o (kinds_of new) (subst (λ (l : Option TokenKind). EndWith l (kinds_of new)) (sym f) few)
 
 pub depth_more : (d : ℕ) (k : TokenKind) → depth_behind d k ≤ d + 1
 depth_more d k = by_kind (begins_group k) (ends_group k)
@@ -133,12 +172,11 @@ few_outer here kinds kinds' more (Some k) true (inl f) e h asked = (kinds, k, e 
 few_outer here kinds kinds' more (Some k) true (inr f) e h asked =
     (kinds ++ Word ∷ [], k, e ∙ ap (λ (l : List TokenKind). kinds ++ l) f ∙ sym (append_assoc kinds (Word ∷ []) (k ∷ [])), with_word here kinds h)
 
--- as found by the code
-pub byte_outer : (here : Place) (ts ts' : List Token) (mode : Mode) (at b : ℕ) (o : Option TokenKind) (may : Bool) → ts' ≡ ts ++ (step mode at b).1 → o ≡ last_kind (step mode at b).1 →
+more_outer : (here : Place) (ts ts' new : List Token) (o : Option TokenKind) (may : Bool) → ts' ≡ ts ++ new → o ≡ last_kind new → AreFew new →
     AskedOuter here (depth_after 0 (kinds_of ts)) may o → has_outer here (kinds_of ts) ≡ false → ShowsOuter may here (kinds_of ts')
-byte_outer here ts ts' mode at b o may e f asked h =
-    few_outer here (kinds_of ts) (kinds_of ts') (kinds_of (step mode at b).1) o may (subst (λ (l : Option TokenKind). EndWith l (kinds_of (step mode at b).1)) (sym f) (step_few mode at b))
-    (ap kinds_of e ∙ kinds_append ts (step mode at b).1) h asked
+more_outer here ts ts' new o may e f few asked h =
+    few_outer here (kinds_of ts) (kinds_of ts') (kinds_of new) o may (subst (λ (l : Option TokenKind). EndWith l (kinds_of new)) (sym f) few)
+    (ap kinds_of e ∙ kinds_append ts new) h asked
 
 closing_few : (mode : Mode) (at : ℕ) → (kinds_of (closing mode at).0 ≡ []) ⊎ (kinds_of (closing mode at).0 ≡ Word ∷ [])
 closing_few (Between line) at = inl refl
@@ -159,32 +197,34 @@ closing_outer here ts mode at h =
 
 -- with the names of the code: how many groups are open behind the last token, of whose kind there are two names
 
-pub counted_some : (ts ts' : List Token) (mode : Mode) (at b d d' : ℕ) (k kind : TokenKind) → ts' ≡ ts ++ (step mode at b).1 → Some k ≡ last_kind (step mode at b).1 →
+pub counted_some : (ts ts' new : List Token) (d d' : ℕ) (k kind : TokenKind) → ts' ≡ ts ++ new → Some k ≡ last_kind new → AreFew new →
     d ≡ depth_after 0 (kinds_of ts) → kind ≡ k → d' ≡ depth_behind d kind → d' ≡ depth_after 0 (kinds_of ts')
-counted_some ts ts' mode at b d d' k kind e f g same h =
-    h ∙ ap (λ (n : ℕ). depth_behind n kind) g ∙ ap (depth_behind (depth_after 0 (kinds_of ts))) same ∙ sym (byte_depth ts ts' mode at b (Some k) e f)
+counted_some ts ts' new d d' k kind e f few g same h =
+    h ∙ ap (λ (n : ℕ). depth_behind n kind) g ∙ ap (depth_behind (depth_after 0 (kinds_of ts))) same ∙ sym (more_depth ts ts' new (Some k) e f few)
 
-pub counted_none : (ts ts' : List Token) (mode : Mode) (at b d : ℕ) → ts' ≡ ts ++ (step mode at b).1 → None ≡ last_kind (step mode at b).1 →
+pub counted_none : (ts ts' new : List Token) (d : ℕ) → ts' ≡ ts ++ new → None ≡ last_kind new → AreFew new →
     d ≡ depth_after 0 (kinds_of ts) → d ≡ depth_after 0 (kinds_of ts')
-counted_none ts ts' mode at b d e f g = g ∙ sym (byte_depth ts ts' mode at b None e f)
+counted_none ts ts' new d e f few g = g ∙ sym (more_depth ts ts' new None e f few)
 
-pub outer_some : (here : Place) (ts ts' : List Token) (mode : Mode) (at b d d' : ℕ) (k kind : TokenKind) (may : Bool) → ts' ≡ ts ++ (step mode at b).1 → Some k ≡ last_kind (step mode at b).1 →
+pub outer_some : (here : Place) (ts ts' new : List Token) (d d' : ℕ) (k kind : TokenKind) (may : Bool) → ts' ≡ ts ++ new → Some k ≡ last_kind new → AreFew new →
     d ≡ depth_after 0 (kinds_of ts) → kind ≡ k → d' ≡ depth_behind d kind → (may ≡ false → (before : ℕ) → d' ≡ depth_behind before kind → is_outer here before kind ≡ false) →
     has_outer here (kinds_of ts) ≡ false → ShowsOuter may here (kinds_of ts')
-outer_some here ts ts' mode at b d d' k kind may e f g same h asked none =
-    byte_outer here ts ts' mode at b (Some k) may e f
+outer_some here ts ts' new d d' k kind may e f few g same h asked none =
+    more_outer here ts ts' new (Some k) may e f few
     (λ no. ap (λ (n : ℕ). is_outer here n k) (sym g) ∙ ap (is_outer here d) (sym same) ∙ asked no d h) none
 
-pub outer_none : (here : Place) (ts ts' : List Token) (mode : Mode) (at b : ℕ) → ts' ≡ ts ++ (step mode at b).1 → None ≡ last_kind (step mode at b).1 →
-    has_outer here (kinds_of ts) ≡ false → has_outer here (kinds_of ts') ≡ false
-outer_none here ts ts' mode at b e f none = byte_outer here ts ts' mode at b None false e f refl none
+pub outer_none : (here : Place) (ts ts' new : List Token) → ts' ≡ ts ++ new → None ≡ last_kind new → AreFew new → has_outer here (kinds_of ts) ≡ false → has_outer here (kinds_of ts') ≡ false
+outer_none here ts ts' new e f few none = more_outer here ts ts' new None false e f few refl none
 
-pub few_more : (bytes bytes' : List ℕ) (b d d' : ℕ) (kind : TokenKind) → bytes' ≡ bytes ++ b ∷ [] → d' ≡ depth_behind d kind → d ≤ length bytes → d' ≤ length bytes'
-few_more bytes bytes' b d d' kind e f h =
+-- a token ended, so there was a byte
+pub few_more : (mode : Mode) (at : ℕ) (bytes bytes' run : List ℕ) (d d' : ℕ) (k : TokenKind) → bytes' ≡ bytes ++ run → Some k ≡ last_kind (tokens_ended mode at run) →
+    d' ≡ depth_behind d k → d ≤ length bytes → d' ≤ length bytes'
+few_more mode at bytes bytes' [] d d' k e some f h = absurd cc
+few_more mode at bytes bytes' (b ∷ run) d d' k e some f h =
     let size = ap length e in
-    omega (arith, size, length-append bytes (b ∷ []), f, depth_more d kind, h)
+    omega (arith, size, length-append bytes (b ∷ run), f, depth_more d k, h)
 
-pub few_still : (bytes bytes' : List ℕ) (b d : ℕ) → bytes' ≡ bytes ++ b ∷ [] → d ≤ length bytes → d ≤ length bytes'
-few_still bytes bytes' b d e h =
+pub few_still : (bytes bytes' run : List ℕ) (d : ℕ) → bytes' ≡ bytes ++ run → d ≤ length bytes → d ≤ length bytes'
+few_still bytes bytes' run d e h =
     let size = ap length e in
-    omega (arith, size, length-append bytes (b ∷ []), h)
+    omega (arith, size, length-append bytes run, h)

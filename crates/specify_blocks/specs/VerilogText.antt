@@ -1,0 +1,194 @@
+-- Verilog text: the modules that its bytes are, or its fault. (IEEE 1364-2005, A.1, source text, and 19.8, `timescale; the subset is this
+-- project's.)
+use Rattle.std.specs.Prelude.{◌≡◌, ◌<◌, ◌≤◌, ◌⊎◌, ◌↔◌, ℕ, ◌==◌, Bool, true, false, ◌||◌, if◌then◌else◌, List, [], ◌∷◌, ◌++◌, length, Option, Some, None, Result, Ok, Err, codes}
+use Rattle.std.specs.Str.{bytes_eq}
+use Rattle.grammar_rules.specs.Rule.{Verdict, Fits, Takes, Refuses}
+use Rattle.grammar_rules.specs.Rule as r
+use Rattle.grammar_rules.specs.Reading.{Outcome, read}
+use Rattle.grammar_rules.specs.Loose.{loose, Fouls}
+use Rattle.udp_tables.specs.declared.table.Udp.{Udp}
+use Rattle.udp_tables.specs.declared.models.ModelFault.{ModelFault}
+use Rattle.udp_tables.specs.declared.models.ModelFault.TheVariants as fault
+use Rattle.specify_blocks.specs.declared.model.VModule.{VModule}
+use Rattle.specify_blocks.specs.VerilogTokens.{Token, scan_of, spellings}
+use Rattle.specify_blocks.specs.VerilogRules.{Refusal, Syntax, Undriven, fault_at, Grammar, ◌>>=◌, expect, expect_where, begins, begins_by, new_name}
+use Rattle.specify_blocks.specs.VerilogPrimitives.{primitive}
+use Rattle.specify_blocks.specs.VerilogModules.{declarations, instances, are_all_driven}
+use Rattle.specify_blocks.specs.VerilogBlocks.{specify}
+
+-- What stands before a place of a text: the modules, the names of all primitives and modules, and the primitives behind the last
+-- module.
+pub record Before : Type 0 where
+  pub modules : List VModule
+  pub names : List (List ℕ)
+  pub udps : List Udp
+
+abbrev pub nothing : Before
+nothing = record { modules = []; names = []; udps = [] }
+
+abbrev pub with_primitive : Before → Udp → Before
+with_primitive before udp = record { modules = before.modules; names = before.names ++ udp.name ∷ []; udps = before.udps ++ udp ∷ [] }
+
+abbrev pub with_module : Before → VModule → Before
+with_module before m = record { modules = before.modules ++ m ∷ []; names = before.names ++ m.name ∷ []; udps = [] }
+
+-- primitive, behind the word "primitive"
+unfoldable pub next_primitive : Before → Grammar Before
+next_primitive before = do
+  udp ← primitive before.names
+  r.Gives (with_primitive before udp)
+
+-- A module behind the word "module", where primitives and modules of these names stand before it and these primitives behind the
+-- module before: its declarations, its instances and its specify block. All its outputs and wires are driven.
+unfoldable pub one_module : List (List ℕ) → List Udp → Grammar VModule
+one_module names udps = do
+  name ← new_name names
+  declared ← declarations name udps
+  joined ← instances declared
+  m ← specify joined
+  _ ← expect_where (are_all_driven m) Undriven (codes "endmodule")
+  r.Gives m
+
+-- module, behind the word "module"
+unfoldable pub next_module : Before → Grammar Before
+next_module before = do
+  m ← one_module before.names before.udps
+  r.Gives (with_module before m)
+
+-- { primitive } behind others
+unfoldable pub more_primitives : Before → Grammar Before
+more_primitives before = r.Many (λ _. begins (codes "primitive")) (λ more _. next_primitive more) before
+
+-- { primitive } module, behind the word "primitive"
+unfoldable pub primitives_and_module : Before → Grammar Before
+primitives_and_module before = do
+  first ← next_primitive before
+  more ← more_primitives first
+  _ ← expect (codes "module")
+  next_module more
+
+-- the first token of { primitive } module
+abbrev pub is_design_start : List ℕ → Bool
+is_design_start x = bytes_eq x (codes "primitive") || bytes_eq x (codes "module")
+
+abbrev pub design_by : Before → Bool → Grammar Before
+design_by before true = primitives_and_module before
+design_by before false = next_module before
+
+-- { primitive } module, behind its first token
+abbrev pub design : Before → List ℕ → Grammar Before
+design before x = design_by before (bytes_eq x (codes "primitive"))
+
+-- { { primitive } module }
+unfoldable pub designs : Grammar Before
+designs = r.Many (λ _. begins_by is_design_start) design nothing
+
+-- "`timescale" "1ps" "/" "1ps" (19.8)
+unfoldable pub prelude : Grammar (Unit {0})
+prelude = do
+  _ ← expect (codes "`timescale")
+  _ ← expect (codes "1ps")
+  _ ← expect (codes "/")
+  expect (codes "1ps")
+
+-- the grammar of a text
+unfoldable pub file : Grammar (List VModule)
+file = do
+  _ ← prelude
+  all ← designs
+  r.Last (λ _. Syntax) all.modules
+
+-- the tokens of a text before its lexical fault, by their spelling
+abbrev pub text_tokens : List ℕ → List (List ℕ)
+text_tokens bytes = spellings (scan_of bytes).0
+
+-- the offset of the lexical fault, if there is one
+abbrev pub lexical_place : List ℕ → Option ℕ
+lexical_place bytes = (scan_of bytes).1
+
+-- The bytes are the text of these modules: they are tokens, without a lexical fault, that the grammar takes.
+pub record IsVerilogText (bytes : List ℕ) (modules : List VModule) : Type 0 where
+  pub lexes : lexical_place bytes ≡ None
+  pub takes : Takes file (text_tokens bytes) modules []
+
+-- the offset of the token with which so many tokens are left, and the length of the text where none is left
+abbrev pub place_from : ℕ → List Token → ℕ → ℕ
+place_from len [] left = len
+place_from len (t ∷ ts) left = if length (t ∷ ts) == left then t.at else place_from len ts left
+
+-- the offset of the first of the tokens that are left
+abbrev pub token_place : List ℕ → List (List ℕ) → ℕ
+token_place bytes left = place_from (length bytes) (scan_of bytes).0 (length left)
+
+-- A text meets a fault: a place where no token begins; a token that the loose subset takes, although it breaks a strict rule; the
+-- first token with which the tokens so far are no front of the loose subset; or the end of the text where it is a front and no text.
+abbrev pub MeetsFault : List ℕ → ModelFault → Type 0
+MeetsFault bytes f =
+    ((at : ℕ) × (lexical_place bytes ≡ Some at) × (f ≡ fault.Lexical at))
+    ⊎ (((k : Refusal) × (m : List (List ℕ)) × Fouls file (text_tokens bytes) k m × (f ≡ fault_at k (token_place bytes m)))
+    ⊎ (((k : Refusal) × (x : List ℕ) × (m : List (List ℕ)) × Refuses (loose file) (text_tokens bytes) k (x ∷ m) × (f ≡ fault_at k (token_place bytes (x ∷ m))))
+    ⊎ ((lexical_place bytes ≡ None) × (k : Refusal) × Refuses (loose file) (text_tokens bytes) k [] × (f ≡ fault_at k (length bytes)))))
+
+-- the offset of a fault
+abbrev pub fault_place : ModelFault → ℕ
+fault_place (fault.Lexical at) = at
+fault_place (fault.Syntax at) = at
+fault_place (fault.TwoEdges at) = at
+fault_place (fault.Width at) = at
+fault_place (fault.Undefined at) = at
+fault_place (fault.Twice at) = at
+fault_place (fault.Undriven at) = at
+fault_place (fault.Unequal at) = at
+fault_place fault.Memory = 0
+
+-- the number of a kind of fault, in the order in which they count at one offset
+abbrev pub fault_rank : ModelFault → ℕ
+fault_rank (fault.Lexical at) = 0
+fault_rank (fault.Syntax at) = 1
+fault_rank (fault.TwoEdges at) = 2
+fault_rank (fault.Width at) = 3
+fault_rank (fault.Undefined at) = 4
+fault_rank (fault.Twice at) = 5
+fault_rank (fault.Undriven at) = 6
+fault_rank (fault.Unequal at) = 7
+fault_rank fault.Memory = 8
+
+-- the least offset counts, and at one offset the first kind
+abbrev pub CountsBefore : ModelFault → ModelFault → Type 0
+CountsBefore f g = (fault_place f < fault_place g) ⊎ ((fault_place f ≡ fault_place g) × (fault_rank f ≤ fault_rank g))
+
+-- This is the fault of a text: of those that it meets, the first.
+pub record IsVerilogFault (bytes : List ℕ) (f : ModelFault) : Type 0 where
+  pub met : MeetsFault bytes f
+  pub first : (g : ModelFault) → MeetsFault bytes g → CountsBefore f g
+
+-- Below: the same as a function of the bytes.
+
+abbrev pub end_fault : ℕ → Refusal → Option ℕ → ModelFault
+end_fault len k None = fault_at k len
+end_fault len k (Some at) = fault.Lexical at
+
+-- the fault of a refusal before these tokens, in a text of this length with these tokens and this lexical fault
+abbrev pub refusal_fault : ℕ → List Token → Option ℕ → Refusal → List (List ℕ) → ModelFault
+refusal_fault len tokens lexical k [] = end_fault len k lexical
+refusal_fault len tokens lexical k (x ∷ m) = fault_at k (place_from len tokens (length (x ∷ m)))
+
+abbrev pub unless_lexical : {A : Type 0} → Option ℕ → A → Result A ModelFault
+unless_lexical None a = Ok a
+unless_lexical (Some at) a = Err (fault.Lexical at)
+
+abbrev pub answer_of : ℕ → List Token → Option ℕ → Outcome (List ℕ) Refusal (List VModule) → Result (List VModule) ModelFault
+answer_of len tokens lexical (Ok p) = unless_lexical lexical p.0
+answer_of len tokens lexical (Err e) = Err (refusal_fault len tokens lexical e.0 e.1)
+
+-- the modules of a text, or its fault
+unfoldable pub verilog_text : List ℕ → Result (List VModule) ModelFault
+verilog_text bytes = answer_of (length bytes) (scan_of bytes).0 (scan_of bytes).1 (read file (text_tokens bytes))
+
+-- A text has modules or a fault, and one of them.
+pub record IsVerilogAnswer (bytes : List ℕ) : Type 0 where
+  pub modules : (ms : List VModule) → IsVerilogText bytes ms ↔ (verilog_text bytes ≡ Ok ms)
+  pub fault : (f : ModelFault) → IsVerilogFault bytes f ↔ (verilog_text bytes ≡ Err f)
+
+abbrev pub VerilogTextHasOneAnswer : Type 0
+VerilogTextHasOneAnswer = (bytes : List ℕ) → IsVerilogAnswer bytes

@@ -1,0 +1,7 @@
+mod Examples
+pub mod Cuts
+pub mod TimeBounds
+pub mod Steps
+pub mod TraceTexts
+pub mod Entries
+pub mod Properness

@@ -1,0 +1,28 @@
+-- Laws of what is read, for the crates above.
+use Rattle.std.specs.Prelude.{◌≡◌, ℕ, ◌<◌, List, [], length, slice_get, All, Some, Ok}
+use Rattle.cell_machine.specs.History.{IsProperFrom}
+use Rattle.stimulus.specs.declared.catalog.CellFound.TheVariants as cells
+use Rattle.stimulus.specs.declared.catalog.PinFound.TheVariants as pins
+use Rattle.stimulus.specs.declared.ports.Ports.{Ports}
+use Rattle.stimulus.specs.declared.sections.Section.{Section}
+use Rattle.stimulus.specs.Catalog.{Listing, cell_found, pin_found}
+use Rattle.stimulus.specs.PortEntries.{NamedCells, listed}
+use Rattle.stimulus.specs.Stimulus.{stimulus_of}
+
+-- each input that a listing names of this cell has a number below n
+abbrev pub HasInputs : Listing → ℕ → ℕ → Type 0
+HasInputs listing cell n = (name : List ℕ) (pin : ℕ) → pin_found listing cell name ≡ pins.Input pin → pin < n
+
+-- A section is of a cell that the listing names, and its changes may be given to a simulator that has as many inputs as the
+-- cell, from its start on: each is of an input, and their times rise strictly.
+pub record IsSectionOf (listing : Listing) (section : Section) : Type 0 where
+  pub named : (name : List ℕ) × (cell_found listing name ≡ cells.Cell section.cell)
+  pub proper : (n : ℕ) → HasInputs listing section.cell n → IsProperFrom n [] section.changes
+
+-- the sections of a stimulus that is read are such
+abbrev pub SectionsAreProper : Type 0
+SectionsAreProper = (listing : Listing) (bytes : List ℕ) (sections : List Section) → stimulus_of listing bytes ≡ Ok sections → All (IsSectionOf listing) sections
+
+-- what a catalog of ports names as an input is one of its cell
+abbrev pub PortsAreInputs : Type 0
+PortsAreInputs = (named : NamedCells) (cell : ℕ) (ports : Ports) → slice_get named.cells cell ≡ Some ports → HasInputs (listed named) cell (length ports.inputs)

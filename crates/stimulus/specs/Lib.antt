@@ -1,0 +1,13 @@
+pub mod Text
+pub mod Written
+pub mod Times
+pub mod Catalog
+pub mod PortEntries
+pub mod PortPlaces
+pub mod CauseWords
+pub mod Context
+pub mod Judged
+pub mod Sections
+pub mod Stimulus
+pub mod TraceLine
+pub mod Laws

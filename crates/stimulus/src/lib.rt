@@ -1,0 +1,26 @@
+//! Stimulus files: the changes that a simulator is given, section by section, and the lines of a trace that it shows.
+#![tactic(auto)]
+
+mod catalog;
+mod context;
+mod faults;
+mod judged;
+mod laws;
+mod lines;
+mod ports;
+mod read;
+mod sections;
+#[cfg(test)]
+mod tests;
+mod times;
+mod trace;
+mod written;
+
+pub use catalog::{Catalog, CellFound, PinFound};
+pub use faults::{Cause, Memory, StimulusFault};
+pub use judged::MAX_CHANGES;
+pub use laws::{ports_are_inputs, sections_are_proper};
+pub use ports::{PortCatalog, Ports, Standing};
+pub use read::read_stimulus;
+pub use sections::Section;
+pub use trace::trace_line;

@@ -1,0 +1,30 @@
+//! Times.
+ghost use Rattle.std.specs.Prelude.{◌≡◌};
+ghost use Rattle.stimulus.specs.Times.{is_digit as is_digit_of, time_of as time_of_word};
+
+/// The most digits that a time may have.
+const MAX_DIGITS: usize = 15;
+
+/// Whether a byte is a decimal digit.
+fn is_digit(byte: u8) -> bool
+    ensures { result ≡ is_digit_of byte }
+{
+    byte.is_ascii_digit()
+}
+
+/// The time, in picoseconds, that a word of 1 to 15 digits stands for.
+pub(crate) fn time_of(word: &[u8]) -> Option<u64>
+    ensures { result ≡ time_of_word word.now }
+{
+    if word.is_empty() || word.len() > MAX_DIGITS {
+        return None;
+    }
+    let mut time: u64 = 0;
+    for digit in word {
+        if !is_digit(*digit) {
+            return None;
+        }
+        time = 10 * time + u64::from(*digit - b'0');
+    }
+    Some(time)
+}

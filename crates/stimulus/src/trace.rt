@@ -1,0 +1,142 @@
+//! The lines of a trace, printed.
+ghost use Rattle.std.specs.Prelude.{◌≡◌, ◌+◌, ◌<◌, ◌≤◌, ◌^◌, ◌++◌, List, length, IfOk, IfSome, OnOk};
+ghost use Rattle.std.specs.Option.{option_copied};
+ghost use Rattle.cell_machine.specs.declared.changes.Change.{Change as ChangeOf};
+ghost use Rattle.stimulus.specs.TraceLine.{value_text as value_text_of, head_text, change_text, output_text, outputs_text, delay_text, report_text, reports_text, line_text};
+
+use crate::faults::Memory;
+use bool_functions::Names;
+use cell_machine::{CellSim, Change};
+use itoa::Buffer;
+use std::alloc::Global;
+use trit_cubes::Trit;
+
+/// The line of a trace that a simulator shows after its last change, with the line feed at its end: the tag; `start` or
+/// the change's time in picoseconds, input and value; each output's value, with its delay in picoseconds where it changed
+/// at this change; and the checks that reported, numbered from 1.
+///
+/// It needs as many names as the simulator has inputs and outputs, and a change of one of its inputs.
+pub fn trace_line<S: CellSim>(
+    alloc: Global,
+    tag: u8,
+    change: Option<&Change>,
+    inputs: &Names,
+    outputs: &Names,
+    sim: &S,
+) -> Result<Vec<u8>, Memory>
+    requires inputs { length inputs.now ≡ (S.machine sim.now).inputs }
+    requires outputs { length outputs.now ≡ (S.machine sim.now).outputs }
+    requires pin { IfSome change (λ change. change.now.pin < (S.machine sim.now).inputs) }
+    ensures { IfOk result (λ text. (h : List ChangeOf) → S.stands sim.now h → text.items ≡ line_text tag (option_copied change.entry) inputs.now outputs.now ((S.machine sim.now).line h)) }
+{
+    let mut text = Vec::new(alloc);
+    text.push(tag)?;
+    push_head(&mut text, change, inputs)?;
+    push_outputs(&mut text, outputs, sim)?;
+    push_reports(&mut text, sim)?;
+    text.push(b'\n')?;
+    Ok(text)
+}
+
+/// What the line is on.
+fn push_head(text: &mut Vec<u8>, change: Option<&Change>, inputs: &Names) -> Result<(), Memory>
+    requires { IfSome change (λ change. change.now.pin < length inputs.now) }
+    ensures { OnOk result (text.new.items ≡ text.old.items ++ head_text inputs.now (option_copied change.entry)) }
+{
+    match change {
+        None => text.extend_from_slice(b" start :")?,
+        Some(change) => push_change(text, change, inputs)?,
+    }
+    Ok(())
+}
+
+/// A change.
+#[tactic(auto, unfolding(crate::specs::TraceLine::change_text))]
+fn push_change(text: &mut Vec<u8>, change: &Change, inputs: &Names) -> Result<(), Memory>
+    requires { change.now.pin < length inputs.now }
+    ensures { OnOk result (text.new.items ≡ text.old.items ++ change_text inputs.now change.now) }
+{
+    let mut time = Buffer::new();
+    text.extend_from_slice(b" ")?;
+    text.extend_from_slice(time.format(change.at).as_bytes())?;
+    text.extend_from_slice(b" ")?;
+    text.extend_from_slice(inputs.name(change.pin))?;
+    text.extend_from_slice(b" ")?;
+    text.extend_from_slice(value_text(change.to))?;
+    text.extend_from_slice(b" :")?;
+    Ok(())
+}
+
+/// How a value is printed.
+fn value_text(value: Trit) -> &'static [u8]
+    ensures { result.now ≡ value_text_of value }
+{
+    match value {
+        Trit::Zero => b"0",
+        Trit::One => b"1",
+        Trit::Unknown => b"x",
+    }
+}
+
+/// The outputs, in order.
+fn push_outputs<S: CellSim>(text: &mut Vec<u8>, names: &Names, sim: &S) -> Result<(), Memory>
+    requires { length names.now ≡ (S.machine sim.now).outputs }
+    ensures { OnOk result ((h : List ChangeOf) → S.stands sim.now h → text.new.items ≡ text.old.items ++ outputs_text names.now ((S.machine sim.now).line h).values ((S.machine sim.now).line h).delays) }
+{
+    for place in 0..names.len() {
+        push_output(text, names.name(place), sim.output(place), sim.delay(place))?;
+    }
+    Ok(())
+}
+
+/// An output.
+#[tactic(auto, unfolding(crate::specs::TraceLine::output_text))]
+fn push_output(
+    text: &mut Vec<u8>,
+    name: &[u8],
+    value: Trit,
+    delay: Option<u64>,
+) -> Result<(), Memory>
+    ensures { OnOk result (text.new.items ≡ text.old.items ++ output_text name.now value delay) }
+{
+    text.extend_from_slice(b" ")?;
+    text.extend_from_slice(name)?;
+    text.extend_from_slice(b"=")?;
+    text.extend_from_slice(value_text(value))?;
+    push_delay(text, delay)
+}
+
+/// The delay of an output that changed.
+fn push_delay(text: &mut Vec<u8>, delay: Option<u64>) -> Result<(), Memory>
+    ensures { OnOk result (text.new.items ≡ text.old.items ++ delay_text delay) }
+{
+    if let Some(delay) = delay {
+        let mut digits = Buffer::new();
+        text.extend_from_slice(b"@")?;
+        text.extend_from_slice(digits.format(delay).as_bytes())?;
+    }
+    Ok(())
+}
+
+/// The checks that reported.
+fn push_reports<S: CellSim>(text: &mut Vec<u8>, sim: &S) -> Result<(), Memory>
+    ensures { OnOk result ((h : List ChangeOf) → S.stands sim.now h → text.new.items ≡ text.old.items ++ reports_text 1 ((S.machine sim.now).line h).reports) }
+{
+    for check in 0..sim.checks() {
+        push_report(text, check + 1, sim.reported(check))?;
+    }
+    Ok(())
+}
+
+/// A check that may have reported, by its number from 1.
+#[tactic(auto, unfolding(crate::specs::TraceLine::report_text))]
+fn push_report(text: &mut Vec<u8>, number: usize, reported: bool) -> Result<(), Memory>
+    ensures { OnOk result (text.new.items ≡ text.old.items ++ report_text number reported) }
+{
+    if reported {
+        let mut digits = Buffer::new();
+        text.extend_from_slice(b" !")?;
+        text.extend_from_slice(digits.format(number).as_bytes())?;
+    }
+    Ok(())
+}

@@ -1,0 +1,19 @@
+-- What stands before a place of a text, as the grammar names it.
+use Rattle.std.specs.Prelude.{◌≡◌, ℕ, List, Err}
+use Rattle.udp_tables.specs.declared.models.ModelFault.{ModelFault}
+use Rattle.udp_tables.specs.declared.models.ModelFault.TheVariants as fault
+use Rattle.specify_blocks.specs.VerilogText.{verilog_text}
+use Rattle.specify_blocks.specs.declared.model.VModule.{VModule}
+use Rattle.specify_blocks.specs.VerilogText as spec
+use Rattle.verilog_reader.specs.declared.file.Before.{Before}
+
+abbrev pub before_of : Before → spec.Before
+before_of b = record { modules = b.modules.items; names = b.names; udps = b.udps }
+
+abbrev pub modules_of : Before → List VModule
+modules_of b = b.modules.items
+
+-- this is the fault of the text. Want of memory is told of no text.
+abbrev pub IsFaultOf : List ℕ → ModelFault → Type 0
+IsFaultOf text fault.Memory = Unit {0}
+IsFaultOf text e = verilog_text text ≡ Err e

@@ -1,0 +1,78 @@
+//! Verilog text to modules, or to its fault.
+
+ghost use Rattle.std.specs.Prelude.{◌≡◌, length, IfOk, IfErr, Ok};
+ghost use Rattle.grammar_rules.specs.Reading.{read};
+ghost use Rattle.specify_blocks.specs.VerilogText.{verilog_text, place_from, refusal_fault};
+ghost use Rattle.verilog_reader.specs.Spans.{tokens_of};
+ghost use Rattle.verilog_reader.specs.Cursor.{spelled};
+ghost use Rattle.verilog_reader.specs.Reading.{refusal_of};
+ghost use Rattle.verilog_reader.specs.File.{IsFaultOf};
+
+use crate::cursor::Cursor;
+use crate::file::Before;
+use crate::refusal::{Refusal, Stop, fault_at};
+use crate::scanner::scan;
+use crate::span::{Scan, Span};
+use specify_blocks::VModule;
+use std::alloc::Global;
+use udp_tables::ModelFault;
+
+/// The offset of the token with which so many tokens are left; the length of the text where none is left.
+fn place_of(text: &[u8], tokens: &[Span], left: usize) -> usize
+    ensures { result ≡ place_from (length text.now) (tokens_of text.now tokens.now) left }
+{
+    let mut rest = tokens;
+    for _turn in 0..tokens.len() {
+        if let [first, more @ ..] = rest {
+            if rest.len() == left {
+                return first.at;
+            }
+            rest = more;
+        }
+    }
+    text.len()
+}
+
+/// The fault of a refusal before so many tokens.
+fn refusal_fault_of(
+    text: &[u8],
+    tokens: &[Span],
+    lexical: Option<usize>,
+    refusal: Refusal,
+    left: &Cursor<'_>,
+) -> ModelFault
+    ensures { result ≡ refusal_fault (length text.now) (tokens_of text.now tokens.now) lexical (refusal_of refusal) left.now }
+{
+    if left.left() > 0 {
+        return fault_at(refusal, place_of(text, tokens, left.left()));
+    }
+    match lexical {
+        None => fault_at(refusal, text.len()),
+        Some(at) => ModelFault::Lexical(at),
+    }
+}
+
+/// The modules of a Verilog text. (IEEE 1364-2005, clauses 3, 8, 12, 14 and 15; the subset is this project's.)
+///
+/// The fault is the first: the place where no token begins, the first token with which no text goes on or that breaks a rule, or the
+/// end of the text. Its offset counts bytes from 0.
+#[tactic(auto, unfolding(specify_blocks::specs::VerilogText::verilog_text), using(crate::proofs::Spelled::spelled))]
+pub fn read_models(alloc: Global, text: &[u8]) -> Result<Vec<VModule>, ModelFault>
+    ensures modules { IfOk result (λ found. verilog_text text.now ≡ Ok found.items) }
+    ensures fault { IfErr result (λ e. IsFaultOf text.now e) }
+{
+    let Ok(Scan { tokens, fault }) = scan(alloc, text) else {
+        return Err(ModelFault::Memory);
+    };
+    let mut cursor = Cursor::new(text, &tokens);
+    match cursor.file(alloc) {
+        Ok(Before { modules, .. }) => match fault {
+            None => Ok(modules),
+            Some(at) => Err(ModelFault::Lexical(at)),
+        },
+        Err(Stop::Memory) => Err(ModelFault::Memory),
+        Err(Stop::Refused(refusal)) => Err(refusal_fault_of(
+            text, &tokens, fault, refusal, &cursor,
+        )),
+    }
+}

@@ -1,0 +1,152 @@
+//! What the terminals of an instance may be. (IEEE 1364-2005, 8.6; the restrictions on places are this project's.)
+
+ghost use Rattle.std.specs.Prelude.{◌≡◌, ◌==◌, ◌∷◌, ◌++◌, length};
+ghost use Rattle.std.specs.List.{list_any, list_all, position};
+ghost use Rattle.std.specs.Str.{bytes_eq};
+ghost use Rattle.specify_blocks.specs.Nets as nets;
+ghost use Rattle.specify_blocks.specs.VerilogModules as spec;
+
+use crate::nets::{
+    has_state, is_input_port, is_output_port, net_driven, port_of, same_net, wire_of,
+};
+use specify_blocks::{VModule, VNet};
+use udp_tables::Udp;
+
+/// The net of a name: a port, a wire or the register.
+pub fn net_of(module: &VModule, name: &[u8]) -> Option<VNet>
+    ensures { result ≡ spec.net_of module.now name.now }
+{
+    if let Some(port) = port_of(module, name) {
+        return Some(VNet::Port(port));
+    }
+    if let Some(wire) = wire_of(module.wires.as_slice(), name) {
+        return Some(VNet::Wire(wire));
+    }
+    match &module.notifier {
+        Some(notifier) if name == notifier.as_slice() => Some(VNet::Notifier),
+        _ => None,
+    }
+}
+
+/// Whether an instance with a state, or one without, may drive a net.
+pub fn may_drive(module: &VModule, sequential: bool, net: VNet) -> bool
+    ensures { result ≡ spec.may_drive module.now sequential net }
+{
+    match net {
+        VNet::Port(port) => !sequential && is_output_port(module.ports.as_slice(), port),
+        VNet::Wire(wire) => wire < module.wires.len(),
+        VNet::Notifier => false,
+    }
+}
+
+/// Whether an instance drives the net.
+pub fn is_driven_already(module: &VModule, net: VNet) -> bool
+    ensures { result ≡ spec.is_driven_already module.now net }
+{
+    for instance in module.instances.as_slice() {
+        if same_net(net_driven(instance), net) {
+            return true;
+        }
+    }
+    false
+}
+
+/// Whether an instance with a state drives this wire.
+fn is_state(module: &VModule, wire: usize) -> bool
+    ensures { result ≡ nets.is_state module.now module.now.instances wire }
+{
+    for instance in module.instances.as_slice() {
+        if has_state(module.udps.as_slice(), instance)
+            && same_net(net_driven(instance), VNet::Wire(wire))
+        {
+            return true;
+        }
+    }
+    false
+}
+
+/// Whether a net may feed an instance with a state, or one without.
+pub fn may_feed(module: &VModule, sequential: bool, net: VNet) -> bool
+    ensures { result ≡ spec.may_feed module.now sequential net }
+{
+    match net {
+        VNet::Port(port) => is_input_port(module.ports.as_slice(), port),
+        VNet::Wire(wire) => !sequential && is_state(module, wire),
+        VNet::Notifier => sequential && module.notifier.is_some(),
+    }
+}
+
+/// Whether a net is one of these.
+fn is_one_of(others: &[VNet], net: VNet) -> bool
+    ensures { result ≡ list_any (nets.same_net net) others.now }
+{
+    for other in others {
+        if same_net(net, *other) {
+            return true;
+        }
+    }
+    false
+}
+
+/// Whether a net is the output or one of the inputs of an instance.
+pub fn is_terminal(output: VNet, inputs: &[VNet], net: VNet) -> bool
+    ensures { result ≡ list_any (nets.same_net net) (output ∷ inputs.now) }
+{
+    same_net(net, output) || is_one_of(inputs, net)
+}
+
+/// How many inputs the primitive with this number has.
+fn input_count(udps: &[Udp], udp: usize) -> usize
+    ensures { result ≡ spec.input_count udps.now udp }
+{
+    match udps.get(udp) {
+        Some(udp) => udp.inputs.len(),
+        None => 0,
+    }
+}
+
+/// Whether there are as many inputs as the primitive with this number has.
+pub fn has_all_inputs(udps: &[Udp], udp: usize, inputs: &[VNet]) -> bool
+    ensures { result ≡ (length inputs.now == spec.input_count udps.now udp) }
+{
+    inputs.len() == input_count(udps, udp)
+}
+
+/// The number of the primitive of a name.
+pub fn primitive_number(udps: &[Udp], name: &[u8]) -> Option<usize>
+    ensures { result ≡ spec.primitive_number udps.now name.now }
+{
+    udps.iter().position(|udp| name == udp.name.as_slice())
+}
+
+/// Whether each output is driven.
+fn are_outputs_driven(module: &VModule) -> bool
+    ensures { result ≡ list_all (spec.is_driven_already module.now) (spec.output_nets 0 module.now.ports) }
+{
+    for (at, port) in module.ports.as_slice().iter().enumerate() {
+        if !port.input && !is_driven_already(module, VNet::Port(at)) {
+            return false;
+        }
+    }
+    true
+}
+
+/// Whether each wire is driven.
+fn are_wires_driven(module: &VModule) -> bool
+    ensures { result ≡ list_all (spec.is_driven_already module.now) (spec.wire_nets 0 module.now.wires) }
+{
+    for (wire, _name) in module.wires.as_slice().iter().enumerate() {
+        if !is_driven_already(module, VNet::Wire(wire)) {
+            return false;
+        }
+    }
+    true
+}
+
+/// Whether each output and each wire is driven.
+#[tactic(auto, using(crate::proofs::Among::all_appended))]
+pub fn are_all_driven(module: &VModule) -> bool
+    ensures { result ≡ spec.are_all_driven module.now }
+{
+    are_outputs_driven(module) && are_wires_driven(module)
+}

@@ -1,0 +1,14 @@
+pub mod ListLemmas
+pub mod SymbolLemmas
+pub mod StateRows
+pub mod EdgeRows
+pub mod CompactRows
+pub mod TruthRows
+pub mod RowLawLemmas
+pub mod RowExamples
+pub mod TranslationLemmas
+pub mod CellLaws
+pub mod PortFacts
+pub mod Widths
+pub mod ConditionFacts
+pub mod Soundness

@@ -1,0 +1,76 @@
+-- The laws of the rows of steps, by the number of the changed pin.
+use Rattle.std.proofs.Common.{◌≡◌, ◌≢◌, ℕ, suc, ◌<◌, Bool, true, false, List, [], ◌∷◌, length, get_or, set, sym, ◌∙◌, ap, arith}
+use Rattle.std.proofs.lemmas.Bool.{false_from_ne_true}
+use Rattle.trit_cubes.specs.declared.trits.Trit.{Trit}
+use Rattle.trit_cubes.specs.declared.trits.Trit.TheVariants.{Zero, Unknown}
+use Rattle.trit_cubes.specs.Filling.{same}
+use Rattle.cell_machine.specs.Machine.{Step, insert, without, machine_step, forced}
+use Rattle.udp_tables.specs.Edges.{edge_rows, compact_edge_rows}
+use Rattle.udp_tables.proofs.ColumnLemmas.{length-insert, insert-without, insert-set}
+use Rattle.udp_tables.proofs.CubeLemmas.{same-is}
+use Rattle.vital_models.specs.declared.table.VStateRow.{VStateRow}
+use Rattle.vital_models.specs.LookUps.{lookup_state}
+use Rattle.vital_models.specs.Rows.{violated, step_rows, edge_row, keep_row}
+use Rattle.vital_models.specs.RowLaws.{StateRowsAreMachine, CompactRowsAreMachine, FormsAgree}
+use Rattle.vital_models.proofs.StateRows.{Serves, step_rows-change, step_rows-keep, step_rows-force}
+use Rattle.vital_models.proofs.EdgeRows.{edge_rows-serve}
+use Rattle.vital_models.proofs.CompactRows.{compact_rows-serve}
+
+differ : (a b : Trit) → a ≢ b → same a b ≡ false
+differ a b h = false_from_ne_true (same a b) (λ e. h (sym (same-is a b e)))
+
+pub change-at :
+    (checks : Bool) (n : ℕ) (step : Step) (changes : ℕ → List VStateRow) (p : ℕ) (old : Trit) (inputs : List Trit) (x s : Trit)
+    → Serves checks n step changes → length inputs ≡ n → p < n → old ≢ get_or inputs p Unknown
+    → lookup_state (step_rows checks n step changes) (violated checks x (set inputs p old)) (violated checks Zero inputs) s
+    ≡ machine_step step p old (get_or inputs p Unknown) (without p inputs) s
+change-at checks n step changes p old inputs x s serves long l apart =
+    let within : p < length inputs = omega arith in
+    let new : Trit = get_or inputs p Unknown in
+    let others : List Trit = without p inputs in
+    let whole : insert p new others ≡ inputs = insert-without p Unknown inputs within in
+    let before : insert p old others ≡ set inputs p old = insert-set p old inputs within in
+    let few : suc (length others) ≡ n = sym (length-insert p new others) ∙ ap length whole ∙ long in
+    (λ i. lookup_state (step_rows checks n step changes) (violated checks x (sym before i)) (violated checks Zero (sym whole i)) s)
+    ∙ step_rows-change checks n step changes p old new others x s serves l few (differ old new apart)
+
+pub force-at :
+    (n : ℕ) (step : Step) (changes : ℕ → List VStateRow) (before inputs : List Trit) (s : Trit)
+    → length inputs ≡ n → length before ≡ suc n
+    → lookup_state (step_rows true n step changes) before (Unknown ∷ inputs) s ≡ forced step inputs
+force-at n step changes [] inputs s f g = absurd (omega arith)
+force-at n step changes (x ∷ olds) inputs s f g = step_rows-force n step changes x olds inputs s (omega arith) f
+
+pub state_rows_are_machine-lem : StateRowsAreMachine
+state_rows_are_machine-lem =
+    record {
+      steps = λ checks n step p old inputs x s long l apart.
+          change-at checks n step (edge_rows (edge_row checks) step n) p old inputs x s (edge_rows-serve checks n step) long l apart;
+      keeps = λ checks n step inputs x s long. step_rows-keep checks n step (edge_rows (edge_row checks) step n) inputs x s long;
+      forces = λ n step before inputs s f g. force-at n step (edge_rows (edge_row true) step n) before inputs s f g;
+    }
+
+-- the same in compact form
+abbrev compact : Bool → ℕ → Step → ℕ → List VStateRow
+compact checks n step = compact_edge_rows (edge_row checks) (keep_row checks) step n
+
+pub compact_rows_are_machine-lem : CompactRowsAreMachine
+compact_rows_are_machine-lem =
+    record {
+      steps = λ checks n step p old inputs x s long l apart.
+          change-at checks n step (compact checks n step) p old inputs x s (compact_rows-serve checks n step) long l apart;
+      keeps = λ checks n step inputs x s long. step_rows-keep checks n step (compact checks n step) inputs x s long;
+      forces = λ n step before inputs s f g. force-at n step (compact true n step) before inputs s f g;
+    }
+
+pub forms_agree-lem : FormsAgree
+forms_agree-lem =
+    record {
+      steps = λ checks n step p old inputs x s long l apart.
+          compact_rows_are_machine-lem.steps checks n step p old inputs x s long l apart
+          ∙ sym (state_rows_are_machine-lem.steps checks n step p old inputs x s long l apart);
+      keeps = λ checks n step inputs x s long.
+          compact_rows_are_machine-lem.keeps checks n step inputs x s long ∙ sym (state_rows_are_machine-lem.keeps checks n step inputs x s long);
+      forces = λ n step before inputs s f g.
+          compact_rows_are_machine-lem.forces n step before inputs s f g ∙ sym (state_rows_are_machine-lem.forces n step before inputs s f g);
+    }

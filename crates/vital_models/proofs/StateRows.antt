@@ -1,0 +1,245 @@
+-- Rows of a step whose changes serve give the machine's steps.
+use Rattle.std.proofs.Common.{◌≡◌, ◌≢◌, ℕ, zero, suc, ◌<◌, ◌≤◌, Bool, true, false, cond, ◌&&◌, List, [], ◌∷◌, ◌++◌, length, replicate, get_or, inl, inr, refl, sym, ◌∙◌, ap, subst, arith}
+use Rattle.std.specs.List.{list_any}
+use Rattle.std.proofs.lemmas.Bool.{cases_lt}
+use Rattle.trit_cubes.specs.declared.trits.Trit.{Trit}
+use Rattle.trit_cubes.specs.declared.trits.Trit.TheVariants.{Zero, One, Unknown}
+use Rattle.trit_cubes.specs.Filling.{same, covers}
+use Rattle.trit_cubes.specs.Sets.{gives}
+use Rattle.trit_cubes.specs.Prime.{prime_list}
+use Rattle.trit_cubes.proofs.ListLemmas.{Among, among-append, append-among_right}
+use Rattle.cell_machine.specs.Machine.{Step, insert, machine_step, forced_at, forced}
+use Rattle.cell_machine.proofs.ForcedLemmas.{forced_is_step-lem}
+use Rattle.udp_tables.specs.Tables.{first}
+use Rattle.udp_tables.specs.Edges.{forced_rows, each_below}
+use Rattle.udp_tables.proofs.FirstLemmas.{found-any, any-found, first-gives}
+use Rattle.udp_tables.proofs.ColumnLemmas.{length-insert, at-other}
+use Rattle.udp_tables.proofs.CubeLemmas.{known-or, prime-gives, prime-found, value_rows-among, among-value_rows, below-among, among-below}
+use Rattle.vital_models.specs.declared.table.VStateRow.{VStateRow}
+use Rattle.vital_models.specs.Symbols.{next_of}
+use Rattle.vital_models.specs.LookUps.{state_matches, row_next, lookup_state}
+use Rattle.vital_models.specs.Rows.{violated, next_to, steady_row, level_row, violation_rows, closing_row, step_rows}
+use Rattle.vital_models.proofs.SymbolLemmas.{levels-cover, steady-matches, steady-moved, level_row-matches}
+
+-- what the rows of the changes of each pin have to do
+pub record Serves (checks : Bool) (n : ℕ) (step : Step) (changes : ℕ → List VStateRow) : Type 0 where
+  -- they match nothing where their pin keeps its value
+  pub still :
+      (p : ℕ) (row : VStateRow) (olds news : List Trit) (x y s : Trit)
+      → p < n → Among row (changes p) → length olds ≡ n → length news ≡ n → get_or olds p Unknown ≡ get_or news p Unknown
+      → state_matches (violated checks x olds) (violated checks y news) s row ≡ false
+  -- where one matches a change of its pin, it gives the machine's step
+  pub right :
+      (p : ℕ) (row : VStateRow) (a b : Trit) (others : List Trit) (x y s : Trit)
+      → p < n → Among row (changes p) → suc (length others) ≡ n → same a b ≡ false
+      → state_matches (violated checks x (insert p a others)) (violated checks y (insert p b others)) s row ≡ true
+      → row_next s row ≡ machine_step step p a b others s
+  -- where the machine's step is known, some match
+  pub found :
+      (p : ℕ) (a b : Trit) (others : List Trit) (x y s : Trit)
+      → p < n → suc (length others) ≡ n → same a b ≡ false → machine_step step p a b others s ≢ Unknown
+      → list_any (state_matches (violated checks x (insert p a others)) (violated checks y (insert p b others)) s) (changes p) ≡ true
+
+pub next-value : (s v : Trit) → next_of s (next_to v) ≡ v
+next-value s Zero = refl
+next-value s One = refl
+next-value s Unknown = refl
+
+-- one list of rows after another
+first-append :
+    {R V : Type 0} (hit : R → Bool) (value : R → V) (xs ys : List R) (o : V)
+    → first hit value (xs ++ ys) o ≡ first hit value xs (first hit value ys o)
+first-append hit value [] ys o = refl
+first-append hit value (x ∷ xs) ys o = ap (cond (hit x) (value x)) (first-append hit value xs ys o)
+
+cond-same : {V : Type 0} (b : Bool) (v : V) → cond b v v ≡ v
+cond-same true v = refl
+cond-same false v = refl
+
+-- the rows before the last one
+abbrev front : Bool → ℕ → Step → (ℕ → List VStateRow) → List VStateRow
+front checks n step changes =
+    steady_row checks n ∷ (forced_rows (level_row checks) n step ++ (violation_rows checks n ++ each_below changes n))
+
+-- the last row gives what stands for no row
+without-closing :
+    (checks : Bool) (n : ℕ) (step : Step) (changes : ℕ → List VStateRow) (before after : List Trit) (s : Trit)
+    → lookup_state (step_rows checks n step changes) before after s ≡ lookup_state (front checks n step changes) before after s
+without-closing checks n step changes before after s =
+    first-append (state_matches before after s) (row_next s) (front checks n step changes) (closing_row checks n ∷ []) Unknown
+    ∙ ap (first (state_matches before after s) (row_next s) (front checks n step changes)) (cond-same (state_matches before after s (closing_row checks n)) Unknown)
+
+-- the row of the violation matches nothing without one
+violation-none :
+    (checks : Bool) (n : ℕ) (row : VStateRow) (olds news : List Trit) (x s : Trit)
+    → Among row (violation_rows checks n) → state_matches (violated checks x olds) (violated checks Zero news) s row ≡ false
+violation-none false n row olds news x s m = absurd m
+violation-none true n row olds news x s m =
+    elim m [
+      | inl e ↦ ap (state_matches (x ∷ olds) (Zero ∷ news) s) (sym e)
+      | inr k ↦ absurd k
+    ]
+
+-- a row of levels that matches gives the forced value
+forced-given :
+    (checks : Bool) (n : ℕ) (step : Step) (row : VStateRow) (olds news : List Trit) (x y s : Trit)
+    → Among row (forced_rows (level_row checks) n step) → length olds ≡ n → length news ≡ n
+    → state_matches (violated checks x olds) (violated checks y news) s row ≡ true
+    → (v : Trit) × (v ≢ Unknown) × (forced step news ≡ v) × (row_next s row ≡ v)
+forced-given checks n step row olds news x y s m f g h =
+    let cubes = λ (v : Trit). prime_list n (gives v (forced_at step)) in
+    let r = value_rows-among (level_row checks) cubes row m in
+    let covered : covers r.2 news ≡ true
+    = sym (level_row-matches checks r.0 r.2 olds news x y s (f ∙ sym g))
+    ∙ ap (state_matches (violated checks x olds) (violated checks y news) s) r.4 ∙ h in
+    (r.0, r.1, prime-gives n (forced_at step) r.0 r.2 news r.1 g r.3 covered, ap (row_next s) (sym r.4) ∙ next-value s r.0)
+
+-- some row of levels matches where the forced value is known
+forced-found :
+    (checks : Bool) (n : ℕ) (step : Step) (olds news : List Trit) (x y s : Trit)
+    → length olds ≡ n → length news ≡ n → forced step news ≢ Unknown
+    → list_any (state_matches (violated checks x olds) (violated checks y news) s) (forced_rows (level_row checks) n step) ≡ true
+forced-found checks n step olds news x y s f g known =
+    let cubes = λ (v : Trit). prime_list n (gives v (forced_at step)) in
+    let v : Trit = forced step news in
+    let r = prime-found n (forced_at step) v news known g refl in
+    found-any (state_matches (violated checks x olds) (violated checks y news) s) (level_row checks v r.0) (forced_rows (level_row checks) n step)
+    (among-value_rows (level_row checks) cubes v r.0 known r.1)
+    (level_row-matches checks v r.0 olds news x y s (f ∙ sym g) ∙ r.2)
+
+-- the first row keeps the state where nothing changes
+steady-hit :
+    (checks : Bool) (n : ℕ) (inputs : List Trit) (x s : Trit)
+    → length inputs ≡ n → state_matches (violated checks x inputs) (violated checks Zero inputs) s (steady_row checks n) ≡ true
+steady-hit false n inputs x s e = ap (λ b. b && true) (steady-matches n inputs e)
+steady-hit true n inputs x s e = ap (λ b. b && true) (steady-matches n inputs e)
+
+steady-missed :
+    (checks : Bool) (n p : ℕ) (a b : Trit) (others : List Trit) (x y s : Trit)
+    → suc (length others) ≡ n → p < n → same a b ≡ false
+    → state_matches (violated checks x (insert p a others)) (violated checks Zero (insert p b others)) s (steady_row checks n) ≡ false
+steady-missed false n p a b others x y s e l h = ap (λ c. c && true) (steady-moved n p a b others e l h)
+steady-missed true n p a b others x y s e l h = ap (λ c. c && true) (steady-moved n p a b others e l h)
+
+pub step_rows-keep :
+    (checks : Bool) (n : ℕ) (step : Step) (changes : ℕ → List VStateRow) (inputs : List Trit) (x s : Trit)
+    → length inputs ≡ n
+    → lookup_state (step_rows checks n step changes) (violated checks x inputs) (violated checks Zero inputs) s ≡ s
+step_rows-keep checks n step changes inputs x s e =
+    ap (λ b. cond b s (lookup_state ((forced_rows (level_row checks) n step ++ (violation_rows checks n ++ each_below changes n)) ++ closing_row checks n ∷ []) (violated checks x inputs) (violated checks Zero inputs) s))
+    (steady-hit checks n inputs x s e)
+
+-- each row that matches a change of a pin gives the machine's step
+change-given :
+    (checks : Bool) (n : ℕ) (step : Step) (changes : ℕ → List VStateRow) (p : ℕ) (a b : Trit) (others : List Trit) (x s : Trit)
+    → Serves checks n step changes → p < n → suc (length others) ≡ n → same a b ≡ false
+    → (row : VStateRow) → Among row (front checks n step changes)
+    → state_matches (violated checks x (insert p a others)) (violated checks Zero (insert p b others)) s row ≡ true
+    → row_next s row ≡ machine_step step p a b others s
+change-given checks n step changes p a b others x s serves l long apart row m h =
+    let olds : List Trit = insert p a others in
+    let news : List Trit = insert p b others in
+    let f : length olds ≡ n = length-insert p a others ∙ long in
+    let g : length news ≡ n = length-insert p b others ∙ long in
+    elim m [
+      | inl e ↦
+          let clash : false ≡ true
+          = sym (steady-missed checks n p a b others x Zero s long l apart) ∙ ap (state_matches (violated checks x olds) (violated checks Zero news) s) e ∙ h in
+          absurd cc
+      | inr rest ↦
+          elim (among-append row (forced_rows (level_row checks) n step) (violation_rows checks n ++ each_below changes n) rest) [
+            | inl k ↦
+                let r = forced-given checks n step row olds news x Zero s k f g h in
+                r.3 ∙ sym (forced_is_step-lem step p a b others s r.0 r.2 r.1)
+            | inr more ↦
+                elim (among-append row (violation_rows checks n) (each_below changes n) more) [
+                  | inl k ↦ let clash : false ≡ true = sym (violation-none checks n row olds news x s k) ∙ h in absurd cc
+                  | inr k ↦ let r = below-among changes n row k in own r.0 r.1 r.2
+                ]
+          ]
+    ]
+  where
+    own : (q : ℕ) → q < n → Among row (changes q) → row_next s row ≡ machine_step step p a b others s
+    own q inside k =
+        let f : length (insert p a others) ≡ n = length-insert p a others ∙ long in
+        let g : length (insert p b others) ≡ n = length-insert p b others ∙ long in
+        let within : p ≤ length others = omega arith in
+        elim (cases_lt q p) [
+          | inl less ↦
+              let differ : q ≢ p = omega arith in
+              let clash : false ≡ true
+              = sym (serves.still q row (insert p a others) (insert p b others) x Zero s inside k f g (at-other p q a b Unknown others differ within)) ∙ h in
+              absurd cc
+          | inr more ↦
+              elim (cases_lt p q) [
+                | inl less ↦
+                    let differ : q ≢ p = omega arith in
+                    let clash : false ≡ true
+                    = sym (serves.still q row (insert p a others) (insert p b others) x Zero s inside k f g (at-other p q a b Unknown others differ within)) ∙ h in
+                    absurd cc
+                | inr same_place ↦
+                    let e : q ≡ p = omega arith in
+                    serves.right p row a b others x Zero s l (subst (λ i. Among row (changes i)) e k) long apart h
+              ]
+        ]
+
+pub step_rows-change :
+    (checks : Bool) (n : ℕ) (step : Step) (changes : ℕ → List VStateRow) (p : ℕ) (a b : Trit) (others : List Trit) (x s : Trit)
+    → Serves checks n step changes → p < n → suc (length others) ≡ n → same a b ≡ false
+    → lookup_state (step_rows checks n step changes) (violated checks x (insert p a others)) (violated checks Zero (insert p b others)) s
+    ≡ machine_step step p a b others s
+step_rows-change checks n step changes p a b others x s serves l long apart =
+    let before : List Trit = violated checks x (insert p a others) in
+    let after : List Trit = violated checks Zero (insert p b others) in
+    let hit : VStateRow → Bool = state_matches before after s in
+    without-closing checks n step changes before after s
+    ∙ first-gives hit (row_next s) (machine_step step p a b others s) Unknown (front checks n step changes)
+    (change-given checks n step changes p a b others x s serves l long apart)
+    (λ none.
+    elim (known-or (machine_step step p a b others s)) [
+      | inl known ↦
+          let r = any-found hit (changes p) (serves.found p a b others x Zero s l long apart known) in
+          let among : Among r.0 (front checks n step changes)
+          = inr (append-among_right r.0 (forced_rows (level_row checks) n step) (violation_rows checks n ++ each_below changes n)
+          (append-among_right r.0 (violation_rows checks n) (each_below changes n) (among-below changes n p r.0 l r.1))) in
+          let clash : false ≡ true = sym none ∙ found-any hit r.0 (front checks n step changes) among r.2 in absurd cc
+      | inr e ↦ sym e
+    ])
+
+-- free places match all
+free-covers : (n : ℕ) (ts : List Trit) → length ts ≡ n → covers (replicate n Unknown) ts ≡ true
+free-covers zero [] e = refl
+free-covers zero (t ∷ ts) e = absurd (omega arith)
+free-covers (suc n) [] e = absurd (omega arith)
+free-covers (suc n) (t ∷ ts) e = free-covers n ts (omega arith)
+
+-- the row of the violation matches where there is one
+violation-decides :
+    (n : ℕ) (changes : ℕ → List VStateRow) (x : Trit) (olds inputs : List Trit) (s : Trit)
+    → length olds ≡ n → length inputs ≡ n
+    → first (state_matches (x ∷ olds) (Unknown ∷ inputs) s) (row_next s) (violation_rows true n ++ each_below changes n) Unknown ≡ Unknown
+violation-decides n changes x olds inputs s f g =
+    ap (λ b. cond (b && true) Unknown (first (state_matches (x ∷ olds) (Unknown ∷ inputs) s) (row_next s) (each_below changes n) Unknown))
+    (levels-cover (replicate n Unknown) olds inputs (f ∙ sym g) ∙ free-covers n inputs g)
+
+-- With a violation the rows of levels decide, and else the row of the violation.
+pub step_rows-force :
+    (n : ℕ) (step : Step) (changes : ℕ → List VStateRow) (x : Trit) (olds inputs : List Trit) (s : Trit)
+    → length olds ≡ n → length inputs ≡ n
+    → lookup_state (step_rows true n step changes) (x ∷ olds) (Unknown ∷ inputs) s ≡ forced step inputs
+step_rows-force n step changes x olds inputs s f g =
+    let hit : VStateRow → Bool = state_matches (x ∷ olds) (Unknown ∷ inputs) s in
+    let rows : List VStateRow = forced_rows (level_row true) n step in
+    let rest : List VStateRow = violation_rows true n ++ each_below changes n in
+    let after : Trit = first hit (row_next s) rest Unknown in
+    let unknown : after ≡ Unknown = violation-decides n changes x olds inputs s f g in
+    without-closing true n step changes (x ∷ olds) (Unknown ∷ inputs) s
+    ∙ first-append hit (row_next s) rows rest Unknown
+    ∙ first-gives hit (row_next s) (forced step inputs) after rows
+    (λ row m h.
+    let r = forced-given true n step row olds inputs x Unknown s m f g h in r.3 ∙ sym r.2)
+    (λ none.
+    elim (known-or (forced step inputs)) [
+      | inl known ↦ let clash : false ≡ true = sym none ∙ forced-found true n step olds inputs x Unknown s f g known in absurd cc
+      | inr e ↦ unknown ∙ sym e
+    ])

@@ -1,0 +1,202 @@
+-- What the symbols of generated rows match.
+use Rattle.std.proofs.Common.{◌≡◌, ℕ, zero, suc, ◌<◌, ◌≤◌, Bool, true, false, not, ◌&&◌, List, [], ◌∷◌, ◌++◌, map, length, replicate, get_or, refl, sym, ◌∙◌, ap, arith}
+use Rattle.std.proofs.lemmas.List.{length-map}
+use Rattle.trit_cubes.specs.declared.trits.Trit.{Trit}
+use Rattle.trit_cubes.specs.declared.trits.Trit.TheVariants.{Zero, One, Unknown}
+use Rattle.trit_cubes.specs.Filling.{same, covers}
+use Rattle.cell_machine.specs.Machine.{insert, without, init, last}
+use Rattle.udp_tables.specs.Tables.{columns_match}
+use Rattle.udp_tables.specs.Edges.{moves}
+use Rattle.udp_tables.proofs.ColumnLemmas.{and-true, and-false, length-insert, at-insert, without-insert, columns-insert}
+use Rattle.udp_tables.proofs.CubeLemmas.{admits, same-self, covers-last}
+use Rattle.udp_tables.proofs.GroupLemmas.{length-init}
+use Rattle.vital_models.specs.declared.table.VSymbol.{VSymbol}
+use Rattle.vital_models.specs.declared.table.VSymbol.TheVariants as symbol
+use Rattle.vital_models.specs.declared.table.Trits.TheVariants as trits
+use Rattle.vital_models.specs.Symbols.{trits_match, level_matches, symbol_matches}
+use Rattle.vital_models.specs.LookUps.{state_matches}
+use Rattle.vital_models.specs.Rows.{level_of, level_symbol, edge_symbol, violated, level_row, edge_columns, edge_row}
+
+-- levels of a cube match what the cube covers
+pub level-admits : (w t : Trit) → trits_match (level_of w) t ≡ admits w t
+level-admits Zero t = refl
+level-admits One t = refl
+level-admits Unknown t = refl
+
+pub truth-covers : (c ts : List Trit) → columns_match level_matches (map level_of c) ts ts ≡ covers c ts
+truth-covers [] [] = refl
+truth-covers [] (t ∷ ts) = refl
+truth-covers (w ∷ c) [] = refl
+truth-covers (w ∷ c) (t ∷ ts) = λ i. level-admits w t i && truth-covers c ts i
+
+pub levels-cover :
+    (c olds news : List Trit) → length olds ≡ length news → columns_match symbol_matches (map level_symbol c) olds news ≡ covers c news
+levels-cover [] [] [] e = refl
+levels-cover [] [] (n ∷ news) e = absurd (omega arith)
+levels-cover [] (o ∷ olds) [] e = absurd (omega arith)
+levels-cover [] (o ∷ olds) (n ∷ news) e = refl
+levels-cover (w ∷ c) [] [] e = refl
+levels-cover (w ∷ c) [] (n ∷ news) e = absurd (omega arith)
+levels-cover (w ∷ c) (o ∷ olds) [] e = absurd (omega arith)
+levels-cover (w ∷ c) (o ∷ olds) (n ∷ news) e = λ i. level-admits w n i && levels-cover c olds news (omega arith) i
+
+-- pins that keep their values
+pub steady-matches : (n : ℕ) (ts : List Trit) → length ts ≡ n → columns_match symbol_matches (replicate n symbol.Steady) ts ts ≡ true
+steady-matches zero [] e = refl
+steady-matches zero (t ∷ ts) e = absurd (omega arith)
+steady-matches (suc n) [] e = absurd (omega arith)
+steady-matches (suc n) (t ∷ ts) e = λ i. same-self t i && steady-matches n ts (omega arith) i
+
+steady-at :
+    (n p : ℕ) (olds news : List Trit)
+    → length olds ≡ n → length news ≡ n → p < n → same (get_or olds p Unknown) (get_or news p Unknown) ≡ false
+    → columns_match symbol_matches (replicate n symbol.Steady) olds news ≡ false
+steady-at zero p olds news f g l h = absurd (omega arith)
+steady-at (suc n) p [] news f g l h = absurd (omega arith)
+steady-at (suc n) p (o ∷ olds) [] f g l h = absurd (omega arith)
+steady-at (suc n) zero (o ∷ olds) (t ∷ news) f g l h = ap (λ b. b && columns_match symbol_matches (replicate n symbol.Steady) olds news) h
+steady-at (suc n) (suc p) (o ∷ olds) (t ∷ news) f g l h =
+    ap (λ b. same o t && b) (steady-at n p olds news (omega arith) (omega arith) (omega arith) h) ∙ and-false (same o t)
+
+pub steady-moved :
+    (n p : ℕ) (a b : Trit) (others : List Trit)
+    → suc (length others) ≡ n → p < n → same a b ≡ false
+    → columns_match symbol_matches (replicate n symbol.Steady) (insert p a others) (insert p b others) ≡ false
+steady-moved n p a b others e l h =
+    let within : p ≤ length others = omega arith in
+    steady-at n p (insert p a others) (insert p b others) (length-insert p a others ∙ e) (length-insert p b others ∙ e) l
+    ((λ i. same (at-insert p a Unknown others within i) (at-insert p b Unknown others within i)) ∙ h)
+
+-- edges
+rises : (a b : Trit) → (same Zero a && same One b) ≡ (not (same a b) && (same Zero a && same One b))
+rises Zero Zero = refl
+rises Zero One = refl
+rises Zero Unknown = refl
+rises One b = sym (and-false (not (same One b)))
+rises Unknown b = sym (and-false (not (same Unknown b)))
+
+falls : (a b : Trit) → (same One a && same Zero b) ≡ (not (same a b) && (same One a && same Zero b))
+falls One Zero = refl
+falls One One = refl
+falls One Unknown = refl
+falls Zero b = sym (and-false (not (same Zero b)))
+falls Unknown b = sym (and-false (not (same Unknown b)))
+
+from-free : (x y : Bool) → (x && y) ≡ (x && (y && true))
+from-free x y = ap (λ z. x && z) (sym (and-true y))
+
+pub change-admits :
+    (old new a b : Trit) (rest : List Trit)
+    → moves (old ∷ new ∷ rest) ≡ true
+    → symbol_matches (edge_symbol old new) a b ≡ (not (same a b) && (admits old a && admits new b))
+change-admits Zero Zero a b rest m = absurd cc
+change-admits Zero One a b rest m = rises a b
+change-admits Zero Unknown a b rest m = from-free (not (same a b)) (same Zero a)
+change-admits One Zero a b rest m = falls a b
+change-admits One One a b rest m = absurd cc
+change-admits One Unknown a b rest m = from-free (not (same a b)) (same One a)
+change-admits Unknown Zero a b rest m = refl
+change-admits Unknown One a b rest m = refl
+change-admits Unknown Unknown a b rest m = sym (and-true (not (same a b)))
+
+rise-still : (t : Trit) → (same Zero t && same One t) ≡ false
+rise-still Zero = refl
+rise-still One = refl
+rise-still Unknown = refl
+
+fall-still : (t : Trit) → (same One t && same Zero t) ≡ false
+fall-still Zero = refl
+fall-still One = refl
+fall-still Unknown = refl
+
+unmoved : (t : Trit) (b : Bool) → (not (same t t) && b) ≡ false
+unmoved t b = ap (λ s. not s && b) (same-self t)
+
+-- an edge does not match a column that keeps its value
+pub change-still : (old new t : Trit) → symbol_matches (edge_symbol old new) t t ≡ false
+change-still Zero Zero t = unmoved t (same Zero t)
+change-still Zero One t = rise-still t
+change-still Zero Unknown t = unmoved t (same Zero t)
+change-still One Zero t = fall-still t
+change-still One One t = unmoved t (same One t)
+change-still One Unknown t = unmoved t (same One t)
+change-still Unknown Zero t = unmoved t (same Zero t)
+change-still Unknown One t = unmoved t (same One t)
+change-still Unknown Unknown t = ap not (same-self t)
+
+-- a free violation column matches all
+pub free-violation :
+    (checks : Bool) (es : List VSymbol) (olds news : List Trit) (x y : Trit)
+    → columns_match symbol_matches (violated checks (symbol.Level trits.Any) es) (violated checks x olds) (violated checks y news)
+    ≡ columns_match symbol_matches es olds news
+free-violation false es olds news x y = refl
+free-violation true es olds news x y = refl
+
+-- a row of levels matches what its cube covers
+pub level_row-matches :
+    (checks : Bool) (v : Trit) (c olds news : List Trit) (x y s : Trit)
+    → length olds ≡ length news
+    → state_matches (violated checks x olds) (violated checks y news) s (level_row checks v c) ≡ covers c news
+level_row-matches checks v c olds news x y s e =
+    and-true (columns_match symbol_matches (violated checks (symbol.Level trits.Any) (map level_symbol c)) (violated checks x olds) (violated checks y news))
+    ∙ free-violation checks (map level_symbol c) olds news x y
+    ∙ levels-cover c olds news e
+
+-- the columns of a change
+change-columns :
+    (checks : Bool) (p : ℕ) (old new r : Trit) (rest olds news : List Trit) (x y : Trit)
+    → p ≤ length rest → length olds ≡ suc (length rest) → length news ≡ suc (length rest)
+    → columns_match symbol_matches (violated checks (symbol.Level trits.Any) (edge_columns p (old ∷ new ∷ r ∷ rest))) (violated checks x olds) (violated checks y news)
+    ≡ (symbol_matches (edge_symbol old new) (get_or olds p Unknown) (get_or news p Unknown)
+    && columns_match symbol_matches (map level_symbol (init (r ∷ rest))) (without p olds) (without p news))
+change-columns checks p old new r rest olds news x y l f g =
+    let es : List VSymbol = map level_symbol (init (r ∷ rest)) in
+    let few : length es ≡ length rest = length-map (init (r ∷ rest)) level_symbol ∙ length-init r rest in
+    free-violation checks (insert p (edge_symbol old new) es) olds news x y
+    ∙ columns-insert symbol_matches p (edge_symbol old new) es olds news (omega arith) (omega arith) (omega arith)
+
+pub change-kept :
+    (checks : Bool) (p : ℕ) (c olds news : List Trit) (x y : Trit) (n : ℕ)
+    → p < n → length c ≡ suc (suc n) → length olds ≡ n → length news ≡ n
+    → get_or olds p Unknown ≡ get_or news p Unknown
+    → columns_match symbol_matches (violated checks (symbol.Level trits.Any) (edge_columns p c)) (violated checks x olds) (violated checks y news) ≡ false
+change-kept checks p [] olds news x y n l e f g h = absurd (omega arith)
+change-kept checks p (old ∷ []) olds news x y n l e f g h = absurd (omega arith)
+change-kept checks p (old ∷ new ∷ []) olds news x y n l e f g h = absurd (omega arith)
+change-kept checks p (old ∷ new ∷ r ∷ rest) olds news x y n l e f g h =
+    let others : Bool = columns_match symbol_matches (map level_symbol (init (r ∷ rest))) (without p olds) (without p news) in
+    change-columns checks p old new r rest olds news x y (omega arith) (omega arith) (omega arith)
+    ∙ ap (λ t. symbol_matches (edge_symbol old new) t (get_or news p Unknown) && others) h
+    ∙ ap (λ b. b && others) (change-still old new (get_or news p Unknown))
+
+-- A row of a change matches the changes that its cube covers.
+regroup : (x y c d : Bool) → (((x && y) && c) && d) ≡ (x && (y && (c && d)))
+regroup true true c d = refl
+regroup true false c d = refl
+regroup false y c d = refl
+
+pub change-matches :
+    (checks : Bool) (p : ℕ) (v : Trit) (c : List Trit) (a b : Trit) (others : List Trit) (x y s : Trit)
+    → p ≤ length others → length c ≡ suc (suc (suc (length others))) → same a b ≡ false → moves c ≡ true
+    → state_matches (violated checks x (insert p a others)) (violated checks y (insert p b others)) s (edge_row checks p v c)
+    ≡ covers c (a ∷ b ∷ others ++ s ∷ [])
+change-matches checks p v [] a b others x y s l e h m = absurd (omega arith)
+change-matches checks p v (old ∷ []) a b others x y s l e h m = absurd (omega arith)
+change-matches checks p v (old ∷ new ∷ []) a b others x y s l e h m = absurd (omega arith)
+change-matches checks p v (old ∷ new ∷ r ∷ rest) a b others x y s l e h m =
+    let es : List VSymbol = map level_symbol (init (r ∷ rest)) in
+    let state : Bool = trits_match (level_of (last Unknown (r ∷ rest))) s in
+    let olds : List Trit = insert p a others in
+    let news : List Trit = insert p b others in
+    let few : length others ≡ length rest = omega arith in
+    let columns = change-columns checks p old new r rest olds news x y (omega arith) (length-insert p a others ∙ ap suc few) (length-insert p b others ∙ ap suc few) in
+    let at_change : symbol_matches (edge_symbol old new) (get_or olds p Unknown) (get_or news p Unknown) ≡ (admits old a && admits new b)
+    = (λ i. symbol_matches (edge_symbol old new) (at-insert p a Unknown others l i) (at-insert p b Unknown others l i))
+    ∙ change-admits old new a b (r ∷ rest) m ∙ ap (λ t. not t && (admits old a && admits new b)) h in
+    let at_others : columns_match symbol_matches es (without p olds) (without p news) ≡ covers (init (r ∷ rest)) others
+    = (λ i. columns_match symbol_matches es (without-insert p a others l i) (without-insert p b others l i))
+    ∙ levels-cover (init (r ∷ rest)) others others refl in
+    ap (λ t. t && state) columns
+    ∙ (λ i. (at_change i && at_others i) && level-admits (last Unknown (r ∷ rest)) s i)
+    ∙ regroup (admits old a) (admits new b) (covers (init (r ∷ rest)) others) (admits (last Unknown (r ∷ rest)) s)
+    ∙ ap (λ t. admits old a && (admits new b && t)) (sym (covers-last (r ∷ rest) others s (omega arith)))

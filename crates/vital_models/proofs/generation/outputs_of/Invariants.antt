@@ -1,0 +1,8 @@
+use Rattle.std.proofs.Common.{◌≡◌, ◌++◌, map, drop}
+use Rattle.udp_tables.specs.CellData.{data_of}
+use Rattle.vital_models.specs.Generated.{output_of}
+use Rattle.vital_models.proofs.generation.outputs_of.Given as goal
+
+abbrev pub invariant-loop-i : goal.invariant-loop-i
+invariant-loop-i l =
+    l.outputs ++ map (output_of (data_of l.cell)) (drop l.i l.cell.outputs) ≡ map (output_of (data_of l.cell)) l.cell.outputs

@@ -1,0 +1,10 @@
+use Rattle.std.proofs.Common.{◌≡◌, ◌++◌, map, drop}
+use Rattle.udp_tables.specs.CellData.{data_of}
+use Rattle.udp_tables.specs.Conditions.{conditions_beside}
+use Rattle.vital_models.specs.Generated.{place_of}
+use Rattle.vital_models.proofs.timing.places_beside.Given as goal
+
+abbrev pub invariant-loop-other : goal.invariant-loop-other
+invariant-loop-other l =
+    l.places ++ map (place_of (data_of l.cell)) (conditions_beside (drop l.other-index l.cell.arcs) l.arc)
+    ≡ map (place_of (data_of l.cell)) (conditions_beside l.cell.arcs l.arc)

@@ -1,0 +1,11 @@
+pub mod Symbols
+pub mod LookUps
+pub mod Rows
+pub mod RowLaws
+pub mod Words
+pub mod Kept
+pub mod Ports
+pub mod Generated
+pub mod Translation
+pub mod Sound
+pub mod Laws

@@ -1,0 +1,32 @@
+//! The fault of this crate.
+use std::alloc::{AllocError, AllocFailed};
+use thiserror::Error;
+
+/// Memory was wanted and not there.
+#[derive(Debug, Drop, Error)]
+#[error("out of memory")]
+pub struct Memory;
+
+impl From<AllocError> for Memory {
+    fn from(_: AllocError) -> Memory {
+        Memory
+    }
+}
+
+impl<T: Drop> From<AllocFailed<T>> for Memory {
+    fn from(_: AllocFailed<T>) -> Memory {
+        Memory
+    }
+}
+
+impl From<bool_functions::Memory> for Memory {
+    fn from(_: bool_functions::Memory) -> Memory {
+        Memory
+    }
+}
+
+impl From<udp_tables::Memory> for Memory {
+    fn from(_: udp_tables::Memory) -> Memory {
+        Memory
+    }
+}

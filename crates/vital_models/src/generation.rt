@@ -1,0 +1,197 @@
+//! The entity of a cell.
+ghost use Rattle.std.specs.Prelude.{◌≡◌, ◌<◌, ◌≤◌, ◌++◌, map, length, slice_get, slice_index_or, Some, IfOk, OnOk};
+ghost use Rattle.bool_functions.specs.Tree.{name_bound};
+ghost use Rattle.udp_tables.specs.CellData.{data_of};
+ghost use Rattle.udp_tables.specs.Conditions.{conditions_of};
+ghost use Rattle.udp_tables.specs.CellPrimitives.{condition_tree, has_sources};
+ghost use Rattle.vital_models.specs.Generated.{ports_at, state_of, states_of, condition_of, source_at, value_of_output, output_of, entity_of};
+
+use crate::faults::Memory;
+use crate::model::{OutValue, VEntity, VOutput, VState, VTruth};
+use crate::ports::{port_number, vital_ports};
+use crate::tables::{condition_table, has_violation, output_table, state_table};
+use crate::timing::{checks_of, paths_to};
+use bool_functions::Function;
+use cell_machine::{Cell, OutputPin, Pin, Source};
+use sqlite_items::Items;
+use std::alloc::Global;
+use udp_tables::conditions;
+
+/// The most names of a cell: 64 pins, and two variables for each of 16 groups.
+const NAMES: usize = 96;
+
+/// The entity of a cell, with this name: a state for each group, a truth table for each condition and for each output that
+/// depends on something, a path for each arc, and the checks. What it answers is sound. `Memory` comes only where memory is
+/// wanting.
+pub fn vital_model(alloc: Global, cell: &Cell, name: &[u8]) -> Result<VEntity, Memory>
+    ensures { IfOk result (λ entity. entity ≡ entity_of (data_of cell.now) name.now) }
+{
+    let conditions = conditions(alloc, cell)?;
+    Ok(VEntity {
+        name: Items::from_slice(alloc, name)?,
+        ports: vital_ports(alloc, cell.pins.as_slice(), name)?,
+        states: states_of(alloc, cell)?,
+        conditions: conditions_of(alloc, cell, &conditions)?,
+        outputs: outputs_of(alloc, cell, &conditions)?,
+        checks: checks_of(alloc, cell, &conditions)?,
+    })
+}
+
+/// The states of the groups.
+fn states_of(alloc: Global, cell: &Cell) -> Result<Items<VState>, Memory>
+    ensures { IfOk result (λ states. states ≡ states_of (data_of cell.now)) }
+{
+    let mut states = Items::new(alloc);
+    for group in 0..cell.groups.len() {
+        states.push(state_of(alloc, cell, group)?)?;
+    }
+    Ok(states)
+}
+
+fn state_of(alloc: Global, cell: &Cell, group: usize) -> Result<VState, Memory>
+    requires { group < length cell.now.groups }
+    ensures { IfOk result (λ state. state ≡ state_of (data_of cell.now) group) }
+{
+    let support = cell.group(group).support.as_slice();
+    Ok(VState {
+        table: state_table(alloc, cell, group)?,
+        violation: has_violation(cell),
+        inputs: ports_at(alloc, cell.pins.as_slice(), support)?,
+    })
+}
+
+/// The ports of these pins.
+fn ports_at(alloc: Global, pins: &[Pin], support: &[usize]) -> Result<Items<usize>, Memory>
+    ensures { IfOk result (λ ports. ports ≡ ports_at pins.now support.now) }
+{
+    let mut ports = Items::new(alloc);
+    for pin in support {
+        ports.push(port_number(pins, *pin))?;
+    }
+    Ok(ports)
+}
+
+/// The truth tables of the cell's conditions, which are these.
+fn conditions_of(
+    alloc: Global,
+    cell: &Cell,
+    conditions: &[&Function],
+) -> Result<Items<VTruth>, Memory>
+    requires { map (λ f. f.now) conditions.now ≡ conditions_of (data_of cell.now) }
+    ensures { IfOk result (λ truths. truths ≡ map (condition_of cell.now.pins) (map (λ f. f.now) conditions.now)) }
+{
+    let mut truths = Items::new(alloc);
+    for (i, condition) in conditions.iter().enumerate() {
+        truths.push(condition_of(alloc, cell, conditions, i, condition)?)?;
+    }
+    Ok(truths)
+}
+
+/// The truth table of the condition with this number.
+fn condition_of(
+    alloc: Global,
+    cell: &Cell,
+    conditions: &[&Function],
+    number: usize,
+    condition: &Function,
+) -> Result<VTruth, Memory>
+    requires all { map (λ f. f.now) conditions.now ≡ conditions_of (data_of cell.now) }
+    requires number { number < length (conditions_of (data_of cell.now)) }
+    requires is { condition_tree (data_of cell.now) number ≡ condition.now }
+    ensures { IfOk result (λ truth. truth ≡ condition_of cell.now.pins condition.now) }
+{
+    let names = condition.support(alloc)?;
+    Ok(VTruth {
+        table: condition_table(alloc, cell, conditions, number)?,
+        inputs: ports_at(alloc, cell.pins.as_slice(), &names)?,
+    })
+}
+
+/// What drives the output pins, where these are the cell's conditions.
+fn outputs_of(
+    alloc: Global,
+    cell: &Cell,
+    conditions: &[&Function],
+) -> Result<Items<VOutput>, Memory>
+    requires { map (λ f. f.now) conditions.now ≡ conditions_of (data_of cell.now) }
+    ensures { IfOk result (λ outputs. outputs ≡ map (output_of (data_of cell.now)) cell.now.outputs) }
+{
+    let mut outputs = Items::new(alloc);
+    for i in 0..cell.outputs.len() {
+        let output = cell.output_pin(i);
+        outputs.push(output_of(alloc, cell, conditions, i, output)?)?;
+    }
+    Ok(outputs)
+}
+
+/// What drives the output pin with this number among the outputs.
+fn output_of(
+    alloc: Global,
+    cell: &Cell,
+    conditions: &[&Function],
+    number: usize,
+    output: &OutputPin,
+) -> Result<VOutput, Memory>
+    requires all { map (λ f. f.now) conditions.now ≡ conditions_of (data_of cell.now) }
+    requires is { slice_get cell.now.outputs number ≡ Some output.now }
+    requires bounded { name_bound output.now.function ≤ 96 }
+    ensures { IfOk result (λ made. made ≡ output_of (data_of cell.now) output.now) }
+{
+    Ok(VOutput {
+        port: port_number(cell.pins.as_slice(), output.pin),
+        value: value_of(alloc, cell, conditions, number, output)?,
+        paths: paths_to(alloc, cell, conditions, output.pin)?,
+    })
+}
+
+/// The value of the output with this number: a constant where it depends on nothing, else a table.
+#[tactic(auto, unfolding(cell_machine::specs::Values::no_values))]
+fn value_of(
+    alloc: Global,
+    cell: &Cell,
+    conditions: &[&Function],
+    number: usize,
+    output: &OutputPin,
+) -> Result<OutValue, Memory>
+    requires all { map (λ f. f.now) conditions.now ≡ conditions_of (data_of cell.now) }
+    requires is { slice_get cell.now.outputs number ≡ Some output.now }
+    requires bounded { name_bound output.now.function ≤ 96 }
+    ensures { IfOk result (λ value. value ≡ value_of_output (data_of cell.now) output.now) }
+{
+    if has_sources(output) {
+        Ok(OutValue::Table {
+            table: output_table(alloc, cell, conditions, number, output)?,
+            inputs: sources_at(alloc, cell.pins.as_slice(), output.support.as_slice())?,
+        })
+    } else {
+        Ok(OutValue::Constant(output.function.value(&[false; NAMES])))
+    }
+}
+
+/// Whether an output depends on anything.
+fn has_sources(output: &OutputPin) -> bool
+    ensures { result ≡ has_sources output.now }
+{
+    output.support.len() > 0
+}
+
+/// The sources with the ports of their pins.
+fn sources_at(alloc: Global, pins: &[Pin], support: &[Source]) -> Result<Items<Source>, Memory>
+    ensures { IfOk result (λ sources. sources ≡ map (source_at pins.now) support.now) }
+{
+    let mut sources = Items::new(alloc);
+    for source in support {
+        sources.push(source_at(pins, *source))?;
+    }
+    Ok(sources)
+}
+
+/// A source with the port of its pin.
+fn source_at(pins: &[Pin], source: Source) -> Source
+    ensures { result ≡ source_at pins.now source }
+{
+    match source {
+        Source::Pin(pin) => Source::Pin(port_number(pins, pin)),
+        Source::State(group) => Source::State(group),
+    }
+}

@@ -1,0 +1,29 @@
+//! VHDL models of cells by VITAL (IEEE 1076.4-2000): truth tables, state tables, and the entities that they stand in.
+#![tactic(auto)]
+
+mod faults;
+mod generation;
+mod kept;
+pub mod laws;
+mod lookups;
+mod matching;
+mod model;
+mod names;
+mod ports;
+mod table;
+mod tables;
+mod timing;
+mod translation;
+mod words;
+
+pub use faults::Memory;
+pub use generation::vital_model;
+pub use lookups::{lookup_state, lookup_truth};
+pub use model::{HCheck, HGate, HPath, OutValue, VEntity, VOutput, VState, VTruth};
+pub use names::entity_name;
+pub use ports::vital_ports;
+pub use table::{Trits, TruthRow, TruthTable, VNext, VStateRow, VStateTable, VSymbol};
+pub use words::is_vhdl_word;
+
+#[cfg(test)]
+mod tests;

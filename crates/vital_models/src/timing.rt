@@ -1,0 +1,169 @@
+//! The paths and the timing checks of a cell's entity.
+ghost use Rattle.std.specs.Prelude.{◌≡◌, nat_eq, map, filter, option_map, IfOk};
+ghost use Rattle.cell_machine.specs.CellTrace.{same_pins};
+ghost use Rattle.cell_machine.specs.declared.arcs.Arc.{Arc};
+ghost use Rattle.udp_tables.specs.CellData.{data_of};
+ghost use Rattle.udp_tables.specs.Conditions.{conditions_of, conditions_beside};
+ghost use Rattle.vital_models.specs.Generated.{place_of, all_zero, gate_by, path_of, paths_to, event_of, check_of};
+
+use crate::faults::Memory;
+use crate::model::{HCheck, HGate, HPath};
+use crate::ports::port_number;
+use bool_functions::Function;
+use cell_machine::{Arc, Cell, Check, Event, Pin};
+use sqlite_items::Items;
+use std::alloc::Global;
+use udp_tables::condition_number;
+
+/// The paths of a cell's entity to an output pin, where these are the cell's conditions: one for each arc that ends there.
+pub(crate) fn paths_to(
+    alloc: Global,
+    cell: &Cell,
+    conditions: &[&Function],
+    pin: usize,
+) -> Result<Items<HPath>, Memory>
+    requires { map (λ f. f.now) conditions.now ≡ conditions_of (data_of cell.now) }
+    ensures { IfOk result (λ paths. paths ≡ paths_to (data_of cell.now) pin) }
+{
+    let mut paths = Items::new(alloc);
+    for arc in cell.arcs.as_slice() {
+        if ends_at(arc, pin) {
+            paths.push(path_of(alloc, cell, conditions, arc)?)?;
+        }
+    }
+    Ok(paths)
+}
+
+/// Whether an arc ends at this pin.
+fn ends_at(arc: &Arc, pin: usize) -> bool
+    ensures { result ≡ nat_eq arc.now.to pin }
+{
+    arc.to == pin
+}
+
+fn path_of(alloc: Global, cell: &Cell, conditions: &[&Function], arc: &Arc) -> Result<HPath, Memory>
+    requires { map (λ f. f.now) conditions.now ≡ conditions_of (data_of cell.now) }
+    ensures { IfOk result (λ path. path ≡ path_of (data_of cell.now) arc.now) }
+{
+    Ok(HPath {
+        from: port_number(cell.pins.as_slice(), arc.from),
+        rise: arc.rise,
+        fall: arc.fall,
+        gate: gate_of(alloc, cell, conditions, arc)?,
+    })
+}
+
+fn gate_of(alloc: Global, cell: &Cell, conditions: &[&Function], arc: &Arc) -> Result<HGate, Memory>
+    requires { map (λ f. f.now) conditions.now ≡ conditions_of (data_of cell.now) }
+    ensures { IfOk result (λ gate. gate ≡ gate_by (data_of cell.now) arc.now arc.now.condition) }
+{
+    match &arc.condition {
+        Some(condition) => Ok(HGate::NotZero(place_of(cell, conditions, condition))),
+        None => {
+            let beside = places_beside(alloc, cell, conditions, arc)?;
+            Ok(all_zero(beside))
+        }
+    }
+}
+
+/// Where these conditions are all 0; always where there is none.
+fn all_zero(conditions: Items<usize>) -> HGate
+    ensures { result ≡ all_zero conditions }
+{
+    if conditions.is_empty() {
+        HGate::Always
+    } else {
+        HGate::AllZero(conditions)
+    }
+}
+
+/// The numbers of the conditions of all arcs that have the two pins of an arc.
+fn places_beside(
+    alloc: Global,
+    cell: &Cell,
+    conditions: &[&Function],
+    arc: &Arc,
+) -> Result<Items<usize>, Memory>
+    requires { map (λ f. f.now) conditions.now ≡ conditions_of (data_of cell.now) }
+    ensures { IfOk result (λ places. places ≡ map (place_of (data_of cell.now)) (conditions_beside cell.now.arcs arc.now)) }
+{
+    let mut places = Items::new(alloc);
+    for other in cell.arcs.as_slice() {
+        if same_pins(arc, other) {
+            if let Some(condition) = &other.condition {
+                places.push(place_of(cell, conditions, condition))?;
+            }
+        }
+    }
+    Ok(places)
+}
+
+/// Whether two arcs have the same two pins.
+fn same_pins(arc: &Arc, other: &Arc) -> bool
+    ensures { result ≡ same_pins arc.now other.now }
+{
+    arc.from == other.from && arc.to == other.to
+}
+
+/// The number of a condition of the cell.
+fn place_of(cell: &Cell, conditions: &[&Function], condition: &Function) -> usize
+    requires { map (λ f. f.now) conditions.now ≡ conditions_of (data_of cell.now) }
+    ensures { result ≡ place_of (data_of cell.now) condition.now }
+{
+    condition_number(conditions, condition)
+}
+
+/// The checks of a cell's entity, where these are the cell's conditions.
+pub(crate) fn checks_of(
+    alloc: Global,
+    cell: &Cell,
+    conditions: &[&Function],
+) -> Result<Items<HCheck>, Memory>
+    requires { map (λ f. f.now) conditions.now ≡ conditions_of (data_of cell.now) }
+    ensures { IfOk result (λ checks. checks ≡ map (check_of (data_of cell.now)) cell.now.checks) }
+{
+    let mut checks = Items::new(alloc);
+    for check in cell.checks.as_slice() {
+        checks.push(check_of(cell, conditions, check))?;
+    }
+    Ok(checks)
+}
+
+fn check_of(cell: &Cell, conditions: &[&Function], check: &Check) -> HCheck
+    requires { map (λ f. f.now) conditions.now ≡ conditions_of (data_of cell.now) }
+    ensures { result ≡ check_of (data_of cell.now) check.now }
+{
+    let pins = cell.pins.as_slice();
+    HCheck {
+        kind: check.kind,
+        first: event_of(pins, check.first),
+        second: event_of(pins, check.second),
+        limit: check.limit,
+        condition: enabling_place(cell, conditions, &check.condition),
+    }
+}
+
+/// The number of a condition, where there is one.
+fn enabling_place(
+    cell: &Cell,
+    conditions: &[&Function],
+    condition: &Option<Function>,
+) -> Option<usize>
+    requires { map (λ f. f.now) conditions.now ≡ conditions_of (data_of cell.now) }
+    ensures { result ≡ option_map (place_of (data_of cell.now)) condition.now }
+{
+    match condition {
+        Some(condition) => Some(place_of(cell, conditions, condition)),
+        None => None,
+    }
+}
+
+/// The event of a pin as one of its port.
+fn event_of(pins: &[Pin], event: Event) -> Event
+    ensures { result ≡ event_of pins.now event }
+{
+    Event {
+        pin: port_number(pins, event.pin),
+        edge: event.edge,
+    }
+}

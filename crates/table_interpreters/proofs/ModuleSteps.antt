@@ -1,10 +1,9 @@
 -- The fields of a module's simulator at the start and after a change.
-use Rattle.std.proofs.Common.{◌≡◌, ℕ, suc, zero, ◌+◌, ◌<◌, Bool, true, false, not, List, [], ◌∷◌, ◌++◌, append_assoc, length, map, replicate, get_or, set, drop, refl, sym, ap, ◌∙◌, add-one, Some, None, slice_get, if◌then◌else◌}
+use Rattle.std.proofs.Common.{◌≡◌, ℕ, suc, ◌+◌, Bool, true, false, List, [], ◌∷◌, ◌++◌, append_assoc, length, map, replicate, drop, refl, sym, ap, ◌∙◌, add-one, Some, slice_get, if◌then◌else◌}
 use Rattle.trit_cubes.specs.declared.trits.Trit.{Trit}
 use Rattle.trit_cubes.specs.declared.trits.Trit.TheVariants.{Unknown}
-use Rattle.trit_cubes.specs.Filling.{same}
 use Rattle.cell_machine.specs.declared.changes.Change.{Change}
-use Rattle.cell_machine.specs.History.{value_before, is_event}
+use Rattle.cell_machine.specs.History.{is_event}
 use Rattle.std.proofs.lemmas.List.{map-append}
 use Rattle.cell_machine.proofs.ArcDelays.{drop-at}
 use Rattle.udp_tables.specs.declared.models.VPort.{VPort}
@@ -14,8 +13,7 @@ use Rattle.table_interpreters.specs.declared.module_run.ModuleRun.{ModuleRun}
 use Rattle.table_interpreters.specs.declared.shown.Shown.{Shown}
 use Rattle.table_interpreters.specs.PortNumbers.{input_count, output_by, outputs_from, output_ports}
 use Rattle.table_interpreters.specs.CheckTimes.{no_stamps}
-use Rattle.table_interpreters.specs.ModuleRun.{start_run, shaken, reports_at, happened, run_step, step_reports, run_after}
-use Rattle.table_interpreters.specs.ModuleTrace.{reports_after, output_after}
+use Rattle.table_interpreters.specs.ModuleRun.{shaken, reports_at, happened, run_step, step_reports, run_after}
 use Rattle.table_interpreters.specs.ShownPorts.{shown_first, shown_step}
 use Rattle.table_interpreters.specs.ModuleStands.{shown_after, Stands}
 

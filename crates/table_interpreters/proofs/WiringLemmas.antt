@@ -1,17 +1,17 @@
 -- What a module that can be run gives for its parts, and that every sound module can be run.
-use Rattle.std.proofs.Common.{◌≡◌, ℕ, suc, zero, ◌≤◌, ◌<◌, Bool, true, false, ◌&&◌, ◌||◌, List, [], ◌∷◌, ◌++◌, length, get_or, refl, sym, ap, subst, ◌∙◌, arith, IsTrue, Option, Some, None, slice_get, nat_eq, nat_le, All, eqb-true, if◌then◌else◌}
+use Rattle.std.proofs.Common.{◌≡◌, ℕ, suc, zero, ◌≤◌, ◌<◌, Bool, true, false, ◌||◌, List, [], ◌∷◌, ◌++◌, length, get_or, refl, sym, subst, arith, IsTrue, Some, slice_get, nat_eq, nat_le, eqb-true}
 use Rattle.std.specs.List.{list_all}
 use Rattle.std.specs.Option.{option_map_or}
 use Rattle.std.proofs.lemmas.Bool.{and_parts, and_from, leb-true, le-leb, eq-eqb}
 use Rattle.udp_tables.specs.declared.table.UdpRow.{UdpRow}
 use Rattle.udp_tables.specs.declared.table.Udp.{Udp}
 use Rattle.udp_tables.specs.Primitive.{is_level, IsCombinational}
-use Rattle.udp_tables.specs.Sequential.{HasEntries, IsSequential}
+use Rattle.udp_tables.specs.Sequential.{HasEntries}
 use Rattle.specify_blocks.specs.declared.model.VNet.{VNet}
 use Rattle.specify_blocks.specs.declared.model.Instance.{Instance}
 use Rattle.specify_blocks.specs.declared.model.Instance.TheVariants as instance
 use Rattle.specify_blocks.specs.declared.model.VModule.{VModule}
-use Rattle.specify_blocks.specs.Sound.{IsTable, IsPrimitive, IsInstance, AreInstances, IsSound}
+use Rattle.specify_blocks.specs.Sound.{IsTable, IsInstance, AreInstances, IsSound}
 use Rattle.table_interpreters.specs.Wiring.{has_entries, has_levels, is_table, net_count, has_nets, is_joined, is_wired}
 
 -- what a test gives of an entry of a list of which it holds

@@ -6,6 +6,7 @@ pub mod CheckTimes
 pub mod PathDelays
 pub mod LeastPath
 pub mod ModuleRun
+pub mod Laws
 pub mod ModuleTrace
 pub mod ShownPorts
 pub mod ModuleSized

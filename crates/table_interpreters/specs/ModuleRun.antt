@@ -1,6 +1,6 @@
 -- The run of a module: what it holds, and how a change of an input takes it on. (IEEE 1364-2005, clauses 8, 14 and 15, as this
 -- project reads them.)
-use Rattle.std.specs.Prelude.{◌≡◌, ℕ, Bool, true, false, List, [], ◌∷◌, length, map, replicate, slice_set, if◌then◌else◌}
+use Rattle.std.specs.Prelude.{◌≡◌, Bool, true, false, List, [], ◌∷◌, length, replicate, slice_set, if◌then◌else◌}
 use Rattle.trit_cubes.specs.declared.trits.Trit.{Trit}
 use Rattle.trit_cubes.specs.declared.trits.Trit.TheVariants.{Zero, One, Unknown}
 use Rattle.cell_machine.specs.declared.changes.Change.{Change}

@@ -1,5 +1,5 @@
 -- Each line of a module has an entry for each output and each check.
-use Rattle.std.proofs.Common.{◌≡◌, ℕ, suc, List, [], ◌∷◌, length, Bool, true, false, replicate, map, ap, sym, ◌∙◌, refl, arith, if◌then◌else◌}
+use Rattle.std.proofs.Common.{◌≡◌, ℕ, suc, List, [], ◌∷◌, length, Bool, true, false, replicate, ap, refl, arith, if◌then◌else◌}
 use Rattle.std.proofs.lemmas.List.{length-map, length-replicate}
 use Rattle.trit_cubes.specs.declared.trits.Trit.{Trit}
 use Rattle.trit_cubes.specs.declared.trits.Trit.TheVariants.{Unknown}
@@ -9,12 +9,11 @@ use Rattle.cell_machine.specs.Each.{each}
 use Rattle.cell_machine.specs.Lines.{IsSized}
 use Rattle.specify_blocks.specs.declared.model.VModule.{VModule}
 use Rattle.table_interpreters.specs.declared.primitives.Turned.TheVariants as turned
-use Rattle.table_interpreters.specs.declared.primitives.Turn.{Turn}
 use Rattle.table_interpreters.specs.declared.module_run.ModuleRun.{ModuleRun}
 use Rattle.table_interpreters.specs.PortNumbers.{output_ports}
 use Rattle.table_interpreters.specs.Primitives.{next_state}
 use Rattle.table_interpreters.specs.CheckTimes.{no_stamps, stamped, check_reports}
-use Rattle.table_interpreters.specs.ModuleRun.{HasEach, start_run, turn_of, entered, kept, toggled, notified, shaken, reports_at, happened, run_step, step_reports, run_after}
+use Rattle.table_interpreters.specs.ModuleRun.{HasEach, start_run, turn_of, entered, kept, toggled, notified, shaken, reports_at, happened, run_after}
 use Rattle.table_interpreters.specs.ModuleTrace.{output_after, delay_after, reports_after, module_machine}
 
 pub length-each :

@@ -1,6 +1,6 @@
-use Rattle.std.proofs.Common.{◌≡◌, ◌<◌, ◌≤◌, ap, ◌∙◌, length, arith, false}
+use Rattle.std.proofs.Common.{◌<◌, ap, ◌∙◌, length, arith, false}
 use Rattle.std.proofs.lemmas.List.{length-set}
-use Rattle.table_interpreters.proofs.Fronts.{clear-step, clear-done}
+use Rattle.table_interpreters.proofs.Fronts.{clear-step}
 use Rattle.table_interpreters.proofs.checks.clear.Goals as goal
 
 pub loop-i-preserved : goal.loop-i-preserved

@@ -1,4 +1,4 @@
-use Rattle.std.proofs.Common.{◌≡◌, ◌<◌, sym, ap, ◌∙◌, length, add-one, arith}
+use Rattle.std.proofs.Common.{◌<◌, sym, ap, ◌∙◌, length, add-one, arith}
 use Rattle.std.proofs.lemmas.List.{length-set}
 use Rattle.std.proofs.lemmas.Option.{slice_get-get_or}
 use Rattle.cell_machine.proofs.EachLemmas.{each-step, each-done}

@@ -1,4 +1,4 @@
-use Rattle.std.proofs.Common.{◌≡◌, ◌<◌, sym, ap, ◌∙◌, length, add-one, arith}
+use Rattle.std.proofs.Common.{◌<◌, sym, ap, ◌∙◌, length, add-one, arith}
 use Rattle.std.proofs.lemmas.List.{length-set}
 use Rattle.table_interpreters.specs.ShownPorts.{shown_step}
 use Rattle.table_interpreters.proofs.Fronts.{map-step, map-done}

@@ -1,4 +1,4 @@
-use Rattle.std.proofs.Common.{ℕ, ◌≤◌, ◌<◌, get_or, List}
+use Rattle.std.proofs.Common.{ℕ, ◌≤◌, ◌<◌, get_or}
 use Rattle.specify_blocks.specs.declared.model.Instance.{Instance}
 use Rattle.table_interpreters.specs.Wiring.{net_count}
 use Rattle.table_interpreters.proofs.wiring.most_nets.Given as goal

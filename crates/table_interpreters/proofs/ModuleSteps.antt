@@ -1,0 +1,112 @@
+-- The fields of a module's simulator at the start and after a change.
+use Rattle.std.proofs.Common.{◌≡◌, ℕ, suc, ◌+◌, Bool, true, false, List, [], ◌∷◌, ◌++◌, append_assoc, length, map, replicate, drop, refl, sym, ap, ◌∙◌, add-one, Some, slice_get, if◌then◌else◌}
+use Rattle.trit_cubes.specs.declared.trits.Trit.{Trit}
+use Rattle.trit_cubes.specs.declared.trits.Trit.TheVariants.{Unknown}
+use Rattle.cell_machine.specs.declared.changes.Change.{Change}
+use Rattle.cell_machine.specs.History.{is_event}
+use Rattle.std.proofs.lemmas.List.{map-append}
+use Rattle.cell_machine.proofs.ArcDelays.{drop-at}
+use Rattle.udp_tables.specs.declared.models.VPort.{VPort}
+use Rattle.specify_blocks.specs.declared.model.VModule.{VModule}
+use Rattle.table_interpreters.specs.declared.checks.Stamps.{Stamps}
+use Rattle.table_interpreters.specs.declared.module_run.ModuleRun.{ModuleRun}
+use Rattle.table_interpreters.specs.declared.shown.Shown.{Shown}
+use Rattle.table_interpreters.specs.PortNumbers.{input_count, output_by, outputs_from, output_ports}
+use Rattle.table_interpreters.specs.CheckTimes.{no_stamps}
+use Rattle.table_interpreters.specs.ModuleRun.{shaken, reports_at, happened, run_step, step_reports, run_after}
+use Rattle.table_interpreters.specs.ShownPorts.{shown_first, shown_step}
+use Rattle.table_interpreters.specs.ModuleStands.{shown_after, Stands}
+
+-- the first of the reports and then the others
+pub shaken-first :
+    (m : VModule) (b : Bool) (reports : List Bool) (r : ModuleRun)
+    → shaken m reports (shaken m (b ∷ []) r) ≡ shaken m (b ∷ reports) r
+shaken-first m true reports r = refl
+shaken-first m false reports r = refl
+
+-- one report more
+pub shaken-step :
+    (m : VModule) (reports : List Bool) (i : ℕ) (b : Bool) (r s : ModuleRun)
+    → slice_get reports i ≡ Some b → s ≡ shaken m (b ∷ []) r
+    → shaken m (drop (i + 1) reports) s ≡ shaken m (drop i reports) r
+shaken-step m reports i b r s e is =
+    rw add-one
+    (ap (shaken m (drop (suc i) reports)) is
+    ∙ shaken-first m b (drop (suc i) reports) r
+    ∙ ap (λ bs. shaken m bs r) (sym (drop-at reports i b e)))
+
+-- one port more
+pub outputs-step :
+    {X : Type 0} (f : ℕ → X) (ports : List VPort) (i : ℕ) (port : VPort) (old new : List X)
+    → slice_get ports i ≡ Some port
+    → new ≡ old ++ map f (output_by i port.input)
+    → new ++ map f (outputs_from (i + 1) (drop (i + 1) ports)) ≡ old ++ map f (outputs_from i (drop i ports))
+outputs-step f ports i port old new e is =
+    let rest : List ℕ = outputs_from (i + 1) (drop (i + 1) ports) in
+    let front : drop i ports ≡ port ∷ drop (i + 1) ports = rw add-one (drop-at ports i port e) in
+    ap (λ r. r ++ map f rest) is
+    ∙ append_assoc old (map f (output_by i port.input)) (map f rest)
+    ∙ ap (λ r. old ++ r) (sym (map-append f (output_by i port.input) rest))
+    ∙ ap (λ ps. old ++ map f (outputs_from i ps)) (sym front)
+
+map-map :
+    {X Y Z : Type 0} (f : Y → Z) (g : X → Y) (xs : List X) → map f (map g xs) ≡ map (λ x. f (g x)) xs
+map-map f g [] = refl
+map-map f g (x ∷ xs) = ap (λ r. f (g x) ∷ r) (map-map f g xs)
+
+-- Before any change.
+pub start-stands :
+    (m : VModule) (inputs states : List Trit) (stamps : List Stamps) (reports : List Bool) (shown : List Shown)
+    → inputs ≡ replicate (input_count m.ports) Unknown
+    → states ≡ replicate (length m.instances) Unknown
+    → stamps ≡ replicate (length m.checks) no_stamps
+    → reports ≡ replicate (length m.checks) false
+    → shown ≡ map (shown_first m inputs states) (output_ports m.ports)
+    → Stands m (record { inputs = inputs; states = states; notifier = Unknown; stamps = stamps }) reports shown []
+start-stands m inputs states stamps reports shown i s k r o =
+    record {
+      run_is = λ j. record { inputs = i j; states = s j; notifier = Unknown; stamps = k j };
+      reports_are = r;
+      shown_are = o ∙ (λ j. map (shown_first m (i j) (s j)) (output_ports m.ports));
+    }
+
+-- After a change.
+pub change-stands :
+    (m : VModule) (run : ModuleRun) (reports : List Bool) (shown : List Shown) (h : List Change) (c : Change)
+    (run' : ModuleRun) (reports' : List Bool) (shown' : List Shown)
+    → Stands m run reports shown h
+    → run' ≡ run_step m run c
+    → reports' ≡ step_reports m run c
+    → shown' ≡ map (shown_step m run'.inputs run'.states c.pin) shown
+    → Stands m run' reports' shown' (c ∷ h)
+change-stands m run reports shown h c run' reports' shown' st r k o =
+    let is : run' ≡ run_after m (c ∷ h) = r ∙ ap (λ x. run_step m x c) st.run_is in
+    record {
+      run_is = is;
+      reports_are = k ∙ ap (λ x. step_reports m x c) st.run_is;
+      shown_are =
+          o
+          ∙ (λ j. map (shown_step m (is j).inputs (is j).states c.pin) (st.shown_are j))
+          ∙ map-map (shown_step m (run_after m (c ∷ h)).inputs (run_after m (c ∷ h)).states c.pin) (shown_after m h)
+          (output_ports m.ports);
+    }
+
+-- a change to the value that the input has
+pub no-event :
+    (m : VModule) (r : ModuleRun) (c : Change)
+    → is_event r.inputs c ≡ false
+    → (r ≡ run_step m r c) × (replicate (length m.checks) false ≡ step_reports m r c)
+no-event m r c e = (
+  λ j. if sym e j then happened m r c else r,
+  λ j. if sym e j then reports_at m r c else replicate (length m.checks) false,
+)
+
+-- a change to another value
+pub an-event :
+    (m : VModule) (r : ModuleRun) (c : Change)
+    → is_event r.inputs c ≡ true
+    → (happened m r c ≡ run_step m r c) × (reports_at m r c ≡ step_reports m r c)
+an-event m r c e = (
+  λ j. if sym e j then happened m r c else r,
+  λ j. if sym e j then reports_at m r c else replicate (length m.checks) false,
+)

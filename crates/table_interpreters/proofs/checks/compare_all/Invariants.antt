@@ -1,0 +1,14 @@
+use Rattle.std.proofs.Common.{◌≡◌, take, length}
+use Rattle.cell_machine.specs.Each.{each}
+use Rattle.table_interpreters.specs.CheckTimes.{check_reports}
+use Rattle.table_interpreters.proofs.checks.compare_all.Given as goal
+
+-- the reports of the checks so far stand in front
+abbrev pub invariant-loop-i : goal.invariant-loop-i
+invariant-loop-i l = record {
+  front :
+      take l.i l.reports
+      ≡ each (check_reports l.model l.inputs l.states l.from l.change) (take l.i l.model.checks) (take l.i l.stamps);
+  len : length l.reports ≡ length l.initial.reports;
+  room : length l.room ≡ length l.initial.room;
+}

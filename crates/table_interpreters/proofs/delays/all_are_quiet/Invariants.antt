@@ -1,0 +1,13 @@
+use Rattle.std.proofs.Common.{◌≡◌, drop, length}
+use Rattle.std.specs.List.{list_all}
+use Rattle.table_interpreters.specs.PathDelays.{is_quiet}
+use Rattle.table_interpreters.proofs.delays.all_are_quiet.Given as goal
+
+-- the rest is quiet exactly where all are
+abbrev pub invariant-loop-i : goal.invariant-loop-i
+invariant-loop-i l = record {
+  rest :
+      list_all (is_quiet l.model l.inputs l.states l.path) (drop l.i l.model.paths)
+      ≡ list_all (is_quiet l.model l.inputs l.states l.path) l.model.paths;
+  len : length l.room ≡ length l.initial.room;
+}

@@ -1,0 +1,17 @@
+use Rattle.std.proofs.Common.{◌≡◌, drop, length}
+use Rattle.cell_machine.specs.Delay.{lesser}
+use Rattle.table_interpreters.specs.PathDelays.{is_between, path_at}
+use Rattle.table_interpreters.specs.LeastPath.{least_of}
+use Rattle.table_interpreters.proofs.delays.least_delay.Given as goal
+
+-- the best so far and the least of the rest give the least of all
+abbrev pub invariant-loop-i : goal.invariant-loop-i
+invariant-loop-i l = record {
+  least :
+      lesser l.best
+      (least_of (is_between l.model.ports l.change.input l.change.port) (path_at l.model l.inputs l.states) l.change.from
+      l.change.to (drop l.i l.model.paths))
+      ≡ least_of (is_between l.model.ports l.change.input l.change.port) (path_at l.model l.inputs l.states) l.change.from
+      l.change.to l.model.paths;
+  len : length l.room ≡ length l.initial.room;
+}

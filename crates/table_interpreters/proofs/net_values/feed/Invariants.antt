@@ -1,0 +1,10 @@
+use Rattle.std.proofs.Common.{◌≡◌, take, length, map}
+use Rattle.table_interpreters.specs.NetValues.{source_value}
+use Rattle.table_interpreters.proofs.net_values.feed.Given as goal
+
+-- the values of the nets so far stand in front
+abbrev pub invariant-loop-i : goal.invariant-loop-i
+invariant-loop-i l = record {
+  front : take l.i l.room ≡ map (source_value l.model l.inputs l.states) (take l.i l.nets);
+  len : length l.room ≡ length l.initial.room;
+}

@@ -1,0 +1,7 @@
+use Rattle.std.proofs.Common.{sym, length}
+use Rattle.table_interpreters.proofs.WiringLemmas.{wired-table}
+use Rattle.table_interpreters.proofs.net_values.instance_value.Goals as goal
+
+pub primitive_value-requires-clause-table : goal.primitive_value-requires-clause-table
+primitive_value-requires-clause-table c =
+    wired-table (length c.args.room.now) c.args.model.now c.in-Primitive.udp c.in-Some.udp.now c.requires.wired (sym c.in-Some.ensures.value)

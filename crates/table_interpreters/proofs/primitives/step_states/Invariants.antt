@@ -1,0 +1,15 @@
+use Rattle.std.proofs.Common.{◌≡◌, ◌++◌, take, drop, length}
+use Rattle.cell_machine.specs.Each.{each}
+use Rattle.table_interpreters.specs.Primitives.{next_state}
+use Rattle.table_interpreters.proofs.primitives.step_states.Given as goal
+
+-- the states so far and the next ones of the rest give the next ones of all
+abbrev pub invariant-loop-i : goal.invariant-loop-i
+invariant-loop-i l = record {
+  whole :
+      take l.i l.states
+      ++ each (next_state l.model l.inputs l.notifier l.turn) (drop l.i l.model.instances) (drop l.i l.states)
+      ≡ each (next_state l.model l.inputs l.notifier l.turn) l.model.instances l.initial.states;
+  len : length l.states ≡ length l.initial.states;
+  room : length l.room ≡ length l.initial.room;
+}

@@ -1,0 +1,13 @@
+use Rattle.std.proofs.Common.{◌≡◌, ◌++◌, take, drop, length, map}
+use Rattle.table_interpreters.specs.ShownPorts.{shown_step}
+use Rattle.table_interpreters.proofs.shown.show_all.Given as goal
+
+-- what is shown so far and the steps of the rest give the steps of all
+abbrev pub invariant-loop-i : goal.invariant-loop-i
+invariant-loop-i l = record {
+  whole :
+      take l.i l.shown ++ map (shown_step l.model l.inputs l.states l.input) (drop l.i l.shown)
+      ≡ map (shown_step l.model l.inputs l.states l.input) l.initial.shown;
+  len : length l.shown ≡ length l.initial.shown;
+  room : length l.room ≡ length l.initial.room;
+}

@@ -1,0 +1,14 @@
+use Rattle.std.proofs.Common.{◌≡◌, ◌++◌, drop, length, map}
+use Rattle.table_interpreters.specs.PortNumbers.{outputs_from, output_ports}
+use Rattle.table_interpreters.specs.ShownPorts.{shown_first}
+use Rattle.table_interpreters.proofs.shown.show_start.Given as goal
+
+-- what is shown so far and the outputs among the rest of the ports give all outputs
+abbrev pub invariant-loop-i : goal.invariant-loop-i
+invariant-loop-i l = record {
+  whole :
+      l.shown
+      ++ map (shown_first l.model l.inputs l.states) (outputs_from l.i (drop l.i l.model.ports))
+      ≡ map (shown_first l.model l.inputs l.states) (output_ports l.model.ports);
+  room : length l.room ≡ length l.initial.room;
+}

@@ -1,0 +1,206 @@
+//! Whether the timing checks of a module report, by the times that they keep.
+ghost use Rattle.std.specs.Prelude.{◌≡◌, ◌<◌, length, IsTrue, replicate, false};
+ghost use Rattle.cell_machine.specs.Each.{each};
+ghost use Rattle.cell_machine.specs.Report.{is_period, happens, is_within};
+ghost use Rattle.cell_machine.specs.Times.{renewed};
+ghost use Rattle.table_interpreters.specs.Wiring.{is_wired};
+ghost use Rattle.table_interpreters.specs.PortNumbers.{input_event};
+ghost use Rattle.table_interpreters.specs.CheckTimes.{no_stamps, stamped, opened, is_enabled, check_reports};
+
+use crate::net_values::net_value;
+use crate::ports::input_number;
+use cell_machine::{Change, CheckKind, Edge, Event, is_rise, moves};
+use specify_blocks::{VCheck, VModule, VNet};
+use sqlite_items::Items;
+use trit_cubes::Trit;
+use udp_tables::VPort;
+
+/// The times that a check keeps, in picoseconds.
+#[derive(Clone, Copy)]
+pub struct Stamps {
+    /// Of its last first event.
+    pub first: Option<u64>,
+    /// Of the last possible rise of its second event's input.
+    pub rise: Option<u64>,
+    /// Of the last possible fall of its second event's input.
+    pub fall: Option<u64>,
+}
+
+impl Stamps {
+    /// No event yet.
+    pub(crate) fn none() -> Stamps
+        ensures { result ≡ no_stamps }
+    {
+        Stamps {
+            first: None,
+            rise: None,
+            fall: None,
+        }
+    }
+}
+
+// Whether a check of this kind measures from an event of the change's own kind.
+fn is_period(kind: CheckKind) -> bool
+    ensures { result ≡ is_period kind }
+{
+    match kind {
+        CheckKind::Setup => false,
+        CheckKind::Hold => false,
+        CheckKind::Recovery => false,
+        CheckKind::Removal => false,
+        CheckKind::Width => false,
+        CheckKind::Period => true,
+    }
+}
+
+// Whether a change of an input that had the value `from` is this event of a port.
+fn happens(ports: &[VPort], event: Event, from: Trit, change: Change) -> bool
+    ensures { result ≡ happens (input_event ports.now event) from change }
+{
+    change.pin == input_number(ports, event.pin) && moves(event.edge, from, change.to)
+}
+
+// This time where the event counts, else the one that was kept.
+fn renewed(counts: bool, at: u64, kept: Option<u64>) -> Option<u64>
+    ensures { result ≡ renewed counts at kept }
+{
+    if counts { Some(at) } else { kept }
+}
+
+// The times that a check keeps after a change of an input that had the value `from`.
+fn stamped(ports: &[VPort], from: Trit, change: Change, check: &VCheck, stamps: Stamps) -> Stamps
+    ensures { result ≡ stamped ports.now from change check.now stamps }
+{
+    let pin = check.second.pin;
+    let edge = Edge::Rise;
+    let rises = happens(ports, Event { pin, edge }, from, change);
+    let edge = Edge::Fall;
+    let falls = happens(ports, Event { pin, edge }, from, change);
+    Stamps {
+        first: renewed(
+            happens(ports, check.first, from, change),
+            change.at,
+            stamps.first,
+        ),
+        rise: renewed(rises, change.at, stamps.rise),
+        fall: renewed(falls, change.at, stamps.fall),
+    }
+}
+
+// The time from which a check measures at a change of an input that had the value `from`.
+fn opened(check: &VCheck, from: Trit, change: Change, stamps: Stamps) -> Option<u64>
+    ensures { result ≡ opened check.now from change stamps }
+{
+    if is_period(check.kind) {
+        if is_rise(from, change.to) {
+            stamps.rise
+        } else {
+            stamps.fall
+        }
+    } else {
+        stamps.first
+    }
+}
+
+// Whether an event at the time `at` came less than `limit` after `opened`.
+fn is_within(at: u64, limit: u64, opened: Option<u64>) -> bool
+    ensures { result ≡ is_within at limit opened }
+{
+    let Some(opened) = opened else {
+        return false;
+    };
+    match opened.checked_add(limit) {
+        Some(end) => at < end,
+        None => true,
+    }
+}
+
+// Whether a check's condition lets it count: there is none, or its net is 1.
+fn is_enabled(
+    model: &VModule,
+    inputs: &[Trit],
+    states: &[Trit],
+    condition: Option<usize>,
+    room: &mut Items<Trit>,
+) -> bool
+    requires { IsTrue (is_wired (length room.old) model.now) }
+    ensures enabled { result ≡ is_enabled model.now inputs.now states.now condition }
+    ensures len { length room.new ≡ length room.old }
+{
+    match condition {
+        Some(wire) => net_value(model, inputs, states, VNet::Wire(wire), room) == Trit::One,
+        None => true,
+    }
+}
+
+// Whether a check reports. `inputs` and `states` are those after the change, `from` is the value that the input had.
+fn check_reports(
+    model: &VModule,
+    inputs: &[Trit],
+    states: &[Trit],
+    from: Trit,
+    change: Change,
+    check: &VCheck,
+    stamps: Stamps,
+    room: &mut Items<Trit>,
+) -> bool
+    requires { IsTrue (is_wired (length room.old) model.now) }
+    ensures reports { result ≡ check_reports model.now inputs.now states.now from change check.now stamps }
+    ensures len { length room.new ≡ length room.old }
+{
+    if !happens(model.ports.as_slice(), check.second, from, change) {
+        return false;
+    }
+    let enabled = is_enabled(model, inputs, states, check.condition, room);
+    enabled && is_within(change.at, check.limit, opened(check, from, change, stamps))
+}
+
+/// Writes for each check whether it reports.
+pub(crate) fn compare_all(
+    model: &VModule,
+    inputs: &[Trit],
+    states: &[Trit],
+    from: Trit,
+    change: Change,
+    stamps: &[Stamps],
+    reports: &mut Items<bool>,
+    room: &mut Items<Trit>,
+)
+    requires wired { IsTrue (is_wired (length room.old) model.now) }
+    requires one_each { length stamps.now ≡ length model.now.checks }
+    requires one_report { length reports.old ≡ length model.now.checks }
+    ensures reports { reports.new ≡ each (check_reports model.now inputs.now states.now from change) model.now.checks stamps.now }
+    ensures len { length reports.new ≡ length reports.old }
+    ensures room { length room.new ≡ length room.old }
+{
+    let checks = model.checks.as_slice();
+    for i in 0..reports.len() {
+        let reported = check_reports(
+            model, inputs, states, from, change, &checks[i], stamps[i], room,
+        );
+        reports.set(i, reported);
+    }
+}
+
+/// Takes the kept times of all checks over a change of an input that had the value `from`.
+pub(crate) fn stamp_all(model: &VModule, from: Trit, change: Change, stamps: &mut Items<Stamps>)
+    requires { length stamps.old ≡ length model.now.checks }
+    ensures stamped { stamps.new ≡ each (stamped model.now.ports from change) model.now.checks stamps.old }
+    ensures len { length stamps.new ≡ length stamps.old }
+{
+    let ports = model.ports.as_slice();
+    let checks = model.checks.as_slice();
+    for i in 0..stamps.len() {
+        let kept = stamps.as_slice()[i];
+        stamps.set(i, stamped(ports, from, change, &checks[i], kept));
+    }
+}
+
+/// No check reports.
+pub(crate) fn clear(reports: &mut Items<bool>)
+    ensures { reports.new ≡ replicate (length reports.old) false }
+{
+    for i in 0..reports.len() {
+        reports.set(i, false);
+    }
+}

@@ -1,0 +1,192 @@
+//! The delay of an output's change: the least over the active paths.
+ghost use Rattle.std.specs.Prelude.{◌≡◌, ◌<◌, length, IsTrue, drop};
+ghost use Rattle.std.specs.List.{list_all};
+ghost use Rattle.cell_machine.specs.Delay.{lesser, least_delay, path_delay};
+ghost use Rattle.table_interpreters.specs.Wiring.{is_wired};
+ghost use Rattle.table_interpreters.specs.PathDelays.{is_off, is_quiet, is_active, is_between, paths_between, path_at, delay_at};
+ghost use Rattle.table_interpreters.specs.LeastPath.{path_delay_of};
+
+use crate::net_values::net_value;
+use crate::ports::input_number;
+use cell_machine::is_rise;
+use specify_blocks::{Gate, VModule, VNet, VPath};
+use sqlite_items::Items;
+use trit_cubes::Trit;
+
+/// A change of an output as its delay is looked for.
+#[derive(Clone, Copy)]
+pub struct OutputChange {
+    /// The number of the input whose change caused it.
+    pub input: usize,
+    /// The number of the output's port.
+    pub port: usize,
+    /// The value that the output had.
+    pub from: Trit,
+    /// The value that it has.
+    pub to: Trit,
+}
+
+// The lesser of two numbers, of which each may be absent.
+fn lesser(left: Option<u64>, right: Option<u64>) -> Option<u64>
+    ensures { result ≡ lesser left right }
+{
+    let Some(left) = left else {
+        return right;
+    };
+    match right {
+        Some(right) => Some(left.min(right)),
+        None => Some(left),
+    }
+}
+
+// Whether a path is no `if` path or its net is 0.
+fn is_off(
+    model: &VModule,
+    inputs: &[Trit],
+    states: &[Trit],
+    gate: Gate,
+    room: &mut Items<Trit>,
+) -> bool
+    requires { IsTrue (is_wired (length room.old) model.now) }
+    ensures off { result ≡ is_off model.now inputs.now states.now gate }
+    ensures len { length room.new ≡ length room.old }
+{
+    match gate {
+        Gate::Always => true,
+        Gate::If(wire) => { net_value(model, inputs, states, VNet::Wire(wire), room) == Trit::Zero }
+        Gate::IfNone => true,
+    }
+}
+
+// Whether another path leaves an `ifnone` path active.
+fn is_quiet(
+    model: &VModule,
+    inputs: &[Trit],
+    states: &[Trit],
+    path: VPath,
+    other: VPath,
+    room: &mut Items<Trit>,
+) -> bool
+    requires { IsTrue (is_wired (length room.old) model.now) }
+    ensures quiet { result ≡ is_quiet model.now inputs.now states.now path other }
+    ensures len { length room.new ≡ length room.old }
+{
+    let same_ports = path.from == other.from && path.to == other.to;
+    if !same_ports {
+        return true;
+    }
+    is_off(model, inputs, states, other.gate, room)
+}
+
+// Whether all other paths leave an `ifnone` path active.
+fn all_are_quiet(
+    model: &VModule,
+    inputs: &[Trit],
+    states: &[Trit],
+    path: VPath,
+    room: &mut Items<Trit>,
+) -> bool
+    requires { IsTrue (is_wired (length room.old) model.now) }
+    ensures quiet { result ≡ list_all (is_quiet model.now inputs.now states.now path) model.now.paths }
+    ensures len { length room.new ≡ length room.old }
+{
+    let paths = model.paths.as_slice();
+    for i in 0..paths.len() {
+        if !is_quiet(model, inputs, states, path, paths[i], room) {
+            return false;
+        }
+    }
+    true
+}
+
+// Whether a path is active.
+fn is_active(
+    model: &VModule,
+    inputs: &[Trit],
+    states: &[Trit],
+    path: VPath,
+    room: &mut Items<Trit>,
+) -> bool
+    requires { IsTrue (is_wired (length room.old) model.now) }
+    ensures active { result ≡ is_active model.now inputs.now states.now path path.gate }
+    ensures len { length room.new ≡ length room.old }
+{
+    match path.gate {
+        Gate::Always => true,
+        Gate::If(wire) => { net_value(model, inputs, states, VNet::Wire(wire), room) != Trit::Zero }
+        Gate::IfNone => all_are_quiet(model, inputs, states, path, room),
+    }
+}
+
+// The delay that a path gives, there where it leads from the input to the output and is active.
+fn path_delay(
+    model: &VModule,
+    inputs: &[Trit],
+    states: &[Trit],
+    change: OutputChange,
+    path: VPath,
+    room: &mut Items<Trit>,
+) -> Option<u64>
+    requires { IsTrue (is_wired (length room.old) model.now) }
+    ensures delay { result ≡ path_delay_of (is_between model.now.ports change.input change.port) (path_at model.now inputs.now states.now) change.from change.to path }
+    ensures len { length room.new ≡ length room.old }
+{
+    let leads = input_number(model.ports.as_slice(), path.from) == change.input
+        && path.to == change.port;
+    if !leads {
+        return None;
+    }
+    if !is_active(model, inputs, states, path, room) {
+        return None;
+    }
+    Some(if is_rise(change.from, change.to) {
+        path.rise
+    } else {
+        path.fall
+    })
+}
+
+/// The delay of a change of an output: the least over the active paths from the input to it, 0 where none is active.
+fn least_delay(
+    model: &VModule,
+    inputs: &[Trit],
+    states: &[Trit],
+    change: OutputChange,
+    room: &mut Items<Trit>,
+) -> u64
+    requires { IsTrue (is_wired (length room.old) model.now) }
+    ensures delay { result ≡ least_delay change.from change.to (paths_between model.now inputs.now states.now change.input change.port) }
+    ensures len { length room.new ≡ length room.old }
+{
+    let paths = model.paths.as_slice();
+    let mut best = None;
+    for i in 0..paths.len() {
+        best = lesser(
+            best,
+            path_delay(model, inputs, states, change, paths[i], room),
+        );
+    }
+    match best {
+        Some(delay) => delay,
+        None => 0,
+    }
+}
+
+/// The delay of an output, there where it changes.
+pub(crate) fn delay_at(
+    model: &VModule,
+    inputs: &[Trit],
+    states: &[Trit],
+    change: OutputChange,
+    room: &mut Items<Trit>,
+) -> Option<u64>
+    requires { IsTrue (is_wired (length room.old) model.now) }
+    ensures delay { result ≡ delay_at model.now inputs.now states.now change.input change.port change.from change.to }
+    ensures len { length room.new ≡ length room.old }
+{
+    if change.from == change.to {
+        None
+    } else {
+        Some(least_delay(model, inputs, states, change, room))
+    }
+}

@@ -1,0 +1,20 @@
+//! The fault of this crate.
+use std::alloc::{AllocError, AllocFailed};
+use thiserror::Error;
+
+/// Memory was wanted and not there.
+#[derive(Debug, Drop, Error)]
+#[error("out of memory")]
+pub struct Memory;
+
+impl From<AllocError> for Memory {
+    fn from(_: AllocError) -> Memory {
+        Memory
+    }
+}
+
+impl<T: Drop> From<AllocFailed<T>> for Memory {
+    fn from(_: AllocFailed<T>) -> Memory {
+        Memory
+    }
+}

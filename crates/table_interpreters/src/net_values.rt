@@ -1,0 +1,191 @@
+//! The values of a module's nets, of the values of its inputs and the states of its instances. `room` has place for the
+//! values of the nets that feed one instance.
+ghost use Rattle.std.specs.Prelude.{◌≡◌, ◌≤◌, ◌<◌, length, map, take, false, IsTrue, slice_index_or};
+ghost use Rattle.trit_cubes.specs.declared.trits.Trit.TheVariants.{Unknown};
+ghost use Rattle.trit_cubes.specs.Filling.{trit_of};
+ghost use Rattle.specify_blocks.specs.Nets.{same_net, net_driven};
+ghost use Rattle.udp_tables.specs.Primitive.{IsCombinational};
+ghost use Rattle.table_interpreters.specs.Wiring.{is_table, is_joined, is_wired};
+ghost use Rattle.table_interpreters.specs.NetValues.{driver, kept_state, source_value, table_value, primitive_value, instance_value, net_value};
+
+use crate::ports::input_value;
+use crate::wiring::instance_at;
+use specify_blocks::{Instance, VModule, VNet};
+use sqlite_items::Items;
+use trit_cubes::Trit;
+use udp_tables::{Udp, udp_level};
+
+// Whether these are the same net.
+fn same_net(net: VNet, other: VNet) -> bool
+    ensures { result ≡ same_net net other }
+{
+    match net {
+        VNet::Port(port) => match other {
+            VNet::Port(number) => port == number,
+            VNet::Wire(_) => false,
+            VNet::Notifier => false,
+        },
+        VNet::Wire(wire) => match other {
+            VNet::Port(_) => false,
+            VNet::Wire(number) => wire == number,
+            VNet::Notifier => false,
+        },
+        VNet::Notifier => match other {
+            VNet::Port(_) => false,
+            VNet::Wire(_) => false,
+            VNet::Notifier => true,
+        },
+    }
+}
+
+// The net that an instance drives.
+fn net_driven(instance: &Instance) -> VNet
+    ensures { result ≡ net_driven instance.now }
+{
+    match instance {
+        Instance::Primitive { output, .. } => *output,
+        Instance::Constant { output, .. } => *output,
+    }
+}
+
+// The place of the instance that drives a net, where there is one.
+fn driver(instances: &[Instance], net: VNet) -> Option<usize>
+    ensures { result ≡ driver instances.now net }
+{
+    instances
+        .iter()
+        .position(|instance| same_net(net_driven(instance), net))
+}
+
+// The state of the instance at this place, unknown where there is none.
+fn kept_state(states: &[Trit], place: Option<usize>) -> Trit
+    ensures { result ≡ kept_state states.now place }
+{
+    let Some(place) = place else {
+        return Trit::Unknown;
+    };
+    match states.get(place) {
+        Some(state) => *state,
+        None => Trit::Unknown,
+    }
+}
+
+// The value of a net that feeds a primitive without a state.
+fn source_value(model: &VModule, inputs: &[Trit], states: &[Trit], net: VNet) -> Trit
+    ensures { result ≡ source_value model.now inputs.now states.now net }
+{
+    match net {
+        VNet::Port(port) => input_value(model.ports.as_slice(), inputs, port),
+        VNet::Wire(wire) => kept_state(
+            states,
+            driver(model.instances.as_slice(), VNet::Wire(wire)),
+        ),
+        VNet::Notifier => Trit::Unknown,
+    }
+}
+
+// Writes the values of the nets that feed a primitive without a state to the front of the room.
+fn feed(model: &VModule, inputs: &[Trit], states: &[Trit], nets: &[VNet], room: &mut Items<Trit>)
+    requires { length nets.now ≤ length room.old }
+    ensures front { take (length nets.now) room.new ≡ map (source_value model.now inputs.now states.now) nets.now }
+    ensures len { length room.new ≡ length room.old }
+{
+    for i in 0..nets.len() {
+        room.set(i, source_value(model, inputs, states, nets[i]));
+    }
+}
+
+// What a primitive without a state gives for the nets that feed it.
+fn table_value(
+    model: &VModule,
+    inputs: &[Trit],
+    states: &[Trit],
+    nets: &[VNet],
+    udp: &Udp,
+    room: &mut Items<Trit>,
+) -> Trit
+    requires table { IsCombinational udp.now }
+    requires entries { length nets.now ≡ length udp.now.inputs }
+    requires room { length nets.now ≤ length room.old }
+    ensures value { result ≡ table_value model.now inputs.now states.now nets.now udp.now }
+    ensures len { length room.new ≡ length room.old }
+{
+    feed(model, inputs, states, nets, room);
+    udp_level(udp, &room.as_slice()[..nets.len()])
+}
+
+// What a primitive drives whose instance has this state.
+fn primitive_value(
+    model: &VModule,
+    inputs: &[Trit],
+    states: &[Trit],
+    state: Trit,
+    nets: &[VNet],
+    udp: &Udp,
+    room: &mut Items<Trit>,
+) -> Trit
+    requires table { IsTrue (is_table udp.now) }
+    requires entries { length nets.now ≡ length udp.now.inputs }
+    requires room { length nets.now ≤ length room.old }
+    ensures value { result ≡ primitive_value model.now inputs.now states.now state nets.now udp.now }
+    ensures len { length room.new ≡ length room.old }
+{
+    if udp.sequential {
+        state
+    } else {
+        table_value(model, inputs, states, nets, udp, room)
+    }
+}
+
+// What an instance with this state drives.
+fn instance_value(
+    model: &VModule,
+    inputs: &[Trit],
+    states: &[Trit],
+    state: Trit,
+    instance: &Instance,
+    room: &mut Items<Trit>,
+) -> Trit
+    requires wired { IsTrue (is_wired (length room.old) model.now) }
+    requires joined { IsTrue (is_joined model.now.udps (length room.old) instance.now) }
+    ensures value { result ≡ instance_value model.now inputs.now states.now state instance.now }
+    ensures len { length room.new ≡ length room.old }
+{
+    match instance {
+        Instance::Primitive {
+            udp,
+            inputs: nets,
+            ..
+        } => match model.udps.get(*udp) {
+            Some(udp) => {
+                primitive_value(model, inputs, states, state, nets.as_slice(), udp, room)
+            }
+            None => Trit::Unknown,
+        },
+        Instance::Constant { one, .. } => Trit::from(*one),
+    }
+}
+
+/// The value of a net that an instance drives: a wire or an output. Unknown where nothing drives it.
+pub(crate) fn net_value(
+    model: &VModule,
+    inputs: &[Trit],
+    states: &[Trit],
+    net: VNet,
+    room: &mut Items<Trit>,
+) -> Trit
+    requires { IsTrue (is_wired (length room.old) model.now) }
+    ensures value { result ≡ net_value model.now inputs.now states.now net }
+    ensures len { length room.new ≡ length room.old }
+{
+    let place = driver(model.instances.as_slice(), net);
+    let state = kept_state(states, place);
+    let Some(place) = place else {
+        return Trit::Unknown;
+    };
+    if place >= model.instances.len() {
+        return Trit::Unknown;
+    }
+    let instance = instance_at(model, place);
+    instance_value(model, inputs, states, state, instance, room)
+}

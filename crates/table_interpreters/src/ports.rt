@@ -1,0 +1,41 @@
+//! The ports of a model by their direction.
+ghost use Rattle.std.specs.Prelude.{◌≡◌};
+ghost use Rattle.specify_blocks.specs.Nets.{is_input_port};
+ghost use Rattle.table_interpreters.specs.PortNumbers.{input_count, input_number, input_value};
+
+use trit_cubes::Trit;
+use udp_tables::VPort;
+
+/// How many inputs a model has.
+pub(crate) fn input_count(ports: &[VPort]) -> usize
+    ensures { result ≡ input_count ports.now }
+{
+    ports.iter().filter(|port| port.input).count()
+}
+
+/// The number of a port among the inputs: how many inputs stand before it.
+pub(crate) fn input_number(ports: &[VPort], port: usize) -> usize
+    ensures { result ≡ input_number ports.now port }
+{
+    ports.iter().take(port).filter(|port| port.input).count()
+}
+
+/// The value of an input port, of the values of the inputs.
+pub(crate) fn input_value(ports: &[VPort], inputs: &[Trit], port: usize) -> Trit
+    ensures { result ≡ input_value ports.now inputs.now port }
+{
+    match inputs.get(input_number(ports, port)) {
+        Some(value) => *value,
+        None => Trit::Unknown,
+    }
+}
+
+/// Whether this is the number of an input port.
+pub(crate) fn is_input_port(ports: &[VPort], port: usize) -> bool
+    ensures { result ≡ is_input_port ports.now port }
+{
+    match ports.get(port) {
+        Some(port) => port.input,
+        None => false,
+    }
+}

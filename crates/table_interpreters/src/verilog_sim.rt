@@ -1,0 +1,122 @@
+//! The simulator of a Verilog module.
+ghost use Rattle.std.specs.Prelude.{◌≡◌, [], length, IsTrue};
+ghost use Rattle.table_interpreters.specs.Wiring.{is_wired};
+ghost use Rattle.table_interpreters.specs.PortNumbers.{input_count, output_ports};
+
+use crate::checks::Stamps;
+use crate::faults::Memory;
+use crate::module_run::ModuleRun;
+use crate::ports::input_count;
+use crate::shown::{Shown, show_all, show_start};
+use crate::wiring::most_nets;
+use cell_machine::{CellSim, Change};
+use specify_blocks::VModule;
+use sqlite_items::Items;
+use std::alloc::Global;
+use trit_cubes::Trit;
+
+/// A Verilog module run by its tables, paths and checks. (IEEE 1364-2005, clauses 8, 14 and 15.)
+#[derive(Drop)]
+pub struct VerilogSim<'a> {
+    model: &'a VModule,
+    run: ModuleRun,
+    reports: Items<bool>,
+    shown: Items<Shown>,
+    room: Items<Trit>,
+    ghost wired: { IsTrue (is_wired (length room) model.now) },
+    ghost each_input: { length run.inputs ≡ input_count model.now.ports },
+    ghost each_state: { length run.states ≡ length model.now.instances },
+    ghost each_stamp: { length run.stamps ≡ length model.now.checks },
+    ghost each_check: { length reports ≡ length model.now.checks },
+    ghost each_output: { length shown ≡ length (output_ports model.now.ports) },
+}
+
+impl<'a> VerilogSim<'a> {
+    ghost use Rattle.std.specs.Prelude.{IfOk};
+    ghost use Rattle.specify_blocks.specs.Sound.{IsSound};
+    ghost use Rattle.table_interpreters.specs.ModuleTrace.{module_machine};
+
+    /// The simulator of a sound module before any change: all inputs, states and the register of the checks are unknown.
+    pub fn start(alloc: Global, model: &'a VModule) -> Result<VerilogSim<'a>, Memory>
+        requires { IsSound model.now }
+        ensures machine { IfOk result (λ sim. ⟦<VerilogSim<'a> as CellSim>⟧.machine sim ≡ module_machine model.now) }
+        ensures stands { IfOk result (λ sim. ⟦<VerilogSim<'a> as CellSim>⟧.stands sim []) }
+    {
+        let mut room = Items::from_vec(vec![in alloc; Trit::Unknown; most_nets(model)]?);
+        let count = input_count(model.ports.as_slice());
+        let inputs = Items::from_vec(vec![in alloc; Trit::Unknown; count]?);
+        let states = Items::from_vec(vec![in alloc; Trit::Unknown; model.instances.len()]?);
+        let stamps = Items::from_vec(vec![in alloc; Stamps::none(); model.checks.len()]?);
+        let reports = Items::from_vec(vec![in alloc; false; model.checks.len()]?);
+        let shown = show_start(
+            alloc,
+            model,
+            inputs.as_slice(),
+            states.as_slice(),
+            &mut room,
+        )?;
+        let run = ModuleRun {
+            inputs,
+            states,
+            notifier: Trit::Unknown,
+            stamps,
+        };
+        Ok(VerilogSim {
+            model,
+            run,
+            reports,
+            shown,
+            room,
+        })
+    }
+}
+
+impl<'a> CellSim for VerilogSim<'a> {
+    ghost use Rattle.table_interpreters.specs.ModuleTrace.{module_machine};
+    ghost use Rattle.table_interpreters.specs.ModuleStands.{Stands};
+    ghost use Rattle.table_interpreters.specs.ModuleSized.{module_sized};
+
+    ghost machine = { λ s. module_machine s.model.now };
+
+    ghost stands = { λ s h. Stands s.model.now s.run s.reports s.shown h };
+
+    fn inputs(&self) -> usize {
+        self.run.inputs.len()
+    }
+
+    fn outputs(&self) -> usize {
+        self.shown.len()
+    }
+
+    fn checks(&self) -> usize {
+        self.reports.len()
+    }
+
+    fn step(&mut self, at: u64, pin: usize, to: Trit) {
+        let change = Change { at, pin, to };
+        self.run
+            .change(self.model, change, &mut self.reports, &mut self.room);
+        show_all(
+            self.model,
+            self.run.inputs.as_slice(),
+            self.run.states.as_slice(),
+            pin,
+            &mut self.shown,
+            &mut self.room,
+        );
+    }
+
+    fn output(&self, place: usize) -> Trit {
+        self.shown.as_slice()[place].value
+    }
+
+    fn delay(&self, place: usize) -> Option<u64> {
+        self.shown.as_slice()[place].delay
+    }
+
+    fn reported(&self, check: usize) -> bool {
+        self.reports.as_slice()[check]
+    }
+
+    ghost sized = { λ s. module_sized s.model.now };
+}

@@ -30,3 +30,5 @@ pub use span::{Memory, Scan, Span};
 
 #[cfg(test)]
 mod tests;
+#[cfg(test)]
+mod text_tests;

@@ -1,0 +1,24 @@
+-- What a run that prints leaves on the desk. This project's rule.
+use Rattle.std.specs.Prelude.{◌≡◌, ◌≤◌, ℕ, List, ◌++◌, Result, OnOk, IfErr, OnErr}
+use Rattle.text_io.specs.declared.slots.OutSlot.TheVariants.{Report}
+use Rattle.text_io.specs.Desk.{DeskState, wrote, Rose}
+use Rattle.text_io.specs.Line.{Gathers, StopsWithin}
+use Rattle.section_runs.specs.declared.faults.RunFault.{RunFault}
+use Rattle.section_runs.specs.declared.faults.RunFault.TheVariants as fault
+
+-- After a call that appends this text to the report: on `Ok` all of it was appended, else a prefix of it. Nothing else
+-- changed.
+pub record WritesTrace {T : Type 0} (old new : DeskState) (text : List ℕ) (result : Result T RunFault) : Type 0 where
+  pub whole : OnOk result (new ≡ wrote old Report text)
+  pub part : OnErr result (StopsWithin old new Report text)
+
+-- After a call that puts a text behind the bytes that wait: on `Ok` some of them were written, and the others wait; else a
+-- prefix of all was written. Nothing else changed.
+pub record PutsTrace {T : Type 0} (old new : DeskState) (before text after : List ℕ) (result : Result T RunFault) : Type 0 where
+  pub whole : OnOk result (Gathers old new Report before text after)
+  pub part : OnErr result (StopsWithin old new Report (before ++ text))
+
+-- the count of faults did not fall, and the call failed only where it rose
+pub record HasCause {T : Type 0} (before now : ℕ) (result : Result T RunFault) : Type 0 where
+  pub later : before ≤ now
+  pub failed : IfErr result (λ stop. stop ≡ fault.Failed → Rose before now)

@@ -1,0 +1,66 @@
+//! The lines of a trace, printed one after another as the simulator takes the changes.
+ghost use Rattle.std.specs.Prelude.{◌≡◌, ◌<◌, [], List, length, IfSome};
+ghost use Rattle.std.specs.Option.{option_copied};
+ghost use Rattle.cell_machine.specs.declared.changes.Change.{Change as ChangeOf};
+ghost use Rattle.cell_machine.specs.History.{IsProperFrom};
+ghost use Rattle.cell_machine.specs.Lines.{trace};
+ghost use Rattle.stimulus.specs.TraceLine.{line_text};
+ghost use Rattle.section_runs.specs.TraceText.{trace_text};
+ghost use Rattle.section_runs.specs.Writes.{WritesTrace, PutsTrace, HasCause};
+
+use crate::faults::RunFault;
+use cell_machine::{CellSim, Change};
+use std::alloc::Global;
+use stimulus::{Ports, trace_line};
+use text_io::{Desk, Line, OutSlot};
+
+/// Gives the changes to a simulator that stands at its start, and appends the lines of its trace to the report, one for
+/// the start and one for each change, each with this tag and the names of these ports.
+///
+/// It needs as many names as the simulator has inputs and outputs, and changes of its inputs at times that rise strictly.
+/// After a fault a prefix of the lines was appended. `Failed` comes only where a write failed.
+pub fn write_trace<D: Desk, S: CellSim>(
+    alloc: Global,
+    desk: &mut D,
+    tag: u8,
+    ports: &Ports,
+    sim: &mut S,
+    changes: &[Change],
+) -> Result<(), RunFault>
+    requires inputs { length ports.now.inputs ≡ (S.machine sim.old).inputs }
+    requires outputs { length ports.now.outputs ≡ (S.machine sim.old).outputs }
+    requires start { S.stands sim.old [] }
+    requires proper { IsProperFrom (S.machine sim.old).inputs [] changes.now }
+    ensures text { WritesTrace (D.state desk.old) (D.state desk.new) (trace_text tag ports.now changes.now (trace (S.machine sim.old).line changes.now)) result }
+    ensures cause { HasCause (D.faults desk.old) (D.faults desk.new) result }
+{
+    let mut line = Line::new();
+    put_line(alloc, desk, &mut line, tag, None, ports, sim)?;
+    for change in changes {
+        sim.step(change.at, change.pin, change.to);
+        put_line(alloc, desk, &mut line, tag, Some(change), ports, sim)?;
+    }
+    line.flush(desk, OutSlot::Report)?;
+    Ok(())
+}
+
+/// Puts the line that the simulator shows behind the bytes that wait.
+fn put_line<D: Desk, S: CellSim>(
+    alloc: Global,
+    desk: &mut D,
+    line: &mut Line,
+    tag: u8,
+    change: Option<&Change>,
+    ports: &Ports,
+    sim: &S,
+) -> Result<(), RunFault>
+    requires inputs { length ports.now.inputs ≡ (S.machine sim.now).inputs }
+    requires outputs { length ports.now.outputs ≡ (S.machine sim.now).outputs }
+    requires pin { IfSome change (λ change. change.now.pin < (S.machine sim.now).inputs) }
+    ensures text { (h : List ChangeOf) → S.stands sim.now h → PutsTrace (D.state desk.old) (D.state desk.new) line.old (line_text tag (option_copied change.entry) ports.now.inputs ports.now.outputs ((S.machine sim.now).line h)) line.new result }
+    ensures cause { HasCause (D.faults desk.old) (D.faults desk.new) result }
+{
+    let text = trace_line(alloc, tag, change, &ports.inputs, &ports.outputs, sim)?;
+    line.put(desk, OutSlot::Report, text.as_slice())?;
+    Ok(())
+}

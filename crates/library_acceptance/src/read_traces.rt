@@ -121,3 +121,28 @@ fn a_latch_that_is_read(rt: HostRuntime) -> Result<(), Fail> {
         ],
     )
 }
+
+/// A flip-flop whose clock has a least period of 100.
+const PERIODIC: &str = "library (L) { cell (DFFP) {
+    ff (IQ, IQN) { next_state : D; clocked_on : CK; }
+    pin (CK) { direction : input; min_period : 100; }
+    pin (D) { direction : input; }
+    pin (Q) { direction : output; function : IQ; }
+    } }";
+
+#[test]
+fn a_least_period_that_is_read(rt: HostRuntime) -> Result<(), Fail> {
+    runs(
+        rt.alloc(),
+        PERIODIC,
+        &[
+            (5, 1, One, "x "),
+            (10, 0, Zero, "x "),
+            (20, 0, One, "1@0 "),
+            (60, 0, Zero, "x@0 !1 "),
+            (130, 0, One, "1@0 "),
+            (150, 0, Zero, "x@0 !1 "),
+            (230, 0, One, "1@0 "),
+        ],
+    )
+}

@@ -8,9 +8,10 @@ use Rattle.std.proofs.lemmas.List.Elements.{filter-append}
 use Rattle.std.proofs.Math.Logic.{inl, inr}
 use Rattle.liberty_groups.specs.declared.tree.Item.{Item, out-Item}
 use Rattle.liberty_groups.specs.declared.tree.Group.{Group}
+use Rattle.cell_machine.specs.declared.checks.CheckKind.{CheckKind}
 use Rattle.cell_machine.specs.declared.checks.CheckKind.TheVariants as kind
 use Rattle.cell_machine.specs.declared.checks.Edge.{Edge}
-use Rattle.cell_machine.specs.declared.checks.Edge.TheVariants.{Rise, Fall}
+use Rattle.cell_machine.specs.declared.checks.Edge.TheVariants.{Any, Rise, Fall}
 use Rattle.cell_machine.specs.declared.checks.Check.{Check}
 use Rattle.cell_machine.specs.declared.arcs.Arc.{Arc}
 use Rattle.timing_arcs.specs.declared.found.Found.{Found}
@@ -24,8 +25,8 @@ use Rattle.timing_arcs.specs.Times.{time_of}
 use Rattle.timing_arcs.specs.RelatedPins.{inputs_of, is_left_out}
 use Rattle.timing_arcs.specs.Making.{check, event, has_limit, checks_from, arcs_from, is_made, checks_in}
 use Rattle.timing_arcs.specs.Merging.{Placed, same_path, merged, merged_at}
-use Rattle.timing_arcs.specs.Timing.{timing_groups, malformed_in, unknown_in, own_in, wide_in, bad_numbers_in, pulse_high, pulse_low, pulse_checks, pulse_check_at, bad_pulse, at_each, placed_arcs_in, left_out_at, left_out_from, checks_of, check_at_of, numbers_at, reading_answer, Gives}
-use Rattle.timing_arcs.specs.Adding.{with_placed, with_checks, with_arcs, with_inputs, with_noted, with_group, with_optional, with_items, with_width, with_pulse, found_of, answer_found}
+use Rattle.timing_arcs.specs.Timing.{timing_groups, malformed_in, unknown_in, own_in, wide_in, bad_numbers_in, pulse_high, pulse_low, least_period, attribute_checks, attribute_check_at, bad_attribute, at_each, placed_arcs_in, left_out_at, left_out_from, checks_of, check_at_of, numbers_at, reading_answer, Gives}
+use Rattle.timing_arcs.specs.Adding.{with_placed, with_checks, with_arcs, with_inputs, with_noted, with_group, with_optional, with_items, with_limit, with_attribute, nothing_found, found_of, answer_found}
 use Rattle.timing_arcs.proofs.OffsetLemmas.{least-append}
 use Rattle.timing_arcs.proofs.MergingLemmas.{merged-append, merged_at-append}
 
@@ -257,33 +258,37 @@ with_items-shows subject place p (item ∷ items) =
     ∙ ap shows (add-assoc p (optional_parts subject place o) (parts_of subject (groups_named (codes "timing") items) (left_out_from subject (place + 1) items)))
     ∙ ap (λ q. shows (add p q)) (step-parts subject place o (groups_named (codes "timing") items) (left_out_from subject (place + 1) items))
 
--- with the pulse of an attribute
-abbrev more_pulse : Subject → Edge → Edge → Parts → Option Attribute → Parts
-more_pulse subject begins ends p attribute = record p {
-  checks = p.checks ++ pulse_checks subject begins ends attribute;
-  check_at = p.check_at ++ pulse_check_at subject begins ends attribute;
-  numbers = p.numbers ++ bad_pulse subject attribute;
+-- with the check of an attribute
+abbrev more_attribute : Subject → CheckKind → Edge → Edge → Parts → Option Attribute → Parts
+more_attribute subject k first second p attribute = record p {
+  checks = p.checks ++ attribute_checks subject k first second attribute;
+  check_at = p.check_at ++ attribute_check_at subject k first second attribute;
+  numbers = p.numbers ++ bad_attribute subject attribute;
 }
 
-pulse-time : (subject : Subject) (begins ends : Edge) (p : Parts) (attribute : Attribute) (time : Option ℕ) → time_of subject.unit attribute.text ≡ time →
-    with_width subject begins ends (shows p) attribute.at time ≡ shows (more_pulse subject begins ends p (Some attribute))
-pulse-time subject begins ends p attribute None e =
+attribute-time : (subject : Subject) (k : CheckKind) (first second : Edge) (p : Parts) (attribute : Attribute) (time : Option ℕ) → time_of subject.unit attribute.text ≡ time →
+    with_limit subject k first second (shows p) attribute.at time ≡ shows (more_attribute subject k first second p (Some attribute))
+attribute-time subject k first second p attribute None e =
     rw e
     (λ i. record (shows p) {
       checks = sym (append-nil p.checks) i;
       check_at = sym (append-nil p.check_at) i;
       offsets = record ((shows p).offsets) { number = sym (least-append p.numbers (attribute.at ∷ [])) i };
     })
-pulse-time subject begins ends p attribute (Some time) e =
+attribute-time subject k first second p attribute (Some time) e =
+    let made : List Check = check k (event subject.place first) (event subject.place second) time None ∷ [] in
     rw e
-    (with_checks-shows attribute.at p (check kind.Width (event subject.place begins) (event subject.place ends) time None ∷ [])
-    ∙ ap shows (sym (λ i. record (more_checks p (filter has_limit (check kind.Width (event subject.place begins) (event subject.place ends) time None ∷ [])) (at_each attribute.at (filter has_limit (check kind.Width (event subject.place begins) (event subject.place ends) time None ∷ [])))) { numbers = append-nil p.numbers i })))
+    (with_checks-shows attribute.at p made
+    ∙ ap shows (sym (λ i. record (more_checks p (filter has_limit made) (at_each attribute.at (filter has_limit made))) { numbers = append-nil p.numbers i })))
 
-with_pulse-shows : (subject : Subject) (begins ends : Edge) (p : Parts) (attribute : Option Attribute) →
-    with_pulse subject begins ends (shows p) attribute ≡ shows (more_pulse subject begins ends p attribute)
-with_pulse-shows subject begins ends p None =
+with_attribute-shows : (subject : Subject) (k : CheckKind) (first second : Edge) (p : Parts) (attribute : Option Attribute) →
+    with_attribute subject k first second (shows p) attribute ≡ shows (more_attribute subject k first second p attribute)
+with_attribute-shows subject k first second p None =
     ap shows (sym (λ i. record p { checks = append-nil p.checks i; check_at = append-nil p.check_at i; numbers = append-nil p.numbers i }))
-with_pulse-shows subject begins ends p (Some attribute) = pulse-time subject begins ends p attribute (time_of subject.unit attribute.text) refl
+with_attribute-shows subject k first second p (Some attribute) = attribute-time subject k first second p attribute (time_of subject.unit attribute.text) refl
+
+append-three : {A : Type 0} (xs ys zs us : List A) → xs ++ ys ++ zs ++ us ≡ xs ++ (ys ++ (zs ++ us))
+append-three xs ys zs us = append_assoc (xs ++ ys) zs us ∙ append_assoc xs ys (zs ++ us)
 
 -- all that is found of a pin
 abbrev pin_parts : Subject → Group → Parts
@@ -296,18 +301,37 @@ pin_parts subject pin = record (parts_of subject (timing_groups pin) (left_out_f
 found_of-shows : (subject : Subject) (pin : Group) → found_of subject pin ≡ shows (pin_parts subject pin)
 found_of-shows subject pin =
     let p : Parts = parts_of subject (timing_groups pin) (left_out_from subject 0 pin.items) in
-    ap (λ found. with_pulse subject Fall Rise (with_pulse subject Rise Fall found (pulse_high subject pin)) (pulse_low subject pin)) (with_items-shows subject 0 no_parts pin.items)
-    ∙ ap (λ found. with_pulse subject Fall Rise found (pulse_low subject pin)) (with_pulse-shows subject Rise Fall p (pulse_high subject pin))
-    ∙ with_pulse-shows subject Fall Rise (more_pulse subject Rise Fall p (pulse_high subject pin)) (pulse_low subject pin)
+    let high : Option Attribute = pulse_high subject pin in
+    let low : Option Attribute = pulse_low subject pin in
+    let period : Option Attribute = least_period subject pin in
+    let p1 : Parts = more_attribute subject kind.Width Rise Fall p high in
+    let p2 : Parts = more_attribute subject kind.Width Fall Rise p1 low in
+    ap (λ found. with_attribute subject kind.Period Any Any (with_attribute subject kind.Width Fall Rise (with_attribute subject kind.Width Rise Fall found high) low) period) (with_items-shows subject 0 no_parts pin.items)
+    ∙ ap (λ found. with_attribute subject kind.Period Any Any (with_attribute subject kind.Width Fall Rise found low) period) (with_attribute-shows subject kind.Width Rise Fall p high)
+    ∙ ap (λ found. with_attribute subject kind.Period Any Any found period) (with_attribute-shows subject kind.Width Fall Rise p1 low)
+    ∙ with_attribute-shows subject kind.Period Any Any p2 period
     ∙ ap shows (λ i. record p {
-      checks = append_assoc p.checks (pulse_checks subject Rise Fall (pulse_high subject pin)) (pulse_checks subject Fall Rise (pulse_low subject pin)) i;
-      check_at = append_assoc p.check_at (pulse_check_at subject Rise Fall (pulse_high subject pin)) (pulse_check_at subject Fall Rise (pulse_low subject pin)) i;
-      numbers = append_assoc p.numbers (bad_pulse subject (pulse_high subject pin)) (bad_pulse subject (pulse_low subject pin)) i;
+      checks = append-three p.checks (attribute_checks subject kind.Width Rise Fall high) (attribute_checks subject kind.Width Fall Rise low) (attribute_checks subject kind.Period Any Any period) i;
+      check_at = append-three p.check_at (attribute_check_at subject kind.Width Rise Fall high) (attribute_check_at subject kind.Width Fall Rise low) (attribute_check_at subject kind.Period Any Any period) i;
+      numbers = append-three p.numbers (bad_attribute subject high) (bad_attribute subject low) (bad_attribute subject period) i;
     })
 
 -- the answer on what is found of a pin is that of the definition
 pub answer-is : (subject : Subject) (pin : Group) → answer_found (found_of subject pin) ≡ reading_answer subject pin
 answer-is subject pin = ap answer_found (found_of-shows subject pin)
+
+-- what is found step by step is what is found of the pin
+pub found_by_steps :
+    (subject : Subject) (pin : Group) (f0 f1 f2 f3 f4 : Found) (items : List Item) (high low period : Option Attribute)
+    → f0 ≡ nothing_found → items ≡ pin.items → f1 ≡ with_items subject 0 f0 items
+    → high ≡ pulse_high subject pin → f2 ≡ with_attribute subject kind.Width Rise Fall f1 high
+    → low ≡ pulse_low subject pin → f3 ≡ with_attribute subject kind.Width Fall Rise f2 low
+    → period ≡ least_period subject pin → f4 ≡ with_attribute subject kind.Period Any Any f3 period → f4 ≡ found_of subject pin
+found_by_steps subject pin f0 f1 f2 f3 f4 items high low period e0 ei e1 eh e2 el e3 ep e4 =
+    let d1 = e1 ∙ ap (with_items subject 0 f0) ei ∙ ap (λ f. with_items subject 0 f pin.items) e0 in
+    let d2 = e2 ∙ ap (with_attribute subject kind.Width Rise Fall f1) eh ∙ ap (λ f. with_attribute subject kind.Width Rise Fall f (pulse_high subject pin)) d1 in
+    let d3 = e3 ∙ ap (with_attribute subject kind.Width Fall Rise f2) el ∙ ap (λ f. with_attribute subject kind.Width Fall Rise f (pulse_low subject pin)) d2 in
+    e4 ∙ ap (with_attribute subject kind.Period Any Any f3) ep ∙ ap (λ f. with_attribute subject kind.Period Any Any f (least_period subject pin)) d3
 
 -- an answer gives itself
 pub gives-same : (answer wanted : Result PinTiming TimingFault) → answer ≡ wanted → Gives answer wanted

@@ -8,19 +8,20 @@ use Rattle.std.proofs.lemmas.List.{length-map, length-append}
 use Rattle.std.proofs.Math.Logic.{inl, inr}
 use Rattle.liberty_groups.specs.declared.tree.Item.{Item, out-Item}
 use Rattle.liberty_groups.specs.declared.tree.Group.{Group}
+use Rattle.cell_machine.specs.declared.checks.CheckKind.{CheckKind}
 use Rattle.cell_machine.specs.declared.checks.CheckKind.TheVariants as kind
 use Rattle.cell_machine.specs.declared.checks.Edge.{Edge}
-use Rattle.cell_machine.specs.declared.checks.Edge.TheVariants.{Rise, Fall}
+use Rattle.cell_machine.specs.declared.checks.Edge.TheVariants.{Any, Rise, Fall}
 use Rattle.cell_machine.specs.declared.checks.Check.{Check}
 use Rattle.cell_machine.specs.declared.arcs.Arc.{Arc}
 use Rattle.cell_machine.specs.declared.pins.Pin.{Pin}
-use Rattle.cell_machine.specs.CellRules.{longest_time, is_input_pin, is_output_pin, is_condition, are_opposite, is_check, is_arc, AreApart}
+use Rattle.cell_machine.specs.CellRules.{longest_time, is_input_pin, is_output_pin, is_condition, has_events, is_check, is_arc, AreApart}
 use Rattle.timing_arcs.specs.declared.fault.TimingFault.{TimingFault}
 use Rattle.timing_arcs.specs.declared.fault.TimingFault.TheVariants as fault
 use Rattle.timing_arcs.specs.declared.subject.Subject.{Subject}
 use Rattle.timing_arcs.specs.declared.subject.PinTiming.{PinTiming}
 use Rattle.timing_arcs.specs.declared.timing_type.TimingType.{TimingType}
-use Rattle.timing_arcs.specs.declared.timing_type.TimingType.TheVariants.{Delay, Setup, Hold, Recovery, Removal, Width, Other}
+use Rattle.timing_arcs.specs.declared.timing_type.TimingType.TheVariants.{Delay, Setup, Hold, Recovery, Removal, Width, Period, Other}
 use Rattle.timing_arcs.specs.Attributes.{Attribute, attribute_of, group_named}
 use Rattle.timing_arcs.specs.Offsets.{lesser, least}
 use Rattle.timing_arcs.specs.Times.{time_of}
@@ -29,7 +30,7 @@ use Rattle.timing_arcs.specs.RelatedPins.{inputs_of, is_left_out}
 use Rattle.timing_arcs.specs.Tables.{greatest}
 use Rattle.timing_arcs.specs.Making.{event, check, has_limit, is_made, checks_in, arcs_from, arcs_in, arcs_with, rise_of, fall_of}
 use Rattle.timing_arcs.specs.Merging.{same_path, Placed, firsts_after, firsts, merged_into, merged, merged_at}
-use Rattle.timing_arcs.specs.Timing.{timing_groups, malformed_at, unknown_names_at, own_in, own_conditions_at, wide_in, wide_at, numbers_at, pulse_attribute, pulse_high, pulse_low, pulse_check, pulse_checks, pulse_check_at, at_each, placed_arcs_in, placed_arcs, left_out_at, left_out_from, checks_of, check_at_of, timing_of, unless_at, reading_answer}
+use Rattle.timing_arcs.specs.Timing.{timing_groups, malformed_at, unknown_names_at, own_in, own_conditions_at, wide_in, wide_at, numbers_at, limit_attribute, pulse_high, pulse_low, least_period, attribute_check, attribute_checks, attribute_check_at, at_each, placed_arcs_in, placed_arcs, left_out_at, left_out_from, checks_of, check_at_of, timing_of, unless_at, reading_answer}
 use Rattle.timing_arcs.specs.Laws.{ChecksAreSound, ArcsAreSound, ArcsEndHere, ArcsAreApart, IsPlaced, TimingsArePlaced}
 use Rattle.timing_arcs.proofs.AllLemmas.{both, all-append, all-filter, all-flat_map, all-map, all-weaker}
 use Rattle.timing_arcs.proofs.MergingLemmas.{path-equal}
@@ -73,35 +74,46 @@ all-checks subject (group ∷ groups) own wide =
     let w = both_empty (wide_in subject group) (flat_map (wide_in subject) groups) wide in
     all-append (is_check subject.pins) (checks_in subject group) (flat_map (checks_in subject) groups) (group-checks subject group o.0 w.0) (all-checks subject groups o.1 w.1)
 
--- the checks of pulses
-width-within : (o : Option ℕ) → ((t : ℕ) → o ≡ Some t → t ≤ longest_time) → unwrap_or o 0 ≤ longest_time
-width-within None f = omega arith
-width-within (Some t) f = f t refl
+-- the checks of attributes
+limit-within : (o : Option ℕ) → ((t : ℕ) → o ≡ Some t → t ≤ longest_time) → unwrap_or o 0 ≤ longest_time
+limit-within None f = omega arith
+limit-within (Some t) f = f t refl
 
-pulse-sound : (subject : Subject) (begins ends : Edge) (attribute : Attribute) → are_opposite begins ends ≡ true → is_input_pin subject.pins subject.place ≡ true → list_all (is_check subject.pins) (pulse_check subject begins ends attribute) ≡ true
-pulse-sound subject begins ends attribute opposite input =
-    let k : Check = check kind.Width (event subject.place begins) (event subject.place ends) (unwrap_or (time_of subject.unit attribute.text) 0) None in
-    all-filter (is_check subject.pins) has_limit (k ∷ [])
-    (both _ _ (check-kept subject.pins k input input (both _ _ (has-same subject.place) opposite) (width-within (time_of subject.unit attribute.text) (time_of-within subject.unit attribute.text)) refl) refl)
+-- checks of this kind between these events of the pin keep the rules on events
+abbrev HaveEvents : Subject → CheckKind → Edge → Edge → Type 0
+HaveEvents subject k first second =
+    (limit : ℕ) → has_events (check k (event subject.place first) (event subject.place second) limit None) k ≡ true
 
-pulses-of : (subject : Subject) (begins ends : Edge) (o : Option Attribute) → are_opposite begins ends ≡ true → is_input_pin subject.pins subject.place ≡ true → list_all (is_check subject.pins) (pulse_checks subject begins ends o) ≡ true
-pulses-of subject begins ends None opposite input = refl
-pulses-of subject begins ends (Some attribute) opposite input = pulse-sound subject begins ends attribute opposite input
+attribute-sound : (subject : Subject) (k : CheckKind) (first second : Edge) (attribute : Attribute) → HaveEvents subject k first second → is_input_pin subject.pins subject.place ≡ true → list_all (is_check subject.pins) (attribute_check subject k first second attribute) ≡ true
+attribute-sound subject k first second attribute events input =
+    let limit : ℕ = unwrap_or (time_of subject.unit attribute.text) 0 in
+    let made : Check = check k (event subject.place first) (event subject.place second) limit None in
+    all-filter (is_check subject.pins) has_limit (made ∷ [])
+    (both _ _ (check-kept subject.pins made input input (events limit) (limit-within (time_of subject.unit attribute.text) (time_of-within subject.unit attribute.text)) refl) refl)
 
-pulses-sound : (subject : Subject) (begins ends : Edge) (pin : Group) (name : List ℕ) → are_opposite begins ends ≡ true → list_all (is_check subject.pins) (pulse_checks subject begins ends (pulse_attribute subject pin name)) ≡ true
-pulses-sound subject begins ends pin name opposite =
+attributes-of : (subject : Subject) (k : CheckKind) (first second : Edge) (o : Option Attribute) → HaveEvents subject k first second → is_input_pin subject.pins subject.place ≡ true → list_all (is_check subject.pins) (attribute_checks subject k first second o) ≡ true
+attributes-of subject k first second None events input = refl
+attributes-of subject k first second (Some attribute) events input = attribute-sound subject k first second attribute events input
+
+attributes-sound : (subject : Subject) (k : CheckKind) (first second : Edge) (pin : Group) (name : List ℕ) → HaveEvents subject k first second → list_all (is_check subject.pins) (attribute_checks subject k first second (limit_attribute subject pin name)) ≡ true
+attributes-sound subject k first second pin name events =
     elim (cases_Bool (is_input_pin subject.pins subject.place)) [
-      | inl input ↦ rw input (pulses-of subject begins ends (attribute_of pin name) opposite input)
+      | inl input ↦ rw input (attributes-of subject k first second (attribute_of pin name) events input)
       | inr other ↦ rw other refl
     ]
 
 checks-sound : (subject : Subject) (pin : Group) → own_conditions_at subject pin ≡ [] → wide_at subject pin ≡ [] → list_all (is_check subject.pins) (checks_of subject pin) ≡ true
 checks-sound subject pin own wide =
-    all-append (is_check subject.pins) (flat_map (checks_in subject) (timing_groups pin)) (pulse_checks subject Rise Fall (pulse_high subject pin) ++ pulse_checks subject Fall Rise (pulse_low subject pin))
-    (all-checks subject (timing_groups pin) own wide)
-    (all-append (is_check subject.pins) (pulse_checks subject Rise Fall (pulse_high subject pin)) (pulse_checks subject Fall Rise (pulse_low subject pin))
-    (pulses-sound subject Rise Fall pin (codes "min_pulse_width_high") refl)
-    (pulses-sound subject Fall Rise pin (codes "min_pulse_width_low") refl))
+    let is : List Check → Type 0 = λ ks. list_all (is_check subject.pins) ks ≡ true in
+    let high : is (attribute_checks subject kind.Width Rise Fall (pulse_high subject pin)) =
+    attributes-sound subject kind.Width Rise Fall pin (codes "min_pulse_width_high") (λ limit. both _ _ (has-same subject.place) refl) in
+    let low : is (attribute_checks subject kind.Width Fall Rise (pulse_low subject pin)) =
+    attributes-sound subject kind.Width Fall Rise pin (codes "min_pulse_width_low") (λ limit. both _ _ (has-same subject.place) refl) in
+    let period : is (attribute_checks subject kind.Period Any Any (least_period subject pin)) =
+    attributes-sound subject kind.Period Any Any pin (codes "min_period") (λ limit. both _ _ (has-same subject.place) refl) in
+    all-append (is_check subject.pins) (flat_map (checks_in subject) (timing_groups pin)) _ (all-checks subject (timing_groups pin) own wide)
+    (all-append (is_check subject.pins) (attribute_checks subject kind.Width Rise Fall (pulse_high subject pin)) _ high
+    (all-append (is_check subject.pins) (attribute_checks subject kind.Width Fall Rise (pulse_low subject pin)) _ low period))
 
 pub checks_are_sound : ChecksAreSound
 checks_are_sound subject pin t e narrow =
@@ -209,6 +221,7 @@ typed-ends place (Hold edge) p rise fall c = refl
 typed-ends place (Recovery edge) p rise fall c = refl
 typed-ends place (Removal edge) p rise fall c = refl
 typed-ends place Width p rise fall c = refl
+typed-ends place Period p rise fall c = refl
 typed-ends place Other p rise fall c = refl
 
 all-of : {A : Type 0} (xs : List A) → list_all (λ x. true) xs ≡ true
@@ -316,9 +329,9 @@ groups-lengths subject (group ∷ groups) =
     ∙ ap (λ n. length (checks_in subject group) + n) others
     ∙ sym (length-append (checks_in subject group) (flat_map (checks_in subject) groups))
 
-pulse-lengths : (subject : Subject) (begins ends : Edge) (o : Option Attribute) → length (pulse_check_at subject begins ends o) ≡ length (pulse_checks subject begins ends o)
-pulse-lengths subject begins ends None = refl
-pulse-lengths subject begins ends (Some attribute) = length-map (pulse_check subject begins ends attribute) (λ x. attribute.at)
+attribute-lengths : (subject : Subject) (k : CheckKind) (first second : Edge) (o : Option Attribute) → length (attribute_check_at subject k first second o) ≡ length (attribute_checks subject k first second o)
+attribute-lengths subject k first second None = refl
+attribute-lengths subject k first second (Some attribute) = length-map (attribute_check subject k first second attribute) (λ x. attribute.at)
 
 lengths-append : {A : Type 0} (ns ms : List ℕ) (xs ys : List A) → length ns ≡ length xs → length ms ≡ length ys → length (ns ++ ms) ≡ length (xs ++ ys)
 lengths-append ns ms xs ys h k = length-append ns ms ∙ ap (λ n. n + length ms) h ∙ ap (λ n. length xs + n) k ∙ sym (length-append xs ys)
@@ -326,8 +339,10 @@ lengths-append ns ms xs ys h k = length-append ns ms ∙ ap (λ n. n + length ms
 checks-lengths : (subject : Subject) (pin : Group) → length (check_at_of subject pin) ≡ length (checks_of subject pin)
 checks-lengths subject pin =
     lengths-append _ _ (flat_map (checks_in subject) (timing_groups pin)) _ (groups-lengths subject (timing_groups pin))
-    (lengths-append _ _ (pulse_checks subject Rise Fall (pulse_high subject pin)) (pulse_checks subject Fall Rise (pulse_low subject pin))
-    (pulse-lengths subject Rise Fall (pulse_high subject pin)) (pulse-lengths subject Fall Rise (pulse_low subject pin)))
+    (lengths-append _ _ (attribute_checks subject kind.Width Rise Fall (pulse_high subject pin)) _ (attribute-lengths subject kind.Width Rise Fall (pulse_high subject pin))
+    (lengths-append _ _ (attribute_checks subject kind.Width Fall Rise (pulse_low subject pin)) (attribute_checks subject kind.Period Any Any (least_period subject pin))
+    (attribute-lengths subject kind.Width Fall Rise (pulse_low subject pin))
+    (attribute-lengths subject kind.Period Any Any (least_period subject pin))))
 
 arcs-lengths : (made : List Placed) → length (merged_at made) ≡ length (merged made)
 arcs-lengths made = length-map (firsts made) (λ (p : Placed). p.at) ∙ sym (length-map (firsts made) (λ (p : Placed). merged_into made p.arc))

@@ -30,7 +30,7 @@ use Rattle.timing_arcs.specs.declared.condition.Condition.TheVariants as conditi
 use Rattle.timing_arcs.specs.declared.related.Related.TheVariants as related
 use Rattle.timing_arcs.specs.declared.subject.Subject.{Subject}
 use Rattle.timing_arcs.specs.declared.timing_type.TimingType.{TimingType}
-use Rattle.timing_arcs.specs.declared.timing_type.TimingType.TheVariants.{Delay, Setup, Hold, Recovery, Removal, Width, Other}
+use Rattle.timing_arcs.specs.declared.timing_type.TimingType.TheVariants.{Delay, Setup, Hold, Recovery, Removal, Width, Period, Other}
 use Rattle.timing_arcs.specs.Attributes.{Attribute, attribute_of, place_of}
 use Rattle.timing_arcs.specs.Times.{time_as, time_of}
 use Rattle.timing_arcs.specs.TimingTypes.{delay_words, check_words, type_named, type_of, stands_under, rise_table, fall_table, has_table, is_used}
@@ -87,6 +87,7 @@ one_edge (Hold edge) = is_one_edge edge
 one_edge (Recovery edge) = is_one_edge edge
 one_edge (Removal edge) = is_one_edge edge
 one_edge Width = true
+one_edge Period = true
 one_edge Other = true
 
 found-one_edge : (found : Option (List ℕ × TimingType)) → ((entry : List ℕ × TimingType) → found ≡ Some entry → one_edge entry.1 ≡ true) → one_edge (unwrap_or (option_map (λ entry. entry.1) found) Other) ≡ true
@@ -210,6 +211,7 @@ words-inputs subject (word ∷ words) = related-input subject (number_of subject
 
 typed-inputs : (subject : Subject) (group : Group) (t : TimingType) → stands subject t ≡ true → list_all (is_input_pin subject.pins) (filter_map input_of (related_by subject group t)) ≡ true
 typed-inputs subject group Width h = both _ _ h refl
+typed-inputs subject group Period h = both _ _ h refl
 typed-inputs subject group Delay h = words-inputs subject (related_words group)
 typed-inputs subject group (Setup edge) h = words-inputs subject (related_words group)
 typed-inputs subject group (Hold edge) h = words-inputs subject (related_words group)
@@ -260,6 +262,8 @@ typed-checks subject (Removal edge) p rise fall c e s i r f k =
 typed-checks subject Width p rise fall c e s i r f k =
     both _ _ (check-kept subject.pins (check kind.Width (event subject.place Rise) (event subject.place Fall) rise c) s s (both _ _ (has-same subject.place) refl) r (k subject.place subject.place (inr refl) (inr refl)))
     (both _ _ (check-kept subject.pins (check kind.Width (event subject.place Fall) (event subject.place Rise) fall c) s s (both _ _ (has-same subject.place) refl) f (k subject.place subject.place (inr refl) (inr refl))) refl)
+typed-checks subject Period p rise fall c e s i r f k =
+    both _ _ (check-kept subject.pins (check kind.Period (event subject.place Any) (event subject.place Any) (max rise fall) c) s s (both _ _ (has-same subject.place) refl) (max-within rise fall r f) (k subject.place subject.place (inr refl) (inr refl))) refl
 
 typed-arcs : (subject : Subject) (t : TimingType) (p rise fall : ℕ) (c : Option Node) → stands subject t ≡ true → is_input_pin subject.pins p ≡ true → rise ≤ longest_time → fall ≤ longest_time →
     is_condition subject.pins (p ∷ []) c ≡ true → list_all (is_arc subject.pins) (arcs_with t subject.place p rise fall c) ≡ true
@@ -272,6 +276,7 @@ typed-arcs subject (Hold edge) p rise fall c s i r f k = refl
 typed-arcs subject (Recovery edge) p rise fall c s i r f k = refl
 typed-arcs subject (Removal edge) p rise fall c s i r f k = refl
 typed-arcs subject Width p rise fall c s i r f k = refl
+typed-arcs subject Period p rise fall c s i r f k = refl
 typed-arcs subject Other p rise fall c s i r f k = refl
 
 -- those of a group

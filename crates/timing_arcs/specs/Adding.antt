@@ -3,9 +3,10 @@ use Rattle.std.specs.Prelude.{ℕ, ◌+◌, max, ◌==◌, List, [], ◌∷◌, 
 use Rattle.std.specs.List.{list_any}
 use Rattle.liberty_groups.specs.declared.tree.Item.{Item, out-Item}
 use Rattle.liberty_groups.specs.declared.tree.Group.{Group}
+use Rattle.cell_machine.specs.declared.checks.CheckKind.{CheckKind}
 use Rattle.cell_machine.specs.declared.checks.CheckKind.TheVariants as kind
 use Rattle.cell_machine.specs.declared.checks.Edge.{Edge}
-use Rattle.cell_machine.specs.declared.checks.Edge.TheVariants.{Rise, Fall}
+use Rattle.cell_machine.specs.declared.checks.Edge.TheVariants.{Any, Rise, Fall}
 use Rattle.cell_machine.specs.declared.checks.Check.{Check}
 use Rattle.cell_machine.specs.declared.arcs.Arc.{Arc}
 use Rattle.timing_arcs.specs.declared.fault.TimingFault.{TimingFault}
@@ -20,7 +21,7 @@ use Rattle.timing_arcs.specs.RelatedPins.{inputs_of, is_left_out}
 use Rattle.timing_arcs.specs.Making.{check, event, checks_from, arcs_from, is_made}
 use Rattle.timing_arcs.specs.Merging.{same_path}
 use Rattle.timing_arcs.specs.Readings.{joined, no_offsets, offsets_in}
-use Rattle.timing_arcs.specs.Timing.{pulse_high, pulse_low, unless_at}
+use Rattle.timing_arcs.specs.Timing.{pulse_high, pulse_low, least_period, unless_at}
 
 -- an arc, with the greater rise and fall of it and a new one, where both have the same ends and the same condition
 abbrev pub joined_with : Arc → Arc → Arc
@@ -88,16 +89,16 @@ with_items subject place found (item ∷ items) =
 abbrev pub with_number : Found → ℕ → Found
 with_number found at = record found { offsets = record (found.offsets) { number = lesser found.offsets.number (Some at) } }
 
--- with a pulse that has this least width, or none that is a time
-abbrev pub with_width : Subject → Edge → Edge → Found → ℕ → Option ℕ → Found
-with_width subject begins ends found at None = with_number found at
-with_width subject begins ends found at (Some width) =
-    with_check at found (check kind.Width (event subject.place begins) (event subject.place ends) width None)
+-- with a check of this kind between these events of the pin, that has this limit, or none that is a time
+abbrev pub with_limit : Subject → CheckKind → Edge → Edge → Found → ℕ → Option ℕ → Found
+with_limit subject k first second found at None = with_number found at
+with_limit subject k first second found at (Some limit) =
+    with_check at found (check k (event subject.place first) (event subject.place second) limit None)
 
-abbrev pub with_pulse : Subject → Edge → Edge → Found → Option Attribute → Found
-with_pulse subject begins ends found None = found
-with_pulse subject begins ends found (Some attribute) =
-    with_width subject begins ends found attribute.at (time_of subject.unit attribute.text)
+abbrev pub with_attribute : Subject → CheckKind → Edge → Edge → Found → Option Attribute → Found
+with_attribute subject k first second found None = found
+with_attribute subject k first second found (Some attribute) =
+    with_limit subject k first second found attribute.at (time_of subject.unit attribute.text)
 
 -- nothing
 abbrev pub nothing_found : Found
@@ -106,9 +107,11 @@ nothing_found = record { checks = []; check_at = []; arcs = []; arc_at = []; lef
 -- what is found of a pin
 abbrev pub found_of : Subject → Group → Found
 found_of subject pin =
-    with_pulse subject Fall Rise
-    (with_pulse subject Rise Fall (with_items subject 0 nothing_found pin.items) (pulse_high subject pin))
-    (pulse_low subject pin)
+    with_attribute subject kind.Period Any Any
+    (with_attribute subject kind.Width Fall Rise
+    (with_attribute subject kind.Width Rise Fall (with_items subject 0 nothing_found pin.items) (pulse_high subject pin))
+    (pulse_low subject pin))
+    (least_period subject pin)
 
 -- the timing that was found
 abbrev pub timing_found : Found → PinTiming

@@ -10,7 +10,7 @@ use Rattle.cell_machine.specs.declared.checks.Event.{Event}
 use Rattle.cell_machine.specs.declared.checks.Check.{Check}
 use Rattle.cell_machine.specs.declared.arcs.Arc.{Arc}
 use Rattle.timing_arcs.specs.declared.timing_type.TimingType.{TimingType}
-use Rattle.timing_arcs.specs.declared.timing_type.TimingType.TheVariants.{Delay, Setup, Hold, Recovery, Removal, Width, Other}
+use Rattle.timing_arcs.specs.declared.timing_type.TimingType.TheVariants.{Delay, Setup, Hold, Recovery, Removal, Width, Period, Other}
 use Rattle.timing_arcs.specs.declared.subject.Subject.{Subject}
 use Rattle.timing_arcs.specs.TimingTypes.{type_of, rise_table, fall_table}
 use Rattle.timing_arcs.specs.RelatedPins.{inputs_of, is_read}
@@ -28,8 +28,8 @@ abbrev pub has_limit : Check → Bool
 has_limit k = not (k.limit == 0)
 
 -- The checks that a type makes of a pin and a pin that it is related to, with any limits. Setup and hold take the greater of both limits
--- for every event of the pin; recovery, removal and the pulse width have a check for each edge of the pin, with its own
--- limit. (Liberty Reference Manual, `timing_type`.)
+-- for every event of the pin, and so does a period, which is between events of the pin itself; recovery, removal and the
+-- pulse width have a check for each edge of the pin, with its own limit. (Liberty Reference Manual, `timing_type`.)
 abbrev pub checks_with : TimingType → ℕ → ℕ → ℕ → ℕ → Option Node → List Check
 checks_with Delay pin related rise fall condition = []
 checks_with (Setup edge) pin related rise fall condition = check kind.Setup (event pin Any) (event related edge) (max rise fall) condition ∷ []
@@ -46,6 +46,7 @@ checks_with Width pin related rise fall condition =
     check kind.Width (event pin Rise) (event pin Fall) rise condition
     ∷ check kind.Width (event pin Fall) (event pin Rise) fall condition
     ∷ []
+checks_with Period pin related rise fall condition = check kind.Period (event pin Any) (event pin Any) (max rise fall) condition ∷ []
 checks_with Other pin related rise fall condition = []
 
 -- The delay arc that a type makes from a related pin to a pin. (Liberty Reference Manual, `timing_type`.)
@@ -56,6 +57,7 @@ arcs_with (Hold edge) pin related rise fall condition = []
 arcs_with (Recovery edge) pin related rise fall condition = []
 arcs_with (Removal edge) pin related rise fall condition = []
 arcs_with Width pin related rise fall condition = []
+arcs_with Period pin related rise fall condition = []
 arcs_with Other pin related rise fall condition = []
 
 -- Whether the group makes something: it is read, and its condition is not always 0.

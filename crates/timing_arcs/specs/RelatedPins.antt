@@ -6,7 +6,7 @@ use Rattle.bool_functions.specs.NameList.{number_of}
 use Rattle.liberty_groups.specs.declared.tree.Group.{Group}
 use Rattle.cell_machine.specs.CellRules.{is_input_pin}
 use Rattle.timing_arcs.specs.declared.timing_type.TimingType.{TimingType}
-use Rattle.timing_arcs.specs.declared.timing_type.TimingType.TheVariants.{Delay, Setup, Hold, Recovery, Removal, Width, Other}
+use Rattle.timing_arcs.specs.declared.timing_type.TimingType.TheVariants.{Delay, Setup, Hold, Recovery, Removal, Width, Period, Other}
 use Rattle.timing_arcs.specs.declared.related.Related.{Related}
 use Rattle.timing_arcs.specs.declared.related.Related.TheVariants.{Input, Driven, Unknown}
 use Rattle.timing_arcs.specs.declared.subject.Subject.{Subject}
@@ -26,10 +26,11 @@ abbrev pub related_as : Subject → List ℕ → Related
 related_as subject word =
     option_map_or (λ p. if is_input_pin subject.pins p then Input p else Driven) (number_of subject.names word) Unknown
 
--- What a group of this type is related to. The related pin of a pulse width is not read: it is the pin itself.
+-- What a group of this type is related to. The related pin of a pulse width or a period is not read: it is the pin itself.
 -- (This project's rule.)
 abbrev pub related_by : Subject → Group → TimingType → List Related
 related_by subject group Width = Input subject.place ∷ []
+related_by subject group Period = Input subject.place ∷ []
 related_by subject group Delay = map (related_as subject) (related_words group)
 related_by subject group (Setup edge) = map (related_as subject) (related_words group)
 related_by subject group (Hold edge) = map (related_as subject) (related_words group)

@@ -1,13 +1,14 @@
--- The timing of one pin: what its timing groups and its pulse widths make (Liberty Reference Manual, `timing` group,
--- `min_pulse_width_high` and `min_pulse_width_low`).
+-- The timing of one pin: what its timing groups, its pulse widths and its period make (Liberty Reference Manual, `timing`
+-- group, `min_pulse_width_high`, `min_pulse_width_low` and `min_period`).
 use Rattle.std.specs.Prelude.{◌≡◌, ℕ, ◌+◌, ◌&&◌, List, [], ◌∷◌, ◌++◌, map, filter, flat_map, codes, Option, Some, None, is_none, unwrap_or, Result, Ok, Err, if◌then◌else◌}
 use Rattle.std.specs.Option.{option_map_or}
 use Rattle.std.specs.List.{list_any}
 use Rattle.liberty_groups.specs.declared.tree.Item.{Item, out-Item}
 use Rattle.liberty_groups.specs.declared.tree.Group.{Group}
+use Rattle.cell_machine.specs.declared.checks.CheckKind.{CheckKind}
 use Rattle.cell_machine.specs.declared.checks.CheckKind.TheVariants as kind
 use Rattle.cell_machine.specs.declared.checks.Edge.{Edge}
-use Rattle.cell_machine.specs.declared.checks.Edge.TheVariants.{Rise, Fall}
+use Rattle.cell_machine.specs.declared.checks.Edge.TheVariants.{Any, Rise, Fall}
 use Rattle.cell_machine.specs.declared.checks.Check.{Check}
 use Rattle.cell_machine.specs.CellRules.{is_input_pin}
 use Rattle.timing_arcs.specs.declared.fault.TimingFault.{TimingFault}
@@ -65,46 +66,54 @@ bad_numbers_in subject group =
     then bad_numbers_at subject.unit (rise_table (type_of group)) group ++ bad_numbers_at subject.unit (fall_table (type_of group)) group
     else []
 
--- The two attributes of an input pin that give the least width of a pulse. Those of another pin are not read.
-abbrev pub pulse_attribute : Subject → Group → List ℕ → Option Attribute
-pulse_attribute subject pin name = if is_input_pin subject.pins subject.place then attribute_of pin name else None
-
--- The check of a pulse that begins and ends with these edges. It has no condition.
-abbrev pub pulse_check : Subject → Edge → Edge → Attribute → List Check
-pulse_check subject begins ends attribute =
-    filter has_limit (check kind.Width (event subject.place begins) (event subject.place ends) (unwrap_or (time_of subject.unit attribute.text) 0) None ∷ [])
-
-abbrev pub pulse_checks : Subject → Edge → Edge → Option Attribute → List Check
-pulse_checks subject begins ends attribute = option_map_or (pulse_check subject begins ends) attribute []
-
--- The width of a pulse that is no time.
-abbrev pub bad_pulse : Subject → Option Attribute → List ℕ
-bad_pulse subject attribute = option_map_or (λ (a : Attribute). if is_none (time_of subject.unit a.text) then a.at ∷ [] else []) attribute []
+-- The three attributes of an input pin that give the limit of a check: the least width of a high pulse, that of a low
+-- pulse, and the least period. Those of another pin are not read.
+abbrev pub limit_attribute : Subject → Group → List ℕ → Option Attribute
+limit_attribute subject pin name = if is_input_pin subject.pins subject.place then attribute_of pin name else None
 
 abbrev pub pulse_high : Subject → Group → Option Attribute
-pulse_high subject pin = pulse_attribute subject pin (codes "min_pulse_width_high")
+pulse_high subject pin = limit_attribute subject pin (codes "min_pulse_width_high")
 
 abbrev pub pulse_low : Subject → Group → Option Attribute
-pulse_low subject pin = pulse_attribute subject pin (codes "min_pulse_width_low")
+pulse_low subject pin = limit_attribute subject pin (codes "min_pulse_width_low")
+
+abbrev pub least_period : Subject → Group → Option Attribute
+least_period subject pin = limit_attribute subject pin (codes "min_period")
+
+-- The check of this kind that an attribute makes, between these events of the pin. It has no condition.
+abbrev pub attribute_check : Subject → CheckKind → Edge → Edge → Attribute → List Check
+attribute_check subject k first second attribute =
+    filter has_limit (check k (event subject.place first) (event subject.place second) (unwrap_or (time_of subject.unit attribute.text) 0) None ∷ [])
+
+abbrev pub attribute_checks : Subject → CheckKind → Edge → Edge → Option Attribute → List Check
+attribute_checks subject k first second attribute = option_map_or (attribute_check subject k first second) attribute []
+
+-- An attribute that is no time.
+abbrev pub bad_attribute : Subject → Option Attribute → List ℕ
+bad_attribute subject attribute = option_map_or (λ (a : Attribute). if is_none (time_of subject.unit a.text) then a.at ∷ [] else []) attribute []
 
 -- These at the offset.
 abbrev pub at_each : {A : Type 0} → ℕ → List A → List ℕ
 at_each at xs = map (λ x. at) xs
 
--- The checks of the pin: of its timing groups in order, then the high pulse and the low pulse.
+-- The checks of the pin: of its timing groups in order, then the high pulse, the low pulse and the period.
 abbrev pub checks_of : Subject → Group → List Check
 checks_of subject pin =
     flat_map (checks_in subject) (timing_groups pin)
-    ++ (pulse_checks subject Rise Fall (pulse_high subject pin) ++ pulse_checks subject Fall Rise (pulse_low subject pin))
+    ++ (attribute_checks subject kind.Width Rise Fall (pulse_high subject pin)
+    ++ (attribute_checks subject kind.Width Fall Rise (pulse_low subject pin)
+    ++ attribute_checks subject kind.Period Any Any (least_period subject pin)))
 
 -- For each check the offset of the group or attribute that made it.
-abbrev pub pulse_check_at : Subject → Edge → Edge → Option Attribute → List ℕ
-pulse_check_at subject begins ends attribute = option_map_or (λ (a : Attribute). at_each a.at (pulse_check subject begins ends a)) attribute []
+abbrev pub attribute_check_at : Subject → CheckKind → Edge → Edge → Option Attribute → List ℕ
+attribute_check_at subject k first second attribute = option_map_or (λ (a : Attribute). at_each a.at (attribute_check subject k first second a)) attribute []
 
 abbrev pub check_at_of : Subject → Group → List ℕ
 check_at_of subject pin =
     flat_map (λ (group : Group). at_each group.at (checks_in subject group)) (timing_groups pin)
-    ++ (pulse_check_at subject Rise Fall (pulse_high subject pin) ++ pulse_check_at subject Fall Rise (pulse_low subject pin))
+    ++ (attribute_check_at subject kind.Width Rise Fall (pulse_high subject pin)
+    ++ (attribute_check_at subject kind.Width Fall Rise (pulse_low subject pin)
+    ++ attribute_check_at subject kind.Period Any Any (least_period subject pin)))
 
 -- The arcs that the pin's timing groups make, in order, each with the offset of its group.
 abbrev pub placed_arcs_in : Subject → Group → List Placed
@@ -136,7 +145,8 @@ own_conditions_at subject pin = flat_map (own_in subject) (timing_groups pin)
 abbrev pub numbers_at : Subject → Group → List ℕ
 numbers_at subject pin =
     flat_map (bad_numbers_in subject) (timing_groups pin)
-    ++ (bad_pulse subject (pulse_high subject pin) ++ bad_pulse subject (pulse_low subject pin))
+    ++ (bad_attribute subject (pulse_high subject pin)
+    ++ (bad_attribute subject (pulse_low subject pin) ++ bad_attribute subject (least_period subject pin)))
 
 -- The conditions that are read and have more names than the limit.
 abbrev pub wide_at : Subject → Group → List ℕ

@@ -9,7 +9,7 @@ use Rattle.cell_machine.specs.declared.pins.Direction.{Direction}
 use Rattle.cell_machine.specs.declared.pins.Pin.{Pin}
 use Rattle.cell_machine.specs.CellRules.{is_input, is_output}
 use Rattle.timing_arcs.specs.declared.timing_type.TimingType.{TimingType}
-use Rattle.timing_arcs.specs.declared.timing_type.TimingType.TheVariants.{Delay, Setup, Hold, Recovery, Removal, Width, Other}
+use Rattle.timing_arcs.specs.declared.timing_type.TimingType.TheVariants.{Delay, Setup, Hold, Recovery, Removal, Width, Period, Other}
 use Rattle.timing_arcs.specs.declared.subject.Subject.{Subject}
 use Rattle.timing_arcs.specs.Attributes.{Attribute, attribute_of, groups_named}
 
@@ -28,6 +28,7 @@ check_words = (codes "setup_rising", Setup Rise)
     ∷ (codes "removal_rising", Removal Rise)
     ∷ (codes "removal_falling", Removal Fall)
     ∷ (codes "min_pulse_width", Width)
+    ∷ (codes "minimum_period", Period)
     ∷ []
 
 -- The type that a text stands for. Every other text is another type, of which nothing is made.
@@ -49,6 +50,7 @@ stands_under (Hold edge) direction = is_input direction
 stands_under (Recovery edge) direction = is_input direction
 stands_under (Removal edge) direction = is_input direction
 stands_under Width direction = is_input direction
+stands_under Period direction = is_input direction
 stands_under Other direction = false
 
 -- The table groups of the two edges: of a delay `cell_rise` and `cell_fall`, else `rise_constraint` and
@@ -60,6 +62,7 @@ rise_table (Hold edge) = codes "rise_constraint"
 rise_table (Recovery edge) = codes "rise_constraint"
 rise_table (Removal edge) = codes "rise_constraint"
 rise_table Width = codes "rise_constraint"
+rise_table Period = codes "rise_constraint"
 rise_table Other = codes "rise_constraint"
 
 abbrev pub fall_table : TimingType → List ℕ
@@ -69,6 +72,7 @@ fall_table (Hold edge) = codes "fall_constraint"
 fall_table (Recovery edge) = codes "fall_constraint"
 fall_table (Removal edge) = codes "fall_constraint"
 fall_table Width = codes "fall_constraint"
+fall_table Period = codes "fall_constraint"
 fall_table Other = codes "fall_constraint"
 
 -- Whether the group has a table that its type uses.

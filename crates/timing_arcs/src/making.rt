@@ -178,6 +178,14 @@ impl Making<'_> {
             TimingType::Recovery(edge) => self.add_recovery(alloc, related, edge, found),
             TimingType::Removal(edge) => self.add_removal(alloc, related, edge, found),
             TimingType::Width => self.add_widths(alloc, found),
+            TimingType::Period => {
+                let each = event(own, Edge::Any);
+                self.add_check(
+                    alloc,
+                    Timed::new(CheckKind::Period, each, each, both),
+                    found,
+                )
+            }
             TimingType::Other => Ok(()),
         }
     }

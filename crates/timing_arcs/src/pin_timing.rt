@@ -1,9 +1,9 @@
 //! Reading the timing of a pin.
 ghost use Rattle.std.specs.Prelude.{◌≡◌, ◌<◌, Ok, length, map, OnOk};
 ghost use Rattle.std.specs.Option.{option_map};
-ghost use Rattle.timing_arcs.specs.Adding.{with_noted, with_group, with_items, with_width, with_pulse, nothing_found};
+ghost use Rattle.timing_arcs.specs.Adding.{with_noted, with_group, with_items, with_limit, with_attribute, nothing_found};
 ghost use Rattle.timing_arcs.specs.Shown.{shown};
-ghost use Rattle.timing_arcs.specs.Timing.{reading_answer, pulse_attribute, Gives};
+ghost use Rattle.timing_arcs.specs.Timing.{reading_answer, limit_attribute, Gives};
 
 use crate::attributes::{Attribute, inner_group, last_attribute};
 use crate::fault::{Memory, TimingFault};
@@ -65,8 +65,8 @@ fn add_groups(
 }
 
 /// The attribute of this name of an input pin.
-fn pulse_attribute<'a>(subject: &Subject, pin: &'a Group, name: &[u8]) -> Option<Attribute<'a>>
-    ensures { option_map shown result ≡ pulse_attribute subject.now pin.now name.now }
+fn limit_attribute<'a>(subject: &Subject, pin: &'a Group, name: &[u8]) -> Option<Attribute<'a>>
+    ensures { option_map shown result ≡ limit_attribute subject.now pin.now name.now }
 {
     if !is_input_pin(subject.pins.as_slice(), subject.place) {
         return None;
@@ -74,43 +74,44 @@ fn pulse_attribute<'a>(subject: &Subject, pin: &'a Group, name: &[u8]) -> Option
     last_attribute(pin, name)
 }
 
-/// Adds the check of a pulse that begins and ends with these edges, with the least width that an attribute gives.
-fn add_pulse(
+/// Adds the check of this kind between these events of the pin, with the limit that an attribute gives.
+fn add_attribute(
     subject: &Subject,
-    begins: Edge,
-    ends: Edge,
+    kind: CheckKind,
+    first: Edge,
+    second: Edge,
     attribute: Option<Attribute<'_>>,
     found: &mut Found,
 ) -> Result<(), Memory>
-    ensures { OnOk result (found.new ≡ with_pulse subject.now begins ends found.old (option_map shown attribute.entry)) }
+    ensures { OnOk result (found.new ≡ with_attribute subject.now kind first second found.old (option_map shown attribute.entry)) }
 {
     let Some(attribute) = attribute else {
         return Ok(());
     };
-    let Some(width) = time(subject.unit, attribute.text) else {
+    let Some(limit) = time(subject.unit, attribute.text) else {
         found.note_number(attribute.at);
         return Ok(());
     };
     let check = Check {
-        kind: CheckKind::Width,
+        kind,
         first: Event {
             pin: subject.place,
-            edge: begins,
+            edge: first,
         },
         second: Event {
             pin: subject.place,
-            edge: ends,
+            edge: second,
         },
-        limit: width,
+        limit,
         condition: None,
     };
     found.add_check(attribute.at, check)
 }
 
 /// Reads the timing of a pin from its group: its checks, its arcs and its left-out timing groups, as the Liberty
-/// Reference Manual says of the `timing` group and of `min_pulse_width_high` and `min_pulse_width_low`. Times are in
-/// picoseconds, rounded up; of all tables of one name in a group the greatest entry is taken. The subject's names are
-/// those of its pins in their order.
+/// Reference Manual says of the `timing` group and of `min_pulse_width_high`, `min_pulse_width_low` and `min_period`.
+/// Times are in picoseconds, rounded up; of all tables of one name in a group the greatest entry is taken. The subject's
+/// names are those of its pins in their order.
 ///
 /// A fault is answered exactly where something is wrong in a text that is read. The first kind in the order of
 /// `TimingFault` decides, and of it the least offset. `Memory` is answered where memory is wanted and not there.
@@ -120,9 +121,32 @@ pub fn read_timing(alloc: Global, pin: &Group, subject: &Subject) -> Result<PinT
 {
     let mut found = Found::new(alloc);
     add_groups(alloc, subject, pin.items.as_slice(), &mut found)?;
-    let high = pulse_attribute(subject, pin, b"min_pulse_width_high");
-    add_pulse(subject, Edge::Rise, Edge::Fall, high, &mut found)?;
-    let low = pulse_attribute(subject, pin, b"min_pulse_width_low");
-    add_pulse(subject, Edge::Fall, Edge::Rise, low, &mut found)?;
+    let high = limit_attribute(subject, pin, b"min_pulse_width_high");
+    add_attribute(
+        subject,
+        CheckKind::Width,
+        Edge::Rise,
+        Edge::Fall,
+        high,
+        &mut found,
+    )?;
+    let low = limit_attribute(subject, pin, b"min_pulse_width_low");
+    add_attribute(
+        subject,
+        CheckKind::Width,
+        Edge::Fall,
+        Edge::Rise,
+        low,
+        &mut found,
+    )?;
+    let period = limit_attribute(subject, pin, b"min_period");
+    add_attribute(
+        subject,
+        CheckKind::Period,
+        Edge::Any,
+        Edge::Any,
+        period,
+        &mut found,
+    )?;
     found.finish()
 }

@@ -89,8 +89,8 @@ fn related_in(alloc: Global, subject: &Subject, text: &[u8]) -> Result<Vec<Relat
     Ok(related)
 }
 
-/// What a timing group of this type is related to, in order. The related pin of a pulse width is not read: it is the
-/// pin itself.
+/// What a timing group of this type is related to, in order. The related pin of a pulse width or a period is not read:
+/// it is the pin itself.
 #[tactic(auto, unfolding(crate::specs::RelatedPins::related_of))]
 pub(crate) fn related_pins(
     alloc: Global,
@@ -101,7 +101,7 @@ pub(crate) fn related_pins(
     requires { timing_type ≡ type_of group.now }
     ensures { IfOk result (λ related. related ≡ related_of subject.now group.now) }
 {
-    if let TimingType::Width = timing_type {
+    if let TimingType::Width | TimingType::Period = timing_type {
         return Ok(Items::from_slice(alloc, &[Related::Input(subject.place)])?);
     }
     match last_attribute(group, b"related_pin") {

@@ -20,7 +20,8 @@ pub struct Subject {
 /// The timing of a pin.
 #[derive(Debug, Drop)]
 pub struct PinTiming {
-    /// The checks: of the timing groups in order, then that of the high pulse and that of the low pulse.
+    /// The checks: of the timing groups in order, then those of the high pulse, the low pulse and the period of the pin's
+    /// attributes.
     pub checks: Items<Check>,
     /// The delay arcs, of the timing groups in order. Those with the same ends and the same condition are one.
     pub arcs: Items<Arc>,

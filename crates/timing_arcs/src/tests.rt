@@ -171,14 +171,15 @@ fn checks_of_type(
 }
 
 #[test]
-fn setup_and_hold_are_one_check(rt: HostRuntime) -> Result<(), Fail> {
-    use CheckKind::{Hold, Setup};
+fn setup_hold_and_period_are_one_check(rt: HostRuntime) -> Result<(), Fail> {
+    use CheckKind::{Hold, Period, Setup};
     use Edge::{Any, Fall, Rise};
     let types = [
         ("setup_rising", (Setup, Any, Rise, 20)),
         ("setup_falling", (Setup, Any, Fall, 20)),
         ("hold_rising", (Hold, Any, Rise, 20)),
         ("hold_falling", (Hold, Any, Fall, 20)),
+        ("minimum_period", (Period, Any, Any, 20)),
     ];
     for (timing_type, check) in types {
         let (first, second) = checks_of_type(rt.alloc(), timing_type)?;
@@ -204,12 +205,5 @@ fn recovery_removal_and_width_are_a_check_of_each_edge(rt: HostRuntime) -> Resul
         assert_eq!(rt; first, Some((kind, Rise, beside_rise, 10)));
         assert_eq!(rt; second, Some((kind, Fall, beside_fall, 20)));
     }
-    Ok(())
-}
-
-#[test]
-fn a_period_in_a_timing_group_is_left_out(rt: HostRuntime) -> Result<(), Fail> {
-    let timing = timing_of_type(rt.alloc(), "minimum_period")?;
-    assert_eq!(rt; timing.left_out.as_slice(), [0].as_slice());
     Ok(())
 }

@@ -25,6 +25,8 @@ pub(crate) enum TimingType {
     Removal(Edge),
     /// A pulse has a least width.
     Width,
+    /// Edges of one kind have a least distance.
+    Period,
     /// Any other.
     Other,
 }
@@ -40,7 +42,8 @@ impl TimingType {
             | TimingType::Hold(_)
             | TimingType::Recovery(_)
             | TimingType::Removal(_)
-            | TimingType::Width => is_input(direction),
+            | TimingType::Width
+            | TimingType::Period => is_input(direction),
             TimingType::Other => false,
         }
     }
@@ -138,6 +141,8 @@ fn type_named(text: &[u8]) -> TimingType
         TimingType::Removal(Edge::Fall)
     } else if is(b"min_pulse_width", text) {
         TimingType::Width
+    } else if is(b"minimum_period", text) {
+        TimingType::Period
     } else {
         TimingType::Other
     }

@@ -5,7 +5,7 @@ use Rattle.trit_cubes.specs.declared.trits.Trit.{Trit}
 use Rattle.trit_cubes.specs.declared.trits.Trit.TheVariants.{Unknown}
 use Rattle.trit_cubes.specs.Resolution.{res}
 use Rattle.cell_machine.specs.declared.groups.StateGroup.{StateGroup}
-use Rattle.cell_machine.specs.declared.cells.Cell.{Cell}
+use Rattle.cell_machine.specs.CellData.{CellData}
 use Rattle.std.proofs.lemmas.List.{length-map}
 use Rattle.std.proofs.lemmas.List.Quantifiers.{position-Some}
 use Rattle.cell_machine.specs.declared.pins.Pin.{Pin}
@@ -26,19 +26,19 @@ length-no_values = refl
 
 -- the step of the group that has the number i
 pub step_at-is :
-    (cell : Cell) (i : ℕ) (group : StateGroup)
+    (cell : CellData) (i : ℕ) (group : StateGroup)
     → slice_get cell.groups i ≡ Some group → step_at cell i ≡ group_step (state_name (length cell.pins) i) group
 step_at-is cell i group e =
     λ j before after s.
     option_map_or (λ (g : StateGroup). group_step (state_name (length cell.pins) i) g before after s) (e j) Unknown
 
 pub support_at-is :
-    (cell : Cell) (i : ℕ) (group : StateGroup)
+    (cell : CellData) (i : ℕ) (group : StateGroup)
     → slice_get cell.groups i ≡ Some group → support_at cell i ≡ group.support
 support_at-is cell i group e = λ j. option_map_or (λ (g : StateGroup). g.support) (e j) []
 
 pub forced-at :
-    (cell : Cell) (i : ℕ) (group : StateGroup) (name : ℕ) (ts : List Trit)
+    (cell : CellData) (i : ℕ) (group : StateGroup) (name : ℕ) (ts : List Trit)
     → slice_get cell.groups i ≡ Some group → GroupFacts (length cell.pins + 2 * i) group
     → name ≡ state_name (length cell.pins) i → length ts ≡ length (support_at cell i)
     → forced (step_at cell i) ts

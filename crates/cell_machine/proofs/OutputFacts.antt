@@ -14,10 +14,11 @@ use Rattle.cell_machine.specs.declared.outputs.Source.{Source}
 use Rattle.cell_machine.specs.declared.outputs.Source.TheVariants as source
 use Rattle.cell_machine.specs.declared.outputs.OutputPin.{OutputPin}
 use Rattle.cell_machine.specs.declared.cells.Cell.{Cell}
+use Rattle.cell_machine.specs.CellData.{CellData}
 use Rattle.cell_machine.specs.Names.{has, source_name}
 use Rattle.cell_machine.specs.CellRules.{is_input_pin, second_names, names_behind, is_source, is_output_of}
 use Rattle.cell_machine.specs.Outputs.{output_at}
-use Rattle.cell_machine.specs.CellTrace.{value_of_output}
+use Rattle.cell_machine.specs.CellTrace.{sources_at, output_value_at}
 use Rattle.cell_machine.specs.Supports.{StatesBelow, OutputFacts}
 use Rattle.cell_machine.proofs.RuleLemmas.{few_pins, few_groups, outputs_hold}
 use Rattle.cell_machine.proofs.CellFacts.{input-below, has-all, name_bound-below}
@@ -111,9 +112,13 @@ cell_output_facts cell i output e =
     output_facts cell.pins cell.groups output (few_pins cell) (few_groups cell)
     (all-at (is_output_of cell.pins cell.groups) cell.outputs i output (outputs_hold cell) e)
 
--- the value of the output that has the number i
-pub value_of_output-is :
-    (cell : Cell) (i : ℕ) (output : OutputPin)
-    → slice_get cell.outputs i ≡ Some output → value_of_output cell i ≡ output_at (length cell.pins) cell.groups output
-value_of_output-is cell i output e =
+-- the output that has the number i
+pub sources_at-is :
+    (cell : CellData) (i : ℕ) (output : OutputPin) → slice_get cell.outputs i ≡ Some output → sources_at cell i ≡ output.support
+sources_at-is cell i output e = λ j. option_map_or (λ (o : OutputPin). o.support) (e j) []
+
+pub output_value_at-is :
+    (cell : CellData) (i : ℕ) (output : OutputPin)
+    → slice_get cell.outputs i ≡ Some output → output_value_at cell i ≡ output_at (length cell.pins) cell.groups output
+output_value_at-is cell i output e =
     λ j point. option_map_or (λ (o : OutputPin). output_at (length cell.pins) cell.groups o point) (e j) Unknown

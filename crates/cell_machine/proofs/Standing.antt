@@ -13,7 +13,7 @@ use Rattle.cell_machine.specs.declared.checks.Check.{Check}
 use Rattle.cell_machine.specs.declared.changes.Change.{Change}
 use Rattle.cell_machine.specs.declared.times.Times.{Times}
 use Rattle.cell_machine.specs.declared.shown.Shown.{Shown}
-use Rattle.cell_machine.specs.declared.cells.Cell.{Cell}
+use Rattle.cell_machine.specs.CellData.{CellData}
 use Rattle.cell_machine.specs.CellRules.{is_check}
 use Rattle.cell_machine.specs.History.{inputs_after, value_before, is_event}
 use Rattle.cell_machine.specs.Report.{report, any_true}
@@ -23,7 +23,7 @@ use Rattle.cell_machine.specs.Each.{each}
 use Rattle.cell_machine.specs.CellTrace.{inputs_of, check_names, arc_names, input_check, input_checks, reports_of, named_from, named_groups, NamedGroup, state_step, state_after, states_after}
 use Rattle.cell_machine.specs.ShownOutputs.{shown_first, shown_step}
 use Rattle.cell_machine.specs.LibertyStands.{shown_after, Stands}
-use Rattle.cell_machine.proofs.RuleLemmas.{checks_hold, check_parts}
+use Rattle.cell_machine.proofs.RuleLemmas.{check_parts}
 use Rattle.cell_machine.proofs.TimingFacts.{input_number-below}
 use Rattle.cell_machine.proofs.TimeLemmas.{times_decide}
 use Rattle.cell_machine.proofs.EachLemmas.{each-map}
@@ -33,7 +33,7 @@ map-constant y [] = refl
 map-constant y (x ∷ xs) = ap (λ r. y ∷ r) (map-constant y xs)
 
 states-start :
-    (cell : Cell) (name : ℕ) (groups : List StateGroup)
+    (cell : CellData) (name : ℕ) (groups : List StateGroup)
     → replicate (length groups) Unknown ≡ map (state_after cell []) (named_from name groups)
 states-start cell name [] = refl
 states-start cell name (g ∷ gs) = ap (λ r. Unknown ∷ r) (states-start cell (name + 2) gs)
@@ -44,7 +44,7 @@ take-length (x ∷ xs) = ap (λ r. x ∷ r) (take-length xs)
 
 -- Before any change.
 pub start-stands :
-    (cell : Cell) (names_of_checks names_of_arcs : List (List ℕ)) (count : ℕ) (inputs : List Trit) (times : List Times)
+    (cell : CellData) (names_of_checks names_of_arcs : List (List ℕ)) (count : ℕ) (inputs : List Trit) (times : List Times)
     (states : List Trit) (reports : List Bool) (shown : List Shown)
     → names_of_checks ≡ check_names cell → names_of_arcs ≡ arc_names cell
     → count ≡ input_number cell.pins (length cell.pins)
@@ -87,7 +87,7 @@ reports-by pins (k ∷ ks) h c holds =
 
 -- states that are stepped at an event and stay else
 states-change :
-    (cell : Cell) (h : List Change) (c : Change) (groups : List NamedGroup) (event : Bool)
+    (cell : CellData) (h : List Change) (c : Change) (groups : List NamedGroup) (event : Bool)
     (f : NamedGroup → Trit → Trit)
     → (if event then each f groups (map (state_after cell h) groups) else map (state_after cell h) groups)
     ≡ map (λ g. if event then f g (state_after cell h g) else state_after cell h g) groups
@@ -96,9 +96,10 @@ states-change cell h c groups false f = refl
 
 -- After a change.
 pub change-stands :
-    (cell : Cell) (names_of_checks names_of_arcs : List (List ℕ)) (inputs : List Trit) (times : List Times)
+    (cell : CellData) (names_of_checks names_of_arcs : List (List ℕ)) (inputs : List Trit) (times : List Times)
     (states : List Trit) (reports : List Bool) (shown : List Shown) (h : List Change) (c : Change) (from' : Trit)
     (inputs' : List Trit) (times' : List Times) (states' : List Trit) (reports' : List Bool) (shown' : List Shown)
+    → IsTrue (list_all (is_check cell.pins) cell.checks)
     → Stands cell names_of_checks names_of_arcs inputs times states reports shown h
     → from' ≡ get_or inputs c.pin Unknown
     → inputs' ≡ set inputs c.pin c.to
@@ -110,7 +111,7 @@ pub change-stands :
     → shown'
     ≡ each (λ o s. shown_step cell.pins cell.groups cell.arcs inputs' states' c o s.value) cell.outputs shown
     → Stands cell names_of_checks names_of_arcs inputs' times' states' reports' shown' (c ∷ h)
-change-stands cell ncs nas inputs times states reports shown h c from' inputs' times' states' reports' shown' st f i t r s o =
+change-stands cell ncs nas inputs times states reports shown h c from' inputs' times' states' reports' shown' holds st f i t r s o =
     let n : ℕ = inputs_of cell in
     let fs : from' ≡ value_before (inputs_after n h) c = f ∙ ap (λ v. get_or v c.pin Unknown) st.inputs_are in
     let is : inputs' ≡ inputs_after n (c ∷ h) = i ∙ ap (λ v. set v c.pin c.to) st.inputs_are in
@@ -118,7 +119,7 @@ change-stands cell ncs nas inputs times states reports shown h c from' inputs' t
     t ∙ (λ j. set (st.times_are j) c.pin (stamped c.at (fs j) c.to (get_or (st.times_are j) c.pin no_times))) in
     let rs : reports' ≡ reports_of cell (c ∷ h) =
     r ∙ (λ j. map (λ k. report_by (input_check cell.pins k) (fs j) (is j) (st.times_are j) c) cell.checks)
-    ∙ reports-by cell.pins cell.checks h c (checks_hold cell) in
+    ∙ reports-by cell.pins cell.checks h c holds in
     let ss : states' ≡ states_after cell (c ∷ h) =
     s
     ∙ (λ j.

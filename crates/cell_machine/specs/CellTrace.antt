@@ -17,7 +17,7 @@ use Rattle.cell_machine.specs.declared.checks.Event.{Event}
 use Rattle.cell_machine.specs.declared.checks.Check.{Check}
 use Rattle.cell_machine.specs.declared.arcs.Arc.{Arc}
 use Rattle.cell_machine.specs.declared.changes.Change.{Change}
-use Rattle.cell_machine.specs.declared.cells.Cell.{Cell}
+use Rattle.cell_machine.specs.CellData.{CellData}
 use Rattle.bool_functions.specs.Support.{support_of}
 use Rattle.cell_machine.specs.Inputs.{is_input_at, input_number, pin_value, pin_values}
 use Rattle.cell_machine.specs.History.{inputs_after, value_before, is_event}
@@ -29,7 +29,7 @@ use Rattle.cell_machine.specs.Delay.{Path, least_delay}
 use Rattle.cell_machine.specs.Lines.{Line, trace, Machine}
 
 -- how many inputs a cell has
-abbrev pub inputs_of : Cell → ℕ
+abbrev pub inputs_of : CellData → ℕ
 inputs_of cell = count_by is_input_at cell.pins
 
 -- The value of a condition at values of the inputs: its resolution over the pins that it names.
@@ -43,10 +43,10 @@ condition_names None = []
 condition_names (Some f) = support_of f
 
 -- the names of the conditions of a cell's checks and of its arcs
-abbrev pub check_names : Cell → List (List ℕ)
+abbrev pub check_names : CellData → List (List ℕ)
 check_names cell = map (λ (k : Check). condition_names k.condition) cell.checks
 
-abbrev pub arc_names : Cell → List (List ℕ)
+abbrev pub arc_names : CellData → List (List ℕ)
 arc_names cell = map (λ (arc : Arc). condition_names arc.condition) cell.arcs
 
 -- whether a check's condition is 1, or there is none
@@ -68,11 +68,11 @@ input_check pins k =
       holds = λ v. condition_holds pins v k.condition;
     }
 
-abbrev pub input_checks : Cell → List InputCheck
+abbrev pub input_checks : CellData → List InputCheck
 input_checks cell = map (input_check cell.pins) cell.checks
 
 -- whether each check reports at the newest change
-abbrev pub reports_of : Cell → List Change → List Bool
+abbrev pub reports_of : CellData → List Change → List Bool
 reports_of cell h = reports (inputs_of cell) (input_checks cell) h
 
 -- a group and the name of its state
@@ -85,18 +85,18 @@ abbrev pub named_from : ℕ → List StateGroup → List NamedGroup
 named_from name [] = []
 named_from name (group ∷ groups) = record { name = name; group = group } ∷ named_from (name + 2) groups
 
-abbrev pub named_groups : Cell → List NamedGroup
+abbrev pub named_groups : CellData → List NamedGroup
 named_groups cell = named_from (length cell.pins) cell.groups
 
 abbrev pub step_of : NamedGroup → Step
 step_of g = group_step g.name g.group
 
 -- the support of group i, none where there is no such group
-abbrev pub support_at : Cell → ℕ → List ℕ
+abbrev pub support_at : CellData → ℕ → List ℕ
 support_at cell i = option_map_or (λ (group : StateGroup). group.support) (slice_get cell.groups i) []
 
 -- the step of group i over points of its support, X where there is no such group
-abbrev pub step_at : Cell → ℕ → Step
+abbrev pub step_at : CellData → ℕ → Step
 step_at cell i before after s =
     option_map_or (λ (group : StateGroup). group_step (state_name (length cell.pins) i) group before after s)
     (slice_get cell.groups i) Unknown
@@ -127,7 +127,7 @@ state_step true pins g v a c s = violated pins g v
 state_step false pins g v a c s = moved pins g v a c s
 
 -- The state of a group after a history. It begins at X.
-abbrev pub state_after : Cell → List Change → NamedGroup → Trit
+abbrev pub state_after : CellData → List Change → NamedGroup → Trit
 state_after cell [] g = Unknown
 state_after cell (c ∷ h) g =
     (if is_event (inputs_after (inputs_of cell) h) c
@@ -137,7 +137,7 @@ state_after cell (c ∷ h) g =
     else state_after cell h g)
 
 -- the states of all groups after a history
-abbrev pub states_after : Cell → List Change → List Trit
+abbrev pub states_after : CellData → List Change → List Trit
 states_after cell h = map (state_after cell h) (named_groups cell)
 
 -- the value of a source, of the values of the inputs and the states
@@ -151,16 +151,16 @@ output_value pins groups v states output =
     res (output_at (length pins) groups output) (map (source_value pins v states) output.support)
 
 -- the support of output i, none where there is no such output
-abbrev pub sources_of_output : Cell → ℕ → List Source
-sources_of_output cell i = option_map_or (λ (output : OutputPin). output.support) (slice_get cell.outputs i) []
+abbrev pub sources_at : CellData → ℕ → List Source
+sources_at cell i = option_map_or (λ (output : OutputPin). output.support) (slice_get cell.outputs i) []
 
 -- the value of output i at a point of its support, X where there is no such output
-abbrev pub value_of_output : Cell → ℕ → List Bool → Trit
-value_of_output cell i point =
+abbrev pub output_value_at : CellData → ℕ → List Bool → Trit
+output_value_at cell i point =
     option_map_or (λ (output : OutputPin). output_at (length cell.pins) cell.groups output point)
     (slice_get cell.outputs i) Unknown
 
-abbrev pub output_after : Cell → List Change → OutputPin → Trit
+abbrev pub output_after : CellData → List Change → OutputPin → Trit
 output_after cell h output =
     output_value cell.pins cell.groups (inputs_after (inputs_of cell) h) (states_after cell h) output
 
@@ -202,14 +202,14 @@ delay_at pins arcs v c output a b =
     (if same a b then None else Some (least_delay a b (paths_between pins arcs v c.pin output.pin)))
 
 -- the delay of an output at the newest change
-abbrev pub delay_after : Cell → List Change → OutputPin → Option ℕ
+abbrev pub delay_after : CellData → List Change → OutputPin → Option ℕ
 delay_after cell [] output = None
 delay_after cell (c ∷ h) output =
     delay_at cell.pins cell.arcs (inputs_after (inputs_of cell) (c ∷ h)) c output
     (output_after cell h output) (output_after cell (c ∷ h) output)
 
 -- What a cell shows after a history of its inputs.
-abbrev pub cell_line : Cell → List Change → Line
+abbrev pub cell_line : CellData → List Change → Line
 cell_line cell h =
     record {
       values = map (output_after cell h) cell.outputs;
@@ -218,11 +218,11 @@ cell_line cell h =
     }
 
 -- The trace of a cell on changes of its inputs, the oldest first.
-abbrev pub cell_trace : Cell → List Change → List Line
+abbrev pub cell_trace : CellData → List Change → List Line
 cell_trace cell = trace (cell_line cell)
 
 -- the cell as what a simulator runs
-abbrev pub cell_machine_of : Cell → Machine
+abbrev pub cell_machine_of : CellData → Machine
 cell_machine_of cell =
     record {
       inputs = inputs_of cell;

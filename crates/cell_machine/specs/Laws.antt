@@ -3,7 +3,7 @@ use Rattle.std.specs.Prelude.{◌≡◌, ◌≢◌, ℕ, ◌+◌, ◌<◌, ◌�
 use Rattle.trit_cubes.specs.declared.trits.Trit.{Trit}
 use Rattle.trit_cubes.specs.declared.trits.Trit.TheVariants.{Zero, One, Unknown}
 use Rattle.cell_machine.specs.declared.outputs.OutputPin.{OutputPin}
-use Rattle.cell_machine.specs.declared.cells.Cell.{Cell}
+use Rattle.cell_machine.specs.CellData.{CellData}
 use Rattle.cell_machine.specs.CellTrace.{inputs_of, states_after, output_value, cell_line}
 use Rattle.cell_machine.specs.declared.changes.Change.{Change}
 use Rattle.cell_machine.specs.Report.{InputCheck, report, Reports, before}
@@ -35,7 +35,7 @@ ForcedIsStep =
 -- reports.
 abbrev pub SameValueChangesNothing : Type 0
 SameValueChangesNothing =
-    (cell : Cell) (h : List Change) (c : Change)
+    (cell : CellData) (h : List Change) (c : Change)
     → is_event (inputs_after (inputs_of cell) h) c ≡ false
     → (states_after cell (c ∷ h) ≡ states_after cell h)
     × (cell_line cell (c ∷ h)
@@ -61,6 +61,6 @@ AllRefine (t ∷ ts) (u ∷ us) = Refines t u × AllRefine ts us
 -- Inputs and states of which fewer are unknown give each output that was known the same value.
 abbrev pub FewerUnknownsKeepOutputs : Type 0
 FewerUnknownsKeepOutputs =
-    (cell : Cell) (output : OutputPin) (v w states more : List Trit)
+    (cell : CellData) (output : OutputPin) (v w states more : List Trit)
     → AllRefine v w → AllRefine states more
     → Refines (output_value cell.pins cell.groups v states output) (output_value cell.pins cell.groups w more output)

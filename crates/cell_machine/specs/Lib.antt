@@ -11,6 +11,7 @@ pub mod Step
 pub mod Outputs
 pub mod Delay
 pub mod Inputs
+pub mod CellData
 pub mod CellTrace
 pub mod ArcDelay
 pub mod ShownOutputs

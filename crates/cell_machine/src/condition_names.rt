@@ -1,5 +1,6 @@
 //! The pins that conditions name.
 ghost use Rattle.std.specs.Prelude.{◌≡◌, IfOk, length, map};
+ghost use Rattle.cell_machine.specs.CellData.{data_of};
 ghost use Rattle.cell_machine.specs.CellTrace.{condition_names, check_names, arc_names};
 
 use crate::cells::Cell;
@@ -23,7 +24,7 @@ fn condition_names(alloc: Global, condition: &Option<Function>) -> Result<Items<
 
 /// The pins that the conditions of a cell's checks name.
 pub fn check_names(alloc: Global, cell: &Cell) -> Result<Items<Items<usize>>, Memory>
-    ensures { IfOk result (λ names. names ≡ check_names cell.now) }
+    ensures { IfOk result (λ names. names ≡ check_names (data_of cell.now)) }
 {
     let mut all = Items::new(alloc);
     for check in cell.checks.as_slice() {
@@ -35,7 +36,7 @@ pub fn check_names(alloc: Global, cell: &Cell) -> Result<Items<Items<usize>>, Me
 
 /// The pins that the conditions of a cell's arcs name.
 pub fn arc_names(alloc: Global, cell: &Cell) -> Result<Items<Items<usize>>, Memory>
-    ensures { IfOk result (λ names. names ≡ arc_names cell.now) }
+    ensures { IfOk result (λ names. names ≡ arc_names (data_of cell.now)) }
 {
     let mut all = Items::new(alloc);
     for arc in cell.arcs.as_slice() {

@@ -5,6 +5,7 @@ ghost use Rattle.cell_machine.specs.declared.arcs.Arc.{Arc as ArcOf};
 ghost use Rattle.cell_machine.specs.Values.{IsBounded};
 ghost use Rattle.cell_machine.specs.Delay.{lesser, least_delay};
 ghost use Rattle.cell_machine.specs.ArcDelay.{arc_delay};
+ghost use Rattle.cell_machine.specs.CellData.{data_of};
 ghost use Rattle.cell_machine.specs.CellTrace.{condition_names, arc_names, condition_value, is_off, is_active, is_between, paths_between, is_quiet};
 
 use crate::arcs::Arc;
@@ -54,7 +55,7 @@ fn is_quiet(arc: &Arc, other: &Arc, names: &[usize], pins: &[Pin], inputs: &[Tri
 
 // Whether all other arcs leave an arc without condition active.
 fn all_are_quiet(cell: &Cell, names: &[Items<usize>], arc: &Arc, inputs: &[Trit]) -> bool
-    requires { names.now ≡ arc_names cell.now }
+    requires { names.now ≡ arc_names (data_of cell.now) }
     ensures { result ≡ list_all (is_quiet cell.now.pins inputs.now arc.now) cell.now.arcs }
 {
     for i in 0..cell.arcs.len() {
@@ -74,7 +75,7 @@ fn all_are_quiet(cell: &Cell, names: &[Items<usize>], arc: &Arc, inputs: &[Trit]
 
 // Whether the arc with this number is active.
 fn is_active(cell: &Cell, names: &[Items<usize>], i: usize, inputs: &[Trit]) -> bool
-    requires names { names.now ≡ arc_names cell.now }
+    requires names { names.now ≡ arc_names (data_of cell.now) }
     requires inside { i < length cell.now.arcs }
     ensures { (arc : ArcOf) → slice_get cell.now.arcs i ≡ Some arc → result ≡ is_active cell.now.pins cell.now.arcs inputs.now arc arc.condition }
 {
@@ -112,7 +113,7 @@ fn arc_delay(
     inputs: &[Trit],
     change: &OutputChange,
 ) -> Option<u64>
-    requires names { names.now ≡ arc_names cell.now }
+    requires names { names.now ≡ arc_names (data_of cell.now) }
     requires inside { i < length cell.now.arcs }
     ensures { (arc : ArcOf) → slice_get cell.now.arcs i ≡ Some arc → result ≡ arc_delay cell.now.pins cell.now.arcs inputs.now change.now.input change.now.pin change.now.from change.now.to arc }
 {
@@ -138,7 +139,7 @@ pub fn least_delay(
     inputs: &[Trit],
     change: &OutputChange,
 ) -> u64
-    requires { names.now ≡ arc_names cell.now }
+    requires { names.now ≡ arc_names (data_of cell.now) }
     ensures { result ≡ least_delay change.now.from change.now.to (paths_between cell.now.pins cell.now.arcs inputs.now change.now.input change.now.pin) }
 {
     let mut best = None;

@@ -9,7 +9,8 @@ ghost use Rattle.cell_machine.specs.Values.{no_values, written, IsBounded};
 ghost use Rattle.cell_machine.specs.Step.{KindIsBounded};
 ghost use Rattle.cell_machine.specs.Outputs.{second_by, second_value, second_names, second_trits, chosen_value, condition_at, is_one, is_zero};
 ghost use Rattle.cell_machine.specs.Inputs.{pin_value, pin_values};
-ghost use Rattle.cell_machine.specs.CellTrace.{source_value, sources_of_output, value_of_output, output_value, condition_value};
+ghost use Rattle.cell_machine.specs.CellData.{data_of};
+ghost use Rattle.cell_machine.specs.CellTrace.{source_value, sources_at, output_value_at, output_value, condition_value};
 ghost use Rattle.cell_machine.specs.Supports.{StatesBelow, OutputFacts};
 
 use crate::cells::Cell;
@@ -180,8 +181,8 @@ fn values_at(cell: &Cell, sources: &[Source], point: &[bool]) -> Values
 /// `clear_preset_var2` of `ff` and `latch` groups.)
 pub fn output_at(cell: &Cell, output: usize, point: &[bool]) -> Trit
     requires output { output < length cell.now.outputs }
-    requires point { length point.now ≡ length (sources_of_output cell.now output) }
-    ensures { result ≡ value_of_output cell.now output point.now }
+    requires point { length point.now ≡ length (sources_at (data_of cell.now) output) }
+    ensures { result ≡ output_value_at (data_of cell.now) output point.now }
 {
     let output = cell.output_pin(output);
     let sources = output.support.as_slice();

@@ -1,6 +1,7 @@
 //! The step of a cell's group, and the values to which inputs force it.
 ghost use Rattle.std.specs.Prelude.{◌≡◌, ◌+◌, ◌*◌, ◌<◌, List, Bool, length, slice_get, Some};
 ghost use Rattle.cell_machine.specs.Machine.{forced as forced_value};
+ghost use Rattle.cell_machine.specs.CellData.{data_of};
 ghost use Rattle.cell_machine.specs.CellTrace.{step_at, support_at};
 
 use crate::cells::Cell;
@@ -13,9 +14,9 @@ use trit_cubes::Trit;
 /// `statetable` groups.)
 pub fn boolean_step(cell: &Cell, group: usize, before: &[bool], after: &[bool], s: bool) -> Trit
     requires group { group < length cell.now.groups }
-    requires before { length before.now ≡ length (support_at cell.now group) }
-    requires after { length after.now ≡ length (support_at cell.now group) }
-    ensures { result ≡ step_at cell.now group before.now after.now s }
+    requires before { length before.now ≡ length (support_at (data_of cell.now) group) }
+    requires after { length after.now ≡ length (support_at (data_of cell.now) group) }
+    ensures { result ≡ step_at (data_of cell.now) group before.now after.now s }
 {
     let name = cell.state_name(group);
     let group = cell.group(group);
@@ -30,8 +31,8 @@ pub fn boolean_step(cell: &Cell, group: usize, before: &[bool], after: &[bool], 
 /// holds a value for each pin of the support.
 pub fn forced(cell: &Cell, group: usize, pins: &[Trit]) -> Trit
     requires group { group < length cell.now.groups }
-    requires pins { length pins.now ≡ length (support_at cell.now group) }
-    ensures { result ≡ forced_value (step_at cell.now group) pins.now }
+    requires pins { length pins.now ≡ length (support_at (data_of cell.now) group) }
+    ensures { result ≡ forced_value (step_at (data_of cell.now) group) pins.now }
 {
     let name = cell.state_name(group);
     let group = cell.group(group);

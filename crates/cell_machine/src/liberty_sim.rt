@@ -1,6 +1,7 @@
 //! The simulator of a cell.
 ghost use Rattle.std.specs.Prelude.{◌≡◌, [], length};
 ghost use Rattle.cell_machine.specs.Report.{any_true};
+ghost use Rattle.cell_machine.specs.CellData.{data_of};
 ghost use Rattle.cell_machine.specs.CellTrace.{inputs_of};
 
 use crate::cells::Cell;
@@ -29,8 +30,8 @@ pub struct LibertySim<'a> {
     states: Items<Trit>,
     reports: Items<bool>,
     shown: Items<Shown>,
-    ghost each_input: { length inputs ≡ inputs_of cell.now },
-    ghost each_time: { length times ≡ inputs_of cell.now },
+    ghost each_input: { length inputs ≡ inputs_of (data_of cell.now) },
+    ghost each_time: { length times ≡ inputs_of (data_of cell.now) },
     ghost each_state: { length states ≡ length cell.now.groups },
     ghost each_check: { length reports ≡ length cell.now.checks },
     ghost each_output: { length shown ≡ length cell.now.outputs },
@@ -42,7 +43,7 @@ impl<'a> LibertySim<'a> {
 
     /// The simulator of a cell before any change: all inputs and all states are unknown.
     pub fn start(alloc: Global, cell: &'a Cell) -> Result<LibertySim<'a>, Memory>
-        ensures machine { IfOk result (λ sim. ⟦<LibertySim<'a> as CellSim>⟧.machine sim ≡ cell_machine_of cell.now) }
+        ensures machine { IfOk result (λ sim. ⟦<LibertySim<'a> as CellSim>⟧.machine sim ≡ cell_machine_of (data_of cell.now)) }
         ensures stands { IfOk result (λ sim. ⟦<LibertySim<'a> as CellSim>⟧.stands sim []) }
     {
         let check_names = check_names(alloc, cell)?;
@@ -71,9 +72,9 @@ impl<'a> CellSim for LibertySim<'a> {
     ghost use Rattle.cell_machine.specs.LibertyStands.{Stands};
     ghost use Rattle.cell_machine.specs.Sized.{cell_machine_sized};
 
-    ghost machine = { λ s. cell_machine_of s.cell.now };
+    ghost machine = { λ s. cell_machine_of (data_of s.cell.now) };
 
-    ghost stands = { λ s h. Stands s.cell.now s.check_names s.arc_names s.inputs s.times s.states s.reports s.shown h };
+    ghost stands = { λ s h. Stands (data_of s.cell.now) s.check_names s.arc_names s.inputs s.times s.states s.reports s.shown h };
 
     fn inputs(&self) -> usize {
         self.inputs.len()
@@ -135,7 +136,7 @@ impl<'a> CellSim for LibertySim<'a> {
         self.reports.as_slice()[check]
     }
 
-    ghost sized = { λ s. cell_machine_sized s.cell.now };
+    ghost sized = { λ s. cell_machine_sized (data_of s.cell.now) };
 }
 
 // Whether some check reported.

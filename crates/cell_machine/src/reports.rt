@@ -3,6 +3,7 @@ ghost use Rattle.std.specs.Prelude.{◌≡◌, ◌<◌, length, map};
 ghost use Rattle.cell_machine.specs.Values.{IsBounded};
 ghost use Rattle.cell_machine.specs.Report.{is_period, happens, opening};
 ghost use Rattle.cell_machine.specs.Times.{time_of, report_by};
+ghost use Rattle.cell_machine.specs.CellData.{data_of};
 ghost use Rattle.cell_machine.specs.CellTrace.{condition_names, check_names, condition_holds, input_event, input_check};
 
 use crate::cells::Cell;
@@ -116,7 +117,7 @@ pub fn report_all(
     change: Change,
     reports_of: &mut Items<bool>,
 )
-    requires names { names.now ≡ check_names cell.now }
+    requires names { names.now ≡ check_names (data_of cell.now) }
     requires one_each { length reports_of.old ≡ length cell.now.checks }
     ensures { reports_of.new ≡ map (λ k. report_by (input_check cell.now.pins k) from inputs.now times.now change) cell.now.checks }
 {

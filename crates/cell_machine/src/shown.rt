@@ -2,6 +2,7 @@
 ghost use Rattle.std.specs.Prelude.{◌≡◌, ◌<◌, length, map, slice_get, Some, IfOk};
 ghost use Rattle.cell_machine.specs.declared.outputs.OutputPin.{OutputPin as OutputPinOf};
 ghost use Rattle.cell_machine.specs.Each.{each};
+ghost use Rattle.cell_machine.specs.CellData.{data_of};
 ghost use Rattle.cell_machine.specs.CellTrace.{arc_names};
 ghost use Rattle.cell_machine.specs.ShownOutputs.{shown_first, shown_step};
 
@@ -33,7 +34,7 @@ fn shown_step(
     change: Change,
     was: Trit,
 ) -> Shown
-    requires names { names.now ≡ arc_names cell.now }
+    requires names { names.now ≡ arc_names (data_of cell.now) }
     requires inside { i < length cell.now.outputs }
     ensures { (output : OutputPinOf) → slice_get cell.now.outputs i ≡ Some output → result ≡ shown_step cell.now.pins cell.now.groups cell.now.arcs inputs.now states.now change output was }
 {
@@ -63,7 +64,7 @@ pub fn show_all(
     change: Change,
     shown: &mut Items<Shown>,
 )
-    requires names { names.now ≡ arc_names cell.now }
+    requires names { names.now ≡ arc_names (data_of cell.now) }
     requires one_each { length shown.old ≡ length cell.now.outputs }
     ensures stepped { shown.new ≡ each (λ o s. shown_step cell.now.pins cell.now.groups cell.now.arcs inputs.now states.now change o s.value) cell.now.outputs shown.old }
     ensures len { length shown.new ≡ length shown.old }

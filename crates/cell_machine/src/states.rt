@@ -5,6 +5,7 @@ ghost use Rattle.cell_machine.specs.declared.groups.StateGroup.{StateGroup as St
 ghost use Rattle.cell_machine.specs.Names.{state_name};
 ghost use Rattle.cell_machine.specs.Each.{each};
 ghost use Rattle.cell_machine.specs.Inputs.{input_number};
+ghost use Rattle.cell_machine.specs.CellData.{data_of};
 ghost use Rattle.cell_machine.specs.CellTrace.{place_in, moved, violated, state_step, named_groups};
 
 use crate::cells::Cell;
@@ -91,7 +92,7 @@ pub fn change_states(
     states: &mut Items<Trit>,
 )
     requires { length states.old ≡ length cell.now.groups }
-    ensures changed { states.new ≡ (if not (same from change.to) then each (λ g s. state_step reported cell.now.pins g inputs.now from change s) (named_groups cell.now) states.old else states.old) }
+    ensures changed { states.new ≡ (if not (same from change.to) then each (λ g s. state_step reported cell.now.pins g inputs.now from change s) (named_groups (data_of cell.now)) states.old else states.old) }
     ensures len { length states.new ≡ length states.old }
 {
     if from != change.to {
@@ -110,7 +111,7 @@ fn step_states(
     states: &mut Items<Trit>,
 )
     requires { length states.old ≡ length cell.now.groups }
-    ensures stepped { states.new ≡ each (λ g s. state_step reported cell.now.pins g inputs.now from change s) (named_groups cell.now) states.old }
+    ensures stepped { states.new ≡ each (λ g s. state_step reported cell.now.pins g inputs.now from change s) (named_groups (data_of cell.now)) states.old }
     ensures len { length states.new ≡ length states.old }
 {
     for i in 0..states.len() {

@@ -2,6 +2,7 @@
 ghost use Rattle.std.specs.Prelude.{◌≡◌, ◌++◌, ◌+◌, ◌<◌, ◌^◌, List, [], IfOk, string_bytes};
 ghost use Rattle.trit_cubes.specs.declared.trits.Trit.{Trit};
 ghost use Rattle.cell_machine.specs.declared.changes.Change.{Change};
+ghost use Rattle.cell_machine.specs.CellData.{data_of};
 ghost use Rattle.cell_machine.specs.CellTrace.{cell_machine_of};
 ghost use Rattle.machine_acceptance.specs.LineText.{value_text, output_text, report_text, line_text, HasTrace};
 
@@ -102,7 +103,7 @@ fn drive<S: CellSim>(
 
 /// Wants a cell to show this line before any change. A line is the values of the outputs, each with a space behind it.
 pub fn has_first_line(alloc: Global, cell: &Cell, want: &str) -> Result<(), Fail>
-    ensures { IfOk result (λ _. line_text (cell_machine_of cell.now) [] ≡ want.now) }
+    ensures { IfOk result (λ _. line_text (cell_machine_of (data_of cell.now)) [] ≡ want.now) }
 {
     let sim = LibertySim::start(alloc, cell)?;
     has_line(alloc, &sim, 0, want)
@@ -114,7 +115,7 @@ pub fn has_first_line(alloc: Global, cell: &Cell, want: &str) -> Result<(), Fail
 /// A line is the values of the outputs in order, each with `@` and its delay in picoseconds where it changed, and then `!`
 /// and the number from 1 of each check that reports, all with a space behind them.
 pub fn has_trace(alloc: Global, cell: &Cell, rows: &[(u64, usize, Trit, &str)]) -> Result<(), Fail>
-    ensures { IfOk result (λ _. HasTrace (cell_machine_of cell.now) [] rows.now) }
+    ensures { IfOk result (λ _. HasTrace (cell_machine_of (data_of cell.now)) [] rows.now) }
 {
     let mut sim = LibertySim::start(alloc, cell)?;
     drive(alloc, &mut sim, rows)

@@ -18,7 +18,7 @@ use Rattle.cell_machine.specs.CellTrace.{same_pins}
 use Rattle.cell_machine.proofs.CellFacts.{list_all-implied}
 use Rattle.cell_machine.proofs.RuleLemmas.{check_parts, arc_condition}
 use Rattle.bool_functions.specs.SameTrees.{same_tree}
-use Rattle.udp_tables.specs.CellData.{CellData}
+use Rattle.cell_machine.specs.CellData.{CellData}
 use Rattle.udp_tables.specs.Conditions.{condition_list, conditions_by, arc_conditions, used_conditions, added, added_all, conditions_of, condition_place}
 use Rattle.bool_functions.proofs.SameTreeLemmas.{same_tree-refl}
 use Rattle.specify_blocks.proofs.InstanceLemmas.{or-left, or-right}

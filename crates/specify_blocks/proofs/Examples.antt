@@ -10,7 +10,7 @@ use Rattle.cell_machine.specs.declared.checks.CheckKind.TheVariants as check_kin
 use Rattle.cell_machine.specs.declared.checks.Edge.TheVariants as edge
 use Rattle.verilog_names.specs.Words.{verilog_words, is_verilog_word}
 use Rattle.verilog_names.specs.Kept.{is_kept_name}
-use Rattle.udp_tables.specs.CellData.{CellData}
+use Rattle.cell_machine.specs.CellData.{CellData}
 use Rattle.specify_blocks.specs.declared.model.VNet.TheVariants as net
 use Rattle.specify_blocks.specs.declared.model.Instance.TheVariants as instance
 use Rattle.specify_blocks.specs.declared.model.Gate.TheVariants as gate

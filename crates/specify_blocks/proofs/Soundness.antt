@@ -29,9 +29,10 @@ use Rattle.cell_machine.proofs.RuleLemmas.{check_parts}
 use Rattle.udp_tables.specs.declared.table.Udp.{Udp}
 use Rattle.bool_functions.specs.SameTrees.{same_tree}
 use Rattle.udp_tables.specs.Edges.{each_below}
-use Rattle.udp_tables.specs.CellData.{CellData}
+use Rattle.cell_machine.specs.CellData.{CellData}
 use Rattle.udp_tables.specs.Conditions.{conditions_of, condition_place}
-use Rattle.udp_tables.specs.CellPrimitives.{has_notifier, group_support, group_inputs, group_primitive, condition_tree, condition_primitive, has_sources, sources_at, output_primitive, output_value_at, primitive_name, output_number, condition_number}
+use Rattle.cell_machine.specs.CellTrace.{support_at, sources_at, output_value_at}
+use Rattle.udp_tables.specs.CellPrimitives.{has_notifier, group_inputs, group_primitive, condition_tree, condition_primitive, has_sources, output_primitive, primitive_name, output_number, condition_number}
 use Rattle.udp_tables.proofs.TableLemmas.{primitive-combinational}
 use Rattle.udp_tables.proofs.CellLaws.{groups_are_sequential-lem}
 use Rattle.cell_machine.specs.Outputs.{condition_at}
@@ -145,12 +146,12 @@ module _ (cell : CellData) (h : HoldsRules cell.name cell.pins cell.groups cell.
       let few = and_parts _ _ some.1 in
       let parts = and_parts (is_ascending group.support) (list_all (is_input_pin cell.pins) group.support) few.1 in
       let nets : List VNet = map (pin_net cell.pins) group.support in
-      let held : group_support cell g ≡ group.support = ap (λ o. option_map_or (λ (x : StateGroup). x.support) o []) e in
-      let long : length nets ≡ length (group_support cell g) = length-map group.support (pin_net cell.pins) ∙ ap length (sym held) in (
+      let held : support_at cell g ≡ group.support = ap (λ o. option_map_or (λ (x : StateGroup). x.support) o []) e in
+      let long : length nets ≡ length (support_at cell g) = length-map group.support (pin_net cell.pins) ∙ ap length (sym held) in (
         group_primitive cell g,
         group_primitive-at cell g within,
         record {
-          entries = noted_length (has_notifier cell) nets (length (group_support cell g)) long ∙ sym (inputs-length (group_inputs cell g));
+          entries = noted_length (has_notifier cell) nets (length (support_at cell g)) long ∙ sym (inputs-length (group_inputs cell g));
           apart =
               and_from (not (list_any (same_net (net.Wire g)) (nets ++ notifier_nets (has_notifier cell))))
               (are_apart (nets ++ notifier_nets (has_notifier cell)))

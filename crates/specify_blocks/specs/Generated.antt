@@ -17,7 +17,7 @@ use Rattle.cell_machine.specs.Values.{no_values}
 use Rattle.cell_machine.specs.CellTrace.{same_pins}
 use Rattle.udp_tables.specs.declared.table.Udp.{Udp}
 use Rattle.udp_tables.specs.Edges.{each_below}
-use Rattle.udp_tables.specs.CellData.{CellData}
+use Rattle.cell_machine.specs.CellData.{CellData}
 use Rattle.udp_tables.specs.Conditions.{conditions_of, condition_place}
 use Rattle.udp_tables.specs.CellPrimitives.{has_notifier, group_primitive, condition_primitive, has_sources, output_primitive}
 use Rattle.specify_blocks.specs.declared.model.VNet.{VNet}

@@ -1,7 +1,7 @@
 -- Laws of the generated modules.
 use Rattle.std.specs.Prelude.{IsTrue}
 use Rattle.cell_machine.specs.CellRules.{is_cell}
-use Rattle.udp_tables.specs.CellData.{CellData}
+use Rattle.cell_machine.specs.CellData.{CellData}
 use Rattle.specify_blocks.specs.Sound.{IsSound}
 use Rattle.specify_blocks.specs.Generated.{module_of}
 

@@ -1,6 +1,6 @@
 //! The module of a cell.
 ghost use Rattle.std.specs.Prelude.{◌≡◌, IfOk};
-ghost use Rattle.udp_tables.specs.CellData.{data_of};
+ghost use Rattle.cell_machine.specs.CellData.{data_of};
 ghost use Rattle.specify_blocks.specs.Generated.{wires_of, notifier_of, condition_count, module_of};
 
 use crate::faults::Memory;

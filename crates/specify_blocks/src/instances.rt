@@ -1,7 +1,7 @@
 //! The instances of a cell's module.
 ghost use Rattle.std.specs.Prelude.{◌≡◌, ◌≤◌, ◌<◌, ◌^◌, ◌++◌, map, IfOk, OnOk};
 ghost use Rattle.bool_functions.specs.Tree.{name_bound};
-ghost use Rattle.udp_tables.specs.CellData.{data_of};
+ghost use Rattle.cell_machine.specs.CellData.{data_of};
 ghost use Rattle.udp_tables.specs.Conditions.{conditions_of};
 ghost use Rattle.udp_tables.specs.CellPrimitives.{has_sources};
 ghost use Rattle.specify_blocks.specs.Generated.{each_from, group_instance, condition_wire, condition_instance, output_instance, output_instances, instances_of};

@@ -1,6 +1,6 @@
 //! The nets that stand for pins, states and the register of the checks.
 ghost use Rattle.std.specs.Prelude.{◌≡◌, ◌++◌, map, IfOk, OnOk};
-ghost use Rattle.udp_tables.specs.CellData.{data_of};
+ghost use Rattle.cell_machine.specs.CellData.{data_of};
 ghost use Rattle.udp_tables.specs.CellPrimitives.{has_notifier};
 ghost use Rattle.specify_blocks.specs.Generated.{pin_net, source_net, notifier_nets};
 

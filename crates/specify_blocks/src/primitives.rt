@@ -1,6 +1,6 @@
 //! The primitives of a cell's module.
 ghost use Rattle.std.specs.Prelude.{◌≡◌, ◌++◌, map, IfOk, OnOk};
-ghost use Rattle.udp_tables.specs.CellData.{data_of};
+ghost use Rattle.cell_machine.specs.CellData.{data_of};
 ghost use Rattle.udp_tables.specs.Conditions.{conditions_of};
 ghost use Rattle.specify_blocks.specs.Generated.{group_primitives, condition_primitives, output_primitives, primitives_of};
 

@@ -1,7 +1,7 @@
 //! The paths and the timing checks of a cell's module.
 ghost use Rattle.std.specs.Prelude.{◌≡◌, None, map, option_map, IfOk};
 ghost use Rattle.std.specs.List.{list_any};
-ghost use Rattle.udp_tables.specs.CellData.{data_of};
+ghost use Rattle.cell_machine.specs.CellData.{data_of};
 ghost use Rattle.udp_tables.specs.Conditions.{conditions_of};
 ghost use Rattle.specify_blocks.specs.Generated.{wire_of, is_conditional, gate_by, path_of, event_of, check_of};
 

@@ -13,7 +13,7 @@ use Rattle.cell_parts.specs.Pins.{pins_of}
 use Rattle.cell_parts.specs.CellLaws.{groups_of, outputs_of}
 use Rattle.cell_reader.specs.Refusals.{refusal_of, checks_of, arcs_of, left_out_of}
 use Rattle.cell_reader.specs.CellTexts.{subject_of}
-use Rattle.udp_tables.specs.CellData.{CellData}
+use Rattle.cell_machine.specs.CellData.{CellData}
 use Rattle.specify_blocks.specs.Generated.{module_of}
 use Rattle.verilog_writer.specs.Model.{module_text}
 use Rattle.library_report.specs.CellLines.{accepted_line, refused_line}

@@ -4,7 +4,7 @@ ghost use Rattle.text_io.specs.declared.slots.Slot.TheVariants.{Output};
 ghost use Rattle.text_io.specs.declared.slots.OutSlot.TheVariants.{VerilogText, Report};
 ghost use Rattle.text_io.specs.Desk.{is_bound, HasCause, WritesText};
 ghost use Rattle.cell_parts.specs.Groups.{cell_name};
-ghost use Rattle.udp_tables.specs.CellData.{data_of};
+ghost use Rattle.cell_machine.specs.CellData.{data_of};
 ghost use Rattle.cell_cursor.specs.declared.item.LibraryItem.TheVariants as item;
 ghost use Rattle.translate_cmd.specs.Written.{Writes, StopsWithCause, in_verilog};
 ghost use Rattle.translate_cmd.specs.Cells.{next_refusal, model_text, accepted_lines, accepted_written, written_by, item_written, after_item};

@@ -2,10 +2,8 @@
 use Rattle.std.proofs.Common.{◌≡◌, ℕ, zero, suc, ◌<◌, ◌≤◌, Bool, true, false, not, ◌&&◌, List, [], ◌∷◌, ◌++◌, length, slice_get, slice_index_or, Option, Some, None, IsTrue, nat_lt, nat_le, flat_map, ◌⊎◌, inl, inr, refl, sym, ◌∙◌, ap, subst, arith, if◌then◌else◌, map}
 use Rattle.std.specs.Prelude.{filter}
 use Rattle.std.specs.List.{list_all, list_any}
-use Rattle.std.specs.Option.{option_map_or}
 use Rattle.std.proofs.lemmas.Bool.{and_parts, lt-ltb, leb-true}
 use Rattle.std.proofs.lemmas.List.{get_or-map, length-map}
-use Rattle.trit_cubes.specs.declared.trits.Trit.TheVariants.{Unknown}
 use Rattle.trit_cubes.proofs.ListLemmas.{Among, among-append, among-filter}
 use Rattle.bool_functions.specs.declared.tree.Node.{Node}
 use Rattle.bool_functions.specs.Tree.{names_of}
@@ -14,18 +12,15 @@ use Rattle.cell_machine.specs.declared.pins.Pin.{Pin}
 use Rattle.cell_machine.specs.declared.checks.Check.{Check}
 use Rattle.cell_machine.specs.declared.arcs.Arc.{Arc}
 use Rattle.cell_machine.specs.declared.cells.Cell.{Cell}
-use Rattle.cell_machine.specs.declared.outputs.OutputPin.{OutputPin}
 use Rattle.cell_machine.specs.Names.{has}
 use Rattle.cell_machine.specs.CellRules.{is_input_pin, is_condition, is_check, is_arc}
 use Rattle.cell_machine.specs.CellTrace.{same_pins}
-use Rattle.cell_machine.specs.Outputs.{output_at}
 use Rattle.cell_machine.proofs.RuleLemmas.{few_pins, checks_hold, arcs_hold, check_parts, arc_condition}
 use Rattle.cell_machine.proofs.CellFacts.{input-below, list_all-implied, name_bound-below}
 use Rattle.cell_machine.proofs.TimingFacts.{support-passes}
-use Rattle.udp_tables.specs.CellData.{data_of}
+use Rattle.cell_machine.specs.CellData.{data_of}
 use Rattle.bool_functions.specs.SameTrees.{same_tree}
 use Rattle.udp_tables.specs.Conditions.{condition_list, conditions_by, arc_conditions, used_conditions, added, added_all, conditions_of, IsSmall}
-use Rattle.udp_tables.specs.CellPrimitives.{sources_at, output_value_at}
 
 -- a test of all elements, at one of them
 all-among : {X : Type 0} (p : X → Bool) (xs : List X) (x : X) → IsTrue (list_all p xs) → Among x xs → IsTrue (p x)
@@ -127,18 +122,6 @@ pub among-at : {X : Type 0} (xs : List X) (i : ℕ) (x : X) → slice_get xs i �
 among-at [] i x e = absurd cc
 among-at (y ∷ ys) zero x e = let same : y ≡ x = cc in inl same
 among-at (y ∷ ys) (suc i) x e = inr (among-at ys i x e)
-
--- the output with a number
-pub sources_at-is :
-    (cell : Cell) (i : ℕ) (output : OutputPin) → slice_get cell.outputs i ≡ Some output → sources_at (data_of cell) i ≡ output.support
-sources_at-is cell i output e = λ j. option_map_or (λ (o : OutputPin). o.support) (e j) []
-
-pub output_value_at-is :
-    (cell : Cell) (i : ℕ) (output : OutputPin)
-    → slice_get cell.outputs i ≡ Some output
-    → output_value_at (data_of cell) i ≡ output_at (length cell.pins) cell.groups output
-output_value_at-is cell i output e =
-    λ j point. option_map_or (λ (o : OutputPin). output_at (length cell.pins) cell.groups o point) (e j) Unknown
 
 -- the condition with a number, of items that hold the conditions
 pub condition-item :

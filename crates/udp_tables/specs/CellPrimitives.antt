@@ -1,26 +1,20 @@
 -- The primitives of a cell. They are numbered (this project's choice): groups in order, conditions in order, then outputs
 -- with a support that is not empty, in order.
-use Rattle.std.specs.Prelude.{◌<◌, ℕ, ◌+◌, Bool, true, nat_lt, List, [], ◌++◌, length, take, count_by, slice_get, slice_index_or, codes, decimal, if◌then◌else◌}
-use Rattle.std.specs.Option.{option_map_or}
+use Rattle.std.specs.Prelude.{◌<◌, ℕ, ◌+◌, Bool, true, nat_lt, List, ◌++◌, length, take, count_by, slice_index_or, codes, decimal, if◌then◌else◌}
 use Rattle.trit_cubes.specs.declared.trits.Trit.{Trit}
-use Rattle.trit_cubes.specs.declared.trits.Trit.TheVariants.{Unknown}
 use Rattle.bool_functions.specs.declared.tree.Node.{Node}
 use Rattle.bool_functions.specs.declared.tree.Node.TheVariants as node
 use Rattle.bool_functions.specs.Support.{support_of}
-use Rattle.cell_machine.specs.declared.outputs.Source.{Source}
 use Rattle.cell_machine.specs.declared.outputs.OutputPin.{OutputPin}
-use Rattle.cell_machine.specs.declared.groups.StateGroup.{StateGroup}
-use Rattle.cell_machine.specs.Outputs.{output_at, condition_at}
-use Rattle.cell_machine.specs.Machine.{Step}
-use Rattle.cell_machine.specs.Names.{state_name}
-use Rattle.cell_machine.specs.Step.{group_step}
+use Rattle.cell_machine.specs.Outputs.{condition_at}
 use Rattle.udp_tables.specs.declared.table.Udp.{Udp}
 use Rattle.udp_tables.specs.declared.cell_primitives.Part.{Part}
 use Rattle.udp_tables.specs.declared.cell_primitives.Part.TheVariants as part
 use Rattle.udp_tables.specs.PortNames.{output_name, input_names}
 use Rattle.udp_tables.specs.Generated.{primitive_of}
 use Rattle.udp_tables.specs.Sequential.{sequential_rows}
-use Rattle.udp_tables.specs.CellData.{CellData}
+use Rattle.cell_machine.specs.CellData.{CellData}
+use Rattle.cell_machine.specs.CellTrace.{support_at, step_at, sources_at, output_value_at}
 use Rattle.udp_tables.specs.Conditions.{conditions_of}
 
 -- primitive j, from 1, of the cell with this number
@@ -34,19 +28,9 @@ has_notifier cell = nat_lt 0 (length cell.checks)
 abbrev pub group_number : ℕ → ℕ
 group_number i = i + 1
 
--- the support of group i, none where there is no such group
-abbrev pub group_support : CellData → ℕ → List ℕ
-group_support cell i = option_map_or (λ (group : StateGroup). group.support) (slice_get cell.groups i) []
-
--- the step of group i over points of its support, X where there is no such group
-abbrev pub step_of_group : CellData → ℕ → Step
-step_of_group cell i before after s =
-    option_map_or (λ (group : StateGroup). group_step (state_name (length cell.pins) i) group before after s)
-    (slice_get cell.groups i) Unknown
-
 -- how many inputs the primitive of group i has
 abbrev pub group_inputs : CellData → ℕ → ℕ
-group_inputs cell i = if has_notifier cell then length (group_support cell i) + 1 else length (group_support cell i)
+group_inputs cell i = if has_notifier cell then length (support_at cell i) + 1 else length (support_at cell i)
 
 -- the primitive of group i: its inputs are the pins of its support, and the notifier
 abbrev pub group_primitive : CellData → ℕ → Udp
@@ -56,7 +40,7 @@ group_primitive cell i =
       output = output_name;
       inputs = input_names (group_inputs cell i);
       sequential = true;
-      rows = sequential_rows (has_notifier cell) (length (group_support cell i)) (step_of_group cell i);
+      rows = sequential_rows (has_notifier cell) (length (support_at cell i)) (step_at cell i);
     }
 
 abbrev pub condition_number : CellData → ℕ → ℕ
@@ -83,16 +67,6 @@ has_sources output = nat_lt 0 (length output.support)
 abbrev pub output_number : CellData → ℕ → ℕ
 output_number cell i =
     length cell.groups + length (conditions_of cell) + count_by has_sources (take i cell.outputs) + 1
-
--- the support of output i
-abbrev pub sources_at : CellData → ℕ → List Source
-sources_at cell i = option_map_or (λ (output : OutputPin). output.support) (slice_get cell.outputs i) []
-
--- the value of output i at a point of its support
-abbrev pub output_value_at : CellData → ℕ → List Bool → Trit
-output_value_at cell i point =
-    option_map_or (λ (output : OutputPin). output_at (length cell.pins) cell.groups output point)
-    (slice_get cell.outputs i) Unknown
 
 -- the primitive of output i: its inputs are the pins and states of its support
 abbrev pub output_primitive : CellData → ℕ → Udp

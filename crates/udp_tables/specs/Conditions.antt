@@ -9,7 +9,7 @@ use Rattle.cell_machine.specs.declared.checks.Check.{Check}
 use Rattle.cell_machine.specs.declared.arcs.Arc.{Arc}
 use Rattle.cell_machine.specs.CellTrace.{same_pins}
 use Rattle.bool_functions.specs.SameTrees.{same_tree}
-use Rattle.udp_tables.specs.CellData.{CellData}
+use Rattle.cell_machine.specs.CellData.{CellData}
 
 -- a condition that may be absent, as a list
 abbrev pub condition_list : Option Node → List Node

@@ -8,9 +8,10 @@ use Rattle.bool_functions.specs.declared.tree.Node.{Node}
 use Rattle.udp_tables.specs.declared.cell_primitives.Part.{Part}
 use Rattle.udp_tables.specs.Primitive.{level_output}
 use Rattle.udp_tables.specs.Sequential.{udp_next, noted, sequential_rows, compact_rows, IsSequential}
-use Rattle.udp_tables.specs.CellData.{CellData}
+use Rattle.cell_machine.specs.CellData.{CellData}
 use Rattle.udp_tables.specs.Conditions.{used_conditions, conditions_of, condition_place}
-use Rattle.udp_tables.specs.CellPrimitives.{has_notifier, group_support, step_of_group, group_primitive, part_primitive, part_places, part_value}
+use Rattle.cell_machine.specs.CellTrace.{support_at, step_at}
+use Rattle.udp_tables.specs.CellPrimitives.{has_notifier, group_primitive, part_primitive, part_places, part_value}
 
 -- At each change of an input, to the value that it has among the inputs, the rows give the machine's step, in every state
 -- and at every value of the notifier.
@@ -55,17 +56,17 @@ PartsResolve =
 abbrev pub GroupsAreMachines : Type 0
 GroupsAreMachines =
     (cell : CellData) (i p : ℕ) (old : Trit) (inputs : List Trit) (note state : Trit)
-    → length inputs ≡ length (group_support cell i) → p < length inputs → old ≢ slice_index_or inputs p Unknown
+    → length inputs ≡ length (support_at cell i) → p < length inputs → old ≢ slice_index_or inputs p Unknown
     → udp_next (group_primitive cell i).rows (noted (has_notifier cell) note (slice_set inputs p old)) (noted (has_notifier cell) note inputs) state
-    ≡ machine_step (step_of_group cell i) p old (slice_index_or inputs p Unknown) (without p inputs) state
+    ≡ machine_step (step_at cell i) p old (slice_index_or inputs p Unknown) (without p inputs) state
 
 -- In a cell with checks it gives the forced value, else x, at each change of the notifier.
 abbrev pub GroupsAreForced : Type 0
 GroupsAreForced =
     (cell : CellData) (i : ℕ) (inputs : List Trit) (old new state : Trit)
-    → has_notifier cell ≡ true → length inputs ≡ length (group_support cell i) → old ≢ new
+    → has_notifier cell ≡ true → length inputs ≡ length (support_at cell i) → old ≢ new
     → udp_next (group_primitive cell i).rows (noted true old inputs) (noted true new inputs) state
-    ≡ forced (step_of_group cell i) inputs
+    ≡ forced (step_at cell i) inputs
 
 -- The primitive of a group has an entry for each input in each row, of which at most one is a change.
 abbrev pub GroupsAreSequential : Type 0

@@ -4,7 +4,6 @@ pub mod PortNames
 pub mod Generated
 pub mod Edges
 pub mod Sequential
-pub mod CellData
 pub mod Conditions
 pub mod CellPrimitives
 pub mod Laws

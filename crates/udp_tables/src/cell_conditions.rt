@@ -4,7 +4,7 @@ ghost use Rattle.cell_machine.specs.declared.checks.Check.{Check};
 ghost use Rattle.std.specs.List.{list_any};
 ghost use Rattle.cell_machine.specs.CellTrace.{same_pins};
 ghost use Rattle.bool_functions.specs.SameTrees.{same_tree};
-ghost use Rattle.udp_tables.specs.CellData.{data_of};
+ghost use Rattle.cell_machine.specs.CellData.{data_of};
 ghost use Rattle.udp_tables.specs.Conditions.{condition_list, conditions_beside, arc_conditions, added, added_all, conditions_of, condition_place};
 
 use crate::faults::Memory;

@@ -1,6 +1,6 @@
 //! The primitives of a cell.
 ghost use Rattle.std.specs.Prelude.{◌≡◌, ◌<◌, ◌≤◌, map, length, take, count_by, IfOk};
-ghost use Rattle.udp_tables.specs.CellData.{data_of};
+ghost use Rattle.cell_machine.specs.CellData.{data_of};
 ghost use Rattle.udp_tables.specs.Conditions.{conditions_of, IsSmall};
 ghost use Rattle.udp_tables.specs.CellPrimitives.{group_inputs, group_primitive, has_sources, output_number, output_primitive, condition_udp, condition_primitive, part_primitive, IsPart};
 

@@ -1,8 +1,8 @@
 //! The values of a cell's outputs at points of their supports.
 ghost use Rattle.std.specs.Prelude.{◌≡◌, ◌<◌, length};
 ghost use Rattle.trit_cubes.specs.Sets.{gives};
-ghost use Rattle.udp_tables.specs.CellData.{data_of};
-ghost use Rattle.udp_tables.specs.CellPrimitives.{sources_at, output_value_at};
+ghost use Rattle.cell_machine.specs.CellData.{data_of};
+ghost use Rattle.cell_machine.specs.CellTrace.{sources_at, output_value_at};
 
 use cell_machine::{Cell, output_at};
 use trit_cubes::Trit;

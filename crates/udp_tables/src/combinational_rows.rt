@@ -6,8 +6,8 @@ ghost use Rattle.bool_functions.specs.Support.{support_of};
 ghost use Rattle.cell_machine.specs.Outputs.{condition_at};
 ghost use Rattle.udp_tables.specs.Generated.{function_rows};
 ghost use Rattle.udp_tables.specs.Conditions.{IsSmall};
-ghost use Rattle.udp_tables.specs.CellData.{data_of};
-ghost use Rattle.udp_tables.specs.CellPrimitives.{sources_at, output_value_at};
+ghost use Rattle.cell_machine.specs.CellData.{data_of};
+ghost use Rattle.cell_machine.specs.CellTrace.{sources_at, output_value_at};
 
 use crate::cell_values::output_is;
 use crate::faults::Memory;

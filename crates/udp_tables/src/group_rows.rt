@@ -8,7 +8,7 @@ ghost use Rattle.cell_machine.specs.CellTrace.{support_at, step_at};
 ghost use Rattle.udp_tables.specs.Tables.{or_row};
 ghost use Rattle.udp_tables.specs.Edges.{forced_rows, moves, edge_rows, each_below};
 ghost use Rattle.udp_tables.specs.Sequential.{state_row, notifier_rows, edge_row, sequential_rows};
-ghost use Rattle.udp_tables.specs.CellData.{data_of};
+ghost use Rattle.cell_machine.specs.CellData.{data_of};
 ghost use Rattle.udp_tables.specs.CellPrimitives.{has_notifier};
 
 use crate::entries::{change_entries, free_entries, level_entries, noted};
@@ -24,7 +24,7 @@ use trit_cubes::{Cube, Trit, primes, table_of};
 /// each input.
 pub(crate) fn group_rows(alloc: Global, cell: &Cell, group: usize) -> Result<Items<UdpRow>, Memory>
     requires { group < length cell.now.groups }
-    ensures { IfOk result (λ rows. rows ≡ sequential_rows (has_notifier (data_of cell.now)) (length (support_at cell.now group)) (step_at cell.now group)) }
+    ensures { IfOk result (λ rows. rows ≡ sequential_rows (has_notifier (data_of cell.now)) (length (support_at (data_of cell.now) group)) (step_at (data_of cell.now) group)) }
 {
     let notifier = !cell.checks.is_empty();
     let pins = cell.group(group).support.len();
@@ -88,7 +88,7 @@ fn add_forced_rows(
     notifier: bool,
 ) -> Result<(), Memory>
     requires { group < length cell.now.groups }
-    ensures { OnOk result (rows.new ≡ rows.old ++ forced_rows (state_row notifier) (length (support_at cell.now group)) (step_at cell.now group)) }
+    ensures { OnOk result (rows.new ≡ rows.old ++ forced_rows (state_row notifier) (length (support_at (data_of cell.now) group)) (step_at (data_of cell.now) group)) }
 {
     let ones = forced_primes(alloc, cell, group, Trit::One)?;
     add_state_rows(alloc, rows, notifier, Trit::One, &ones)?;
@@ -100,7 +100,7 @@ fn add_forced_rows(
 // The primes of the points that force the state of a group to this value.
 fn forced_primes(alloc: Global, cell: &Cell, group: usize, value: Trit) -> Result<Vec<Cube>, Memory>
     requires { group < length cell.now.groups }
-    ensures { IfOk result (λ cubes. cubes.items ≡ prime_list (length (support_at cell.now group)) (gives value (forced_at (step_at cell.now group)))) }
+    ensures { IfOk result (λ cubes. cubes.items ≡ prime_list (length (support_at (data_of cell.now) group)) (gives value (forced_at (step_at (data_of cell.now) group)))) }
 {
     let pins = cell.group(group).support.len();
     let table = table_of(
@@ -149,7 +149,7 @@ fn add_rows_of_changes(
     notifier: bool,
 ) -> Result<(), Memory>
     requires { group < length cell.now.groups }
-    ensures { OnOk result (rows.new ≡ rows.old ++ each_below (edge_rows (edge_row notifier) (step_at cell.now group) (length (support_at cell.now group))) (length (support_at cell.now group))) }
+    ensures { OnOk result (rows.new ≡ rows.old ++ each_below (edge_rows (edge_row notifier) (step_at (data_of cell.now) group) (length (support_at (data_of cell.now) group))) (length (support_at (data_of cell.now) group))) }
 {
     for place in 0..cell.group(group).support.len() {
         add_rows_of_input(alloc, rows, cell, group, notifier, place)?;
@@ -167,8 +167,8 @@ fn add_rows_of_input(
     place: usize,
 ) -> Result<(), Memory>
     requires group { group < length cell.now.groups }
-    requires place { place < length (support_at cell.now group) }
-    ensures { OnOk result (rows.new ≡ rows.old ++ edge_rows (edge_row notifier) (step_at cell.now group) (length (support_at cell.now group)) place) }
+    requires place { place < length (support_at (data_of cell.now) group) }
+    ensures { OnOk result (rows.new ≡ rows.old ++ edge_rows (edge_row notifier) (step_at (data_of cell.now) group) (length (support_at (data_of cell.now) group)) place) }
 {
     let ones = change_primes(alloc, cell, group, place, Trit::One)?;
     add_moving_rows(alloc, rows, notifier, place, Trit::One, &ones)?;
@@ -186,8 +186,8 @@ fn change_primes(
     value: Trit,
 ) -> Result<Vec<Cube>, Memory>
     requires group { group < length cell.now.groups }
-    requires place { place < length (support_at cell.now group) }
-    ensures list { IfOk result (λ cubes. cubes.items ≡ prime_list (suc (suc (length (support_at cell.now group)))) (gives value (edge_value (step_at cell.now group) place))) }
+    requires place { place < length (support_at (data_of cell.now) group) }
+    ensures list { IfOk result (λ cubes. cubes.items ≡ prime_list (suc (suc (length (support_at (data_of cell.now) group)))) (gives value (edge_value (step_at (data_of cell.now) group) place))) }
     ensures wide { IfOk result (λ cubes. All (λ cube. place + 3 ≤ length cube) cubes.items) }
 {
     let pins = cell.group(group).support.len();

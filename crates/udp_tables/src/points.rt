@@ -2,6 +2,7 @@
 ghost use Rattle.std.specs.Prelude.{◌≡◌, ◌+◌, ◌<◌, ◌≤◌, suc, [], ◌∷◌, ◌++◌, List, Bool, map, take, length};
 ghost use Rattle.trit_cubes.specs.Sets.{gives};
 ghost use Rattle.cell_machine.specs.Machine.{insert, edge_value, forced_at};
+ghost use Rattle.cell_machine.specs.CellData.{data_of};
 ghost use Rattle.cell_machine.specs.CellTrace.{support_at, step_at};
 
 use cell_machine::{Cell, boolean_step, forced};
@@ -84,7 +85,7 @@ impl Bits {
 /// Whether each change to this point and no change force the state of a group to the value.
 pub(crate) fn forces(cell: &Cell, group: usize, value: Trit, point: &[bool]) -> bool
     requires { group < length cell.now.groups }
-    ensures { length point.now ≡ length (support_at cell.now group) → result ≡ gives value (forced_at (step_at cell.now group)) point.now }
+    ensures { length point.now ≡ length (support_at (data_of cell.now) group) → result ≡ gives value (forced_at (step_at (data_of cell.now) group)) point.now }
 {
     let pins = cell.group(group).support.len();
     if point.len() != pins {
@@ -96,9 +97,9 @@ pub(crate) fn forces(cell: &Cell, group: usize, value: Trit, point: &[bool]) -> 
 // The value to which a point forces the state of a group.
 fn forced_value(cell: &Cell, group: usize, point: &[bool]) -> Trit
     requires group { group < length cell.now.groups }
-    requires point { length point.now ≡ length (support_at cell.now group) }
+    requires point { length point.now ≡ length (support_at (data_of cell.now) group) }
     requires few { length point.now ≤ 8 }
-    ensures { result ≡ forced_at (step_at cell.now group) point.now }
+    ensures { result ≡ forced_at (step_at (data_of cell.now) group) point.now }
 {
     let mut trits = [Trit::Unknown; Bits::MOST];
     for i in 0..point.len() {
@@ -111,8 +112,8 @@ fn forced_value(cell: &Cell, group: usize, point: &[bool]) -> Trit
 /// value after, the other inputs and the state.
 pub(crate) fn steps_to(cell: &Cell, group: usize, place: usize, value: Trit, point: &[bool]) -> bool
     requires group { group < length cell.now.groups }
-    requires place { place < length (support_at cell.now group) }
-    ensures { length point.now ≡ suc (suc (length (support_at cell.now group))) → result ≡ gives value (edge_value (step_at cell.now group) place) point.now }
+    requires place { place < length (support_at (data_of cell.now) group) }
+    ensures { length point.now ≡ suc (suc (length (support_at (data_of cell.now) group))) → result ≡ gives value (edge_value (step_at (data_of cell.now) group) place) point.now }
 {
     let pins = cell.group(group).support.len();
     if point.len() != pins + 2 {
@@ -124,10 +125,10 @@ pub(crate) fn steps_to(cell: &Cell, group: usize, place: usize, value: Trit, poi
 // What the step gives there.
 fn edge_value(cell: &Cell, group: usize, place: usize, point: &[bool]) -> Trit
     requires group { group < length cell.now.groups }
-    requires place { place < length (support_at cell.now group) }
-    requires point { length point.now ≡ length (support_at cell.now group) + 2 }
-    requires few { length (support_at cell.now group) ≤ 8 }
-    ensures { result ≡ edge_value (step_at cell.now group) place point.now }
+    requires place { place < length (support_at (data_of cell.now) group) }
+    requires point { length point.now ≡ length (support_at (data_of cell.now) group) + 2 }
+    requires few { length (support_at (data_of cell.now) group) ≤ 8 }
+    ensures { result ≡ edge_value (step_at (data_of cell.now) group) place point.now }
 {
     let last = point.len() - 1;
     let others = &point[2..last];

@@ -3,7 +3,7 @@ use Rattle.std.proofs.Common.{◌<◌, suc, ◌∷◌, length, ◌∙◌, ap, su
 use Rattle.trit_cubes.specs.declared.trits.Trit.TheVariants.{Unknown}
 use Rattle.bool_functions.specs.Support.{support_of}
 use Rattle.cell_machine.specs.Outputs.{output_at, condition_at}
-use Rattle.udp_tables.specs.CellPrimitives.{group_support, step_of_group}
+use Rattle.cell_machine.specs.CellTrace.{support_at, step_at}
 use Rattle.vital_models.specs.LookUps.{lookup_state}
 use Rattle.vital_models.specs.Rows.{state_rows}
 use Rattle.vital_models.specs.Generated.{has_violation}
@@ -13,8 +13,8 @@ use Rattle.vital_models.proofs.RowLawLemmas.{state_rows_are_machine-lem}
 
 pub states_are_machines-lem : StatesAreMachines
 states_are_machines-lem cell g =
-    let n = length (group_support cell g) in
-    let step = step_of_group cell g in
+    let n = length (support_at cell g) in
+    let step = step_at cell g in
     record {
       steps = λ p old inputs x s long l apart.
           state_rows_are_machine-lem.steps (has_violation cell) n step p old inputs x s long (subst (λ m. p < m) long l) apart;

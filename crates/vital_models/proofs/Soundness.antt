@@ -26,9 +26,10 @@ use Rattle.cell_machine.specs.CellRules as rule
 use Rattle.cell_machine.specs.CellRules.{is_input_pin, output_pins_from, is_support, is_ascending, is_group, are_groups_from, is_source, is_output_of, is_any_edge, are_opposite, is_check, is_arc, HoldsRules, is_in_order}
 use Rattle.cell_machine.proofs.RuleLemmas.{check_parts}
 use Rattle.udp_tables.specs.Edges.{each_below}
-use Rattle.udp_tables.specs.CellData.{CellData}
+use Rattle.cell_machine.specs.CellData.{CellData}
 use Rattle.udp_tables.specs.Conditions.{conditions_of, conditions_beside, conditions_by, condition_list}
-use Rattle.udp_tables.specs.CellPrimitives.{group_support, step_of_group, has_sources}
+use Rattle.cell_machine.specs.CellTrace.{support_at, step_at}
+use Rattle.udp_tables.specs.CellPrimitives.{has_sources}
 use Rattle.udp_tables.proofs.CubeLemmas.{below-among}
 use Rattle.vital_models.specs.declared.model.OutValue.TheVariants as value
 use Rattle.vital_models.specs.declared.model.VOutput.{VOutput}
@@ -112,9 +113,9 @@ module _ (cell : CellData) (name : List ℕ) (h : HoldsRules cell.name cell.pins
       record {
         rows = all-from _ (state_of cell g).table.rows
             (λ row m.
-            state-width (has_violation cell) (length (group_support cell g)) (step_of_group cell g) row m
-            ∙ ap (width (has_violation cell)) (sym (length-map (group_support cell g) (port_number cell.pins))));
-        fed = pins_feed (group_support cell g) (group_support-at cell.pins (length cell.pins) cell.groups g groups_hold);
+            state-width (has_violation cell) (length (support_at cell g)) (step_at cell g) row m
+            ∙ ap (width (has_violation cell)) (sym (length-map (support_at cell g) (port_number cell.pins))));
+        fed = pins_feed (support_at cell g) (group_support-at cell.pins (length cell.pins) cell.groups g groups_hold);
         violated = by (has_violation cell) refl;
       }
     where

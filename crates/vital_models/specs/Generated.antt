@@ -14,9 +14,10 @@ use Rattle.cell_machine.specs.declared.arcs.Arc.{Arc}
 use Rattle.cell_machine.specs.Values.{no_values}
 use Rattle.cell_machine.specs.Outputs.{output_at, condition_at}
 use Rattle.udp_tables.specs.Edges.{each_below}
-use Rattle.udp_tables.specs.CellData.{CellData}
+use Rattle.cell_machine.specs.CellData.{CellData}
 use Rattle.udp_tables.specs.Conditions.{conditions_of, condition_place, conditions_beside}
-use Rattle.udp_tables.specs.CellPrimitives.{has_notifier, group_support, step_of_group, has_sources}
+use Rattle.cell_machine.specs.CellTrace.{support_at, step_at}
+use Rattle.udp_tables.specs.CellPrimitives.{has_notifier, has_sources}
 use Rattle.vital_models.specs.declared.table.TruthTable.{TruthTable}
 use Rattle.vital_models.specs.declared.table.VStateTable.{VStateTable}
 use Rattle.vital_models.specs.declared.model.VState.{VState}
@@ -42,12 +43,12 @@ ports_at pins support = map (port_number pins) support
 
 -- the state table of group g over its support
 abbrev pub state_table : CellData → ℕ → VStateTable
-state_table cell g = record { rows = state_rows (has_violation cell) (length (group_support cell g)) (step_of_group cell g) }
+state_table cell g = record { rows = state_rows (has_violation cell) (length (support_at cell g)) (step_at cell g) }
 
 -- the state of group g
 abbrev pub state_of : CellData → ℕ → VState
 state_of cell g =
-    record { table = state_table cell g; violation = has_violation cell; inputs = ports_at cell.pins (group_support cell g) }
+    record { table = state_table cell g; violation = has_violation cell; inputs = ports_at cell.pins (support_at cell g) }
 
 abbrev pub states_of : CellData → List VState
 states_of cell = each_below (λ g. state_of cell g ∷ []) (length cell.groups)

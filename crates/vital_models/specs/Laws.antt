@@ -9,8 +9,8 @@ use Rattle.cell_machine.specs.declared.outputs.OutputPin.{OutputPin}
 use Rattle.cell_machine.specs.Outputs.{output_at, condition_at}
 use Rattle.cell_machine.specs.CellRules.{is_cell}
 use Rattle.cell_machine.specs.Machine.{without, machine_step, forced}
-use Rattle.udp_tables.specs.CellData.{CellData}
-use Rattle.udp_tables.specs.CellPrimitives.{group_support, step_of_group}
+use Rattle.cell_machine.specs.CellData.{CellData}
+use Rattle.cell_machine.specs.CellTrace.{support_at, step_at}
 use Rattle.vital_models.specs.LookUps.{lookup_truth, lookup_state}
 use Rattle.vital_models.specs.Rows.{violated}
 use Rattle.vital_models.specs.Generated.{has_violation, state_table, condition_table, output_table, entity_of}
@@ -22,17 +22,17 @@ use Rattle.vital_models.specs.Sound.{IsSound}
 pub record IsMachine (cell : CellData) (g : ℕ) : Type 0 where
   pub steps :
       (p : ℕ) (old : Trit) (inputs : List Trit) (violation state : Trit)
-      → length inputs ≡ length (group_support cell g) → p < length inputs → old ≢ slice_index_or inputs p Unknown
+      → length inputs ≡ length (support_at cell g) → p < length inputs → old ≢ slice_index_or inputs p Unknown
       → lookup_state (state_table cell g).rows (violated (has_violation cell) violation (slice_set inputs p old)) (violated (has_violation cell) Zero inputs) state
-      ≡ machine_step (step_of_group cell g) p old (slice_index_or inputs p Unknown) (without p inputs) state
+      ≡ machine_step (step_at cell g) p old (slice_index_or inputs p Unknown) (without p inputs) state
   pub keeps :
       (inputs : List Trit) (violation state : Trit)
-      → length inputs ≡ length (group_support cell g)
+      → length inputs ≡ length (support_at cell g)
       → lookup_state (state_table cell g).rows (violated (has_violation cell) violation inputs) (violated (has_violation cell) Zero inputs) state ≡ state
   pub forces :
       (before inputs : List Trit) (state : Trit)
-      → has_violation cell ≡ true → length inputs ≡ length (group_support cell g) → length before ≡ suc (length inputs)
-      → lookup_state (state_table cell g).rows before (Unknown ∷ inputs) state ≡ forced (step_of_group cell g) inputs
+      → has_violation cell ≡ true → length inputs ≡ length (support_at cell g) → length before ≡ suc (length inputs)
+      → lookup_state (state_table cell g).rows before (Unknown ∷ inputs) state ≡ forced (step_at cell g) inputs
 
 -- The state tables of a cell give the machine's steps.
 abbrev pub StatesAreMachines : Type 0

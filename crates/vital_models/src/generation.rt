@@ -1,7 +1,7 @@
 //! The entity of a cell.
 ghost use Rattle.std.specs.Prelude.{◌≡◌, ◌<◌, ◌≤◌, ◌++◌, map, length, slice_get, slice_index_or, Some, IfOk, OnOk};
 ghost use Rattle.bool_functions.specs.Tree.{name_bound};
-ghost use Rattle.udp_tables.specs.CellData.{data_of};
+ghost use Rattle.cell_machine.specs.CellData.{data_of};
 ghost use Rattle.udp_tables.specs.Conditions.{conditions_of};
 ghost use Rattle.udp_tables.specs.CellPrimitives.{condition_tree, has_sources};
 ghost use Rattle.vital_models.specs.Generated.{ports_at, state_of, states_of, condition_of, source_at, value_of_output, output_of, entity_of};

@@ -1,6 +1,6 @@
 //! The tables of a cell: of its groups, conditions and outputs.
 ghost use Rattle.std.specs.Prelude.{◌≡◌, ◌<◌, map, length, replicate, slice_get, Some, IfOk};
-ghost use Rattle.udp_tables.specs.CellData.{data_of};
+ghost use Rattle.cell_machine.specs.CellData.{data_of};
 ghost use Rattle.udp_tables.specs.Conditions.{conditions_of};
 ghost use Rattle.udp_tables.specs.CellPrimitives.{condition_tree};
 ghost use Rattle.vital_models.specs.Rows.{violated, steady_row, closing_row};

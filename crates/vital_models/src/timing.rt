@@ -2,7 +2,7 @@
 ghost use Rattle.std.specs.Prelude.{◌≡◌, nat_eq, map, filter, option_map, IfOk};
 ghost use Rattle.cell_machine.specs.CellTrace.{same_pins};
 ghost use Rattle.cell_machine.specs.declared.arcs.Arc.{Arc};
-ghost use Rattle.udp_tables.specs.CellData.{data_of};
+ghost use Rattle.cell_machine.specs.CellData.{data_of};
 ghost use Rattle.udp_tables.specs.Conditions.{conditions_of, conditions_beside};
 ghost use Rattle.vital_models.specs.Generated.{place_of, all_zero, gate_by, path_of, paths_to, event_of, check_of};
 

@@ -2,6 +2,7 @@ use Rattle.std.proofs.Common.{◌<◌, sym, ap, ◌∙◌, length, add-one, arit
 use Rattle.trit_cubes.specs.declared.trits.Trit.TheVariants.{Zero}
 use Rattle.std.proofs.Math.ListN.{length-set}
 use Rattle.cell_machine.specs.Names.{state_name}
+use Rattle.cell_machine.specs.CellData.{data_of}
 use Rattle.cell_machine.specs.CellTrace.{state_step, named_groups}
 use Rattle.cell_machine.proofs.ArcDelays.{some_at}
 use Rattle.cell_machine.proofs.EachLemmas.{each-step, each-done}
@@ -10,7 +11,7 @@ use Rattle.cell_machine.proofs.states.step_states.Goals as goal
 
 pub loop-i-preserved : goal.loop-i-preserved
 loop-i-preserved c =
-    let cell = c.args.cell.now in
+    let cell = data_of c.args.cell.now in
     let many : c.loop-i.i < length c.loop-i.states = omega arith in
     let inside : c.loop-i.i < length cell.groups = omega (arith, c.loop-i.invariant.len, c.requires) in
     let here = some_at cell.groups c.loop-i.i inside in
@@ -27,7 +28,7 @@ loop-i-preserved c =
 
 pub returns-clause-stepped : goal.returns-clause-stepped
 returns-clause-stepped c =
-    let cell = c.args.cell.now in
+    let cell = data_of c.args.cell.now in
     sym (each-done (λ g s. state_step c.args.reported cell.pins g c.args.inputs.now c.args.from c.args.change s)
     (named_groups cell) c.loop-i.states c.loop-i.i (omega arith))
     ∙ c.loop-i.invariant.whole

@@ -1,5 +1,6 @@
 use Rattle.std.proofs.Common.{◌≡◌, ◌++◌, take, drop, length}
 use Rattle.cell_machine.specs.Each.{each}
+use Rattle.cell_machine.specs.CellData.{data_of}
 use Rattle.cell_machine.specs.CellTrace.{state_step, named_groups}
 use Rattle.cell_machine.proofs.states.step_states.Given as goal
 
@@ -8,8 +9,8 @@ abbrev pub invariant-loop-i : goal.invariant-loop-i
 invariant-loop-i l = record {
   whole :
       take l.i l.states
-      ++ each (λ g s. state_step l.reported l.cell.pins g l.inputs l.from l.change s) (drop l.i (named_groups l.cell))
+      ++ each (λ g s. state_step l.reported l.cell.pins g l.inputs l.from l.change s) (drop l.i (named_groups (data_of l.cell)))
       (drop l.i l.states)
-      ≡ each (λ g s. state_step l.reported l.cell.pins g l.inputs l.from l.change s) (named_groups l.cell) l.initial.states;
+      ≡ each (λ g s. state_step l.reported l.cell.pins g l.inputs l.from l.change s) (named_groups (data_of l.cell)) l.initial.states;
   len : length l.states ≡ length l.initial.states;
 }

@@ -1,5 +1,5 @@
 use Rattle.std.proofs.Common.{◌≡◌, ◌++◌, map, drop}
-use Rattle.udp_tables.specs.CellData.{data_of}
+use Rattle.cell_machine.specs.CellData.{data_of}
 use Rattle.specify_blocks.specs.Generated.{each_from, condition_instance}
 use Rattle.specify_blocks.proofs.instances.add_conditions.Given as goal
 

@@ -1,7 +1,7 @@
 use Rattle.std.proofs.Common.{◌≡◌, [], ◌∷◌, ◌++◌, ap, length, map, subst, arith}
 use Rattle.std.proofs.lemmas.List.{length-map}
 use Rattle.udp_tables.specs.Edges.{each_below}
-use Rattle.udp_tables.specs.CellData.{data_of}
+use Rattle.cell_machine.specs.CellData.{data_of}
 use Rattle.udp_tables.specs.Conditions.{conditions_of}
 use Rattle.udp_tables.specs.CellPrimitives.{condition_primitive}
 use Rattle.specify_blocks.proofs.PrimitiveLemmas.{below-more}

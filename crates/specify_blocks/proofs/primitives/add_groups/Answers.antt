@@ -1,4 +1,4 @@
-use Rattle.udp_tables.specs.CellData.{data_of}
+use Rattle.cell_machine.specs.CellData.{data_of}
 use Rattle.udp_tables.specs.CellPrimitives.{group_primitive}
 use Rattle.specify_blocks.proofs.PrimitiveLemmas.{below-more}
 use Rattle.specify_blocks.proofs.primitives.add_groups.Goals as goal

@@ -1,6 +1,6 @@
 use Rattle.std.proofs.Common.{◌≡◌, [], ◌∷◌, ◌++◌}
 use Rattle.udp_tables.specs.Edges.{each_below}
-use Rattle.udp_tables.specs.CellData.{data_of}
+use Rattle.cell_machine.specs.CellData.{data_of}
 use Rattle.udp_tables.specs.CellPrimitives.{group_primitive}
 use Rattle.specify_blocks.proofs.primitives.add_groups.Given as goal
 

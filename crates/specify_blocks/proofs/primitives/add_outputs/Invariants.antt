@@ -1,5 +1,5 @@
 use Rattle.std.proofs.Common.{◌≡◌, ◌++◌, drop}
-use Rattle.udp_tables.specs.CellData.{data_of}
+use Rattle.cell_machine.specs.CellData.{data_of}
 use Rattle.specify_blocks.specs.Generated.{output_primitives}
 use Rattle.specify_blocks.proofs.primitives.add_outputs.Given as goal
 

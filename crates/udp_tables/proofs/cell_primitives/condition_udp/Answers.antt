@@ -1,7 +1,7 @@
 use Rattle.std.proofs.Common.{◌+◌, ◌∙◌, sym, ap}
 use Rattle.trit_cubes.proofs.ListLemmas.{contains-among}
 use Rattle.bool_functions.specs.declared.tree.Node.TheVariants as node
-use Rattle.udp_tables.specs.CellData.{data_of}
+use Rattle.cell_machine.specs.CellData.{data_of}
 use Rattle.udp_tables.specs.Conditions.{conditions_of}
 use Rattle.udp_tables.specs.CellPrimitives.{primitive_name, condition_number, condition_udp}
 use Rattle.udp_tables.proofs.OutputLemmas.{conditions-small, condition-item}

@@ -4,9 +4,9 @@ use Rattle.trit_cubes.specs.Sets.{gives}
 use Rattle.trit_cubes.specs.Prime.{prime_list}
 use Rattle.udp_tables.specs.Tables.{value_rows, or_row}
 use Rattle.udp_tables.specs.Generated.{level_row}
-use Rattle.udp_tables.specs.CellData.{data_of}
-use Rattle.udp_tables.specs.CellPrimitives.{sources_at, output_value_at}
-use Rattle.udp_tables.proofs.OutputLemmas.{sources_at-is}
+use Rattle.cell_machine.specs.CellData.{data_of}
+use Rattle.cell_machine.specs.CellTrace.{sources_at, output_value_at}
+use Rattle.cell_machine.proofs.OutputFacts.{sources_at-is}
 use Rattle.udp_tables.proofs.combinational_rows.output_rows.Goals as goal
 
 pub returns : goal.returns
@@ -15,7 +15,7 @@ returns c =
     let n = length (sources_at facts c.args.output) in
     let f = output_value_at facts c.args.output in
     let places : c.len-places.result ≡ n
-    = c.len-places.ensures ∙ sym (ap length (sources_at-is c.args.cell.now c.args.output c.output_pin.result.now c.output_pin.ensures.is)) in
+    = c.len-places.ensures ∙ sym (ap length (sources_at-is (data_of c.args.cell.now) c.args.output c.output_pin.result.now c.output_pin.ensures.is)) in
     c.in_ok-rows.ensures
     ∙ ap (λ k. or_row (level_row Unknown (replicate k Unknown)) (value_rows level_row c.deref.result.now c.deref-2.result.now)) places
     ∙ ap (λ cs. or_row (level_row Unknown (replicate n Unknown)) (value_rows level_row cs c.deref-2.result.now)) (c.deref.ensures.value ∙ c.in_ok-ones.ensures)

@@ -5,6 +5,7 @@ use Rattle.trit_cubes.specs.Sets.{has, gives}
 use Rattle.trit_cubes.specs.Prime.{prime_list}
 use Rattle.trit_cubes.proofs.SplitLemmas.{prime_list-same}
 use Rattle.cell_machine.specs.Machine.{edge_value}
+use Rattle.cell_machine.specs.CellData.{data_of}
 use Rattle.cell_machine.specs.CellTrace.{step_at, support_at}
 use Rattle.cell_machine.proofs.GroupSteps.{support_at-is}
 use Rattle.udp_tables.proofs.TableLemmas.{cubes-long}
@@ -12,7 +13,7 @@ use Rattle.udp_tables.proofs.group_rows.change_primes.Goals as goal
 
 pub returns-clause-list : goal.returns-clause-list
 returns-clause-list c =
-    let cell = c.args.cell.now in
+    let cell = data_of c.args.cell.now in
     let set = gives c.args.value (edge_value (step_at cell c.args.group) c.args.place) in
     let pins : c.len-pins.result ≡ length (support_at cell c.args.group)
     = c.len-pins.ensures ∙ sym (ap length (support_at-is cell c.args.group c.group.result.now c.group.ensures.is)) in
@@ -28,7 +29,7 @@ returns-clause-list c =
 
 pub returns-clause-wide : goal.returns-clause-wide
 returns-clause-wide c =
-    let cell = c.args.cell.now in
+    let cell = data_of c.args.cell.now in
     let pins : c.len-pins.result ≡ length (support_at cell c.args.group)
     = c.len-pins.ensures ∙ sym (ap length (support_at-is cell c.args.group c.group.result.now c.group.ensures.is)) in
     subst (All (λ (cube : List Trit). c.args.place + 3 ≤ length cube)) (sym c.in_ok-cubes.ensures)

@@ -1,5 +1,6 @@
 use Rattle.std.proofs.Common.{◌≡◌, ◌≤◌, ◌-◌, List, Bool, false, length, take, drop, get_or, ◌∙◌, ap, arith}
 use Rattle.cell_machine.specs.Machine.{insert}
+use Rattle.cell_machine.specs.CellData.{data_of}
 use Rattle.cell_machine.specs.CellTrace.{step_at}
 use Rattle.udp_tables.proofs.ColumnLemmas.{length-insert}
 use Rattle.udp_tables.proofs.GroupLemmas.{edge_value-parts, length-others}
@@ -20,7 +21,7 @@ boolean_step-requires-clause-after c =
 pub returns : goal.returns
 returns c =
     let point : List Bool = c.args.point.now in
-    let step = step_at c.args.cell.now c.args.group in
+    let step = step_at (data_of c.args.cell.now) c.args.group in
     let long : 3 ≤ length point = omega (arith, c.requires.point, c.requires.place) in
     let before : c.as_slice.result.now ≡ insert c.args.place (get_or point 0 false) (take (length point - 1 - 2) (drop 2 point))
     = c.as_slice.ensures ∙ c.inserted-before.ensures in

@@ -1,5 +1,5 @@
 use Rattle.std.proofs.Common.{[], ◌∷◌, ◌++◌, sym, ◌∙◌, ap, arith}
-use Rattle.udp_tables.specs.CellData.{data_of}
+use Rattle.cell_machine.specs.CellData.{data_of}
 use Rattle.vital_models.specs.Generated.{output_of}
 use Rattle.vital_models.proofs.ListLemmas.{map-more}
 use Rattle.vital_models.proofs.generation.outputs_of.Goals as goal

@@ -2,7 +2,7 @@ use Rattle.std.proofs.Common.{map, length, ◌∙◌, ap}
 use Rattle.bool_functions.specs.Support.{support_of}
 use Rattle.cell_machine.specs.Outputs.{condition_at}
 use Rattle.udp_tables.specs.declared.table.Udp.{Udp}
-use Rattle.udp_tables.specs.CellData.{data_of}
+use Rattle.cell_machine.specs.CellData.{data_of}
 use Rattle.udp_tables.specs.CellPrimitives.{condition_tree}
 use Rattle.vital_models.specs.Translation.{truth_row_from}
 use Rattle.vital_models.proofs.TranslationLemmas.{truth-from}

@@ -2,8 +2,8 @@ use Rattle.std.proofs.Common.{◌≡◌, length, [], ◌∷◌, ◌++◌, sym, �
 use Rattle.std.specs.Option.{option_map_or}
 use Rattle.cell_machine.specs.declared.groups.StateGroup.{StateGroup}
 use Rattle.udp_tables.specs.declared.table.Udp.{Udp}
-use Rattle.udp_tables.specs.CellData.{data_of}
-use Rattle.udp_tables.specs.CellPrimitives.{group_support, step_of_group}
+use Rattle.cell_machine.specs.CellData.{data_of}
+use Rattle.cell_machine.specs.CellTrace.{support_at, step_at}
 use Rattle.vital_models.specs.Rows.{steady_row, closing_row}
 use Rattle.vital_models.specs.Translation.{state_rows_from}
 use Rattle.vital_models.specs.Generated.{has_violation}
@@ -14,14 +14,14 @@ pub returns : goal.returns
 returns c =
     let cell = data_of c.args.cell.now in
     let g = c.args.group in
-    let n = length (group_support cell g) in
+    let n = length (support_at cell g) in
     let checks = has_violation cell in
     let pins : c.len-pins.result ≡ n
     = c.len-pins.ensures ∙ sym (ap (λ o. length (option_map_or (λ (group : StateGroup). group.support) o [])) c.group.ensures.is) in
     let first = c.in_ok-steady_row.ensures ∙ (λ i. steady_row (c.has_violation-violation.ensures i) (pins i)) in
     let last = c.in_ok-closing_row.ensures ∙ (λ i. closing_row (c.has_violation-violation.ensures i) (pins i)) in
     let middle = (λ i. state_rows_from (c.has_violation-violation.ensures i) ((c.as_slice.ensures ∙ ap (λ (udp : Udp). udp.rows) c.in_ok-udp.ensures) i))
-    ∙ state-from checks n (step_of_group cell g) in
+    ∙ state-from checks n (step_at cell g) in
     let front = c.in_ok-push.ensures.ok ∙ (λ i. c.new-rows.ensures i ++ first i ∷ []) in
     ap (λ rows. record { rows = rows })
     (c.in_ok-push-2.ensures.ok ∙ (λ i. (c.in_ok-add_state_rows.ensures ∙ (λ j. front j ++ middle j)) i ++ last i ∷ []))

@@ -1,6 +1,6 @@
 use Rattle.std.proofs.Common.{◌≡◌, ◌<◌, [], ◌∷◌, ◌++◌, nat_eq, length, get_or, sym, ◌∙◌, ap, subst}
 use Rattle.cell_machine.specs.declared.arcs.Arc.{Arc}
-use Rattle.udp_tables.specs.CellData.{data_of}
+use Rattle.cell_machine.specs.CellData.{data_of}
 use Rattle.vital_models.specs.Generated.{path_of}
 use Rattle.vital_models.proofs.ListLemmas.{filter-more, filter-less}
 use Rattle.vital_models.proofs.timing.paths_to.Goals as goal

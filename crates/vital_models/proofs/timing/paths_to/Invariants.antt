@@ -1,7 +1,7 @@
 use Rattle.std.proofs.Common.{◌≡◌, ◌++◌, map, nat_eq, drop}
 use Rattle.std.specs.Prelude.{filter}
 use Rattle.cell_machine.specs.declared.arcs.Arc.{Arc}
-use Rattle.udp_tables.specs.CellData.{data_of}
+use Rattle.cell_machine.specs.CellData.{data_of}
 use Rattle.vital_models.specs.Generated.{path_of, paths_to}
 use Rattle.vital_models.proofs.timing.paths_to.Given as goal
 

@@ -1,5 +1,6 @@
 use Rattle.std.proofs.Common.{◌∙◌, ap, replicate, false}
 use Rattle.trit_cubes.specs.declared.trits.Trit.TheVariants.{Unknown}
+use Rattle.cell_machine.specs.CellData.{data_of}
 use Rattle.cell_machine.proofs.Standing.{start-stands}
 use Rattle.cell_machine.proofs.liberty_sim.LibertySim.start.Goals as goal
 
@@ -16,6 +17,6 @@ returns-clause-stands c =
     ∙ ap (λ n. replicate n Unknown) c.len-2.ensures in
     let reports = c.from_vec-reports.ensures ∙ c.in_ok-vec-4.ensures.items_if_clones_equal (λ y e. e) ∙ ap (λ n. replicate n false) c.len-3.ensures in
     let shown = rw (c.as_slice-2.ensures, c.as_slice-3.ensures) at c.in_ok-shown.ensures in
-    start-stands c.args.cell.now c.in_ok-check_names.check_names c.in_ok-arc_names.arc_names c.input_number-count.result
+    start-stands (data_of c.args.cell.now) c.in_ok-check_names.check_names c.in_ok-arc_names.arc_names c.input_number-count.result
     c.from_vec-inputs.result c.from_vec-times.result c.from_vec-states.result c.from_vec-reports.result c.in_ok-shown.shown
     c.in_ok-check_names.ensures c.in_ok-arc_names.ensures counted inputs times states reports shown

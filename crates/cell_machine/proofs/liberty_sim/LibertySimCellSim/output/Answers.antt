@@ -1,13 +1,14 @@
 use Rattle.std.proofs.Common.{◌∙◌, ap, get_or, List, None}
 use Rattle.trit_cubes.specs.declared.trits.Trit.TheVariants.{Zero, Unknown}
 use Rattle.cell_machine.specs.declared.shown.Shown.{Shown}
+use Rattle.cell_machine.specs.CellData.{data_of}
 use Rattle.cell_machine.specs.LibertyStands.{shown_after}
 use Rattle.cell_machine.proofs.EachLemmas.{get_or-part}
 use Rattle.cell_machine.proofs.liberty_sim.LibertySimCellSim.output.Goals as goal
 
 pub returns : goal.returns
 returns c = λ h st.
-    let cell = c.args.self.now.cell.now in
+    let cell = data_of c.args.self.now.cell.now in
     ap (λ (xs : List Shown). (get_or xs c.args.place (record { value = Zero; delay = None })).value) (c.as_slice.ensures ∙ st.shown_are)
     ∙ get_or-part (shown_after cell h) (λ (s : Shown). s.value) cell.outputs c.args.place (record { value = Zero; delay = None }) Unknown
     c.requires

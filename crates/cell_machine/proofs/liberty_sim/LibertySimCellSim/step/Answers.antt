@@ -5,6 +5,8 @@ use Rattle.trit_cubes.specs.declared.trits.Trit.TheVariants.{Zero, Unknown}
 use Rattle.cell_machine.specs.Report.{any_true}
 use Rattle.cell_machine.specs.Times.{no_times, stamped}
 use Rattle.cell_machine.proofs.EachLemmas.{get_or-default}
+use Rattle.cell_machine.specs.CellData.{data_of}
+use Rattle.cell_machine.proofs.RuleLemmas.{checks_hold}
 use Rattle.cell_machine.proofs.Standing.{change-stands}
 use Rattle.cell_machine.proofs.liberty_sim.LibertySimCellSim.step.Goals as goal
 
@@ -24,9 +26,9 @@ returns-clause-stands c = λ h st.
     let reported = c.any_true-reported.ensures ∙ ap any_true c.as_slice-5.ensures in
     let states = rw (reported, c.as_slice-6.ensures) at c.change_states.ensures.changed in
     let shown = rw (c.as_slice-7.ensures, c.as_slice-8.ensures) at c.show_all.ensures.stepped in
-    change-stands sim.cell.now sim.check_names sim.arc_names sim.inputs sim.times sim.states sim.reports sim.shown h
+    change-stands (data_of sim.cell.now) sim.check_names sim.arc_names sim.inputs sim.times sim.states sim.reports sim.shown h
     (record { at = c.args.at; pin = c.args.pin; to = c.args.to }) (get_or c.as_slice.result.now c.args.pin Zero)
-    c.set.new.self c.set-2.new.self c.change_states.new.states c.report_all.new.reports_of c.show_all.new.shown st from'
+    c.set.new.self c.set-2.new.self c.change_states.new.states c.report_all.new.reports_of c.show_all.new.shown (checks_hold sim.cell.now) st from'
     c.set.ensures times reports states shown
 
 pub invariant_of-self : goal.invariant_of-self

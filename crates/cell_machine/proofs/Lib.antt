@@ -13,3 +13,4 @@ pub mod Standing
 pub mod ForcedLemmas
 pub mod PlaceLemmas
 pub mod StillLemmas
+pub mod TraceLemmas

@@ -1,5 +1,5 @@
 -- Laws of the machine.
-use Rattle.std.specs.Prelude.{◌≡◌, ◌≢◌, ℕ, ◌+◌, ◌<◌, ◌↔◌, IsTrue, false, ⊤, None, map, List, [], ◌∷◌, length}
+use Rattle.std.specs.Prelude.{◌≡◌, ◌≢◌, ℕ, ◌+◌, ◌<◌, ◌↔◌, IsTrue, false, ⊤, None, map, List, [], ◌∷◌, length, reverse, suc, take}
 use Rattle.trit_cubes.specs.declared.trits.Trit.{Trit}
 use Rattle.trit_cubes.specs.declared.trits.Trit.TheVariants.{Zero, One, Unknown}
 use Rattle.cell_machine.specs.declared.outputs.OutputPin.{OutputPin}
@@ -9,7 +9,18 @@ use Rattle.cell_machine.specs.declared.changes.Change.{Change}
 use Rattle.cell_machine.specs.Report.{InputCheck, report, Reports, before}
 use Rattle.cell_machine.specs.History.{inputs_after, value_before, is_event}
 use Rattle.cell_machine.specs.Times.{times_after, report_by}
-use Rattle.cell_machine.specs.Machine.{Step, insert, machine_step, forced}
+use Rattle.cell_machine.specs.Machine.{Step, insert, last, machine_step, forced}
+use Rattle.cell_machine.specs.Lines.{Line, trace}
+
+-- The last line of a trace is the line of the history of all its changes.
+abbrev pub LastLineIsOfHistory : Type 0
+LastLineIsOfHistory =
+    (line : List Change → Line) (cs : List Change) (d : Line) → last d (trace line cs) ≡ line (reverse cs)
+
+-- The trace of a front of some changes is the front of their trace.
+abbrev pub FrontsHaveFronts : Type 0
+FrontsHaveFronts =
+    (line : List Change → Line) (cs : List Change) (n : ℕ) → trace line (take n cs) ≡ take (suc n) (trace line cs)
 
 -- A check reports at a place of a list exactly where the history up to this place says so.
 abbrev pub ReportIsWholeList : Type 0

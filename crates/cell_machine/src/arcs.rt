@@ -16,3 +16,15 @@ pub struct Arc {
     /// arcs between the two pins are 0.
     pub condition: Option<Function>,
 }
+
+impl Arc {
+    ghost use Rattle.std.specs.Prelude.{◌≡◌};
+    ghost use Rattle.cell_machine.specs.CellTrace.{same_pins};
+
+    /// Whether two arcs have the same two pins.
+    pub fn same_pins(&self, other: &Arc) -> bool
+        ensures { result ≡ same_pins self.now other.now }
+    {
+        self.from == other.from && self.to == other.to
+    }
+}

@@ -18,8 +18,8 @@ use bool_functions::Function;
 use sqlite_items::Items;
 use trit_cubes::Trit;
 
-// The lesser of two numbers, of which each may be absent.
-fn lesser(left: Option<u64>, right: Option<u64>) -> Option<u64>
+/// The lesser of two numbers, of which each may be absent.
+pub fn lesser(left: Option<u64>, right: Option<u64>) -> Option<u64>
     ensures { result ≡ lesser left right }
 {
     let Some(left) = left else {
@@ -49,8 +49,7 @@ fn is_quiet(arc: &Arc, other: &Arc, names: &[usize], pins: &[Pin], inputs: &[Tri
     requires names { names.now ≡ condition_names other.now.condition }
     ensures { result ≡ is_quiet pins.now inputs.now arc.now other.now }
 {
-    let same_pins = arc.from == other.from && arc.to == other.to;
-    !same_pins || is_off(&other.condition, names, pins, inputs)
+    !arc.same_pins(other) || is_off(&other.condition, names, pins, inputs)
 }
 
 // Whether all other arcs leave an arc without condition active.

@@ -1,6 +1,16 @@
 //! Theorems on the definitions, for the proofs of other crates. The functions do nothing.
 
-ghost use Rattle.cell_machine.specs.Laws.{ReportIsWholeList, TimesDecideReports, ForcedIsStep, SameValueChangesNothing, FewerUnknownsKeepOutputs};
+ghost use Rattle.cell_machine.specs.Laws.{LastLineIsOfHistory, FrontsHaveFronts, ReportIsWholeList, TimesDecideReports, ForcedIsStep, SameValueChangesNothing, FewerUnknownsKeepOutputs};
+
+/// The last line of a trace is the line of the history of all its changes.
+pub fn last_line_is_of_history()
+    ensures { LastLineIsOfHistory }
+{}
+
+/// The trace of a front of some changes is the front of their trace.
+pub fn fronts_have_fronts()
+    ensures { FrontsHaveFronts }
+{}
 
 /// A check reports at a place of a list of changes exactly where the history up to this place says so.
 pub fn report_is_whole_list()

@@ -31,16 +31,18 @@ pub use arcs::Arc;
 pub use cells::Cell;
 pub use changes::Change;
 pub use checks::{Check, CheckKind, Edge, Event};
+pub use delays::lesser;
 pub use edges::{edge_of, is_fall, is_rise, moves};
 pub use evaluation::output_at;
 pub use faults::Memory;
 pub use group_steps::{boolean_step, forced};
 pub use groups::{Both, Clocked, Gated, GroupKind, StateGroup};
 pub use laws::{
-    fewer_unknowns_keep_outputs, forced_is_step, report_is_whole_list, same_value_changes_nothing,
-    times_decide_reports,
+    fewer_unknowns_keep_outputs, forced_is_step, fronts_have_fronts, last_line_is_of_history,
+    report_is_whole_list, same_value_changes_nothing, times_decide_reports,
 };
 pub use liberty_sim::LibertySim;
 pub use outputs::{OutputPin, Source};
 pub use pins::{Direction, Pin};
 pub use simulators::CellSim;
+pub use times::{is_within, renewed};

@@ -20,7 +20,7 @@ use trit_cubes::Trit;
 
 impl CheckKind {
     /// Whether the check measures from an event of the same kind.
-    fn is_period(self) -> bool
+    pub fn is_period(self) -> bool
         ensures { result ≡ is_period self }
     {
         match self {

@@ -1,10 +1,10 @@
 //! The times of an input's last events, from which the reports of all checks follow.
 ghost use Rattle.std.specs.Prelude.{◌≡◌, ◌<◌, List, map, length, slice_set, slice_index_or};
 ghost use Rattle.cell_machine.specs.Report.{is_within};
-ghost use Rattle.cell_machine.specs.Times.{no_times, time_of_edge, stamped};
+ghost use Rattle.cell_machine.specs.Times.{no_times, time_of_edge, renewed, stamped};
 
 use crate::checks::Edge;
-use crate::edges::{is_fall, is_rise};
+use crate::edges::moves;
 use trit_cubes::Trit;
 
 /// The times of an input's last change, of its last possible rise and of its last possible fall, in picoseconds.
@@ -46,19 +46,18 @@ impl Times {
         ensures { result ≡ stamped at from to self }
     {
         Times {
-            last: if from != to { Some(at) } else { self.last },
-            rise: if is_rise(from, to) {
-                Some(at)
-            } else {
-                self.rise
-            },
-            fall: if is_fall(from, to) {
-                Some(at)
-            } else {
-                self.fall
-            },
+            last: renewed(moves(Edge::Any, from, to), at, self.last),
+            rise: renewed(moves(Edge::Rise, from, to), at, self.rise),
+            fall: renewed(moves(Edge::Fall, from, to), at, self.fall),
         }
     }
+}
+
+/// This time where the event counts, else the one that was kept.
+pub fn renewed(counts: bool, at: u64, kept: Option<u64>) -> Option<u64>
+    ensures { result ≡ renewed counts at kept }
+{
+    if counts { Some(at) } else { kept }
 }
 
 /// Whether an event at the time `at` came less than `limit` after `opened`.

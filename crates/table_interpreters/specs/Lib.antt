@@ -1,4 +1,3 @@
-pub mod PortNumbers
 pub mod Wiring
 pub mod NetValues
 pub mod Primitives

@@ -7,3 +7,4 @@ pub mod Local
 pub mod Marks
 pub mod Places
 pub mod LooseLaws
+pub mod Promises

@@ -7,5 +7,12 @@ pub mod ConditionLemmas
 pub mod Soundness
 mod Examples
 pub mod VerilogAnswers
+pub mod ReadNames
+pub mod ReadPrimitives
+pub mod ReadHeaders
+pub mod ReadInstances
+pub mod ReadBlocks
+pub mod ReadTokens
+pub mod ReadText
 mod VerilogExamples
 mod VerilogReadings

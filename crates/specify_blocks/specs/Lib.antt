@@ -10,5 +10,6 @@ pub mod VerilogPrimitives
 pub mod VerilogModules
 pub mod VerilogBlocks
 pub mod VerilogText
+pub mod WellFormed
 pub mod VerilogSeparators
 pub mod VerilogPlaces

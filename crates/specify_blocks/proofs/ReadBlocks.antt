@@ -1,0 +1,282 @@
+-- Specify blocks that are read: their paths and checks are sound, with numbers of at most 15 digits.
+use Rattle.std.proofs.Common.{◌≡◌, ℕ, zero, suc, ◌+◌, ◌-◌, ◌*◌, ◌^◌, ◌<◌, ◌≤◌, Bool, true, false, not, ◌&&◌, nat_eq, nat_le, if◌then◌else◌, IsTrue, List, [], ◌∷◌, ◌++◌, length, Option, Some, None, is_some, refl, sym, ap, subst, ◌∙◌, arith, codes, add-one}
+use Rattle.std.specs.Prelude.{All}
+use Rattle.std.specs.Char.{is_ascii_digit}
+use Rattle.std.specs.Str.{bytes_eq}
+use Rattle.std.specs.List.{list_all, position}
+use Rattle.std.proofs.lemmas.Bool.{and_parts, and_from, eq-eqb}
+use Rattle.std.proofs.lemmas.Bool.Decides.{nat_tests}
+use Rattle.std.proofs.lemmas.List.Elements.{All-push}
+use Rattle.std.proofs.Math.Nat.{pow-suc, pow-le-pow_right}
+use Rattle.verilog_names.specs.Kept.{is_number}
+use Rattle.grammar_rules.proofs.Promises.{Promises, token, gives, in_turn, many, choice, any, weaker}
+use Rattle.cell_machine.specs.declared.checks.CheckKind.{CheckKind}
+use Rattle.cell_machine.specs.declared.checks.CheckKind.TheVariants as check_kind
+use Rattle.cell_machine.specs.declared.checks.Edge.{Edge}
+use Rattle.cell_machine.specs.declared.checks.Edge.TheVariants as edge
+use Rattle.cell_machine.specs.declared.checks.Event.{Event}
+use Rattle.cell_machine.specs.CellRules.{are_opposite}
+use Rattle.specify_blocks.specs.declared.model.Gate.{Gate}
+use Rattle.specify_blocks.specs.declared.model.Gate.TheVariants as gate
+use Rattle.specify_blocks.specs.declared.model.VPath.{VPath}
+use Rattle.specify_blocks.specs.declared.model.VCheck.{VCheck}
+use Rattle.specify_blocks.specs.declared.model.VModule.{VModule}
+use Rattle.specify_blocks.specs.Nets.{is_input_port, is_output_port, is_value}
+use Rattle.specify_blocks.specs.Sound.{is_gate, IsPath, is_enabling, IsCheck}
+use Rattle.specify_blocks.specs.VerilogRules.{is_this, this_name}
+use Rattle.specify_blocks.specs.VerilogBlocks.{number_after, number_of, a_number, kept, port_of, an_input, an_output, a_condition, if_gate, ifnone_gate, gate_by, path_gate, path, next_path, paths, edge_of, an_event, an_edge_event, condition_name, condition, check_end, ordered_check, turned_check, opposite, width_check, second_period, period_check, check_of_kind, check, next_check, checks, with_block, block, specify}
+use Rattle.specify_blocks.specs.WellFormed.{IsNumber, HasNumbers}
+use Rattle.specify_blocks.proofs.ReadNames.{IsSpelled, some_if, IsFound, known_values, values, anything, surely}
+
+-- Numbers.
+
+digit_below : (d : ℕ) → is_ascii_digit d ≡ true → d - 48 ≤ 9
+digit_below d e = grind (arith, nat_tests)
+
+-- the digits behind a number below a power of ten
+value_below : (k before : ℕ) (ds : List ℕ) → list_all is_ascii_digit ds ≡ true → before < 10 ^ k → number_after before ds < 10 ^ (k + length ds)
+value_below k before [] all h =
+    let same : k ≡ k + 0 = omega arith in
+    subst (λ n. before < 10 ^ n) same h
+value_below k before (d ∷ ds) all h =
+    let parts = and_parts (is_ascii_digit d) (list_all is_ascii_digit ds) all in
+    let digit = digit_below d parts.0 in
+    let power : 10 ^ (k + 1) ≡ 10 ^ k * 10 = rw add-one (pow-suc 10 k) in
+    let next : before * 10 + (d - 48) < 10 ^ (k + 1) = omega (arith, power, h, digit) in
+    let same : k + 1 + length ds ≡ k + length (d ∷ ds) = omega arith in
+    subst (λ n. number_after (before * 10 + (d - 48)) ds < 10 ^ n) same (value_below (k + 1) (before * 10 + (d - 48)) ds parts.1 next)
+
+all_digits : (x : List ℕ) → is_number x ≡ true → list_all is_ascii_digit x ≡ true
+all_digits [] e = refl
+all_digits (d ∷ ds) e = e
+
+number_fits : (x : List ℕ) (n : ℕ) → number_of x ≡ Some n → IsNumber n
+number_fits x n e =
+    let f = some_if (is_number x && nat_le (length x) 15) (number_after 0 x) n e in
+    let parts = and_parts (is_number x) (nat_le (length x) 15) f.0 in
+    let few : 0 + length x ≤ 15 = grind (arith, nat_tests, parts.1) in
+    let below : number_after 0 x < 10 ^ (0 + length x) = value_below 0 0 x (all_digits x parts.0) (omega arith) in
+    let ten : 0 < 10 = omega arith in
+    let top : 10 ^ (0 + length x) ≤ 10 ^ 15 = pow-le-pow_right ten few in
+    let bound : number_after 0 x < 10 ^ 15 = omega (arith, below, top) in
+    subst IsNumber f.1 bound
+
+numbers : Promises IsSpelled a_number IsNumber
+unfolding a_number
+numbers = weaker (values number_of) (λ n f. number_fits f.0 n f.1)
+
+-- Names of ports and conditions.
+
+kept_passes : (test : ℕ → Bool) (o : Option ℕ) (n : ℕ) → kept test o ≡ Some n → IsTrue (test n)
+kept_passes test None n e = absurd cc
+kept_passes test (Some m) n e = let f = some_if (test m) m n e in subst (λ k. IsTrue (test k)) f.1 f.0
+
+an_input_port : (m : VModule) → Promises IsSpelled (an_input m) (λ p. IsTrue (is_input_port m.ports p))
+unfolding an_input
+an_input_port m = weaker (known_values (λ x. kept (is_input_port m.ports) (port_of m x))) (λ p f. kept_passes (is_input_port m.ports) (port_of m f.0) p f.1)
+
+an_output_port : (m : VModule) → Promises IsSpelled (an_output m) (λ p. IsTrue (is_output_port m.ports p))
+unfolding an_output
+an_output_port m = weaker (known_values (λ x. kept (is_output_port m.ports) (port_of m x))) (λ p f. kept_passes (is_output_port m.ports) (port_of m f.0) p f.1)
+
+a_value : (m : VModule) → Promises IsSpelled (a_condition m) (λ w. IsTrue (is_value m m.instances w))
+unfolding a_condition
+a_value m = weaker (known_values (λ x. kept (is_value m m.instances) (position (bytes_eq x) m.wires))) (λ w f. kept_passes (is_value m m.instances) (position (bytes_eq f.0) m.wires) w f.1)
+
+-- Paths.
+
+gates : (m : VModule) (x : List ℕ) → Promises IsSpelled (path_gate m x) (λ g. IsTrue (is_gate m g))
+unfolding path_gate if_gate ifnone_gate
+gates m x = by_word m (bytes_eq x (codes "if")) (bytes_eq x (codes "ifnone"))
+  where
+    by_word : (m : VModule) (a b : Bool) → Promises IsSpelled (gate_by m a b) (λ g. IsTrue (is_gate m g))
+    by_word m true b = in_turn (anything _) (λ c q. in_turn (a_value m) (λ w h. in_turn (anything _) (λ d q2. in_turn (anything _) (λ e q3. gives h))))
+    by_word m false true = in_turn (anything _) (λ c q. gives refl)
+    by_word m false false = gives refl
+
+-- a path that a text can tell
+pub record IsToldPath (m : VModule) (path : VPath) : Type 0 where
+  pub sound : IsPath m path
+  pub numbers : HasNumbers path
+
+one_path : (m : VModule) (x : List ℕ) → Promises IsSpelled (path m x) (IsToldPath m)
+unfolding path
+one_path m x =
+    in_turn (gates m x) (λ when gated.
+    in_turn (an_input_port m) (λ from starts.
+    in_turn (anything _) (λ a q.
+    in_turn (an_output_port m) (λ to ends.
+    in_turn (anything _) (λ b q2.
+    in_turn (anything _) (λ c q3.
+    in_turn (anything _) (λ d q4.
+    in_turn numbers (λ rise r.
+    in_turn (anything _) (λ e q5.
+    in_turn numbers (λ fall f.
+    in_turn (anything _) (λ g q6.
+    in_turn (anything _) (λ h q7.
+    gives (record { sound = record { starts = starts; ends = ends; gated = gated }; numbers = record { rise = r; fall = f } })))))))))))))
+
+all_paths : (m : VModule) → Promises IsSpelled (paths m) (All (IsToldPath m))
+unfolding paths next_path
+all_paths m =
+    many (λ k d h. absurd (omega arith)) (λ w x a q p e. in_turn (one_path m a) (λ path h. gives (All-push (IsToldPath m) w path q h)))
+
+-- Checks.
+
+abbrev IsEvent : VModule → Event → Type 0
+IsEvent m e = IsTrue (is_input_port m.ports e.pin)
+
+events : (m : VModule) → Promises IsSpelled (an_event m) (IsEvent m)
+unfolding an_event
+events m = in_turn (anything _) (λ e q. in_turn (an_input_port m) (λ p h. gives h))
+
+-- an event with an edge
+record IsEdgeEvent (m : VModule) (e : Event) : Type 0 where
+  pin : IsEvent m e
+  edge : IsTrue (are_opposite e.edge (opposite e.edge))
+
+opposite_edges : (x : List ℕ) (e : Edge) → edge_of x ≡ Some e → IsTrue (are_opposite e (opposite e))
+opposite_edges x e h = of_word (bytes_eq x (codes "posedge")) (bytes_eq x (codes "negedge")) e h
+  where
+    of_word : (a b : Bool) (e : Edge) → (if a then Some edge.Rise else (if b then Some edge.Fall else None)) ≡ Some e → IsTrue (are_opposite e (opposite e))
+    of_word true b edge.Rise h = refl
+    of_word true b edge.Fall h = absurd cc
+    of_word true b edge.Any h = absurd cc
+    of_word false true edge.Rise h = absurd cc
+    of_word false true edge.Fall h = refl
+    of_word false true edge.Any h = absurd cc
+    of_word false false e h = absurd cc
+
+edge_events : (m : VModule) → Promises IsSpelled (an_edge_event m) (IsEdgeEvent m)
+unfolding an_edge_event
+edge_events m = in_turn (values edge_of) (λ e f. in_turn (an_input_port m) (λ p h. gives (record { pin = h; edge = opposite_edges f.0 e f.1 })))
+
+conditions : (m : VModule) → Promises IsSpelled (condition m) (λ when. IsTrue (is_enabling m when))
+unfolding condition condition_name
+conditions m = choice (λ x a p e. in_turn (a_value m) (λ w h. gives h)) (gives refl)
+
+there_is : (o : Option (List ℕ)) (x : List ℕ) (a : Unit {0}) → is_this o x ≡ Some a → IsTrue (is_some o)
+there_is None x a e = absurd cc
+there_is (Some name) x a e = refl
+
+ends : (m : VModule) → Promises IsSpelled (check_end m) (λ _. IsTrue (is_some m.notifier))
+unfolding check_end
+ends m =
+    in_turn (anything _) (λ a q. in_turn (known_values (is_this m.notifier)) (λ b f. in_turn (anything _) (λ c q2. surely (λ d. there_is m.notifier f.0 b f.1))))
+
+-- a check that a text can tell
+pub record IsToldCheck (m : VModule) (k : VCheck) : Type 0 where
+  pub sound : IsCheck m k
+  pub number : IsNumber k.limit
+
+abbrev HasTwoEvents : CheckKind → Type 0
+HasTwoEvents kind = (m : VModule) (first second : Event) (limit : ℕ) (when : Option ℕ) → IsEvent m first → IsEvent m second → IsTrue (is_enabling m when) → IsTrue (is_some m.notifier) → IsNumber limit
+    → IsToldCheck m (record { kind = kind; first = first; second = second; limit = limit; condition = when })
+
+ordered : (m : VModule) (kind : CheckKind) → HasTwoEvents kind → Promises IsSpelled (ordered_check kind m) (IsToldCheck m)
+unfolding ordered_check
+ordered m kind told =
+    in_turn (events m) (λ first f.
+    in_turn (anything _) (λ a q.
+    in_turn (events m) (λ second s.
+    in_turn (conditions m) (λ when w.
+    in_turn (anything _) (λ b q2.
+    in_turn numbers (λ limit l.
+    in_turn (ends m) (λ c n.
+    gives (told m first second limit when f s w n l))))))))
+
+turned : (m : VModule) (kind : CheckKind) → HasTwoEvents kind → Promises IsSpelled (turned_check kind m) (IsToldCheck m)
+unfolding turned_check
+turned m kind told =
+    in_turn (events m) (λ second s.
+    in_turn (conditions m) (λ when w.
+    in_turn (anything _) (λ a q.
+    in_turn (events m) (λ first f.
+    in_turn (anything _) (λ b q2.
+    in_turn numbers (λ limit l.
+    in_turn (ends m) (λ c n.
+    gives (told m first second limit when f s w n l))))))))
+
+widths : (m : VModule) → Promises IsSpelled (width_check m) (IsToldCheck m)
+unfolding width_check
+widths m =
+    in_turn (edge_events m) (λ first f.
+    in_turn (conditions m) (λ when w.
+    in_turn (anything _) (λ a q.
+    in_turn numbers (λ limit l.
+    in_turn (anything _) (λ b q2.
+    in_turn (anything _) (λ c q3.
+    in_turn (ends m) (λ d n.
+    gives (record {
+      sound = record {
+        first = f.pin;
+        second = f.pin;
+        written = and_from (nat_eq first.pin first.pin) (are_opposite first.edge (opposite first.edge)) (same_pin first.pin) f.edge;
+        enabled = w;
+        notified = n;
+      };
+      number = l;
+    }))))))))
+  where
+    same_pin : (p : ℕ) → nat_eq p p ≡ true
+    same_pin p = eq-eqb p p refl
+
+periods : (m : VModule) → Promises IsSpelled (period_check m) (IsToldCheck m)
+unfolding period_check
+periods m =
+    in_turn (anything _) (λ a q.
+    in_turn (an_input_port m) (λ p h.
+    in_turn (conditions m) (λ when w.
+    in_turn (anything _) (λ b q2.
+    in_turn numbers (λ limit l.
+    in_turn (ends m) (λ c n.
+    in_turn (anything _) (λ d q3.
+    gives (record {
+      sound = record { first = h; second = h; written = and_from (nat_eq p p) true (eq-eqb p p refl) refl; enabled = w; notified = n };
+      number = l;
+    }))))))))
+
+kinds : (m : VModule) (kind : CheckKind) → Promises IsSpelled (check_of_kind m kind) (IsToldCheck m)
+unfolding check_of_kind
+kinds m check_kind.Setup = ordered m check_kind.Setup (λ m first second limit when f s w n l. record { sound = record { first = f; second = s; written = refl; enabled = w; notified = n }; number = l })
+kinds m check_kind.Hold = ordered m check_kind.Hold (λ m first second limit when f s w n l. record { sound = record { first = f; second = s; written = refl; enabled = w; notified = n }; number = l })
+kinds m check_kind.Recovery = ordered m check_kind.Recovery (λ m first second limit when f s w n l. record { sound = record { first = f; second = s; written = refl; enabled = w; notified = n }; number = l })
+kinds m check_kind.Removal = turned m check_kind.Removal (λ m first second limit when f s w n l. record { sound = record { first = f; second = s; written = refl; enabled = w; notified = n }; number = l })
+kinds m check_kind.Width = widths m
+kinds m check_kind.Period = periods m
+
+all_checks : (m : VModule) → Promises IsSpelled (checks m) (All (IsToldCheck m))
+unfolding checks next_check check
+all_checks m =
+    many (λ k d h. absurd (omega arith))
+    (λ w x kind q p e. in_turn (in_turn (anything _) (λ a q2. kinds m kind)) (λ k h. gives (All-push (IsToldCheck m) w k q h)))
+
+-- Blocks.
+
+-- a module with paths and checks that a text can tell
+pub record IsFinished (m finished : VModule) : Type 0 where
+  pub paths : List VPath
+  pub checks : List VCheck
+  pub same : finished ≡ with_block m paths checks
+  pub told_paths : All (IsToldPath m) paths
+  pub told_checks : All (IsToldCheck m) checks
+
+unspecified : (m : VModule) → m.paths ≡ [] → m.checks ≡ [] → IsFinished m m
+unspecified m no_paths no_checks = record {
+  paths = m.paths;
+  checks = m.checks;
+  same = refl;
+  told_paths = subst (All (IsToldPath m)) (sym no_paths) (λ k d h. absurd (omega arith));
+  told_checks = subst (All (IsToldCheck m)) (sym no_checks) (λ k d h. absurd (omega arith));
+}
+
+pub specified : (m : VModule) → m.paths ≡ [] → m.checks ≡ [] → Promises IsSpelled (specify m) (IsFinished m)
+unfolding specify block
+specified m no_paths no_checks =
+    choice
+    (λ x a p e.
+        in_turn (all_paths m) (λ some_paths hp.
+        in_turn (all_checks m) (λ some_checks hc.
+        in_turn (anything _) (λ b q.
+        gives (record { paths = some_paths; checks = some_checks; same = refl; told_paths = hp; told_checks = hc })))))
+    (gives (unspecified m no_paths no_checks))

@@ -1,0 +1,132 @@
+-- The tokens and the names that are read.
+use Rattle.std.proofs.Common.{◌≡◌, ℕ, ◌≤◌, Bool, true, false, not, ◌&&◌, ◌||◌, ◌==◌, if◌then◌else◌, IsTrue, List, [], ◌∷◌, ◌++◌, length, Option, Some, None, is_some, refl, sym, ap, subst, ◌∙◌, arith, codes}
+use Rattle.std.specs.Prelude.{All}
+use Rattle.std.specs.Str.{bytes_eq}
+use Rattle.std.specs.Cmp.{IsEquivalence}
+use Rattle.std.specs.List.{IsDistinct, list_any}
+use Rattle.std.proofs.lemmas.Bool.{and_parts}
+use Rattle.std.proofs.lemmas.Bool.Decides.{same_from_decides}
+use Rattle.std.proofs.lemmas.Slice.Eq.{bytes_eq-Decides}
+use Rattle.std.proofs.lemmas.List.Elements.{All-push}
+use Rattle.std.proofs.lemmas.Map.Keys.{IsDistinct-push}
+use Rattle.verilog_names.specs.Kept.{is_identifier}
+use Rattle.verilog_names.specs.Words.{is_verilog_word}
+use Rattle.std.specs.Char.{is_ascii_alphabetic}
+use Rattle.grammar_rules.specs.Rule.{Verdict, Fits, Foul, Misfit}
+use Rattle.grammar_rules.proofs.Promises.{Promises, token, gives, any, keeps}
+use Rattle.specify_blocks.specs.VerilogTokens.{is_name}
+use Rattle.specify_blocks.specs.VerilogRules.{Refusal, Syntax, Undefined, Twice, Grammar, only_where, expect_where, go_on_where, allowed_by, valued, name_by, any_name, is_among, fresh, new_name, known}
+use Rattle.specify_blocks.specs.WellFormed.{IsName, AreApart}
+
+-- a token that begins as a name is one whole identifier
+abbrev pub IsSpelled : List ℕ → Type 0
+IsSpelled x = IsTrue (is_name x) → IsTrue (is_identifier x)
+
+pub a_name : (x : List ℕ) → IsSpelled x → IsTrue (is_name x) → IsName x
+a_name [] h e = absurd cc
+a_name (b ∷ bs) h e = record { identifier = h e; no_word = (and_parts (is_ascii_alphabetic b || b == 95) (not (is_verilog_word (b ∷ bs))) e).1 }
+
+-- Tests of a token that passes.
+
+pub fits_if : {A : Type 0} (b : Bool) (v : Verdict A Refusal) (k : Refusal) (a : A) → (if b then v else Misfit k) ≡ Fits a → (b ≡ true) × (v ≡ Fits a)
+fits_if true v k a e = (refl, e)
+fits_if false v k a e = absurd cc
+
+pub fits_unless : {A : Type 0} (b : Bool) (k : Refusal) (x a : A) → (if b then Foul k x else Fits x) ≡ Fits a → (b ≡ false) × (x ≡ a)
+fits_unless true k x a e = absurd cc
+fits_unless false k x a e = (refl, cc)
+
+pub fits_where : {A : Type 0} (b : Bool) (k : Refusal) (x a : A) → (if b then Fits x else Foul k x) ≡ Fits a → b ≡ true
+fits_where true k x a e = refl
+fits_where false k x a e = absurd cc
+
+pub some_if : {A : Type 0} (b : Bool) (v w : A) → (if b then Some v else None) ≡ Some w → (b ≡ true) × (v ≡ w)
+some_if true v w e = (refl, cc)
+some_if false v w e = absurd cc
+
+pub fits_same : {A : Type 0} (x a : A) → ◌≡◌ {A = Verdict A Refusal} (Fits x) (Fits a) → x ≡ a
+fits_same x a e = cc
+
+pub fits_allowed : {A : Type 0} (k : Refusal) (o : Option A) (a : A) → allowed_by k o ≡ Fits a → o ≡ Some a
+fits_allowed k None a e = absurd cc
+fits_allowed k (Some b) a e = cc
+
+-- Names.
+
+bytes_congr : (x y z : List ℕ) → bytes_eq x y ≡ true → bytes_eq x z ≡ bytes_eq y z
+bytes_congr x y z e = ap (λ t. bytes_eq t z) ((bytes_eq-Decides x y).0 e)
+
+bytes_symm : (x y : List ℕ) → bytes_eq x y ≡ bytes_eq y x
+bytes_symm x y =
+    same_from_decides (bytes_eq x y) (bytes_eq y x) (bytes_eq-Decides x y) (λ e. sym ((bytes_eq-Decides y x).0 e), λ e. (bytes_eq-Decides y x).1 (sym e))
+
+bytes_refl : (x : List ℕ) → bytes_eq x x ≡ true
+bytes_refl x = (bytes_eq-Decides x x).1 refl
+
+pub bytes_equivalence : IsEquivalence bytes_eq
+bytes_equivalence = record { refl = bytes_refl; symm = bytes_symm; congr = bytes_congr }
+
+-- a name that is none of these
+pub record IsNew (names : List (List ℕ)) (x : List ℕ) : Type 0 where
+  pub name : IsName x
+  pub new : is_among names x ≡ false
+
+-- names of which none stands twice
+pub record AreNames (names : List (List ℕ)) : Type 0 where
+  pub all : All IsName names
+  pub apart : AreApart names
+
+pub push_name : (names : List (List ℕ)) (x : List ℕ) → AreNames names → IsNew names x → AreNames (names ++ x ∷ [])
+push_name names x h n = record {
+  all = All-push IsName names x h.all n.name;
+  apart = IsDistinct-push bytes_equivalence names x h.apart n.new;
+}
+
+pub no_names : AreNames []
+unfolding IsDistinct
+no_names = record { all = λ k d h. absurd (omega arith); apart = tt }
+
+pub one_name : (x : List ℕ) → IsName x → AreNames (x ∷ [])
+one_name x h = push_name [] x no_names (record { name = h; new = refl })
+
+-- What the words of the grammar promise.
+
+pub new_names : (names : List (List ℕ)) → Promises IsSpelled (new_name names) (IsNew names)
+new_names names = token (λ x a p e.
+    let n = fits_if (is_name x) (fresh names x) Syntax a e in
+    let f = fits_unless (is_among names x) Twice x a n.1 in
+    subst (IsNew names) f.1 (record { name = a_name x p n.0; new = f.0 }))
+
+pub any_names : Promises IsSpelled any_name IsName
+any_names = token (λ x a p e.
+    let n = fits_if (is_name x) (Fits x) Syntax a e in
+    subst IsName (fits_same x a n.1) (a_name x p n.0))
+
+-- some token stands for the value
+abbrev pub IsFound : {A : Type 0} → (List ℕ → Option A) → A → Type 0
+IsFound find a = (x : List ℕ) × (find x ≡ Some a)
+
+pub known_values : {A : Type 0} (find : List ℕ → Option A) → Promises IsSpelled (known find) (IsFound find)
+known_values find = token (λ x a p e.
+    let n = fits_if (is_name x) (allowed_by Undefined (find x)) Syntax a e in
+    (x, fits_allowed Undefined (find x) a n.1))
+
+pub values : {A : Type 0} (find : List ℕ → Option A) → Promises IsSpelled (valued find) (IsFound find)
+values find = token (λ x a p e. (x, fits_allowed Syntax (find x) a e))
+
+pub where_holds : (b : Bool) (k : Refusal) (text : List ℕ) → Promises IsSpelled (expect_where b k text) (λ _. b ≡ true)
+where_holds b k text = token (λ x a p e.
+    let n = fits_if (bytes_eq x text) (if b then Fits tt else Foul k tt) Syntax a e in
+    fits_where b k tt a n.1)
+
+pub goes_on : (b : Bool) → Promises IsSpelled (go_on_where b) (λ _. b ≡ true)
+goes_on true = gives refl
+goes_on false = token (λ x a p e. absurd cc)
+
+-- a part of which nothing is said
+pub anything : {A : Type 0} (p : Grammar A) → Promises IsSpelled p any
+anything p = keeps IsSpelled p
+
+-- what each value has
+pub surely : {A : Type 0} {p : Grammar A} {Q : A → Type 0} → ((a : A) → Q a) → Promises IsSpelled p Q
+surely {p = p} q = record { kept = λ s a left all t. (q a, ((keeps IsSpelled p).kept s a left all t).1) }

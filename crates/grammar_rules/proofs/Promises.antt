@@ -1,7 +1,7 @@
 -- What a rule promises of everything that it takes. Where each token has a property, each value that the rule takes has this
 -- one, and each token that is left has the first. A rule keeps its promise where its parts keep theirs, so that of a grammar a
 -- fact on its values is proved rule by rule.
-use Rattle.std.proofs.Common.{◌≡◌, ℕ, zero, suc, List, [], ◌∷◌, Option, Some, ◌⊎◌, inl, inr, sym, subst}
+use Rattle.std.proofs.Common.{◌≡◌, ℕ, zero, suc, List, ◌∷◌, Option, Some, inl, inr, sym, subst}
 use Rattle.std.specs.List.{AllByRecursion}
 use Rattle.grammar_rules.specs.Rule.{Rule, Verdict, Fits, Times, Takes}
 use Rattle.grammar_rules.specs.Rule as r

@@ -1,5 +1,5 @@
 -- Specify blocks that are read: their paths and checks are sound, with numbers of at most 15 digits.
-use Rattle.std.proofs.Common.{◌≡◌, ℕ, zero, suc, ◌+◌, ◌-◌, ◌*◌, ◌^◌, ◌<◌, ◌≤◌, Bool, true, false, not, ◌&&◌, nat_eq, nat_le, if◌then◌else◌, IsTrue, List, [], ◌∷◌, ◌++◌, length, Option, Some, None, is_some, refl, sym, ap, subst, ◌∙◌, arith, codes, add-one}
+use Rattle.std.proofs.Common.{◌≡◌, ℕ, ◌+◌, ◌-◌, ◌*◌, ◌^◌, ◌<◌, ◌≤◌, Bool, true, false, ◌&&◌, nat_eq, nat_le, if◌then◌else◌, IsTrue, List, [], ◌∷◌, length, Option, Some, None, is_some, refl, sym, subst, arith, codes, add-one}
 use Rattle.std.specs.Prelude.{All}
 use Rattle.std.specs.Char.{is_ascii_digit}
 use Rattle.std.specs.Str.{bytes_eq}
@@ -9,24 +9,22 @@ use Rattle.std.proofs.lemmas.Bool.Decides.{nat_tests}
 use Rattle.std.proofs.lemmas.List.Elements.{All-push}
 use Rattle.std.proofs.Math.Nat.{pow-suc, pow-le-pow_right}
 use Rattle.verilog_names.specs.Kept.{is_number}
-use Rattle.grammar_rules.proofs.Promises.{Promises, token, gives, in_turn, many, choice, any, weaker}
+use Rattle.grammar_rules.proofs.Promises.{Promises, gives, in_turn, many, choice, weaker}
 use Rattle.cell_machine.specs.declared.checks.CheckKind.{CheckKind}
 use Rattle.cell_machine.specs.declared.checks.CheckKind.TheVariants as check_kind
 use Rattle.cell_machine.specs.declared.checks.Edge.{Edge}
 use Rattle.cell_machine.specs.declared.checks.Edge.TheVariants as edge
 use Rattle.cell_machine.specs.declared.checks.Event.{Event}
 use Rattle.cell_machine.specs.CellRules.{are_opposite}
-use Rattle.specify_blocks.specs.declared.model.Gate.{Gate}
-use Rattle.specify_blocks.specs.declared.model.Gate.TheVariants as gate
 use Rattle.specify_blocks.specs.declared.model.VPath.{VPath}
 use Rattle.specify_blocks.specs.declared.model.VCheck.{VCheck}
 use Rattle.specify_blocks.specs.declared.model.VModule.{VModule}
 use Rattle.specify_blocks.specs.Nets.{is_input_port, is_output_port, is_value}
 use Rattle.specify_blocks.specs.Sound.{is_gate, IsPath, is_enabling, IsCheck}
-use Rattle.specify_blocks.specs.VerilogRules.{is_this, this_name}
-use Rattle.specify_blocks.specs.VerilogBlocks.{number_after, number_of, a_number, kept, port_of, an_input, an_output, a_condition, if_gate, ifnone_gate, gate_by, path_gate, path, next_path, paths, edge_of, an_event, an_edge_event, condition_name, condition, check_end, ordered_check, turned_check, opposite, width_check, second_period, period_check, check_of_kind, check, next_check, checks, with_block, block, specify}
+use Rattle.specify_blocks.specs.VerilogRules.{is_this}
+use Rattle.specify_blocks.specs.VerilogBlocks.{number_after, number_of, a_number, kept, port_of, an_input, an_output, a_condition, if_gate, ifnone_gate, gate_by, path_gate, path, next_path, paths, edge_of, an_event, an_edge_event, condition_name, condition, check_end, ordered_check, turned_check, opposite, width_check, period_check, check_of_kind, check, next_check, checks, with_block, block, specify}
 use Rattle.specify_blocks.specs.WellFormed.{IsNumber, HasNumbers}
-use Rattle.specify_blocks.proofs.ReadNames.{IsSpelled, some_if, IsFound, known_values, values, anything, surely}
+use Rattle.specify_blocks.proofs.ReadNames.{IsSpelled, some_if, known_values, values, anything, surely}
 
 -- Numbers.
 
@@ -275,8 +273,8 @@ unfolding specify block
 specified m no_paths no_checks =
     choice
     (λ x a p e.
-        in_turn (all_paths m) (λ some_paths hp.
-        in_turn (all_checks m) (λ some_checks hc.
-        in_turn (anything _) (λ b q.
-        gives (record { paths = some_paths; checks = some_checks; same = refl; told_paths = hp; told_checks = hc })))))
+    in_turn (all_paths m) (λ some_paths hp.
+    in_turn (all_checks m) (λ some_checks hc.
+    in_turn (anything _) (λ b q.
+    gives (record { paths = some_paths; checks = some_checks; same = refl; told_paths = hp; told_checks = hc })))))
     (gives (unspecified m no_paths no_checks))

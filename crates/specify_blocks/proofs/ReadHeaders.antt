@@ -1,5 +1,5 @@
 -- Modules that are read: the names of their headers and declarations.
-use Rattle.std.proofs.Common.{◌≡◌, ℕ, zero, suc, ◌+◌, ◌<◌, ◌≤◌, Bool, true, false, not, if◌then◌else◌, IsTrue, List, [], ◌∷◌, ◌++◌, length, drop, get_or, map, slice_set, inl, inr, Option, Some, None, is_some, refl, sym, ap, subst, ◌∙◌, arith, codes, append_assoc, add-one, length-drop}
+use Rattle.std.proofs.Common.{◌≡◌, ℕ, suc, ◌+◌, ◌<◌, Bool, true, List, [], ◌∷◌, ◌++◌, length, drop, get_or, slice_set, inl, inr, Option, Some, None, refl, sym, ap, subst, ◌∙◌, arith, append_assoc}
 use Rattle.std.specs.Str.{bytes_eq}
 use Rattle.std.specs.Option.{option_map}
 use Rattle.std.specs.List.{position_from}
@@ -7,16 +7,16 @@ use Rattle.std.proofs.lemmas.Bool.{cases_Bool}
 use Rattle.std.proofs.lemmas.List.{append-nil, map_push, get_or-drop}
 use Rattle.std.proofs.lemmas.Slice.Eq.{bytes_eq-Decides}
 use Rattle.std.proofs.Math.Seq.{map-set_same}
-use Rattle.grammar_rules.specs.Rule.{Verdict, Fits}
-use Rattle.grammar_rules.proofs.Promises.{Promises, token, gives, in_turn, many, choice, any}
+use Rattle.grammar_rules.specs.Rule.{Fits}
+use Rattle.grammar_rules.proofs.Promises.{Promises, gives, in_turn, many, choice}
 use Rattle.udp_tables.specs.declared.table.Udp.{Udp}
 use Rattle.udp_tables.specs.declared.models.VPort.{VPort}
 use Rattle.specify_blocks.specs.declared.model.VModule.{VModule}
 use Rattle.specify_blocks.specs.VerilogTokens.{is_name}
 use Rattle.specify_blocks.specs.VerilogRules.{place_from}
-use Rattle.specify_blocks.specs.VerilogModules.{port_name, port_names, plain_port, input_port, next_port, first_port, more_ports, some_ports, header, Inputs, with_input, input_at, declared_input, declared_inputs, declared_wire, declared_wires, declared_notifier, notifier, declarations}
+use Rattle.specify_blocks.specs.VerilogModules.{port_name, port_names, plain_port, input_port, next_port, more_ports, some_ports, header, Inputs, with_input, input_at, declared_input, declared_inputs, declared_wire, declared_wires, declared_notifier, notifier, declarations}
 use Rattle.specify_blocks.specs.WellFormed.{register_names, inner_names}
-use Rattle.specify_blocks.proofs.ReadNames.{IsSpelled, IsNew, AreNames, a_name, push_name, no_names, one_name, fits_same, some_if, new_names, IsFound, known_values, anything}
+use Rattle.specify_blocks.proofs.ReadNames.{IsSpelled, AreNames, a_name, push_name, no_names, one_name, fits_same, some_if, new_names, known_values, anything}
 
 -- Headers.
 
@@ -38,8 +38,8 @@ unfolding some_ports
 any_ports =
     choice
     (λ x a p e.
-        let f = some_if (is_name x) (Fits x) (Fits a) e in
-        subst (λ name. Promises IsSpelled (more_ports (plain_port name ∷ [])) AreNamed) (fits_same x a f.1) (all_ports (plain_port x ∷ []) (one_name x (a_name x p f.0))))
+    let f = some_if (is_name x) (Fits x) (Fits a) e in
+    subst (λ name. Promises IsSpelled (more_ports (plain_port name ∷ [])) AreNamed) (fits_same x a f.1) (all_ports (plain_port x ∷ []) (one_name x (a_name x p f.0))))
     (gives no_names)
 
 headers : Promises IsSpelled header AreNamed

@@ -1,17 +1,16 @@
 -- Modules that are read: their instances are sound, and each net is driven once at most.
-use Rattle.std.proofs.Common.{◌≡◌, ℕ, zero, suc, ◌+◌, ◌<◌, ◌≤◌, Bool, true, false, not, ◌&&◌, ◌||◌, ◌==◌, nat_eq, nat_lt, cond, if◌then◌else◌, IsTrue, List, [], ◌∷◌, ◌++◌, length, slice_get, inl, inr, Option, Some, None, refl, sym, ap, subst, ◌∙◌, arith, codes}
+use Rattle.std.proofs.Common.{◌≡◌, ℕ, ◌+◌, ◌≤◌, Bool, true, false, not, ◌&&◌, ◌||◌, ◌==◌, nat_eq, nat_lt, cond, if◌then◌else◌, IsTrue, List, [], ◌∷◌, ◌++◌, length, slice_get, inl, inr, Option, Some, None, refl, sym, ap, subst, ◌∙◌, arith, codes}
 use Rattle.std.specs.Str.{bytes_eq}
 use Rattle.std.specs.Option.{option_map_or}
-use Rattle.std.specs.List.{list_all, list_any, position}
+use Rattle.std.specs.List.{list_all, list_any}
 use Rattle.std.proofs.lemmas.Bool.{and_parts, and_from, cases_Bool, eqb-true}
 use Rattle.std.proofs.lemmas.Bool.Decides.{nat_tests}
 use Rattle.std.proofs.lemmas.List.Folds.{list_all-append, list_any-append}
 use Rattle.std.proofs.lemmas.List.Quantifiers.{position-Some}
 use Rattle.cell_machine.proofs.ArcDelays.{some_at}
-use Rattle.grammar_rules.specs.Rule.{Verdict, Fits, Foul, Misfit}
-use Rattle.grammar_rules.proofs.Promises.{Promises, token, gives, in_turn, many, any}
+use Rattle.grammar_rules.specs.Rule.{Fits, Foul}
+use Rattle.grammar_rules.proofs.Promises.{Promises, token, gives, in_turn, many}
 use Rattle.udp_tables.specs.declared.table.Udp.{Udp}
-use Rattle.udp_tables.specs.declared.models.VPort.{VPort}
 use Rattle.specify_blocks.specs.declared.model.VNet.{VNet}
 use Rattle.specify_blocks.specs.declared.model.VNet.TheVariants as net
 use Rattle.specify_blocks.specs.declared.model.Instance.{Instance}
@@ -22,10 +21,10 @@ use Rattle.specify_blocks.specs.declared.model.VModule.{VModule}
 use Rattle.specify_blocks.specs.Nets.{same_net, are_apart, is_sequential, is_driven, holds_state, net_driven, feeds_state, feeds_value, drivers}
 use Rattle.specify_blocks.specs.Sound.{IsPrimitive, IsInstance, AreInstances}
 use Rattle.specify_blocks.specs.VerilogTokens.{is_name}
-use Rattle.specify_blocks.specs.VerilogRules.{Refusal, Syntax, Width, Undefined, Twice}
+use Rattle.specify_blocks.specs.VerilogRules.{Syntax, Width, Undefined, Twice}
 use Rattle.specify_blocks.specs.VerilogModules.{net_of, terminal_by, terminal, may_drive, is_driven_already, driven_terminal, may_feed, feeding_terminal, next_input, more_inputs, input_count, with_instance, call, constant, primitive_number, of_primitive, begins_instance, one_instance, instances}
 use Rattle.specify_blocks.proofs.InstanceLemmas.{drivers-cons, drivers-append, are-append}
-use Rattle.specify_blocks.proofs.ReadNames.{IsSpelled, fits_if, fits_unless, some_if, where_holds, anything}
+use Rattle.specify_blocks.proofs.ReadNames.{IsSpelled, fits_if, fits_unless, where_holds, anything}
 
 -- a module with these instances, paths and checks, and otherwise as this one
 abbrev pub filled : VModule → List Instance → List VPath → List VCheck → VModule
@@ -272,5 +271,5 @@ unfolding instances
 all_instances b none =
     many (record { same = refl; driven = subst (AreDriven b) (sym none) (record { instances = tt; once = λ n. omega arith }) })
     (λ m x a q p e.
-        subst (λ w. Promises IsSpelled (one_instance w a) (IsBuilt b)) (sym q.same)
-        (one_more b m.instances x a q.driven (subst (λ w. begins_instance w.udps x ≡ Some (Fits a)) q.same e)))
+    subst (λ w. Promises IsSpelled (one_instance w a) (IsBuilt b)) (sym q.same)
+    (one_more b m.instances x a q.driven (subst (λ w. begins_instance w.udps x ≡ Some (Fits a)) q.same e)))

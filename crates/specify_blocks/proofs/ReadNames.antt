@@ -1,9 +1,9 @@
 -- The tokens and the names that are read.
-use Rattle.std.proofs.Common.{◌≡◌, ℕ, ◌≤◌, Bool, true, false, not, ◌&&◌, ◌||◌, ◌==◌, if◌then◌else◌, IsTrue, List, [], ◌∷◌, ◌++◌, length, Option, Some, None, is_some, refl, sym, ap, subst, ◌∙◌, arith, codes}
+use Rattle.std.proofs.Common.{◌≡◌, ℕ, Bool, true, false, not, ◌||◌, ◌==◌, if◌then◌else◌, IsTrue, List, [], ◌∷◌, ◌++◌, Option, Some, None, refl, sym, ap, subst, arith}
 use Rattle.std.specs.Prelude.{All}
 use Rattle.std.specs.Str.{bytes_eq}
 use Rattle.std.specs.Cmp.{IsEquivalence}
-use Rattle.std.specs.List.{IsDistinct, list_any}
+use Rattle.std.specs.List.{IsDistinct}
 use Rattle.std.proofs.lemmas.Bool.{and_parts}
 use Rattle.std.proofs.lemmas.Bool.Decides.{same_from_decides}
 use Rattle.std.proofs.lemmas.Slice.Eq.{bytes_eq-Decides}
@@ -15,7 +15,7 @@ use Rattle.std.specs.Char.{is_ascii_alphabetic}
 use Rattle.grammar_rules.specs.Rule.{Verdict, Fits, Foul, Misfit}
 use Rattle.grammar_rules.proofs.Promises.{Promises, token, gives, any, keeps}
 use Rattle.specify_blocks.specs.VerilogTokens.{is_name}
-use Rattle.specify_blocks.specs.VerilogRules.{Refusal, Syntax, Undefined, Twice, Grammar, only_where, expect_where, go_on_where, allowed_by, valued, name_by, any_name, is_among, fresh, new_name, known}
+use Rattle.specify_blocks.specs.VerilogRules.{Refusal, Syntax, Undefined, Twice, Grammar, expect_where, go_on_where, allowed_by, valued, any_name, is_among, fresh, new_name, known}
 use Rattle.specify_blocks.specs.WellFormed.{IsName, AreApart}
 
 -- a token that begins as a name is one whole identifier

@@ -1,31 +1,28 @@
 -- Primitives that are read are well formed.
-use Rattle.std.proofs.Common.{◌≡◌, ℕ, zero, suc, ◌+◌, ◌≤◌, Bool, true, false, not, ◌&&◌, ◌||◌, ◌==◌, nat_le, if◌then◌else◌, cond, IsTrue, List, [], ◌∷◌, ◌++◌, length, inl, inr, Option, Some, None, is_some, refl, sym, ap, subst, ◌∙◌, arith, codes, length-append}
+use Rattle.std.proofs.Common.{◌≡◌, ℕ, suc, ◌+◌, ◌≤◌, Bool, true, false, not, ◌&&◌, ◌||◌, ◌==◌, nat_le, if◌then◌else◌, cond, IsTrue, List, [], ◌∷◌, ◌++◌, length, inl, inr, Option, Some, None, is_some, refl, sym, ap, subst, ◌∙◌, arith, codes, length-append}
 use Rattle.std.specs.Prelude.{All, count_by}
 use Rattle.std.specs.Option.{option_map}
-use Rattle.std.specs.List.{list_all, list_any}
+use Rattle.std.specs.List.{list_all}
 use Rattle.std.proofs.lemmas.Bool.{and_parts, and_from, cases_Bool, eqb-true}
 use Rattle.std.proofs.lemmas.Bool.Decides.{nat_tests}
 use Rattle.std.proofs.lemmas.List.Folds.{list_all-append}
 use Rattle.std.proofs.lemmas.List.Sums.{sum_by-append, sum_by-cons}
 use Rattle.std.proofs.lemmas.List.Elements.{All-push}
-use Rattle.grammar_rules.specs.Rule.{Verdict, Fits, Foul, Misfit}
-use Rattle.grammar_rules.proofs.Promises.{Promises, token, gives, in_turn, many, choice, any}
+use Rattle.grammar_rules.specs.Rule.{Fits, Foul}
+use Rattle.grammar_rules.proofs.Promises.{Promises, token, gives, in_turn, many, choice}
 use Rattle.udp_tables.specs.declared.table.Level.{Level}
-use Rattle.udp_tables.specs.declared.table.Level.TheVariants as level
 use Rattle.udp_tables.specs.declared.table.Entry.{Entry}
 use Rattle.udp_tables.specs.declared.table.Entry.TheVariants as entry
-use Rattle.udp_tables.specs.declared.table.Next.{Next}
 use Rattle.udp_tables.specs.declared.table.Next.TheVariants as next
 use Rattle.udp_tables.specs.declared.table.UdpRow.{UdpRow}
 use Rattle.udp_tables.specs.declared.table.Udp.{Udp}
 use Rattle.udp_tables.specs.Primitive.{is_level}
-use Rattle.udp_tables.specs.Sequential.{changes_in}
 use Rattle.std.specs.Str.{bytes_eq}
-use Rattle.specify_blocks.specs.VerilogRules.{Refusal, Syntax, TwoEdges, Width, begins_where, is_among}
-use Rattle.specify_blocks.specs.VerilogPrimitives.{Header, most_inputs, most_inputs_with_state, next_input, more_inputs, header, declared_output, declared_state, register, declared_inputs, level_by, change_by, next_by, symbol, begins_change, begins_entry, pair, whole_entry, entry_by, entry_after, has_change, begins_next_entry, next_entry, more_entries, state_and_next, output_level, row_end, row, first_of_row, begins_row, next_row, table, primitive}
+use Rattle.specify_blocks.specs.VerilogRules.{Refusal, Syntax, TwoEdges, Width, begins_where}
+use Rattle.specify_blocks.specs.VerilogPrimitives.{Header, most_inputs, most_inputs_with_state, next_input, more_inputs, header, declared_state, register, level_by, change_by, next_by, symbol, begins_change, begins_entry, entry_by, entry_after, has_change, next_entry, more_entries, state_and_next, output_level, row_end, row, next_row, table, primitive}
 use Rattle.specify_blocks.specs.Sound.{IsTable}
-use Rattle.specify_blocks.specs.WellFormed.{IsName, AreApart, most_inputs_of, HasNoState, HasNoStates, IsWellFormedUdp}
-use Rattle.specify_blocks.proofs.ReadNames.{IsSpelled, IsNew, AreNames, push_name, one_name, fits_if, fits_where, some_if, new_names, any_names, IsFound, values, where_holds, goes_on, anything, surely, fits_same, fits_unless}
+use Rattle.specify_blocks.specs.WellFormed.{most_inputs_of, HasNoState, HasNoStates, IsWellFormedUdp}
+use Rattle.specify_blocks.proofs.ReadNames.{IsSpelled, IsNew, AreNames, push_name, one_name, fits_if, fits_where, some_if, new_names, any_names, values, where_holds, anything, surely, fits_same, fits_unless}
 
 -- Headers.
 
@@ -227,8 +224,8 @@ tables sequential n =
     in_turn (token (λ x y p e. let f = fits_if (begins_entry sequential x) (Fits x) Syntax y e in subst (λ t. IsTrue (begins_entry sequential t)) (fits_same x y f.1) f.0)) (λ x begins.
     in_turn (another_row sequential n [] x (λ k d h. absurd (omega arith)) begins) (λ first one.
     in_turn (many one (λ w x y q p e.
-        let f = some_if (begins_entry sequential x) (Fits x) (Fits y) e in
-        subst (λ t. Promises IsSpelled (next_row sequential n w t) (AreRows sequential n)) (fits_same x y f.1) (another_row sequential n w x q.all f.0))) (λ rows all.
+    let f = some_if (begins_entry sequential x) (Fits x) (Fits y) e in
+    subst (λ t. Promises IsSpelled (next_row sequential n w t) (AreRows sequential n)) (fits_same x y f.1) (another_row sequential n w x q.all f.0))) (λ rows all.
     in_turn (anything _) (λ b q2. gives all)))))
 
 -- Primitives.

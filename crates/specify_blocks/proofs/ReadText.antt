@@ -1,16 +1,15 @@
 -- The modules of a text are well formed.
-use Rattle.std.proofs.Common.{◌≡◌, ℕ, zero, suc, ◌+◌, ◌<◌, ◌≤◌, Bool, true, false, not, ◌&&◌, nat_lt, if◌then◌else◌, IsTrue, List, [], ◌∷◌, ◌++◌, length, slice_get, flat_map, inl, inr, Option, Some, None, refl, sym, ap, subst, ◌∙◌, arith, codes, append_assoc}
+use Rattle.std.proofs.Common.{◌≡◌, ℕ, zero, suc, ◌+◌, ◌<◌, ◌≤◌, Bool, true, false, not, ◌&&◌, nat_lt, if◌then◌else◌, IsTrue, List, [], ◌∷◌, ◌++◌, length, flat_map, Option, Some, None, refl, sym, ap, subst, ◌∙◌, arith, codes, append_assoc}
 use Rattle.std.specs.Prelude.{All}
 use Rattle.std.specs.Str.{bytes_eq}
 use Rattle.std.specs.List.{list_all}
-use Rattle.std.proofs.lemmas.Bool.{and_parts, cases_Bool}
+use Rattle.std.proofs.lemmas.Bool.{and_parts}
 use Rattle.std.proofs.lemmas.Bool.Decides.{nat_tests}
 use Rattle.std.proofs.lemmas.List.{append-nil, map_push}
 use Rattle.std.proofs.lemmas.List.Elements.{All-push}
 use Rattle.std.proofs.lemmas.List.Folds.{list_all-append}
 use Rattle.std.proofs.lemmas.Grind.{flat_map-append}
-use Rattle.grammar_rules.specs.Rule.{Fits}
-use Rattle.grammar_rules.proofs.Promises.{Promises, gives, last, in_turn, many, choice, any}
+use Rattle.grammar_rules.proofs.Promises.{Promises, gives, last, in_turn, many}
 use Rattle.udp_tables.specs.declared.table.Udp.{Udp}
 use Rattle.udp_tables.specs.declared.models.VPort.{VPort}
 use Rattle.specify_blocks.specs.declared.model.VNet.{VNet}
@@ -22,12 +21,12 @@ use Rattle.specify_blocks.specs.declared.model.VPath.{VPath}
 use Rattle.specify_blocks.specs.declared.model.VCheck.{VCheck}
 use Rattle.specify_blocks.specs.declared.model.VModule.{VModule}
 use Rattle.specify_blocks.specs.Nets.{is_output_port, is_driven, drivers}
-use Rattle.specify_blocks.specs.Sound.{IsTable, is_gate, IsPath, is_enabling, IsCheck, IsSound}
+use Rattle.specify_blocks.specs.Sound.{is_gate, IsPath, is_enabling, IsCheck}
 use Rattle.specify_blocks.specs.VerilogRules.{Undriven}
 use Rattle.specify_blocks.specs.VerilogModules.{output_nets, wire_nets, is_driven_already, are_all_driven}
 use Rattle.specify_blocks.specs.VerilogBlocks.{with_block}
-use Rattle.specify_blocks.specs.VerilogText.{Before, nothing, with_primitive, with_module, next_primitive, one_module, next_module, more_primitives, primitives_and_module, design_by, design, designs, file, IsVerilogText, text_tokens}
-use Rattle.specify_blocks.specs.WellFormed.{IsName, IsWellFormedUdp, IsWellFormedModule, udp_names, outer_names, AreWellFormed, inner_names, HasNumbers, IsNumber}
+use Rattle.specify_blocks.specs.VerilogText.{Before, with_primitive, with_module, next_primitive, one_module, next_module, more_primitives, primitives_and_module, design_by, designs, file, IsVerilogText, text_tokens}
+use Rattle.specify_blocks.specs.WellFormed.{IsName, IsWellFormedUdp, IsWellFormedModule, udp_names, outer_names, AreWellFormed}
 use Rattle.specify_blocks.proofs.ReadNames.{IsSpelled, IsNew, AreNames, push_name, no_names, new_names, where_holds, anything}
 use Rattle.specify_blocks.proofs.ReadPrimitives.{IsNewUdp, primitives}
 use Rattle.specify_blocks.proofs.ReadHeaders.{IsBare, bare_modules}

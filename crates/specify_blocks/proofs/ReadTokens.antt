@@ -1,13 +1,13 @@
 -- The tokens of a text that begin as names are whole identifiers.
-use Rattle.std.proofs.Common.{◌≡◌, ℕ, zero, suc, ◌+◌, ◌≤◌, Bool, true, false, not, ◌&&◌, ◌||◌, ◌==◌, nat_eq, if◌then◌else◌, cond, IsTrue, List, [], ◌∷◌, length, take, map, inl, inr, Option, refl, sym, ap, subst, ◌∙◌, arith, codes}
+use Rattle.std.proofs.Common.{◌≡◌, ℕ, zero, suc, ◌+◌, Bool, true, false, not, ◌&&◌, ◌||◌, ◌==◌, nat_eq, if◌then◌else◌, List, [], ◌∷◌, take, inl, inr, Option, refl, subst, arith, codes}
 use Rattle.std.specs.List.{AllByRecursion, list_all, list_any, prefix_len}
 use Rattle.std.specs.Char.{is_ascii_alphabetic, is_ascii_digit}
 use Rattle.std.specs.Int.{is_in_range}
 use Rattle.std.proofs.lemmas.Bool.{and_parts, and_from, cases_Bool}
 use Rattle.std.proofs.lemmas.Bool.Decides.{nat_tests}
-use Rattle.verilog_names.specs.Kept.{is_name_byte, is_identifier}
+use Rattle.verilog_names.specs.Kept.{is_name_byte}
 use Rattle.verilog_names.specs.Words.{is_verilog_word}
-use Rattle.specify_blocks.specs.VerilogTokens.{Token, is_one_of, is_symbol, is_mark, sign_length, number_length, word_length, begins_word, token_length, is_open_after, at_front, after, scan, scan_of, spellings, separator_length, is_name}
+use Rattle.specify_blocks.specs.VerilogTokens.{Token, is_one_of, is_symbol, is_mark, sign_length, number_length, word_length, begins_word, token_length, is_open_after, at_front, after, scan, spellings, separator_length}
 use Rattle.specify_blocks.specs.VerilogText.{text_tokens}
 use Rattle.specify_blocks.proofs.ReadNames.{IsSpelled}
 

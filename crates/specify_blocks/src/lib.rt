@@ -15,6 +15,6 @@ mod timing;
 
 pub use faults::Memory;
 pub use generation::verilog_model;
-pub use laws::generated_is_sound;
+pub use laws::{generated_is_sound, texts_are_well_formed};
 pub use model::{Gate, Instance, VCheck, VModule, VNet, VPath};
 pub use ports::verilog_ports;

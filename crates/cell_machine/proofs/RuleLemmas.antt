@@ -8,7 +8,7 @@ use Rattle.cell_machine.specs.declared.outputs.OutputPin.{OutputPin}
 use Rattle.cell_machine.specs.declared.checks.Check.{Check}
 use Rattle.cell_machine.specs.declared.arcs.Arc.{Arc}
 use Rattle.cell_machine.specs.declared.cells.Cell.{Cell}
-use Rattle.cell_machine.specs.CellRules.{is_name, is_input_pin, is_output_pin, are_events, longest_time, is_condition, is_check, is_arc, is_in_order, is_output_of, are_pins, are_groups_from, are_groups, are_outputs, are_checks, are_arcs, is_cell, HoldsRules}
+use Rattle.cell_machine.specs.CellRules.{is_name, is_input_pin, is_output_pin, has_events, longest_time, is_condition, is_check, is_arc, is_in_order, is_output_of, are_pins, are_groups_from, are_groups, are_outputs, are_checks, are_arcs, is_cell, HoldsRules}
 
 pub rules_of :
     (name : List ℕ) (pins : List Pin) (groups : List StateGroup) (outputs : List OutputPin) (checks : List Check)
@@ -74,9 +74,9 @@ pub check_parts : (pins : List Pin) (k : Check) → IsTrue (is_check pins k) →
 check_parts pins k h =
     let when : Bool = is_condition pins (k.first.pin ∷ k.second.pin ∷ []) k.condition in
     let long : Bool = nat_le k.limit longest_time in
-    let a = and_parts (is_input_pin pins k.first.pin) (is_input_pin pins k.second.pin && (are_events k.kind k.first k.second && (nat_lt 0 k.limit && (long && when)))) h in
-    let b = and_parts (is_input_pin pins k.second.pin) (are_events k.kind k.first k.second && (nat_lt 0 k.limit && (long && when))) a.1 in
-    let c = and_parts (are_events k.kind k.first k.second) (nat_lt 0 k.limit && (long && when)) b.1 in
+    let a = and_parts (is_input_pin pins k.first.pin) (is_input_pin pins k.second.pin && (has_events k k.kind && (nat_lt 0 k.limit && (long && when)))) h in
+    let b = and_parts (is_input_pin pins k.second.pin) (has_events k k.kind && (nat_lt 0 k.limit && (long && when))) a.1 in
+    let c = and_parts (has_events k k.kind) (nat_lt 0 k.limit && (long && when)) b.1 in
     let d = and_parts (nat_lt 0 k.limit) (long && when) c.1 in
     let e = and_parts long when d.1 in
     record { first = a.0; second = b.0; enabled = e.1 }

@@ -25,7 +25,6 @@ use Rattle.cell_machine.specs.declared.checks.CheckKind.{CheckKind}
 use Rattle.cell_machine.specs.declared.checks.CheckKind.TheVariants as check_kind
 use Rattle.cell_machine.specs.declared.checks.Edge.{Edge}
 use Rattle.cell_machine.specs.declared.checks.Edge.TheVariants as edge
-use Rattle.cell_machine.specs.declared.checks.Event.{Event}
 use Rattle.cell_machine.specs.declared.checks.Check.{Check}
 use Rattle.cell_machine.specs.declared.arcs.Arc.{Arc}
 use Rattle.cell_machine.specs.Names.{source_name, has, names_of_optional}
@@ -223,23 +222,23 @@ are_opposite edge.Rise edge.Fall = true
 are_opposite edge.Fall edge.Rise = true
 are_opposite _ _ = false
 
--- Whether these are the events of a check of this kind, the earlier and the later one. (Liberty Reference Manual, timing_type and the attributes min_pulse_width_high,
+-- The events of a check, by its kind. (Liberty Reference Manual, timing_type and the attributes min_pulse_width_high,
 -- min_pulse_width_low and min_period.)
-abbrev pub are_events : CheckKind → Event → Event → Bool
-are_events check_kind.Setup first second = is_any_edge first.edge && is_one_edge second.edge
-are_events check_kind.Hold first second = is_one_edge first.edge && is_any_edge second.edge
-are_events check_kind.Recovery first second = is_one_edge first.edge && is_one_edge second.edge
-are_events check_kind.Removal first second = is_one_edge first.edge && is_one_edge second.edge
-are_events check_kind.Width first second = nat_eq first.pin second.pin && are_opposite first.edge second.edge
-are_events check_kind.Period first second =
-    nat_eq first.pin second.pin && (is_any_edge first.edge && is_any_edge second.edge)
+abbrev pub has_events : Check → CheckKind → Bool
+has_events k check_kind.Setup = is_any_edge k.first.edge && is_one_edge k.second.edge
+has_events k check_kind.Hold = is_one_edge k.first.edge && is_any_edge k.second.edge
+has_events k check_kind.Recovery = is_one_edge k.first.edge && is_one_edge k.second.edge
+has_events k check_kind.Removal = is_one_edge k.first.edge && is_one_edge k.second.edge
+has_events k check_kind.Width = nat_eq k.first.pin k.second.pin && are_opposite k.first.edge k.second.edge
+has_events k check_kind.Period =
+    nat_eq k.first.pin k.second.pin && (is_any_edge k.first.edge && is_any_edge k.second.edge)
 
 -- A check: events of input pins, a limit of 1 to the longest time, and a condition apart from the pins of its events.
 abbrev pub is_check : List Pin → Check → Bool
 is_check pins k =
     is_input_pin pins k.first.pin
     && (is_input_pin pins k.second.pin
-    && (are_events k.kind k.first k.second
+    && (has_events k k.kind
     && (nat_lt 0 k.limit
     && (nat_le k.limit longest_time && is_condition pins (k.first.pin ∷ k.second.pin ∷ []) k.condition))))
 

@@ -14,8 +14,7 @@ use Rattle.cell_machine.specs.CellData.{CellData}
 use Rattle.specify_blocks.specs.declared.model.VNet.TheVariants as net
 use Rattle.specify_blocks.specs.declared.model.Instance.TheVariants as instance
 use Rattle.specify_blocks.specs.declared.model.Gate.TheVariants as gate
-use Rattle.udp_tables.specs.Ports.{port_number}
-use Rattle.specify_blocks.specs.Ports.{ports_of}
+use Rattle.specify_blocks.specs.Ports.{port_number, ports_of}
 use Rattle.specify_blocks.specs.Names.{module_name}
 use Rattle.specify_blocks.specs.Generated.{instances_of, path_of, check_of}
 

@@ -17,7 +17,7 @@ use Rattle.specify_blocks.specs.declared.model.Instance.TheVariants as instance
 use Rattle.specify_blocks.specs.declared.model.VModule.{VModule}
 use Rattle.specify_blocks.specs.Nets.{same_net, net_driven, is_state, has_state, drivers}
 use Rattle.specify_blocks.specs.Sound.{IsInstance, AreInstances}
-use Rattle.udp_tables.specs.Ports.{port_number}
+use Rattle.specify_blocks.specs.Ports.{port_number}
 use Rattle.specify_blocks.specs.Generated.{pin_net, source_net, each_from, output_instance, after_output, output_instances}
 use Rattle.specify_blocks.proofs.PortLemmas.{miss, hit, hits, hits-cons}
 

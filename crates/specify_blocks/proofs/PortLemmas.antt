@@ -1,5 +1,5 @@
 -- The ports of a cell's pins, and their numbers.
-use Rattle.std.proofs.Common.{◌≡◌, ℕ, zero, suc, ◌+◌, ◌<◌, Bool, true, false, not, ◌||◌, cond, List, [], ◌∷◌, map, refl, sym, ap, ◌∙◌, subst, arith, IsTrue, slice_get, nat_eq, if◌then◌else◌}
+use Rattle.std.proofs.Common.{◌≡◌, ℕ, zero, suc, ◌+◌, ◌<◌, Bool, true, false, not, ◌||◌, cond, List, [], ◌∷◌, take, refl, sym, ap, ◌∙◌, subst, arith, IsTrue, slice_get, nat_eq, if◌then◌else◌}
 use Rattle.std.specs.Prelude.{count_by}
 use Rattle.std.specs.Option.{option_map_or}
 use Rattle.std.proofs.lemmas.List.Sums.{sum_by-cons}
@@ -9,13 +9,8 @@ use Rattle.cell_machine.specs.declared.pins.Direction.TheVariants as direction
 use Rattle.cell_machine.specs.declared.pins.Pin.{Pin}
 use Rattle.cell_machine.specs.CellRules.{is_input, is_output, is_input_pin, is_output_pin, output_pins_from}
 use Rattle.udp_tables.specs.declared.models.VPort.{VPort}
-use Rattle.cell_machine.specs.Inputs.{is_input_at}
-use Rattle.udp_tables.specs.PortNumbers as port
-use Rattle.udp_tables.specs.PortNumbers.{is_input_port, is_output_port}
-use Rattle.udp_tables.specs.Ports.{is_port, port_number, ArePortsOf}
-use Rattle.udp_tables.proofs.PortLemmas as lemma
-use Rattle.udp_tables.proofs.PortLemmas.{sides, first_side, sides-cons, port_number-cons, input-is-port}
-use Rattle.specify_blocks.specs.Ports.{port_name, port_of, ports_from}
+use Rattle.specify_blocks.specs.Ports.{is_port, port_number, port_name, port_of, ports_from}
+use Rattle.specify_blocks.specs.Nets.{is_input_port, is_output_port}
 
 -- what a test that fails, and one that passes, counts
 pub miss : (a t : ℕ) → (a ≡ t → ⊥) → ◌≡◌ {A = ℕ} (cond (nat_eq a t) 1 0) 0
@@ -28,28 +23,62 @@ miss a t h = by (nat_eq a t) refl
 pub hit : (a t : ℕ) → a ≡ t → ◌≡◌ {A = ℕ} (cond (nat_eq a t) 1 0) 1
 hit a t h = ap (λ b. cond b 1 0) (eq-eqb a t h)
 
--- the ports of a module are those of its cell's pins
-pub are_ports : (k : ℕ) (pins : List Pin) → ArePortsOf pins (ports_from k pins)
-are_ports k [] = refl
-are_ports k (pin ∷ pins) =
-    by (is_port pin) (are_ports (k + 1) pins) (are_ports k pins) ∙ sym (sides-cons pin pins)
-  where
-    by :
-        (b : Bool) → ArePortsOf pins (ports_from (k + 1) pins) → ArePortsOf pins (ports_from k pins)
-        → map port.is_input (if b then port_of k pin ∷ ports_from (k + 1) pins else ports_from k pins)
-        ≡ first_side b (is_input_at pin) (sides pins)
-    by true next same = ap (λ bs. is_input_at pin ∷ bs) next
-    by false next same = same
+pub port_number-cons :
+    (pin : Pin) (pins : List Pin) (p : ℕ)
+    → port_number (pin ∷ pins) (suc p) ≡ cond (is_port pin) 1 0 + port_number pins p
+port_number-cons pin pins p = sum_by-cons (λ x. cond (is_port x) 1 0) pin (take p pins)
+
+-- a test of pins that ports pass, and what the port of such a pin passes
+module _ (s : Pin → Bool) (t : VPort → Bool) (fits : (k : ℕ) (pin : Pin) → IsTrue (s pin) → IsTrue (is_port pin) × IsTrue (t (port_of k pin))) where
+  at_port :
+      (pins : List Pin) (k p : ℕ)
+      → IsTrue (option_map_or s (slice_get pins p) false)
+      → IsTrue (option_map_or t (slice_get (ports_from k pins) (port_number pins p)) false)
+  at_port [] k p h = absurd cc
+  at_port (pin ∷ pins) k zero h =
+      let port = fits k pin h in
+      subst (λ b. IsTrue (option_map_or t (slice_get (if b then port_of k pin ∷ ports_from (k + 1) pins else ports_from k pins) 0) false))
+      (sym port.0) port.1
+  at_port (pin ∷ pins) k (suc p) h =
+      subst (λ n. IsTrue (option_map_or t (slice_get (if is_port pin then port_of k pin ∷ ports_from (k + 1) pins else ports_from k pins) n) false))
+      (sym (port_number-cons pin pins p))
+      (later k pin pins (port_number pins p) (is_port pin) (at_port pins (k + 1) p h) (at_port pins k p h))
+    where
+      later :
+          (k : ℕ) (pin : Pin) (pins : List Pin) (n : ℕ) (b : Bool)
+          → IsTrue (option_map_or t (slice_get (ports_from (k + 1) pins) n) false)
+          → IsTrue (option_map_or t (slice_get (ports_from k pins) n) false)
+          → IsTrue (option_map_or t (slice_get (if b then port_of k pin ∷ ports_from (k + 1) pins else ports_from k pins) (cond b 1 0 + n)) false)
+      later k pin pins n true h i =
+          let next : suc n ≡ 1 + n = omega arith in
+          subst (λ m. IsTrue (option_map_or t (slice_get (port_of k pin ∷ ports_from (k + 1) pins) m) false)) next h
+      later k pin pins n false h i =
+          let same : n ≡ 0 + n = omega arith in
+          subst (λ m. IsTrue (option_map_or t (slice_get (ports_from k pins) m) false)) same i
+
+input-is-port : (d : Direction) → IsTrue (is_input d) → IsTrue (is_input d || is_output d)
+input-is-port direction.Input h = refl
+input-is-port direction.Output h = absurd cc
+input-is-port direction.Internal h = absurd cc
+
+output-is-port : (d : Direction) → IsTrue (is_output d) → IsTrue (is_input d || is_output d) × IsTrue (not (is_input d))
+output-is-port direction.Input h = absurd cc
+output-is-port direction.Output h = (refl, refl)
+output-is-port direction.Internal h = absurd cc
 
 -- the port of an input pin is an input
 pub input_port :
     (pins : List Pin) (k p : ℕ) → IsTrue (is_input_pin pins p) → IsTrue (is_input_port (ports_from k pins) (port_number pins p))
-input_port pins k p = lemma.input_port pins (ports_from k pins) p (are_ports k pins)
+input_port =
+    at_port (λ (pin : Pin). is_input pin.direction) (λ (port : VPort). port.input)
+    (λ k pin h. (input-is-port pin.direction h, h))
 
 -- the port of an output pin is an output
 pub output_port :
     (pins : List Pin) (k p : ℕ) → IsTrue (is_output_pin pins p) → IsTrue (is_output_port (ports_from k pins) (port_number pins p))
-output_port pins k p = lemma.output_port pins (ports_from k pins) p (are_ports k pins)
+output_port =
+    at_port (λ (pin : Pin). is_output pin.direction) (λ (port : VPort). not port.input)
+    (λ k pin h. output-is-port pin.direction h)
 
 -- the number of a port is below that of each pin after it
 pub number-below :

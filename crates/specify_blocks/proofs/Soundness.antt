@@ -22,7 +22,7 @@ use Rattle.cell_machine.specs.declared.checks.Check.{Check}
 use Rattle.cell_machine.specs.declared.arcs.Arc.{Arc}
 use Rattle.cell_machine.specs.Names.{source_name}
 use Rattle.cell_machine.specs.Values.{no_values}
-use Rattle.cell_machine.specs.CellRules.{is_ascending, is_input_pin, is_output_pin, output_pins_from, is_output, is_support, is_group, are_groups_from, is_source, is_output_of, are_events, is_check, is_arc, HoldsRules, is_in_order}
+use Rattle.cell_machine.specs.CellRules.{is_ascending, is_input_pin, is_output_pin, output_pins_from, is_output, is_support, is_group, are_groups_from, is_source, is_output_of, has_events, are_opposite, is_any_edge, is_check, is_arc, HoldsRules, is_in_order}
 use Rattle.cell_machine.proofs.OutputFacts.{all-at}
 use Rattle.cell_machine.proofs.StepLemmas.{ascending}
 use Rattle.cell_machine.proofs.RuleLemmas.{check_parts}
@@ -44,8 +44,7 @@ use Rattle.specify_blocks.specs.declared.model.Gate.TheVariants as gate
 use Rattle.specify_blocks.specs.Nets.{same_net, are_apart, is_sequential, is_driven, net_driven, has_state, is_state, is_value, feeds_state, feeds_value, drivers}
 use Rattle.specify_blocks.specs.Sound.{IsTable, IsInstance, AreInstances, is_gate, IsPath, has_written_events, is_enabling, IsCheck, IsSound}
 use Rattle.specify_blocks.specs.Names.{notifier_name, state_wires, condition_wires}
-use Rattle.udp_tables.specs.Ports.{port_number}
-use Rattle.udp_tables.proofs.PortLemmas.{events-kept}
+use Rattle.specify_blocks.specs.Ports.{port_number}
 use Rattle.specify_blocks.specs.Generated.{condition_count, wires_of, notifier_of, pin_net, source_net, notifier_nets, condition_wire, each_from, group_instance, condition_instance, output_instances, instances_of, output_primitives, group_primitives, condition_primitives, primitives_of, wire_of, is_conditional, gate_by, path_of, check_of, module_of}
 use Rattle.specify_blocks.proofs.OutputPins.{outputs_are_pins}
 use Rattle.specify_blocks.proofs.PortLemmas.{input_port, output_port, hits, output_once}
@@ -446,13 +445,19 @@ module _ (cell : CellData) (h : HoldsRules cell.name cell.pins cell.groups cell.
   enabling_is i k at None e = refl
   enabling_is i k at (Some f) e = value_is f (check_found cell i k f at e)
 
-  written_is : (k : Check) (c : CheckKind) → IsTrue (are_events c k.first k.second) → IsTrue (has_written_events (check_of cell k) c)
+  same_port : (p q : ℕ) (b : Bool) → IsTrue (nat_eq p q && b) → IsTrue (nat_eq (port_number cell.pins p) (port_number cell.pins q) && b)
+  same_port p q b k =
+      let parts = and_parts (nat_eq p q) b k in
+      and_from (nat_eq (port_number cell.pins p) (port_number cell.pins q)) b
+      (eq-eqb (port_number cell.pins p) (port_number cell.pins q) (ap (port_number cell.pins) (eqb-true p q parts.0))) parts.1
+
+  written_is : (k : Check) (c : CheckKind) → IsTrue (has_events k c) → IsTrue (has_written_events (check_of cell k) c)
   written_is k check_kind.Setup e = refl
   written_is k check_kind.Hold e = refl
   written_is k check_kind.Recovery e = refl
   written_is k check_kind.Removal e = refl
-  written_is k check_kind.Width e = events-kept cell.pins check_kind.Width k.first k.second e
-  written_is k check_kind.Period e = events-kept cell.pins check_kind.Period k.first k.second e
+  written_is k check_kind.Width e = same_port k.first.pin k.second.pin (are_opposite k.first.edge k.second.edge) e
+  written_is k check_kind.Period e = same_port k.first.pin k.second.pin (is_any_edge k.first.edge && is_any_edge k.second.edge) e
 
   notifier_is : (i : ℕ) → i < length cell.checks → IsTrue (is_some (notifier_of cell))
   notifier_is i within =
@@ -469,7 +474,7 @@ module _ (cell : CellData) (h : HoldsRules cell.name cell.pins cell.groups cell.
       let parts = check_parts cell.pins k rule in
       let first = and_parts (is_input_pin cell.pins k.first.pin) _ rule in
       let second = and_parts (is_input_pin cell.pins k.second.pin) _ first.1 in
-      let events = and_parts (are_events k.kind k.first k.second) _ second.1 in
+      let events = and_parts (has_events k k.kind) _ second.1 in
       record {
         first = input_port cell.pins 1 k.first.pin parts.first;
         second = input_port cell.pins 1 k.second.pin parts.second;

@@ -3,7 +3,7 @@ use Rattle.std.specs.Prelude.{ℕ, Bool, true, false, not, ◌&&◌, List, [], �
 use Rattle.std.specs.List.{list_any}
 use Rattle.std.specs.Option.{option_map_or}
 use Rattle.udp_tables.specs.declared.table.Udp.{Udp}
-pub use Rattle.udp_tables.specs.PortNumbers.{is_input_port, is_output_port}
+use Rattle.udp_tables.specs.declared.models.VPort.{VPort}
 use Rattle.specify_blocks.specs.declared.model.VNet.{VNet}
 use Rattle.specify_blocks.specs.declared.model.VNet.TheVariants as net
 use Rattle.specify_blocks.specs.declared.model.Instance.{Instance}
@@ -26,6 +26,14 @@ same_net net.Notifier net.Notifier = true
 abbrev pub are_apart : List VNet → Bool
 are_apart [] = true
 are_apart (n ∷ ns) = not (list_any (same_net n) ns) && are_apart ns
+
+-- whether this is the number of an input port
+abbrev pub is_input_port : List VPort → ℕ → Bool
+is_input_port ports p = option_map_or (λ (port : VPort). port.input) (slice_get ports p) false
+
+-- whether this is the number of an output port
+abbrev pub is_output_port : List VPort → ℕ → Bool
+is_output_port ports p = option_map_or (λ (port : VPort). not port.input) (slice_get ports p) false
 
 -- whether this is the number of a primitive with a state
 abbrev pub is_sequential : List Udp → ℕ → Bool

@@ -5,7 +5,7 @@ use Rattle.std.specs.Prelude.{◌≡◌, ℕ, Bool, true, false, ◌&&◌, All, 
 use Rattle.std.specs.List.{list_all}
 use Rattle.cell_machine.specs.declared.checks.CheckKind.{CheckKind}
 use Rattle.cell_machine.specs.declared.checks.CheckKind.TheVariants as check_kind
-use Rattle.cell_machine.specs.CellRules.{are_events}
+use Rattle.cell_machine.specs.CellRules.{is_any_edge, are_opposite}
 use Rattle.udp_tables.specs.declared.table.Udp.{Udp}
 use Rattle.udp_tables.specs.Primitive.{IsCombinational}
 use Rattle.udp_tables.specs.Sequential.{IsSequential}
@@ -62,8 +62,9 @@ has_written_events k check_kind.Setup = true
 has_written_events k check_kind.Hold = true
 has_written_events k check_kind.Recovery = true
 has_written_events k check_kind.Removal = true
-has_written_events k check_kind.Width = are_events check_kind.Width k.first k.second
-has_written_events k check_kind.Period = are_events check_kind.Period k.first k.second
+has_written_events k check_kind.Width = nat_eq k.first.pin k.second.pin && are_opposite k.first.edge k.second.edge
+has_written_events k check_kind.Period =
+    nat_eq k.first.pin k.second.pin && (is_any_edge k.first.edge && is_any_edge k.second.edge)
 
 -- whether the condition of a check, where there is one, is a wire with a value that is no state
 abbrev pub is_enabling : VModule → Option ℕ → Bool

@@ -11,7 +11,7 @@ use Rattle.specify_blocks.specs.declared.model.VModule.{VModule}
 use Rattle.table_interpreters.specs.declared.checks.Stamps.{Stamps}
 use Rattle.table_interpreters.specs.declared.module_run.ModuleRun.{ModuleRun}
 use Rattle.table_interpreters.specs.declared.shown.Shown.{Shown}
-use Rattle.udp_tables.specs.PortNumbers.{input_count, output_by, outputs_from, output_ports}
+use Rattle.table_interpreters.specs.PortNumbers.{input_count, output_by, outputs_from, output_ports}
 use Rattle.table_interpreters.specs.CheckTimes.{no_stamps}
 use Rattle.table_interpreters.specs.ModuleRun.{shaken, reports_at, happened, run_step, step_reports, run_after}
 use Rattle.table_interpreters.specs.ShownPorts.{shown_first, shown_step}

@@ -17,7 +17,7 @@ use Rattle.udp_tables.specs.declared.models.VPort.{VPort}
 use Rattle.specify_blocks.specs.declared.model.VCheck.{VCheck}
 use Rattle.specify_blocks.specs.declared.model.VModule.{VModule}
 use Rattle.table_interpreters.specs.declared.module_run.ModuleRun.{ModuleRun}
-use Rattle.udp_tables.specs.PortNumbers.{input_count, input_event}
+use Rattle.table_interpreters.specs.PortNumbers.{input_count, input_event}
 use Rattle.table_interpreters.specs.CheckTimes.{no_stamps, second_of, stamped}
 use Rattle.table_interpreters.specs.ModuleRun.{entered, kept, notified, shaken, reports_at, happened, run_after}
 use Rattle.table_interpreters.specs.Laws.{last_stamps, RunHoldsInputs, RunKeepsLastEvents}

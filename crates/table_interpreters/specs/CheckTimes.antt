@@ -14,7 +14,7 @@ use Rattle.specify_blocks.specs.declared.model.VNet.TheVariants as net
 use Rattle.specify_blocks.specs.declared.model.VCheck.{VCheck}
 use Rattle.specify_blocks.specs.declared.model.VModule.{VModule}
 use Rattle.table_interpreters.specs.declared.checks.Stamps.{Stamps}
-use Rattle.udp_tables.specs.PortNumbers.{input_event}
+use Rattle.table_interpreters.specs.PortNumbers.{input_event}
 use Rattle.table_interpreters.specs.NetValues.{net_value}
 
 -- before any event

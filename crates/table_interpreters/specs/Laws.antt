@@ -8,7 +8,7 @@ use Rattle.udp_tables.specs.declared.models.VPort.{VPort}
 use Rattle.specify_blocks.specs.declared.model.VCheck.{VCheck}
 use Rattle.specify_blocks.specs.declared.model.VModule.{VModule}
 use Rattle.table_interpreters.specs.declared.checks.Stamps.{Stamps}
-use Rattle.udp_tables.specs.PortNumbers.{input_count, input_event}
+use Rattle.table_interpreters.specs.PortNumbers.{input_count, input_event}
 use Rattle.table_interpreters.specs.CheckTimes.{second_of}
 use Rattle.table_interpreters.specs.ModuleRun.{run_after}
 

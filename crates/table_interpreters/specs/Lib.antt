@@ -1,3 +1,4 @@
+pub mod PortNumbers
 pub mod Wiring
 pub mod NetValues
 pub mod Primitives

@@ -10,7 +10,7 @@ use Rattle.specify_blocks.specs.declared.model.VModule.{VModule}
 use Rattle.table_interpreters.specs.declared.primitives.Turned.TheVariants as turned
 use Rattle.table_interpreters.specs.declared.primitives.Turn.{Turn}
 use Rattle.table_interpreters.specs.declared.module_run.ModuleRun.{ModuleRun}
-use Rattle.udp_tables.specs.PortNumbers.{input_count}
+use Rattle.table_interpreters.specs.PortNumbers.{input_count}
 use Rattle.table_interpreters.specs.Primitives.{next_states}
 use Rattle.table_interpreters.specs.CheckTimes.{no_stamps, stamped, check_reports}
 

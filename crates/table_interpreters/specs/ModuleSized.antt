@@ -10,7 +10,7 @@ use Rattle.cell_machine.specs.Lines.{IsSized}
 use Rattle.specify_blocks.specs.declared.model.VModule.{VModule}
 use Rattle.table_interpreters.specs.declared.primitives.Turned.TheVariants as turned
 use Rattle.table_interpreters.specs.declared.module_run.ModuleRun.{ModuleRun}
-use Rattle.udp_tables.specs.PortNumbers.{output_ports}
+use Rattle.table_interpreters.specs.PortNumbers.{output_ports}
 use Rattle.table_interpreters.specs.Primitives.{next_state}
 use Rattle.table_interpreters.specs.CheckTimes.{no_stamps, stamped, check_reports}
 use Rattle.table_interpreters.specs.ModuleRun.{HasEach, start_run, turn_of, entered, kept, toggled, notified, shaken, reports_at, happened, run_after}

@@ -4,7 +4,7 @@ use Rattle.cell_machine.specs.declared.changes.Change.{Change}
 use Rattle.specify_blocks.specs.declared.model.VModule.{VModule}
 use Rattle.table_interpreters.specs.declared.module_run.ModuleRun.{ModuleRun}
 use Rattle.table_interpreters.specs.declared.shown.Shown.{Shown}
-use Rattle.udp_tables.specs.PortNumbers.{output_ports}
+use Rattle.table_interpreters.specs.PortNumbers.{output_ports}
 use Rattle.table_interpreters.specs.ModuleRun.{run_after}
 use Rattle.table_interpreters.specs.ModuleTrace.{output_after, delay_after, reports_after}
 

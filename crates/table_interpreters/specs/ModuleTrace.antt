@@ -6,7 +6,7 @@ use Rattle.cell_machine.specs.Lines.{Line, trace, Machine}
 use Rattle.specify_blocks.specs.declared.model.VNet.TheVariants as net
 use Rattle.specify_blocks.specs.declared.model.VModule.{VModule}
 use Rattle.table_interpreters.specs.declared.module_run.ModuleRun.{ModuleRun}
-use Rattle.udp_tables.specs.PortNumbers.{input_count, output_ports}
+use Rattle.table_interpreters.specs.PortNumbers.{input_count, output_ports}
 use Rattle.table_interpreters.specs.NetValues.{net_value}
 use Rattle.table_interpreters.specs.PathDelays.{delay_at}
 use Rattle.table_interpreters.specs.ModuleRun.{run_after, step_reports}

@@ -17,7 +17,7 @@ use Rattle.specify_blocks.specs.Nets.{is_input_port}
 use Rattle.table_interpreters.specs.declared.primitives.Turned.{Turned}
 use Rattle.table_interpreters.specs.declared.primitives.Turned.TheVariants as turned
 use Rattle.table_interpreters.specs.declared.primitives.Turn.{Turn}
-use Rattle.udp_tables.specs.PortNumbers.{input_number, input_value}
+use Rattle.table_interpreters.specs.PortNumbers.{input_number, input_value}
 
 -- whether this net is what changes
 abbrev pub is_turned : List VPort → Turned → VNet → Bool

@@ -1,14 +1,15 @@
 //! Whether the timing checks of a module report, by the times that they keep.
 ghost use Rattle.std.specs.Prelude.{◌≡◌, ◌<◌, length, IsTrue, replicate, false};
 ghost use Rattle.cell_machine.specs.Each.{each};
-ghost use Rattle.cell_machine.specs.Report.{happens};
+ghost use Rattle.cell_machine.specs.Report.{is_period, happens, is_within};
+ghost use Rattle.cell_machine.specs.Times.{renewed};
 ghost use Rattle.table_interpreters.specs.Wiring.{is_wired};
-ghost use Rattle.udp_tables.specs.PortNumbers.{input_event};
+ghost use Rattle.table_interpreters.specs.PortNumbers.{input_event};
 ghost use Rattle.table_interpreters.specs.CheckTimes.{no_stamps, stamped, opened, is_enabled, check_reports};
 
 use crate::net_values::net_value;
 use crate::ports::input_number;
-use cell_machine::{Change, Edge, Event, is_rise, is_within, moves, renewed};
+use cell_machine::{Change, CheckKind, Edge, Event, is_rise, moves};
 use specify_blocks::{VCheck, VModule, VNet};
 use sqlite_items::Items;
 use trit_cubes::Trit;
@@ -38,11 +39,32 @@ impl Stamps {
     }
 }
 
+// Whether a check of this kind measures from an event of the change's own kind.
+fn is_period(kind: CheckKind) -> bool
+    ensures { result ≡ is_period kind }
+{
+    match kind {
+        CheckKind::Setup => false,
+        CheckKind::Hold => false,
+        CheckKind::Recovery => false,
+        CheckKind::Removal => false,
+        CheckKind::Width => false,
+        CheckKind::Period => true,
+    }
+}
+
 // Whether a change of an input that had the value `from` is this event of a port.
 fn happens(ports: &[VPort], event: Event, from: Trit, change: Change) -> bool
     ensures { result ≡ happens (input_event ports.now event) from change }
 {
     change.pin == input_number(ports, event.pin) && moves(event.edge, from, change.to)
+}
+
+// This time where the event counts, else the one that was kept.
+fn renewed(counts: bool, at: u64, kept: Option<u64>) -> Option<u64>
+    ensures { result ≡ renewed counts at kept }
+{
+    if counts { Some(at) } else { kept }
 }
 
 // The times that a check keeps after a change of an input that had the value `from`.
@@ -69,7 +91,7 @@ fn stamped(ports: &[VPort], from: Trit, change: Change, check: &VCheck, stamps: 
 fn opened(check: &VCheck, from: Trit, change: Change, stamps: Stamps) -> Option<u64>
     ensures { result ≡ opened check.now from change stamps }
 {
-    if check.kind.is_period() {
+    if is_period(check.kind) {
         if is_rise(from, change.to) {
             stamps.rise
         } else {
@@ -77,6 +99,19 @@ fn opened(check: &VCheck, from: Trit, change: Change, stamps: Stamps) -> Option<
         }
     } else {
         stamps.first
+    }
+}
+
+// Whether an event at the time `at` came less than `limit` after `opened`.
+fn is_within(at: u64, limit: u64, opened: Option<u64>) -> bool
+    ensures { result ≡ is_within at limit opened }
+{
+    let Some(opened) = opened else {
+        return false;
+    };
+    match opened.checked_add(limit) {
+        Some(end) => at < end,
+        None => true,
     }
 }
 

@@ -1,7 +1,7 @@
 //! The simulator of a Verilog module.
 ghost use Rattle.std.specs.Prelude.{◌≡◌, [], length, IsTrue};
 ghost use Rattle.table_interpreters.specs.Wiring.{is_wired};
-ghost use Rattle.udp_tables.specs.PortNumbers.{input_count, output_ports};
+ghost use Rattle.table_interpreters.specs.PortNumbers.{input_count, output_ports};
 
 use crate::checks::Stamps;
 use crate::faults::Memory;

@@ -23,7 +23,7 @@ use Rattle.cell_machine.specs.declared.checks.CheckKind.TheVariants as kind
 use Rattle.cell_machine.specs.declared.checks.Edge.TheVariants.{Any, Rise, Fall}
 use Rattle.cell_machine.specs.declared.checks.Check.{Check}
 use Rattle.cell_machine.specs.declared.pins.Pin.{Pin}
-use Rattle.cell_machine.specs.CellRules.{longest_time, is_input_pin, is_condition, is_one_edge, are_events, is_check, is_arc}
+use Rattle.cell_machine.specs.CellRules.{longest_time, is_input_pin, is_condition, is_one_edge, has_events, is_check, is_arc}
 use Rattle.cell_machine.specs.Names.{has}
 use Rattle.timing_arcs.specs.declared.condition.Condition.{Condition}
 use Rattle.timing_arcs.specs.declared.condition.Condition.TheVariants as condition
@@ -224,7 +224,7 @@ unfolding related_of
 inputs-inputs subject group h = typed-inputs subject group (type_of group) (used-stands subject group h)
 
 -- A check with a limit keeps the rules where its events, its limit and its condition do.
-pub check-kept : (pins : List Pin) (k : Check) → is_input_pin pins k.first.pin ≡ true → is_input_pin pins k.second.pin ≡ true → are_events k.kind k.first k.second ≡ true → k.limit ≤ longest_time → is_condition pins (k.first.pin ∷ k.second.pin ∷ []) k.condition ≡ true → (not (has_limit k) || is_check pins k) ≡ true
+pub check-kept : (pins : List Pin) (k : Check) → is_input_pin pins k.first.pin ≡ true → is_input_pin pins k.second.pin ≡ true → has_events k k.kind ≡ true → k.limit ≤ longest_time → is_condition pins (k.first.pin ∷ k.second.pin ∷ []) k.condition ≡ true → (not (has_limit k) || is_check pins k) ≡ true
 check-kept pins k first second events limit condition =
     implied (has_limit k) (is_check pins k) (λ some.
     let above : nat_lt 0 k.limit ≡ true = limited k.limit some in

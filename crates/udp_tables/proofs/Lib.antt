@@ -3,7 +3,6 @@ pub mod CountLemmas
 pub mod CellLaws
 pub mod ConditionLemmas
 pub mod OutputLemmas
-pub mod PortLemmas
 pub mod CompactLemmas
 pub mod LawLemmas
 pub mod ChangeRows

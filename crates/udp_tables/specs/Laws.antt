@@ -5,12 +5,7 @@ use Rattle.trit_cubes.specs.declared.trits.Trit.TheVariants.{Unknown}
 use Rattle.cell_machine.specs.Machine.{Step, without, machine_step, forced}
 use Rattle.trit_cubes.specs.Resolution.{res}
 use Rattle.bool_functions.specs.declared.tree.Node.{Node}
-use Rattle.cell_machine.specs.declared.pins.Pin.{Pin}
-use Rattle.cell_machine.specs.Inputs.{input_number}
 use Rattle.udp_tables.specs.declared.cell_primitives.Part.{Part}
-use Rattle.udp_tables.specs.declared.models.VPort.{VPort}
-use Rattle.udp_tables.specs.PortNumbers
-use Rattle.udp_tables.specs.Ports.{port_number, ArePortsOf}
 use Rattle.udp_tables.specs.Primitive.{level_output}
 use Rattle.udp_tables.specs.Sequential.{udp_next, noted, sequential_rows, compact_rows, IsSequential}
 use Rattle.cell_machine.specs.CellData.{CellData}
@@ -76,12 +71,6 @@ GroupsAreForced =
 -- The primitive of a group has an entry for each input in each row, of which at most one is a change.
 abbrev pub GroupsAreSequential : Type 0
 GroupsAreSequential = (cell : CellData) (i : ℕ) → IsSequential (group_primitive cell i)
-
--- A pin's number among the inputs of its cell is its port's number among the inputs of a model.
-abbrev pub InputsKeepNumbers : Type 0
-InputsKeepNumbers =
-    (pins : List Pin) (ports : List VPort) (p : ℕ)
-    → ArePortsOf pins ports → PortNumbers.input_number ports (port_number pins p) ≡ input_number pins p
 
 -- Each condition that checks and arcs use has a number.
 abbrev pub ConditionsAreNumbered : Type 0

@@ -1,8 +1,6 @@
 pub mod Tables
 pub mod Primitive
 pub mod PortNames
-pub mod PortNumbers
-pub mod Ports
 pub mod Generated
 pub mod Edges
 pub mod Sequential

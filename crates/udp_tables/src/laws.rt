@@ -1,7 +1,7 @@
 //! Theorems on the definitions, for the proofs of other crates. The functions do nothing.
 
 ghost use Rattle.udp_tables.specs.Generated.{RowsGiveResolution, PrimitiveIsCombinational};
-ghost use Rattle.udp_tables.specs.Laws.{RowsAreMachine, NotifierForces, FormsAgree, FormsAgreeAtNotifier, PartsResolve, GroupsAreMachines, GroupsAreForced, GroupsAreSequential, InputsKeepNumbers, ConditionsAreNumbered};
+ghost use Rattle.udp_tables.specs.Laws.{RowsAreMachine, NotifierForces, FormsAgree, FormsAgreeAtNotifier, PartsResolve, GroupsAreMachines, GroupsAreForced, GroupsAreSequential, ConditionsAreNumbered};
 
 /// The generated rows of a function give its resolution, for every list of trits.
 pub fn rows_give_resolution()
@@ -55,11 +55,6 @@ pub fn groups_are_forced()
 /// The primitive of a group has an entry for each input in each row, of which at most one is a change.
 pub fn groups_are_sequential()
     ensures { GroupsAreSequential }
-{}
-
-/// A pin's number among the inputs of its cell is its port's number among the inputs of a model.
-pub fn inputs_keep_numbers()
-    ensures { InputsKeepNumbers }
 {}
 
 /// Each condition that the checks and arcs of a cell use has a number among its conditions.

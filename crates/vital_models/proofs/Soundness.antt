@@ -16,11 +16,14 @@ use Rattle.cell_machine.specs.declared.groups.StateGroup.{StateGroup}
 use Rattle.cell_machine.specs.declared.outputs.Source.{Source}
 use Rattle.cell_machine.specs.declared.outputs.Source.TheVariants as source
 use Rattle.cell_machine.specs.declared.outputs.OutputPin.{OutputPin}
+use Rattle.cell_machine.specs.declared.checks.CheckKind.{CheckKind}
+use Rattle.cell_machine.specs.declared.checks.CheckKind.TheVariants as check_kind
 use Rattle.cell_machine.specs.declared.checks.Check.{Check}
 use Rattle.cell_machine.specs.declared.arcs.Arc.{Arc}
 use Rattle.cell_machine.specs.Values.{no_values}
 use Rattle.cell_machine.specs.Outputs.{output_at, condition_at}
-use Rattle.cell_machine.specs.CellRules.{is_input_pin, output_pins_from, is_support, is_ascending, is_group, are_groups_from, is_source, is_output_of, are_events, is_check, is_arc, HoldsRules, is_in_order}
+use Rattle.cell_machine.specs.CellRules as rule
+use Rattle.cell_machine.specs.CellRules.{is_input_pin, output_pins_from, is_support, is_ascending, is_group, are_groups_from, is_source, is_output_of, is_any_edge, are_opposite, is_check, is_arc, HoldsRules, is_in_order}
 use Rattle.cell_machine.proofs.RuleLemmas.{check_parts}
 use Rattle.udp_tables.specs.Edges.{each_below}
 use Rattle.cell_machine.specs.CellData.{CellData}
@@ -31,13 +34,10 @@ use Rattle.udp_tables.proofs.CubeLemmas.{below-among}
 use Rattle.vital_models.specs.declared.model.OutValue.TheVariants as value
 use Rattle.vital_models.specs.declared.model.VOutput.{VOutput}
 use Rattle.vital_models.specs.declared.model.VEntity.{VEntity}
-use Rattle.udp_tables.specs.PortNumbers.{is_input_port}
-use Rattle.udp_tables.specs.Ports.{port_number}
-use Rattle.udp_tables.proofs.PortLemmas.{input_port, output_pins, events-kept}
-use Rattle.vital_models.specs.Ports.{ports_of}
+use Rattle.vital_models.specs.Ports.{port_number, ports_of}
 use Rattle.vital_models.specs.Generated.{has_violation, ports_at, state_of, states_of, condition_of, source_at, output_table, value_of_output, place_of, all_zero, gate_by, path_of, output_of, check_of, entity_of}
-use Rattle.vital_models.specs.Sound.{IsState, IsTruth, feeds, IsValue, is_condition_number, is_gate, IsPath, IsOutput, is_enabling, IsCheck, IsSound}
-use Rattle.vital_models.proofs.PortFacts.{are_ports}
+use Rattle.vital_models.specs.Sound.{is_input_port, IsState, IsTruth, feeds, IsValue, is_condition_number, is_gate, IsPath, IsOutput, has_events, is_enabling, IsCheck, IsSound}
+use Rattle.vital_models.proofs.PortFacts.{input_port, output_ports}
 use Rattle.vital_models.proofs.Widths.{truth-width, width, state-width}
 use Rattle.vital_models.proofs.ConditionFacts.{all-among, check-numbered, arc-numbered, condition-over}
 
@@ -104,13 +104,9 @@ module _ (cell : CellData) (name : List ℕ) (h : HoldsRules cell.name cell.pins
   abbrev entity : VEntity
   entity = entity_of cell name
 
-  -- the port of an input pin is an input
-  input_at : (p : ℕ) → IsTrue (is_input_pin cell.pins p) → IsTrue (is_input_port (ports_of name cell.pins) (port_number cell.pins p))
-  input_at p = input_port cell.pins (ports_of name cell.pins) p (are_ports name cell.pins)
-
   -- input pins stand for input ports
   pins_feed : (support : List ℕ) → IsTrue (list_all (is_input_pin cell.pins) support) → IsTrue (list_all (is_input_port (ports_of name cell.pins)) (ports_at cell.pins support))
-  pins_feed support k = all-map (is_input_port (ports_of name cell.pins)) (is_input_pin cell.pins) (port_number cell.pins) input_at support k
+  pins_feed support k = all-map (is_input_port (ports_of name cell.pins)) (is_input_pin cell.pins) (port_number cell.pins) (input_port name cell.pins) support k
 
   state_is : (g : ℕ) → IsState entity (state_of cell g)
   state_is g =
@@ -154,7 +150,7 @@ module _ (cell : CellData) (name : List ℕ) (h : HoldsRules cell.name cell.pins
       lt-ltb i (length (map (condition_of cell.pins) (conditions_of cell))) (omega arith)
 
   source_feeds : (s : Source) → IsTrue (is_source cell.pins cell.groups s) → IsTrue (feeds entity (source_at cell.pins s))
-  source_feeds (source.Pin p) k = input_at p k
+  source_feeds (source.Pin p) k = input_port name cell.pins p k
   source_feeds (source.State g) k =
       let below : g < length cell.groups = ltb-true g (length cell.groups) k in
       let long : length (states_of cell) ≡ length cell.groups = below-length (state_of cell) (length cell.groups) in
@@ -190,7 +186,7 @@ module _ (cell : CellData) (name : List ℕ) (h : HoldsRules cell.name cell.pins
   path_is : (arc : Arc) → Among arc cell.arcs → IsPath entity (path_of cell arc)
   path_is arc m =
       let starts = (and_parts (is_input_pin cell.pins arc.from) _ (all-among (is_arc cell.pins) cell.arcs arc arcs_hold m)).0 in
-      record { starts = input_at arc.from starts; gated = gate_is arc m arc.condition refl }
+      record { starts = input_port name cell.pins arc.from starts; gated = gate_is arc m arc.condition refl }
 
   output_is : (output : OutputPin) → Among output cell.outputs → IsOutput entity (output_of cell output)
   output_is output m =
@@ -224,17 +220,31 @@ module _ (cell : CellData) (name : List ℕ) (h : HoldsRules cell.name cell.pins
   enabling_is k m (Some f) e =
       numbered (place_of cell f) (check-numbered cell k f m (subst (λ o. Among f (condition_list o)) (sym e) (inl refl)))
 
+  same_port : (p q : ℕ) (b : Bool) → IsTrue (nat_eq p q && b) → IsTrue (nat_eq (port_number cell.pins p) (port_number cell.pins q) && b)
+  same_port p q b k =
+      let parts = and_parts (nat_eq p q) b k in
+      and_from (nat_eq (port_number cell.pins p) (port_number cell.pins q)) b
+      (eq-eqb (port_number cell.pins p) (port_number cell.pins q) (ap (port_number cell.pins) (eqb-true p q parts.0))) parts.1
+
+  events_are : (k : Check) (kind : CheckKind) → IsTrue (rule.has_events k kind) → IsTrue (has_events (check_of cell k) kind)
+  events_are k check_kind.Setup e = e
+  events_are k check_kind.Hold e = e
+  events_are k check_kind.Recovery e = e
+  events_are k check_kind.Removal e = e
+  events_are k check_kind.Width e = same_port k.first.pin k.second.pin (are_opposite k.first.edge k.second.edge) e
+  events_are k check_kind.Period e = same_port k.first.pin k.second.pin (is_any_edge k.first.edge && is_any_edge k.second.edge) e
+
   check_is : (k : Check) → Among k cell.checks → IsCheck entity (check_of cell k)
   check_is k m =
       let holds = all-among (is_check cell.pins) cell.checks k checks_hold m in
       let parts = check_parts cell.pins k holds in
       let first = and_parts (is_input_pin cell.pins k.first.pin) _ holds in
       let second = and_parts (is_input_pin cell.pins k.second.pin) _ first.1 in
-      let events = and_parts (are_events k.kind k.first k.second) _ second.1 in
+      let events = and_parts (rule.has_events k k.kind) _ second.1 in
       record {
-        first = input_at k.first.pin parts.first;
-        second = input_at k.second.pin parts.second;
-        events = events-kept cell.pins k.kind k.first k.second events.0;
+        first = input_port name cell.pins k.first.pin parts.first;
+        second = input_port name cell.pins k.second.pin parts.second;
+        events = events_are k k.kind events.0;
         enabled = enabling_is k m k.condition refl;
       }
 
@@ -248,7 +258,7 @@ module _ (cell : CellData) (name : List ℕ) (h : HoldsRules cell.name cell.pins
       record {
         states = states_are;
         conditions = conditions_are;
-        driven = ports_driven cell.outputs ∙ ap (map (port_number cell.pins)) pins_driven ∙ output_pins cell.pins (ports_of name cell.pins) (are_ports name cell.pins);
+        driven = ports_driven cell.outputs ∙ ap (map (port_number cell.pins)) pins_driven ∙ output_ports name cell.pins;
         outputs = outputs_are;
         checks = checks_are;
       }

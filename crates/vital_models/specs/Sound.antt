@@ -3,10 +3,13 @@
 -- project's.)
 use Rattle.std.specs.Prelude.{◌≡◌, ℕ, ◌+◌, Bool, true, false, ◌&&◌, All, ⊤, List, [], ◌∷◌, Option, Some, None, nat_eq, nat_lt, length, map, slice_get, IsTrue, if◌then◌else◌}
 use Rattle.std.specs.List.{list_all}
+use Rattle.std.specs.Option.{option_map_or}
 use Rattle.cell_machine.specs.declared.outputs.Source.{Source}
 use Rattle.cell_machine.specs.declared.outputs.Source.TheVariants as source
-use Rattle.cell_machine.specs.CellRules.{are_events}
-use Rattle.udp_tables.specs.PortNumbers.{is_input_port, output_ports}
+use Rattle.cell_machine.specs.declared.checks.CheckKind.{CheckKind}
+use Rattle.cell_machine.specs.declared.checks.CheckKind.TheVariants as check_kind
+use Rattle.cell_machine.specs.CellRules.{is_any_edge, is_one_edge, are_opposite}
+use Rattle.udp_tables.specs.declared.models.VPort.{VPort}
 use Rattle.vital_models.specs.declared.table.TruthTable.{TruthTable}
 use Rattle.vital_models.specs.declared.table.VStateTable.{VStateTable}
 use Rattle.vital_models.specs.declared.model.VState.{VState}
@@ -19,6 +22,15 @@ use Rattle.vital_models.specs.declared.model.HGate.TheVariants as gate
 use Rattle.vital_models.specs.declared.model.HPath.{HPath}
 use Rattle.vital_models.specs.declared.model.HCheck.{HCheck}
 use Rattle.vital_models.specs.declared.model.VEntity.{VEntity}
+
+-- whether this is the number of an input port
+abbrev pub is_input_port : List VPort → ℕ → Bool
+is_input_port ports p = option_map_or (λ (port : VPort). port.input) (slice_get ports p) false
+
+-- the numbers of the output ports, in order, where the first port has the number k
+abbrev pub output_ports_from : ℕ → List VPort → List ℕ
+output_ports_from k [] = []
+output_ports_from k (port ∷ ports) = if port.input then output_ports_from (k + 1) ports else k ∷ output_ports_from (k + 1) ports
 
 -- truth tables and state tables of so many columns
 abbrev pub IsTruthTable : ℕ → TruthTable → Type 0
@@ -70,6 +82,17 @@ pub record IsOutput (e : VEntity) (output : VOutput) : Type 0 where
   pub valued : IsValue e output.value
   pub paths : All (IsPath e) output.paths
 
+-- The events of a check, by its kind. (Liberty Reference Manual, timing_type and the attributes min_pulse_width_high,
+-- min_pulse_width_low and min_period.)
+abbrev pub has_events : HCheck → CheckKind → Bool
+has_events k check_kind.Setup = is_any_edge k.first.edge && is_one_edge k.second.edge
+has_events k check_kind.Hold = is_one_edge k.first.edge && is_any_edge k.second.edge
+has_events k check_kind.Recovery = is_one_edge k.first.edge && is_one_edge k.second.edge
+has_events k check_kind.Removal = is_one_edge k.first.edge && is_one_edge k.second.edge
+has_events k check_kind.Width = nat_eq k.first.pin k.second.pin && are_opposite k.first.edge k.second.edge
+has_events k check_kind.Period =
+    nat_eq k.first.pin k.second.pin && (is_any_edge k.first.edge && is_any_edge k.second.edge)
+
 abbrev pub is_enabling : VEntity → Option ℕ → Bool
 is_enabling e None = true
 is_enabling e (Some i) = is_condition_number e i
@@ -78,13 +101,13 @@ is_enabling e (Some i) = is_condition_number e i
 pub record IsCheck (e : VEntity) (k : HCheck) : Type 0 where
   pub first : IsTrue (is_input_port e.ports k.first.pin)
   pub second : IsTrue (is_input_port e.ports k.second.pin)
-  pub events : IsTrue (are_events k.kind k.first k.second)
+  pub events : IsTrue (has_events k k.kind)
   pub enabled : IsTrue (is_enabling e k.condition)
 
 -- A sound entity.
 pub record IsSound (e : VEntity) : Type 0 where
   pub states : All (IsState e) e.states
   pub conditions : All (IsTruth e) e.conditions
-  pub driven : map (λ (output : VOutput). output.port) e.outputs ≡ output_ports e.ports
+  pub driven : map (λ (output : VOutput). output.port) e.outputs ≡ output_ports_from 0 e.ports
   pub outputs : All (IsOutput e) e.outputs
   pub checks : All (IsCheck e) e.checks

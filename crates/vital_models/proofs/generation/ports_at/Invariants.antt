@@ -1,5 +1,5 @@
 use Rattle.std.proofs.Common.{◌≡◌, ◌++◌, map, drop}
-use Rattle.udp_tables.specs.Ports.{port_number}
+use Rattle.vital_models.specs.Ports.{port_number}
 use Rattle.vital_models.proofs.generation.ports_at.Given as goal
 
 abbrev pub invariant-loop-pin : goal.invariant-loop-pin

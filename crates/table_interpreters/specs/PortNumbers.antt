@@ -1,6 +1,5 @@
 -- The ports of a model by their direction. Inputs are numbered from 0 among the input ports, in their order.
-use Rattle.std.specs.Prelude.{ℕ, ◌+◌, Bool, true, false, not, List, [], ◌∷◌, ◌++◌, take, count_by, slice_get, slice_index_or}
-use Rattle.std.specs.Option.{option_map_or}
+use Rattle.std.specs.Prelude.{ℕ, ◌+◌, Bool, true, false, List, [], ◌∷◌, ◌++◌, take, count_by, slice_index_or}
 use Rattle.trit_cubes.specs.declared.trits.Trit.{Trit}
 use Rattle.trit_cubes.specs.declared.trits.Trit.TheVariants.{Unknown}
 use Rattle.cell_machine.specs.declared.checks.Event.{Event}
@@ -24,14 +23,6 @@ input_value ports inputs p = slice_index_or inputs (input_number ports p) Unknow
 -- an event of a port as one of its input
 abbrev pub input_event : List VPort → Event → Event
 input_event ports e = record { pin = input_number ports e.pin; edge = e.edge }
-
--- whether this is the number of an input port
-abbrev pub is_input_port : List VPort → ℕ → Bool
-is_input_port ports p = option_map_or (λ (port : VPort). port.input) (slice_get ports p) false
-
--- whether this is the number of an output port
-abbrev pub is_output_port : List VPort → ℕ → Bool
-is_output_port ports p = option_map_or (λ (port : VPort). not port.input) (slice_get ports p) false
 
 -- the number of a port where it is an output, by whether it is an input
 abbrev pub output_by : ℕ → Bool → List ℕ

@@ -4,20 +4,23 @@ ghost use Rattle.text_io.specs.Desk.{is_bound};
 ghost use Rattle.text_io.specs.Host.{file_state, file_faults, untold};
 
 use crate::each_slot::{Inputs, Outputs};
+use crate::opened::OpenedFile;
 use crate::outside::{Desk, Failed};
 use crate::slots::{InSlot, OutSlot};
 use std::fs::File;
 use std::io;
-use std::io::{Read, Write};
+use std::io::{ErrorKind, Read, Write};
 
 /// A desk over real files. The report is the standard output and the faults are the standard error. It tells no
-/// content, and counts a fault at each error of the system and at each write that takes nothing.
+/// content, and counts a fault at each error of the system, at each write that takes nothing, and at a regular file
+/// that is to be made empty and is open on the desk already, by whatever path. Of each fault it says one line on the
+/// standard error, `lib2sim: PATH: REASON`, as far as that can be written.
 #[derive(Drop)]
 pub struct FileDesk {
     rt: HostRuntime,
     words: Vec<String>,
-    inputs: Inputs<Option<File>>,
-    outputs: Outputs<Option<File>>,
+    inputs: Inputs<Option<OpenedFile>>,
+    outputs: Outputs<Option<OpenedFile>>,
     faults: u64,
 }
 
@@ -47,16 +50,61 @@ impl FileDesk {
         }
     }
 
-    /// The file that the word at this place names, opened for reading.
-    fn open(&self, place: usize) -> Option<File> {
-        let word = self.words.get(place)?;
-        File::open(&self.rt, word.as_str()).ok()
+    /// The word at this place, as a path.
+    fn path(&self, place: usize) -> &str {
+        self.words.get(place).map_or("", |word| word.as_str())
     }
 
-    /// The file that the word at this place names, made empty.
-    fn create(&self, place: usize) -> Option<File> {
-        let word = self.words.get(place)?;
-        File::create(&self.rt, word.as_str()).ok()
+    /// The path of an open file.
+    fn path_of(&self, opened: &Option<OpenedFile>) -> &str {
+        match opened {
+            Some(opened) => self.path(opened.place),
+            None => "",
+        }
+    }
+
+    /// What a slot is written to, as messages name it.
+    fn output_name(&self, slot: OutSlot) -> &str {
+        match slot {
+            OutSlot::VerilogText => self.path_of(self.outputs.get(slot)),
+            OutSlot::VitalText => self.path_of(self.outputs.get(slot)),
+            OutSlot::Report => "standard output",
+            OutSlot::Faults => "standard error",
+        }
+    }
+
+    /// Whether this file is open on the desk.
+    fn is_open(&self, file: &OpenedFile) -> bool {
+        for slot in [
+            InSlot::Library,
+            InSlot::Verilog,
+            InSlot::Vital,
+            InSlot::Stimulus,
+        ] {
+            if is_it(self.inputs.get(slot), file) {
+                return true;
+            }
+        }
+        is_it(self.outputs.get(OutSlot::VerilogText), file)
+            || is_it(self.outputs.get(OutSlot::VitalText), file)
+    }
+
+    /// The file that the word at this place names, made empty. What is open on the desk already is not touched.
+    fn create(&self, place: usize) -> io::Result<OpenedFile> {
+        let opened = OpenedFile::to_write(&self.rt, self.path(place), place)?;
+        if opened.is_regular() {
+            if self.is_open(&opened) {
+                let message = "the same file as another one of the command";
+                return Err(io::Error::new(ErrorKind::InvalidInput, message));
+            }
+            opened.file.set_len(0)?;
+        }
+        Ok(opened)
+    }
+
+    /// Says why a call failed, as far as that can be written.
+    fn say(&self, name: &str, error: &io::Error) {
+        let _ = self.rt.eprintln(format_args!("lib2sim: {name}: {error}"));
     }
 
     /// Writes some of the bytes to a slot that is bound, and answers how many.
@@ -84,27 +132,35 @@ impl FileDesk {
 }
 
 /// Reads some bytes of an open file, and answers how many.
-fn read_file(file: &Option<File>, into: &mut [u8]) -> io::Result<usize>
-    requires { IsSome file.now }
+fn read_file(opened: &Option<OpenedFile>, into: &mut [u8]) -> io::Result<usize>
+    requires { IsSome opened.now }
     ensures { IfOk result (λ count. count ≤ length into.new) }
 {
-    let Some(file) = file else {
+    let Some(opened) = opened else {
         unreachable!();
     };
-    let mut shared: &File = file;
+    let mut shared: &File = &opened.file;
     shared.read(into)
 }
 
 /// Writes some bytes to an open file, and answers how many.
-fn write_file(file: &Option<File>, bytes: &[u8]) -> io::Result<usize>
-    requires { IsSome file.now }
+fn write_file(opened: &Option<OpenedFile>, bytes: &[u8]) -> io::Result<usize>
+    requires { IsSome opened.now }
     ensures { IfOk result (λ count. count ≤ length bytes.now) }
 {
-    let Some(file) = file else {
+    let Some(opened) = opened else {
         unreachable!();
     };
-    let mut shared: &File = file;
+    let mut shared: &File = &opened.file;
     shared.write(bytes)
+}
+
+/// Whether this is the file that is open, if one is.
+fn is_it(opened: &Option<OpenedFile>, file: &OpenedFile) -> bool {
+    match opened {
+        Some(opened) => opened.is_same(file),
+        None => false,
+    }
 }
 
 impl Desk for FileDesk {
@@ -119,28 +175,41 @@ impl Desk for FileDesk {
 
     #[tactic(auto, unfolding(crate::specs::Host::reads_files))]
     fn bind_in(&mut self, slot: InSlot, place: usize) -> Result<(), Failed> {
-        let Some(file) = self.open(place) else {
-            return Err(self.fault());
-        };
-        self.inputs.set(slot, Some(file));
-        Ok(())
+        match OpenedFile::to_read(&self.rt, self.path(place), place) {
+            Ok(opened) => {
+                self.inputs.set(slot, Some(opened));
+                Ok(())
+            }
+            Err(error) => {
+                self.say(self.path(place), &error);
+                Err(self.fault())
+            }
+        }
     }
 
     #[tactic(auto, unfolding(crate::specs::Host::reads_files))]
     fn read(&mut self, slot: InSlot, into: &mut [u8]) -> Result<usize, Failed> {
         match read_file(self.inputs.get(slot), into) {
             Ok(count) => Ok(count),
-            Err(_) => Err(self.fault()),
+            Err(error) => {
+                self.say(self.path_of(self.inputs.get(slot)), &error);
+                Err(self.fault())
+            }
         }
     }
 
     #[tactic(auto, unfolding(crate::specs::Host::reads_files))]
     fn bind_out(&mut self, slot: OutSlot, place: usize) -> Result<(), Failed> {
-        let Some(file) = self.create(place) else {
-            return Err(self.fault());
-        };
-        self.outputs.set(slot, Some(file));
-        Ok(())
+        match self.create(place) {
+            Ok(opened) => {
+                self.outputs.set(slot, Some(opened));
+                Ok(())
+            }
+            Err(error) => {
+                self.say(self.path(place), &error);
+                Err(self.fault())
+            }
+        }
     }
 
     #[tactic(auto, unfolding(crate::specs::Host::reads_files))]
@@ -150,7 +219,14 @@ impl Desk for FileDesk {
         }
         match self.write_some(slot, bytes) {
             Ok(count) if count > 0 => Ok(count),
-            _ => Err(self.fault()),
+            written => {
+                let error = match written {
+                    Ok(_) => io::Error::from(ErrorKind::WriteZero),
+                    Err(error) => error,
+                };
+                self.say(self.output_name(slot), &error);
+                Err(self.fault())
+            }
         }
     }
 }

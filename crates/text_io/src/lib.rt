@@ -9,6 +9,7 @@ mod host;
 mod line;
 mod memory;
 mod named_files;
+mod opened;
 mod outside;
 mod piece;
 mod reading;

@@ -13,9 +13,11 @@ use crate::piece::Piece;
 use crate::sink::Sink;
 use crate::slots::{InSlot, OutSlot};
 use std::alloc::{AllocError, Global};
+use thiserror::Error;
 
 /// There was no memory.
-#[derive(Clone, Copy, Debug, PartialEq, Eq)]
+#[derive(Clone, Copy, Debug, PartialEq, Eq, Error)]
+#[error("out of memory")]
 pub struct Memory;
 
 impl From<AllocError> for Memory {

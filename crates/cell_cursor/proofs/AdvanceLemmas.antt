@@ -77,6 +77,18 @@ advance_takes o m n s scans limit_is limit_on takes goes = record {
   ended = never_ended n.answer goes;
 }
 
+-- it was seen whether a token is refused
+pub advance_refuses : (o m n : CellCursor) (s : DeskState) → ((bytes : List ℕ) (items : List LibraryItem) → Goes o bytes items → Goes m bytes items) → m.limit ≡ o.limit → n.limit ≡ m.limit →
+    ((bytes : List ℕ) (items : List LibraryItem) → Goes m bytes items → Stands n bytes items) → is_ended n.answer ≡ false → Advances (Ok tt) o n s s
+advance_refuses o m n s scans limit_is limit_on sees goes = record {
+  taken = [];
+  takes = takes_none s;
+  limit = limit_on ∙ limit_is;
+  stands = λ bytes items g. subst (λ (b : List ℕ). Stands n b items) (sym (append-nil bytes)) (sees bytes items (scans bytes items g));
+  given = λ bytes items g. given_of_going o bytes [] items (omega arith) g;
+  ended = never_ended n.answer goes;
+}
+
 -- a piece was read
 pub advance_reads : (o m n : CellCursor) (s t : DeskState) (xs : List ℕ) → ((bytes : List ℕ) (items : List LibraryItem) → Goes o bytes items → Goes m bytes items) → m.limit ≡ o.limit → m.piece ≡ [] → Takes s t xs → n.limit ≡ m.limit → n.answer ≡ None → n.waiting.items ≡ [] →
     n.part ≡ m.part → n.place ≡ m.place → n.piece ≡ xs → Advances (Ok tt) o n s t

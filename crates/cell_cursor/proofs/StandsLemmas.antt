@@ -212,9 +212,8 @@ pub stands_refused : (o n : CellCursor) (f : LibraryFault) (all : List LibraryIt
     AreScanned o.part.bytes o.part.tokens o.part.mode → LieInside o.part.bytes o.part.tokens → f ≡ fault_at k x.token.at →
     read (rest_at o.place []) (lexemes_behind o.part.before o.part.bytes o.part.tokens) ≡ Err ((all, k), x ∷ m) → is_settled (o.part.before + length o.part.bytes) x m ≡ true →
     n.limit ≡ o.limit → n.answer ≡ Some (answer.Refused f) → n.waiting.items ≡ reverse all →
-    (bytes : List ℕ) (items : List LibraryItem) → MayTake o bytes items → Stands n bytes items
-stands_refused o n f all k x m scanned inside fault_is e final limit_is answer_is waits bytes items t =
-    let g = t.keeps in
+    (bytes : List ℕ) (items : List LibraryItem) → Keeps o bytes items → HasSeen (scanned_by o) bytes items → Stands n bytes items
+stands_refused o n f all k x m scanned inside fault_is e final limit_is answer_is waits bytes items g seen =
     let e' : read (rest_at o.place []) (lexemes_behind (length g.before) o.part.bytes o.part.tokens) ≡ Err ((all, k), x ∷ m) =
     ap (λ (i : ℕ). read (rest_at o.place []) (lexemes_behind i o.part.bytes o.part.tokens)) (sym g.size) ∙ e in
     let final' : is_settled (length g.before + length o.part.bytes) x m ≡ true = ap (λ (i : ℕ). is_settled (i + length o.part.bytes) x m) (sym g.size) ∙ final in
@@ -227,7 +226,7 @@ stands_refused o n f all k x m scanned inside fault_is e final limit_is answer_i
     let l : length bytes ≤ n.limit + 1 = omega (arith, j, limit_is) in
     stands_by n (Some (answer.Refused f)) bytes items all answer_is waits
     (λ more. subst (λ (i : ℕ). ReadsSo i (bytes ++ more) (items ++ all) (Fault f)) (sym limit_is) (known more)) l
-    (given_still o bytes items g t.seen)
+    (given_still o bytes items g seen)
 
 -- the items that were given are the first ones
 first_of_kept : (o : CellCursor) (bytes : List ℕ) (items : List LibraryItem) (limit : ℕ) → limit ≡ o.limit → Keeps o bytes items → AreFirst limit bytes items
@@ -396,17 +395,38 @@ stands_first c going none place_is before_is bytes_are no_tokens piece_is =
     no_bytes (suc e) = refl
 
 -- what the code finds in a part: a token is refused
-pub part_refused : (o n : CellCursor) (r : Reached) (f : LibraryFault) (s : List Lexeme) (fresh all : List LibraryItem) (end before : ℕ) (bytes : List ℕ) (tokens : List Token) →
+refused_kept : (o n : CellCursor) (r : Reached) (f : LibraryFault) (s : List Lexeme) (fresh all : List LibraryItem) (end before : ℕ) (bytes : List ℕ) (tokens : List Token) →
     r ≡ reached.Refused f → Comes r o.place fresh s all end → fresh ≡ [] → s ≡ lexemes_behind before bytes tokens → before ≡ o.part.before → bytes ≡ o.part.bytes → tokens ≡ o.part.tokens →
     end ≡ o.part.before + length o.part.bytes → AreScanned o.part.bytes o.part.tokens o.part.mode → LieInside o.part.bytes tokens →
-    n.limit ≡ o.limit → n.answer ≡ Some (answer.Refused f) → n.waiting.items ≡ reverse all → (given : List ℕ) (items : List LibraryItem) → MayTake o given items → Stands n given items
-part_refused o n r f s fresh all end before bytes tokens is comes none s_is before_is bytes_are tokens_are end_is scanned inside limit_is answer_is waits given items st =
+    n.limit ≡ o.limit → n.answer ≡ Some (answer.Refused f) → n.waiting.items ≡ reverse all → (given : List ℕ) (items : List LibraryItem) → Keeps o given items → HasSeen (scanned_by o) given items → Stands n given items
+refused_kept o n r f s fresh all end before bytes tokens is comes none s_is before_is bytes_are tokens_are end_is scanned inside limit_is answer_is waits given items kept seen =
     let h : Comes (reached.Refused f) o.place [] s all (o.part.before + length o.part.bytes) =
     subst (λ (e : ℕ). Comes (reached.Refused f) o.place [] s all e) end_is (subst (λ (l : List LibraryItem). Comes (reached.Refused f) o.place l s all end) none (subst (λ (v : Reached). Comes v o.place fresh s all end) is comes)) in
     let same : s ≡ lexemes_behind o.part.before o.part.bytes o.part.tokens =
     s_is ∙ ap (λ (k : ℕ). lexemes_behind k bytes tokens) before_is ∙ ap (λ (b : List ℕ). lexemes_behind o.part.before b tokens) bytes_are ∙ ap (lexemes_behind o.part.before o.part.bytes) tokens_are in
     stands_refused o n f all h.0 h.1 h.2 scanned (subst (λ (ts : List Token). LieInside o.part.bytes ts) tokens_are inside) h.3
-    (ap (read (rest_at o.place [])) (sym same) ∙ h.4) h.5 limit_is answer_is waits given items st
+    (ap (read (rest_at o.place [])) (sym same) ∙ h.4) h.5 limit_is answer_is waits given items kept seen
+
+pub part_refused : (o n : CellCursor) (r : Reached) (f : LibraryFault) (s : List Lexeme) (fresh all : List LibraryItem) (end before : ℕ) (bytes : List ℕ) (tokens : List Token) →
+    r ≡ reached.Refused f → Comes r o.place fresh s all end → fresh ≡ [] → s ≡ lexemes_behind before bytes tokens → before ≡ o.part.before → bytes ≡ o.part.bytes → tokens ≡ o.part.tokens →
+    end ≡ o.part.before + length o.part.bytes → AreScanned o.part.bytes o.part.tokens o.part.mode → LieInside o.part.bytes tokens →
+    n.limit ≡ o.limit → n.answer ≡ Some (answer.Refused f) → n.waiting.items ≡ reverse all → (given : List ℕ) (items : List LibraryItem) → MayTake o given items → Stands n given items
+part_refused o n r f s fresh all end before bytes tokens is comes none s_is before_is bytes_are tokens_are end_is scanned inside limit_is answer_is waits given items t =
+    refused_kept o n r f s fresh all end before bytes tokens is comes none s_is before_is bytes_are tokens_are end_is scanned inside limit_is answer_is waits given items t.keeps t.seen
+
+-- the same where no statement may have ended with the last token
+pub part_misfits : (o n : CellCursor) (r : Reached) (f : LibraryFault) (s : List Lexeme) (fresh all : List LibraryItem) (end before : ℕ) (bytes : List ℕ) (tokens : List Token) →
+    r ≡ reached.Refused f → Comes r o.place fresh s all end → fresh ≡ [] → s ≡ lexemes_behind before bytes tokens → before ≡ o.part.before → bytes ≡ o.part.bytes → tokens ≡ o.part.tokens →
+    end ≡ o.part.before + length o.part.bytes → AreScanned o.part.bytes o.part.tokens o.part.mode → LieInside o.part.bytes tokens →
+    n.limit ≡ o.limit → n.answer ≡ Some (answer.Refused f) → n.waiting.items ≡ reverse all → (given : List ℕ) (items : List LibraryItem) → Goes o given items → Stands n given items
+part_misfits o n r f s fresh all end before bytes tokens is comes none s_is before_is bytes_are tokens_are end_is scanned inside limit_is answer_is waits given items g =
+    refused_kept o n r f s fresh all end before bytes tokens is comes none s_is before_is bytes_are tokens_are end_is scanned inside limit_is answer_is waits given items g.keeps (seen_before (scanned_by o) given items g.seen)
+
+-- a cursor that goes on stands where it stood
+pub going_still : (o : CellCursor) → o.answer ≡ None → o.waiting.items ≡ [] → (given : List ℕ) (items : List LibraryItem) → Goes o given items → Stands o given items
+going_still o going no_item given items g =
+    let k = taken_within o given items o.limit g.keeps o.within in
+    stands_going o given items going no_item g (omega (arith, k))
 
 -- statements have ended
 pub part_to : (o n : CellCursor) (r : Reached) (there : Place) (s : List Lexeme) (fresh all : List LibraryItem) (end before : ℕ) (bytes : List ℕ) (tokens : List Token) →

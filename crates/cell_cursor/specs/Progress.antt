@@ -1,6 +1,18 @@
 -- How much a cursor has still to do.
-use Rattle.std.specs.Prelude.{ℕ, ◌+◌, ◌-◌, ◌*◌, length}
+use Rattle.std.specs.Prelude.{ℕ, ◌+◌, ◌-◌, ◌*◌, Bool, true, false, length}
 use Rattle.cell_cursor.specs.declared.cursor.CellCursor.{CellCursor}
+use Rattle.cell_cursor.specs.declared.seeking.Scanned.{Scanned}
+use Rattle.cell_cursor.specs.declared.seeking.Scanned.TheVariants as scanned
+
+-- a statement may have ended where scanning went no further
+abbrev pub may_have_ended : Scanned → Bool
+may_have_ended scanned.MayEnd = true
+may_have_ended _ = false
+
+-- all that was read is scanned
+abbrev pub is_whole : Scanned → Bool
+is_whole scanned.All = true
+is_whole _ = false
 
 -- how many bytes of the library are taken
 abbrev pub taken_by : CellCursor → ℕ

@@ -22,8 +22,8 @@ pub(crate) enum Answer {
     Fault(CursorFault),
 }
 
-/// A library that is read from a desk, one item after another. It holds no more than a read, the bytes of the statement
-/// that has not ended, and the items of the statements that ended with it.
+/// A library that is read from a desk, one item after another. It holds a read, the bytes and tokens from the last semicolon or
+/// brace on with which all statements before it had ended, and the items of those that ended there.
 #[derive(Drop)]
 pub struct CellCursor {
     pub(crate) alloc: Global,

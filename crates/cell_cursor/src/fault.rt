@@ -10,13 +10,16 @@ use text_io::Failed;
 use thiserror::Error;
 
 /// Why there is no next item of a library.
-#[derive(Clone, Copy, Debug, PartialEq, Eq)]
+#[derive(Clone, Copy, Debug, PartialEq, Eq, Error)]
 pub enum CursorFault {
     /// The library has this fault, and all items before it were given.
+    #[error("the library is refused: {0}")]
     Library(LibraryFault),
     /// A read failed.
+    #[error("a read failed")]
     Failed,
     /// There was no memory.
+    #[error("out of memory")]
     Memory,
 }
 

@@ -1,5 +1,5 @@
-//! A library's cells one at a time: a Liberty text that is read from a desk in pieces, and of which no
-//! more is held than the statement that has not ended.
+//! A library's cells one at a time: a Liberty text that is read from a desk in pieces, and held only from the last semicolon
+//! or brace on with which all statements before it had ended.
 #![tactic(auto)]
 
 mod cursor;
@@ -11,6 +11,7 @@ mod piece;
 mod reading;
 mod seeking;
 mod statements;
+mod watch;
 
 pub use cursor::CellCursor;
 pub use fault::{CursorFault, Memory};

@@ -8,6 +8,8 @@ ghost use Rattle.cell_cursor.specs.Braces.{depth_behind, is_outer, has_outer, Sh
 ghost use Rattle.cell_cursor.specs.Scanned.{AreScanned, NoneEnds, ends_by, last_kind};
 
 use crate::fault::Memory;
+use crate::watch::{Sight, Watch};
+use liberty_groups::Standing;
 use liberty_text::{Scanner, Token, TokenKind};
 use std::alloc::Global;
 use std::marker::Model;
@@ -29,6 +31,8 @@ pub(crate) struct Run {
     pub(crate) count: usize,
     /// Whether a statement may have ended with the last of them.
     pub(crate) may_end: bool,
+    /// What the tokens tell that ended with the last of them.
+    pub(crate) sight: Sight,
 }
 
 /// The bytes from the end of the last statement that was taken on, as far as they are scanned.
@@ -41,6 +45,7 @@ pub(crate) struct Part {
     scanner: Scanner,
     /// How many groups of the part are open.
     depth: usize,
+    watch: Watch,
 }
 
 impl Model for Part {
@@ -55,8 +60,8 @@ impl Model for Part {
 }
 
 impl Part {
-    /// A part of no bytes.
-    pub(crate) fn new(alloc: Global, before: usize) -> Part
+    /// A part of no bytes, which begins at this place.
+    pub(crate) fn new(alloc: Global, before: usize, place: Place) -> Part
         ensures before { result.before ≡ before }
         ensures bytes { result.bytes ≡ [] }
         ensures tokens { result.tokens ≡ [] }
@@ -66,6 +71,7 @@ impl Part {
             bytes: Vec::new(alloc),
             scanner: Scanner::new(alloc),
             depth: 0,
+            watch: Watch::from(standing_at(place)),
         }
     }
 
@@ -104,15 +110,23 @@ impl Part {
         ensures none_before { IfOk result (λ run. NoneEnds self.old.bytes self.old.tokens bytes.now run.count) }
         ensures outer { IfOk result (λ run. has_outer place (kinds_of self.old.tokens) ≡ false → ShowsOuter run.may_end place (kinds_of self.new.tokens)) }
     {
+        let ended = self.scanner.tokens().len();
         match scan_run(&mut self.bytes, &mut self.scanner, bytes) {
             Ok((count, Some(kind))) => {
                 self.depth = depth_behind(self.depth, kind);
                 let may_end = may_end(place, kind, self.depth);
-                Ok(Run { count, may_end })
+                let tokens = self.scanner.tokens().get(ended..).unwrap_or(&[]);
+                let sight = self.watch.see(&self.bytes, tokens);
+                Ok(Run {
+                    count,
+                    may_end,
+                    sight,
+                })
             }
             Ok((count, None)) => Ok(Run {
                 count,
                 may_end: false,
+                sight: Sight::Nothing,
             }),
             Err(fault) => {
                 self.bytes.clear();
@@ -121,6 +135,15 @@ impl Part {
                 Err(fault)
             }
         }
+    }
+}
+
+/// Where the next token stands at a place of a library.
+fn standing_at(place: Place) -> Standing {
+    match place {
+        Place::Start => Standing::Start,
+        Place::Inside => Standing::Statements(0),
+        Place::Behind => Standing::Done,
     }
 }
 

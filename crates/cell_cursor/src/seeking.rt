@@ -7,7 +7,7 @@ ghost use Rattle.text_io.specs.Desk.{is_bound, Rose};
 ghost use Rattle.liberty_text.specs.declared.scanner.Mode.TheVariants.{Between};
 ghost use Rattle.cell_cursor.specs.Finish.{part_outcome, answer_at};
 ghost use Rattle.cell_cursor.specs.Items.{items_in};
-ghost use Rattle.cell_cursor.specs.Progress.{taken_by, to_do};
+ghost use Rattle.cell_cursor.specs.Progress.{taken_by, to_do, may_have_ended, is_whole};
 ghost use Rattle.cell_cursor.specs.declared.item.LibraryItem.{LibraryItem as Given};
 ghost use Rattle.cell_cursor.specs.Stands.{answered, given_by, is_going, is_failed, is_ended, is_library, Goes, MayTake, GoesBy, Stands, Advances, Moves, IsSettled, IsAnswered, StaysSettled};
 
@@ -18,9 +18,21 @@ use crate::part::{Part, Place};
 use crate::piece::Piece;
 use crate::reading::read_end;
 use crate::statements::{Reached, reach};
+use crate::watch::Sight;
 use liberty_groups::{Cursor, LibraryFault};
 use std::alloc::Global;
 use text_io::{Desk, InSlot};
+
+/// Why scanning went no further.
+#[derive(Clone, Copy, Debug, PartialEq, Eq)]
+pub(crate) enum Scanned {
+    /// All that was read is scanned.
+    All,
+    /// A statement may have ended with the last token.
+    MayEnd,
+    /// No library text goes on with the last tokens.
+    Misfit,
+}
 
 impl CellCursor {
     /// A cursor that has read nothing. It will read at most `limit` bytes of the library, and one more. So far it takes no memory.
@@ -34,31 +46,59 @@ impl CellCursor {
             alloc,
             limit,
             piece: Piece::new(),
-            part: Part::new(alloc, 0),
+            part: Part::new(alloc, 0, Place::Start),
             place: Place::Start,
             waiting: Vec::new(alloc),
             answer: None,
         })
     }
 
-    /// Scans what was read, up to a token with which a statement may end. Whether there was one.
-    fn scan_on(&mut self) -> Result<bool, Memory>
+    /// Scans what was read, up to a token with which a statement may end or with which no library text goes on. Which it was.
+    fn scan_on(&mut self) -> Result<Scanned, Memory>
         ensures limit { self.new.limit ≡ self.old.limit }
         ensures answer { self.new.answer ≡ self.old.answer }
         ensures waiting { self.new.waiting.items ≡ self.old.waiting.items }
-        ensures goes { IfOk result (λ found. (bytes : List ℕ) (items : List Given) → Goes self.old bytes items → GoesBy found self.new bytes items) }
+        ensures goes { IfOk result (λ scanned. (bytes : List ℕ) (items : List Given) → Goes self.old bytes items → GoesBy (may_have_ended scanned) self.new bytes items) }
         ensures taken { OnOk result (taken_by self.new ≡ taken_by self.old) }
-        ensures some { IfOk result (λ found. found ≡ true → (length self.new.piece < length self.old.piece) × (self.new.part.mode ≡ Between false)) }
-        ensures none { IfOk result (λ found. found ≡ false → self.new.piece ≡ []) }
+        ensures some { IfOk result (λ scanned. is_whole scanned ≡ false → length self.new.piece < length self.old.piece) }
+        ensures mode { IfOk result (λ scanned. may_have_ended scanned ≡ true → self.new.part.mode ≡ Between false) }
+        ensures none { IfOk result (λ scanned. is_whole scanned ≡ true → self.new.piece ≡ []) }
     {
         while !self.piece.unread().is_empty() {
             let run = self.part.scan(self.alloc, self.place, self.piece.unread())?;
             self.piece.take_out(run.count);
             if run.may_end {
-                return Ok(true);
+                return Ok(Scanned::MayEnd);
+            }
+            if run.sight == Sight::Misfit {
+                return Ok(Scanned::Misfit);
             }
         }
-        Ok(false)
+        Ok(Scanned::All)
+    }
+
+    /// Sees which token of the part is refused, if one is.
+    fn refuse_part(&mut self) -> Result<(), Memory>
+        requires none_waits { self.old.waiting.items ≡ [] }
+        requires going { self.old.answer ≡ None }
+        ensures stands { OnOk result ((bytes : List ℕ) (items : List Given) → Goes self.old bytes items → Stands self.new bytes items) }
+        ensures err { OnErr result (self.new.waiting.items ≡ []) }
+        ensures open { OnOk result (is_ended self.new.answer ≡ false) }
+        ensures limit { self.new.limit ≡ self.old.limit }
+        ensures taken { taken_by self.new ≡ taken_by self.old }
+        ensures piece { self.new.piece ≡ self.old.piece }
+        ensures never { is_failed self.old.answer ≡ false → is_failed self.new.answer ≡ false }
+    {
+        let mut items = Vec::new(self.alloc);
+        let end = self.part.before() + self.part.bytes().len();
+        let mut tokens = Cursor::behind(self.part.before(), self.part.bytes(), self.part.tokens());
+        match reach(&mut tokens, self.alloc, self.place, end, &mut items)? {
+            Reached::Refused(fault) => {
+                self.refuse(fault, items);
+                Ok(())
+            }
+            _ => Ok(()),
+        }
     }
 
     /// Takes the statements of the part, if they have all ended.
@@ -118,7 +158,7 @@ impl CellCursor {
         items.reverse();
         self.waiting = items;
         self.place = place;
-        self.part = Part::new(self.alloc, end);
+        self.part = Part::new(self.alloc, end, place);
     }
 
     /// Takes what there is of a library that has ended or, where that is not `whole`, has come to the limit.
@@ -167,9 +207,10 @@ impl CellCursor {
         ensures later { D.faults desk.old ≤ D.faults desk.new }
         ensures failed { IfErr result (λ fault. fault ≡ CursorFault.Failed → Rose (D.faults desk.old) (D.faults desk.new)) }
     {
-        if self.scan_on()? {
-            self.take_part()?;
-            return Ok(());
+        match self.scan_on()? {
+            Scanned::MayEnd => return Ok(self.take_part()?),
+            Scanned::Misfit => return Ok(self.refuse_part()?),
+            Scanned::All => {}
         }
         let taken = self.part.before() + self.part.bytes().len();
         if taken == self.limit {

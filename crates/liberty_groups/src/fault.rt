@@ -10,7 +10,7 @@ use std::fmt;
 use thiserror::Error;
 
 /// What stood to be read at the place of a syntax fault.
-#[derive(Clone, Copy, Debug, PartialEq, Eq)]
+#[derive(Clone, Copy, Debug, PartialEq, Eq, Error)]
 pub enum Expected {
     /// A statement or `}`.
     Statement,
@@ -43,7 +43,7 @@ impl fmt::Display for Expected {
 }
 
 /// Why a text is no library text: its first fault. An offset counts bytes from 0.
-#[derive(Clone, Copy, Debug, PartialEq, Eq)]
+#[derive(Clone, Copy, Debug, PartialEq, Eq, Error)]
 pub enum LibraryFault {
     /// The byte at this offset stands outside texts and comments and begins no token.
     BadByte(usize),

@@ -16,13 +16,19 @@ use liberty_text::{Token, TokenKind};
 pub enum Standing {
     /// At the name of the library.
     Start,
+    /// After the name of the library.
     AfterLibrary,
+    /// Among the arguments of the library.
     HeadArguments,
+    /// After the arguments of the library.
     AfterHead,
+    /// Among the statements of a group.
     Statements(usize),
     /// After the name of a statement.
     AfterName(usize),
+    /// Among the arguments of a statement.
     Arguments(usize),
+    /// After the arguments of a statement.
     AfterArguments(usize),
     /// Right after the colon of a simple attribute.
     ValueStart(usize),
@@ -104,8 +110,8 @@ fn after_name(depth: usize, kind: TokenKind) -> Option<Standing>
     }
 }
 
-/// Where the token after this one stands, if this one can stand here.
-fn step(here: Standing, token: Token, is_library: bool) -> Option<Standing>
+/// Where the token after this one stands, if this one can stand here. The flag says whether its bytes are `library`.
+pub fn next_standing(here: Standing, token: Token, is_library: bool) -> Option<Standing>
     ensures { result ≡ spec.step here token is_library }
 {
     match here {
@@ -148,7 +154,7 @@ impl Cursor<'_> {
             let Some(token) = self.peek() else {
                 return true;
             };
-            match step(here, token, self.sees_library()) {
+            match next_standing(here, token, self.sees_library()) {
                 Some(next) => here = next,
                 None => return false,
             }

@@ -1,0 +1,44 @@
+//! What a token tells as soon as it has ended, before any statement is read.
+
+use liberty_groups::{Standing, next_standing};
+use liberty_text::Token;
+
+/// What the tokens of a part tell that ended last.
+#[derive(Clone, Copy, Debug, PartialEq, Eq)]
+pub(crate) enum Sight {
+    /// Nothing of use.
+    Nothing,
+    /// No library text goes on with one of them.
+    Misfit,
+}
+
+/// A watch over the tokens of a part.
+#[derive(Clone, Copy, Debug, PartialEq, Eq)]
+pub(crate) struct Watch {
+    /// Where the next token stands, as long as each token before it could stand in a library.
+    standing: Option<Standing>,
+}
+
+impl Watch {
+    /// A watch before the first token of a part.
+    pub(crate) fn from(standing: Standing) -> Watch {
+        Watch {
+            standing: Some(standing),
+        }
+    }
+
+    /// Sees tokens of these bytes that have ended. A misfit is told once.
+    pub(crate) fn see(&mut self, bytes: &[u8], tokens: &[Token]) -> Sight {
+        for token in tokens {
+            let Some(here) = self.standing else {
+                return Sight::Nothing;
+            };
+            let is_library = bytes.get(token.at..token.end) == Some(b"library".as_slice());
+            self.standing = next_standing(here, *token, is_library);
+            if self.standing.is_none() {
+                return Sight::Misfit;
+            }
+        }
+        Sight::Nothing
+    }
+}

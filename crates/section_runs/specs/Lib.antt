@@ -1,2 +1,3 @@
 pub mod TraceText
 pub mod Writes
+pub mod Differences

@@ -1,10 +1,12 @@
-//! A section of a stimulus run by a simulator: the lines of its trace, printed to the report.
+//! A section of a stimulus run by simulators: the lines of a trace, printed to the report, and where two traces differ.
 #![tactic(auto)]
 
+mod differences;
 mod faults;
 mod heading;
 mod trace;
 
+pub use differences::{first_difference, no_difference_is_equal, same_line};
 pub use faults::RunFault;
 pub use heading::write_heading;
 pub use trace::write_trace;

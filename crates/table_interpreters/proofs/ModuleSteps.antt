@@ -8,12 +8,12 @@ use Rattle.std.proofs.lemmas.List.{map-append}
 use Rattle.cell_machine.proofs.ArcDelays.{drop-at}
 use Rattle.udp_tables.specs.declared.models.VPort.{VPort}
 use Rattle.specify_blocks.specs.declared.model.VModule.{VModule}
-use Rattle.table_interpreters.specs.declared.checks.Stamps.{Stamps}
-use Rattle.table_interpreters.specs.declared.module_run.ModuleRun.{ModuleRun}
+use Rattle.model_traces.specs.declared.stamps.Stamps.{Stamps}
+use Rattle.model_traces.specs.declared.module_run.ModuleRun.{ModuleRun}
 use Rattle.table_interpreters.specs.declared.shown.Shown.{Shown}
-use Rattle.table_interpreters.specs.PortNumbers.{input_count, output_by, outputs_from, output_ports}
-use Rattle.table_interpreters.specs.CheckTimes.{no_stamps}
-use Rattle.table_interpreters.specs.ModuleRun.{shaken, reports_at, happened, run_step, step_reports, run_after}
+use Rattle.model_traces.specs.PortNumbers.{input_count, output_by, outputs_from, output_ports}
+use Rattle.model_traces.specs.CheckTimes.{no_stamps}
+use Rattle.model_traces.specs.ModuleRun.{shaken, reports_at, happened, run_step, step_reports, run_after}
 use Rattle.table_interpreters.specs.ShownPorts.{shown_first, shown_step}
 use Rattle.table_interpreters.specs.ModuleStands.{shown_after, Stands}
 

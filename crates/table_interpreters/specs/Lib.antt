@@ -1,13 +1,4 @@
-pub mod PortNumbers
 pub mod Wiring
-pub mod NetValues
-pub mod Primitives
-pub mod CheckTimes
-pub mod PathDelays
 pub mod LeastPath
-pub mod ModuleRun
-pub mod Laws
-pub mod ModuleTrace
 pub mod ShownPorts
-pub mod ModuleSized
 pub mod ModuleStands

@@ -2,11 +2,11 @@
 use Rattle.std.specs.Prelude.{◌≡◌, ℕ, Bool, List, map}
 use Rattle.cell_machine.specs.declared.changes.Change.{Change}
 use Rattle.specify_blocks.specs.declared.model.VModule.{VModule}
-use Rattle.table_interpreters.specs.declared.module_run.ModuleRun.{ModuleRun}
+use Rattle.model_traces.specs.declared.module_run.ModuleRun.{ModuleRun}
 use Rattle.table_interpreters.specs.declared.shown.Shown.{Shown}
-use Rattle.table_interpreters.specs.PortNumbers.{output_ports}
-use Rattle.table_interpreters.specs.ModuleRun.{run_after}
-use Rattle.table_interpreters.specs.ModuleTrace.{output_after, delay_after, reports_after}
+use Rattle.model_traces.specs.PortNumbers.{output_ports}
+use Rattle.model_traces.specs.ModuleRun.{run_after}
+use Rattle.model_traces.specs.ModuleTrace.{output_after, delay_after, reports_after}
 
 -- what an output port shows after a history
 abbrev pub shown_after : VModule → List Change → ℕ → Shown

@@ -4,8 +4,8 @@ use Rattle.trit_cubes.specs.declared.trits.Trit.{Trit}
 use Rattle.specify_blocks.specs.declared.model.VNet.TheVariants as net
 use Rattle.specify_blocks.specs.declared.model.VModule.{VModule}
 use Rattle.table_interpreters.specs.declared.shown.Shown.{Shown}
-use Rattle.table_interpreters.specs.NetValues.{net_value}
-use Rattle.table_interpreters.specs.PathDelays.{delay_at}
+use Rattle.model_traces.specs.NetValues.{net_value}
+use Rattle.model_traces.specs.PathDelays.{delay_at}
 
 -- the value of an output and its delay at a change of an input, by what it showed before
 abbrev pub shown_step : VModule → List Trit → List Trit → ℕ → Shown → Shown

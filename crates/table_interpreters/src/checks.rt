@@ -4,40 +4,17 @@ ghost use Rattle.cell_machine.specs.Each.{each};
 ghost use Rattle.cell_machine.specs.Report.{is_period, happens, is_within};
 ghost use Rattle.cell_machine.specs.Times.{renewed};
 ghost use Rattle.table_interpreters.specs.Wiring.{is_wired};
-ghost use Rattle.table_interpreters.specs.PortNumbers.{input_event};
-ghost use Rattle.table_interpreters.specs.CheckTimes.{no_stamps, stamped, opened, is_enabled, check_reports};
+ghost use Rattle.model_traces.specs.PortNumbers.{input_event};
+ghost use Rattle.model_traces.specs.CheckTimes.{stamped, opened, is_enabled, check_reports};
 
 use crate::net_values::net_value;
 use crate::ports::input_number;
 use cell_machine::{Change, CheckKind, Edge, Event, is_rise, moves};
+use model_traces::Stamps;
 use specify_blocks::{VCheck, VModule, VNet};
 use sqlite_items::Items;
 use trit_cubes::Trit;
 use udp_tables::VPort;
-
-/// The times that a check keeps, in picoseconds.
-#[derive(Clone, Copy)]
-pub struct Stamps {
-    /// Of its last first event.
-    pub first: Option<u64>,
-    /// Of the last possible rise of its second event's input.
-    pub rise: Option<u64>,
-    /// Of the last possible fall of its second event's input.
-    pub fall: Option<u64>,
-}
-
-impl Stamps {
-    /// No event yet.
-    pub(crate) fn none() -> Stamps
-        ensures { result ≡ no_stamps }
-    {
-        Stamps {
-            first: None,
-            rise: None,
-            fall: None,
-        }
-    }
-}
 
 // Whether a check of this kind measures from an event of the change's own kind.
 fn is_period(kind: CheckKind) -> bool

@@ -3,7 +3,7 @@ ghost use Rattle.std.specs.Prelude.{◌≡◌, ◌<◌, length, IsTrue, drop};
 ghost use Rattle.std.specs.List.{list_all};
 ghost use Rattle.cell_machine.specs.Delay.{lesser, least_delay, path_delay};
 ghost use Rattle.table_interpreters.specs.Wiring.{is_wired};
-ghost use Rattle.table_interpreters.specs.PathDelays.{is_off, is_quiet, is_active, is_between, paths_between, path_at, delay_at};
+ghost use Rattle.model_traces.specs.PathDelays.{is_off, is_quiet, is_active, is_between, paths_between, path_at, delay_at};
 ghost use Rattle.table_interpreters.specs.LeastPath.{path_delay_of};
 
 use crate::net_values::net_value;

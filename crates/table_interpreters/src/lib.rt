@@ -4,7 +4,6 @@
 mod checks;
 mod delays;
 mod faults;
-mod laws;
 mod module_run;
 mod net_values;
 mod ports;
@@ -14,5 +13,4 @@ mod verilog_sim;
 mod wiring;
 
 pub use faults::Memory;
-pub use laws::{run_holds_inputs, run_keeps_last_events};
 pub use verilog_sim::VerilogSim;

@@ -6,7 +6,7 @@ ghost use Rattle.trit_cubes.specs.Filling.{trit_of};
 ghost use Rattle.specify_blocks.specs.Nets.{same_net, net_driven};
 ghost use Rattle.udp_tables.specs.Primitive.{IsCombinational};
 ghost use Rattle.table_interpreters.specs.Wiring.{is_table, is_joined, is_wired};
-ghost use Rattle.table_interpreters.specs.NetValues.{driver, kept_state, source_value, table_value, primitive_value, instance_value, net_value};
+ghost use Rattle.model_traces.specs.NetValues.{driver, kept_state, source_value, table_value, primitive_value, instance_value, net_value};
 
 use crate::ports::input_value;
 use crate::wiring::instance_at;

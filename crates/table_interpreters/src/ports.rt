@@ -1,7 +1,7 @@
 //! The ports of a model by their direction.
 ghost use Rattle.std.specs.Prelude.{◌≡◌};
 ghost use Rattle.specify_blocks.specs.Nets.{is_input_port};
-ghost use Rattle.table_interpreters.specs.PortNumbers.{input_count, input_number, input_value};
+ghost use Rattle.model_traces.specs.PortNumbers.{input_count, input_number, input_value};
 
 use trit_cubes::Trit;
 use udp_tables::VPort;

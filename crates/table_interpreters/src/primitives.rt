@@ -3,32 +3,15 @@
 ghost use Rattle.std.specs.Prelude.{◌≡◌, ◌≤◌, ◌<◌, length, map, take, position, IsTrue};
 ghost use Rattle.udp_tables.specs.Sequential.{udp_next};
 ghost use Rattle.table_interpreters.specs.Wiring.{is_table, is_joined, is_wired};
-ghost use Rattle.table_interpreters.specs.Primitives.{is_turned, entry_value, primitive_next, next_state, next_states};
+ghost use Rattle.model_traces.specs.Primitives.{is_turned, entry_value, primitive_next, next_state, next_states};
 
 use crate::ports::{input_number, input_value, is_input_port};
 use crate::wiring::instance_at;
+use model_traces::{Turn, Turned};
 use specify_blocks::{Instance, VModule, VNet};
 use sqlite_items::Items;
 use trit_cubes::Trit;
 use udp_tables::{Udp, VPort, udp_next};
-
-/// What changes.
-#[derive(Clone, Copy)]
-pub enum Turned {
-    /// The input with this number.
-    Input(usize),
-    /// The register of the checks.
-    Notifier,
-}
-
-/// A change as the primitives see it.
-#[derive(Clone, Copy)]
-pub struct Turn {
-    /// What changes.
-    pub what: Turned,
-    /// The value that it had.
-    pub from: Trit,
-}
 
 // Whether this net is what changes.
 fn is_turned(ports: &[VPort], what: Turned, net: VNet) -> bool

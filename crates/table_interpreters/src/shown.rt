@@ -1,6 +1,6 @@
 //! What the outputs of a module show after a change of an input.
 ghost use Rattle.std.specs.Prelude.{◌≡◌, ◌<◌, ◌++◌, length, map, IsTrue, IfOk, OnOk};
-ghost use Rattle.table_interpreters.specs.PortNumbers.{output_by, output_ports};
+ghost use Rattle.model_traces.specs.PortNumbers.{output_by, output_ports};
 ghost use Rattle.table_interpreters.specs.Wiring.{is_wired};
 ghost use Rattle.table_interpreters.specs.ShownPorts.{shown_first, shown_step};
 

@@ -1,15 +1,15 @@
 //! The simulator of a Verilog module.
 ghost use Rattle.std.specs.Prelude.{◌≡◌, [], length, IsTrue};
 ghost use Rattle.table_interpreters.specs.Wiring.{is_wired};
-ghost use Rattle.table_interpreters.specs.PortNumbers.{input_count, output_ports};
+ghost use Rattle.model_traces.specs.PortNumbers.{input_count, output_ports};
 
-use crate::checks::Stamps;
 use crate::faults::Memory;
-use crate::module_run::ModuleRun;
+use crate::module_run::change;
 use crate::ports::input_count;
 use crate::shown::{Shown, show_all, show_start};
 use crate::wiring::most_nets;
 use cell_machine::{CellSim, Change};
+use model_traces::{ModuleRun, Stamps};
 use specify_blocks::VModule;
 use sqlite_items::Items;
 use std::alloc::Global;
@@ -34,7 +34,7 @@ pub struct VerilogSim<'a> {
 impl<'a> VerilogSim<'a> {
     ghost use Rattle.std.specs.Prelude.{IfOk};
     ghost use Rattle.specify_blocks.specs.Sound.{IsSound};
-    ghost use Rattle.table_interpreters.specs.ModuleTrace.{module_machine};
+    ghost use Rattle.model_traces.specs.ModuleTrace.{module_machine};
 
     /// The simulator of a sound module before any change: all inputs, states and the register of the checks are unknown.
     pub fn start(alloc: Global, model: &'a VModule) -> Result<VerilogSim<'a>, Memory>
@@ -72,9 +72,9 @@ impl<'a> VerilogSim<'a> {
 }
 
 impl<'a> CellSim for VerilogSim<'a> {
-    ghost use Rattle.table_interpreters.specs.ModuleTrace.{module_machine};
+    ghost use Rattle.model_traces.specs.ModuleTrace.{module_machine};
     ghost use Rattle.table_interpreters.specs.ModuleStands.{Stands};
-    ghost use Rattle.table_interpreters.specs.ModuleSized.{module_sized};
+    ghost use Rattle.model_traces.specs.ModuleSized.{module_sized};
 
     ghost machine = { λ s. module_machine s.model.now };
 
@@ -93,9 +93,13 @@ impl<'a> CellSim for VerilogSim<'a> {
     }
 
     fn step(&mut self, at: u64, pin: usize, to: Trit) {
-        let change = Change { at, pin, to };
-        self.run
-            .change(self.model, change, &mut self.reports, &mut self.room);
+        change(
+            &mut self.run,
+            self.model,
+            Change { at, pin, to },
+            &mut self.reports,
+            &mut self.room,
+        );
         show_all(
             self.model,
             self.run.inputs.as_slice(),

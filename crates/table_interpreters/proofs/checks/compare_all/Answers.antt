@@ -1,7 +1,7 @@
 use Rattle.std.proofs.Common.{◌<◌, ◌≤◌, ap, ◌∙◌, length, arith}
 use Rattle.std.proofs.lemmas.List.{length-set}
 use Rattle.std.proofs.lemmas.Option.{slice_get-get_or}
-use Rattle.table_interpreters.specs.CheckTimes.{check_reports}
+use Rattle.model_traces.specs.CheckTimes.{check_reports}
 use Rattle.table_interpreters.proofs.Fronts.{front-step, front-done}
 use Rattle.table_interpreters.proofs.checks.compare_all.Goals as goal
 

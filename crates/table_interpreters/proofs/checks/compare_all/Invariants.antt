@@ -1,6 +1,6 @@
 use Rattle.std.proofs.Common.{◌≡◌, take, length}
 use Rattle.cell_machine.specs.Each.{each}
-use Rattle.table_interpreters.specs.CheckTimes.{check_reports}
+use Rattle.model_traces.specs.CheckTimes.{check_reports}
 use Rattle.table_interpreters.proofs.checks.compare_all.Given as goal
 
 -- the reports of the checks so far stand in front

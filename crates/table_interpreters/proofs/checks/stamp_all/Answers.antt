@@ -2,7 +2,7 @@ use Rattle.std.proofs.Common.{◌<◌, sym, ap, ◌∙◌, length, add-one, arit
 use Rattle.std.proofs.lemmas.List.{length-set}
 use Rattle.std.proofs.lemmas.Option.{slice_get-get_or}
 use Rattle.cell_machine.proofs.EachLemmas.{each-step, each-done}
-use Rattle.table_interpreters.specs.CheckTimes.{stamped}
+use Rattle.model_traces.specs.CheckTimes.{stamped}
 use Rattle.table_interpreters.proofs.checks.stamp_all.Goals as goal
 
 pub loop-i-preserved : goal.loop-i-preserved

@@ -1,6 +1,6 @@
 use Rattle.std.proofs.Common.{◌≡◌, drop, length}
 use Rattle.std.specs.List.{list_all}
-use Rattle.table_interpreters.specs.PathDelays.{is_quiet}
+use Rattle.model_traces.specs.PathDelays.{is_quiet}
 use Rattle.table_interpreters.proofs.delays.all_are_quiet.Given as goal
 
 -- the rest is quiet exactly where all are

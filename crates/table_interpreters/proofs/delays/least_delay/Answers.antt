@@ -1,6 +1,6 @@
 use Rattle.std.proofs.Common.{◌<◌, ◌∙◌, length, arith}
 use Rattle.std.proofs.lemmas.Option.{slice_get-get_or}
-use Rattle.table_interpreters.specs.PathDelays.{is_between, path_at}
+use Rattle.model_traces.specs.PathDelays.{is_between, path_at}
 use Rattle.table_interpreters.proofs.LeastPaths.{least_of-step-in}
 use Rattle.table_interpreters.proofs.delays.least_delay.Goals as goal
 

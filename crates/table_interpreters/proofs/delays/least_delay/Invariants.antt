@@ -1,6 +1,6 @@
 use Rattle.std.proofs.Common.{◌≡◌, drop, length}
 use Rattle.cell_machine.specs.Delay.{lesser}
-use Rattle.table_interpreters.specs.PathDelays.{is_between, path_at}
+use Rattle.model_traces.specs.PathDelays.{is_between, path_at}
 use Rattle.table_interpreters.specs.LeastPath.{least_of}
 use Rattle.table_interpreters.proofs.delays.least_delay.Given as goal
 

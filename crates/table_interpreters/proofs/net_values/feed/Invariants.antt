@@ -1,5 +1,5 @@
 use Rattle.std.proofs.Common.{◌≡◌, take, length, map}
-use Rattle.table_interpreters.specs.NetValues.{source_value}
+use Rattle.model_traces.specs.NetValues.{source_value}
 use Rattle.table_interpreters.proofs.net_values.feed.Given as goal
 
 -- the values of the nets so far stand in front

@@ -1,5 +1,5 @@
 use Rattle.std.proofs.Common.{◌≡◌, take, length, map}
-use Rattle.table_interpreters.specs.Primitives.{entry_value}
+use Rattle.model_traces.specs.Primitives.{entry_value}
 use Rattle.table_interpreters.proofs.primitives.feed.Given as goal
 
 -- the values of the nets so far stand in front

@@ -1,6 +1,6 @@
 use Rattle.std.proofs.Common.{sym, ap, ◌∙◌, length}
 use Rattle.std.specs.Option.{option_map_or}
-use Rattle.table_interpreters.specs.Primitives.{primitive_next, next_state}
+use Rattle.model_traces.specs.Primitives.{primitive_next, next_state}
 use Rattle.table_interpreters.proofs.WiringLemmas.{wired-table}
 use Rattle.table_interpreters.proofs.primitives.next_state.Goals as goal
 

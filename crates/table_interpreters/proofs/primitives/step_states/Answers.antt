@@ -2,7 +2,7 @@ use Rattle.std.proofs.Common.{◌<◌, sym, ap, ◌∙◌, length, add-one, arit
 use Rattle.std.proofs.lemmas.List.{length-set}
 use Rattle.trit_cubes.specs.declared.trits.Trit.TheVariants.{Zero}
 use Rattle.cell_machine.proofs.EachLemmas.{each-step, each-done}
-use Rattle.table_interpreters.specs.Primitives.{next_state}
+use Rattle.model_traces.specs.Primitives.{next_state}
 use Rattle.table_interpreters.proofs.primitives.step_states.Goals as goal
 
 pub loop-i-preserved : goal.loop-i-preserved

@@ -1,6 +1,6 @@
 use Rattle.std.proofs.Common.{◌≡◌, ◌++◌, take, drop, length}
 use Rattle.cell_machine.specs.Each.{each}
-use Rattle.table_interpreters.specs.Primitives.{next_state}
+use Rattle.model_traces.specs.Primitives.{next_state}
 use Rattle.table_interpreters.proofs.primitives.step_states.Given as goal
 
 -- the states so far and the next ones of the rest give the next ones of all

@@ -1,5 +1,5 @@
 use Rattle.std.proofs.Common.{◌≡◌, ◌++◌, drop, length, map}
-use Rattle.table_interpreters.specs.PortNumbers.{outputs_from, output_ports}
+use Rattle.model_traces.specs.PortNumbers.{outputs_from, output_ports}
 use Rattle.table_interpreters.specs.ShownPorts.{shown_first}
 use Rattle.table_interpreters.proofs.shown.show_start.Given as goal
 

@@ -2,7 +2,7 @@ use Rattle.std.proofs.Common.{◌∙◌, ap, sym, subst, replicate, length, fals
 use Rattle.std.proofs.lemmas.List.{length-replicate}
 use Rattle.trit_cubes.specs.declared.trits.Trit.TheVariants.{Unknown}
 use Rattle.table_interpreters.specs.Wiring.{is_wired}
-use Rattle.table_interpreters.specs.CheckTimes.{no_stamps}
+use Rattle.model_traces.specs.CheckTimes.{no_stamps}
 use Rattle.table_interpreters.proofs.ModuleSteps.{start-stands}
 use Rattle.table_interpreters.proofs.verilog_sim.VerilogSim.start.Goals as goal
 

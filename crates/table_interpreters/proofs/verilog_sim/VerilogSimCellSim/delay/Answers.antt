@@ -2,7 +2,7 @@ use Rattle.std.proofs.Common.{◌∙◌, ap, get_or, List, None}
 use Rattle.trit_cubes.specs.declared.trits.Trit.TheVariants.{Zero}
 use Rattle.cell_machine.proofs.EachLemmas.{get_or-part}
 use Rattle.table_interpreters.specs.declared.shown.Shown.{Shown}
-use Rattle.table_interpreters.specs.PortNumbers.{output_ports}
+use Rattle.model_traces.specs.PortNumbers.{output_ports}
 use Rattle.table_interpreters.specs.ModuleStands.{shown_after}
 use Rattle.table_interpreters.proofs.verilog_sim.VerilogSimCellSim.delay.Goals as goal
 

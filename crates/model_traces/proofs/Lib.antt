@@ -1,0 +1,9 @@
+pub mod RunLemmas
+pub mod TraceLemmas
+pub mod ModuleAgreement
+pub mod ProcessLemmas
+pub mod EntityAgreement
+pub mod PlaceLemmas
+pub mod PinNumbers
+pub mod CellSteps
+pub mod ModuleParts

@@ -1,0 +1,298 @@
+-- A module that fits a cell shows what the cell shows.
+use Rattle.std.proofs.Common.{◌≡◌, ℕ, Bool, true, false, ◌&&◌, List, [], ◌∷◌, suc, ◌<◌, length, map, replicate, set, refl, ap, sym, ◌∙◌, Option, Some, None, arith, if◌then◌else◌}
+use Rattle.std.specs.Prelude.{filter}
+use Rattle.trit_cubes.specs.declared.trits.Trit.{Trit}
+use Rattle.trit_cubes.specs.declared.trits.Trit.TheVariants.{Unknown}
+use Rattle.trit_cubes.specs.Filling.{same}
+use Rattle.cell_machine.specs.declared.outputs.OutputPin.{OutputPin}
+use Rattle.cell_machine.specs.declared.checks.Edge.TheVariants as edge
+use Rattle.cell_machine.specs.declared.checks.Check.{Check}
+use Rattle.cell_machine.specs.declared.changes.Change.{Change}
+use Rattle.cell_machine.specs.CellData.{CellData}
+use Rattle.cell_machine.specs.Each.{each}
+use Rattle.cell_machine.specs.Edges.{is_rise}
+use Rattle.cell_machine.specs.Delay.{least_delay}
+use Rattle.cell_machine.specs.History.{inputs_after, value_before, is_event, IsProper, IsProperFrom}
+use Rattle.cell_machine.specs.Report.{is_period, happens, is_within, last_event, opening_by, opening, report, any_true}
+use Rattle.cell_machine.specs.CellTrace.{inputs_of, input_check, reports_of, NamedGroup, named_groups, moved, violated, state_step, state_after, states_after, cell_line, cell_trace}
+use Rattle.cell_machine.specs.CellTrace as cell
+use Rattle.udp_tables.specs.CellPrimitives.{has_notifier}
+use Rattle.specify_blocks.specs.declared.model.Instance.{Instance}
+use Rattle.specify_blocks.specs.declared.model.VNet.TheVariants as net
+use Rattle.specify_blocks.specs.declared.model.VCheck.{VCheck}
+use Rattle.specify_blocks.specs.declared.model.VModule.{VModule}
+use Rattle.specify_blocks.specs.Nets.{has_state}
+use Rattle.model_traces.specs.declared.turns.Turned.TheVariants as turned
+use Rattle.model_traces.specs.declared.module_run.ModuleRun.{ModuleRun}
+use Rattle.model_traces.specs.declared.stamps.Stamps.{Stamps}
+use Rattle.model_traces.specs.PortNumbers.{input_count, output_ports}
+use Rattle.model_traces.specs.NetValues.{net_value}
+use Rattle.model_traces.specs.Primitives.{next_state}
+use Rattle.model_traces.specs.CheckTimes.{same_edge, opened_by, opened, check_reports}
+use Rattle.model_traces.specs.ModuleRun.{HasEach, turn_of, toggled, entered, kept, notified, shaken, reports_at, happened, run_after, step_reports}
+use Rattle.model_traces.specs.PathDelays.{paths_between}
+use Rattle.model_traces.specs.ModuleTrace.{output_after, delay_after, reports_after, module_line, module_trace}
+use Rattle.model_traces.specs.ModuleSized.{entered-has-each, kept-has-each, notified-has-each, run-has-each, length-reports_at}
+use Rattle.model_traces.specs.SequentialStates.{sequential_instances, states_among, sequential_states}
+use Rattle.model_traces.specs.ModuleFits.{FitsGroup, FitGroups, FitsCheck, FitChecks, FitsOutput, FitOutputs, ModuleFits}
+use Rattle.model_traces.specs.Laws.{last_stamps}
+use Rattle.model_traces.specs.Agreement.{FittingModulesAgree}
+use Rattle.model_traces.proofs.RunLemmas.{run-inputs, run-stamps}
+use Rattle.model_traces.proofs.TraceLemmas.{trace-same, length-inputs, still-reports, start-reports, some-checks, picked-each, picked-replicate, length-picked}
+
+-- the register changes nothing where no check reports
+shaken-none : (m : VModule) (reports : List Bool) (r : ModuleRun) → any_true reports ≡ false → shaken m reports r ≡ r
+shaken-none m [] r e = refl
+shaken-none m (true ∷ reports) r e = absurd cc
+shaken-none m (false ∷ reports) r e = shaken-none m reports r e
+
+-- states that each change of the register gives, whatever the states were
+module _ (m : VModule) (v : List Trit) (forced : List Trit)
+  (forces : (r : ModuleRun) → r.inputs ≡ v → HasEach m r → sequential_states m (notified m r) ≡ forced) where
+  shaken-stays :
+      (reports : List Bool) (r : ModuleRun)
+      → r.inputs ≡ v → HasEach m r → sequential_states m r ≡ forced → sequential_states m (shaken m reports r) ≡ forced
+  shaken-stays [] r is each_one stands = stands
+  shaken-stays (true ∷ reports) r is each_one stands =
+      shaken-stays reports (notified m r) is (notified-has-each m r each_one) (forces r is each_one)
+  shaken-stays (false ∷ reports) r is each_one stands = shaken-stays reports r is each_one stands
+
+  shaken-some :
+      (reports : List Bool) (r : ModuleRun)
+      → r.inputs ≡ v → HasEach m r → any_true reports ≡ true → sequential_states m (shaken m reports r) ≡ forced
+  shaken-some [] r is each_one e = absurd cc
+  shaken-some (true ∷ reports) r is each_one e =
+      shaken-stays reports (notified m r) is (notified-has-each m r each_one) (forces r is each_one)
+  shaken-some (false ∷ reports) r is each_one e = shaken-some reports r is each_one e
+
+module _ (d : CellData) (m : VModule) (fits : ModuleFits d m) where
+  abbrev n : ℕ
+  n = inputs_of d
+
+  -- what each list of parts makes of the parts that fit
+  outputs-map :
+      {Z : Type 0} (f : ℕ → Z) (g : OutputPin → Z)
+      → ((output : OutputPin) (p : ℕ) → FitsOutput d m output p → f p ≡ g output)
+      → (outputs : List OutputPin) (ps : List ℕ) → FitOutputs d m outputs ps → map f ps ≡ map g outputs
+  outputs-map f g same [] [] h = refl
+  outputs-map f g same [] (p ∷ ps) h = absurd h
+  outputs-map f g same (output ∷ outputs) [] h = absurd h
+  outputs-map f g same (output ∷ outputs) (p ∷ ps) h = λ i. same output p h.0 i ∷ outputs-map f g same outputs ps h.1 i
+
+  checks-length : (ks : List Check) (js : List VCheck) → FitChecks d m ks js → length js ≡ length ks
+  checks-length [] [] h = refl
+  checks-length [] (j ∷ js) h = absurd h
+  checks-length (k ∷ ks) [] h = absurd h
+  checks-length (k ∷ ks) (j ∷ js) h = ap suc (checks-length ks js h.1)
+
+  run-is : (h : List Change) → (run_after m h).inputs ≡ inputs_after n h
+  run-is h = run-inputs m h ∙ ap (λ k. inputs_after k h) fits.inputs
+
+  stamps-are : (h : List Change) → (run_after m h).stamps ≡ map (last_stamps m.ports n h) m.checks
+  stamps-are h = run-stamps m h ∙ ap (λ k. map (last_stamps m.ports k h) m.checks) fits.inputs
+
+  -- the time from which a check measures
+  opened-same :
+      (k : Check) (j : VCheck) (a : Trit) (c : Change) (h : List Change)
+      → FitsCheck d m k j
+      → opened j a c (last_stamps m.ports n h j) ≡ last_event n (opening (input_check d.pins k) a c) h
+  opened-same k j a c h f =
+      ap (λ kind. opened_by (is_period kind) a c (last_stamps m.ports n h j)) f.kind ∙ by (is_period k.kind)
+    where
+      edges : (rises : Bool) → same_edge rises (last_stamps m.ports n h j) ≡ last_event n (record { pin = (cell.input_event d.pins k.second).pin; edge = (if rises then edge.Rise else edge.Fall) }) h
+      edges true = ap (λ e. last_event n (record { pin = e.pin; edge = edge.Rise }) h) f.second
+      edges false = ap (λ e. last_event n (record { pin = e.pin; edge = edge.Fall }) h) f.second
+
+      by : (period : Bool) → opened_by period a c (last_stamps m.ports n h j) ≡ last_event n (opening_by period (input_check d.pins k) a c) h
+      by true = edges (is_rise a c.to)
+      by false = ap (λ e. last_event n e h) f.first
+
+  report-same :
+      (k : Check) (j : VCheck) (states : List Trit) (c : Change) (h : List Change)
+      → FitsCheck d m k j → length states ≡ length m.instances
+      → check_reports m (inputs_after n (c ∷ h)) states (value_before (inputs_after n h) c) c j (last_stamps m.ports n h j)
+      ≡ report n (input_check d.pins k) (c ∷ h)
+  report-same k j states c h f long =
+      let a : Trit = value_before (inputs_after n h) c in
+      λ i.
+      happens (f.second i) a c
+      && (f.enabled (inputs_after n (c ∷ h)) states (length-inputs n (c ∷ h)) long i
+      && is_within c.at (f.limit i) (opened-same k j a c h f i))
+
+  reports-same :
+      (states : List Trit) (c : Change) (h : List Change)
+      → length states ≡ length m.instances
+      → (ks : List Check) (js : List VCheck) → FitChecks d m ks js
+      → each (check_reports m (inputs_after n (c ∷ h)) states (value_before (inputs_after n h) c) c) js (map (last_stamps m.ports n h) js)
+      ≡ map (λ k. report n k (c ∷ h)) (map (input_check d.pins) ks)
+  reports-same states c h long [] [] f = refl
+  reports-same states c h long [] (j ∷ js) f = absurd f
+  reports-same states c h long (k ∷ ks) [] f = absurd f
+  reports-same states c h long (k ∷ ks) (j ∷ js) f =
+      λ i. report-same k j states c h f.0 long i ∷ reports-same states c h long ks js f.1 i
+
+  -- the reports at an event
+  event-reports : (h : List Change) (c : Change) → reports_at m (run_after m h) c ≡ reports_of d (c ∷ h)
+  event-reports h c =
+      let r : ModuleRun = run_after m h in
+      let states : List Trit = (entered m r c).states in
+      let long : length states ≡ length m.instances = (entered-has-each m r c (run-has-each m h)).states in
+      (λ i. each (check_reports m (set (run-is h i) c.pin c.to) states (value_before (run-is h i) c) c) m.checks (stamps-are h i))
+      ∙ reports-same states c h long d.checks m.checks fits.checks
+
+  reports-tied : (h : List Change) (c : Change) → step_reports m (run_after m h) c ≡ reports_of d (c ∷ h)
+  reports-tied h c =
+      ap (λ v. if is_event v c then reports_at m (run_after m h) c else replicate (length m.checks) false) (run-is h)
+      ∙ by (is_event (inputs_after n h) c) refl
+    where
+      by :
+          (b : Bool) → is_event (inputs_after n h) c ≡ b
+          → (if b then reports_at m (run_after m h) c else replicate (length m.checks) false) ≡ reports_of d (c ∷ h)
+      by true e = event-reports h c
+      by false e = still-reports n (input_check d.pins) h c d.checks (length m.checks) e (checks-length d.checks m.checks fits.checks)
+
+  start-states :
+      (groups : List NamedGroup) (instances : List Instance)
+      → FitGroups d m groups instances → replicate (length instances) Unknown ≡ map (state_after d []) groups
+  start-states [] [] h = refl
+  start-states [] (i ∷ instances) h = absurd h
+  start-states (g ∷ groups) [] h = absurd h
+  start-states (g ∷ groups) (i ∷ instances) h = ap (λ r. Unknown ∷ r) (start-states groups instances h.1)
+
+  -- all groups at an event
+  moved-all :
+      (v : List Trit) (c : Change) (note : Trit) (was : NamedGroup → Trit)
+      → length v ≡ n → c.pin < n → is_event v c ≡ true
+      → (groups : List NamedGroup) (instances : List Instance) → FitGroups d m groups instances
+      → each (next_state m (set v c.pin c.to) note (turn_of v c)) instances (map was groups)
+      ≡ map (λ g. moved d.pins g (set v c.pin c.to) (value_before v c) c (was g)) groups
+  moved-all v c note was long inside event [] [] f = refl
+  moved-all v c note was long inside event [] (x ∷ xs) f = absurd f
+  moved-all v c note was long inside event (g ∷ gs) [] f = absurd f
+  moved-all v c note was long inside event (g ∷ gs) (x ∷ xs) f =
+      λ i. f.0.steps v c note (was g) long inside event i ∷ moved-all v c note was long inside event gs xs f.1 i
+
+  -- all groups at a change of the register
+  forced-all :
+      (v : List Trit) (note : Trit)
+      → length v ≡ n → has_notifier d ≡ true
+      → (groups : List NamedGroup) (instances : List Instance) (states : List Trit)
+      → FitGroups d m groups instances → length states ≡ length instances
+      → each (next_state m v (toggled note) (record { what = turned.Notifier; from = note })) instances states
+      ≡ map (λ g. violated d.pins g v) groups
+  forced-all v note long some [] [] states f e = refl
+  forced-all v note long some [] (x ∷ xs) states f e = absurd f
+  forced-all v note long some (g ∷ gs) [] states f e = absurd f
+  forced-all v note long some (g ∷ gs) (x ∷ xs) [] f e = absurd (omega arith)
+  forced-all v note long some (g ∷ gs) (x ∷ xs) (s ∷ ss) f e =
+      λ i. f.0.forces v note s long some i ∷ forced-all v note long some gs xs ss f.1 (omega arith) i
+
+  notified-all :
+      (v : List Trit) → length v ≡ n → has_notifier d ≡ true
+      → (r : ModuleRun) → r.inputs ≡ v → HasEach m r
+      → sequential_states m (notified m r) ≡ map (λ g. violated d.pins g v) (named_groups d)
+  notified-all v long some r is each_one =
+      picked-each (has_state m.udps) (next_state m r.inputs (toggled r.notifier) (record { what = turned.Notifier; from = r.notifier })) m.instances r.states each_one.states
+      ∙ ap (λ w. each (next_state m w (toggled r.notifier) (record { what = turned.Notifier; from = r.notifier })) (sequential_instances m) (states_among m r.states)) is
+      ∙ forced-all v r.notifier long some (named_groups d) (sequential_instances m) (states_among m r.states) fits.groups
+      (length-picked (has_state m.udps) m.instances r.states each_one.states)
+
+  -- the states after an event
+  entered-tied :
+      (h : List Change) (c : Change)
+      → c.pin < n → is_event (inputs_after n h) c ≡ true
+      → sequential_states m (run_after m h) ≡ states_after d h
+      → sequential_states m (entered m (run_after m h) c)
+      ≡ map (λ g. moved d.pins g (inputs_after n (c ∷ h)) (value_before (inputs_after n h) c) c (state_after d h g)) (named_groups d)
+  entered-tied h c inside event tied =
+      let r : ModuleRun = run_after m h in
+      picked-each (has_state m.udps) (next_state m (set r.inputs c.pin c.to) r.notifier (turn_of r.inputs c)) m.instances r.states (run-has-each m h).states
+      ∙ (λ i. each (next_state m (set (run-is h i) c.pin c.to) r.notifier (turn_of (run-is h i) c)) (sequential_instances m) (tied i))
+      ∙ moved-all (inputs_after n h) c r.notifier (state_after d h) (length-inputs n h) inside event (named_groups d)
+      (sequential_instances m) fits.groups
+
+  happened-tied :
+      (h : List Change) (c : Change)
+      → c.pin < n → is_event (inputs_after n h) c ≡ true
+      → sequential_states m (run_after m h) ≡ states_after d h
+      → sequential_states m (happened m (run_after m h) c)
+      ≡ map (λ g. state_step (any_true (reports_of d (c ∷ h))) d.pins g (inputs_after n (c ∷ h)) (value_before (inputs_after n h) c) c (state_after d h g)) (named_groups d)
+  happened-tied h c inside event tied =
+      let r : ModuleRun = run_after m h in
+      let base : ModuleRun = kept m (entered m r c) (value_before r.inputs c) c in
+      let has : HasEach m base = kept-has-each m (entered m r c) (value_before r.inputs c) c (entered-has-each m r c (run-has-each m h)) in
+      ap (λ bs. sequential_states m (shaken m bs base)) (event-reports h c)
+      ∙ by base has (λ i. set (run-is h i) c.pin c.to) (entered-tied h c inside event tied) (any_true (reports_of d (c ∷ h))) refl
+    where
+      by :
+          (base : ModuleRun) → HasEach m base → base.inputs ≡ inputs_after n (c ∷ h)
+          → sequential_states m base
+          ≡ map (λ g. moved d.pins g (inputs_after n (c ∷ h)) (value_before (inputs_after n h) c) c (state_after d h g)) (named_groups d)
+          → (b : Bool) → any_true (reports_of d (c ∷ h)) ≡ b
+          → sequential_states m (shaken m (reports_of d (c ∷ h)) base)
+          ≡ map (λ g. state_step b d.pins g (inputs_after n (c ∷ h)) (value_before (inputs_after n h) c) c (state_after d h g)) (named_groups d)
+      by base has is stepped true e =
+          shaken-some m (inputs_after n (c ∷ h)) (map (λ g. violated d.pins g (inputs_after n (c ∷ h))) (named_groups d))
+          (notified-all (inputs_after n (c ∷ h)) (length-inputs n (c ∷ h))
+          (some-checks (input_check d.pins) (λ k. report n k (c ∷ h)) d.checks e)) (reports_of d (c ∷ h)) base is has e
+      by base has is stepped false e =
+          ap (sequential_states m) (shaken-none m (reports_of d (c ∷ h)) base e) ∙ stepped
+
+  pub states-tied : (h : List Change) → IsProper n h → sequential_states m (run_after m h) ≡ states_after d h
+  states-tied [] proper =
+      picked-replicate (has_state m.udps) m.instances Unknown
+      ∙ start-states (named_groups d) (sequential_instances m) fits.groups
+  states-tied (c ∷ h) proper =
+      ap (λ v. sequential_states m (if is_event v c then happened m (run_after m h) c else run_after m h)) (run-is h)
+      ∙ by (is_event (inputs_after n h) c) refl (states-tied h proper.2)
+    where
+      by :
+          (b : Bool) → is_event (inputs_after n h) c ≡ b
+          → sequential_states m (run_after m h) ≡ states_after d h
+          → sequential_states m (if b then happened m (run_after m h) c else run_after m h)
+          ≡ map (λ g. if b then state_step (any_true (reports_of d (c ∷ h))) d.pins g (inputs_after n (c ∷ h)) (value_before (inputs_after n h) c) c (state_after d h g) else state_after d h g) (named_groups d)
+      by true e tied = happened-tied h c proper.0 e tied
+      by false e tied = tied
+
+  output-tied :
+      (h : List Change) → IsProper n h → (output : OutputPin) (p : ℕ) → FitsOutput d m output p
+      → output_after m h p ≡ cell.output_after d h output
+  output-tied h proper output p f =
+      let r : ModuleRun = run_after m h in
+      (λ i. net_value m (run-is h i) r.states (net.Port p))
+      ∙ f.values (inputs_after n h) r.states (length-inputs n h) (run-has-each m h).states
+      ∙ ap (λ states. cell.output_value d.pins d.groups (inputs_after n h) states output) (states-tied h proper)
+
+  delay-tied :
+      (h : List Change) → IsProper n h → (output : OutputPin) (p : ℕ) → FitsOutput d m output p
+      → delay_after m h p ≡ cell.delay_after d h output
+  delay-tied [] proper output p f = refl
+  delay-tied (c ∷ h) proper output p f =
+      let r : ModuleRun = run_after m (c ∷ h) in
+      let was : output_after m h p ≡ cell.output_after d h output = output-tied h proper.2 output p f in
+      let now : output_after m (c ∷ h) p ≡ cell.output_after d (c ∷ h) output = output-tied (c ∷ h) proper output p f in
+      let paths =
+      ap (λ v. paths_between m v r.states c.pin p) (run-is (c ∷ h))
+      ∙ f.paths (inputs_after n (c ∷ h)) r.states c.pin (length-inputs n (c ∷ h)) (run-has-each m (c ∷ h)).states in
+      λ i. if same (was i) (now i) then None else Some (least_delay (was i) (now i) (paths i))
+
+  line-tied : (h : List Change) → IsProper n h → module_line m h ≡ cell_line d h
+  line-tied h proper =
+      λ i.
+      record {
+        values = outputs-map (output_after m h) (cell.output_after d h) (output-tied h proper) d.outputs (output_ports m.ports) fits.outputs i;
+        delays = outputs-map (delay_after m h) (cell.delay_after d h) (delay-tied h proper) d.outputs (output_ports m.ports) fits.outputs i;
+        reports = reports-line h i;
+      }
+    where
+      reports-line : (h : List Change) → reports_after m h ≡ reports_of d h
+      reports-line [] =
+          ap (λ k. replicate k false) (checks-length d.checks m.checks fits.checks)
+          ∙ start-reports n (input_check d.pins) d.checks
+      reports-line (c ∷ h) = reports-tied h c
+
+  pub traces-agree : (cs : List Change) → IsProperFrom n [] cs → module_trace m cs ≡ cell_trace d cs
+  traces-agree = trace-same n (module_line m) (cell_line d) line-tied
+
+pub modules-agree : FittingModulesAgree
+modules-agree d m fits = (traces-agree d m fits, states-tied d m fits)

@@ -1,0 +1,127 @@
+-- What a run keeps is what the whole history says.
+use Rattle.std.proofs.Common.{◌≡◌, ℕ, Bool, true, false, not, ◌&&◌, List, [], ◌∷◌, length, map, replicate, set, refl, ap, sym, ◌∙◌, Some, nat_eq, if◌then◌else◌}
+use Rattle.std.proofs.lemmas.List.{set-get_or}
+use Rattle.trit_cubes.specs.declared.trits.Trit.{Trit}
+use Rattle.trit_cubes.specs.declared.trits.Trit.TheVariants.{Zero, One, Unknown}
+use Rattle.trit_cubes.specs.Filling.{same}
+use Rattle.cell_machine.specs.declared.changes.Change.{Change}
+use Rattle.cell_machine.specs.declared.checks.Event.{Event}
+use Rattle.cell_machine.specs.declared.checks.Edge.{Edge}
+use Rattle.cell_machine.specs.declared.checks.Edge.TheVariants as edge
+use Rattle.cell_machine.specs.Edges.{moves}
+use Rattle.cell_machine.specs.History.{inputs_after, value_before, is_event}
+use Rattle.cell_machine.specs.Report.{is_event_of, last_event}
+use Rattle.cell_machine.specs.Each.{each}
+use Rattle.cell_machine.proofs.EachLemmas.{each-map}
+use Rattle.udp_tables.specs.declared.models.VPort.{VPort}
+use Rattle.specify_blocks.specs.declared.model.VCheck.{VCheck}
+use Rattle.specify_blocks.specs.declared.model.VModule.{VModule}
+use Rattle.model_traces.specs.declared.module_run.ModuleRun.{ModuleRun}
+use Rattle.model_traces.specs.PortNumbers.{input_count, input_event}
+use Rattle.model_traces.specs.CheckTimes.{no_stamps, second_of, stamped}
+use Rattle.model_traces.specs.ModuleRun.{entered, kept, notified, shaken, reports_at, happened, run_after}
+use Rattle.model_traces.specs.Laws.{last_stamps, RunHoldsInputs, RunKeepsLastEvents}
+
+pub same-equal : (a b : Trit) → not (same a b) ≡ false → b ≡ a
+same-equal Zero Zero h = refl
+same-equal One One h = refl
+same-equal Unknown Unknown h = refl
+same-equal Zero One h = absurd cc
+same-equal Zero Unknown h = absurd cc
+same-equal One Zero h = absurd cc
+same-equal One Unknown h = absurd cc
+same-equal Unknown Zero h = absurd cc
+same-equal Unknown One h = absurd cc
+
+same-self : (a : Trit) → same a a ≡ true
+same-self Zero = refl
+same-self One = refl
+same-self Unknown = refl
+
+moves-self : (e : Edge) (a : Trit) → moves e a a ≡ false
+moves-self edge.Any a = ap not (same-self a)
+moves-self edge.Rise Zero = refl
+moves-self edge.Rise One = refl
+moves-self edge.Rise Unknown = refl
+moves-self edge.Fall Zero = refl
+moves-self edge.Fall One = refl
+moves-self edge.Fall Unknown = refl
+
+and_false : (b : Bool) → (b && false) ≡ false
+and_false true = refl
+and_false false = refl
+
+-- no event of any kind
+pub no-event : (e : Event) (v : List Trit) (c : Change) → c.to ≡ value_before v c → is_event_of e v c ≡ false
+no-event e v c to =
+    ap (λ b. nat_eq c.pin e.pin && moves e.edge (value_before v c) b) to
+    ∙ ap (λ b. nat_eq c.pin e.pin && b) (moves-self e.edge (value_before v c))
+    ∙ and_false (nat_eq c.pin e.pin)
+
+shaken-inputs : (m : VModule) (reports : List Bool) (r : ModuleRun) → (shaken m reports r).inputs ≡ r.inputs
+shaken-inputs m [] r = refl
+shaken-inputs m (true ∷ reports) r = shaken-inputs m reports (notified m r)
+shaken-inputs m (false ∷ reports) r = shaken-inputs m reports r
+
+shaken-stamps : (m : VModule) (reports : List Bool) (r : ModuleRun) → (shaken m reports r).stamps ≡ r.stamps
+shaken-stamps m [] r = refl
+shaken-stamps m (true ∷ reports) r = shaken-stamps m reports (notified m r)
+shaken-stamps m (false ∷ reports) r = shaken-stamps m reports r
+
+-- an input that is set to the value that it has stays
+pub still-inputs : (v : List Trit) (c : Change) → is_event v c ≡ false → v ≡ set v c.pin c.to
+still-inputs v c e =
+    sym (ap (set v c.pin) (same-equal (value_before v c) c.to e) ∙ set-get_or v c.pin Unknown)
+
+inputs-step :
+    (m : VModule) (r : ModuleRun) (v : List Trit) (c : Change) (b : Bool)
+    → r.inputs ≡ v → is_event r.inputs c ≡ b → (if b then happened m r c else r).inputs ≡ set v c.pin c.to
+inputs-step m r v c true is e =
+    shaken-inputs m (reports_at m r c) (kept m (entered m r c) (value_before r.inputs c) c)
+    ∙ ap (λ xs. set xs c.pin c.to) is
+inputs-step m r v c false is e = still-inputs r.inputs c e ∙ ap (λ xs. set xs c.pin c.to) is
+
+pub run-inputs : RunHoldsInputs
+run-inputs m [] = refl
+run-inputs m (c ∷ h) =
+    inputs-step m (run_after m h) (inputs_after (input_count m.ports) h) c (is_event (run_after m h).inputs c) (run-inputs m h)
+    refl
+
+-- the last events stay at a change that is none
+pub still-event :
+    (n : ℕ) (e : Event) (h : List Change) (c : Change)
+    → is_event (inputs_after n h) c ≡ false → last_event n e h ≡ last_event n e (c ∷ h)
+still-event n e h c none =
+    sym (ap (λ b. if b then Some c.at else last_event n e h)
+    (no-event e (inputs_after n h) c (same-equal (value_before (inputs_after n h) c) c.to none)))
+
+start-stamps :
+    (ports : List VPort) (n : ℕ) (checks : List VCheck) → replicate (length checks) no_stamps ≡ map (last_stamps ports n []) checks
+start-stamps ports n [] = refl
+start-stamps ports n (k ∷ ks) = ap (λ r. no_stamps ∷ r) (start-stamps ports n ks)
+
+stamps-step :
+    (m : VModule) (r : ModuleRun) (h : List Change) (c : Change) (b : Bool)
+    → r.inputs ≡ inputs_after (input_count m.ports) h
+    → r.stamps ≡ map (last_stamps m.ports (input_count m.ports) h) m.checks
+    → is_event r.inputs c ≡ b
+    → (if b then happened m r c else r).stamps ≡ map (last_stamps m.ports (input_count m.ports) (c ∷ h)) m.checks
+stamps-step m r h c true is kept_are e =
+    shaken-stamps m (reports_at m r c) (kept m (entered m r c) (value_before r.inputs c) c)
+    ∙ (λ i. each (stamped m.ports (value_before (is i) c) c) m.checks (kept_are i))
+    ∙ each-map (stamped m.ports (value_before (inputs_after (input_count m.ports) h) c) c)
+    (last_stamps m.ports (input_count m.ports) h) m.checks
+stamps-step m r h c false is kept_are e =
+    let n : ℕ = input_count m.ports in
+    let none : is_event (inputs_after n h) c ≡ false = ap (λ xs. is_event xs c) (sym is) ∙ e in
+    kept_are
+    ∙ (λ i. map (λ (k : VCheck). record {
+      first = still-event n (input_event m.ports k.first) h c none i;
+      rise = still-event n (input_event m.ports (second_of k edge.Rise)) h c none i;
+      fall = still-event n (input_event m.ports (second_of k edge.Fall)) h c none i;
+    }) m.checks)
+
+pub run-stamps : RunKeepsLastEvents
+run-stamps m [] = start-stamps m.ports (input_count m.ports) m.checks
+run-stamps m (c ∷ h) =
+    stamps-step m (run_after m h) h c (is_event (run_after m h).inputs c) (run-inputs m h) (run-stamps m h) refl

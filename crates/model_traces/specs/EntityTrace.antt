@@ -1,0 +1,49 @@
+-- The trace of an entity: its outputs, its delays and its reports after each history of its inputs.
+use Rattle.std.specs.Prelude.{ℕ, Bool, false, List, [], ◌∷◌, length, map, replicate, Option, None}
+use Rattle.trit_cubes.specs.declared.trits.Trit.{Trit}
+use Rattle.cell_machine.specs.declared.changes.Change.{Change}
+use Rattle.cell_machine.specs.Lines.{Line, trace, Machine}
+use Rattle.vital_models.specs.declared.model.VOutput.{VOutput}
+use Rattle.vital_models.specs.declared.model.VEntity.{VEntity}
+use Rattle.model_traces.specs.PortNumbers.{input_count}
+use Rattle.model_traces.specs.ProcessValues.{output_value}
+use Rattle.model_traces.specs.GatedPaths.{delay_at}
+use Rattle.model_traces.specs.ProcessRun.{process_after, step_reports}
+
+-- the value of an output
+abbrev pub output_after : VEntity → List Change → VOutput → Trit
+output_after e h output = output_value e (process_after e h).inputs (process_after e h).states output.value
+
+-- the delay of an output at the newest change
+abbrev pub delay_after : VEntity → List Change → VOutput → Option ℕ
+delay_after e [] output = None
+delay_after e (c ∷ h) output =
+    delay_at e (process_after e (c ∷ h)).inputs c.pin output (output_after e h output) (output_after e (c ∷ h) output)
+
+-- whether each check reports at the newest change
+abbrev pub reports_after : VEntity → List Change → List Bool
+reports_after e [] = replicate (length e.checks) false
+reports_after e (c ∷ h) = step_reports e (process_after e h) c
+
+-- What an entity shows after a history of its inputs. At the start it shows the results of its tables at X, and its constants.
+abbrev pub entity_line : VEntity → List Change → Line
+entity_line e h =
+    record {
+      values = map (output_after e h) e.outputs;
+      delays = map (delay_after e h) e.outputs;
+      reports = reports_after e h;
+    }
+
+-- The trace of an entity on changes of its inputs, the oldest first.
+abbrev pub entity_trace : VEntity → List Change → List Line
+entity_trace e = trace (entity_line e)
+
+-- the entity as what a simulator runs
+abbrev pub entity_machine : VEntity → Machine
+entity_machine e =
+    record {
+      inputs = input_count e.ports;
+      outputs = length e.outputs;
+      checks = length e.checks;
+      line = entity_line e;
+    }

@@ -1,0 +1,140 @@
+-- When the timing checks of a process report, by the times that they keep. (IEEE 1076.4-2000, VitalSetupHoldCheck,
+-- VitalRecoveryRemovalCheck and VitalPeriodPulseCheck.)
+use Rattle.std.specs.Prelude.{ℕ, Bool, true, false, ◌&&◌, List, Option, Some, None, if◌then◌else◌}
+use Rattle.trit_cubes.specs.declared.trits.Trit.{Trit}
+use Rattle.cell_machine.specs.declared.changes.Change.{Change}
+use Rattle.cell_machine.specs.declared.checks.Edge.{Edge}
+use Rattle.cell_machine.specs.declared.checks.Edge.TheVariants as edge
+use Rattle.cell_machine.specs.declared.checks.CheckKind.{CheckKind}
+use Rattle.cell_machine.specs.declared.checks.CheckKind.TheVariants as check_kind
+use Rattle.cell_machine.specs.declared.checks.Event.{Event}
+use Rattle.cell_machine.specs.Edges.{is_rise}
+use Rattle.cell_machine.specs.Report.{happens, is_within}
+use Rattle.cell_machine.specs.Times.{renewed}
+use Rattle.udp_tables.specs.declared.models.VPort.{VPort}
+use Rattle.vital_models.specs.declared.model.HCheck.{HCheck}
+use Rattle.vital_models.specs.declared.model.VEntity.{VEntity}
+use Rattle.model_traces.specs.PortNumbers.{input_event}
+use Rattle.model_traces.specs.ProcessValues.{is_enabled}
+
+-- The times that a check keeps.
+pub data SignalTimes : Type 0 where
+  -- of a check of a test signal and a reference signal: its last test event and its last reference event
+  Pair : (test reference : Option ℕ) → SignalTimes
+  -- of a check of the pulses or the periods of one signal: the last possible rise and the last possible fall
+  Edges : (rise fall : Option ℕ) → SignalTimes
+
+-- whether a check has a test signal and a reference signal: a width and a period have one signal
+abbrev pub has_reference : CheckKind → Bool
+has_reference check_kind.Setup = true
+has_reference check_kind.Hold = true
+has_reference check_kind.Recovery = true
+has_reference check_kind.Removal = true
+has_reference check_kind.Width = false
+has_reference check_kind.Period = false
+
+-- before any event
+abbrev pub no_times_by : Bool → SignalTimes
+no_times_by true = Pair None None
+no_times_by false = Edges None None
+
+abbrev pub no_times : CheckKind → SignalTimes
+no_times kind = no_times_by (has_reference kind)
+
+-- The test event: the earlier one of a setup and of a recovery, the later one of a hold and of a removal. A check of one signal
+-- has none.
+abbrev pub test_event : CheckKind → HCheck → Event
+test_event check_kind.Setup k = k.first
+test_event check_kind.Hold k = k.second
+test_event check_kind.Recovery k = k.first
+test_event check_kind.Removal k = k.second
+test_event check_kind.Width k = k.first
+test_event check_kind.Period k = k.first
+
+-- the reference event: the other one
+abbrev pub reference_event : CheckKind → HCheck → Event
+reference_event check_kind.Setup k = k.second
+reference_event check_kind.Hold k = k.first
+reference_event check_kind.Recovery k = k.second
+reference_event check_kind.Removal k = k.first
+reference_event check_kind.Width k = k.second
+reference_event check_kind.Period k = k.second
+
+-- an event of this kind of the signal whose pulses or periods are checked
+abbrev pub signal_event : HCheck → Edge → Event
+signal_event k e = record { pin = k.second.pin; edge = e }
+
+-- The times that a check keeps after a change of an input that had the value a: each of its two events that the change is has
+-- the time of the change.
+abbrev pub timed : List VPort → Trit → Change → HCheck → SignalTimes → SignalTimes
+timed ports a c k (Pair test reference) =
+    Pair (renewed (happens (input_event ports (test_event k.kind k)) a c) c.at test)
+    (renewed (happens (input_event ports (reference_event k.kind k)) a c) c.at reference)
+timed ports a c k (Edges rise fall) =
+    Edges (renewed (happens (input_event ports (signal_event k edge.Rise)) a c) c.at rise)
+    (renewed (happens (input_event ports (signal_event k edge.Fall)) a c) c.at fall)
+
+-- the kept times by their names
+abbrev pub test_time : SignalTimes → Option ℕ
+test_time (Pair test reference) = test
+test_time (Edges rise fall) = None
+
+abbrev pub reference_time : SignalTimes → Option ℕ
+reference_time (Pair test reference) = reference
+reference_time (Edges rise fall) = None
+
+abbrev pub rise_time : SignalTimes → Option ℕ
+rise_time (Pair test reference) = None
+rise_time (Edges rise fall) = rise
+
+abbrev pub fall_time : SignalTimes → Option ℕ
+fall_time (Pair test reference) = None
+fall_time (Edges rise fall) = fall
+
+-- whether a pulse is high: it begins with a rise
+abbrev pub is_high : Edge → Bool
+is_high edge.Any = false
+is_high edge.Rise = true
+is_high edge.Fall = false
+
+-- the end of a pulse: the fall of a high one, the rise of a low one
+abbrev pub pulse_end : Bool → Edge
+pulse_end true = edge.Fall
+pulse_end false = edge.Rise
+
+-- the last begin of a pulse: the rise of a high one, the fall of a low one
+abbrev pub pulse_begin : Bool → SignalTimes → Option ℕ
+pulse_begin true times = rise_time times
+pulse_begin false times = fall_time times
+
+-- The later event of a check, at which it compares: the reference event of a setup and of a recovery, the test event of a hold
+-- and of a removal, the end of a pulse, and each event of a signal whose periods are checked.
+abbrev pub later_event : CheckKind → HCheck → Event
+later_event check_kind.Setup k = reference_event k.kind k
+later_event check_kind.Hold k = test_event k.kind k
+later_event check_kind.Recovery k = reference_event k.kind k
+later_event check_kind.Removal k = test_event k.kind k
+later_event check_kind.Width k = signal_event k (pulse_end (is_high k.first.edge))
+later_event check_kind.Period k = signal_event k edge.Any
+
+-- the last event of the same kind as a change, possible rise or not: a period lasts from a rise to a rise, or from a fall to a
+-- fall
+abbrev pub period_begin : Bool → SignalTimes → Option ℕ
+period_begin true times = rise_time times
+period_begin false times = fall_time times
+
+-- the time from which a check measures at its later event
+abbrev pub earlier_time : CheckKind → HCheck → Trit → Change → SignalTimes → Option ℕ
+earlier_time check_kind.Setup k a c times = test_time times
+earlier_time check_kind.Hold k a c times = reference_time times
+earlier_time check_kind.Recovery k a c times = test_time times
+earlier_time check_kind.Removal k a c times = reference_time times
+earlier_time check_kind.Width k a c times = pulse_begin (is_high k.first.edge) times
+earlier_time check_kind.Period k a c times = period_begin (is_rise a c.to) times
+
+-- Whether a check reports at a change of an input that had the value a, by the inputs after it and the times kept before it: the
+-- change is its later event, its condition lets it count, and the earlier time lies less than the limit before.
+abbrev pub check_reports : VEntity → List Trit → Trit → Change → HCheck → SignalTimes → Bool
+check_reports e inputs a c k times =
+    happens (input_event e.ports (later_event k.kind k)) a c
+    && (is_enabled e inputs k.condition && is_within c.at k.limit (earlier_time k.kind k a c times))

@@ -1,9 +1,9 @@
 -- The groups of a cell by their numbers: their names, their steps and their supports; and the conditions by theirs.
-use Rattle.std.proofs.Common.{◌≡◌, ℕ, zero, suc, ◌+◌, ◌*◌, ◌<◌, Bool, true, false, not, ◌&&◌, List, [], ◌∷◌, length, map, inl, inr, refl, sym, ap, ◌∙◌, subst, arith, IsTrue, Option, Some, None, slice_get, flat_map, if◌then◌else◌}
-use Rattle.std.specs.Prelude.{filter}
-use Rattle.std.specs.List.{list_all, list_any}
+use Rattle.std.proofs.Common.{◌≡◌, ℕ, zero, suc, ◌+◌, ◌*◌, ◌<◌, Bool, true, false, List, [], ◌∷◌, length, inl, inr, refl, sym, ap, ◌∙◌, subst, arith, IsTrue, Some, option_map, slice_get, nat_lt, flat_map, if◌then◌else◌}
+use Rattle.std.specs.List.{list_all}
 use Rattle.std.specs.Option.{option_map_or}
-use Rattle.std.proofs.lemmas.Bool.{and_parts}
+use Rattle.std.proofs.lemmas.Bool.{and_parts, lt-ltb}
+use Rattle.std.proofs.lemmas.Option.{slice_get-map}
 use Rattle.trit_cubes.specs.declared.trits.Trit.TheVariants.{Unknown}
 use Rattle.trit_cubes.proofs.ListLemmas.{Among, among-contains, append-among_left, append-among_right}
 use Rattle.bool_functions.specs.declared.tree.Node.{Node}
@@ -11,18 +11,19 @@ use Rattle.bool_functions.specs.SameTrees.{same_tree}
 use Rattle.bool_functions.proofs.SameTreeLemmas.{same_tree-equal}
 use Rattle.cell_machine.specs.declared.pins.Pin.{Pin}
 use Rattle.cell_machine.specs.declared.groups.StateGroup.{StateGroup}
+use Rattle.cell_machine.specs.declared.outputs.OutputPin.{OutputPin}
 use Rattle.cell_machine.specs.declared.checks.Check.{Check}
 use Rattle.cell_machine.specs.declared.arcs.Arc.{Arc}
 use Rattle.cell_machine.specs.CellData.{CellData}
-use Rattle.cell_machine.specs.CellRules.{is_ascending, is_input_pin, is_support, is_group, are_groups_from}
+use Rattle.cell_machine.specs.CellRules.{is_ascending, is_output, is_input_pin, is_output_pin, output_pins_from, is_source, is_output_of, is_support, is_group, are_groups_from, HoldsRules}
 use Rattle.cell_machine.specs.Names.{state_name}
 use Rattle.cell_machine.specs.Step.{group_step}
-use Rattle.cell_machine.specs.Machine.{Step}
 use Rattle.cell_machine.specs.Supports.{Ascending}
 use Rattle.cell_machine.specs.CellTrace.{NamedGroup, named_from, step_of, support_at, step_at}
 use Rattle.cell_machine.proofs.StepLemmas.{ascending}
 use Rattle.udp_tables.specs.Conditions.{condition_list, arc_conditions, used_conditions, conditions_of, condition_place}
 use Rattle.udp_tables.specs.Laws.{ConditionsAreNumbered}
+use Rattle.specify_blocks.proofs.OutputPins.{outputs_are_pins}
 
 -- a group at its place, with the name of its state
 pub record IsNamed (d : CellData) (i : ℕ) (g : NamedGroup) : Type 0 where
@@ -120,3 +121,69 @@ module _ (numbered : ConditionsAreNumbered) (d : CellData) where
       (among-contains f (used_conditions d)
       (append-among_right f (flat_map (λ (k : Check). condition_list k.condition) d.checks) (flat_map (arc_conditions d.arcs) d.arcs)
       (flat-among (arc_conditions d.arcs) f d.arcs arc m h)))
+
+-- an output as its models need it: it is an output pin, and its sources are input pins and states
+pub record IsOutputPin (d : CellData) (output : OutputPin) : Type 0 where
+  pub at : IsTrue (is_output_pin d.pins output.pin)
+  pub sources : IsTrue (list_all (is_source d.pins d.groups) output.support)
+
+output-pins-pass :
+    (k : ℕ) (pins : List Pin) (i q : ℕ)
+    → slice_get (output_pins_from k pins) i ≡ Some q → (j : ℕ) × (q ≡ k + j) × IsTrue (is_output_pin pins j)
+output-pins-pass k [] i q e = absurd cc
+output-pins-pass k (pin ∷ pins) i q e = by (is_output pin.direction) refl i e (λ n f. output-pins-pass (k + 1) pins n q f)
+  where
+    by :
+        (b : Bool) → is_output pin.direction ≡ b → (i : ℕ)
+        → slice_get (if b then k ∷ output_pins_from (k + 1) pins else output_pins_from (k + 1) pins) i ≡ Some q
+        → ((n : ℕ) → slice_get (output_pins_from (k + 1) pins) n ≡ Some q → (j : ℕ) × (q ≡ (k + 1) + j) × IsTrue (is_output_pin pins j))
+        → (j : ℕ) × (q ≡ k + j) × IsTrue (is_output_pin (pin ∷ pins) j)
+    by true t zero e again =
+        let same : k ≡ q = cc in
+        let at : q ≡ k + 0 = omega (arith, same) in
+        (0, at, t)
+    by true t (suc i) e again =
+        let rest = again i e in
+        let at : q ≡ k + suc rest.0 = omega (arith, rest.1) in
+        (suc rest.0, at, rest.2)
+    by false f i e again =
+        let rest = again i e in
+        let at : q ≡ k + suc rest.0 = omega (arith, rest.1) in
+        (suc rest.0, at, rest.2)
+
+all-get : {X : Type 0} (p : X → Bool) (xs : List X) (i : ℕ) (x : X) → IsTrue (list_all p xs) → slice_get xs i ≡ Some x → IsTrue (p x)
+all-get p [] i x h e = absurd cc
+all-get p (y ∷ ys) zero x h e =
+    let same : y ≡ x = cc in subst (λ z. IsTrue (p z)) same (and_parts (p y) (list_all p ys) h).0
+all-get p (y ∷ ys) (suc i) x h e = all-get p ys i x (and_parts (p y) (list_all p ys) h).1 e
+
+pub output-pin :
+    (d : CellData) → HoldsRules d.name d.pins d.groups d.outputs d.checks d.arcs
+    → (k : ℕ) (output : OutputPin) → slice_get d.outputs k ≡ Some output → IsOutputPin d output
+output-pin d rules k output e =
+    let pin : OutputPin → ℕ = λ (o : OutputPin). o.pin in
+    let listed : slice_get (output_pins_from 0 d.pins) k ≡ Some output.pin =
+    ap (λ ps. slice_get ps k) (sym (outputs_are_pins d.pins d.groups d.outputs rules.of_outputs))
+    ∙ slice_get-map pin d.outputs k ∙ ap (option_map pin) e in
+    let found = output-pins-pass 0 d.pins k output.pin listed in
+    let same : found.0 ≡ output.pin = omega (arith, found.1) in
+    let each_one = (and_parts _ (list_all (is_output_of d.pins d.groups) d.outputs) rules.of_outputs).1 in
+    let own = all-get (is_output_of d.pins d.groups) d.outputs k output each_one e in
+    record {
+      at = subst (λ q. IsTrue (is_output_pin d.pins q)) same found.2;
+      sources = (and_parts _ _ (and_parts _ _ own).1).0;
+    }
+
+pub all-passes : {X : Type 0} (p : X → Bool) (xs : List X) (x : X) → IsTrue (list_all p xs) → Among x xs → IsTrue (p x)
+all-passes p [] x h m = absurd m
+all-passes p (y ∷ ys) x h (inl e) = subst (λ z. IsTrue (p z)) e (and_parts (p y) (list_all p ys) h).0
+all-passes p (y ∷ ys) x h (inr m) = all-passes p ys x (and_parts (p y) (list_all p ys) h).1 m
+
+-- an output without sources
+pub no-sources : {X : Type 0} (xs : List X) → nat_lt 0 (length xs) ≡ false → xs ≡ []
+no-sources [] h = refl
+no-sources (x ∷ xs) h = let some : nat_lt 0 (length (x ∷ xs)) ≡ true = lt-ltb 0 (length (x ∷ xs)) (omega arith) in absurd cc
+
+pub length-named : (name : ℕ) (groups : List StateGroup) → length (named_from name groups) ≡ length groups
+length-named name [] = refl
+length-named name (group ∷ groups) = ap suc (length-named (name + 2) groups)

@@ -1,5 +1,5 @@
 -- An entity that fits a cell shows what the cell shows.
-use Rattle.std.proofs.Common.{◌≡◌, ℕ, suc, ◌<◌, Bool, true, false, ◌&&◌, List, [], ◌∷◌, length, map, replicate, set, refl, ap, sym, ◌∙◌, Option, Some, None, if◌then◌else◌}
+use Rattle.std.proofs.Common.{◌≡◌, ℕ, suc, ◌<◌, Bool, true, false, ◌&&◌, List, [], ◌∷◌, length, map, replicate, set, refl, ap, ◌∙◌, Some, None, if◌then◌else◌}
 use Rattle.std.proofs.lemmas.List.{length-map}
 use Rattle.trit_cubes.specs.declared.trits.Trit.{Trit}
 use Rattle.trit_cubes.specs.declared.trits.Trit.TheVariants.{Unknown}
@@ -15,18 +15,17 @@ use Rattle.cell_machine.specs.History.{inputs_after, value_before, is_event, IsP
 use Rattle.cell_machine.specs.Report.{is_period, happens, is_within, last_event, opening_by, opening, report, any_true}
 use Rattle.cell_machine.specs.CellTrace.{inputs_of, input_check, reports_of, NamedGroup, named_groups, state_step, state_after, states_after, cell_line, cell_trace}
 use Rattle.cell_machine.specs.CellTrace as cell
-use Rattle.cell_machine.proofs.EachLemmas.{each-map}
 use Rattle.udp_tables.specs.CellPrimitives.{has_notifier}
 use Rattle.vital_models.specs.declared.model.VState.{VState}
 use Rattle.vital_models.specs.declared.model.VOutput.{VOutput}
 use Rattle.vital_models.specs.declared.model.HCheck.{HCheck}
 use Rattle.vital_models.specs.declared.model.VEntity.{VEntity}
 use Rattle.vital_models.specs.LookUps.{lookup_state}
-use Rattle.model_traces.specs.PortNumbers.{input_count, input_event}
+use Rattle.model_traces.specs.PortNumbers.{input_event}
 use Rattle.model_traces.specs.ProcessValues.{output_value}
 use Rattle.model_traces.specs.SignalTimes.{check_reports, earlier_time}
 use Rattle.model_traces.specs.GatedPaths.{paths_from}
-use Rattle.model_traces.specs.ProcessRun.{ProcessRun, columns, all_columns, violation_by, looked_up, reports_at, happened, process_after, step_reports}
+use Rattle.model_traces.specs.ProcessRun.{columns, all_columns, violation_by, looked_up, reports_at, happened, process_after, step_reports}
 use Rattle.model_traces.specs.ProcessLaws.{last_times, opening_event}
 use Rattle.model_traces.specs.EntityTrace.{output_after, delay_after, reports_after, entity_line, entity_trace}
 use Rattle.model_traces.specs.EntityFits.{FitsGroup, FitGroups, FitsCheck, FitChecks, FitsOutput, FitOutputs, EntityFits}

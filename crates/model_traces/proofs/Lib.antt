@@ -7,3 +7,6 @@ pub mod PlaceLemmas
 pub mod PinNumbers
 pub mod CellSteps
 pub mod ModuleParts
+pub mod GeneratedModule
+pub mod GeneratedEntity
+pub mod ModelAgreement

@@ -1,6 +1,5 @@
 -- A module that fits a cell shows what the cell shows.
-use Rattle.std.proofs.Common.{◌≡◌, ℕ, Bool, true, false, ◌&&◌, List, [], ◌∷◌, suc, ◌<◌, length, map, replicate, set, refl, ap, sym, ◌∙◌, Option, Some, None, arith, if◌then◌else◌}
-use Rattle.std.specs.Prelude.{filter}
+use Rattle.std.proofs.Common.{◌≡◌, ℕ, Bool, true, false, ◌&&◌, List, [], ◌∷◌, suc, ◌<◌, length, map, replicate, set, refl, ap, ◌∙◌, Some, None, arith, if◌then◌else◌}
 use Rattle.trit_cubes.specs.declared.trits.Trit.{Trit}
 use Rattle.trit_cubes.specs.declared.trits.Trit.TheVariants.{Unknown}
 use Rattle.trit_cubes.specs.Filling.{same}
@@ -24,17 +23,16 @@ use Rattle.specify_blocks.specs.declared.model.VModule.{VModule}
 use Rattle.specify_blocks.specs.Nets.{has_state}
 use Rattle.model_traces.specs.declared.turns.Turned.TheVariants as turned
 use Rattle.model_traces.specs.declared.module_run.ModuleRun.{ModuleRun}
-use Rattle.model_traces.specs.declared.stamps.Stamps.{Stamps}
-use Rattle.model_traces.specs.PortNumbers.{input_count, output_ports}
+use Rattle.model_traces.specs.PortNumbers.{output_ports}
 use Rattle.model_traces.specs.NetValues.{net_value}
 use Rattle.model_traces.specs.Primitives.{next_state}
 use Rattle.model_traces.specs.CheckTimes.{same_edge, opened_by, opened, check_reports}
 use Rattle.model_traces.specs.ModuleRun.{HasEach, turn_of, toggled, entered, kept, notified, shaken, reports_at, happened, run_after, step_reports}
 use Rattle.model_traces.specs.PathDelays.{paths_between}
 use Rattle.model_traces.specs.ModuleTrace.{output_after, delay_after, reports_after, module_line, module_trace}
-use Rattle.model_traces.specs.ModuleSized.{entered-has-each, kept-has-each, notified-has-each, run-has-each, length-reports_at}
+use Rattle.model_traces.specs.ModuleSized.{entered-has-each, kept-has-each, notified-has-each, run-has-each}
 use Rattle.model_traces.specs.SequentialStates.{sequential_instances, states_among, sequential_states}
-use Rattle.model_traces.specs.ModuleFits.{FitsGroup, FitGroups, FitsCheck, FitChecks, FitsOutput, FitOutputs, ModuleFits}
+use Rattle.model_traces.specs.ModuleFits.{FitGroups, FitsCheck, FitChecks, FitsOutput, FitOutputs, ModuleFits}
 use Rattle.model_traces.specs.Laws.{last_stamps}
 use Rattle.model_traces.specs.Agreement.{FittingModulesAgree}
 use Rattle.model_traces.proofs.RunLemmas.{run-inputs, run-stamps}
@@ -48,7 +46,7 @@ shaken-none m (false ∷ reports) r e = shaken-none m reports r e
 
 -- states that each change of the register gives, whatever the states were
 module _ (m : VModule) (v : List Trit) (forced : List Trit)
-  (forces : (r : ModuleRun) → r.inputs ≡ v → HasEach m r → sequential_states m (notified m r) ≡ forced) where
+    (forces : (r : ModuleRun) → r.inputs ≡ v → HasEach m r → sequential_states m (notified m r) ≡ forced) where
   shaken-stays :
       (reports : List Bool) (r : ModuleRun)
       → r.inputs ≡ v → HasEach m r → sequential_states m r ≡ forced → sequential_states m (shaken m reports r) ≡ forced

@@ -1,7 +1,6 @@
 -- The instances of a generated module: their places, what drives each net, and which have states.
-use Rattle.std.proofs.Common.{◌≡◌, ℕ, zero, suc, ◌+◌, ◌<◌, ◌≤◌, Bool, true, false, ◌&&◌, cond, List, [], ◌∷◌, ◌++◌, length, map, get_or, inl, inr, refl, sym, ap, ◌∙◌, subst, arith, IsTrue, Option, Some, None, slice_get, nat_eq, nat_lt, length-append, codes, if◌then◌else◌}
-use Rattle.std.specs.Prelude.{count_by, filter, position}
-use Rattle.std.specs.List.{position_from}
+use Rattle.std.proofs.Common.{◌≡◌, ℕ, zero, suc, ◌+◌, ◌<◌, Bool, true, false, List, [], ◌∷◌, ◌++◌, length, map, get_or, refl, sym, ap, ◌∙◌, arith, IsTrue, Some, slice_get, length-append, codes, if◌then◌else◌}
+use Rattle.std.specs.Prelude.{filter}
 use Rattle.std.specs.Option.{option_map_or}
 use Rattle.std.proofs.lemmas.Bool.{eq-eqb, lt-ltb}
 use Rattle.std.proofs.lemmas.List.Elements.{filter-append}
@@ -13,21 +12,25 @@ use Rattle.bool_functions.specs.Tree.{value_of}
 use Rattle.cell_machine.specs.declared.groups.StateGroup.{StateGroup}
 use Rattle.cell_machine.specs.declared.outputs.OutputPin.{OutputPin}
 use Rattle.cell_machine.specs.CellData.{CellData}
+use Rattle.cell_machine.specs.CellRules.{is_output_pin}
 use Rattle.cell_machine.specs.Values.{no_values}
 use Rattle.udp_tables.specs.declared.table.Udp.{Udp}
 use Rattle.udp_tables.specs.Conditions.{conditions_of}
-use Rattle.udp_tables.specs.CellPrimitives.{has_sources, group_primitive, output_primitive}
+use Rattle.udp_tables.specs.CellPrimitives.{has_sources, output_primitive}
 use Rattle.specify_blocks.specs.declared.model.VNet.{VNet}
 use Rattle.specify_blocks.specs.declared.model.VNet.TheVariants as net
 use Rattle.specify_blocks.specs.declared.model.Instance.{Instance}
 use Rattle.specify_blocks.specs.declared.model.Instance.TheVariants as instance
-use Rattle.specify_blocks.specs.declared.model.VModule.{VModule}
-use Rattle.specify_blocks.specs.Nets.{same_net, net_driven, is_sequential, has_state, is_driven, drivers}
+use Rattle.specify_blocks.specs.Nets.{same_net, net_driven, has_state, is_driven}
 use Rattle.specify_blocks.specs.Sound.{IsSound}
 use Rattle.specify_blocks.specs.Names.{state_wires, condition_wires}
 use Rattle.specify_blocks.specs.Generated.{condition_count, wires_of, condition_wire, pin_net, source_net, each_from, group_instance, condition_instance, output_instance, after_output, output_instances, instances_of, output_primitives, primitives_of, module_of}
 use Rattle.specify_blocks.proofs.PrimitiveLemmas.{get-left, get-right, numbered-length, group_primitive-at, condition_primitive-at, output_primitive-at}
+use Rattle.specify_blocks.specs.Ports.{port_number}
+use Rattle.specify_blocks.proofs.PortLemmas.{output_port}
+use Rattle.specify_blocks.proofs.InstanceLemmas.{output_net}
 use Rattle.model_traces.specs.NetValues.{driver}
+use Rattle.model_traces.specs.SequentialStates.{picked, states_among}
 use Rattle.model_traces.proofs.PlaceLemmas.{position-from, only-place, get-within, filter-all, filter-none}
 
 length-each : {X Y : Type 0} (make : ℕ → X → Y) (k : ℕ) (xs : List X) → length (each_from make k xs) ≡ length xs
@@ -221,6 +224,16 @@ module _ (d : CellData) (sound : IsSound (module_of d)) where
       (lt-ltb (condition_wire d i) (length (wires_of d)) (omega (arith, wires-long, within)))
       (condition-instance-at i f e) (eq-eqb (condition_wire d i) (condition_wire d i) refl)
 
+  -- the instances of the groups have states
+  group-passes :
+      (i : ℕ) (x : Instance) → slice_get (each_from (group_instance d) 0 d.groups) i ≡ Some x → has_state (primitives_of d) x ≡ true
+  group-passes i x e =
+      let made = each-made (group_instance d) 0 d.groups i x e in
+      let here : 0 + i ≡ i = omega arith in
+      ap (has_state (primitives_of d)) made.2
+      ∙ ap (λ n. option_map_or (λ (udp : Udp). udp.sequential) (slice_get (primitives_of d) n) false) here
+      ∙ ap (λ o. option_map_or (λ (udp : Udp). udp.sequential) o false) (group_primitive-at d i (get-within d.groups i made.0 made.1))
+
   -- the instances with states are those of the groups
   pub sequential-are : filter (has_state (primitives_of d)) (instances_of d) ≡ each_from (group_instance d) 0 d.groups
   sequential-are =
@@ -234,15 +247,7 @@ module _ (d : CellData) (sound : IsSound (module_of d)) where
       ∙ append-nil first
     where
       group-states : filter (has_state (primitives_of d)) (each_from (group_instance d) 0 d.groups) ≡ each_from (group_instance d) 0 d.groups
-      group-states =
-          filter-all (has_state (primitives_of d)) (each_from (group_instance d) 0 d.groups)
-          (λ i x e.
-          let made = each-made (group_instance d) 0 d.groups i x e in
-          let here : 0 + i ≡ i = omega arith in
-          ap (has_state (primitives_of d)) made.2
-          ∙ ap (λ n. option_map_or (λ (udp : Udp). udp.sequential) (slice_get (primitives_of d) n) false) here
-          ∙ ap (λ o. option_map_or (λ (udp : Udp). udp.sequential) o false)
-          (group_primitive-at d i (get-within d.groups i made.0 made.1)))
+      group-states = filter-all (has_state (primitives_of d)) (each_from (group_instance d) 0 d.groups) group-passes
 
       condition-states : filter (has_state (primitives_of d)) (each_from (condition_instance d) 0 (conditions_of d)) ≡ []
       condition-states =
@@ -254,3 +259,34 @@ module _ (d : CellData) (sound : IsSound (module_of d)) where
           ∙ ap (λ n. option_map_or (λ (udp : Udp). udp.sequential) (slice_get (primitives_of d) (condition_wire d n)) false) here
           ∙ ap (λ o. option_map_or (λ (udp : Udp). udp.sequential) o false)
           (condition_primitive-at d i (get-within (conditions_of d) i made.0 made.1)))
+
+  -- the driver of an output's port
+  pub output-driver :
+      (k : ℕ) (output : OutputPin) → slice_get d.outputs k ≡ Some output → IsTrue (is_output_pin d.pins output.pin)
+      → driver (instances_of d) (pin_net d.pins output.pin) ≡ Some (length d.groups + (condition_count d + k))
+  output-driver k output e is =
+      let placed = output-instance-at k output e in
+      driven-at (pin_net d.pins output.pin) (length d.groups + (condition_count d + k)) (output_instance d placed.0 output)
+      (output_port d.pins 1 output.pin is) placed.1
+      (ap (λ n. same_net n (pin_net d.pins output.pin)) (output_net d placed.0 output)
+      ∙ eq-eqb (port_number d.pins output.pin) (port_number d.pins output.pin) refl)
+
+  -- the states of the groups are the first ones
+  pub first-states : (states : List Trit) (g : ℕ) → g < length d.groups → get_or (states_among (module_of d) states) g Unknown ≡ get_or states g Unknown
+  first-states states g within =
+      let long = length-each (group_instance d) 0 d.groups in
+      picked-front (has_state (primitives_of d)) (each_from (group_instance d) 0 d.groups)
+      (each_from (condition_instance d) 0 (conditions_of d) ++ output_instances d (length d.groups + condition_count d) d.outputs)
+      states g group-passes (omega (arith, within, long))
+    where
+      picked-front :
+          {X : Type 0} (test : X → Bool) (xs ys : List X) (ss : List Trit) (i : ℕ)
+          → ((j : ℕ) (x : X) → slice_get xs j ≡ Some x → test x ≡ true) → i < length xs
+          → get_or (picked test (xs ++ ys) ss) i Unknown ≡ get_or ss i Unknown
+      picked-front test [] ys ss i h within = absurd (omega arith)
+      picked-front test (x ∷ xs) ys [] i h within = refl
+      picked-front test (x ∷ xs) ys (s ∷ ss) zero h within =
+          ap (λ b. get_or (if b then s ∷ picked test (xs ++ ys) ss else picked test (xs ++ ys) ss) 0 Unknown) (h 0 x refl)
+      picked-front test (x ∷ xs) ys (s ∷ ss) (suc i) h within =
+          ap (λ b. get_or (if b then s ∷ picked test (xs ++ ys) ss else picked test (xs ++ ys) ss) (suc i) Unknown) (h 0 x refl)
+          ∙ picked-front test xs ys ss i (λ j y e. h (suc j) y e) (omega arith)

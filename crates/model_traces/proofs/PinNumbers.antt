@@ -1,10 +1,10 @@
 -- The numbers of a cell's pins among its inputs, among its ports, and of those ports among the inputs.
-use Rattle.std.proofs.Common.{◌≡◌, ℕ, zero, suc, ◌+◌, ◌<◌, ◌≤◌, Bool, true, false, ◌||◌, ◌&&◌, cond, List, [], ◌∷◌, ◌++◌, length, map, get_or, set, take, inl, inr, refl, sym, ap, ◌∙◌, subst, arith, IsTrue, Option, Some, None, slice_get, nat_eq, nat_lt, eqb-true, if◌then◌else◌}
+use Rattle.std.proofs.Common.{◌≡◌, ℕ, zero, suc, ◌+◌, ◌<◌, ◌≤◌, Bool, true, false, ◌||◌, cond, List, [], ◌∷◌, ◌++◌, map, get_or, set, take, refl, sym, ap, ◌∙◌, arith, IsTrue, Some, None, slice_get, nat_eq, nat_lt, eqb-true, if◌then◌else◌}
 use Rattle.std.specs.Prelude.{count_by}
 use Rattle.std.specs.List.{list_all, position_from}
 use Rattle.std.specs.Option.{option_map_or}
 use Rattle.std.proofs.lemmas.Bool.{and_parts, eq-eqb, ne_eqb, ltb-true, ltb-false}
-use Rattle.std.proofs.lemmas.List.{get_or-set_other, get_or-set_same}
+use Rattle.std.proofs.lemmas.List.{get_or-set_other}
 use Rattle.std.proofs.lemmas.List.Sums.{sum_by-cons}
 use Rattle.trit_cubes.specs.declared.trits.Trit.{Trit}
 use Rattle.trit_cubes.specs.declared.trits.Trit.TheVariants.{Unknown}

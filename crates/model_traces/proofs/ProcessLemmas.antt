@@ -11,7 +11,7 @@ use Rattle.cell_machine.specs.declared.checks.CheckKind.TheVariants as check_kin
 use Rattle.cell_machine.specs.declared.checks.Event.{Event}
 use Rattle.cell_machine.specs.CellRules.{is_any_edge, are_opposite}
 use Rattle.cell_machine.specs.Each.{each}
-use Rattle.cell_machine.specs.Edges.{is_rise, edge_of}
+use Rattle.cell_machine.specs.Edges.{is_rise}
 use Rattle.cell_machine.specs.History.{inputs_after, value_before, is_event}
 use Rattle.cell_machine.specs.Report.{is_period, last_event, any_true}
 use Rattle.cell_machine.proofs.EachLemmas.{each-map}

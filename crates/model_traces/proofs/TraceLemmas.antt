@@ -1,17 +1,15 @@
 -- Traces, histories and lists of which some entries are picked.
-use Rattle.std.proofs.Common.{◌≡◌, ℕ, suc, Bool, true, false, ◌&&◌, List, [], ◌∷◌, length, map, replicate, refl, ap, sym, ◌∙◌, arith, nat_lt, if◌then◌else◌}
+use Rattle.std.proofs.Common.{◌≡◌, ℕ, zero, suc, Bool, true, false, ◌&&◌, List, [], ◌∷◌, length, map, replicate, refl, ap, sym, ◌∙◌, arith, nat_lt, if◌then◌else◌}
 use Rattle.std.specs.Prelude.{filter}
 use Rattle.std.proofs.lemmas.Bool.{lt-ltb}
 use Rattle.std.proofs.lemmas.List.{length-set, length-replicate}
-use Rattle.trit_cubes.specs.declared.trits.Trit.{Trit}
 use Rattle.trit_cubes.specs.declared.trits.Trit.TheVariants.{Unknown}
 use Rattle.cell_machine.specs.declared.changes.Change.{Change}
 use Rattle.cell_machine.specs.declared.checks.Check.{Check}
 use Rattle.cell_machine.specs.Each.{each}
 use Rattle.cell_machine.specs.History.{inputs_after, value_before, is_event, IsProper, IsProperFrom}
-use Rattle.cell_machine.specs.Report.{InputCheck, is_event_of, opening, is_within, last_event, report, any_true}
+use Rattle.cell_machine.specs.Report.{InputCheck, opening, is_within, last_event, report, any_true}
 use Rattle.cell_machine.specs.Lines.{Line, lines_from, trace}
-use Rattle.cell_machine.specs.CellTrace.{input_check}
 use Rattle.model_traces.specs.SequentialStates.{picked}
 use Rattle.model_traces.proofs.RunLemmas.{same-equal, no-event}
 
@@ -52,6 +50,22 @@ still-reports n f h c ks many none e = ap (λ m. replicate m false) e ∙ by ks
     by : (ks : List Check) → replicate (length ks) false ≡ map (λ k. report n k (c ∷ h)) (map f ks)
     by [] = refl
     by (k ∷ ks) = λ i. sym (still-report n (f k) h c none) i ∷ by ks i
+
+no-true : (many : ℕ) → any_true (replicate many false) ≡ false
+no-true zero = refl
+no-true (suc many) = no-true many
+
+-- where some check reports, the change is an event
+pub report-event :
+    (n : ℕ) (f : Check → InputCheck) (h : List Change) (c : Change) (ks : List Check)
+    → any_true (map (λ k. report n k (c ∷ h)) (map f ks)) ≡ true → is_event (inputs_after n h) c ≡ true
+report-event n f h c ks some = by (is_event (inputs_after n h) c) refl
+  where
+    by : (b : Bool) → is_event (inputs_after n h) c ≡ b → b ≡ true
+    by true e = refl
+    by false e =
+        let clash : false ≡ true = sym (no-true (length ks)) ∙ ap any_true (still-reports n f h c ks (length ks) e refl) ∙ some in
+        absurd cc
 
 -- no check reports at the start
 pub start-reports :

@@ -1,6 +1,6 @@
 -- The run of the process of an entity: what it holds, and how a change of an input takes it on. (IEEE 1076.4-2000, as this
 -- project reads it.)
-use Rattle.std.specs.Prelude.{ℕ, Bool, true, false, List, [], ◌∷◌, length, map, replicate, slice_set, if◌then◌else◌}
+use Rattle.std.specs.Prelude.{Bool, true, false, List, [], ◌∷◌, length, map, replicate, slice_set, if◌then◌else◌}
 use Rattle.trit_cubes.specs.declared.trits.Trit.{Trit}
 use Rattle.trit_cubes.specs.declared.trits.Trit.TheVariants.{Zero, Unknown}
 use Rattle.cell_machine.specs.declared.changes.Change.{Change}

@@ -1,6 +1,6 @@
 -- When the timing checks of a process report, by the times that they keep. (IEEE 1076.4-2000, VitalSetupHoldCheck,
 -- VitalRecoveryRemovalCheck and VitalPeriodPulseCheck.)
-use Rattle.std.specs.Prelude.{ℕ, Bool, true, false, ◌&&◌, List, Option, Some, None, if◌then◌else◌}
+use Rattle.std.specs.Prelude.{ℕ, Bool, true, false, ◌&&◌, List, Option, None}
 use Rattle.trit_cubes.specs.declared.trits.Trit.{Trit}
 use Rattle.cell_machine.specs.declared.changes.Change.{Change}
 use Rattle.cell_machine.specs.declared.checks.Edge.{Edge}

@@ -1,7 +1,7 @@
 //! Theorems on the definitions, for the proofs of other crates. The functions do nothing.
 ghost use Rattle.model_traces.specs.Laws.{RunHoldsInputs, RunKeepsLastEvents};
 ghost use Rattle.model_traces.specs.ProcessLaws.{ProcessHoldsInputs, ProcessKeepsLastEvents, ProcessKeepsColumns, LaterEventIsSecond, EarlierTimeIsFirst};
-ghost use Rattle.model_traces.specs.Agreement.{FittingModulesAgree, FittingEntitiesAgree};
+ghost use Rattle.model_traces.specs.Agreement.{FittingModulesAgree, FittingEntitiesAgree, FittingModelsAgree, GeneratedModulesFit, GeneratedEntitiesFit, ModelsAgree};
 
 /// The run of a module holds the values that the changes gave to its inputs.
 pub fn run_holds_inputs()
@@ -48,4 +48,26 @@ pub fn fitting_modules_agree()
 /// each change are the cell's.
 pub fn fitting_entities_agree()
     ensures { FittingEntitiesAgree }
+{}
+
+/// A module and an entity that fit a cell show what the cell shows.
+pub fn fitting_models_agree()
+    ensures { FittingModelsAgree }
+{}
+
+/// The module that is generated for a cell fits it.
+pub fn generated_modules_fit()
+    ensures { GeneratedModulesFit }
+{}
+
+/// The entity that is generated for a cell fits it, whatever its name is.
+pub fn generated_entities_fit()
+    ensures { GeneratedEntitiesFit }
+{}
+
+/// Every cell, the Verilog module and the VITAL entity that are generated for it show the same: outputs, delays and reports
+/// after each change of every list of changes at rising times, values that may be unknown included, and the same states,
+/// which a report leaves at the value to which the inputs force them, else unknown.
+pub fn models_agree()
+    ensures { ModelsAgree }
 {}

@@ -8,7 +8,8 @@ mod stamps;
 mod turns;
 
 pub use laws::{
-    earlier_time_is_first, fitting_entities_agree, fitting_modules_agree, later_event_is_second,
+    earlier_time_is_first, fitting_entities_agree, fitting_models_agree, fitting_modules_agree,
+    generated_entities_fit, generated_modules_fit, later_event_is_second, models_agree,
     process_holds_inputs, process_keeps_columns, process_keeps_last_events, run_holds_inputs,
     run_keeps_last_events,
 };

@@ -10,6 +10,7 @@ use crate::{
     write_whole,
 };
 use std::alloc::{AllocError, Global};
+use std::fs;
 use std::test::Fail;
 
 /// The words of a translation of a library that has no end, to an output that has no room.
@@ -24,7 +25,19 @@ fn words(alloc: Global) -> Result<Vec<String>, AllocError>
     Ok(words)
 }
 
-/// Binds the library and the output that has no room.
+/// The words of a translation of a library to its own file, by another path.
+fn words_of_one_file(alloc: Global) -> Result<Vec<String>, AllocError>
+    ensures { IfOk result (λ words. map string_bytes words.items ≡ codes "translate" ∷ codes "one.lib" ∷ codes "./one.lib" ∷ codes "/dev/null" ∷ []) }
+{
+    let mut words = Vec::new(alloc);
+    words.push(String::from_str(alloc, "translate")?)?;
+    words.push(String::from_str(alloc, "one.lib")?)?;
+    words.push(String::from_str(alloc, "./one.lib")?)?;
+    words.push(String::from_str(alloc, "/dev/null")?)?;
+    Ok(words)
+}
+
+/// Binds the library and the first output.
 #[tactic(auto, unfolding(crate::specs::Desk::opened, crate::specs::Desk::created))]
 fn bind<D: Desk>(desk: &mut D) -> Result<(), Failed>
     requires { plan (D.state desk.old).words ≡ (Input Library, 1) ∷ (Output VerilogText, 2) ∷ (Output VitalText, 3) ∷ [] }
@@ -56,6 +69,19 @@ fn real_files_are_read_and_written(rt: HostRuntime) -> Result<(), Fail> {
     assert_eq!(rt; bytes.as_slice(), [0, 0, 0, 0].as_slice());
     assert!(rt; more);
     assert!(rt; failed);
+    Ok(())
+}
+
+#[test]
+fn a_file_that_is_read_is_not_emptied(rt: HostRuntime) -> Result<(), Fail> {
+    let alloc = rt.alloc();
+    fs::write(&rt, "one.lib", "library")?;
+    let mut desk = FileDesk::new(rt.clone()?, words_of_one_file(alloc)?);
+    let failed = bind(&mut desk).is_err();
+    let kept = fs::read_to_string(&rt, "one.lib")?;
+    fs::remove_file(&rt, "one.lib")?;
+    assert!(rt; failed);
+    assert_eq!(rt; kept.as_str(), "library");
     Ok(())
 }
 

@@ -1,9 +1,11 @@
+pub mod Around
 pub mod Completions
 pub mod Contexts
 pub mod Counting
 pub mod Cuts
 pub mod Decides
 pub mod Exactly
+pub mod FirstMisfits
 pub mod Fronts
 pub mod Guides
 pub mod Inside

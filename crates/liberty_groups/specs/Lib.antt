@@ -1,6 +1,7 @@
 pub mod Answer
 pub mod Cursor
 pub mod Fault
+pub mod FirstMisfit
 pub mod Grammar
 pub mod Lexeme
 pub mod Library

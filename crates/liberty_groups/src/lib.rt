@@ -16,7 +16,7 @@ pub use cursor::Cursor;
 pub use fault::{Expected, LibraryFault, Memory, Refusal, Stop, fault_at, lexical_fault};
 pub use library::LEVELS_INSIDE;
 pub use outline::{Standing, next_standing};
-pub use read::{End, Halt, Reading, fault_of, one_reading, read_library};
+pub use read::{End, Halt, Reading, fault_of, faults_are_first, one_reading, read_library};
 pub use reader::{Mark, Start};
 pub use tree::{Group, Item, Value};
 pub use write::{writable_parts, write_group, writing_reads_back};

@@ -7,6 +7,7 @@ ghost use Rattle.liberty_text.specs.Scanner.{scan_of};
 ghost use Rattle.liberty_groups.specs.Lexeme.{lexemes_of, LieInside};
 ghost use Rattle.liberty_groups.specs.Library.{Found, nothing_found, found_of, library};
 ghost use Rattle.liberty_groups.specs.Answer.{found_in_reading, found_of_bytes, end_of_bytes, halt_of, found_in, outcome_of, may_become_other, closed_has_outline, goes_on_after, may_go_on, fault_of, is_last, is_unfinished, end_of, IsReading, Is, HasOneReading};
+ghost use Rattle.liberty_groups.specs.FirstMisfit.{FaultsAreFirst};
 
 use crate::contents::{Contents, UnitLine};
 use crate::cursor::Cursor;
@@ -220,6 +221,13 @@ pub fn read_library(alloc: Global, bytes: &[u8], whole: bool) -> Result<Reading,
 /// A law: whatever the bytes are, they have exactly one reading.
 pub fn one_reading(bytes: &[u8], whole: bool)
     ensures { HasOneReading bytes.now whole }
+{}
+
+/// A law: a fault of the grammar is at the first token with which no library text goes on, or at the end of the bytes. Some
+/// library text begins with the bytes before it, and none with the bytes up to the end of that token.
+#[tactic(auto, using(crate::proofs::FirstMisfits::faults_are_first))]
+pub fn faults_are_first(bytes: &[u8])
+    ensures { FaultsAreFirst bytes.now }
 {}
 
 #[cfg(test)]

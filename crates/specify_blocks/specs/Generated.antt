@@ -10,7 +10,6 @@ use Rattle.cell_machine.specs.declared.groups.StateGroup.{StateGroup}
 use Rattle.cell_machine.specs.declared.outputs.Source.{Source}
 use Rattle.cell_machine.specs.declared.outputs.Source.TheVariants as source
 use Rattle.cell_machine.specs.declared.outputs.OutputPin.{OutputPin}
-use Rattle.cell_machine.specs.declared.checks.Event.{Event}
 use Rattle.cell_machine.specs.declared.checks.Check.{Check}
 use Rattle.cell_machine.specs.declared.arcs.Arc.{Arc}
 use Rattle.cell_machine.specs.Values.{no_values}
@@ -29,6 +28,7 @@ use Rattle.specify_blocks.specs.declared.model.Gate.TheVariants as gate
 use Rattle.specify_blocks.specs.declared.model.VPath.{VPath}
 use Rattle.specify_blocks.specs.declared.model.VCheck.{VCheck}
 use Rattle.specify_blocks.specs.declared.model.VModule.{VModule}
+use Rattle.udp_tables.specs.Ports.{event_of}
 use Rattle.specify_blocks.specs.Ports.{port_number, ports_of}
 use Rattle.specify_blocks.specs.Names.{module_name, state_wires, condition_wires, notifier_name}
 
@@ -143,10 +143,6 @@ path_of cell arc =
       fall = arc.fall;
       gate = gate_by cell arc arc.condition;
     }
-
--- an event of a pin as one of its port
-abbrev pub event_of : List Pin → Event → Event
-event_of pins event = record { pin = port_number pins event.pin; edge = event.edge }
 
 -- a check of a module
 abbrev pub check_of : CellData → Check → VCheck

@@ -1,17 +1,10 @@
 -- The ports of a cell's models: its input and output pins, in their order.
-use Rattle.std.specs.Prelude.{ℕ, ◌+◌, Bool, ◌||◌, List, [], ◌∷◌, ◌++◌, take, count_by, codes, decimal, if◌then◌else◌}
+use Rattle.std.specs.Prelude.{ℕ, ◌+◌, List, [], ◌∷◌, ◌++◌, codes, decimal, if◌then◌else◌}
 use Rattle.cell_machine.specs.declared.pins.Pin.{Pin}
-use Rattle.cell_machine.specs.CellRules.{is_input, is_output}
+use Rattle.cell_machine.specs.CellRules.{is_input}
 use Rattle.verilog_names.specs.Kept.{is_kept_port_name}
 use Rattle.udp_tables.specs.declared.models.VPort.{VPort}
-
--- whether a pin is a port
-abbrev pub is_port : Pin → Bool
-is_port pin = is_input pin.direction || is_output pin.direction
-
--- the number of a pin among the ports, from 0: how many ports stand before it
-abbrev pub port_number : List Pin → ℕ → ℕ
-port_number pins p = count_by is_port (take p pins)
+pub use Rattle.udp_tables.specs.Ports.{is_port, port_number}
 
 -- The name of port k, from 1, in Verilog text: its pin's, or `pin` and its number where that is not kept. (This project's
 -- rule.)

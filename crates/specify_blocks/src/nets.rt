@@ -6,10 +6,10 @@ ghost use Rattle.specify_blocks.specs.Generated.{pin_net, source_net, notifier_n
 
 use crate::faults::Memory;
 use crate::model::VNet;
-use crate::ports::port_number;
 use cell_machine::{Cell, Pin, Source};
 use sqlite_items::Items;
 use std::alloc::Global;
+use udp_tables::port_number;
 
 /// The net of a pin.
 pub(crate) fn pin_net(pins: &[Pin], pin: usize) -> VNet

@@ -1,13 +1,13 @@
 //! The ports of a cell's module.
 ghost use Rattle.std.specs.Prelude.{◌≡◌, IfOk};
-ghost use Rattle.specify_blocks.specs.Ports.{is_port, port_number, port_name, port_of, ports_of};
+ghost use Rattle.specify_blocks.specs.Ports.{port_name, port_of, ports_of};
 
 use crate::faults::Memory;
 use crate::names::numbered_name;
 use cell_machine::{Direction, Pin};
 use sqlite_items::Items;
 use std::alloc::Global;
-use udp_tables::VPort;
+use udp_tables::{VPort, is_port};
 use verilog_names::is_kept_port_name;
 
 /// The ports of the module of a cell with these pins: its input and output pins in their order, with the names that Verilog
@@ -22,16 +22,6 @@ pub fn verilog_ports(alloc: Global, pins: &[Pin]) -> Result<Items<VPort>, Memory
         }
     }
     Ok(ports)
-}
-
-/// Whether a pin is a port.
-fn is_port(pin: &Pin) -> bool
-    ensures { result ≡ is_port pin.now }
-{
-    match pin.direction {
-        Direction::Input | Direction::Output => true,
-        Direction::Internal => false,
-    }
 }
 
 fn port_of(alloc: Global, number: usize, pin: &Pin) -> Result<VPort, Memory>
@@ -51,11 +41,4 @@ fn port_name(alloc: Global, number: usize, name: &[u8]) -> Result<Items<u8>, Mem
     } else {
         Ok(numbered_name(alloc, b"pin", number)?)
     }
-}
-
-/// The number of a pin among the ports, from 0.
-pub(crate) fn port_number(pins: &[Pin], place: usize) -> usize
-    ensures { result ≡ port_number pins.now place }
-{
-    pins.iter().take(place).filter(|pin| is_port(pin)).count()
 }

@@ -3,16 +3,15 @@ ghost use Rattle.std.specs.Prelude.{◌≡◌, None, map, option_map, IfOk};
 ghost use Rattle.std.specs.List.{list_any};
 ghost use Rattle.cell_machine.specs.CellData.{data_of};
 ghost use Rattle.udp_tables.specs.Conditions.{conditions_of};
-ghost use Rattle.specify_blocks.specs.Generated.{wire_of, is_conditional, gate_by, path_of, event_of, check_of};
+ghost use Rattle.specify_blocks.specs.Generated.{wire_of, is_conditional, gate_by, path_of, check_of};
 
 use crate::faults::Memory;
 use crate::model::{Gate, VCheck, VPath};
-use crate::ports::port_number;
 use bool_functions::Function;
-use cell_machine::{Arc, Cell, Check, Event, Pin};
+use cell_machine::{Arc, Cell, Check};
 use sqlite_items::Items;
 use std::alloc::Global;
-use udp_tables::condition_number;
+use udp_tables::{condition_number, event_of, port_number};
 
 /// The paths of a cell's module, where these are the cell's conditions: one for each arc, in order.
 pub(crate) fn paths_of(
@@ -76,7 +75,7 @@ fn has_conditional(arcs: &[Arc], arc: &Arc) -> bool
 fn is_conditional(arc: &Arc, other: &Arc) -> bool
     ensures { result ≡ is_conditional arc.now other.now }
 {
-    arc.from == other.from && arc.to == other.to && other.condition.is_some()
+    arc.same_pins(other) && other.condition.is_some()
 }
 
 /// The wire of a condition.
@@ -129,15 +128,5 @@ fn condition_wire(
     match condition {
         Some(condition) => Some(wire_of(cell, conditions, condition)),
         None => None,
-    }
-}
-
-/// The event of a pin as one of its port.
-fn event_of(pins: &[Pin], event: Event) -> Event
-    ensures { result ≡ event_of pins.now event }
-{
-    Event {
-        pin: port_number(pins, event.pin),
-        edge: event.edge,
     }
 }

@@ -1,6 +1,7 @@
 pub mod Tables
 pub mod Primitive
 pub mod PortNames
+pub mod Ports
 pub mod Generated
 pub mod Edges
 pub mod Sequential

@@ -2,7 +2,6 @@
 ghost use Rattle.std.specs.Prelude.{◌≡◌, map, flat_map, IfOk, OnOk};
 ghost use Rattle.cell_machine.specs.declared.checks.Check.{Check};
 ghost use Rattle.std.specs.List.{list_any};
-ghost use Rattle.cell_machine.specs.CellTrace.{same_pins};
 ghost use Rattle.bool_functions.specs.SameTrees.{same_tree};
 ghost use Rattle.cell_machine.specs.CellData.{data_of};
 ghost use Rattle.udp_tables.specs.Conditions.{condition_list, conditions_beside, arc_conditions, added, added_all, conditions_of, condition_place};
@@ -110,16 +109,9 @@ fn add_beside<'a>(found: &mut Vec<&'a Function>, arcs: &'a [Arc], arc: &Arc) -> 
     ensures { OnOk result (map (λ other. other.now) found.new.items ≡ added_all (map (λ other. other.now) found.old.items) (conditions_beside arcs.now arc.now)) }
 {
     for other in arcs {
-        if same_pins(arc, other) {
+        if arc.same_pins(other) {
             add_if_there(found, &other.condition)?;
         }
     }
     Ok(())
-}
-
-// Whether two arcs have the same two pins.
-fn same_pins(arc: &Arc, other: &Arc) -> bool
-    ensures { result ≡ same_pins arc.now other.now }
-{
-    arc.from == other.from && arc.to == other.to
 }

@@ -15,6 +15,7 @@ mod matching;
 mod models;
 mod points;
 mod port_names;
+mod ports;
 mod sequential;
 mod table;
 
@@ -24,6 +25,7 @@ pub use combinational::udp_level;
 pub use faults::Memory;
 pub use generation::function_udp;
 pub use models::{ModelFault, VPort};
+pub use ports::{event_of, is_port, port_number};
 pub use sequential::udp_next;
 pub use table::{Entry, Level, Next, Udp, UdpRow};
 

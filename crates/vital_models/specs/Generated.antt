@@ -8,7 +8,6 @@ use Rattle.cell_machine.specs.declared.pins.Pin.{Pin}
 use Rattle.cell_machine.specs.declared.outputs.Source.{Source}
 use Rattle.cell_machine.specs.declared.outputs.Source.TheVariants as source
 use Rattle.cell_machine.specs.declared.outputs.OutputPin.{OutputPin}
-use Rattle.cell_machine.specs.declared.checks.Event.{Event}
 use Rattle.cell_machine.specs.declared.checks.Check.{Check}
 use Rattle.cell_machine.specs.declared.arcs.Arc.{Arc}
 use Rattle.cell_machine.specs.Values.{no_values}
@@ -31,6 +30,7 @@ use Rattle.vital_models.specs.declared.model.HPath.{HPath}
 use Rattle.vital_models.specs.declared.model.HCheck.{HCheck}
 use Rattle.vital_models.specs.declared.model.VEntity.{VEntity}
 use Rattle.vital_models.specs.Rows.{truth_rows, state_rows}
+use Rattle.udp_tables.specs.Ports.{event_of}
 use Rattle.vital_models.specs.Ports.{port_number, ports_of}
 
 -- whether state tables have a column of the violation: the cell has checks
@@ -107,10 +107,6 @@ output_of cell output =
       value = value_of_output cell output;
       paths = paths_to cell output.pin;
     }
-
--- an event of a pin as one of its port
-abbrev pub event_of : List Pin → Event → Event
-event_of pins event = record { pin = port_number pins event.pin; edge = event.edge }
 
 abbrev pub check_of : CellData → Check → HCheck
 check_of cell k =

@@ -1,17 +1,10 @@
 -- The ports of an entity: the input and output pins of its cell, in their order.
-use Rattle.std.specs.Prelude.{ℕ, Bool, ◌||◌, List, [], ◌∷◌, ◌++◌, take, count_by, if◌then◌else◌}
+use Rattle.std.specs.Prelude.{ℕ, List, [], ◌∷◌, ◌++◌, if◌then◌else◌}
 use Rattle.cell_machine.specs.declared.pins.Pin.{Pin}
-use Rattle.cell_machine.specs.CellRules.{is_input, is_output}
+use Rattle.cell_machine.specs.CellRules.{is_input}
 use Rattle.udp_tables.specs.declared.models.VPort.{VPort}
+pub use Rattle.udp_tables.specs.Ports.{is_port, port_number}
 use Rattle.vital_models.specs.Kept.{port_name}
-
--- whether a pin is a port
-abbrev pub is_port : Pin → Bool
-is_port pin = is_input pin.direction || is_output pin.direction
-
--- the number of a pin among the ports, from 0: how many ports stand before it
-abbrev pub port_number : List Pin → ℕ → ℕ
-port_number pins p = count_by is_port (take p pins)
 
 -- the port of a pin, after these ports of the entity with this name
 abbrev pub port_after : List ℕ → List VPort → Pin → VPort

@@ -8,14 +8,14 @@ ghost use Rattle.vital_models.specs.Generated.{ports_at, state_of, states_of, co
 
 use crate::faults::Memory;
 use crate::model::{OutValue, VEntity, VOutput, VState, VTruth};
-use crate::ports::{port_number, vital_ports};
+use crate::ports::vital_ports;
 use crate::tables::{condition_table, has_violation, output_table, state_table};
 use crate::timing::{checks_of, paths_to};
 use bool_functions::Function;
 use cell_machine::{Cell, OutputPin, Pin, Source};
 use sqlite_items::Items;
 use std::alloc::Global;
-use udp_tables::conditions;
+use udp_tables::{conditions, port_number};
 
 /// The most names of a cell: 64 pins, and two variables for each of 16 groups.
 const NAMES: usize = 96;

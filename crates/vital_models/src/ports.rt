@@ -1,7 +1,7 @@
 //! The ports of a cell's entity.
 ghost use Rattle.std.specs.Prelude.{◌≡◌, IfOk};
 ghost use Rattle.vital_models.specs.Kept.{port_name};
-ghost use Rattle.vital_models.specs.Ports.{is_port, port_number, port_after, ports_of};
+ghost use Rattle.vital_models.specs.Ports.{port_after, ports_of};
 
 use crate::faults::Memory;
 use crate::kept::is_kept_port_name;
@@ -9,7 +9,7 @@ use crate::names::numbered_name;
 use cell_machine::{Direction, Pin};
 use sqlite_items::Items;
 use std::alloc::Global;
-use udp_tables::VPort;
+use udp_tables::{VPort, is_port};
 
 /// The ports of the entity with this name, of a cell with these pins: its input and output pins in their order, with the names
 /// that VHDL keeps, and `pin` with the port's number from 1 for the others. A name is kept where it is a letter followed by
@@ -26,16 +26,6 @@ pub fn vital_ports(alloc: Global, pins: &[Pin], entity: &[u8]) -> Result<Items<V
         }
     }
     Ok(ports)
-}
-
-/// Whether a pin is a port.
-fn is_port(pin: &Pin) -> bool
-    ensures { result ≡ is_port pin.now }
-{
-    match pin.direction {
-        Direction::Input | Direction::Output => true,
-        Direction::Internal => false,
-    }
 }
 
 /// The port of a pin, after these ports.
@@ -61,11 +51,4 @@ fn port_name(
     } else {
         Ok(numbered_name(alloc, b"pin", ports.len() + 1)?)
     }
-}
-
-/// The number of a pin among the ports, from 0.
-pub(crate) fn port_number(pins: &[Pin], place: usize) -> usize
-    ensures { result ≡ port_number pins.now place }
-{
-    pins.iter().take(place).filter(|pin| is_port(pin)).count()
 }

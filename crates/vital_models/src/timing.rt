@@ -1,19 +1,17 @@
 //! The paths and the timing checks of a cell's entity.
 ghost use Rattle.std.specs.Prelude.{◌≡◌, nat_eq, map, filter, option_map, IfOk};
-ghost use Rattle.cell_machine.specs.CellTrace.{same_pins};
 ghost use Rattle.cell_machine.specs.declared.arcs.Arc.{Arc};
 ghost use Rattle.cell_machine.specs.CellData.{data_of};
 ghost use Rattle.udp_tables.specs.Conditions.{conditions_of, conditions_beside};
-ghost use Rattle.vital_models.specs.Generated.{place_of, all_zero, gate_by, path_of, paths_to, event_of, check_of};
+ghost use Rattle.vital_models.specs.Generated.{place_of, all_zero, gate_by, path_of, paths_to, check_of};
 
 use crate::faults::Memory;
 use crate::model::{HCheck, HGate, HPath};
-use crate::ports::port_number;
 use bool_functions::Function;
-use cell_machine::{Arc, Cell, Check, Event, Pin};
+use cell_machine::{Arc, Cell, Check};
 use sqlite_items::Items;
 use std::alloc::Global;
-use udp_tables::condition_number;
+use udp_tables::{condition_number, event_of, port_number};
 
 /// The paths of a cell's entity to an output pin, where these are the cell's conditions: one for each arc that ends there.
 pub(crate) fn paths_to(
@@ -89,20 +87,13 @@ fn places_beside(
 {
     let mut places = Items::new(alloc);
     for other in cell.arcs.as_slice() {
-        if same_pins(arc, other) {
+        if arc.same_pins(other) {
             if let Some(condition) = &other.condition {
                 places.push(place_of(cell, conditions, condition))?;
             }
         }
     }
     Ok(places)
-}
-
-/// Whether two arcs have the same two pins.
-fn same_pins(arc: &Arc, other: &Arc) -> bool
-    ensures { result ≡ same_pins arc.now other.now }
-{
-    arc.from == other.from && arc.to == other.to
 }
 
 /// The number of a condition of the cell.
@@ -155,15 +146,5 @@ fn enabling_place(
     match condition {
         Some(condition) => Some(place_of(cell, conditions, condition)),
         None => None,
-    }
-}
-
-/// The event of a pin as one of its port.
-fn event_of(pins: &[Pin], event: Event) -> Event
-    ensures { result ≡ event_of pins.now event }
-{
-    Event {
-        pin: port_number(pins, event.pin),
-        edge: event.edge,
     }
 }

@@ -8,8 +8,8 @@ use Rattle.cell_machine.specs.declared.groups.GroupKind.TheVariants as kind
 use Rattle.cell_machine.specs.declared.outputs.Source.TheVariants as source
 use Rattle.cell_machine.specs.declared.checks.CheckKind.TheVariants as check_kind
 use Rattle.cell_machine.specs.declared.checks.Edge.TheVariants as edge
-use Rattle.verilog_names.specs.Words.{verilog_words, is_verilog_word}
-use Rattle.verilog_names.specs.Kept.{is_kept_name}
+use Rattle.verilog_tokens.specs.Words.{verilog_words, is_verilog_word}
+use Rattle.verilog_tokens.specs.Kept.{is_kept_name}
 use Rattle.cell_machine.specs.CellData.{CellData}
 use Rattle.specify_blocks.specs.declared.model.VNet.TheVariants as net
 use Rattle.specify_blocks.specs.declared.model.Instance.TheVariants as instance

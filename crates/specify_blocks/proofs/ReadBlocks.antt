@@ -8,7 +8,7 @@ use Rattle.std.proofs.lemmas.Bool.{and_parts, and_from, eq-eqb}
 use Rattle.std.proofs.lemmas.Bool.Decides.{nat_tests}
 use Rattle.std.proofs.lemmas.List.Elements.{All-push}
 use Rattle.std.proofs.Math.Nat.{pow-suc, pow-le-pow_right}
-use Rattle.verilog_names.specs.Kept.{is_number}
+use Rattle.verilog_tokens.specs.Numbers.{is_number, number_after, number_of}
 use Rattle.grammar_rules.proofs.Promises.{Promises, gives, in_turn, many, choice, weaker}
 use Rattle.cell_machine.specs.declared.checks.CheckKind.{CheckKind}
 use Rattle.cell_machine.specs.declared.checks.CheckKind.TheVariants as check_kind
@@ -22,7 +22,7 @@ use Rattle.specify_blocks.specs.declared.model.VModule.{VModule}
 use Rattle.specify_blocks.specs.Nets.{is_input_port, is_output_port, is_value}
 use Rattle.specify_blocks.specs.Sound.{is_gate, IsPath, is_enabling, IsCheck}
 use Rattle.specify_blocks.specs.VerilogRules.{is_this}
-use Rattle.specify_blocks.specs.VerilogBlocks.{number_after, number_of, a_number, kept, port_of, an_input, an_output, a_condition, if_gate, ifnone_gate, gate_by, path_gate, path, next_path, paths, edge_of, an_event, an_edge_event, condition_name, condition, check_end, ordered_check, turned_check, opposite, width_check, period_check, check_of_kind, check, next_check, checks, with_block, block, specify}
+use Rattle.specify_blocks.specs.VerilogBlocks.{a_number, kept, port_of, an_input, an_output, a_condition, if_gate, ifnone_gate, gate_by, path_gate, path, next_path, paths, edge_of, an_event, an_edge_event, condition_name, condition, check_end, ordered_check, turned_check, opposite, width_check, period_check, check_of_kind, check, next_check, checks, with_block, block, specify}
 use Rattle.specify_blocks.specs.WellFormed.{IsNumber, HasNumbers}
 use Rattle.specify_blocks.proofs.ReadNames.{IsSpelled, some_if, known_values, values, anything, surely}
 

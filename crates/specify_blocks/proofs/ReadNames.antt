@@ -9,12 +9,12 @@ use Rattle.std.proofs.lemmas.Bool.Decides.{same_from_decides}
 use Rattle.std.proofs.lemmas.Slice.Eq.{bytes_eq-Decides}
 use Rattle.std.proofs.lemmas.List.Elements.{All-push}
 use Rattle.std.proofs.lemmas.Map.Keys.{IsDistinct-push}
-use Rattle.verilog_names.specs.Kept.{is_identifier}
-use Rattle.verilog_names.specs.Words.{is_verilog_word}
+use Rattle.verilog_tokens.specs.Kept.{is_identifier}
+use Rattle.verilog_tokens.specs.Words.{is_verilog_word}
 use Rattle.std.specs.Char.{is_ascii_alphabetic}
 use Rattle.grammar_rules.specs.Rule.{Verdict, Fits, Foul, Misfit}
 use Rattle.grammar_rules.proofs.Promises.{Promises, token, gives, any, keeps}
-use Rattle.specify_blocks.specs.VerilogTokens.{is_name}
+use Rattle.verilog_tokens.specs.Tokens.{is_name}
 use Rattle.specify_blocks.specs.VerilogRules.{Refusal, Syntax, Undefined, Twice, Grammar, expect_where, go_on_where, allowed_by, valued, any_name, is_among, fresh, new_name, known}
 use Rattle.specify_blocks.specs.WellFormed.{IsName, AreApart}
 

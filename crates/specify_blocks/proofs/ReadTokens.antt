@@ -5,9 +5,9 @@ use Rattle.std.specs.Char.{is_ascii_alphabetic, is_ascii_digit}
 use Rattle.std.specs.Int.{is_in_range}
 use Rattle.std.proofs.lemmas.Bool.{and_parts, and_from, cases_Bool}
 use Rattle.std.proofs.lemmas.Bool.Decides.{nat_tests}
-use Rattle.verilog_names.specs.Kept.{is_name_byte}
-use Rattle.verilog_names.specs.Words.{is_verilog_word}
-use Rattle.specify_blocks.specs.VerilogTokens.{Token, is_one_of, is_symbol, is_mark, sign_length, number_length, word_length, begins_word, token_length, is_open_after, at_front, after, scan, spellings, separator_length}
+use Rattle.verilog_tokens.specs.Kept.{is_name_byte}
+use Rattle.verilog_tokens.specs.Words.{is_verilog_word}
+use Rattle.verilog_tokens.specs.Tokens.{Token, is_one_of, is_symbol, is_mark, sign_length, number_length, word_length, begins_word, token_length, is_open_after, at_front, after, scan, spellings, separator_length}
 use Rattle.specify_blocks.specs.VerilogText.{text_tokens}
 use Rattle.specify_blocks.proofs.ReadNames.{IsSpelled}
 

@@ -13,7 +13,7 @@ use Rattle.grammar_rules.proofs.LooseLaws.{is_stricter_than_loose, fouls_in_fron
 use Rattle.udp_tables.specs.declared.models.ModelFault.{ModelFault}
 use Rattle.udp_tables.specs.declared.models.ModelFault.TheVariants as fault
 use Rattle.specify_blocks.specs.declared.model.VModule.{VModule}
-use Rattle.specify_blocks.specs.VerilogTokens.{Token, at_front, scan, scan_of, separator_length, token_length, is_open_after}
+use Rattle.verilog_tokens.specs.Tokens.{Token, at_front, scan, scan_of, separator_length, token_length, is_open_after}
 use Rattle.specify_blocks.specs.VerilogRules as rules
 use Rattle.specify_blocks.specs.VerilogRules.{Refusal, fault_at}
 use Rattle.specify_blocks.specs.VerilogText.{file, text_tokens, lexical_place, place_from, token_place, IsVerilogText, IsVerilogFault, IsVerilogAnswer, MeetsFault, CountsBefore, fault_place, fault_rank, end_fault, unless_lexical, answer_of, verilog_text}

@@ -10,7 +10,7 @@ use Rattle.udp_tables.specs.declared.table.Next.{Next}
 use Rattle.udp_tables.specs.declared.table.Next.TheVariants as next
 use Rattle.udp_tables.specs.declared.table.UdpRow.{UdpRow}
 use Rattle.udp_tables.specs.declared.table.Udp.{Udp}
-use Rattle.verilog_names.specs.Words.{verilog_words, is_verilog_word}
+use Rattle.verilog_tokens.specs.Words.{verilog_words, is_verilog_word}
 use Rattle.specify_blocks.specs.declared.model.VNet.TheVariants as net
 use Rattle.specify_blocks.specs.declared.model.Instance.TheVariants as instance
 use Rattle.specify_blocks.specs.declared.model.Gate.TheVariants as gate

@@ -4,12 +4,9 @@ pub mod Ports
 pub mod Names
 pub mod Generated
 pub mod Laws
-pub mod VerilogTokens
 pub mod VerilogRules
 pub mod VerilogPrimitives
 pub mod VerilogModules
 pub mod VerilogBlocks
 pub mod VerilogText
 pub mod WellFormed
-pub mod VerilogSeparators
-pub mod VerilogPlaces

@@ -1,6 +1,6 @@
 -- The names in a module that are not the cell's own (this project's choice). No kept name is one of these.
 use Rattle.std.specs.Prelude.{ℕ, zero, suc, List, [], ◌∷◌, ◌++◌, codes, decimal, if◌then◌else◌}
-use Rattle.verilog_names.specs.Kept.{is_kept_cell_name}
+use Rattle.verilog_tokens.specs.Kept.{is_kept_cell_name}
 
 -- The name of a module, of the cell with this number: the cell's, or `cell` and its number where that is not kept.
 abbrev pub module_name : ℕ → List ℕ → List ℕ

@@ -2,7 +2,7 @@
 use Rattle.std.specs.Prelude.{ℕ, ◌+◌, List, [], ◌∷◌, ◌++◌, codes, decimal, if◌then◌else◌}
 use Rattle.cell_machine.specs.declared.pins.Pin.{Pin}
 use Rattle.cell_machine.specs.CellRules.{is_input}
-use Rattle.verilog_names.specs.Kept.{is_kept_port_name}
+use Rattle.verilog_tokens.specs.Kept.{is_kept_port_name}
 use Rattle.udp_tables.specs.declared.models.VPort.{VPort}
 pub use Rattle.udp_tables.specs.Ports.{is_port, port_number}
 

@@ -3,7 +3,7 @@ use Rattle.std.specs.Prelude.{ℕ, ◌+◌, ◌*◌, ◌-◌, Bool, true, false,
 use Rattle.std.specs.List.{position}
 use Rattle.std.specs.Option.{option_map}
 use Rattle.std.specs.Str.{bytes_eq}
-use Rattle.verilog_names.specs.Kept.{is_number}
+use Rattle.verilog_tokens.specs.Numbers.{number_of}
 use Rattle.grammar_rules.specs.Rule.{Verdict, Fits, Foul, Misfit}
 use Rattle.grammar_rules.specs.Rule as r
 use Rattle.cell_machine.specs.declared.checks.CheckKind.{CheckKind}
@@ -21,15 +21,7 @@ use Rattle.specify_blocks.specs.Nets.{is_input_port, is_output_port, is_value}
 use Rattle.specify_blocks.specs.VerilogRules.{Refusal, Syntax, Unequal, Grammar, ◌>>=◌, expect, begins, begins_by, begins_as, valued, known, this_name}
 use Rattle.specify_blocks.specs.VerilogModules.{port_name}
 
--- the number that digits spell, behind a number that was spelled before them
-abbrev pub number_after : ℕ → List ℕ → ℕ
-number_after n [] = n
-number_after n (d ∷ ds) = number_after (n * 10 + (d - 48)) ds
-
--- the number of a token: an unsigned decimal number (3.5.1), here of at most 15 digits
-abbrev pub number_of : List ℕ → Option ℕ
-number_of x = if is_number x && nat_le (length x) 15 then Some (number_after 0 x) else None
-
+-- a number (3.5.1)
 unfoldable pub a_number : Grammar ℕ
 a_number = valued number_of
 

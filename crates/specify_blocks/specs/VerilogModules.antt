@@ -14,7 +14,7 @@ use Rattle.specify_blocks.specs.declared.model.Instance.{Instance}
 use Rattle.specify_blocks.specs.declared.model.Instance.TheVariants as instance
 use Rattle.specify_blocks.specs.declared.model.VModule.{VModule}
 use Rattle.specify_blocks.specs.Nets.{same_net, is_sequential, is_driven, holds_state, feeds_state, feeds_value, drivers}
-use Rattle.specify_blocks.specs.VerilogTokens.{is_name}
+use Rattle.verilog_tokens.specs.Tokens.{is_name}
 use Rattle.specify_blocks.specs.VerilogRules.{Refusal, Width, Undefined, Twice, Grammar, ◌>>=◌, expect, expect_where, go_on_where, begins, begins_by, valued, named, new_name, known, this_name, place_from}
 
 -- the port's name

@@ -10,7 +10,7 @@ use Rattle.udp_tables.specs.declared.table.Udp.{Udp}
 use Rattle.udp_tables.specs.declared.models.ModelFault.{ModelFault}
 use Rattle.udp_tables.specs.declared.models.ModelFault.TheVariants as fault
 use Rattle.specify_blocks.specs.declared.model.VModule.{VModule}
-use Rattle.specify_blocks.specs.VerilogTokens.{Token, scan_of, spellings}
+use Rattle.verilog_tokens.specs.Tokens.{Token, scan_of, spellings}
 use Rattle.specify_blocks.specs.VerilogRules.{Refusal, Syntax, Undriven, fault_at, Grammar, ◌>>=◌, expect, expect_where, begins, begins_by, new_name}
 use Rattle.specify_blocks.specs.VerilogPrimitives.{primitive}
 use Rattle.specify_blocks.specs.VerilogModules.{declarations, instances, are_all_driven}

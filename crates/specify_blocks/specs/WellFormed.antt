@@ -3,8 +3,8 @@
 use Rattle.std.specs.Prelude.{◌≡◌, ℕ, ◌<◌, ◌≤◌, ◌^◌, Bool, true, false, not, IsTrue, All, List, [], ◌∷◌, ◌++◌, length, map, flat_map, Option, Some, None}
 use Rattle.std.specs.List.{IsDistinct}
 use Rattle.std.specs.Str.{bytes_eq}
-use Rattle.verilog_names.specs.Kept.{is_identifier}
-use Rattle.verilog_names.specs.Words.{is_verilog_word}
+use Rattle.verilog_tokens.specs.Kept.{is_identifier}
+use Rattle.verilog_tokens.specs.Words.{is_verilog_word}
 use Rattle.udp_tables.specs.declared.table.Level.TheVariants as level
 use Rattle.udp_tables.specs.declared.table.Next.TheVariants as next
 use Rattle.udp_tables.specs.declared.table.UdpRow.{UdpRow}

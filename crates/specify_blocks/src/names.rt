@@ -6,7 +6,7 @@ use crate::faults::Memory;
 use itoa::Buffer;
 use sqlite_items::Items;
 use std::alloc::Global;
-use verilog_names::is_kept_cell_name;
+use verilog_tokens::is_kept_cell_name;
 
 /// The name of the module of a cell: the cell's, or `cell` and its number where Verilog does not keep that.
 pub(crate) fn module_name(alloc: Global, number: usize, name: &[u8]) -> Result<Items<u8>, Memory>

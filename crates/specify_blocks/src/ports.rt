@@ -8,7 +8,7 @@ use cell_machine::{Direction, Pin};
 use sqlite_items::Items;
 use std::alloc::Global;
 use udp_tables::{VPort, is_port};
-use verilog_names::is_kept_port_name;
+use verilog_tokens::is_kept_port_name;
 
 /// The ports of the module of a cell with these pins: its input and output pins in their order, with the names that Verilog
 /// keeps, and `pin` with the port's number from 1 for the others.

@@ -2,7 +2,7 @@
 use Rattle.std.proofs.Common.{◌≡◌, ℕ, true, List, length, Ok, sym, ap, ◌∙◌}
 use Rattle.bool_functions.specs.declared.tree.Node.{Node}
 use Rattle.bool_functions.specs.FunctionText.{free_names, reading_of}
-use Rattle.verilog_names.specs.Kept.{is_kept_cell_name}
+use Rattle.verilog_tokens.specs.Kept.{is_kept_cell_name}
 use Rattle.translate_cmd.specs.Reading.{asked_primitive, primitive_read}
 
 -- under a kept name

@@ -7,7 +7,7 @@ use Rattle.bool_functions.specs.FunctionText.{free_names, reading_of}
 use Rattle.text_io.specs.Plan.{are_file_words}
 use Rattle.udp_tables.specs.declared.table.Udp.{Udp}
 use Rattle.udp_tables.specs.Generated.{function_primitive}
-use Rattle.verilog_names.specs.Kept.{is_kept_cell_name}
+use Rattle.verilog_tokens.specs.Kept.{is_kept_cell_name}
 use Rattle.translate_cmd.specs.declared.asked.Command.{Command}
 use Rattle.translate_cmd.specs.declared.asked.Command.TheVariants as command
 

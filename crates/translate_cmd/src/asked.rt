@@ -7,7 +7,7 @@ use bool_functions::{Function, FunctionFault, read_free};
 use std::alloc::Global;
 use text_io::Desk;
 use udp_tables::{Udp, function_udp};
-use verilog_names::is_kept_cell_name;
+use verilog_tokens::is_kept_cell_name;
 
 /// What words ask for.
 #[derive(Drop)]

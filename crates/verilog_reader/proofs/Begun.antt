@@ -4,7 +4,7 @@ use Rattle.std.specs.Str.{bytes_eq}
 use Rattle.grammar_rules.specs.Rule.{Verdict, Fits, Misfit}
 use Rattle.grammar_rules.specs.Reading.{Outcome, and_then, choose, judge_first, read, repeat}
 use Rattle.udp_tables.specs.declared.table.Udp.{Udp}
-use Rattle.specify_blocks.specs.VerilogTokens.{is_name}
+use Rattle.verilog_tokens.specs.Tokens.{is_name}
 use Rattle.specify_blocks.specs.VerilogRules.{Refusal, Undefined}
 use Rattle.specify_blocks.specs.VerilogModules.{begins_instance, of_primitive, primitive_number, one_instance, with_instance}
 use Rattle.specify_blocks.specs.declared.model.Instance.{Instance}

@@ -1,7 +1,7 @@
 -- A place of a name that stands for a value.
 use Rattle.std.proofs.Common.{◌≡◌, ℕ, ◌+◌, true, slice_set, List, [], ◌∷◌, Option, Some, None, Ok, Err, refl, subst}
 use Rattle.grammar_rules.specs.Reading.{Outcome, read}
-use Rattle.specify_blocks.specs.VerilogTokens.{is_name}
+use Rattle.verilog_tokens.specs.Tokens.{is_name}
 use Rattle.specify_blocks.specs.VerilogRules.{Refusal, Undefined, known}
 use Rattle.specify_blocks.specs.VerilogModules.{Inputs, with_input}
 use Rattle.udp_tables.specs.declared.models.VPort.{VPort}

@@ -1,15 +1,10 @@
-pub mod Turns
-pub mod Alike
-pub mod Stays
-pub mod Padding
-pub mod Places
 pub mod Repeats
 pub mod Entries
 pub mod Among
 pub mod Known
 pub mod NamedNets
-pub mod DigitLemmas
 pub mod Values
 pub mod Choices
 pub mod Begun
 pub mod Spelled
+pub mod TextLemmas

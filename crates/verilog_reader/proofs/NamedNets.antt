@@ -3,7 +3,7 @@ use Rattle.std.proofs.Common.{◌≡◌, ℕ, Bool, true, false, List, [], ◌�
 use Rattle.grammar_rules.specs.Reading.{read}
 use Rattle.specify_blocks.specs.declared.model.VNet.{VNet}
 use Rattle.specify_blocks.specs.declared.model.VModule.{VModule}
-use Rattle.specify_blocks.specs.VerilogTokens.{is_name}
+use Rattle.verilog_tokens.specs.Tokens.{is_name}
 use Rattle.specify_blocks.specs.VerilogRules.{Syntax, Undefined, Twice}
 use Rattle.specify_blocks.specs.VerilogModules.{net_of, terminal}
 use Rattle.verilog_reader.specs.Next.{next_bytes, rest}

@@ -2,7 +2,7 @@
 use Rattle.std.proofs.Common.{◌≡◌, ℕ, zero, suc, ◌+◌, ◌-◌, ◌<◌, Bool, true, false, List, [], ◌∷◌, Option, Some, None, Ok, refl, ap, ◌∙◌, arith}
 use Rattle.grammar_rules.specs.Rule.{Verdict}
 use Rattle.grammar_rules.specs.Reading.{Outcome, and_then, choose, repeat, read}
-use Rattle.specify_blocks.specs.VerilogTokens.{is_name}
+use Rattle.verilog_tokens.specs.Tokens.{is_name}
 use Rattle.specify_blocks.specs.VerilogModules.{first_port}
 use Rattle.specify_blocks.specs.VerilogRules.{Refusal, Grammar, begins, new_name, is_among}
 use Rattle.verilog_reader.specs.Next.{is_next, next_bytes, rest}

@@ -1,9 +1,10 @@
 -- Places where a token stands for a value, at the next token.
 use Rattle.std.proofs.Common.{◌≡◌, ℕ, Bool, true, false, List, [], ◌∷◌, Option, Some, None, Ok, Err, refl, eq-eqb, eqb-true, ◌==◌}
 use Rattle.grammar_rules.specs.Reading.{read}
-use Rattle.specify_blocks.specs.VerilogTokens.{is_name}
+use Rattle.verilog_tokens.specs.Tokens.{is_name}
 use Rattle.specify_blocks.specs.VerilogRules.{Syntax, Undefined, Unequal, valued, known}
-use Rattle.specify_blocks.specs.VerilogBlocks.{number_of, same_number}
+use Rattle.verilog_tokens.specs.Numbers.{number_of}
+use Rattle.specify_blocks.specs.VerilogBlocks.{same_number}
 use Rattle.verilog_reader.specs.Next.{next_bytes, rest}
 
 -- a token that stands for this value

@@ -3,7 +3,7 @@ use Rattle.std.specs.Prelude.{ℕ, Bool, ◌||◌, List, Option, Some, None, if�
 use Rattle.std.specs.Option.{option_map}
 use Rattle.std.specs.Str.{bytes_eq}
 use Rattle.udp_tables.specs.declared.table.Udp.{Udp}
-use Rattle.specify_blocks.specs.VerilogTokens.{is_name}
+use Rattle.verilog_tokens.specs.Tokens.{is_name}
 use Rattle.specify_blocks.specs.VerilogModules.{primitive_number}
 
 abbrev pub is_instance_start : List ℕ → Bool

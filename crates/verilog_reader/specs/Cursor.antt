@@ -1,9 +1,9 @@
 -- What a cursor over the tokens of a text shows.
 use Rattle.std.specs.Prelude.{ℕ, Bool, false, List, [], ◌∷◌, map, slice_range}
 use Rattle.std.specs.Str.{bytes_eq}
-use Rattle.verilog_reader.specs.declared.span.Span.{Span}
+use Rattle.verilog_tokens.specs.declared.span.Span.{Span}
 use Rattle.verilog_reader.specs.declared.cursor.Cursor.TheInside.{Inside}
-use Rattle.verilog_reader.specs.Spans.{LieInside}
+use Rattle.verilog_tokens.specs.Spans.{LieInside}
 
 -- the bytes of each token
 abbrev pub spelled : List ℕ → List Span → List (List ℕ)

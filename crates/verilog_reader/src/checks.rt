@@ -9,12 +9,12 @@ ghost use Rattle.specify_blocks.specs.VerilogBlocks as spec;
 ghost use Rattle.verilog_reader.specs.Reading.{Reads};
 
 use crate::cursor::Cursor;
-use crate::numbers::number_of;
 use crate::refusal::{Refusal, Stop};
 use cell_machine::{CheckKind, Edge, Event};
 use specify_blocks::{VCheck, VModule};
 use sqlite_items::Items;
 use std::alloc::Global;
+use verilog_tokens::number_of;
 
 /// The events that a word before a port allows.
 fn edge_of(token: &[u8]) -> Option<Edge>

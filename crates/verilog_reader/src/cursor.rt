@@ -1,12 +1,12 @@
 //! A cursor over the tokens of a text.
 
 ghost use Rattle.std.specs.Prelude.{◌≡◌, length};
-ghost use Rattle.verilog_reader.specs.Spans.{LieInside};
+ghost use Rattle.verilog_tokens.specs.Spans.{LieInside};
 ghost use Rattle.verilog_reader.specs.Cursor.{spelled};
 ghost use Rattle.verilog_reader.specs.Next.{is_next, next_bytes, rest};
 
-use crate::span::Span;
 use std::marker::Model;
+use verilog_tokens::Span;
 
 /// The tokens of a text that are not read yet, each seen as its bytes.
 #[derive(Drop)]

@@ -10,11 +10,11 @@ ghost use Rattle.verilog_reader.specs.Headers.{inputs_of};
 use crate::cursor::Cursor;
 use crate::ports::{has_port, is_declared, output_place, port_place};
 use crate::refusal::{Refusal, Stop};
-use crate::rules::is_name;
 use specify_blocks::VModule;
 use sqlite_items::Items;
 use std::alloc::Global;
 use udp_tables::{Udp, VPort};
+use verilog_tokens::is_name;
 
 /// The ports of a header with those that are declared inputs, and the place behind the last of these.
 #[derive(Debug, Drop)]

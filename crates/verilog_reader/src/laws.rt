@@ -1,17 +1,21 @@
-//! Laws of Verilog text.
+//! Laws of Verilog text: functions that do nothing, whose `ensures` holds of every text.
 
 ghost use Rattle.std.specs.Prelude.{false};
-ghost use Rattle.specify_blocks.specs.VerilogPlaces.{StandInOrder};
-ghost use Rattle.specify_blocks.specs.VerilogSeparators.{Padded, HaveSameTokens};
+ghost use Rattle.verilog_tokens.specs.Separators.{Padded};
+ghost use Rattle.specify_blocks.specs.VerilogText.{IsVerilogAnswer};
+ghost use Rattle.verilog_reader.specs.TextLaws.{HaveSameModules, HasFaultAtFirstToken};
 
-/// A law: blanks, line ends and comments that are added between the tokens of a text change none of its tokens.
-#[tactic(auto, using(crate::proofs::Padding::same_tokens))]
-pub fn added_separators_change_no_token(text: &[u8], padded: &[u8])
-    ensures { Padded false text.now padded.now → HaveSameTokens text.now padded.now }
+/// A text is the text of one list of modules, or it has one fault, and not both.
+pub fn text_has_one_answer(text: &[u8])
+    ensures { IsVerilogAnswer text.now }
 {}
 
-/// A law: the tokens of a text stand in it one behind the other, and its lexical fault behind them.
-#[tactic(auto, using(crate::proofs::Places::stand_in_order))]
-pub fn tokens_stand_in_order(text: &[u8])
-    ensures { StandInOrder text.now }
+/// Blanks, line ends and comments that are added between the tokens of a text change none of its modules.
+pub fn added_separators_change_no_module(text: &[u8], padded: &[u8])
+    ensures { Padded false text.now padded.now → HaveSameModules text.now padded.now }
+{}
+
+/// The token of a fault is the first with which the tokens so far are no front of a file.
+pub fn fault_is_at_first_token(text: &[u8])
+    ensures { HasFaultAtFirstToken text.now }
 {}

@@ -10,10 +10,10 @@ ghost use Rattle.verilog_reader.specs.Next.{next_bytes, rest};
 use crate::cursor::Cursor;
 use crate::nets::{condition_of, input_of, output_of};
 use crate::refusal::{Refusal, Stop};
-use crate::rules::is_name;
 use specify_blocks::{Gate, VModule, VPath};
 use sqlite_items::Items;
 use std::alloc::Global;
+use verilog_tokens::is_name;
 
 /// Whether a path begins with this token.
 fn is_path_start(token: &[u8]) -> bool

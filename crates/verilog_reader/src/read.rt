@@ -3,7 +3,7 @@
 ghost use Rattle.std.specs.Prelude.{◌≡◌, length, IfOk, IfErr, Ok};
 ghost use Rattle.grammar_rules.specs.Reading.{read};
 ghost use Rattle.specify_blocks.specs.VerilogText.{verilog_text, place_from, refusal_fault};
-ghost use Rattle.verilog_reader.specs.Spans.{tokens_of};
+ghost use Rattle.verilog_tokens.specs.Spans.{tokens_of};
 ghost use Rattle.verilog_reader.specs.Cursor.{spelled};
 ghost use Rattle.verilog_reader.specs.Reading.{refusal_of};
 ghost use Rattle.verilog_reader.specs.File.{IsFaultOf};
@@ -11,11 +11,10 @@ ghost use Rattle.verilog_reader.specs.File.{IsFaultOf};
 use crate::cursor::Cursor;
 use crate::file::Before;
 use crate::refusal::{Refusal, Stop, fault_at};
-use crate::scanner::scan;
-use crate::span::{Scan, Span};
 use specify_blocks::VModule;
 use std::alloc::Global;
 use udp_tables::ModelFault;
+use verilog_tokens::{Scan, Span, scan};
 
 /// The offset of the token with which so many tokens are left; the length of the text where none is left.
 fn place_of(text: &[u8], tokens: &[Span], left: usize) -> usize

@@ -5,7 +5,6 @@ ghost use Rattle.specify_blocks.specs.VerilogRules as spec;
 ghost use Rattle.verilog_reader.specs.Reading.{refusal_of};
 ghost use Rattle.verilog_reader.specs.declared.refusal.Stop.TheVariants.{Memory as NoMemory};
 
-use crate::span::Memory;
 use std::alloc::{AllocError, AllocFailed};
 use udp_tables::ModelFault;
 
@@ -41,14 +40,6 @@ pub fn fault_at(refusal: Refusal, at: usize) -> ModelFault
         Refusal::Twice => ModelFault::Twice(at),
         Refusal::Undriven => ModelFault::Undriven(at),
         Refusal::Unequal => ModelFault::Unequal(at),
-    }
-}
-
-impl From<Memory> for Stop {
-    ghost from_gives = { λ _ e. e ≡ NoMemory };
-
-    fn from(_: Memory) -> Stop {
-        Stop::Memory
     }
 }
 

@@ -2,7 +2,6 @@
 
 ghost use Rattle.std.specs.Prelude.{◌≡◌, ℕ, List, ◌∷◌, Some, None, Err};
 ghost use Rattle.grammar_rules.specs.Reading.{read};
-ghost use Rattle.specify_blocks.specs.VerilogTokens as tokens;
 ghost use Rattle.specify_blocks.specs.VerilogRules as spec;
 ghost use Rattle.verilog_reader.specs.Reading.{Reads, refusal_of};
 ghost use Rattle.verilog_reader.specs.Next.{next_bytes};
@@ -11,19 +10,7 @@ use crate::cursor::Cursor;
 use crate::refusal::{Refusal, Stop};
 use sqlite_items::Items;
 use std::alloc::Global;
-use verilog_names::is_verilog_word;
-
-/// Whether a token is a name.
-pub fn is_name(token: &[u8]) -> bool
-    ensures { result ≡ tokens.is_name token.now }
-{
-    match token.first() {
-        None => false,
-        Some(first) => {
-            (first.is_ascii_alphabetic() || *first == b'_') && !is_verilog_word(token)
-        }
-    }
-}
+use verilog_tokens::is_name;
 
 /// Whether a name is one of these.
 pub fn is_among(names: &[Items<u8>], name: &[u8]) -> bool

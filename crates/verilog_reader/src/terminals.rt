@@ -13,37 +13,37 @@ use specify_blocks::{VModule, VNet};
 use udp_tables::Udp;
 
 /// The net of a name: a port, a wire or the register.
-pub fn net_of(module: &VModule, name: &[u8]) -> Option<VNet>
-    ensures { result ≡ spec.net_of module.now name.now }
+pub fn net_of(model: &VModule, name: &[u8]) -> Option<VNet>
+    ensures { result ≡ spec.net_of model.now name.now }
 {
-    if let Some(port) = port_of(module, name) {
+    if let Some(port) = port_of(model, name) {
         return Some(VNet::Port(port));
     }
-    if let Some(wire) = wire_of(module.wires.as_slice(), name) {
+    if let Some(wire) = wire_of(model.wires.as_slice(), name) {
         return Some(VNet::Wire(wire));
     }
-    match &module.notifier {
+    match &model.notifier {
         Some(notifier) if name == notifier.as_slice() => Some(VNet::Notifier),
         _ => None,
     }
 }
 
 /// Whether an instance with a state, or one without, may drive a net.
-pub fn may_drive(module: &VModule, sequential: bool, net: VNet) -> bool
-    ensures { result ≡ spec.may_drive module.now sequential net }
+pub fn may_drive(model: &VModule, sequential: bool, net: VNet) -> bool
+    ensures { result ≡ spec.may_drive model.now sequential net }
 {
     match net {
-        VNet::Port(port) => !sequential && is_output_port(module.ports.as_slice(), port),
-        VNet::Wire(wire) => wire < module.wires.len(),
+        VNet::Port(port) => !sequential && is_output_port(model.ports.as_slice(), port),
+        VNet::Wire(wire) => wire < model.wires.len(),
         VNet::Notifier => false,
     }
 }
 
 /// Whether an instance drives the net.
-pub fn is_driven_already(module: &VModule, net: VNet) -> bool
-    ensures { result ≡ spec.is_driven_already module.now net }
+pub fn is_driven_already(model: &VModule, net: VNet) -> bool
+    ensures { result ≡ spec.is_driven_already model.now net }
 {
-    for instance in module.instances.as_slice() {
+    for instance in model.instances.as_slice() {
         if same_net(net_driven(instance), net) {
             return true;
         }
@@ -52,11 +52,11 @@ pub fn is_driven_already(module: &VModule, net: VNet) -> bool
 }
 
 /// Whether an instance with a state drives this wire.
-fn is_state(module: &VModule, wire: usize) -> bool
-    ensures { result ≡ nets.is_state module.now module.now.instances wire }
+fn is_state(model: &VModule, wire: usize) -> bool
+    ensures { result ≡ nets.is_state model.now model.now.instances wire }
 {
-    for instance in module.instances.as_slice() {
-        if has_state(module.udps.as_slice(), instance)
+    for instance in model.instances.as_slice() {
+        if has_state(model.udps.as_slice(), instance)
             && same_net(net_driven(instance), VNet::Wire(wire))
         {
             return true;
@@ -66,13 +66,13 @@ fn is_state(module: &VModule, wire: usize) -> bool
 }
 
 /// Whether a net may feed an instance with a state, or one without.
-pub fn may_feed(module: &VModule, sequential: bool, net: VNet) -> bool
-    ensures { result ≡ spec.may_feed module.now sequential net }
+pub fn may_feed(model: &VModule, sequential: bool, net: VNet) -> bool
+    ensures { result ≡ spec.may_feed model.now sequential net }
 {
     match net {
-        VNet::Port(port) => is_input_port(module.ports.as_slice(), port),
-        VNet::Wire(wire) => !sequential && is_state(module, wire),
-        VNet::Notifier => sequential && module.notifier.is_some(),
+        VNet::Port(port) => is_input_port(model.ports.as_slice(), port),
+        VNet::Wire(wire) => !sequential && is_state(model, wire),
+        VNet::Notifier => sequential && model.notifier.is_some(),
     }
 }
 
@@ -120,11 +120,11 @@ pub fn primitive_number(udps: &[Udp], name: &[u8]) -> Option<usize>
 }
 
 /// Whether each output is driven.
-fn are_outputs_driven(module: &VModule) -> bool
-    ensures { result ≡ list_all (spec.is_driven_already module.now) (spec.output_nets 0 module.now.ports) }
+fn are_outputs_driven(model: &VModule) -> bool
+    ensures { result ≡ list_all (spec.is_driven_already model.now) (spec.output_nets 0 model.now.ports) }
 {
-    for (at, port) in module.ports.as_slice().iter().enumerate() {
-        if !port.input && !is_driven_already(module, VNet::Port(at)) {
+    for (at, port) in model.ports.as_slice().iter().enumerate() {
+        if !port.input && !is_driven_already(model, VNet::Port(at)) {
             return false;
         }
     }
@@ -132,11 +132,11 @@ fn are_outputs_driven(module: &VModule) -> bool
 }
 
 /// Whether each wire is driven.
-fn are_wires_driven(module: &VModule) -> bool
-    ensures { result ≡ list_all (spec.is_driven_already module.now) (spec.wire_nets 0 module.now.wires) }
+fn are_wires_driven(model: &VModule) -> bool
+    ensures { result ≡ list_all (spec.is_driven_already model.now) (spec.wire_nets 0 model.now.wires) }
 {
-    for (wire, _name) in module.wires.as_slice().iter().enumerate() {
-        if !is_driven_already(module, VNet::Wire(wire)) {
+    for (wire, _name) in model.wires.as_slice().iter().enumerate() {
+        if !is_driven_already(model, VNet::Wire(wire)) {
             return false;
         }
     }
@@ -145,8 +145,8 @@ fn are_wires_driven(module: &VModule) -> bool
 
 /// Whether each output and each wire is driven.
 #[tactic(auto, using(crate::proofs::Among::all_appended))]
-pub fn are_all_driven(module: &VModule) -> bool
-    ensures { result ≡ spec.are_all_driven module.now }
+pub fn are_all_driven(model: &VModule) -> bool
+    ensures { result ≡ spec.are_all_driven model.now }
 {
-    are_outputs_driven(module) && are_wires_driven(module)
+    are_outputs_driven(model) && are_wires_driven(model)
 }

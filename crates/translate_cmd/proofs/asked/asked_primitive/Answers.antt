@@ -1,5 +1,5 @@
 use Rattle.std.proofs.Common.{◌≡◌, sym, ap, subst, ◌∙◌, IfOk}
-use Rattle.verilog_names.specs.Kept.{is_kept_cell_name}
+use Rattle.verilog_tokens.specs.Kept.{is_kept_cell_name}
 use Rattle.translate_cmd.proofs.AskedLemmas.{asked_as}
 use Rattle.translate_cmd.proofs.asked.asked_primitive.Goals as goal
 

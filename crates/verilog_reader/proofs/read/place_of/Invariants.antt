@@ -1,6 +1,6 @@
 use Rattle.std.proofs.Common.{◌≡◌, ◌+◌, length}
 use Rattle.specify_blocks.specs.VerilogText.{place_from}
-use Rattle.verilog_reader.specs.Spans.{tokens_of}
+use Rattle.verilog_tokens.specs.Spans.{tokens_of}
 use Rattle.verilog_reader.proofs.read.place_of.Given as goal
 
 abbrev pub invariant-loop-turn : goal.invariant-loop-turn

@@ -5,4 +5,4 @@ use Rattle.verilog_reader.proofs.terminals.are_outputs_driven.Given as goal
 
 abbrev pub invariant-loop-at : goal.invariant-loop-at
 invariant-loop-at l =
-    list_all (is_driven_already l.module) (output_nets l.at (drop l.at l.module.ports)) ≡ list_all (is_driven_already l.module) (output_nets 0 l.module.ports)
+    list_all (is_driven_already l.model) (output_nets l.at (drop l.at l.model.ports)) ≡ list_all (is_driven_already l.model) (output_nets 0 l.model.ports)

@@ -4,4 +4,4 @@ use Rattle.verilog_reader.proofs.terminals.is_driven_already.Given as goal
 
 abbrev pub invariant-loop-instance : goal.invariant-loop-instance
 invariant-loop-instance l =
-    nat_lt 0 (drivers (drop l.instance-index l.module.instances) l.net) ≡ nat_lt 0 (drivers l.module.instances l.net)
+    nat_lt 0 (drivers (drop l.instance-index l.model.instances) l.net) ≡ nat_lt 0 (drivers l.model.instances l.net)

@@ -4,4 +4,4 @@ use Rattle.verilog_reader.proofs.terminals.is_state.Given as goal
 
 abbrev pub invariant-loop-instance : goal.invariant-loop-instance
 invariant-loop-instance l =
-    is_state l.module (drop l.instance-index l.module.instances) l.wire ≡ is_state l.module l.module.instances l.wire
+    is_state l.model (drop l.instance-index l.model.instances) l.wire ≡ is_state l.model l.model.instances l.wire

@@ -6,5 +6,5 @@ use Rattle.verilog_reader.proofs.cursor.Cursor.instances.Given as goal
 
 abbrev pub invariant-loop-turn : goal.invariant-loop-turn
 invariant-loop-turn l =
-    repeat (λ (m : VModule). begins_instance m.udps) (λ m p r. read (one_instance m p) r) (l._turn-end - l._turn) l.module l.self
-    ≡ repeat (λ (m : VModule). begins_instance m.udps) (λ m p r. read (one_instance m p) r) l._turn-end l.initial.module l.initial.self
+    repeat (λ (m : VModule). begins_instance m.udps) (λ m p r. read (one_instance m p) r) (l._turn-end - l._turn) l.model l.self
+    ≡ repeat (λ (m : VModule). begins_instance m.udps) (λ m p r. read (one_instance m p) r) l._turn-end l.initial.model l.initial.self

@@ -6,5 +6,5 @@ use Rattle.verilog_reader.proofs.cursor.Cursor.more_terminals.Given as goal
 
 abbrev pub invariant-loop-turn : goal.invariant-loop-turn
 invariant-loop-turn l =
-    repeat (λ _. begins (codes ",")) (λ u _ r. read (next_input l.module l.sequential l.output u) r) (l._turn-end - l._turn) l.inputs l.self
-    ≡ repeat (λ _. begins (codes ",")) (λ u _ r. read (next_input l.module l.sequential l.output u) r) l._turn-end l.initial.inputs l.initial.self
+    repeat (λ _. begins (codes ",")) (λ u _ r. read (next_input l.model l.sequential l.output u) r) (l._turn-end - l._turn) l.inputs l.self
+    ≡ repeat (λ _. begins (codes ",")) (λ u _ r. read (next_input l.model l.sequential l.output u) r) l._turn-end l.initial.inputs l.initial.self

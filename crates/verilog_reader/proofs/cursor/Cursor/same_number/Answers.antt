@@ -1,5 +1,5 @@
 use Rattle.std.proofs.Common.{sym, ap, ◌∙◌}
-use Rattle.specify_blocks.specs.VerilogBlocks.{number_of}
+use Rattle.verilog_tokens.specs.Numbers.{number_of}
 use Rattle.verilog_reader.proofs.Values.{other_number}
 use Rattle.verilog_reader.proofs.cursor.Cursor.same_number.Goals as goal
 

@@ -1,6 +1,0 @@
-use Rattle.verilog_names.specs.Words.{is_verilog_word, verilog_words}
-use Rattle.verilog_names.proofs.words.is_verilog_word.Goals as goal
-
-pub returns : goal.returns
-unfolding is_verilog_word verilog_words
-returns c = c.is_among.ensures

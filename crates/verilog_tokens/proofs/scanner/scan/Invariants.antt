@@ -1,0 +1,10 @@
+use Rattle.std.proofs.Common.{◌≡◌}
+use Rattle.verilog_tokens.specs.Tokens.{scan_of}
+use Rattle.verilog_tokens.specs.Spans.{from_here, LieInside}
+use Rattle.verilog_tokens.proofs.scanner.scan.Given as goal
+
+abbrev pub invariant-loop-at : goal.invariant-loop-at
+invariant-loop-at l = record {
+  found : from_here l.text l.scanner.tokens.items l.scanner.in_table l.scanner.next l.at ≡ scan_of l.text;
+  inside : LieInside l.text l.scanner.tokens.items;
+}

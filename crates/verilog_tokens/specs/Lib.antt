@@ -1,0 +1,8 @@
+pub mod Words
+pub mod Kept
+pub mod Tokens
+pub mod Places
+pub mod Separators
+pub mod Spans
+pub mod Numbers
+pub mod Cover

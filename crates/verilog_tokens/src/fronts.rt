@@ -1,0 +1,188 @@
+//! What begins at the front of bytes of a Verilog text.
+
+ghost use Rattle.std.specs.Prelude.{◌≡◌, ◌≤◌, length, false, not, ◌==◌, IfSome};
+ghost use Rattle.std.specs.List.{prefix_len};
+ghost use Rattle.std.specs.Char.{is_ascii_alphabetic, is_ascii_digit};
+ghost use Rattle.verilog_tokens.specs.Kept.{is_name_byte};
+ghost use Rattle.verilog_tokens.specs.Tokens as spec;
+
+/// How many bytes end a comment, up to and with the first slash right behind a star.
+fn comment_rest(bytes: &[u8]) -> Option<usize>
+    ensures value { result ≡ spec.comment_rest false bytes.now }
+    ensures within { IfSome result (λ n. n ≤ length bytes.now) }
+{
+    let mut star = false;
+    for (at, byte) in bytes.iter().enumerate() {
+        if star && *byte == b'/' {
+            return Some(at + 1);
+        }
+        star = *byte == b'*';
+    }
+    None
+}
+
+/// How many bytes of a comment stand at the front of these, which begin one; none where it does not close.
+fn block_length(bytes: &[u8]) -> usize
+    ensures value { result ≡ spec.block_length bytes.now }
+    ensures within { result ≤ length bytes.now }
+{
+    match bytes {
+        [_, _, rest @ ..] => match comment_rest(rest) {
+            Some(end) => 2 + end,
+            None => 0,
+        },
+        _ => 0,
+    }
+}
+
+/// How many bytes stand before the first line end.
+fn line_length(bytes: &[u8]) -> usize
+    ensures value { result ≡ prefix_len (λ c. not (c == 10)) bytes.now }
+    ensures within { result ≤ length bytes.now }
+{
+    for (at, byte) in bytes.iter().enumerate() {
+        if *byte == b'\n' {
+            return at;
+        }
+    }
+    bytes.len()
+}
+
+/// How many letters, digits and `_` stand at the front of the bytes.
+fn name_length(bytes: &[u8]) -> usize
+    ensures value { result ≡ prefix_len is_name_byte bytes.now }
+    ensures within { result ≤ length bytes.now }
+{
+    for (at, byte) in bytes.iter().enumerate() {
+        if !byte.is_ascii_alphanumeric() && *byte != b'_' {
+            return at;
+        }
+    }
+    bytes.len()
+}
+
+/// How many letters stand at the front of the bytes.
+fn letters_length(bytes: &[u8]) -> usize
+    ensures value { result ≡ prefix_len is_ascii_alphabetic bytes.now }
+    ensures within { result ≤ length bytes.now }
+{
+    for (at, byte) in bytes.iter().enumerate() {
+        if !byte.is_ascii_alphabetic() {
+            return at;
+        }
+    }
+    bytes.len()
+}
+
+/// How many digits stand at the front of the bytes.
+fn digits_length(bytes: &[u8]) -> usize
+    ensures value { result ≡ prefix_len is_ascii_digit bytes.now }
+    ensures within { result ≤ length bytes.now }
+{
+    for (at, byte) in bytes.iter().enumerate() {
+        if !byte.is_ascii_digit() {
+            return at;
+        }
+    }
+    bytes.len()
+}
+
+/// How many bytes of a separator stand at the front of these: a blank or a comment.
+pub fn separator_length(bytes: &[u8]) -> usize
+    ensures value { result ≡ spec.separator_length bytes.now }
+    ensures within { result ≤ length bytes.now }
+{
+    let Some(first) = bytes.first() else {
+        return 0;
+    };
+    if b" \t\n".contains(first) {
+        1
+    } else if bytes.starts_with(b"//") {
+        line_length(bytes)
+    } else if bytes.starts_with(b"/*") {
+        block_length(bytes)
+    } else {
+        0
+    }
+}
+
+/// How many bytes of a sign stand at the front of these.
+fn sign_length(bytes: &[u8]) -> usize
+    ensures value { result ≡ spec.sign_length bytes.now }
+    ensures within { result ≤ length bytes.now }
+{
+    if bytes.starts_with(b"&&&") {
+        3
+    } else if bytes.starts_with(b"=>") {
+        2
+    } else if bytes.starts_with(b"=") {
+        1
+    } else if bytes.starts_with(b"//") || bytes.starts_with(b"/*") {
+        0
+    } else if bytes.starts_with(b"/") {
+        1
+    } else {
+        0
+    }
+}
+
+/// How many bytes of a number stand at the front of these.
+fn number_length(bytes: &[u8]) -> usize
+    ensures value { result ≡ spec.number_length bytes.now }
+    ensures within { result ≤ length bytes.now }
+{
+    if bytes.starts_with(b"1ps") {
+        return 3;
+    }
+    if bytes.starts_with(b"1'b0") || bytes.starts_with(b"1'b1") {
+        return 4;
+    }
+    let length = digits_length(bytes);
+    if length <= 15 { length } else { 0 }
+}
+
+/// How many bytes of a word stand at the front of these, where the first byte begins one.
+fn word_length(bytes: &[u8]) -> usize
+    ensures value { result ≡ spec.word_length bytes.now }
+    ensures within { result ≤ length bytes.now }
+{
+    match bytes.split_first() {
+        None => 0,
+        Some((first, rest)) if b"$`".contains(first) => 1 + letters_length(rest),
+        Some((_, rest)) => 1 + name_length(rest),
+    }
+}
+
+/// How many bytes of the longest token stand at the front of these, in a table or outside. None where no token begins.
+pub fn token_length(in_table: bool, bytes: &[u8]) -> usize
+    ensures value { result ≡ spec.token_length in_table bytes.now }
+    ensures within { result ≤ length bytes.now }
+{
+    let Some(first) = bytes.first() else {
+        return 0;
+    };
+    if in_table && b"01xXbB?rRfFpPnN*-():;".contains(first) {
+        1
+    } else if b"(),;:".contains(first) {
+        1
+    } else if first.is_ascii_alphabetic() || b"_$`".contains(first) {
+        word_length(bytes)
+    } else if first.is_ascii_digit() {
+        number_length(bytes)
+    } else {
+        sign_length(bytes)
+    }
+}
+
+/// Whether a table is open after a token.
+pub fn is_open_after(in_table: bool, token: &[u8]) -> bool
+    ensures { result ≡ spec.is_open_after in_table token.now }
+{
+    if token == b"table".as_slice() {
+        true
+    } else if token == b"endtable".as_slice() {
+        false
+    } else {
+        in_table
+    }
+}

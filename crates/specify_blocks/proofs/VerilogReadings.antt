@@ -89,7 +89,7 @@ flip-flop =
           } ∷ [];
     }
 
--- A flip-flop, with its text.
+-- A flip-flop with its rows in plain form, and its text.
 its-text : Reads (codes "`timescale 1ps/1ps\nprimitive lib_1_1 (q, i1, i2, i3);\n  output q;\n  reg q;\n  input i1;\n  input i2;\n  input i3;\n  table\n    ? ? * : ? : x;\n    (01) 1 ? : ? : 1;\n    (1?) ? ? : 1 : 1;\n    (?0) ? ? : 1 : 1;\n    * 1 ? : 1 : 1;\n    (01) 0 ? : ? : 0;\n    (1?) ? ? : 0 : 0;\n    (?0) ? ? : 0 : 0;\n    * 0 ? : 0 : 0;\n    ? * ? : 1 : 1;\n    ? * ? : 0 : 0;\n  endtable\nendprimitive\nprimitive lib_1_2 (q, i1);\n  output q;\n  input i1;\n  table\n    1 : 1;\n    0 : 0;\n  endtable\nendprimitive\nmodule DFFT (CK, D, Q);\n  input CK;\n  input D;\n  output Q;\n  wire lib_s1;\n  reg lib_n;\n  lib_1_1 (lib_s1, CK, D, lib_n);\n  lib_1_2 (Q, lib_s1);\n  specify\n    (CK => Q) = (100, 120);\n    $setup(D, posedge CK, 50, lib_n);\n  endspecify\nendmodule\n") (flip-flop ∷ [])
 unfolding verilog_words is_verilog_word verilog_text text.file text.prelude text.designs text.one_module text.next_primitive text.more_primitives text.next_module text.primitives_and_module udp.primitive udp.table udp.row udp.state_and_next udp.output_level udp.pair udp.declared_inputs udp.declared_input udp.register udp.declared_state udp.declared_output udp.header udp.next_input udp.more_inputs udp.next_entry udp.more_entries udp.next_row m.header m.next_port m.more_ports m.some_ports m.declared_inputs m.declared_wires m.notifier m.driven_terminal m.feeding_terminal m.next_input m.more_inputs m.instances m.declared_input m.declared_output m.declared_outputs m.declared_wire m.declared_notifier m.declarations m.call m.constant block.a_number block.an_input block.an_output block.a_condition block.path_gate block.next_path block.paths block.any_edge block.condition block.same_condition block.same_number block.check_of_kind block.next_check block.checks block.specify block.if_gate block.ifnone_gate block.path block.an_event block.an_edge_event block.condition_name block.check_end block.ordered_check block.turned_check block.width_check block.second_period block.period_check block.check block.block state-primitive output-primitive flip-flop row level-row
 its-text = refl

@@ -7,7 +7,7 @@ use Rattle.bool_functions.specs.declared.tree.Node.{Node}
 use Rattle.udp_tables.specs.declared.cell_primitives.Part.TheVariants as part
 use Rattle.udp_tables.specs.declared.table.UdpRow.{UdpRow}
 use Rattle.bool_functions.specs.SameTrees.{same_tree}
-use Rattle.udp_tables.specs.Sequential.{udp_next, noted, sequential_rows, changes_in}
+use Rattle.udp_tables.specs.Sequential.{udp_next, noted, compact_rows, changes_in}
 use Rattle.udp_tables.specs.Conditions.{added, added_all, used_conditions, condition_place}
 use Rattle.cell_machine.specs.CellTrace.{support_at, step_at, sources_at, output_value_at}
 use Rattle.udp_tables.specs.CellPrimitives.{has_notifier, group_inputs, part_places, part_value}
@@ -16,8 +16,8 @@ use Rattle.udp_tables.specs.Laws.{PartsResolve, GroupsAreMachines, GroupsAreForc
 use Rattle.udp_tables.proofs.FirstLemmas.{any-found}
 use Rattle.bool_functions.proofs.SameTreeLemmas.{same_tree-equal, same_tree-refl}
 use Rattle.udp_tables.proofs.TableLemmas.{function_rows-res, length-input_names}
-use Rattle.udp_tables.proofs.CountLemmas.{sequential-fit, all-rows}
-use Rattle.udp_tables.proofs.LawLemmas.{rows_are_machine-lem, notifier_forces-lem}
+use Rattle.udp_tables.proofs.CountLemmas.{compact-fit, all-rows}
+use Rattle.udp_tables.proofs.LawLemmas.{compact_are_machine-lem, compact_force-lem}
 
 pub parts_resolve-lem : PartsResolve
 parts_resolve-lem cell (part.Output i) inputs long =
@@ -27,26 +27,26 @@ parts_resolve-lem cell (part.Condition i) inputs long =
 
 pub groups_are_machines-lem : GroupsAreMachines
 groups_are_machines-lem cell i p old inputs note state long within apart =
-    rows_are_machine-lem (has_notifier cell) (length (support_at cell i)) (step_at cell i) p old inputs note state long
+    compact_are_machine-lem (has_notifier cell) (length (support_at cell i)) (step_at cell i) p old inputs note state long
     (omega arith) apart
 
 pub groups_are_forced-lem : GroupsAreForced
 groups_are_forced-lem cell i inputs old new state checks long apart =
-    ap (λ b. udp_next (sequential_rows b (length (support_at cell i)) (step_at cell i)) (noted true old inputs) (noted true new inputs) state) checks
-    ∙ notifier_forces-lem (length (support_at cell i)) (step_at cell i) inputs old new state long apart
+    ap (λ b. udp_next (compact_rows b (length (support_at cell i)) (step_at cell i)) (noted true old inputs) (noted true new inputs) state) checks
+    ∙ compact_force-lem (length (support_at cell i)) (step_at cell i) inputs old new state long
 
 pub groups_are_sequential-lem : GroupsAreSequential
 groups_are_sequential-lem cell i =
     let checks : Bool = has_notifier cell in
     let n : ℕ = length (support_at cell i) in
-    let rows : List UdpRow = sequential_rows checks n (step_at cell i) in
+    let rows : List UdpRow = compact_rows checks n (step_at cell i) in
     record {
       entries =
           all-rows (λ row. length row.inputs ≡ length (input_names (group_inputs cell i))) rows
-          (λ row m. (sequential-fit checks n (step_at cell i) row m).entries ∙ sym (length-input_names (group_inputs cell i)));
+          (λ row m. (compact-fit checks n (step_at cell i) row m).entries ∙ sym (length-input_names (group_inputs cell i)));
       changes =
           all-rows (λ row. changes_in row ≤ 1) rows
-          (λ row m. (sequential-fit checks n (step_at cell i) row m).changed);
+          (λ row m. (compact-fit checks n (step_at cell i) row m).changed);
     }
 
 -- a tree among others has a place

@@ -7,7 +7,7 @@ use Rattle.std.proofs.lemmas.List.{length_push, length-map, length-replicate}
 use Rattle.std.proofs.lemmas.List.Sums.{sum_by-cons}
 use Rattle.std.proofs.lemmas.List.Elements.{Contains-get_or}
 use Rattle.trit_cubes.specs.declared.trits.Trit.{Trit}
-use Rattle.trit_cubes.specs.declared.trits.Trit.TheVariants.{Unknown}
+use Rattle.trit_cubes.specs.declared.trits.Trit.TheVariants.{One, Unknown}
 use Rattle.trit_cubes.specs.Sets.{gives}
 use Rattle.trit_cubes.specs.Prime.{prime_list}
 use Rattle.trit_cubes.proofs.ListLemmas.{Among, among-append, contains-among}
@@ -20,11 +20,12 @@ use Rattle.udp_tables.specs.declared.table.UdpRow.{UdpRow}
 use Rattle.udp_tables.specs.Tables.{or_row}
 use Rattle.udp_tables.specs.Primitive.{is_level}
 use Rattle.udp_tables.specs.Generated.{level_entry}
-use Rattle.udp_tables.specs.Edges.{forced_rows, edge_cubes, edge_rows, each_below}
-use Rattle.udp_tables.specs.Sequential.{changes_in, edge_entry, noted, state_row, notifier_rows, edge_row, sequential_rows}
+use Rattle.udp_tables.specs.Edges.{forced_rows, edge_cubes, compact_edge_rows, each_below}
+use Rattle.udp_tables.specs.Sequential.{changes_in, edge_entry, noted, state_row, notifier_rows, edge_row, keep_row, compact_rows}
 use Rattle.udp_tables.proofs.TableLemmas.{entries-level}
 use Rattle.udp_tables.proofs.ColumnLemmas.{length-insert}
 use Rattle.udp_tables.proofs.CubeLemmas.{value_rows-among, below-among, edge-long}
+use Rattle.udp_tables.proofs.PairLemmas.{compact-among}
 use Rattle.udp_tables.proofs.GroupLemmas.{length-init}
 
 abbrev changes : List Entry → ℕ
@@ -116,12 +117,27 @@ edge-fits checks n p v (old ∷ new ∷ r ∷ rest) l e =
           omega (arith, one, at-most-one (not (is_level (edge_entry old new))), changes-none es (entries-level (init (r ∷ rest))));
     }
 
+-- a row that keeps the state has the entries of that which gives a value
+keep-fits : (checks : Bool) (n p : ℕ) (c : List Trit) → p < n → length c ≡ suc (suc n) → Fits checks n (keep_row checks p c)
+keep-fits checks n p c l e =
+    let same : Fits checks n (edge_row checks p Unknown c) = edge-fits checks n p Unknown c l e in
+    record { entries = same.entries; changed = same.changed }
+
+change-fits :
+    (checks : Bool) (n : ℕ) (step : Step) (p : ℕ) (row : UdpRow)
+    → p < n → Among row (compact_edge_rows (edge_row checks) (keep_row checks) step n p) → Fits checks n row
+change-fits checks n step p row l m =
+    elim (compact-among (edge_row checks p) (keep_row checks p) (edge_cubes step n p) row m) [
+      | inl r ↦ subst (Fits checks n) r.3 (keep-fits checks n p r.0 l (edge-long step n p One r.0 r.1))
+      | inr r ↦ subst (Fits checks n) r.4 (edge-fits checks n p r.0 r.2 l (edge-long step n p r.0 r.2 r.3))
+    ]
+
 rows-fit :
     (checks : Bool) (n : ℕ) (step : Step) (row : UdpRow)
-    → Among row (forced_rows (state_row checks) n step ++ notifier_rows checks n ++ each_below (edge_rows (edge_row checks) step n) n)
+    → Among row (forced_rows (state_row checks) n step ++ notifier_rows checks n ++ each_below (compact_edge_rows (edge_row checks) (keep_row checks) step n) n)
     → Fits checks n row
 rows-fit checks n step row m =
-    elim (among-append row (forced_rows (state_row checks) n step ++ notifier_rows checks n) (each_below (edge_rows (edge_row checks) step n) n) m) [
+    elim (among-append row (forced_rows (state_row checks) n step ++ notifier_rows checks n) (each_below (compact_edge_rows (edge_row checks) (keep_row checks) step n) n) m) [
       | inl front ↦
           elim (among-append row (forced_rows (state_row checks) n step) (notifier_rows checks n) front) [
             | inl k ↦
@@ -131,9 +147,8 @@ rows-fit checks n step row m =
             | inr k ↦ notifier-fits checks n row k
           ]
       | inr k ↦
-          let q = below-among (edge_rows (edge_row checks) step n) n row k in
-          let r = value_rows-among (edge_row checks q.0) (edge_cubes step n q.0) row q.2 in
-          subst (Fits checks n) r.4 (edge-fits checks n q.0 r.0 r.2 q.1 (edge-long step n q.0 r.0 r.2 r.3))
+          let q = below-among (compact_edge_rows (edge_row checks) (keep_row checks) step n) n row k in
+          change-fits checks n step q.0 row q.1 q.2
     ]
 
 or_row-fit : (checks : Bool) (n : ℕ) (alone : UdpRow) (rows : List UdpRow) (row : UdpRow)
@@ -141,10 +156,10 @@ or_row-fit : (checks : Bool) (n : ℕ) (alone : UdpRow) (rows : List UdpRow) (ro
 or_row-fit checks n alone [] row h k m = elim m [ inl e ↦ subst (Fits checks n) e h | inr z ↦ absurd z ]
 or_row-fit checks n alone (first ∷ rows) row h k m = k row m
 
-pub sequential-fit : (checks : Bool) (n : ℕ) (step : Step) (row : UdpRow) → Among row (sequential_rows checks n step) → Fits checks n row
-sequential-fit checks n step row m =
+pub compact-fit : (checks : Bool) (n : ℕ) (step : Step) (row : UdpRow) → Among row (compact_rows checks n step) → Fits checks n row
+compact-fit checks n step row m =
     or_row-fit checks n (state_row checks Unknown (replicate n Unknown))
-    (forced_rows (state_row checks) n step ++ notifier_rows checks n ++ each_below (edge_rows (edge_row checks) step n) n) row
+    (forced_rows (state_row checks) n step ++ notifier_rows checks n ++ each_below (compact_edge_rows (edge_row checks) (keep_row checks) step n) n) row
     (state-fits checks n Unknown (replicate n Unknown) (length-replicate n Unknown)) (rows-fit checks n step) m
 
 pub all-rows : (P : UdpRow → Type 0) (rows : List UdpRow) → ((row : UdpRow) → Among row rows → P row) → All P rows

@@ -1,4 +1,5 @@
 pub mod PairLemmas
+pub mod NumberLemmas
 pub mod CountLemmas
 pub mod CellLaws
 pub mod ConditionLemmas

@@ -12,7 +12,7 @@ use Rattle.udp_tables.specs.declared.cell_primitives.Part.{Part}
 use Rattle.udp_tables.specs.declared.cell_primitives.Part.TheVariants as part
 use Rattle.udp_tables.specs.PortNames.{output_name, input_names}
 use Rattle.udp_tables.specs.Generated.{primitive_of}
-use Rattle.udp_tables.specs.Sequential.{sequential_rows}
+use Rattle.udp_tables.specs.Sequential.{compact_rows}
 use Rattle.cell_machine.specs.CellData.{CellData}
 use Rattle.cell_machine.specs.CellTrace.{support_at, step_at, sources_at, output_value_at}
 use Rattle.udp_tables.specs.Conditions.{conditions_of}
@@ -32,7 +32,8 @@ group_number i = i + 1
 abbrev pub group_inputs : CellData → ℕ → ℕ
 group_inputs cell i = if has_notifier cell then length (support_at cell i) + 1 else length (support_at cell i)
 
--- the primitive of group i: its inputs are the pins of its support, and the notifier
+-- The primitive of group i: its inputs are the pins of its support, and the notifier. Its rows are in compact form: two that
+-- hold the state are one.
 abbrev pub group_primitive : CellData → ℕ → Udp
 group_primitive cell i =
     record {
@@ -40,7 +41,7 @@ group_primitive cell i =
       output = output_name;
       inputs = input_names (group_inputs cell i);
       sequential = true;
-      rows = sequential_rows (has_notifier cell) (length (support_at cell i)) (step_at cell i);
+      rows = compact_rows (has_notifier cell) (length (support_at cell i)) (step_at cell i);
     }
 
 abbrev pub condition_number : CellData → ℕ → ℕ

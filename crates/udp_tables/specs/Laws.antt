@@ -13,8 +13,8 @@ use Rattle.udp_tables.specs.Conditions.{used_conditions, conditions_of, conditio
 use Rattle.cell_machine.specs.CellTrace.{support_at, step_at}
 use Rattle.udp_tables.specs.CellPrimitives.{has_notifier, group_primitive, part_primitive, part_places, part_value}
 
--- At each change of an input, to the value that it has among the inputs, the rows give the machine's step, in every state
--- and at every value of the notifier.
+-- At each change of an input, to the value that it has among the inputs, the rows in plain form give the machine's step, in
+-- every state and at every value of the notifier.
 abbrev pub RowsAreMachine : Type 0
 RowsAreMachine =
     (checks : Bool) (n : ℕ) (step : Step) (p : ℕ) (old : Trit) (inputs : List Trit) (note state : Trit)

@@ -5,6 +5,7 @@ pub mod Ports
 pub mod Generated
 pub mod Edges
 pub mod Sequential
+pub mod Pairs
 pub mod Conditions
 pub mod CellPrimitives
 pub mod Laws

@@ -127,9 +127,10 @@ step_rows checks n step changes =
     or_row (state_row checks trit.Unknown (replicate n trit.Unknown))
     (forced_rows (state_row checks) n step ++ notifier_rows checks n ++ each_below changes n)
 
+-- the rows in plain form: a row for each prime
 abbrev pub sequential_rows : Bool → ℕ → Step → List UdpRow
 sequential_rows checks n step = step_rows checks n step (edge_rows (edge_row checks) step n)
 
--- the same with two rows that hold the state in one
+-- The rows in compact form, which primitives have: two rows that hold the state are one.
 abbrev pub compact_rows : Bool → ℕ → Step → List UdpRow
 compact_rows checks n step = step_rows checks n step (compact_edge_rows (edge_row checks) (keep_row checks) step n)

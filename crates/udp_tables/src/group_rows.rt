@@ -1,19 +1,20 @@
 //! The rows of a group's step.
-ghost use Rattle.std.specs.Prelude.{◌≡◌, ◌+◌, ◌<◌, ◌≤◌, suc, Bool, List, ◌++◌, map, filter, length, replicate, All, IfOk, OnOk};
+ghost use Rattle.std.specs.Prelude.{◌≡◌, ◌<◌, ◌++◌, map, length, replicate, IfOk, OnOk};
 ghost use Rattle.trit_cubes.specs.declared.trits.Trit.TheVariants as trit;
 ghost use Rattle.trit_cubes.specs.Sets.{gives};
 ghost use Rattle.trit_cubes.specs.Prime.{prime_list};
-ghost use Rattle.cell_machine.specs.Machine.{forced_at, edge_value};
+ghost use Rattle.cell_machine.specs.Machine.{forced_at};
 ghost use Rattle.cell_machine.specs.CellTrace.{support_at, step_at};
 ghost use Rattle.udp_tables.specs.Tables.{or_row};
-ghost use Rattle.udp_tables.specs.Edges.{forced_rows, moves, edge_rows, each_below};
-ghost use Rattle.udp_tables.specs.Sequential.{state_row, notifier_rows, edge_row, sequential_rows};
+ghost use Rattle.udp_tables.specs.Edges.{forced_rows, compact_edge_rows, each_below};
+ghost use Rattle.udp_tables.specs.Sequential.{state_row, notifier_rows, edge_row, keep_row, compact_rows};
 ghost use Rattle.cell_machine.specs.CellData.{data_of};
 ghost use Rattle.udp_tables.specs.CellPrimitives.{has_notifier};
 
-use crate::entries::{change_entries, free_entries, level_entries, noted};
+use crate::change_rows::add_rows_of_input;
+use crate::entries::{free_entries, level_entries, noted};
 use crate::faults::Memory;
-use crate::points::{forces, steps_to};
+use crate::points::forces;
 use crate::table::{Entry, Level, Next, UdpRow};
 use cell_machine::Cell;
 use sqlite_items::Items;
@@ -21,10 +22,10 @@ use std::alloc::Global;
 use trit_cubes::{Cube, Trit, primes, table_of};
 
 /// The rows of a group: the points that force its state, the notifier where the cell has checks, and then the changes of
-/// each input.
+/// each input, of which two that hold the state are one.
 pub(crate) fn group_rows(alloc: Global, cell: &Cell, group: usize) -> Result<Items<UdpRow>, Memory>
     requires { group < length cell.now.groups }
-    ensures { IfOk result (λ rows. rows ≡ sequential_rows (has_notifier (data_of cell.now)) (length (support_at (data_of cell.now) group)) (step_at (data_of cell.now) group)) }
+    ensures { IfOk result (λ rows. rows ≡ compact_rows (has_notifier (data_of cell.now)) (length (support_at (data_of cell.now) group)) (step_at (data_of cell.now) group)) }
 {
     let notifier = !cell.checks.is_empty();
     let pins = cell.group(group).support.len();
@@ -149,102 +150,10 @@ fn add_rows_of_changes(
     notifier: bool,
 ) -> Result<(), Memory>
     requires { group < length cell.now.groups }
-    ensures { OnOk result (rows.new ≡ rows.old ++ each_below (edge_rows (edge_row notifier) (step_at (data_of cell.now) group) (length (support_at (data_of cell.now) group))) (length (support_at (data_of cell.now) group))) }
+    ensures { OnOk result (rows.new ≡ rows.old ++ each_below (compact_edge_rows (edge_row notifier) (keep_row notifier) (step_at (data_of cell.now) group) (length (support_at (data_of cell.now) group))) (length (support_at (data_of cell.now) group))) }
 {
     for place in 0..cell.group(group).support.len() {
         add_rows_of_input(alloc, rows, cell, group, notifier, place)?;
     }
     Ok(())
-}
-
-// Adds the rows of the changes of one input that give 1, and then 0.
-fn add_rows_of_input(
-    alloc: Global,
-    rows: &mut Items<UdpRow>,
-    cell: &Cell,
-    group: usize,
-    notifier: bool,
-    place: usize,
-) -> Result<(), Memory>
-    requires group { group < length cell.now.groups }
-    requires place { place < length (support_at (data_of cell.now) group) }
-    ensures { OnOk result (rows.new ≡ rows.old ++ edge_rows (edge_row notifier) (step_at (data_of cell.now) group) (length (support_at (data_of cell.now) group)) place) }
-{
-    let ones = change_primes(alloc, cell, group, place, Trit::One)?;
-    add_moving_rows(alloc, rows, notifier, place, Trit::One, &ones)?;
-    let zeros = change_primes(alloc, cell, group, place, Trit::Zero)?;
-    add_moving_rows(alloc, rows, notifier, place, Trit::Zero, &zeros)?;
-    Ok(())
-}
-
-// The primes of the points at which a change of one input gives this value.
-fn change_primes(
-    alloc: Global,
-    cell: &Cell,
-    group: usize,
-    place: usize,
-    value: Trit,
-) -> Result<Vec<Cube>, Memory>
-    requires group { group < length cell.now.groups }
-    requires place { place < length (support_at (data_of cell.now) group) }
-    ensures list { IfOk result (λ cubes. cubes.items ≡ prime_list (suc (suc (length (support_at (data_of cell.now) group)))) (gives value (edge_value (step_at (data_of cell.now) group) place))) }
-    ensures wide { IfOk result (λ cubes. All (λ cube. place + 3 ≤ length cube) cubes.items) }
-{
-    let pins = cell.group(group).support.len();
-    let table = table_of(
-        alloc,
-        pins + 2,
-        &|point: &[bool]| { steps_to(cell, group, place, value, point) },
-    )?;
-    let cubes = primes(alloc, pins + 2, &table)?;
-    Ok(cubes)
-}
-
-// Adds a row with this value for each cube of a change of the input at `place` that has points that change.
-fn add_moving_rows(
-    alloc: Global,
-    rows: &mut Items<UdpRow>,
-    notifier: bool,
-    place: usize,
-    value: Trit,
-    cubes: &[Cube],
-) -> Result<(), Memory>
-    requires { All (λ cube. place + 3 ≤ length cube) cubes.now }
-    ensures { OnOk result (rows.new ≡ rows.old ++ map (edge_row notifier place value) (filter moves cubes.now)) }
-{
-    for cube in cubes {
-        if moves(cube) {
-            rows.push(edge_row(alloc, notifier, place, value, cube)?)?;
-        }
-    }
-    Ok(())
-}
-
-// Whether the cube of a change has points that change.
-fn moves(cube: &Cube) -> bool
-    requires { 2 ≤ length cube.now }
-    ensures { result ≡ moves cube.now }
-{
-    let old = cube.place(0);
-    old == Trit::Unknown || old != cube.place(1)
-}
-
-fn edge_row(
-    alloc: Global,
-    notifier: bool,
-    place: usize,
-    value: Trit,
-    cube: &Cube,
-) -> Result<UdpRow, Memory>
-    requires { place + 3 ≤ length cube.now }
-    ensures { IfOk result (λ row. row ≡ edge_row notifier place value cube.now) }
-{
-    let entries = change_entries(alloc, place, cube)?;
-    let inputs = noted(entries, notifier, Entry::Level(Level::Any))?;
-    let state = Level::from(cube.place(cube.len() - 1));
-    Ok(UdpRow {
-        inputs: Items::from_vec(inputs),
-        state,
-        next: Next::from(value),
-    })
 }

@@ -4,8 +4,10 @@
 mod cell_conditions;
 mod cell_primitives;
 mod cell_values;
+mod change_rows;
 mod combinational;
 mod combinational_rows;
+mod cube_index;
 mod entries;
 mod faults;
 mod generation;

@@ -5,11 +5,11 @@ use Rattle.bool_functions.specs.Support.{support_of}
 use Rattle.cell_machine.specs.Outputs.{output_at, condition_at}
 use Rattle.cell_machine.specs.CellTrace.{support_at, step_at}
 use Rattle.vital_models.specs.LookUps.{lookup_state}
-use Rattle.vital_models.specs.Rows.{state_rows}
+use Rattle.vital_models.specs.Rows.{compact_rows}
 use Rattle.vital_models.specs.Generated.{has_violation}
 use Rattle.vital_models.specs.Laws.{StatesAreMachines, OutputsResolve, ConditionsResolve}
 use Rattle.vital_models.proofs.TruthRows.{truth_rows-resolve}
-use Rattle.vital_models.proofs.RowLawLemmas.{state_rows_are_machine-lem}
+use Rattle.vital_models.proofs.RowLawLemmas.{compact_rows_are_machine-lem}
 
 pub states_are_machines-lem : StatesAreMachines
 states_are_machines-lem cell g =
@@ -17,11 +17,11 @@ states_are_machines-lem cell g =
     let step = step_at cell g in
     record {
       steps = λ p old inputs x s long l apart.
-          state_rows_are_machine-lem.steps (has_violation cell) n step p old inputs x s long (subst (λ m. p < m) long l) apart;
-      keeps = λ inputs x s long. state_rows_are_machine-lem.keeps (has_violation cell) n step inputs x s long;
+          compact_rows_are_machine-lem.steps (has_violation cell) n step p old inputs x s long (subst (λ m. p < m) long l) apart;
+      keeps = λ inputs x s long. compact_rows_are_machine-lem.keeps (has_violation cell) n step inputs x s long;
       forces = λ before inputs s some long wide.
-          ap (λ checks. lookup_state (state_rows checks n step) before (Unknown ∷ inputs) s) some
-          ∙ state_rows_are_machine-lem.forces n step before inputs s long (wide ∙ ap suc long);
+          ap (λ checks. lookup_state (compact_rows checks n step) before (Unknown ∷ inputs) s) some
+          ∙ compact_rows_are_machine-lem.forces n step before inputs s long (wide ∙ ap suc long);
     }
 
 pub outputs_resolve-lem : OutputsResolve

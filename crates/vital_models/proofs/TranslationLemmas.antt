@@ -1,6 +1,7 @@
 -- The rows of primitives in the symbols of VITAL are the rows of VITAL's tables.
-use Rattle.std.proofs.Common.{◌≡◌, ℕ, zero, suc, Bool, true, false, ◌||◌, List, [], ◌∷◌, ◌++◌, map, replicate, refl, ◌∙◌, ap, append_assoc}
+use Rattle.std.proofs.Common.{◌≡◌, ℕ, zero, suc, Bool, true, false, not, ◌||◌, inl, inr, List, [], ◌∷◌, ◌++◌, map, replicate, refl, ◌∙◌, ap, append_assoc}
 use Rattle.std.specs.Prelude.{filter}
+use Rattle.std.proofs.lemmas.Bool.{cases_Bool}
 use Rattle.std.proofs.lemmas.List.{map-append}
 use Rattle.std.proofs.lemmas.List.Elements.{filter-append}
 use Rattle.trit_cubes.specs.declared.trits.Trit.{Trit}
@@ -12,13 +13,14 @@ use Rattle.cell_machine.proofs.StepLemmas.{init-append, last-append}
 use Rattle.udp_tables.specs.declared.table.Level.TheVariants as level
 use Rattle.udp_tables.specs.declared.table.Entry.{Entry}
 use Rattle.udp_tables.specs.declared.table.Entry.TheVariants as entry
+use Rattle.udp_tables.specs.declared.table.Next.TheVariants as kept
 use Rattle.udp_tables.specs.declared.table.UdpRow.{UdpRow}
 use Rattle.udp_tables.specs.Tables.{value_rows, or_row}
 use Rattle.udp_tables.specs.Generated as prim
-use Rattle.udp_tables.specs.Edges.{forced_rows, edge_cubes, edge_rows, each_below}
+use Rattle.udp_tables.specs.Edges.{forced_rows, edge_cubes, is_paired, kept_or_one, compact_edge_rows, each_below}
 use Rattle.udp_tables.specs.Sequential as seq
 use Rattle.vital_models.specs.declared.table.VStateRow.{VStateRow}
-use Rattle.vital_models.specs.Rows.{level_of, level_symbol, edge_symbol, truth_row, truth_rows, level_row, violation_rows, edge_columns, edge_row}
+use Rattle.vital_models.specs.Rows.{level_of, level_symbol, edge_symbol, truth_row, truth_rows, level_row, violation_rows, edge_columns, edge_row, keep_row}
 use Rattle.vital_models.specs.Translation.{level_from, trits_from, truth_row_from, symbol_from, violation_from, columns_from, result_from, state_row_from, is_written, state_rows_from}
 
 -- levels
@@ -126,6 +128,10 @@ edge-zeros : (checks : Bool) (p : ℕ) (c : List Trit) → state_row_from checks
 edge-zeros checks p c =
     λ i. record { inputs = edge-columns checks p c Zero i; state = level-state (last Unknown c) i; result = result_from (prim.next_to Zero) }
 
+edge-keeps : (checks : Bool) (p : ℕ) (c : List Trit) → state_row_from checks (seq.keep_row checks p c) ≡ keep_row checks p c
+edge-keeps checks p c =
+    λ i. record { inputs = edge-columns checks p c One i; state = level_from level.Any; result = result_from kept.Keep }
+
 -- lists of rows
 from-append :
     (checks : Bool) (xs ys : List UdpRow) → state_rows_from checks (xs ++ ys) ≡ state_rows_from checks xs ++ state_rows_from checks ys
@@ -160,10 +166,30 @@ forced-from checks n step =
     from-values checks (seq.state_row checks) (level_row checks) (λ c. or-true checks) (λ c. or-true checks) (level-ones checks) (level-zeros checks)
     (prime_list n (gives One (forced_at step))) (prime_list n (gives Zero (forced_at step)))
 
-edges-from : (checks : Bool) (step : Step) (n p : ℕ) → state_rows_from checks (edge_rows (seq.edge_row checks) step n p) ≡ edge_rows (edge_row checks) step n p
+-- a row of compact form, kept or not
+paired-written : (checks : Bool) (p : ℕ) (zeros : List (List Trit)) (c : List Trit) → is_written checks (kept_or_one (seq.edge_row checks p) (seq.keep_row checks p) zeros c) ≡ true
+paired-written checks p zeros c =
+    elim (cases_Bool (is_paired One Zero zeros c)) [ inl e ↦ rw e (or-true checks) | inr e ↦ rw e (or-true checks) ]
+
+paired-from :
+    (checks : Bool) (p : ℕ) (zeros : List (List Trit)) (c : List Trit)
+    → state_row_from checks (kept_or_one (seq.edge_row checks p) (seq.keep_row checks p) zeros c) ≡ kept_or_one (edge_row checks p) (keep_row checks p) zeros c
+paired-from checks p zeros c =
+    elim (cases_Bool (is_paired One Zero zeros c)) [ inl e ↦ rw e (edge-keeps checks p c) | inr e ↦ rw e (edge-ones checks p c) ]
+
+edges-from :
+    (checks : Bool) (step : Step) (n p : ℕ)
+    → state_rows_from checks (compact_edge_rows (seq.edge_row checks) (seq.keep_row checks) step n p)
+    ≡ compact_edge_rows (edge_row checks) (keep_row checks) step n p
 edges-from checks step n p =
-    from-values checks (seq.edge_row checks p) (edge_row checks p) (λ c. or-true checks) (λ c. or-true checks) (edge-ones checks p) (edge-zeros checks p)
-    (edge_cubes step n p One) (edge_cubes step n p Zero)
+    let ones : List (List Trit) = edge_cubes step n p One in
+    let zeros : List (List Trit) = edge_cubes step n p Zero in
+    let single : List (List Trit) = filter (λ c. not (is_paired Zero One ones c)) zeros in
+    from-append checks (map (kept_or_one (seq.edge_row checks p) (seq.keep_row checks p) zeros) ones) (map (seq.edge_row checks p Zero) single)
+    ∙ (λ i.
+    from-cubes checks (kept_or_one (seq.edge_row checks p) (seq.keep_row checks p) zeros) (kept_or_one (edge_row checks p) (keep_row checks p) zeros)
+    (paired-written checks p zeros) (paired-from checks p zeros) ones i
+    ++ from-cubes checks (seq.edge_row checks p Zero) (edge_row checks p Zero) (λ c. or-true checks) (edge-zeros checks p) single i)
 
 below-from :
     (checks : Bool) (rows : ℕ → List UdpRow) (given : ℕ → List VStateRow)
@@ -196,17 +222,21 @@ alone-from true n (row ∷ rows) back = refl
 
 pub state-from :
     (checks : Bool) (n : ℕ) (step : Step)
-    → state_rows_from checks (seq.sequential_rows checks n step)
-    ≡ forced_rows (level_row checks) n step ++ (violation_rows checks n ++ each_below (edge_rows (edge_row checks) step n) n)
+    → state_rows_from checks (seq.compact_rows checks n step)
+    ≡ forced_rows (level_row checks) n step
+    ++ (violation_rows checks n ++ each_below (compact_edge_rows (edge_row checks) (keep_row checks) step n) n)
 state-from checks n step =
     let forced : List UdpRow = forced_rows (seq.state_row checks) n step in
     let notes : List UdpRow = seq.notifier_rows checks n in
-    let changes : List UdpRow = each_below (edge_rows (seq.edge_row checks) step n) n in
+    let changes : List UdpRow = each_below (compact_edge_rows (seq.edge_row checks) (seq.keep_row checks) step n) n in
     alone-from checks n forced changes
     ∙ ap (state_rows_from checks) (append_assoc forced notes changes)
     ∙ from-append checks forced (notes ++ changes)
     ∙ ap (λ rows. state_rows_from checks forced ++ rows) (from-append checks notes changes)
-    ∙ (λ i. forced-from checks n step i ++ (notifier-from checks n i ++ below-from checks (edge_rows (seq.edge_row checks) step n) (edge_rows (edge_row checks) step n) (edges-from checks step n) n i))
+    ∙ (λ i.
+    forced-from checks n step i
+    ++ (notifier-from checks n i
+    ++ below-from checks (compact_edge_rows (seq.edge_row checks) (seq.keep_row checks) step n) (compact_edge_rows (edge_row checks) (keep_row checks) step n) (edges-from checks step n) n i))
 
 -- free places in a row of their own
 pub free-columns : (n : ℕ) → replicate n (level_symbol Unknown) ≡ map level_symbol (replicate n Unknown)

@@ -9,15 +9,16 @@ use Rattle.trit_cubes.proofs.ListLemmas.{Among, among-append}
 use Rattle.trit_cubes.proofs.SplitLemmas.{prime_list-length}
 use Rattle.cell_machine.specs.Machine.{Step, init, forced_at}
 use Rattle.udp_tables.specs.Tables.{value_rows, or_row}
-use Rattle.udp_tables.specs.Edges.{forced_rows, edge_cubes, edge_rows, each_below}
+use Rattle.udp_tables.specs.Edges.{forced_rows, edge_cubes, compact_edge_rows, each_below}
 use Rattle.udp_tables.proofs.ColumnLemmas.{length-insert}
 use Rattle.udp_tables.proofs.CubeLemmas.{edge-long, value_rows-among, below-among}
 use Rattle.udp_tables.proofs.GroupLemmas.{length-init}
+use Rattle.udp_tables.proofs.PairLemmas.{compact-among}
 use Rattle.vital_models.specs.declared.table.TruthRow.{TruthRow}
 use Rattle.vital_models.specs.declared.table.VSymbol.{VSymbol}
 use Rattle.vital_models.specs.declared.table.VSymbol.TheVariants as symbol
 use Rattle.vital_models.specs.declared.table.VStateRow.{VStateRow}
-use Rattle.vital_models.specs.Rows.{level_of, level_symbol, edge_symbol, truth_row, truth_rows, violated, level_row, violation_rows, steady_row, closing_row, edge_columns, edge_row, state_rows}
+use Rattle.vital_models.specs.Rows.{level_of, level_symbol, edge_symbol, truth_row, truth_rows, violated, level_row, violation_rows, steady_row, closing_row, edge_columns, edge_row, keep_row, compact_rows}
 
 -- truth tables
 pub truth-width : (n : ℕ) (f : List Bool → Trit) (row : TruthRow) → Among row (truth_rows n f) → length row.inputs ≡ n
@@ -74,11 +75,25 @@ violation-width true n row m =
       | inr k ↦ absurd k
     ]
 
+-- the rows of the changes of one pin
+change-width :
+    (checks : Bool) (n : ℕ) (step : Step) (p : ℕ) (row : VStateRow)
+    → p < n → Among row (compact_edge_rows (edge_row checks) (keep_row checks) step n p) → length row.inputs ≡ width checks n
+change-width checks n step p row l m =
+    elim (compact-among (edge_row checks p) (keep_row checks p) (edge_cubes step n p) row m) [
+      | inl r ↦
+          ap (λ (r : VStateRow). length r.inputs) (sym r.3)
+          ∙ violated-width checks _ (edge_columns p r.0) n (edge-width p n r.0 l (edge-long step n p One r.0 r.1))
+      | inr r ↦
+          ap (λ (r : VStateRow). length r.inputs) (sym r.4)
+          ∙ violated-width checks _ (edge_columns p r.2) n (edge-width p n r.2 l (edge-long step n p r.0 r.2 r.3))
+    ]
+
 -- state tables
-pub state-width : (checks : Bool) (n : ℕ) (step : Step) (row : VStateRow) → Among row (state_rows checks n step) → length row.inputs ≡ width checks n
+pub state-width : (checks : Bool) (n : ℕ) (step : Step) (row : VStateRow) → Among row (compact_rows checks n step) → length row.inputs ≡ width checks n
 state-width checks n step row m =
     let forced : List VStateRow = forced_rows (level_row checks) n step in
-    let changes : List VStateRow = each_below (edge_rows (edge_row checks) step n) n in
+    let changes : List VStateRow = each_below (compact_edge_rows (edge_row checks) (keep_row checks) step n) n in
     elim (among-append row (steady_row checks n ∷ (forced ++ (violation_rows checks n ++ changes))) (closing_row checks n ∷ []) m) [
       | inl front ↦
           elim front [
@@ -96,10 +111,8 @@ state-width checks n step row m =
                       elim (among-append row (violation_rows checks n) changes more) [
                         | inl k ↦ violation-width checks n row k
                         | inr k ↦
-                            let q = below-among (edge_rows (edge_row checks) step n) n row k in
-                            let r = value_rows-among (edge_row checks q.0) (edge_cubes step n q.0) row q.2 in
-                            ap (λ (r : VStateRow). length r.inputs) (sym r.4)
-                            ∙ violated-width checks _ (edge_columns q.0 r.2) n (edge-width q.0 n r.2 q.1 (edge-long step n q.0 r.0 r.2 r.3))
+                            let q = below-among (compact_edge_rows (edge_row checks) (keep_row checks) step n) n row k in
+                            change-width checks n step q.0 row q.1 q.2
                       ]
                 ]
           ]

@@ -29,7 +29,7 @@ use Rattle.vital_models.specs.declared.model.HGate.TheVariants as gate
 use Rattle.vital_models.specs.declared.model.HPath.{HPath}
 use Rattle.vital_models.specs.declared.model.HCheck.{HCheck}
 use Rattle.vital_models.specs.declared.model.VEntity.{VEntity}
-use Rattle.vital_models.specs.Rows.{truth_rows, state_rows}
+use Rattle.vital_models.specs.Rows.{truth_rows, compact_rows}
 use Rattle.udp_tables.specs.Ports.{event_of}
 use Rattle.vital_models.specs.Ports.{port_number, ports_of}
 
@@ -41,9 +41,9 @@ has_violation = has_notifier
 abbrev pub ports_at : List Pin → List ℕ → List ℕ
 ports_at pins support = map (port_number pins) support
 
--- the state table of group g over its support
+-- The state table of group g over its support. Its rows are in compact form: two that hold the state are one.
 abbrev pub state_table : CellData → ℕ → VStateTable
-state_table cell g = record { rows = state_rows (has_violation cell) (length (support_at cell g)) (step_at cell g) }
+state_table cell g = record { rows = compact_rows (has_violation cell) (length (support_at cell g)) (step_at cell g) }
 
 -- the state of group g
 abbrev pub state_of : CellData → ℕ → VState

@@ -32,11 +32,11 @@ pub record AreMachine (rows : Bool → ℕ → Step → List VStateRow) : Type 0
       → length inputs ≡ n → length before ≡ suc n
       → lookup_state (rows true n step) before (Unknown ∷ inputs) state ≡ forced step inputs
 
--- The state table of a step gives the machine's steps.
+-- The rows of a step in plain form give the machine's steps.
 abbrev pub StateRowsAreMachine : Type 0
 StateRowsAreMachine = AreMachine state_rows
 
--- So does the one in compact form.
+-- So do those in compact form.
 abbrev pub CompactRowsAreMachine : Type 0
 CompactRowsAreMachine = AreMachine compact_rows
 

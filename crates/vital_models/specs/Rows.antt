@@ -125,9 +125,10 @@ step_rows checks n step changes =
     (steady_row checks n ∷ (forced_rows (level_row checks) n step ++ (violation_rows checks n ++ each_below changes n)))
     ++ closing_row checks n ∷ []
 
+-- the rows in plain form: a row for each prime
 abbrev pub state_rows : Bool → ℕ → Step → List VStateRow
 state_rows checks n step = step_rows checks n step (edge_rows (edge_row checks) step n)
 
--- the same with two rows that hold the state in one
+-- The rows in compact form, which state tables have: two rows that hold the state are one.
 abbrev pub compact_rows : Bool → ℕ → Step → List VStateRow
 compact_rows checks n step = step_rows checks n step (compact_edge_rows (edge_row checks) (keep_row checks) step n)

@@ -7,13 +7,13 @@ pub fn truth_rows_resolve()
     ensures { TruthRowsResolve }
 {}
 
-/// The state table of a step gives the machine's step at each change of one pin, keeps the state where no pin changes, and
-/// gives the forced value, else X, where there is a violation.
+/// The rows of a step in plain form give the machine's step at each change of one pin, keep the state where no pin changes,
+/// and give the forced value, else X, where there is a violation.
 pub fn state_rows_are_machine()
     ensures { StateRowsAreMachine }
 {}
 
-/// So does the state table in compact form, in which two rows that hold the state are one.
+/// So do the rows in compact form, of which two that hold the state are one.
 pub fn compact_rows_are_machine()
     ensures { CompactRowsAreMachine }
 {}

@@ -201,7 +201,7 @@ fn a_flip_flop_has_the_written_tables(rt: HostRuntime) -> Result<(), Fail> {
     for state in entity.states.as_slice() {
         assert_eq!(rt;
             state_text(alloc, state.table.rows.as_slice())?.as_str(),
-            "0SS-S X---X -/1-1 -n-11 -N-11 -*111 -/0-0 -n-00 -N-00 -*000 --*11 --*00 ----X "
+            "0SS-S X---X -/1-1 -n--S -N--S -*111 -/0-0 -*000 --*-S ----X "
         );
     }
     assert_eq!(rt; entity.outputs.len(), 1);

@@ -1,10 +1,10 @@
 use Rattle.std.proofs.Common.{◌≡◌, ◌++◌, length}
 use Rattle.cell_machine.specs.CellData.{data_of}
 use Rattle.cell_machine.specs.CellTrace.{support_at, step_at}
-use Rattle.udp_tables.specs.Edges.{edge_rows, each_below}
-use Rattle.udp_tables.specs.Sequential.{edge_row}
+use Rattle.udp_tables.specs.Edges.{compact_edge_rows, each_below}
+use Rattle.udp_tables.specs.Sequential.{edge_row, keep_row}
 use Rattle.udp_tables.proofs.group_rows.add_rows_of_changes.Given as goal
 
 abbrev pub invariant-loop-place : goal.invariant-loop-place
 invariant-loop-place l =
-    l.rows ≡ l.fn.rows ++ each_below (edge_rows (edge_row l.notifier) (step_at (data_of l.cell) l.group) (length (support_at (data_of l.cell) l.group))) l.place
+    l.rows ≡ l.fn.rows ++ each_below (compact_edge_rows (edge_row l.notifier) (keep_row l.notifier) (step_at (data_of l.cell) l.group) (length (support_at (data_of l.cell) l.group))) l.place

@@ -9,7 +9,7 @@ use Rattle.cell_machine.specs.CellData.{data_of}
 use Rattle.cell_machine.specs.CellTrace.{step_at, support_at}
 use Rattle.cell_machine.proofs.GroupSteps.{support_at-is}
 use Rattle.udp_tables.proofs.TableLemmas.{cubes-long}
-use Rattle.udp_tables.proofs.group_rows.change_primes.Goals as goal
+use Rattle.udp_tables.proofs.change_rows.change_primes.Goals as goal
 
 pub returns-clause-list : goal.returns-clause-list
 returns-clause-list c =

@@ -6,7 +6,7 @@ use Rattle.udp_tables.specs.declared.table.Entry.TheVariants as entry
 use Rattle.udp_tables.specs.Sequential.{noted, level_symbol, edge_inputs}
 use Rattle.udp_tables.specs.Generated.{next_to}
 use Rattle.udp_tables.proofs.GroupLemmas.{get-last}
-use Rattle.udp_tables.proofs.group_rows.edge_row.Goals as goal
+use Rattle.udp_tables.proofs.change_rows.edge_row.Goals as goal
 
 pub returns : goal.returns
 returns c =

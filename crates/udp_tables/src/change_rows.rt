@@ -1,0 +1,201 @@
+//! The rows of the changes of one input of a group.
+ghost use Rattle.std.specs.Prelude.{◌≡◌, ◌+◌, ◌<◌, ◌≤◌, suc, not, List, ◌++◌, map, filter, length, All, IfOk, OnOk};
+ghost use Rattle.trit_cubes.specs.declared.trits.Trit.{Trit};
+ghost use Rattle.trit_cubes.specs.declared.trits.Trit.TheVariants as trit;
+ghost use Rattle.trit_cubes.specs.Sets.{gives};
+ghost use Rattle.trit_cubes.specs.Prime.{prime_list};
+ghost use Rattle.cell_machine.specs.Machine.{edge_value};
+ghost use Rattle.cell_machine.specs.CellData.{data_of};
+ghost use Rattle.cell_machine.specs.CellTrace.{support_at, step_at};
+ghost use Rattle.udp_tables.specs.Edges.{moves, edge_cubes, is_paired, kept_or_one, compact_edge_rows};
+ghost use Rattle.udp_tables.specs.Sequential.{noted, edge_inputs, edge_row, keep_row};
+ghost use Rattle.udp_tables.specs.Pairs.{AreNumbers};
+
+use crate::cube_index::CubeIndex;
+use crate::entries::{change_entries, noted};
+use crate::faults::Memory;
+use crate::points::steps_to;
+use crate::table::{Entry, Level, Next, UdpRow};
+use cell_machine::Cell;
+use sqlite_items::Items;
+use std::alloc::Global;
+use trit_cubes::{Cube, Trit, primes, table_of};
+
+/// Adds the rows of the changes of one input: those that give 1 or keep the state, and then those that give 0.
+pub(crate) fn add_rows_of_input(
+    alloc: Global,
+    rows: &mut Items<UdpRow>,
+    cell: &Cell,
+    group: usize,
+    notifier: bool,
+    place: usize,
+) -> Result<(), Memory>
+    requires group { group < length cell.now.groups }
+    requires place { place < length (support_at (data_of cell.now) group) }
+    ensures { OnOk result (rows.new ≡ rows.old ++ compact_edge_rows (edge_row notifier) (keep_row notifier) (step_at (data_of cell.now) group) (length (support_at (data_of cell.now) group)) place) }
+{
+    let ones = edge_cubes(alloc, cell, group, place, Trit::One)?;
+    let zeros = edge_cubes(alloc, cell, group, place, Trit::Zero)?;
+    add_rows_of_ones(alloc, rows, notifier, place, &ones, &zeros)?;
+    add_rows_of_zeros(alloc, rows, notifier, place, &zeros, &ones)?;
+    Ok(())
+}
+
+/// The primes of the points at which a change of one input gives this value, less those that have no points that change.
+fn edge_cubes(
+    alloc: Global,
+    cell: &Cell,
+    group: usize,
+    place: usize,
+    value: Trit,
+) -> Result<Vec<Cube>, Memory>
+    requires group { group < length cell.now.groups }
+    requires place { place < length (support_at (data_of cell.now) group) }
+    ensures list { IfOk result (λ cubes. cubes.items ≡ edge_cubes (step_at (data_of cell.now) group) (length (support_at (data_of cell.now) group)) place value) }
+    ensures wide { IfOk result (λ cubes. All (λ cube. place + 3 ≤ length cube) cubes.items) }
+{
+    let cubes = change_primes(alloc, cell, group, place, value)?;
+    let moving = moving_cubes(alloc, &cubes)?;
+    Ok(moving)
+}
+
+/// The primes of the points at which a change of one input gives this value.
+fn change_primes(
+    alloc: Global,
+    cell: &Cell,
+    group: usize,
+    place: usize,
+    value: Trit,
+) -> Result<Vec<Cube>, Memory>
+    requires group { group < length cell.now.groups }
+    requires place { place < length (support_at (data_of cell.now) group) }
+    ensures list { IfOk result (λ cubes. cubes.items ≡ prime_list (suc (suc (length (support_at (data_of cell.now) group)))) (gives value (edge_value (step_at (data_of cell.now) group) place))) }
+    ensures wide { IfOk result (λ cubes. All (λ cube. place + 3 ≤ length cube) cubes.items) }
+{
+    let pins = cell.group(group).support.len();
+    let table = table_of(
+        alloc,
+        pins + 2,
+        &|point: &[bool]| { steps_to(cell, group, place, value, point) },
+    )?;
+    let cubes = primes(alloc, pins + 2, &table)?;
+    Ok(cubes)
+}
+
+/// The cubes of changes that have points that change.
+fn moving_cubes(alloc: Global, cubes: &[Cube]) -> Result<Vec<Cube>, Memory>
+    requires { All (λ cube. 2 ≤ length cube) cubes.now }
+    ensures { IfOk result (λ moving. moving.items ≡ filter moves cubes.now) }
+{
+    let mut moving = Vec::new(alloc);
+    for cube in cubes {
+        if moves(cube) {
+            moving.push(*cube)?;
+        }
+    }
+    Ok(moving)
+}
+
+/// Whether the cube of a change has points that change.
+fn moves(cube: &Cube) -> bool
+    requires { 2 ≤ length cube.now }
+    ensures { result ≡ moves cube.now }
+{
+    let old = cube.place(0);
+    old == Trit::Unknown || old != cube.place(1)
+}
+
+/// Adds the rows of the cubes that give 1, of which those that are paired keep the state.
+fn add_rows_of_ones(
+    alloc: Global,
+    rows: &mut Items<UdpRow>,
+    notifier: bool,
+    place: usize,
+    ones: &[Cube],
+    zeros: &[Cube],
+) -> Result<(), Memory>
+    requires ones { All (λ cube. place + 3 ≤ length cube) ones.now }
+    requires zeros { All (λ cube. place + 3 ≤ length cube) zeros.now }
+    ensures { OnOk result (rows.new ≡ rows.old ++ map (kept_or_one (edge_row notifier place) (keep_row notifier place) zeros.now) ones.now) }
+{
+    let index = CubeIndex::of(alloc, zeros)?;
+    for cube in ones {
+        rows.push(kept_or_one(alloc, notifier, place, &index, cube)?)?;
+    }
+    Ok(())
+}
+
+/// The row of a cube that gives 1, where the index is that of the cubes that give 0.
+fn kept_or_one(
+    alloc: Global,
+    notifier: bool,
+    place: usize,
+    zeros: &CubeIndex,
+    cube: &Cube,
+) -> Result<UdpRow, Memory>
+    requires { place + 3 ≤ length cube.now }
+    ensures { (cubes : List (List Trit)) → AreNumbers cubes zeros.now.numbers.items → IfOk result (λ row. row ≡ kept_or_one (edge_row notifier place) (keep_row notifier place) cubes cube.now) }
+{
+    if zeros.pairs(Trit::One, Trit::Zero, cube) {
+        keep_row(alloc, notifier, place, cube)
+    } else {
+        edge_row(alloc, notifier, place, Trit::One, cube)
+    }
+}
+
+/// Adds the rows of the cubes that give 0 and are in no pair.
+fn add_rows_of_zeros(
+    alloc: Global,
+    rows: &mut Items<UdpRow>,
+    notifier: bool,
+    place: usize,
+    zeros: &[Cube],
+    ones: &[Cube],
+) -> Result<(), Memory>
+    requires zeros { All (λ cube. place + 3 ≤ length cube) zeros.now }
+    requires ones { All (λ cube. place + 3 ≤ length cube) ones.now }
+    ensures { OnOk result (rows.new ≡ rows.old ++ map (edge_row notifier place trit.Zero) (filter (λ c. not (is_paired trit.Zero trit.One ones.now c)) zeros.now)) }
+{
+    let index = CubeIndex::of(alloc, ones)?;
+    for cube in zeros {
+        if !index.pairs(Trit::Zero, Trit::One, cube) {
+            rows.push(edge_row(alloc, notifier, place, Trit::Zero, cube)?)?;
+        }
+    }
+    Ok(())
+}
+
+/// The row that gives this value on the points of the cube of a change.
+fn edge_row(
+    alloc: Global,
+    notifier: bool,
+    place: usize,
+    value: Trit,
+    cube: &Cube,
+) -> Result<UdpRow, Memory>
+    requires { place + 3 ≤ length cube.now }
+    ensures { IfOk result (λ row. row ≡ edge_row notifier place value cube.now) }
+{
+    let entries = change_entries(alloc, place, cube)?;
+    let inputs = noted(entries, notifier, Entry::Level(Level::Any))?;
+    let state = Level::from(cube.place(cube.len() - 1));
+    Ok(UdpRow {
+        inputs: Items::from_vec(inputs),
+        state,
+        next: Next::from(value),
+    })
+}
+
+/// The row that keeps the state there, whatever it is.
+fn keep_row(alloc: Global, notifier: bool, place: usize, cube: &Cube) -> Result<UdpRow, Memory>
+    requires { place + 3 ≤ length cube.now }
+    ensures { IfOk result (λ row. row ≡ keep_row notifier place cube.now) }
+{
+    let entries = change_entries(alloc, place, cube)?;
+    let inputs = noted(entries, notifier, Entry::Level(Level::Any))?;
+    Ok(UdpRow {
+        inputs: Items::from_vec(inputs),
+        state: Level::Any,
+        next: Next::Keep,
+    })
+}

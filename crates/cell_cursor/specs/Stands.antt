@@ -89,6 +89,16 @@ abbrev pub is_failed : Option Answer → Bool
 is_failed (Some (answer.Fault fault.Failed)) = true
 is_failed _ = false
 
+-- the fault tells of a failed read
+abbrev pub is_failure : CursorFault → Bool
+is_failure fault.Failed = true
+is_failure _ = false
+
+-- the call told of a failed read
+abbrev pub tells_failure : Result Next CursorFault → Bool
+tells_failure (Ok next) = false
+tells_failure (Err f) = is_failure f
+
 -- the library ended with its last byte
 abbrev pub is_ended : Option Answer → Bool
 is_ended (Some answer.End) = true

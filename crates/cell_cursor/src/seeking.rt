@@ -9,7 +9,7 @@ ghost use Rattle.cell_cursor.specs.Finish.{part_outcome, answer_at};
 ghost use Rattle.cell_cursor.specs.Items.{items_in};
 ghost use Rattle.cell_cursor.specs.Progress.{taken_by, to_do, may_have_ended, is_whole};
 ghost use Rattle.cell_cursor.specs.declared.item.LibraryItem.{LibraryItem as Given};
-ghost use Rattle.cell_cursor.specs.Stands.{answered, given_by, is_going, is_failed, is_ended, is_library, Goes, MayTake, GoesBy, Stands, Advances, Moves, IsSettled, IsAnswered, StaysSettled};
+ghost use Rattle.cell_cursor.specs.Stands.{answered, given_by, is_going, is_failed, is_failure, tells_failure, is_ended, is_library, Goes, MayTake, GoesBy, Stands, Advances, Moves, IsSettled, IsAnswered, StaysSettled};
 
 use crate::cursor::{Answer, CellCursor};
 use crate::fault::{CursorFault, Memory};
@@ -186,7 +186,10 @@ impl CellCursor {
         ensures library { IfErr result (λ fault. is_library fault ≡ false) }
         ensures settled { OnOk result (is_going self.new.answer ≡ false) }
         ensures never { OnOk result (is_failed self.new.answer ≡ false) }
+        ensures empty { OnErr result (self.new.waiting.items ≡ []) }
         ensures later { D.faults desk.old ≤ D.faults desk.new }
+        ensures kept { OnOk result (D.faults desk.new ≡ D.faults desk.old) }
+        ensures clean { IfErr result (λ fault. is_failure fault ≡ false → D.faults desk.new ≡ D.faults desk.old) }
         ensures failed { IfErr result (λ fault. fault ≡ CursorFault.Failed → Rose (D.faults desk.old) (D.faults desk.new)) }
     {
         let mut byte = [0];
@@ -204,7 +207,10 @@ impl CellCursor {
         ensures library { IfErr result (λ fault. is_library fault ≡ false) }
         ensures progress { OnOk result (is_going self.new.answer ≡ true → to_do self.new < to_do self.old) }
         ensures never { OnOk result (is_failed self.new.answer ≡ false) }
+        ensures empty { OnErr result (self.new.waiting.items ≡ []) }
         ensures later { D.faults desk.old ≤ D.faults desk.new }
+        ensures kept { OnOk result (D.faults desk.new ≡ D.faults desk.old) }
+        ensures clean { IfErr result (λ fault. is_failure fault ≡ false → D.faults desk.new ≡ D.faults desk.old) }
         ensures failed { IfErr result (λ fault. fault ≡ CursorFault.Failed → Rose (D.faults desk.old) (D.faults desk.new)) }
     {
         match self.scan_on()? {
@@ -230,6 +236,8 @@ impl CellCursor {
         ensures moves { Moves self.old self.new (D.state desk.old) (D.state desk.new) [] }
         ensures progress { is_going self.new.answer ≡ true → to_do self.new < to_do self.old }
         ensures later { D.faults desk.old ≤ D.faults desk.new }
+        ensures clean { is_failed self.new.answer ≡ false → D.faults desk.new ≡ D.faults desk.old }
+        ensures empty { is_failed self.new.answer ≡ true → self.new.waiting.items ≡ [] }
         ensures failed { is_failed self.new.answer ≡ true → Rose (D.faults desk.old) (D.faults desk.new) }
     {
         if let Err(fault) = self.advance(desk) {
@@ -244,7 +252,8 @@ impl CellCursor {
     /// ends with a fault, each cell was given whose closing brace has 65,536 bytes or more behind it among the bytes that were read.
     ///
     /// Faults: `Library` with the first fault of the library, `Failed` where a read failed, `Memory`. After a fault, and after `Over`
-    /// and `End`, it answers the same and reads nothing.
+    /// and `End`, it answers the same and reads nothing. A call in which a read fails gives no item: every other answer of a cursor
+    /// comes only where no read of it has failed.
     pub fn next_cell<D: Desk>(&mut self, desk: &mut D) -> Result<Next, CursorFault>
         requires { IsTrue (is_bound (D.state desk.old) (Input Library)) }
         ensures moves { Moves self.old self.new (D.state desk.old) (D.state desk.new) (given_by result) }
@@ -254,6 +263,8 @@ impl CellCursor {
         ensures later { D.faults desk.old ≤ D.faults desk.new }
         ensures failed { IfErr result (λ fault. fault ≡ CursorFault.Failed → (is_failed self.old.answer ≡ true) ⊎ Rose (D.faults desk.old) (D.faults desk.new)) }
         ensures failing { is_failed self.new.answer ≡ true → (is_failed self.old.answer ≡ true) ⊎ Rose (D.faults desk.old) (D.faults desk.new) }
+        ensures clean { is_failed self.new.answer ≡ false → D.faults desk.new ≡ D.faults desk.old }
+        ensures unfailed { tells_failure result ≡ false → is_failed self.old.answer ≡ false → is_failed self.new.answer ≡ false }
     {
         loop {
             if let Some(item) = self.waiting.pop() {

@@ -3,9 +3,9 @@ use Rattle.std.proofs.Common.{◌≡◌, ℕ, ◌+◌, ◌<◌, ◌≤◌, List,
 use Rattle.std.proofs.lemmas.List.{append-nil, drop_more, drop_all}
 use Rattle.text_io.specs.declared.outside.Failed.{Failed}
 use Rattle.text_io.specs.declared.slots.OutSlot.TheVariants.{Report}
-use Rattle.text_io.specs.Desk.{DeskState, WritesText}
+use Rattle.text_io.specs.Desk.{DeskState, wrote, WritesText}
 use Rattle.text_io.specs.Line.{Gathers, StopsWithin}
-use Rattle.text_io.proofs.Wrote.{wrote-nil}
+use Rattle.text_io.proofs.Wrote.{wrote-nil, wrote_more, IsPrefix-append, IsPrefix-front}
 use Rattle.text_io.proofs.LineLaws.{Gathers-Gathers, Gathers-stops, StopsWithin-more, flushes}
 use Rattle.cell_machine.specs.declared.changes.Change.{Change}
 use Rattle.cell_machine.specs.History.{ComesAfter, IsProperFrom}
@@ -113,3 +113,18 @@ pub written_part : {S T : Type 0} (s next : DeskState) (text : List ℕ) (y : Fa
 written_part s next text y (Ok z) w e = absurd cc
 written_part s next text y (Err z) w e =
     record { whole = tt; part = record { part = w.part.0; front = w.part.1; state = w.part.2 } }
+
+-- behind one text that was appended, a call that appends another
+pub behind : {T : Type 0} (s t u : DeskState) (a b : List ℕ) (r : Result T RunFault) → t ≡ wrote s Report a → WritesTrace t u b r → WritesTrace s u (a ++ b) r
+behind s t u a b (Ok x) e w = record { whole = wrote_more s t u Report a b e w.whole; part = tt }
+behind s t u a b (Err y) e w = record {
+  whole = tt;
+  part = record { part = a ++ w.part.part; front = IsPrefix-append a w.part.part b w.part.front; state = wrote_more s t u Report a w.part.part e w.part.state };
+}
+
+-- a stop within the first of two texts
+pub stops_before : {S T : Type 0} (s t : DeskState) (a b : List ℕ) (y : Failed) (r : Result T RunFault) → WritesText {T = S} s t Report a (Err y) → IsErr r
+    → WritesTrace s t (a ++ b) r
+stops_before s t a b y (Ok x) w e = absurd cc
+stops_before s t a b y (Err z) w e =
+    record { whole = tt; part = record { part = w.part.0; front = IsPrefix-front w.part.0 a b w.part.1; state = w.part.2 } }

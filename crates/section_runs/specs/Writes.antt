@@ -18,7 +18,9 @@ pub record PutsTrace {T : Type 0} (old new : DeskState) (before text after : Lis
   pub whole : OnOk result (Gathers old new Report before text after)
   pub part : OnErr result (StopsWithin old new Report (before ++ text))
 
--- the count of faults did not fall, and the call failed only where it rose
+-- the count of faults did not fall, it rose where the call failed, and in every other case it stayed as it was
 pub record HasCause {T : Type 0} (before now : ℕ) (result : Result T RunFault) : Type 0 where
   pub later : before ≤ now
+  pub kept : OnOk result (now ≡ before)
+  pub memory : IfErr result (λ stop. stop ≡ fault.Memory → now ≡ before)
   pub failed : IfErr result (λ stop. stop ≡ fault.Failed → Rose before now)

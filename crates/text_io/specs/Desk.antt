@@ -58,9 +58,10 @@ wrote s slot bytes = record s { written = put_out s.written slot (option_map (λ
 abbrev pub Rose : ℕ → ℕ → Type 0
 Rose before now = min (before + 1) (2 ^ 64 - 1) ≤ now
 
--- the count of faults did not fall, and the call failed only where it rose
+-- the count of faults did not fall, a call that went well left it as it was, and one that failed raised it
 pub record HasCause {T : Type 0} (before now : ℕ) (result : Result T Failed) : Type 0 where
   pub later : before ≤ now
+  pub kept : OnOk result (now ≡ before)
   pub failed : OnErr result (Rose before now)
 
 -- a list begins with this part

@@ -1,4 +1,4 @@
-ghost use Rattle.std.specs.Prelude.{◌≡◌, ◌+◌, ◌≤◌, IsTrue, IfOk, IfErr, OnErr};
+ghost use Rattle.std.specs.Prelude.{◌≡◌, ◌+◌, ◌≤◌, IsTrue, IfOk, IfErr, OnOk, OnErr};
 ghost use Rattle.text_io.specs.declared.reading.ReadFault.TheVariants as fault;
 ghost use Rattle.text_io.specs.declared.slots.Slot.TheVariants.{Input};
 ghost use Rattle.text_io.specs.Desk.{is_bound, HasCause, Rose};
@@ -49,7 +49,7 @@ const PIECE: usize = 4096;
 
 /// Reads the first `limit` bytes of a slot that is bound, and sees whether a further byte comes. It reads at most
 /// `limit` bytes and that one, so it ends on an endless file too. After a fault the bytes read so far are gone.
-/// `Failed` comes only where a read failed.
+/// `Failed` comes only where a read failed, and the other two answers only where none did.
 pub fn read_all<D: Desk>(
     alloc: Global,
     desk: &mut D,
@@ -60,6 +60,8 @@ pub fn read_all<D: Desk>(
     ensures ok { IfOk result (IsRead (D.state desk.old) (D.state desk.new) slot limit) }
     ensures err { OnErr result (ReadsAtMost (D.state desk.old) (D.state desk.new) slot (limit + 1)) }
     ensures later { D.faults desk.old ≤ D.faults desk.new }
+    ensures kept { OnOk result (D.faults desk.new ≡ D.faults desk.old) }
+    ensures memory { IfErr result (λ made. made ≡ ReadFault.Memory → D.faults desk.new ≡ D.faults desk.old) }
     ensures failed { IfErr result (λ made. made ≡ ReadFault.Failed → Rose (D.faults desk.old) (D.faults desk.new)) }
 {
     let mut bytes = Vec::new(alloc);

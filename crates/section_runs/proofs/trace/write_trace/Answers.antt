@@ -13,7 +13,7 @@ loop-change-preserved g c = record {
   going = goes_on _ _ _ _ _ _ _ _ _ _ _ _ c.args.changes.now c.loop-change.change-index _ _ c.loop-change-test.true (get_or_default _ _ _ _ c.loop-change-test.true)
       (ap (λ m. m.line) (c.step.ensures.machine ∙ c.loop-change.invariant.machine)) c.step.ensures.stands c.loop-change.invariant.going (λ h s. (c.in_ok-put_line-2.ensures.text h s).whole);
   machine = c.step.ensures.machine ∙ c.loop-change.invariant.machine;
-  later = omega (arith, c.in_ok-put_line-2.ensures.cause.later);
+  kept = omega (arith, c.in_ok-put_line-2.ensures.cause.kept, c.loop-change.invariant.kept);
 }
 
 pub returns-in_err-flush-clause-text : goal.returns-in_err-flush-clause-text

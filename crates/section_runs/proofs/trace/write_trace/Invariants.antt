@@ -1,4 +1,4 @@
-use Rattle.std.proofs.Common.{◌≡◌, ◌≤◌, drop}
+use Rattle.std.proofs.Common.{◌≡◌, drop}
 use Rattle.cell_machine.specs.Lines.{trace}
 use Rattle.section_runs.specs.TraceText.{trace_text}
 use Rattle.section_runs.proofs.Runs.{Going}
@@ -8,5 +8,5 @@ abbrev pub invariant-loop-change : goal.invariant-loop-change
 invariant-loop-change g l = record {
   going : Going (g.S.CellSim.stands l.sim) (g.S.CellSim.machine l.fn.sim).line (g.S.CellSim.machine l.fn.sim).inputs l.tag l.ports (g.D.Desk.state l.fn.desk) (g.D.Desk.state l.desk) l.line (drop l.change-index l.changes) (trace_text l.tag l.ports l.changes (trace (g.S.CellSim.machine l.fn.sim).line l.changes));
   machine : g.S.CellSim.machine l.sim ≡ g.S.CellSim.machine l.fn.sim;
-  later : g.D.Desk.faults l.fn.desk ≤ g.D.Desk.faults l.desk;
+  kept : g.D.Desk.faults l.desk ≡ g.D.Desk.faults l.fn.desk;
 }

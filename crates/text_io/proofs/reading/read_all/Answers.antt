@@ -12,7 +12,7 @@ loop-piece-init g c = rw c.new-bytes.ensures.items (record {
   within = omega arith;
   taken = sym (took-zero _ _);
   front = IsFront-nil _;
-  later = omega arith;
+  kept = omega arith;
   whole_piece = refl;
 })
 
@@ -46,7 +46,7 @@ loop-piece-preserved g c =
       within = rw size (omega (arith, c.in_ok-count.ensures.at_most, c.read.auto.into, length-take c.min-want.result c.loop-piece.piece));
       taken = took_more _ _ _ _ _ _ c.loop-piece.invariant.taken c.in_ok-count.ensures.ok ∙ ap (took (g.D.Desk.state c.args.desk.now) c.args.slot) (sym size);
       front = IsFront-more _ bytes into count c.in_ok-count.ensures.at_most c.loop-piece.invariant.front read;
-      later = omega (arith, c.in_ok-count.ensures.cause.later);
+      kept = omega (arith, c.in_ok-count.ensures.cause.kept, c.loop-piece.invariant.kept);
       whole_piece = length-append into (drop c.min-want.result c.loop-piece.piece) ∙ omega (arith, c.read.auto.into, length-take c.min-want.result c.loop-piece.piece, length-drop c.min-want.result c.loop-piece.piece);
     })
 

@@ -7,7 +7,7 @@ invariant-loop-piece g l = record {
   within : length l.bytes.items ≤ l.limit;
   taken : g.D.Desk.state l.desk ≡ took (g.D.Desk.state l.initial.desk) l.slot (length l.bytes.items);
   front : IfSome ((g.D.Desk.state l.initial.desk).left l.slot) (λ left. (l.bytes.items ≡ take (length l.bytes.items) left) × (length l.bytes.items ≤ length left));
-  later : g.D.Desk.faults l.initial.desk ≤ g.D.Desk.faults l.desk;
+  kept : g.D.Desk.faults l.desk ≡ g.D.Desk.faults l.initial.desk;
   whole_piece : length l.piece ≡ 4096;
 }
 

@@ -9,7 +9,7 @@ returns-in_err-done-clause-text g c =
     WritesText-stopped _ _ _ _ _ _ c.from_residual.ensures.0 (IsPrefix-take c.loop-done.done _) (c.in_err-done.ensures.err ∙ c.loop-done.invariant.written)
 
 pub loop-done-init : goal.loop-done-init
-loop-done-init g c = record { in_range = omega arith; written = sym (wrote-nil _ _); later = omega arith }
+loop-done-init g c = record { in_range = omega arith; written = sym (wrote-nil _ _); kept = omega arith }
 
 pub write-requires : goal.write-requires
 write-requires g c = still_bound _ _ _ _ (Output c.args.slot) c.loop-done.invariant.written c.requires
@@ -18,5 +18,5 @@ pub loop-done-preserved : goal.loop-done-preserved
 loop-done-preserved g c = record {
   in_range = omega (arith, c.in_ok-done.ensures.at_most);
   written = wrote_more _ _ _ _ _ _ c.loop-done.invariant.written c.in_ok-done.ensures.ok ∙ ap (wrote (g.D.Desk.state c.args.desk.now) c.args.slot) (take_part c.loop-done.done c.in_ok-done.field-0 c.args.bytes.now);
-  later = omega (arith, c.in_ok-done.ensures.cause.later);
+  kept = omega (arith, c.in_ok-done.ensures.cause.kept, c.loop-done.invariant.kept);
 }

@@ -6,7 +6,7 @@ abbrev pub invariant-loop-done : goal.invariant-loop-done
 invariant-loop-done g l = record {
   in_range : l.done ≤ length l.bytes;
   written : g.D.Desk.state l.desk ≡ wrote (g.D.Desk.state l.initial.desk) l.slot (take l.done l.bytes);
-  later : g.D.Desk.faults l.initial.desk ≤ g.D.Desk.faults l.desk;
+  kept : g.D.Desk.faults l.desk ≡ g.D.Desk.faults l.initial.desk;
 }
 
 abbrev pub decreases-loop-done : goal.decreases-loop-done

@@ -5,7 +5,7 @@ use Rattle.verilog_writer.specs.Model.{wire_text}
 use Rattle.verilog_writer.proofs.declarations.put_wires.Goals as goal
 
 pub loop-name-init : goal.loop-name-init
-loop-name-init g c = record { gathered = Gathers-nil _ _ _; later = omega arith }
+loop-name-init g c = record { gathered = Gathers-nil _ _ _; kept = omega arith }
 
 pub put_wire-requires : goal.put_wire-requires
 put_wire-requires g c = gathered_bound _ _ _ _ _ _ (Output c.args.slot) c.loop-name.invariant.gathered c.requires
@@ -13,7 +13,7 @@ put_wire-requires g c = gathered_bound _ _ _ _ _ _ (Output c.args.slot) c.loop-n
 pub loop-name-preserved : goal.loop-name-preserved
 loop-name-preserved g c = record {
   gathered = put_item_as wire_text c.args.model.now.wires c.loop-name.name-index _ _ _ _ _ _ _ _ (rw c.as_slice-name-items.ensures at c.loop-name-test.true) (rw c.as_slice-name-items.ensures at c.name-item.is) c.loop-name.invariant.gathered (rw c.as_slice.ensures at c.in_ok-put_wire.ensures.text.whole);
-  later = omega (arith, c.in_ok-put_wire.ensures.cause.later);
+  kept = omega (arith, c.in_ok-put_wire.ensures.cause.kept, c.loop-name.invariant.kept);
 }
 
 pub returns-in_err-put_wire-clause-text : goal.returns-in_err-put_wire-clause-text
@@ -23,5 +23,5 @@ returns-in_err-put_wire-clause-text g c =
 pub returns : goal.returns
 returns g c = record {
   text = record { whole = put_items wire_text c.args.model.now.wires _ _ _ _ _ _ (rw c.as_slice-name-items.ensures at c.loop-name-test.false) c.loop-name.invariant.gathered; part = tt };
-  cause = record { later = c.loop-name.invariant.later; failed = tt };
+  cause = record { later = omega (arith, c.loop-name.invariant.kept); kept = c.loop-name.invariant.kept; failed = tt };
 }

@@ -6,7 +6,7 @@ use Rattle.verilog_writer.specs.Model.{terminal_text}
 use Rattle.verilog_writer.proofs.models.put_terminals.Goals as goal
 
 pub loop-input-init : goal.loop-input-init
-loop-input-init g c = record { gathered = Gathers-nil _ _ _; later = omega arith }
+loop-input-init g c = record { gathered = Gathers-nil _ _ _; kept = omega arith }
 
 pub put_terminal-requires : goal.put_terminal-requires
 put_terminal-requires g c = gathered_bound _ _ _ _ _ _ (Output c.args.slot) c.loop-input.invariant.gathered c.requires
@@ -14,7 +14,7 @@ put_terminal-requires g c = gathered_bound _ _ _ _ _ _ (Output c.args.slot) c.lo
 pub loop-input-preserved : goal.loop-input-preserved
 loop-input-preserved g c = record {
   gathered = put_item_as (terminal_text c.args.model.now) c.args.inputs.now c.loop-input.input-index _ _ _ _ _ _ _ _ c.loop-input-test.true (get_or_default _ _ _ _ c.loop-input-test.true) c.loop-input.invariant.gathered c.in_ok-put_terminal.ensures.text.whole;
-  later = omega (arith, c.in_ok-put_terminal.ensures.cause.later);
+  kept = omega (arith, c.in_ok-put_terminal.ensures.cause.kept, c.loop-input.invariant.kept);
 }
 
 pub returns-in_err-put_terminal-clause-text : goal.returns-in_err-put_terminal-clause-text
@@ -24,5 +24,5 @@ returns-in_err-put_terminal-clause-text g c =
 pub returns : goal.returns
 returns g c = record {
   text = record { whole = put_items (terminal_text c.args.model.now) c.args.inputs.now _ _ _ _ _ _ c.loop-input-test.false c.loop-input.invariant.gathered; part = tt };
-  cause = record { later = c.loop-input.invariant.later; failed = tt };
+  cause = record { later = omega (arith, c.loop-input.invariant.kept); kept = c.loop-input.invariant.kept; failed = tt };
 }

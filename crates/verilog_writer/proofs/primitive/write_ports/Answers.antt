@@ -5,7 +5,7 @@ use Rattle.verilog_writer.specs.Primitive.{port_text}
 use Rattle.verilog_writer.proofs.primitive.write_ports.Goals as goal
 
 pub loop-name-init : goal.loop-name-init
-loop-name-init g c = record { written = sym (wrote-nil _ _); later = omega arith }
+loop-name-init g c = record { written = sym (wrote-nil _ _); kept = omega arith }
 
 pub write_port-requires : goal.write_port-requires
 write_port-requires g c = still_bound _ _ _ _ (Output c.args.slot) c.loop-name.invariant.written c.requires
@@ -13,7 +13,7 @@ write_port-requires g c = still_bound _ _ _ _ (Output c.args.slot) c.loop-name.i
 pub loop-name-preserved : goal.loop-name-preserved
 loop-name-preserved g c = record {
   written = wrote_item_as port_text c.args.inputs.now c.loop-name.name-index _ _ _ _ _ c.loop-name-test.true c.name-item.is c.loop-name.invariant.written (rw c.as_slice.ensures at c.in_ok-write_port.ensures.text.whole);
-  later = omega (arith, c.in_ok-write_port.ensures.cause.later);
+  kept = omega (arith, c.in_ok-write_port.ensures.cause.kept, c.loop-name.invariant.kept);
 }
 
 pub returns-in_err-write_port-clause-text : goal.returns-in_err-write_port-clause-text
@@ -23,5 +23,5 @@ returns-in_err-write_port-clause-text g c =
 pub returns : goal.returns
 returns g c = record {
   text = record { whole = wrote_items _ _ _ _ _ _ c.loop-name-test.false c.loop-name.invariant.written; part = tt };
-  cause = record { later = c.loop-name.invariant.later; failed = tt };
+  cause = record { later = omega (arith, c.loop-name.invariant.kept); kept = c.loop-name.invariant.kept; failed = tt };
 }

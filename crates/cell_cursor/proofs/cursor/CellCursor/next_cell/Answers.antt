@@ -2,7 +2,7 @@ use Rattle.std.proofs.Common.{◌≡◌, ◌∙◌, ◌++◌, inl, inr, None, re
 use Rattle.std.specs.Option.{option_to_list}
 use Rattle.text_io.specs.declared.slots.InSlot.TheVariants.{Library}
 use Rattle.text_io.specs.declared.slots.Slot.TheVariants.{Input}
-use Rattle.cell_cursor.specs.Stands.{is_going}
+use Rattle.cell_cursor.specs.Stands.{is_going, is_failed}
 use Rattle.cell_cursor.proofs.SeekingLemmas.{smaller, rose_since, no_answer, not_going, item_given}
 use Rattle.cell_cursor.proofs.MovesLemmas.{moves_nothing, moves_through, moves_given, moves_answered}
 use Rattle.cell_cursor.proofs.TakingLemmas.{bound_yet}
@@ -14,6 +14,8 @@ loop-item-init g c = record {
   later = omega arith;
   settled = λ a h. (h, refl);
   kept = λ h. refl;
+  clean = λ _. refl;
+  empty = λ h. inl h;
   failed = λ h. inl h;
 }
 
@@ -32,6 +34,8 @@ loop-item-preserved g c =
       later = omega (arith, c.loop-item.invariant.later, c.go_on.ensures.later);
       settled = λ a h. no_answer c.loop-item.self.answer a none (c.loop-item.invariant.settled a h).0.settled;
       kept = λ h. not_going _ _ none h (c.loop-item.invariant.kept h);
+      clean = λ f. c.go_on.ensures.clean f ∙ c.loop-item.invariant.clean (ap is_failed none);
+      empty = λ f. inr (c.go_on.ensures.empty f);
       failed = λ f. inr (rose_since _ _ _ c.loop-item.invariant.later (c.go_on.ensures.failed f));
     }
 

@@ -11,6 +11,8 @@ invariant-loop-item g l = record {
   later : g.D.Desk.faults l.initial.desk ≤ g.D.Desk.faults l.desk;
   settled : (a : Answer) → IsSettled l.initial.self a → IsSettled l.self a × (g.D.Desk.state l.desk ≡ g.D.Desk.state l.initial.desk);
   kept : is_going l.initial.self.answer ≡ false → l.self.answer ≡ l.initial.self.answer;
+  clean : is_failed l.self.answer ≡ false → g.D.Desk.faults l.desk ≡ g.D.Desk.faults l.initial.desk;
+  empty : is_failed l.self.answer ≡ true → (is_failed l.initial.self.answer ≡ true) ⊎ (l.self.waiting.items ≡ []);
   failed : is_failed l.self.answer ≡ true → (is_failed l.initial.self.answer ≡ true) ⊎ Rose (g.D.Desk.faults l.initial.desk) (g.D.Desk.faults l.desk);
 }
 

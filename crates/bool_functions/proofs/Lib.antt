@@ -3,6 +3,7 @@ pub mod Elements
 pub mod Supports
 pub mod Trees
 pub mod Tables
+pub mod WordLemmas
 pub mod Runs
 pub mod Complete
 pub mod Sound

@@ -11,7 +11,7 @@ use Rattle.bool_functions.specs.Point.{bit, number, bits_at, entry_at, entry_of,
 use Rattle.bool_functions.proofs.Elements.{contains_here, contains_cases, contains_none}
 use Rattle.bool_functions.proofs.Trees.{every_tree, fold-Zero, fold-One, fold-Name, fold-Not, fold-Xor, fold-And, fold-Or, names_Name, names_Not, names_Xor, names_And, names_Or}
 
-bit_below : (b : Bool) → bit b < 2
+pub bit_below : (b : Bool) → bit b < 2
 bit_below true = omega arith
 bit_below false = omega arith
 
@@ -19,11 +19,11 @@ pub number_below : (bs : List Bool) → number bs < 2 ^ length bs
 number_below [] = omega arith
 number_below (b ∷ bs) = let e : 2 ^ suc (length bs) ≡ 2 * 2 ^ length bs = grind arith in rw e (omega (arith, bit_below b, number_below bs))
 
-half : (b : Bool) (n : ℕ) → (bit b + 2 * n) / 2 ≡ n
+pub half : (b : Bool) (n : ℕ) → (bit b + 2 * n) / 2 ≡ n
 half true n = omega arith
 half false n = omega arith
 
-low_bit : (b : Bool) (n : ℕ) → (bit b + 2 * n) % 2 == 1 ≡ b
+pub low_bit : (b : Bool) (n : ℕ) → (bit b + 2 * n) % 2 == 1 ≡ b
 low_bit true n = eq-eqb _ _ (omega arith)
 low_bit false n = let e : (bit false + 2 * n) % 2 ≡ 0 = omega arith in rw e refl
 

@@ -2,12 +2,13 @@
 ghost use Rattle.std.specs.Prelude.{◌≡◌, ◌≤◌, ◌^◌, ◌↔◌, ◌==◌, ℕ, IsTrue, IfOk, OnOk, Contains, EachIndex, length, slice_get};
 ghost use Rattle.std.specs.List.{list_any};
 ghost use Rattle.std.specs.List.Sorted.{IsStrictlyIncreasing};
-ghost use Rattle.bool_functions.specs.Tree.{value_of, value_by, name_bound, names_of, Has, renamed_by};
+ghost use Rattle.bool_functions.specs.Tree.{value_of, name_bound, names_of, Has, renamed_by};
 ghost use Rattle.bool_functions.specs.Support.{inserted, insert_all, support_of};
 ghost use Rattle.bool_functions.specs.SameTrees.{same_tree};
-ghost use Rattle.bool_functions.specs.Point.{entry_of, IsTable, HasValues};
+ghost use Rattle.bool_functions.specs.Point.{IsTable, HasValues};
 ghost use Rattle.bool_functions.specs.declared.tree.Node.TheVariants as tree;
 
+use crate::blocks::table;
 use crate::faults::Memory;
 use sqlite_items::Boxed;
 use std::alloc::{AllocError, Global};
@@ -240,53 +241,4 @@ fn insert(found: &mut Vec<usize>, i: usize) -> Result<(), Memory>
     }
     found.push(i)?;
     Ok(())
-}
-
-/// The values of a tree at all points over these places.
-fn table(node: &Node, alloc: Global, places: &[usize]) -> Result<Vec<bool>, Memory>
-    requires { length places.now ≤ 10 }
-    ensures len { IfOk result (λ v. length v.items ≡ 2 ^ length places.now) }
-    ensures entries { IfOk result (λ v. EachIndex v.items (λ k. slice_get v.items k ≡ Some (value_by (entry_of places.now k) node.now))) }
-{
-    let count = 1 << places.len();
-    let mut values = Vec::with_capacity(alloc, count)?;
-    for point in 0..count {
-        values.push(value_at(node, places, point))?;
-    }
-    Ok(values)
-}
-
-/// The value of a tree at the point with this number.
-fn value_at(node: &Node, places: &[usize], point: usize) -> bool
-    ensures { result ≡ value_by (entry_of places.now point) node.now }
-{
-    match node {
-        Node::Zero => false,
-        Node::One => true,
-        Node::Name(i) => entry_of(places, point, *i),
-        Node::Not(part) => !value_at(part.get(), places, point),
-        Node::Xor(left, right) => {
-            value_at(left.get(), places, point) != value_at(right.get(), places, point)
-        }
-        Node::And(left, right) => {
-            value_at(left.get(), places, point) && value_at(right.get(), places, point)
-        }
-        Node::Or(left, right) => {
-            value_at(left.get(), places, point) || value_at(right.get(), places, point)
-        }
-    }
-}
-
-/// The value of a name at the point with this number.
-fn entry_of(places: &[usize], point: usize, i: usize) -> bool
-    ensures { result ≡ entry_of places.now point i }
-{
-    let mut rest = point;
-    for place in places {
-        if *place == i {
-            return rest % 2 == 1;
-        }
-        rest /= 2;
-    }
-    false
 }

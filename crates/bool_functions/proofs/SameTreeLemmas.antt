@@ -1,14 +1,16 @@
 -- The test of two trees for equality.
 use Rattle.std.proofs.Common.{◌≡◌, ℕ, Bool, true, false, ◌&&◌, ◌==◌, ◌↔◌, refl, sym, ap, ◌∙◌, subst, arith}
 use Rattle.std.specs.Prelude.{IsTrue}
-use Rattle.std.proofs.lemmas.Bool.{and_parts, eqb-true}
+use Rattle.std.proofs.lemmas.Bool.{cases_Bool, and_parts, eqb-true}
 use Rattle.std.proofs.lemmas.Bool.Decides.{nat_tests}
 use Rattle.bool_functions.specs.declared.tree.Node.{Node, out-Node, roll-Node}
 use Rattle.bool_functions.specs.declared.tree.Node.TheVariants as node
 use Rattle.bool_functions.specs.declared.tree.Node.TheOpen.{Node-F}
 use Rattle.bool_functions.specs.declared.tree.Node.TheViews.{roll-out-Node, out-roll-Node, rolls-Zero, rolls-One, rolls-Name, rolls-Not, rolls-Xor, rolls-And, rolls-Or}
 use Rattle.bool_functions.proofs.Trees.{every_tree, fold-Zero, fold-One, fold-Name, fold-Not, fold-Xor, fold-And, fold-Or}
+use Rattle.std.proofs.Math.Logic.{inl, inr}
 use Rattle.bool_functions.specs.SameTrees.{same_step, same_tree}
+use Rattle.bool_functions.specs.Key.{key_of}
 
 -- what an operator that equals another one is
 from_zero : (k : Node-F Node) → same_step Node-F.Zero k ≡ true → k ≡ Node-F.Zero
@@ -115,3 +117,11 @@ false_where false never = refl
 pub told_same : (b : Bool) (f g : Node) → IsTrue b ↔ (f ≡ g) → b ≡ same_tree f g
 told_same true f g told = sym (subst (λ h. same_tree f h ≡ true) (told.0 refl) (same_tree-refl f))
 told_same false f g told = sym (false_where (same_tree f g) (λ e. let found : false ≡ true = told.1 (same_tree-equal f g e) in absurd cc))
+
+-- trees with unlike numbers are unlike
+pub unlike-keys : (f g : Node) → (key_of f ≡ key_of g → ⊥) → same_tree f g ≡ false
+unlike-keys f g h =
+    elim (cases_Bool (same_tree f g)) [
+      | inl same ↦ absurd (h (ap key_of (same_tree-equal f g same)))
+      | inr other ↦ other
+    ]

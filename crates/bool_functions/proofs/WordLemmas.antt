@@ -1,5 +1,5 @@
 -- The bits of words of values, and blocks of points.
-use Rattle.std.proofs.Common.{◌≡◌, ℕ, zero, suc, ◌+◌, ◌-◌, ◌*◌, ◌/◌, ◌%◌, ◌^◌, ◌<◌, ◌≤◌, min, bit_and, bit_or, bit_xor, Bool, true, false, not, ◌&&◌, ◌||◌, ◌==◌, nat_lt, if◌then◌else◌, List, [], ◌∷◌, ◌++◌, take, length, map, slice_get, Some, refl, sym, ap, ◌∙◌, arith, add-one, append-nil, eqb-true, inl, inr}
+use Rattle.std.proofs.Common.{◌≡◌, ℕ, zero, suc, ◌+◌, ◌-◌, ◌*◌, ◌/◌, ◌%◌, ◌^◌, ◌<◌, ◌≤◌, min, bit_and, bit_or, bit_xor, Bool, true, false, not, ◌&&◌, ◌||◌, ◌==◌, nat_lt, List, [], ◌∷◌, ◌++◌, take, length, map, slice_get, Some, refl, sym, ap, ◌∙◌, arith, append-nil, eqb-true, inl, inr}
 use Rattle.std.specs.List.{range_with_len, list_any}
 use Rattle.std.proofs.lemmas.Bool.{cases_Bool}
 use Rattle.std.proofs.lemmas.Bool.Decides.{nat_tests}
@@ -8,7 +8,6 @@ use Rattle.std.proofs.Math.Pow.{pow_mono}
 use Rattle.std.proofs.lemmas.Nat.{and_block, or_block, xor_block}
 use Rattle.bool_functions.specs.declared.tree.Node.{Node}
 use Rattle.bool_functions.specs.declared.tree.Node.TheVariants as node
-use Rattle.bool_functions.specs.declared.blocks.NameWord.{NameWord}
 use Rattle.bool_functions.specs.Tree.{value_step, value_by, xor}
 use Rattle.bool_functions.specs.Point.{bit, number, entry_of}
 use Rattle.bool_functions.specs.Block.{ones, word_step, word_by, word_at, word_of, name_word, named, bits_of}
@@ -129,20 +128,20 @@ module _ (given : ℕ → ℕ) (at : ℕ → ℕ → Bool) (points : List ℕ) w
         fold-One ℕ (word_step given) ∙ all_so points h
         ∙ same_values (λ k. true) _ points (λ k. sym (fold-One Bool (value_step (at k))));
     name_leaf = λ i.
-    fold-Name ℕ (word_step given) i ∙ names i
-    ∙ same_values (λ k. at k i) _ points (λ k. sym (fold-Name Bool (value_step (at k)) i));
+        fold-Name ℕ (word_step given) i ∙ names i
+        ∙ same_values (λ k. at k i) _ points (λ k. sym (fold-Name Bool (value_step (at k)) i));
     not_of = λ f p.
-    fold-Not ℕ (word_step given) f ∙ ap (λ n. ones - n) p ∙ turned_all (λ k. value_by (at k) f) points h
-    ∙ same_values (λ k. not (value_by (at k) f)) _ points (λ k. sym (fold-Not Bool (value_step (at k)) f));
+        fold-Not ℕ (word_step given) f ∙ ap (λ n. ones - n) p ∙ turned_all (λ k. value_by (at k) f) points h
+        ∙ same_values (λ k. not (value_by (at k) f)) _ points (λ k. sym (fold-Not Bool (value_step (at k)) f));
     xor_of = λ f g p q.
-    fold-Xor ℕ (word_step given) f g ∙ shows_two bit_xor xor f g (λ f g. words bit_xor xor (xor_block 1) bits-xor refl f g points) p q
-    ∙ same_values (λ k. xor (value_by (at k) f) (value_by (at k) g)) _ points (λ k. sym (fold-Xor Bool (value_step (at k)) f g));
+        fold-Xor ℕ (word_step given) f g ∙ shows_two bit_xor xor f g (λ f g. words bit_xor xor (xor_block 1) bits-xor refl f g points) p q
+        ∙ same_values (λ k. xor (value_by (at k) f) (value_by (at k) g)) _ points (λ k. sym (fold-Xor Bool (value_step (at k)) f g));
     and_of = λ f g p q.
-    fold-And ℕ (word_step given) f g ∙ shows_two bit_and (λ a b. a && b) f g (λ f g. words bit_and (λ a b. a && b) (and_block 1) bits-and refl f g points) p q
-    ∙ same_values (λ k. value_by (at k) f && value_by (at k) g) _ points (λ k. sym (fold-And Bool (value_step (at k)) f g));
+        fold-And ℕ (word_step given) f g ∙ shows_two bit_and (λ a b. a && b) f g (λ f g. words bit_and (λ a b. a && b) (and_block 1) bits-and refl f g points) p q
+        ∙ same_values (λ k. value_by (at k) f && value_by (at k) g) _ points (λ k. sym (fold-And Bool (value_step (at k)) f g));
     or_of = λ f g p q.
-    fold-Or ℕ (word_step given) f g ∙ shows_two bit_or (λ a b. a || b) f g (λ f g. words bit_or (λ a b. a || b) (or_block 1) bits-or refl f g points) p q
-    ∙ same_values (λ k. value_by (at k) f || value_by (at k) g) _ points (λ k. sym (fold-Or Bool (value_step (at k)) f g));
+        fold-Or ℕ (word_step given) f g ∙ shows_two bit_or (λ a b. a || b) f g (λ f g. words bit_or (λ a b. a || b) (or_block 1) bits-or refl f g points) p q
+        ∙ same_values (λ k. value_by (at k) f || value_by (at k) g) _ points (λ k. sym (fold-Or Bool (value_step (at k)) f g));
   })
 
 -- a name that is no place has the value 0
@@ -193,17 +192,7 @@ block_shown f places start count h =
     ∙ take-map v count points
     ∙ ap (map v) (range-take start 64 count h)
 
--- one more value in front of a word
-pub next_word :
-    (f : ℕ → Bool) (start step point word : ℕ)
-    → step < 64 → point ≡ start + (63 - step) → word ≡ word_of f (range_with_len (start + (64 - step)) step)
-    → bit (f point) + 2 * word ≡ word_of f (range_with_len (start + (64 - (step + 1))) (step + 1))
-next_word f start step point word h p w =
-    let here : start + (64 - (step + 1)) ≡ point = omega arith in
-    let next : start + (64 - step) ≡ point + 1 = omega arith in
-    let word_is : word ≡ word_of f (range_with_len (point + 1) step) = w ∙ ap (λ n. word_of f (range_with_len n step)) next in
-    rw (here, add-one) (ap (λ n. bit (f point) + 2 * n) word_is)
-
+-- a word of fewer values than bits
 pub word_below : (f : ℕ → Bool) (a n word : ℕ) → n < 64 → word ≡ word_of f (range_with_len a n) → word < 2 ^ 63
 word_below f a n word h w =
     let len : length (map f (range_with_len a n)) ≡ n = length-map (range_with_len a n) f ∙ range_length a n in

@@ -2,6 +2,7 @@ pub mod Tree
 pub mod Support
 pub mod Point
 pub mod Block
+pub mod Key
 pub mod NameBytes
 pub mod NameList
 pub mod Token

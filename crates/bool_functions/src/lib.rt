@@ -3,6 +3,7 @@
 
 mod blocks;
 mod faults;
+mod keys;
 mod laws;
 mod name_list;
 mod reader;

@@ -10,6 +10,7 @@ ghost use Rattle.bool_functions.specs.declared.tree.Node.TheVariants as tree;
 
 use crate::blocks::table;
 use crate::faults::Memory;
+use crate::keys::key;
 use sqlite_items::Boxed;
 use std::alloc::{AllocError, Global};
 use std::marker::Model;
@@ -33,10 +34,14 @@ pub enum Node {
 #[derive(Debug, Drop)]
 pub struct Function {
     node: Node,
+    /// The number of the tree, by which most unlike trees are told apart.
+    key: u64,
 }
 
 impl Model for Function {
+    ghost use Rattle.std.specs.Prelude.{◌≡◌};
     ghost use Rattle.bool_functions.specs.declared.tree.Node.{Node};
+    ghost use Rattle.bool_functions.specs.Key.{key_of};
 
     ghost Value = { Node };
 
@@ -46,22 +51,23 @@ impl Model for Function {
     ghost coded = { Prim.hlevel (codes, nodes.the_row.coded) };
 
     ghost view = { λ f. f.node };
+
+    ghost invariant = { λ f. f.key ≡ key_of f.node };
 }
 
 impl Function {
     pub(crate) fn new(node: Node) -> Function
         ensures { result ≡ node }
     {
-        Function { node }
+        let key = key(&node);
+        Function { node, key }
     }
 
     /// The function that is the name `i`. Takes no memory.
     pub fn of_name(i: usize) -> Function
         ensures { result ≡ tree.Name i }
     {
-        Function {
-            node: Node::Name(i),
-        }
+        Function::new(Node::Name(i))
     }
 
     /// The tree.
@@ -84,6 +90,9 @@ impl Function {
         ensures equal { IsTrue result ↔ (self.now ≡ other.now) }
         ensures test { result ≡ same_tree self.now other.now }
     {
+        if self.key != other.key {
+            return false;
+        }
         same(&self.node, &other.node)
     }
 
@@ -100,9 +109,8 @@ impl Function {
         requires { name_bound self.now ≤ length to.now }
         ensures { IfOk result (λ f. f ≡ renamed_by to.now self.now) }
     {
-        Ok(Function {
-            node: renamed(&self.node, alloc, to)?,
-        })
+        let node = renamed(&self.node, alloc, to)?;
+        Ok(Function::new(node))
     }
 
     /// The numbers of the written names, each once, in ascending order. `Memory` comes only where memory is wanting.

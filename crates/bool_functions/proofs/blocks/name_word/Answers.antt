@@ -1,6 +1,6 @@
 use Rattle.std.proofs.Common.{◌≡◌, ◌<◌, ◌^◌, ℕ, Bool, arith}
 use Rattle.bool_functions.specs.Point.{entry_of}
-use Rattle.bool_functions.proofs.WordLemmas.{next_word, word_below, whole_word}
+use Rattle.bool_functions.proofs.WordLemmas.{word_below, whole_word}
 use Rattle.bool_functions.proofs.blocks.name_word.Goals as goal
 
 pub overflow_mul-word : goal.overflow_mul-word

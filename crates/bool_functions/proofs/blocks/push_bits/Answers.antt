@@ -1,4 +1,4 @@
-use Rattle.std.proofs.Common.{◌≡◌, ◌++◌, ◌-◌, ◌+◌, ◌/◌, ◌%◌, ◌==◌, ◌∷◌, [], List, Bool, sym, ap, ◌∙◌, append_assoc}
+use Rattle.std.proofs.Common.{◌++◌, ◌-◌, ◌+◌, ◌/◌, ◌%◌, ◌==◌, ◌∷◌, [], List, Bool, sym, ap, ◌∙◌, append_assoc}
 use Rattle.bool_functions.specs.Block.{bits_of}
 use Rattle.bool_functions.proofs.WordLemmas.{next_bit}
 use Rattle.bool_functions.proofs.blocks.push_bits.Goals as goal

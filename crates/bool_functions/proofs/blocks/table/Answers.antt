@@ -1,4 +1,4 @@
-use Rattle.std.proofs.Common.{◌≡◌, ℕ, Bool, subst, ◌<◌, ◌^◌, length, ◌∙◌, arith}
+use Rattle.std.proofs.Common.{◌≡◌, ℕ, Bool, subst, ◌<◌, length, ◌∙◌}
 use Rattle.bool_functions.specs.Tree.{value_by}
 use Rattle.bool_functions.specs.Point.{entry_of}
 use Rattle.bool_functions.proofs.WordLemmas.{next_block, all_blocks, all_got, all_count}

@@ -16,6 +16,7 @@ ghost use Rattle.cell_machine.specs.Supports.{StatesBelow, OutputFacts};
 use crate::cells::Cell;
 use crate::groups::{Both, GroupKind};
 use crate::outputs::{OutputPin, Source};
+use crate::over::over;
 use crate::pin_values::pin_value;
 use crate::pins::Pin;
 use crate::steps::both_value;
@@ -95,14 +96,10 @@ fn chosen_from(
         return chosen_from(cell, function, rest, values, filled);
     };
     let name = cell.state_name(g) + 1;
-    match second_value(cell, values, g) {
-        Trit::Zero => chosen_from(cell, function, rest, values, filled.with(name, false)),
-        Trit::One => chosen_from(cell, function, rest, values, filled.with(name, true)),
-        Trit::Unknown => {
-            let zero = chosen_from(cell, function, rest, values, filled.with(name, false));
-            zero.agreed(chosen_from(cell, function, rest, values, filled.with(name, true)))
-        }
-    }
+    over!(
+        second_value(cell, values, g),
+        bit => chosen_from(cell, function, rest, values, filled.with(name, bit))
+    )
 }
 
 // The value of an output for each filling of the sources in `rest`.
@@ -128,14 +125,10 @@ fn output_from(
         );
     };
     let name = source_name(cell, *first);
-    match source_value(cell.pins.as_slice(), inputs, states, *first) {
-        Trit::Zero => output_from(cell, output, inputs, states, rest, values.with(name, false)),
-        Trit::One => output_from(cell, output, inputs, states, rest, values.with(name, true)),
-        Trit::Unknown => {
-            let zero = output_from(cell, output, inputs, states, rest, values.with(name, false));
-            zero.agreed(output_from(cell, output, inputs, states, rest, values.with(name, true)))
-        }
-    }
+    over!(
+        source_value(cell.pins.as_slice(), inputs, states, *first),
+        bit => output_from(cell, output, inputs, states, rest, values.with(name, bit))
+    )
 }
 
 // The name of a source.
@@ -220,14 +213,10 @@ fn condition_from(
         return Trit::from(values.value(condition));
     };
     let name = *first;
-    match pin_value(pins, inputs, name) {
-        Trit::Zero => condition_from(condition, pins, inputs, rest, values.with(name, false)),
-        Trit::One => condition_from(condition, pins, inputs, rest, values.with(name, true)),
-        Trit::Unknown => {
-            let zero = condition_from(condition, pins, inputs, rest, values.with(name, false));
-            zero.agreed(condition_from(condition, pins, inputs, rest, values.with(name, true)))
-        }
-    }
+    over!(
+        pin_value(pins, inputs, name),
+        bit => condition_from(condition, pins, inputs, rest, values.with(name, bit))
+    )
 }
 
 /// The value of a condition where the inputs have these values. `names` are the pins that it names.

@@ -7,6 +7,7 @@ ghost use Rattle.cell_machine.specs.Step.{kind_step, KindIsBounded};
 ghost use Rattle.cell_machine.specs.Fillings.{state_filled, all_filled, change_filled, both_states, forced_after};
 
 use crate::groups::GroupKind;
+use crate::over::over;
 use crate::values::Values;
 use trit_cubes::Trit;
 
@@ -46,14 +47,7 @@ fn state_filled(group: NamedKind<'_>, sides: &Sides, state: Trit) -> Trit
     ensures { result ≡ state_filled group.entry.kind.now group.entry.name sides.now.before sides.now.after state }
 {
     let Sides { before, after } = sides;
-    match state {
-        Trit::Zero => group.kind.step(group.name, before, after, false),
-        Trit::One => group.kind.step(group.name, before, after, true),
-        Trit::Unknown => {
-            let zero = group.kind.step(group.name, before, after, false);
-            zero.agreed(group.kind.step(group.name, before, after, true))
-        }
-    }
+    over!(state, bit => group.kind.step(group.name, before, after, bit))
 }
 
 // The step for each filling of the inputs under these names, the same before and after, and of the state.
@@ -74,14 +68,7 @@ fn all_filled(
         return state_filled(group, &sides, state);
     };
     let first = *first;
-    match *trit {
-        Trit::Zero => all_filled(group, names, trits, sides.with(first, false), state),
-        Trit::One => all_filled(group, names, trits, sides.with(first, true), state),
-        Trit::Unknown => {
-            let zero = all_filled(group, names, trits, sides.with(first, false), state);
-            zero.agreed(all_filled(group, names, trits, sides.with(first, true), state))
-        }
-    }
+    over!(*trit, bit => all_filled(group, names, trits, sides.with(first, bit), state))
 }
 
 // The same less the name at a place, which is written before.
@@ -107,14 +94,7 @@ fn others_filled(
     }
     let first = *first;
     let place = place - 1;
-    match *trit {
-        Trit::Zero => others_filled(group, place, names, trits, sides.with(first, false), state),
-        Trit::One => others_filled(group, place, names, trits, sides.with(first, true), state),
-        Trit::Unknown => {
-            let zero = others_filled(group, place, names, trits, sides.with(first, false), state);
-            zero.agreed(others_filled(group, place, names, trits, sides.with(first, true), state))
-        }
-    }
+    over!(*trit, bit => others_filled(group, place, names, trits, sides.with(first, bit), state))
 }
 
 /// A change of a pin that stands at a place of a support.
@@ -164,14 +144,7 @@ fn new_filled(
     requires one_each { length names.now ≡ length trits.now }
     ensures { result ≡ over (λ b. all_filled group.entry.kind.now group.entry.name (without change.place names.now) (without change.place trits.now) before (slice_set no_values change.pin b) state) change.to }
 {
-    match change.to {
-        Trit::Zero => at_new(group, change, names, trits, before, false, state),
-        Trit::One => at_new(group, change, names, trits, before, true, state),
-        Trit::Unknown => {
-            let zero = at_new(group, change, names, trits, before, false, state);
-            zero.agreed(at_new(group, change, names, trits, before, true, state))
-        }
-    }
+    over!(change.to, bit => at_new(group, change, names, trits, before, bit, state))
 }
 
 /// The step at a change of a pin of the support, for each filling of its values before and after, of the other pins of
@@ -188,16 +161,10 @@ pub fn change_filled(
     requires one_each { length names.now ≡ length trits.now }
     ensures { result ≡ change_filled group.entry.kind.now group.entry.name change.pin change.from change.to (without change.place names.now) (without change.place trits.now) state }
 {
-    let low = Values::new().with(change.pin, false);
-    let high = Values::new().with(change.pin, true);
-    match change.from {
-        Trit::Zero => new_filled(group, change, names, trits, low, state),
-        Trit::One => new_filled(group, change, names, trits, high, state),
-        Trit::Unknown => {
-            let zero = new_filled(group, change, names, trits, low, state);
-            zero.agreed(new_filled(group, change, names, trits, high, state))
-        }
-    }
+    over!(
+        change.from,
+        bit => new_filled(group, change, names, trits, Values::new().with(change.pin, bit), state)
+    )
 }
 
 // The step for both states.
@@ -261,14 +228,7 @@ fn forced_from(
         return forced_around(kind, name, support, Values::new(), &after);
     };
     let first = *first;
-    match *trit {
-        Trit::Zero => forced_from(kind, name, support, rest, trits, after.with(first, false)),
-        Trit::One => forced_from(kind, name, support, rest, trits, after.with(first, true)),
-        Trit::Unknown => {
-            let zero = forced_from(kind, name, support, rest, trits, after.with(first, false));
-            zero.agreed(forced_from(kind, name, support, rest, trits, after.with(first, true)))
-        }
-    }
+    over!(*trit, bit => forced_from(kind, name, support, rest, trits, after.with(first, bit)))
 }
 
 /// The value to which the inputs under `support` force the state.

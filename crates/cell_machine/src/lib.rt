@@ -17,6 +17,7 @@ mod groups;
 mod laws;
 mod liberty_sim;
 mod outputs;
+mod over;
 mod pin_values;
 mod pins;
 mod reports;

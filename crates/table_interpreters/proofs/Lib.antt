@@ -2,3 +2,5 @@ pub mod Fronts
 pub mod LeastPaths
 pub mod ModuleSteps
 pub mod WiringLemmas
+pub mod EntityLemmas
+pub mod ColumnLemmas

@@ -1,15 +1,14 @@
 //! Whether the timing checks of a module report, by the times that they keep.
 ghost use Rattle.std.specs.Prelude.{◌≡◌, ◌<◌, length, IsTrue, replicate, false};
 ghost use Rattle.cell_machine.specs.Each.{each};
-ghost use Rattle.cell_machine.specs.Report.{is_period, happens, is_within};
-ghost use Rattle.cell_machine.specs.Times.{renewed};
+ghost use Rattle.cell_machine.specs.Report.{is_period, happens};
 ghost use Rattle.table_interpreters.specs.Wiring.{is_wired};
 ghost use Rattle.model_traces.specs.PortNumbers.{input_event};
 ghost use Rattle.model_traces.specs.CheckTimes.{stamped, opened, is_enabled, check_reports};
 
 use crate::net_values::net_value;
 use crate::ports::input_number;
-use cell_machine::{Change, CheckKind, Edge, Event, is_rise, moves};
+use cell_machine::{Change, CheckKind, Edge, Event, is_rise, is_within, moves, renewed};
 use model_traces::Stamps;
 use specify_blocks::{VCheck, VModule, VNet};
 use sqlite_items::Items;
@@ -30,22 +29,21 @@ fn is_period(kind: CheckKind) -> bool
     }
 }
 
-// Whether a change of an input that had the value `from` is this event of a port.
-fn happens(ports: &[VPort], event: Event, from: Trit, change: Change) -> bool
+/// Whether a change of an input that had the value `from` is this event of a port.
+pub(crate) fn happens(ports: &[VPort], event: Event, from: Trit, change: Change) -> bool
     ensures { result ≡ happens (input_event ports.now event) from change }
 {
     change.pin == input_number(ports, event.pin) && moves(event.edge, from, change.to)
 }
 
-// This time where the event counts, else the one that was kept.
-fn renewed(counts: bool, at: u64, kept: Option<u64>) -> Option<u64>
-    ensures { result ≡ renewed counts at kept }
-{
-    if counts { Some(at) } else { kept }
-}
-
-// The times that a check keeps after a change of an input that had the value `from`.
-fn stamped(ports: &[VPort], from: Trit, change: Change, check: &VCheck, stamps: Stamps) -> Stamps
+/// The times that a check keeps after a change of an input that had the value `from`.
+pub(crate) fn stamped(
+    ports: &[VPort],
+    from: Trit,
+    change: Change,
+    check: &VCheck,
+    stamps: Stamps,
+) -> Stamps
     ensures { result ≡ stamped ports.now from change check.now stamps }
 {
     let pin = check.second.pin;
@@ -64,8 +62,8 @@ fn stamped(ports: &[VPort], from: Trit, change: Change, check: &VCheck, stamps: 
     }
 }
 
-// The time from which a check measures at a change of an input that had the value `from`.
-fn opened(check: &VCheck, from: Trit, change: Change, stamps: Stamps) -> Option<u64>
+/// The time from which a check measures at a change of an input that had the value `from`.
+pub(crate) fn opened(check: &VCheck, from: Trit, change: Change, stamps: Stamps) -> Option<u64>
     ensures { result ≡ opened check.now from change stamps }
 {
     if is_period(check.kind) {
@@ -76,19 +74,6 @@ fn opened(check: &VCheck, from: Trit, change: Change, stamps: Stamps) -> Option<
         }
     } else {
         stamps.first
-    }
-}
-
-// Whether an event at the time `at` came less than `limit` after `opened`.
-fn is_within(at: u64, limit: u64, opened: Option<u64>) -> bool
-    ensures { result ≡ is_within at limit opened }
-{
-    let Some(opened) = opened else {
-        return false;
-    };
-    match opened.checked_add(limit) {
-        Some(end) => at < end,
-        None => true,
     }
 }
 

@@ -1,14 +1,14 @@
 //! The delay of an output's change: the least over the active paths.
 ghost use Rattle.std.specs.Prelude.{◌≡◌, ◌<◌, length, IsTrue, drop};
 ghost use Rattle.std.specs.List.{list_all};
-ghost use Rattle.cell_machine.specs.Delay.{lesser, least_delay, path_delay};
+ghost use Rattle.cell_machine.specs.Delay.{least_delay};
 ghost use Rattle.table_interpreters.specs.Wiring.{is_wired};
 ghost use Rattle.model_traces.specs.PathDelays.{is_off, is_quiet, is_active, is_between, paths_between, path_at, delay_at};
 ghost use Rattle.table_interpreters.specs.LeastPath.{path_delay_of};
 
 use crate::net_values::net_value;
 use crate::ports::input_number;
-use cell_machine::is_rise;
+use cell_machine::{is_rise, lesser};
 use specify_blocks::{Gate, VModule, VNet, VPath};
 use sqlite_items::Items;
 use trit_cubes::Trit;
@@ -24,19 +24,6 @@ pub struct OutputChange {
     pub from: Trit,
     /// The value that it has.
     pub to: Trit,
-}
-
-// The lesser of two numbers, of which each may be absent.
-fn lesser(left: Option<u64>, right: Option<u64>) -> Option<u64>
-    ensures { result ≡ lesser left right }
-{
-    let Some(left) = left else {
-        return right;
-    };
-    match right {
-        Some(right) => Some(left.min(right)),
-        None => Some(left),
-    }
 }
 
 // Whether a path is no `if` path or its net is 0.

@@ -1,4 +1,5 @@
-//! Simulators of the models: the run of a Verilog module, event by event. (IEEE 1364-2005, clauses 8, 14 and 15.)
+//! Simulators of the models: the runs of a Verilog module and of a VITAL entity, event by event. (IEEE 1364-2005, clauses 8, 14 and
+//! 15; IEEE 1076.4-2000.)
 #![tactic(auto)]
 
 mod checks;
@@ -8,9 +9,18 @@ mod module_run;
 mod net_values;
 mod ports;
 mod primitives;
+mod process_checks;
+mod process_delays;
+mod process_rooms;
+mod process_run;
+mod process_shown;
+mod process_states;
+mod process_values;
 mod shown;
 mod verilog_sim;
+mod vital_sim;
 mod wiring;
 
 pub use faults::Memory;
 pub use verilog_sim::VerilogSim;
+pub use vital_sim::VitalSim;

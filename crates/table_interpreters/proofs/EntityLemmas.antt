@@ -1,0 +1,200 @@
+-- The fields of an entity's simulator at the start and after a change.
+use Rattle.std.proofs.Common.{◌≡◌, ℕ, suc, ◌<◌, Bool, true, false, ◌&&◌, List, [], ◌∷◌, length, map, replicate, get_or, set, refl, ap, sym, ◌∙◌, subst, arith, if◌then◌else◌}
+use Rattle.trit_cubes.specs.declared.trits.Trit.{Trit}
+use Rattle.trit_cubes.specs.declared.trits.Trit.TheVariants.{Unknown}
+use Rattle.cell_machine.specs.declared.changes.Change.{Change}
+use Rattle.cell_machine.specs.declared.checks.Edge.TheVariants as edge
+use Rattle.cell_machine.specs.Each.{each}
+use Rattle.cell_machine.specs.Edges.{is_rise}
+use Rattle.cell_machine.specs.History.{inputs_after, value_before, is_event}
+use Rattle.cell_machine.specs.Report.{is_period, happens, is_within, last_event, any_true}
+use Rattle.cell_machine.proofs.EachLemmas.{each-map}
+use Rattle.vital_models.specs.declared.model.VState.{VState}
+use Rattle.vital_models.specs.declared.model.HCheck.{HCheck}
+use Rattle.vital_models.specs.declared.model.VEntity.{VEntity}
+use Rattle.vital_models.specs.LookUps.{lookup_state}
+use Rattle.vital_models.specs.Sound.{IsCheck, IsSound}
+use Rattle.udp_tables.specs.declared.models.VPort.{VPort}
+use Rattle.model_traces.specs.declared.stamps.Stamps.{Stamps}
+use Rattle.model_traces.specs.PortNumbers.{input_count, input_event}
+use Rattle.model_traces.specs.CheckTimes.{no_stamps, second_of, same_edge, opened_by, opened}
+use Rattle.model_traces.specs.Laws.{last_stamps}
+use Rattle.model_traces.specs.SignalTimes.{check_reports}
+use Rattle.model_traces.specs.ProcessLaws.{last_times, opening_event}
+use Rattle.model_traces.specs.ProcessValues.{is_enabled}
+use Rattle.model_traces.specs.ProcessRun.{ProcessRun, columns, all_columns, violation_by, looked_up, reports_at, happened, process_after, step_reports}
+use Rattle.model_traces.proofs.RunLemmas.{still-event}
+use Rattle.model_traces.proofs.ProcessLemmas.{process-inputs, process-times, later-second, earlier-first}
+use Rattle.table_interpreters.specs.declared.shown.Shown.{Shown}
+use Rattle.table_interpreters.specs.declared.process_run.ProcessState.{ProcessState}
+use Rattle.table_interpreters.specs.EntitySteps.{as_module_check, stamp_reports, restamped, next_by, event_reports, event_step, state_step, change_reports, output_step, output_first, output_shown, EntityStands}
+
+-- the tables are looked up one by one
+looked-each :
+    (f g : VState → List Trit) (ts : List VState) (ss : List Trit)
+    → looked_up ts (map f ts) (map g ts) ss ≡ each (λ (t : VState) s. lookup_state t.table.rows (f t) (g t) s) ts ss
+looked-each f g [] ss = refl
+looked-each f g (t ∷ ts) [] = refl
+looked-each f g (t ∷ ts) (s ∷ ss) = ap (λ r. lookup_state t.table.rows (f t) (g t) s ∷ r) (looked-each f g ts ss)
+
+-- the time from which a check of a module measures, by the times of the last events
+opened-last :
+    (ports : List VPort) (n : ℕ) (h : List Change) (a : Trit) (c : Change) (k : HCheck)
+    → opened (as_module_check k) a c (last_stamps ports n h (as_module_check k))
+    ≡ last_event n (input_event ports (opening_event (is_period k.kind) k a c)) h
+opened-last ports n h a c k = by (is_period k.kind)
+  where
+    edges :
+        (rises : Bool)
+        → same_edge rises (last_stamps ports n h (as_module_check k))
+        ≡ last_event n (input_event ports (record { pin = k.second.pin; edge = (if rises then edge.Rise else edge.Fall) })) h
+    edges true = refl
+    edges false = refl
+
+    by :
+        (period : Bool)
+        → opened_by period a c (last_stamps ports n h (as_module_check k))
+        ≡ last_event n (input_event ports (opening_event period k a c)) h
+    by true = edges (is_rise a c.to)
+    by false = refl
+
+-- a check with the events of its kind reports as the process says
+report-same :
+    (e : VEntity) (n : ℕ) (h : List Change) (inputs : List Trit) (a : Trit) (c : Change) (k : HCheck)
+    → IsCheck e k
+    → stamp_reports e inputs a c k (last_stamps e.ports n h (as_module_check k))
+    ≡ check_reports e inputs a c k (last_times e.ports n h k)
+report-same e n h inputs a c k is =
+    λ i.
+    happens (input_event e.ports (sym (later-second k is.events) i)) a c
+    && (is_enabled e inputs k.condition
+    && is_within c.at k.limit ((opened-last e.ports n h a c k ∙ sym (earlier-first e.ports n h a c k is.events)) i))
+
+reports-same :
+    (e : VEntity) (n : ℕ) (h : List Change) (inputs : List Trit) (a : Trit) (c : Change) (ks : List HCheck)
+    → ((k : ℕ) (d : HCheck) → k < length ks → IsCheck e (get_or ks k d))
+    → each (stamp_reports e inputs a c) ks (map (λ k. last_stamps e.ports n h (as_module_check k)) ks)
+    ≡ each (check_reports e inputs a c) ks (map (last_times e.ports n h) ks)
+reports-same e n h inputs a c [] are = refl
+reports-same e n h inputs a c (k ∷ ks) are =
+    λ i.
+    report-same e n h inputs a c k (are 0 k (omega arith)) i
+    ∷ reports-same e n h inputs a c ks (λ j d within. are (suc j) d (omega arith)) i
+
+start-stamps :
+    (ports : List VPort) (n : ℕ) (ks : List HCheck)
+    → replicate (length ks) no_stamps ≡ map (λ k. last_stamps ports n [] (as_module_check k)) ks
+start-stamps ports n [] = refl
+start-stamps ports n (k ∷ ks) = ap (λ r. no_stamps ∷ r) (start-stamps ports n ks)
+
+-- Before any change.
+pub entity-starts :
+    (e : VEntity) (inputs before states : List Trit) (stamps : List Stamps) (reports : List Bool) (shown : List Shown)
+    → inputs ≡ replicate (input_count e.ports) Unknown
+    → before ≡ replicate (input_count e.ports) Unknown
+    → states ≡ replicate (length e.states) Unknown
+    → stamps ≡ replicate (length e.checks) no_stamps
+    → reports ≡ replicate (length e.checks) false
+    → shown ≡ map (output_first e inputs states) e.outputs
+    → EntityStands e (record { inputs = inputs; before = before; states = states; violation = Unknown; stamps = stamps }) reports shown []
+entity-starts e inputs before states stamps reports shown i b s k r o =
+    record {
+      inputs_are = i;
+      before_are = b;
+      states_are = s;
+      columns_are = ap (all_columns e Unknown) (sym b);
+      stamps_are = k ∙ start-stamps e.ports (input_count e.ports) e.checks;
+      reports_are = r;
+      shown_are = o ∙ (λ j. map (output_first e (i j) (s j)) e.outputs);
+    }
+
+-- the fields of a simulator's run, and those of the process after a history
+record IsTied (e : VEntity) (r : ProcessState) (p : ProcessRun) (h : List Change) : Type 0 where
+  inputs_tied : r.inputs ≡ p.inputs
+  before_tied : r.before ≡ p.inputs
+  states_tied : r.states ≡ p.states
+  columns_tied : p.previous ≡ all_columns e r.violation r.before
+  stamps_tied : r.stamps ≡ map (λ k. last_stamps e.ports (input_count e.ports) h (as_module_check k)) e.checks
+
+module _ (e : VEntity) (sound : IsSound e) (run : ProcessState) (reports : List Bool) (shown : List Shown) (h : List Change)
+    (st : EntityStands e run reports shown h) (c : Change) where
+  abbrev n : ℕ
+  n = input_count e.ports
+
+  -- the reports at an event
+  reports-are : event_reports e run c ≡ reports_at e (process_after e h) c
+  reports-are =
+      (λ i. each (stamp_reports e (set (st.inputs_are i) c.pin c.to) (value_before (st.inputs_are i) c) c) e.checks (st.stamps_are i))
+      ∙ reports-same e n h (set (process_after e h).inputs c.pin c.to) (value_before (process_after e h).inputs c) c e.checks sound.checks
+      ∙ ap (each (check_reports e (set (process_after e h).inputs c.pin c.to) (value_before (process_after e h).inputs c) c) e.checks)
+      (sym (process-times e h))
+
+  changed-reports : change_reports e run c ≡ step_reports e (process_after e h) c
+  changed-reports =
+      λ i. if is_event (st.inputs_are i) c then reports-are i else replicate (length e.checks) false
+
+  -- the fields of the run after a change, by whether it is an event
+  event-fields : IsTied e (event_step e run c (violation_by (any_true (event_reports e run c)))) (happened e (process_after e h) c) (c ∷ h)
+  event-fields =
+      let p = process_after e h in
+      let inputs = st.inputs_are ∙ process-inputs e h in
+      record {
+        inputs_tied = λ i. set (st.inputs_are i) c.pin c.to;
+        before_tied = λ i. set (st.before_are i) c.pin c.to;
+        states_tied =
+            (λ i.
+            each (next_by e run.violation run.before (violation_by (any_true (reports-are i))) (set (st.inputs_are i) c.pin c.to)) e.states (st.states_are i))
+            ∙ sym (looked-each (columns e.ports run.violation run.before) (columns e.ports (violation_by (any_true (reports_at e p c))) (set p.inputs c.pin c.to)) e.states p.states)
+            ∙ ap (λ previous. looked_up e.states previous (all_columns e (violation_by (any_true (reports_at e p c))) (set p.inputs c.pin c.to)) p.states) (sym st.columns_are);
+        columns_tied = λ i. all_columns e (violation_by (any_true (sym reports-are i))) (set (sym st.before_are i) c.pin c.to);
+        stamps_tied =
+            (λ i. each (restamped e.ports (value_before (inputs i) c) c) e.checks (st.stamps_are i))
+            ∙ each-map (restamped e.ports (value_before (inputs_after n h) c) c) (λ k. last_stamps e.ports n h (as_module_check k)) e.checks;
+      }
+
+  still-fields : is_event (process_after e h).inputs c ≡ false → IsTied e run (process_after e h) (c ∷ h)
+  still-fields quiet =
+      let none : is_event (inputs_after n h) c ≡ false = ap (λ v. is_event v c) (sym (process-inputs e h)) ∙ quiet in
+      record {
+        inputs_tied = st.inputs_are;
+        before_tied = st.before_are;
+        states_tied = st.states_are;
+        columns_tied = st.columns_are;
+        stamps_tied =
+            st.stamps_are
+            ∙ (λ i. map (λ (k : HCheck). record {
+              first = still-event n (input_event e.ports k.first) h c none i;
+              rise = still-event n (input_event e.ports (second_of (as_module_check k) edge.Rise)) h c none i;
+              fall = still-event n (input_event e.ports (second_of (as_module_check k) edge.Fall)) h c none i;
+            }) e.checks);
+      }
+
+  fields :
+      (b : Bool) → is_event (process_after e h).inputs c ≡ b
+      → IsTied e (if b then event_step e run c (violation_by (any_true (event_reports e run c))) else run)
+      (if b then happened e (process_after e h) c else process_after e h) (c ∷ h)
+  fields true event = event-fields
+  fields false event = still-fields event
+
+  -- After a change.
+  pub entity-changes :
+      (run' : ProcessState) (reports' : List Bool) (shown' : List Shown)
+      → run' ≡ state_step e run c → reports' ≡ change_reports e run c
+      → shown' ≡ each (output_step e run'.inputs run'.states c.pin) e.outputs shown
+      → EntityStands e run' reports' shown' (c ∷ h)
+  entity-changes run' reports' shown' stepped reported shows =
+      let path = stepped ∙ ap (λ v. if is_event v c then event_step e run c (violation_by (any_true (event_reports e run c))) else run) st.inputs_are in
+      let tied : IsTied e run' (process_after e (c ∷ h)) (c ∷ h) =
+      subst (λ r. IsTied e r (process_after e (c ∷ h)) (c ∷ h)) (sym path) (fields (is_event (process_after e h).inputs c) refl) in
+      record {
+        inputs_are = tied.inputs_tied;
+        before_are = tied.before_tied;
+        states_are = tied.states_tied;
+        columns_are = tied.columns_tied;
+        stamps_are = tied.stamps_tied;
+        reports_are = reported ∙ changed-reports;
+        shown_are =
+            shows
+            ∙ (λ i. each (output_step e (tied.inputs_tied i) (tied.states_tied i) c.pin) e.outputs (st.shown_are i))
+            ∙ each-map (output_step e (process_after e (c ∷ h)).inputs (process_after e (c ∷ h)).states c.pin) (output_shown e h) e.outputs;
+      }

@@ -1,0 +1,14 @@
+use Rattle.std.proofs.Common.{◌≡◌, ◌++◌, take, drop, length}
+use Rattle.cell_machine.specs.Each.{each}
+use Rattle.table_interpreters.specs.EntitySteps.{output_step}
+use Rattle.table_interpreters.proofs.process_shown.show_entity.Given as goal
+
+-- what is shown so far and the steps of the rest give the steps of all
+abbrev pub invariant-loop-i : goal.invariant-loop-i
+invariant-loop-i l = record {
+  whole :
+      take l.i l.shown ++ each (output_step l.model l.inputs l.states l.input) (drop l.i l.model.outputs) (drop l.i l.shown)
+      ≡ each (output_step l.model l.inputs l.states l.input) l.model.outputs l.initial.shown;
+  len : length l.shown ≡ length l.initial.shown;
+  room : length l.room ≡ length l.initial.room;
+}

@@ -1,0 +1,10 @@
+use Rattle.std.proofs.Common.{◌≡◌, take, length, map}
+use Rattle.table_interpreters.specs.EntitySteps.{output_first}
+use Rattle.table_interpreters.proofs.process_shown.show_first.Given as goal
+
+-- the outputs so far are shown
+abbrev pub invariant-loop-i : goal.invariant-loop-i
+invariant-loop-i l = record {
+  front : l.shown ≡ map (output_first l.model l.inputs l.states) (take l.i l.model.outputs);
+  room : length l.room ≡ length l.initial.room;
+}

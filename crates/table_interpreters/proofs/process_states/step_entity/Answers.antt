@@ -1,0 +1,28 @@
+use Rattle.std.proofs.Common.{◌<◌, sym, ap, ◌∙◌, length, add-one, arith}
+use Rattle.std.proofs.lemmas.List.{length-set}
+use Rattle.trit_cubes.specs.declared.trits.Trit.TheVariants.{Zero}
+use Rattle.cell_machine.proofs.EachLemmas.{each-step, each-done}
+use Rattle.table_interpreters.specs.EntitySteps.{next_by}
+use Rattle.table_interpreters.proofs.process_states.step_entity.Goals as goal
+
+pub loop-i-preserved : goal.loop-i-preserved
+loop-i-preserved c =
+    let m = c.args.model.now in
+    let f = next_by m c.args.was c.args.before.now c.args.violation c.args.inputs.now in
+    let many : c.loop-i.i < length c.loop-i.states = omega arith in
+    record {
+      whole =
+          rw (c.set.ensures, add-one)
+          (each-step f m.states c.loop-i.states c.loop-i.i c.state_at-table.result.now c.next_state-next.result Zero
+          c.state_at-table.ensures.is many (rw c.as_slice.ensures at c.next_state-next.ensures.next)
+          ∙ c.loop-i.invariant.whole);
+      len = ap length c.set.ensures ∙ length-set c.loop-i.states c.loop-i.i c.next_state-next.result ∙ c.loop-i.invariant.len;
+      earlier = c.next_state-next.ensures.earlier ∙ c.loop-i.invariant.earlier;
+      room = c.next_state-next.ensures.room ∙ c.loop-i.invariant.room;
+    }
+
+pub returns-clause-stepped : goal.returns-clause-stepped
+returns-clause-stepped c =
+    let m = c.args.model.now in
+    sym (each-done (next_by m c.args.was c.args.before.now c.args.violation c.args.inputs.now) m.states c.loop-i.states c.loop-i.i (omega arith))
+    ∙ c.loop-i.invariant.whole

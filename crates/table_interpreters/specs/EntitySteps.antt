@@ -1,0 +1,103 @@
+-- How the simulator of an entity takes its run on. A check keeps the times of a Verilog module's, of which those of the process are
+-- a part, and in place of the columns of the last event their inputs and the violation are kept.
+use Rattle.std.specs.Prelude.{◌≡◌, ℕ, Bool, false, ◌&&◌, List, length, map, replicate, slice_set, None, if◌then◌else◌}
+use Rattle.trit_cubes.specs.declared.trits.Trit.{Trit}
+use Rattle.cell_machine.specs.declared.changes.Change.{Change}
+use Rattle.cell_machine.specs.Each.{each}
+use Rattle.cell_machine.specs.History.{value_before, is_event}
+use Rattle.cell_machine.specs.Report.{happens, is_within, any_true}
+use Rattle.udp_tables.specs.declared.models.VPort.{VPort}
+use Rattle.specify_blocks.specs.declared.model.VCheck.{VCheck}
+use Rattle.vital_models.specs.declared.model.VState.{VState}
+use Rattle.vital_models.specs.declared.model.VOutput.{VOutput}
+use Rattle.vital_models.specs.declared.model.HCheck.{HCheck}
+use Rattle.vital_models.specs.declared.model.VEntity.{VEntity}
+use Rattle.vital_models.specs.LookUps.{lookup_state}
+use Rattle.model_traces.specs.declared.stamps.Stamps.{Stamps}
+use Rattle.model_traces.specs.PortNumbers.{input_count, input_event}
+use Rattle.model_traces.specs.CheckTimes.{stamped, opened}
+use Rattle.model_traces.specs.Laws.{last_stamps}
+use Rattle.model_traces.specs.ProcessValues.{is_enabled, output_value}
+use Rattle.model_traces.specs.GatedPaths.{delay_at}
+use Rattle.model_traces.specs.ProcessRun.{columns, all_columns, violation_by, process_after}
+use Rattle.model_traces.specs.EntityTrace.{output_after, delay_after, reports_after}
+use Rattle.table_interpreters.specs.declared.shown.Shown.{Shown}
+use Rattle.table_interpreters.specs.declared.process_run.ProcessState.{ProcessState}
+
+-- a check of an entity as one of a module, whose condition has the same number
+abbrev pub as_module_check : HCheck → VCheck
+as_module_check k =
+    record { kind = k.kind; first = k.first; second = k.second; limit = k.limit; condition = k.condition }
+
+-- whether a check reports at a change of an input that had the value a, by the inputs after it and the times kept before it
+abbrev pub stamp_reports : VEntity → List Trit → Trit → Change → HCheck → Stamps → Bool
+stamp_reports e inputs a c k s =
+    happens (input_event e.ports k.second) a c
+    && (is_enabled e inputs k.condition && is_within c.at k.limit (opened (as_module_check k) a c s))
+
+-- the times that a check keeps after the change
+abbrev pub restamped : List VPort → Trit → Change → HCheck → Stamps → Stamps
+restamped ports a c k s = stamped ports a c (as_module_check k) s
+
+-- the next state, where the violation and the inputs were these before and are those now
+abbrev pub next_by : VEntity → Trit → List Trit → Trit → List Trit → VState → Trit → Trit
+next_by e was before violation inputs t s =
+    lookup_state t.table.rows (columns e.ports was before t) (columns e.ports violation inputs t) s
+
+-- the reports at an event
+abbrev pub event_reports : VEntity → ProcessState → Change → List Bool
+event_reports e r c =
+    each (stamp_reports e (slice_set r.inputs c.pin c.to) (value_before r.inputs c) c) e.checks r.stamps
+
+-- the run after an event at which this violation stands
+abbrev pub event_step : VEntity → ProcessState → Change → Trit → ProcessState
+event_step e r c violation =
+    record {
+      inputs = slice_set r.inputs c.pin c.to;
+      before = slice_set r.before c.pin c.to;
+      states = each (next_by e r.violation r.before violation (slice_set r.inputs c.pin c.to)) e.states r.states;
+      violation = violation;
+      stamps = each (restamped e.ports (value_before r.inputs c) c) e.checks r.stamps;
+    }
+
+-- the run after a change
+abbrev pub state_step : VEntity → ProcessState → Change → ProcessState
+state_step e r c = (if is_event r.inputs c then event_step e r c (violation_by (any_true (event_reports e r c))) else r)
+
+-- the reports at a change
+abbrev pub change_reports : VEntity → ProcessState → Change → List Bool
+change_reports e r c = (if is_event r.inputs c then event_reports e r c else replicate (length e.checks) false)
+
+-- what an output shows after a change of an input, by what it showed before
+abbrev pub output_step : VEntity → List Trit → List Trit → ℕ → VOutput → Shown → Shown
+output_step e inputs states input output was =
+    record {
+      port = output.port;
+      value = output_value e inputs states output.value;
+      delay = delay_at e inputs input output was.value (output_value e inputs states output.value);
+    }
+
+-- what an output shows at the start
+abbrev pub output_first : VEntity → List Trit → List Trit → VOutput → Shown
+output_first e inputs states output =
+    record { port = output.port; value = output_value e inputs states output.value; delay = None }
+
+-- what an output shows after a history
+abbrev pub output_shown : VEntity → List Change → VOutput → Shown
+output_shown e h output = record { port = output.port; value = output_after e h output; delay = delay_after e h output }
+
+-- the run has a state for each state and kept times for each check, and two lists of the inputs
+pub record HasParts (e : VEntity) (r : ProcessState) : Type 0 where
+  pub states : length r.states ≡ length e.states
+  pub stamps : length r.stamps ≡ length e.checks
+  pub before : length r.before ≡ length r.inputs
+
+-- The simulator of an entity stands after a history: its fields are what the run of the process gives there.
+pub record EntityStands (e : VEntity) (run : ProcessState) (reports : List Bool) (shown : List Shown) (h : List Change) : Type 0 where
+  pub inputs_are : run.inputs ≡ (process_after e h).inputs
+  pub before_are : run.before ≡ (process_after e h).inputs
+  pub states_are : run.states ≡ (process_after e h).states
+  pub columns_are : (process_after e h).previous ≡ all_columns e run.violation run.before
+  pub stamps_are : run.stamps ≡ map (λ k. last_stamps e.ports (input_count e.ports) h (as_module_check k)) e.checks
+  pub reports_are : reports ≡ reports_after e h
+  pub shown_are : shown ≡ map (output_shown e h) e.outputs

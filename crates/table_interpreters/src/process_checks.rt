@@ -1,0 +1,91 @@
+//! Whether the timing checks of an entity report, by the times that they keep.
+ghost use Rattle.std.specs.Prelude.{◌≡◌, length};
+ghost use Rattle.cell_machine.specs.Each.{each};
+ghost use Rattle.vital_models.specs.Sound.{IsSound};
+ghost use Rattle.table_interpreters.specs.EntityRooms.{HasRoom};
+ghost use Rattle.table_interpreters.specs.EntitySteps.{as_module_check, stamp_reports, restamped};
+
+use crate::checks::{happens, opened, stamped};
+use crate::process_values::is_enabled;
+use cell_machine::{Change, is_within};
+use model_traces::Stamps;
+use specify_blocks::VCheck;
+use sqlite_items::Items;
+use trit_cubes::Trit;
+use vital_models::{HCheck, VEntity};
+
+// A check of an entity as one of a module.
+fn as_module_check(check: HCheck) -> VCheck
+    ensures { result ≡ as_module_check check }
+{
+    VCheck {
+        kind: check.kind,
+        first: check.first,
+        second: check.second,
+        limit: check.limit,
+        condition: check.condition,
+    }
+}
+
+// Whether a check reports. `inputs` are those after the change, `from` is the value that the input had.
+fn check_reports(
+    model: &VEntity,
+    inputs: &[Trit],
+    from: Trit,
+    change: Change,
+    check: HCheck,
+    stamps: Stamps,
+    room: &mut Items<Trit>,
+) -> bool
+    requires sound { IsSound model.now }
+    requires room { HasRoom (length room.old) model.now }
+    ensures reports { result ≡ stamp_reports model.now inputs.now from change check stamps }
+    ensures len { length room.new ≡ length room.old }
+{
+    if !happens(model.ports.as_slice(), check.second, from, change) {
+        return false;
+    }
+    let enabled = is_enabled(model, inputs, check.condition, room);
+    let check = as_module_check(check);
+    enabled && is_within(change.at, check.limit, opened(&check, from, change, stamps))
+}
+
+/// Writes for each check whether it reports.
+pub(crate) fn compare_entity(
+    model: &VEntity,
+    inputs: &[Trit],
+    from: Trit,
+    change: Change,
+    stamps: &[Stamps],
+    reports: &mut Items<bool>,
+    room: &mut Items<Trit>,
+)
+    requires sound { IsSound model.now }
+    requires room { HasRoom (length room.old) model.now }
+    requires one_each { length stamps.now ≡ length model.now.checks }
+    requires one_report { length reports.old ≡ length model.now.checks }
+    ensures reports { reports.new ≡ each (stamp_reports model.now inputs.now from change) model.now.checks stamps.now }
+    ensures len { length reports.new ≡ length reports.old }
+    ensures room { length room.new ≡ length room.old }
+{
+    let checks = model.checks.as_slice();
+    for i in 0..reports.len() {
+        let reported = check_reports(model, inputs, from, change, checks[i], stamps[i], room);
+        reports.set(i, reported);
+    }
+}
+
+/// Takes the kept times of all checks over a change of an input that had the value `from`.
+pub(crate) fn stamp_entity(model: &VEntity, from: Trit, change: Change, stamps: &mut Items<Stamps>)
+    requires { length stamps.old ≡ length model.now.checks }
+    ensures stamped { stamps.new ≡ each (restamped model.now.ports from change) model.now.checks stamps.old }
+    ensures len { length stamps.new ≡ length stamps.old }
+{
+    let ports = model.ports.as_slice();
+    let checks = model.checks.as_slice();
+    for i in 0..stamps.len() {
+        let kept = stamps.as_slice()[i];
+        let check = as_module_check(checks[i]);
+        stamps.set(i, stamped(ports, from, change, &check, kept));
+    }
+}

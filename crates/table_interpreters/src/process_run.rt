@@ -1,0 +1,132 @@
+//! How a change of an input takes the run of a process on.
+ghost use Rattle.std.specs.Prelude.{◌≡◌, ◌<◌, length};
+ghost use Rattle.cell_machine.specs.History.{value_before};
+ghost use Rattle.cell_machine.specs.Report.{any_true};
+ghost use Rattle.vital_models.specs.Sound.{IsSound};
+ghost use Rattle.table_interpreters.specs.EntityRooms.{HasRoom};
+ghost use Rattle.table_interpreters.specs.EntitySteps.{event_reports, event_step, state_step, change_reports, HasParts};
+ghost use Rattle.model_traces.specs.ProcessRun.{violation_by};
+
+use crate::checks::clear;
+use crate::process_checks::{compare_entity, stamp_entity};
+use crate::process_states::step_entity;
+use cell_machine::Change;
+use model_traces::Stamps;
+use sqlite_items::Items;
+use trit_cubes::Trit;
+use vital_models::VEntity;
+
+/// What a run of a process holds.
+#[derive(Drop)]
+pub struct ProcessState {
+    /// The value of each input.
+    pub inputs: Items<Trit>,
+    /// The value that each input had at the last event, with which the tables were looked up.
+    pub before: Items<Trit>,
+    /// Each state.
+    pub states: Items<Trit>,
+    /// The violation at the last event.
+    pub violation: Trit,
+    /// For each check the times that it keeps.
+    pub stamps: Items<Stamps>,
+}
+
+// Whether some check reported.
+fn any_true(reports: &[bool]) -> bool
+    ensures { result ≡ any_true reports.now }
+{
+    reports.iter().any(|reported| *reported)
+}
+
+// The violation: X where some check reported, else 0.
+fn violation_of(reports: &[bool]) -> Trit
+    ensures { result ≡ violation_by (any_true reports.now) }
+{
+    if any_true(reports) {
+        Trit::Unknown
+    } else {
+        Trit::Zero
+    }
+}
+
+// Takes the run over an event, and writes which checks report.
+fn happen(
+    run: &mut ProcessState,
+    model: &VEntity,
+    change: Change,
+    from: Trit,
+    reports: &mut Items<bool>,
+    earlier: &mut Items<Trit>,
+    room: &mut Items<Trit>,
+)
+    requires sound { IsSound model.now }
+    requires earlier { HasRoom (length earlier.old) model.now }
+    requires room { HasRoom (length room.old) model.now }
+    requires one_each { HasParts model.now run.old }
+    requires one_report { length reports.old ≡ length model.now.checks }
+    requires inside { change.pin < length run.old.inputs }
+    requires from { from ≡ value_before run.old.inputs change }
+    ensures stepped { run.new ≡ event_step model.now run.old change (violation_by (any_true (event_reports model.now run.old change))) }
+    ensures reports { reports.new ≡ event_reports model.now run.old change }
+    ensures one_each { HasParts model.now run.new }
+    ensures inputs { length run.new.inputs ≡ length run.old.inputs }
+    ensures one_report { length reports.new ≡ length reports.old }
+    ensures earlier { length earlier.new ≡ length earlier.old }
+    ensures room { length room.new ≡ length room.old }
+{
+    run.inputs.set(change.pin, change.to);
+    compare_entity(
+        model,
+        run.inputs.as_slice(),
+        from,
+        change,
+        run.stamps.as_slice(),
+        reports,
+        room,
+    );
+    let violation = violation_of(reports.as_slice());
+    step_entity(
+        model,
+        run.violation,
+        run.before.as_slice(),
+        violation,
+        run.inputs.as_slice(),
+        &mut run.states,
+        earlier,
+        room,
+    );
+    run.before.set(change.pin, change.to);
+    run.violation = violation;
+    stamp_entity(model, from, change, &mut run.stamps);
+}
+
+/// Takes the run over a change of an input, and writes which checks report.
+pub(crate) fn take(
+    run: &mut ProcessState,
+    model: &VEntity,
+    change: Change,
+    reports: &mut Items<bool>,
+    earlier: &mut Items<Trit>,
+    room: &mut Items<Trit>,
+)
+    requires sound { IsSound model.now }
+    requires earlier { HasRoom (length earlier.old) model.now }
+    requires room { HasRoom (length room.old) model.now }
+    requires one_each { HasParts model.now run.old }
+    requires one_report { length reports.old ≡ length model.now.checks }
+    requires inside { change.pin < length run.old.inputs }
+    ensures stepped { run.new ≡ state_step model.now run.old change }
+    ensures reports { reports.new ≡ change_reports model.now run.old change }
+    ensures one_each { HasParts model.now run.new }
+    ensures inputs { length run.new.inputs ≡ length run.old.inputs }
+    ensures one_report { length reports.new ≡ length reports.old }
+    ensures earlier { length earlier.new ≡ length earlier.old }
+    ensures room { length room.new ≡ length room.old }
+{
+    let from = run.inputs.as_slice()[change.pin];
+    if from == change.to {
+        clear(reports);
+    } else {
+        happen(run, model, change, from, reports, earlier, room);
+    }
+}

@@ -1,0 +1,95 @@
+//! The next states of an entity.
+ghost use Rattle.std.specs.Prelude.{◌≡◌, ◌≤◌, length, take};
+ghost use Rattle.cell_machine.specs.Each.{each};
+ghost use Rattle.vital_models.specs.Sound.{IsState, IsSound, columns_of};
+ghost use Rattle.table_interpreters.specs.EntityRooms.{HasRoom};
+ghost use Rattle.table_interpreters.specs.EntitySteps.{next_by};
+ghost use Rattle.model_traces.specs.ProcessRun.{columns};
+
+use crate::process_rooms::{columns_of, state_at};
+use crate::process_values::feed;
+use sqlite_items::Items;
+use trit_cubes::Trit;
+use udp_tables::VPort;
+use vital_models::{VEntity, VState, lookup_state};
+
+// Writes the columns of a state's table to the front of the room.
+fn feed_columns(
+    ports: &[VPort],
+    violation: Trit,
+    inputs: &[Trit],
+    state: &VState,
+    room: &mut Items<Trit>,
+)
+    requires { columns_of state.now ≤ length room.old }
+    ensures front { take (columns_of state.now) room.new ≡ columns ports.now violation inputs.now state.now }
+    ensures len { length room.new ≡ length room.old }
+{
+    if state.violation {
+        room.set(0, violation);
+        feed(ports, inputs, state.inputs.as_slice(), 1, room);
+    } else {
+        feed(ports, inputs, state.inputs.as_slice(), 0, room);
+    }
+}
+
+// The next state by a table.
+fn next_state(
+    model: &VEntity,
+    was: Trit,
+    before: &[Trit],
+    violation: Trit,
+    inputs: &[Trit],
+    table: &VState,
+    state: Trit,
+    earlier: &mut Items<Trit>,
+    room: &mut Items<Trit>,
+) -> Trit
+    requires table { IsState model.now table.now }
+    requires earlier { columns_of table.now ≤ length earlier.old }
+    requires room { columns_of table.now ≤ length room.old }
+    ensures next { result ≡ next_by model.now was before.now violation inputs.now table.now state }
+    ensures earlier { length earlier.new ≡ length earlier.old }
+    ensures room { length room.new ≡ length room.old }
+{
+    let ports = model.ports.as_slice();
+    let count = columns_of(table);
+    feed_columns(ports, was, before, table, earlier);
+    feed_columns(ports, violation, inputs, table, room);
+    lookup_state(
+        &table.table,
+        &earlier.as_slice()[..count],
+        &room.as_slice()[..count],
+        state,
+    )
+}
+
+/// Takes all states over an event.
+pub(crate) fn step_entity(
+    model: &VEntity,
+    was: Trit,
+    before: &[Trit],
+    violation: Trit,
+    inputs: &[Trit],
+    states: &mut Items<Trit>,
+    earlier: &mut Items<Trit>,
+    room: &mut Items<Trit>,
+)
+    requires sound { IsSound model.now }
+    requires earlier { HasRoom (length earlier.old) model.now }
+    requires room { HasRoom (length room.old) model.now }
+    requires one_each { length states.old ≡ length model.now.states }
+    ensures stepped { states.new ≡ each (next_by model.now was before.now violation inputs.now) model.now.states states.old }
+    ensures len { length states.new ≡ length states.old }
+    ensures earlier { length earlier.new ≡ length earlier.old }
+    ensures room { length room.new ≡ length room.old }
+{
+    for i in 0..states.len() {
+        let table = state_at(model, i);
+        let state = states.as_slice()[i];
+        let next = next_state(
+            model, was, before, violation, inputs, table, state, earlier, room,
+        );
+        states.set(i, next);
+    }
+}

@@ -1,0 +1,143 @@
+//! The values of an entity's conditions and outputs, of the values of its inputs and its states. `room` has place for the columns of
+//! any table.
+ghost use Rattle.std.specs.Prelude.{◌≡◌, ◌+◌, ◌<◌, ◌≤◌, ◌++◌, length, map, take, All};
+ghost use Rattle.vital_models.specs.Sound.{IsTruth, IsValue, IsSound};
+ghost use Rattle.table_interpreters.specs.EntityRooms.{source_count, HasRoom};
+ghost use Rattle.model_traces.specs.PortNumbers.{input_value};
+ghost use Rattle.model_traces.specs.ProcessValues.{truth_value, condition_value, is_enabled, source_value, output_value};
+
+use crate::ports::input_value;
+use cell_machine::Source;
+use sqlite_items::Items;
+use trit_cubes::Trit;
+use udp_tables::VPort;
+use vital_models::{OutValue, VEntity, VTruth, lookup_truth};
+
+/// Writes the values of these input ports to the room, from the place `start` on.
+pub(crate) fn feed(
+    ports: &[VPort],
+    inputs: &[Trit],
+    nets: &[usize],
+    start: usize,
+    room: &mut Items<Trit>,
+)
+    requires first { start ≤ 1 }
+    requires room { start + length nets.now ≤ length room.old }
+    ensures front { take (start + length nets.now) room.new ≡ take start room.old ++ map (input_value ports.now inputs.now) nets.now }
+    ensures len { length room.new ≡ length room.old }
+{
+    for i in 0..nets.len() {
+        room.set(start + i, input_value(ports, inputs, nets[i]));
+    }
+}
+
+// What a truth table of input ports gives.
+fn truth_value(ports: &[VPort], inputs: &[Trit], truth: &VTruth, room: &mut Items<Trit>) -> Trit
+    requires rows { All (λ row. length row.inputs ≡ length truth.now.inputs) truth.now.table.rows }
+    requires room { length truth.now.inputs ≤ length room.old }
+    ensures value { result ≡ truth_value ports.now inputs.now truth.now }
+    ensures len { length room.new ≡ length room.old }
+{
+    let count = truth.inputs.len();
+    feed(ports, inputs, truth.inputs.as_slice(), 0, room);
+    lookup_truth(&truth.table, &room.as_slice()[..count])
+}
+
+/// The value of the condition with this number, unknown where there is none.
+pub(crate) fn condition_value(
+    model: &VEntity,
+    inputs: &[Trit],
+    i: usize,
+    room: &mut Items<Trit>,
+) -> Trit
+    requires sound { IsSound model.now }
+    requires room { HasRoom (length room.old) model.now }
+    ensures value { result ≡ condition_value model.now inputs.now i }
+    ensures len { length room.new ≡ length room.old }
+{
+    let conditions = model.conditions.as_slice();
+    if i >= conditions.len() {
+        return Trit::Unknown;
+    }
+    truth_value(model.ports.as_slice(), inputs, &conditions[i], room)
+}
+
+/// Whether a check's condition lets it count: there is none, or it is 1.
+pub(crate) fn is_enabled(
+    model: &VEntity,
+    inputs: &[Trit],
+    condition: Option<usize>,
+    room: &mut Items<Trit>,
+) -> bool
+    requires sound { IsSound model.now }
+    requires room { HasRoom (length room.old) model.now }
+    ensures enabled { result ≡ is_enabled model.now inputs.now condition }
+    ensures len { length room.new ≡ length room.old }
+{
+    match condition {
+        Some(i) => condition_value(model, inputs, i, room) == Trit::One,
+        None => true,
+    }
+}
+
+// The value of an input port, or of a state.
+fn source_value(ports: &[VPort], inputs: &[Trit], states: &[Trit], source: Source) -> Trit
+    ensures { result ≡ source_value ports.now inputs.now states.now source }
+{
+    match source {
+        Source::Pin(port) => input_value(ports, inputs, port),
+        Source::State(state) => match states.get(state) {
+            Some(value) => *value,
+            None => Trit::Unknown,
+        },
+    }
+}
+
+// Writes the values of these ports and states to the front of the room.
+fn feed_sources(
+    ports: &[VPort],
+    inputs: &[Trit],
+    states: &[Trit],
+    sources: &[Source],
+    room: &mut Items<Trit>,
+)
+    requires { length sources.now ≤ length room.old }
+    ensures front { take (length sources.now) room.new ≡ map (source_value ports.now inputs.now states.now) sources.now }
+    ensures len { length room.new ≡ length room.old }
+{
+    for i in 0..sources.len() {
+        room.set(i, source_value(ports, inputs, states, sources[i]));
+    }
+}
+
+/// The value of an output.
+pub(crate) fn output_value(
+    model: &VEntity,
+    inputs: &[Trit],
+    states: &[Trit],
+    value: &OutValue,
+    room: &mut Items<Trit>,
+) -> Trit
+    requires value { IsValue model.now value.now }
+    requires room { source_count value.now ≤ length room.old }
+    ensures value { result ≡ output_value model.now inputs.now states.now value.now }
+    ensures len { length room.new ≡ length room.old }
+{
+    match value {
+        OutValue::Constant(one) => Trit::from(*one),
+        OutValue::Table {
+            table,
+            inputs: sources,
+        } => {
+            let count = sources.len();
+            feed_sources(
+                model.ports.as_slice(),
+                inputs,
+                states,
+                sources.as_slice(),
+                room,
+            );
+            lookup_truth(table, &room.as_slice()[..count])
+        }
+    }
+}

@@ -1,0 +1,139 @@
+//! The simulator of a VITAL entity.
+ghost use Rattle.std.specs.Prelude.{◌≡◌, [], length};
+ghost use Rattle.vital_models.specs.Sound.{IsSound};
+ghost use Rattle.std.proofs.Props.{props};
+ghost use Rattle.table_interpreters.specs.EntityProps.{value_prop};
+ghost use Rattle.table_interpreters.specs.EntityRooms.{HasRoom};
+ghost use Rattle.table_interpreters.specs.EntitySteps.{HasParts};
+ghost use Rattle.model_traces.specs.PortNumbers.{input_count};
+
+use crate::faults::Memory;
+use crate::ports::input_count;
+use crate::process_rooms::most_columns;
+use crate::process_run::{ProcessState, take};
+use crate::process_shown::{show_entity, show_first};
+use crate::shown::Shown;
+use cell_machine::{CellSim, Change};
+use model_traces::Stamps;
+use sqlite_items::Items;
+use std::alloc::Global;
+use trit_cubes::Trit;
+use vital_models::VEntity;
+
+/// A VITAL entity run by its tables, paths and checks. (IEEE 1076.4-2000.)
+#[derive(Drop)]
+pub struct VitalSim<'a> {
+    model: &'a VEntity,
+    run: ProcessState,
+    reports: Items<bool>,
+    shown: Items<Shown>,
+    earlier: Items<Trit>,
+    room: Items<Trit>,
+    ghost sound: { IsSound model.now } by { Prim.hlevel (props, value_prop) },
+    ghost earlier_room: { HasRoom (length earlier) model.now },
+    ghost now_room: { HasRoom (length room) model.now },
+    ghost each_input: { length run.inputs ≡ input_count model.now.ports },
+    ghost each_part: { HasParts model.now run },
+    ghost each_check: { length reports ≡ length model.now.checks },
+    ghost each_output: { length shown ≡ length model.now.outputs },
+}
+
+impl<'a> VitalSim<'a> {
+    ghost use Rattle.std.specs.Prelude.{IfOk};
+    ghost use Rattle.model_traces.specs.EntityTrace.{entity_machine};
+
+    /// The simulator of a sound entity before any change: all inputs and states, the columns of its tables and the violation are
+    /// unknown. `Memory` comes only where memory is wanted and not there.
+    pub fn start(alloc: Global, model: &'a VEntity) -> Result<VitalSim<'a>, Memory>
+        requires { IsSound model.now }
+        ensures machine { IfOk result (λ sim. ⟦<VitalSim<'a> as CellSim>⟧.machine sim ≡ entity_machine model.now) }
+        ensures stands { IfOk result (λ sim. ⟦<VitalSim<'a> as CellSim>⟧.stands sim []) }
+    {
+        let most = most_columns(model);
+        let earlier = Items::from_vec(vec![in alloc; Trit::Unknown; most]?);
+        let mut room = Items::from_vec(vec![in alloc; Trit::Unknown; most]?);
+        let count = input_count(model.ports.as_slice());
+        let inputs = Items::from_vec(vec![in alloc; Trit::Unknown; count]?);
+        let before = Items::from_vec(vec![in alloc; Trit::Unknown; count]?);
+        let states = Items::from_vec(vec![in alloc; Trit::Unknown; model.states.len()]?);
+        let stamps = Items::from_vec(vec![in alloc; Stamps::none(); model.checks.len()]?);
+        let reports = Items::from_vec(vec![in alloc; false; model.checks.len()]?);
+        let shown = show_first(
+            alloc,
+            model,
+            inputs.as_slice(),
+            states.as_slice(),
+            &mut room,
+        )?;
+        let run = ProcessState {
+            inputs,
+            before,
+            states,
+            violation: Trit::Unknown,
+            stamps,
+        };
+        Ok(VitalSim {
+            model,
+            run,
+            reports,
+            shown,
+            earlier,
+            room,
+        })
+    }
+}
+
+impl<'a> CellSim for VitalSim<'a> {
+    ghost use Rattle.model_traces.specs.EntityTrace.{entity_machine};
+    ghost use Rattle.table_interpreters.specs.EntitySteps.{EntityStands};
+    ghost use Rattle.table_interpreters.specs.EntitySized.{entity_sized};
+
+    ghost machine = { λ s. entity_machine s.model.now };
+
+    ghost stands = { λ s h. EntityStands s.model.now s.run s.reports s.shown h };
+
+    fn inputs(&self) -> usize {
+        self.run.inputs.len()
+    }
+
+    fn outputs(&self) -> usize {
+        self.shown.len()
+    }
+
+    fn checks(&self) -> usize {
+        self.reports.len()
+    }
+
+    fn step(&mut self, at: u64, pin: usize, to: Trit) {
+        take(
+            &mut self.run,
+            self.model,
+            Change { at, pin, to },
+            &mut self.reports,
+            &mut self.earlier,
+            &mut self.room,
+        );
+        show_entity(
+            self.model,
+            self.run.inputs.as_slice(),
+            self.run.states.as_slice(),
+            pin,
+            &mut self.shown,
+            &mut self.room,
+        );
+    }
+
+    fn output(&self, place: usize) -> Trit {
+        self.shown.as_slice()[place].value
+    }
+
+    fn delay(&self, place: usize) -> Option<u64> {
+        self.shown.as_slice()[place].delay
+    }
+
+    fn reported(&self, check: usize) -> bool {
+        self.reports.as_slice()[check]
+    }
+
+    ghost sized = { λ s. entity_sized s.model.now };
+}

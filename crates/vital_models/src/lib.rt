@@ -14,7 +14,6 @@ mod table;
 mod tables;
 mod timing;
 mod translation;
-mod words;
 
 pub use faults::Memory;
 pub use generation::vital_model;
@@ -23,7 +22,6 @@ pub use model::{HCheck, HGate, HPath, OutValue, VEntity, VOutput, VState, VTruth
 pub use names::entity_name;
 pub use ports::vital_ports;
 pub use table::{Trits, TruthRow, TruthTable, VNext, VStateRow, VStateTable, VSymbol};
-pub use words::is_vhdl_word;
 
 #[cfg(test)]
 mod tests;

@@ -1,14 +1,13 @@
-//! The names of entities, and the names that take the place of those that are not kept.
-ghost use Rattle.std.specs.Prelude.{◌≡◌, ◌++◌, decimal, IfOk};
+//! The names of entities.
+ghost use Rattle.std.specs.Prelude.{◌≡◌, IfOk};
 ghost use Rattle.vital_models.specs.Kept.{is_kept_entity_name, entity_name};
 
 use crate::faults::Memory;
-use crate::kept::{is_free, is_identifier, is_numbered};
 use bool_functions::Names;
 use cell_machine::Cell;
-use itoa::Buffer;
 use sqlite_items::Items;
 use std::alloc::Global;
+use vhdl_names::{is_free, is_identifier, is_numbered, numbered_name};
 
 /// The name of the entity of a cell, where `given` are the names of the entities before it in lower case: the cell's, where that
 /// is a letter followed by letters, digits and single `_`, not one at the end, and, whatever the case of its letters, no word of
@@ -25,6 +24,7 @@ pub fn entity_name(alloc: Global, cell: &Cell, given: &Names) -> Result<Items<u8
     }
 }
 
+/// Whether VHDL text keeps this name for a cell.
 #[tactic(auto, unfolding(crate::specs::Kept::is_kept_entity_name))]
 fn is_kept_entity_name(alloc: Global, given: &Names, name: &[u8]) -> Result<bool, Memory>
     ensures { IfOk result (λ kept. kept ≡ is_kept_entity_name given.now name.now) }
@@ -36,14 +36,4 @@ fn is_kept_entity_name(alloc: Global, given: &Names, name: &[u8]) -> Result<bool
             && !is_numbered(b"cell", name)
             && given.number(&lowered).is_none(),
     )
-}
-
-/// A word followed by a number.
-pub(crate) fn numbered_name(alloc: Global, word: &[u8], number: usize) -> Result<Items<u8>, Memory>
-    ensures { IfOk result (λ name. name ≡ word.now ++ decimal number) }
-{
-    let mut buffer = Buffer::new();
-    let mut name = Vec::from_slice(alloc, word)?;
-    name.extend_from_slice(buffer.format(number).as_bytes())?;
-    Ok(Items::from_vec(name))
 }

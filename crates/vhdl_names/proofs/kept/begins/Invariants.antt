@@ -1,6 +1,6 @@
 use Rattle.std.proofs.Common.{◌≡◌, ◌≤◌, drop, length}
-use Rattle.vital_models.specs.Kept.{begins}
-use Rattle.vital_models.proofs.kept.begins.Given as goal
+use Rattle.vhdl_names.specs.Kept.{begins}
+use Rattle.vhdl_names.proofs.kept.begins.Given as goal
 
 abbrev pub invariant-loop-i : goal.invariant-loop-i
 invariant-loop-i l =

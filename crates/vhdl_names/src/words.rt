@@ -2,7 +2,7 @@
 ghost use Rattle.std.specs.Prelude.{◌≡◌};
 ghost use Rattle.std.specs.List.{list_any};
 ghost use Rattle.std.specs.Str.{str_eq_ignore_ascii_case};
-ghost use Rattle.vital_models.specs.Words.{is_reserved, is_used, is_vhdl_word};
+ghost use Rattle.vhdl_names.specs.Words.{is_reserved, is_used, is_vhdl_word};
 
 /// The reserved words of VHDL.
 static VHDL_WORDS: [&[u8]; 97] = [
@@ -132,12 +132,14 @@ pub fn is_vhdl_word(name: &[u8]) -> bool
     is_reserved(name) || is_used(name)
 }
 
+/// Whether these bytes are a reserved word of VHDL.
 fn is_reserved(name: &[u8]) -> bool
     ensures { result ≡ is_reserved name.now }
 {
     is_among(name, &VHDL_WORDS)
 }
 
+/// Whether these bytes are another word that the text of an entity uses.
 fn is_used(name: &[u8]) -> bool
     ensures { result ≡ is_used name.now }
 {
@@ -156,8 +158,9 @@ fn is_among(name: &[u8], words: &[&[u8]]) -> bool
     false
 }
 
-/// Whether the bytes are equal, whatever the case of their letters.
-pub(crate) fn is_same(name: &[u8], other: &[u8]) -> bool
+/// Whether the bytes are equal, whatever the case of their letters: names of VHDL are the same then (IEEE 1076-1993, 13.3.1). It
+/// takes no memory.
+pub fn is_same(name: &[u8], other: &[u8]) -> bool
     ensures { result ≡ str_eq_ignore_ascii_case name.now other.now }
 {
     name.eq_ignore_ascii_case(other)

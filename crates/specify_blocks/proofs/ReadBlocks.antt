@@ -21,7 +21,7 @@ use Rattle.specify_blocks.specs.declared.model.VCheck.{VCheck}
 use Rattle.specify_blocks.specs.declared.model.VModule.{VModule}
 use Rattle.specify_blocks.specs.Nets.{is_input_port, is_output_port, is_value}
 use Rattle.specify_blocks.specs.Sound.{is_gate, IsPath, is_enabling, IsCheck}
-use Rattle.specify_blocks.specs.VerilogRules.{is_this}
+use Rattle.rule_readers.specs.Words.{is_this}
 use Rattle.specify_blocks.specs.VerilogBlocks.{a_number, kept, port_of, an_input, an_output, a_condition, if_gate, ifnone_gate, gate_by, path_gate, path, next_path, paths, edge_of, an_event, an_edge_event, condition_name, condition, check_end, ordered_check, turned_check, opposite, width_check, period_check, check_of_kind, check, next_check, checks, with_block, block, specify}
 use Rattle.specify_blocks.specs.WellFormed.{IsNumber, HasNumbers}
 use Rattle.specify_blocks.proofs.ReadNames.{IsSpelled, some_if, known_values, values, anything, surely}
@@ -153,14 +153,14 @@ conditions : (m : VModule) → Promises IsSpelled (condition m) (λ when. IsTrue
 unfolding condition condition_name
 conditions m = choice (λ x a p e. in_turn (a_value m) (λ w h. gives h)) (gives refl)
 
-there_is : (o : Option (List ℕ)) (x : List ℕ) (a : Unit {0}) → is_this o x ≡ Some a → IsTrue (is_some o)
+there_is : (o : Option (List ℕ)) (x : List ℕ) (a : Unit {0}) → is_this bytes_eq o x ≡ Some a → IsTrue (is_some o)
 there_is None x a e = absurd cc
 there_is (Some name) x a e = refl
 
 ends : (m : VModule) → Promises IsSpelled (check_end m) (λ _. IsTrue (is_some m.notifier))
 unfolding check_end
 ends m =
-    in_turn (anything _) (λ a q. in_turn (known_values (is_this m.notifier)) (λ b f. in_turn (anything _) (λ c q2. surely (λ d. there_is m.notifier f.0 b f.1))))
+    in_turn (anything _) (λ a q. in_turn (known_values (is_this bytes_eq m.notifier)) (λ b f. in_turn (anything _) (λ c q2. surely (λ d. there_is m.notifier f.0 b f.1))))
 
 -- a check that a text can tell
 pub record IsToldCheck (m : VModule) (k : VCheck) : Type 0 where

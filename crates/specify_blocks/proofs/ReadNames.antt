@@ -15,7 +15,10 @@ use Rattle.std.specs.Char.{is_ascii_alphabetic}
 use Rattle.grammar_rules.specs.Rule.{Verdict, Fits, Foul, Misfit}
 use Rattle.grammar_rules.proofs.Promises.{Promises, token, gives, any, keeps}
 use Rattle.verilog_tokens.specs.Tokens.{is_name}
-use Rattle.specify_blocks.specs.VerilogRules.{Refusal, Syntax, Undefined, Twice, Grammar, expect_where, go_on_where, allowed_by, valued, any_name, is_among, fresh, new_name, known}
+use Rattle.rule_readers.specs.declared.refusal.Refusal.{Refusal}
+use Rattle.rule_readers.specs.declared.refusal.Refusal.TheVariants.{Syntax, Undefined, Twice}
+use Rattle.rule_readers.specs.Words.{Grammar, go_on_where, allowed_by, valued, fresh}
+use Rattle.udp_tables.specs.VerilogRules.{expect_where, any_name, is_among, new_name, known}
 use Rattle.specify_blocks.specs.WellFormed.{IsName, AreApart}
 
 -- a token that begins as a name is one whole identifier
@@ -93,7 +96,7 @@ one_name x h = push_name [] x no_names (record { name = h; new = refl })
 
 pub new_names : (names : List (List ℕ)) → Promises IsSpelled (new_name names) (IsNew names)
 new_names names = token (λ x a p e.
-    let n = fits_if (is_name x) (fresh names x) Syntax a e in
+    let n = fits_if (is_name x) (fresh bytes_eq names x) Syntax a e in
     let f = fits_unless (is_among names x) Twice x a n.1 in
     subst (IsNew names) f.1 (record { name = a_name x p n.0; new = f.0 }))
 

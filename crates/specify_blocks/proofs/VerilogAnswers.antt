@@ -14,8 +14,9 @@ use Rattle.udp_tables.specs.declared.models.ModelFault.{ModelFault}
 use Rattle.udp_tables.specs.declared.models.ModelFault.TheVariants as fault
 use Rattle.specify_blocks.specs.declared.model.VModule.{VModule}
 use Rattle.verilog_tokens.specs.Tokens.{Token, at_front, scan, scan_of, separator_length, token_length, is_open_after}
-use Rattle.specify_blocks.specs.VerilogRules as rules
-use Rattle.specify_blocks.specs.VerilogRules.{Refusal, fault_at}
+use Rattle.rule_readers.specs.declared.refusal.Refusal.TheVariants as rules
+use Rattle.rule_readers.specs.declared.refusal.Refusal.{Refusal}
+use Rattle.udp_tables.specs.VerilogRules.{fault_at}
 use Rattle.specify_blocks.specs.VerilogText.{file, text_tokens, lexical_place, place_from, token_place, IsVerilogText, IsVerilogFault, IsVerilogAnswer, MeetsFault, CountsBefore, fault_place, fault_rank, end_fault, unless_lexical, answer_of, verilog_text}
 
 -- offsets ascend: from the first number on, and the last is below the second

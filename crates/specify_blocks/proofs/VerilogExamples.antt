@@ -3,7 +3,7 @@ use Rattle.std.proofs.Common.{◌≡◌, ℕ, ◌+◌, List, [], ◌++◌, lengt
 use Rattle.udp_tables.specs.declared.models.ModelFault.{ModelFault}
 use Rattle.udp_tables.specs.declared.models.ModelFault.TheVariants as fault
 use Rattle.verilog_tokens.specs.Words.{verilog_words, is_verilog_word}
-use Rattle.specify_blocks.specs.VerilogPrimitives as udp
+use Rattle.udp_tables.specs.VerilogPrimitives as udp
 use Rattle.specify_blocks.specs.VerilogModules as m
 use Rattle.specify_blocks.specs.VerilogBlocks as block
 use Rattle.specify_blocks.specs.VerilogText as text

@@ -15,7 +15,7 @@ use Rattle.specify_blocks.specs.declared.model.VNet.TheVariants as net
 use Rattle.specify_blocks.specs.declared.model.Instance.TheVariants as instance
 use Rattle.specify_blocks.specs.declared.model.Gate.TheVariants as gate
 use Rattle.specify_blocks.specs.declared.model.VModule.{VModule}
-use Rattle.specify_blocks.specs.VerilogPrimitives as udp
+use Rattle.udp_tables.specs.VerilogPrimitives as udp
 use Rattle.specify_blocks.specs.VerilogModules as m
 use Rattle.specify_blocks.specs.VerilogBlocks as block
 use Rattle.specify_blocks.specs.VerilogText as text

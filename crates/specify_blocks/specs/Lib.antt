@@ -4,8 +4,6 @@ pub mod Ports
 pub mod Names
 pub mod Generated
 pub mod Laws
-pub mod VerilogRules
-pub mod VerilogPrimitives
 pub mod VerilogModules
 pub mod VerilogBlocks
 pub mod VerilogText

@@ -18,7 +18,10 @@ use Rattle.specify_blocks.specs.declared.model.VPath.{VPath}
 use Rattle.specify_blocks.specs.declared.model.VCheck.{VCheck}
 use Rattle.specify_blocks.specs.declared.model.VModule.{VModule}
 use Rattle.specify_blocks.specs.Nets.{is_input_port, is_output_port, is_value}
-use Rattle.specify_blocks.specs.VerilogRules.{Refusal, Syntax, Unequal, Grammar, ◌>>=◌, expect, begins, begins_by, begins_as, valued, known, this_name}
+use Rattle.rule_readers.specs.declared.refusal.Refusal.{Refusal}
+use Rattle.rule_readers.specs.declared.refusal.Refusal.TheVariants.{Syntax, Unequal}
+use Rattle.rule_readers.specs.Words.{Grammar, ◌>>=◌, begins_by, begins_as, valued}
+use Rattle.udp_tables.specs.VerilogRules.{expect, begins, known, this_name}
 use Rattle.specify_blocks.specs.VerilogModules.{port_name}
 
 -- a number (3.5.1)

@@ -15,7 +15,10 @@ use Rattle.specify_blocks.specs.declared.model.Instance.TheVariants as instance
 use Rattle.specify_blocks.specs.declared.model.VModule.{VModule}
 use Rattle.specify_blocks.specs.Nets.{same_net, is_sequential, is_driven, holds_state, feeds_state, feeds_value, drivers}
 use Rattle.verilog_tokens.specs.Tokens.{is_name}
-use Rattle.specify_blocks.specs.VerilogRules.{Refusal, Width, Undefined, Twice, Grammar, ◌>>=◌, expect, expect_where, go_on_where, begins, begins_by, valued, named, new_name, known, this_name, place_from}
+use Rattle.rule_readers.specs.declared.refusal.Refusal.{Refusal}
+use Rattle.rule_readers.specs.declared.refusal.Refusal.TheVariants.{Width, Undefined, Twice}
+use Rattle.rule_readers.specs.Words.{Grammar, ◌>>=◌, go_on_where, begins_by, valued}
+use Rattle.udp_tables.specs.VerilogRules.{expect, expect_where, begins, named, new_name, known, this_name, place_from}
 
 -- the port's name
 abbrev pub port_name : VPort → List ℕ

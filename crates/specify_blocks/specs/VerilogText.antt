@@ -11,8 +11,11 @@ use Rattle.udp_tables.specs.declared.models.ModelFault.{ModelFault}
 use Rattle.udp_tables.specs.declared.models.ModelFault.TheVariants as fault
 use Rattle.specify_blocks.specs.declared.model.VModule.{VModule}
 use Rattle.verilog_tokens.specs.Tokens.{Token, scan_of, spellings}
-use Rattle.specify_blocks.specs.VerilogRules.{Refusal, Syntax, Undriven, fault_at, Grammar, ◌>>=◌, expect, expect_where, begins, begins_by, new_name}
-use Rattle.specify_blocks.specs.VerilogPrimitives.{primitive}
+use Rattle.rule_readers.specs.declared.refusal.Refusal.{Refusal}
+use Rattle.rule_readers.specs.declared.refusal.Refusal.TheVariants.{Syntax, Undriven}
+use Rattle.rule_readers.specs.Words.{Grammar, ◌>>=◌, begins_by}
+use Rattle.udp_tables.specs.VerilogRules.{fault_at, expect, expect_where, begins, new_name}
+use Rattle.udp_tables.specs.VerilogPrimitives.{primitive}
 use Rattle.specify_blocks.specs.VerilogModules.{declarations, instances, are_all_driven}
 use Rattle.specify_blocks.specs.VerilogBlocks.{specify}
 

@@ -9,3 +9,5 @@ pub mod Pairs
 pub mod Conditions
 pub mod CellPrimitives
 pub mod Laws
+pub mod VerilogRules
+pub mod VerilogPrimitives

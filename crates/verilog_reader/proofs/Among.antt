@@ -5,7 +5,7 @@ use Rattle.std.specs.List.{list_all}
 use Rattle.std.specs.Str.{bytes_eq}
 use Rattle.specify_blocks.specs.declared.model.VNet.{VNet}
 use Rattle.specify_blocks.specs.declared.model.VModule.{VModule}
-use Rattle.specify_blocks.specs.VerilogRules.{is_among}
+use Rattle.udp_tables.specs.VerilogRules.{is_among}
 use Rattle.specify_blocks.specs.VerilogModules.{is_driven_already}
 
 pub appended : (names others : List (List ℕ)) (x : List ℕ) → is_among (names ++ others) x ≡ (is_among names x || is_among others x)

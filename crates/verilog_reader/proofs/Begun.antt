@@ -5,13 +5,14 @@ use Rattle.grammar_rules.specs.Rule.{Verdict, Fits, Misfit}
 use Rattle.grammar_rules.specs.Reading.{Outcome, and_then, choose, judge_first, read, repeat}
 use Rattle.udp_tables.specs.declared.table.Udp.{Udp}
 use Rattle.verilog_tokens.specs.Tokens.{is_name}
-use Rattle.specify_blocks.specs.VerilogRules.{Refusal, Undefined}
+use Rattle.rule_readers.specs.declared.refusal.Refusal.{Refusal}
+use Rattle.rule_readers.specs.declared.refusal.Refusal.TheVariants.{Undefined}
 use Rattle.specify_blocks.specs.VerilogModules.{begins_instance, of_primitive, primitive_number, one_instance, with_instance}
 use Rattle.specify_blocks.specs.declared.model.Instance.{Instance}
 use Rattle.specify_blocks.specs.declared.model.VModule.{VModule}
-use Rattle.verilog_reader.proofs.Repeats.{turn}
+use Rattle.rule_readers.proofs.Repeats.{turn}
 use Rattle.verilog_reader.specs.Begun.{is_instance_start, instance_primitive, numbered}
-use Rattle.verilog_reader.specs.Next.{next_bytes, rest}
+use Rattle.rule_readers.specs.Next.{next_bytes, rest}
 
 abbrev begun_by : Bool → Bool → Option ℕ → Option (Verdict (Option ℕ) Refusal)
 begun_by buffer name o = if buffer then Some (Fits None) else (if name then Some (of_primitive o) else None)

@@ -1,10 +1,7 @@
-pub mod Repeats
-pub mod Entries
 pub mod Among
-pub mod Known
+pub mod Headers
+pub mod Periods
 pub mod NamedNets
-pub mod Values
-pub mod Choices
 pub mod Begun
 pub mod Spelled
 pub mod TextLemmas

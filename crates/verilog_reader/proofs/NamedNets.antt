@@ -4,9 +4,9 @@ use Rattle.grammar_rules.specs.Reading.{read}
 use Rattle.specify_blocks.specs.declared.model.VNet.{VNet}
 use Rattle.specify_blocks.specs.declared.model.VModule.{VModule}
 use Rattle.verilog_tokens.specs.Tokens.{is_name}
-use Rattle.specify_blocks.specs.VerilogRules.{Syntax, Undefined, Twice}
+use Rattle.rule_readers.specs.declared.refusal.Refusal.TheVariants.{Syntax, Undefined, Twice}
 use Rattle.specify_blocks.specs.VerilogModules.{net_of, terminal}
-use Rattle.verilog_reader.specs.Next.{next_bytes, rest}
+use Rattle.rule_readers.specs.Next.{next_bytes, rest}
 
 module _ (m : VModule) (is_allowed is_taken : VNet → Bool) (s : List (List ℕ)) where
   pub other : is_name (next_bytes s) ≡ false → read (terminal m is_allowed is_taken) s ≡ Err (Syntax, s)

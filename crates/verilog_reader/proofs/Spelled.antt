@@ -1,9 +1,9 @@
 -- The bytes of tokens, by their places.
 use Rattle.std.proofs.Common.{◌≡◌, ℕ, List, [], ◌∷◌, refl, ap, slice_range}
 use Rattle.verilog_tokens.specs.Tokens.{spellings}
-use Rattle.verilog_tokens.specs.declared.span.Span.{Span}
+use Rattle.token_spans.specs.declared.span.Span.{Span}
 use Rattle.verilog_tokens.specs.Spans.{tokens_of}
-use Rattle.verilog_reader.specs.Cursor as cursor
+use Rattle.token_spans.specs.Spans as cursor
 
 pub spelled : (text : List ℕ) (spans : List Span) → cursor.spelled text spans ≡ spellings (tokens_of text spans)
 spelled text [] = refl

@@ -9,7 +9,7 @@ use Rattle.verilog_tokens.specs.Tokens.{Token, scan_of, spellings}
 use Rattle.verilog_tokens.specs.Separators.{spelled, Padded, HaveSameTokens}
 use Rattle.verilog_tokens.proofs.Padding.{same_tokens}
 use Rattle.specify_blocks.specs.declared.model.VModule.{VModule}
-use Rattle.specify_blocks.specs.VerilogRules.{Refusal}
+use Rattle.rule_readers.specs.declared.refusal.Refusal.{Refusal}
 use Rattle.specify_blocks.specs.VerilogText.{file, text_tokens, IsVerilogText}
 use Rattle.verilog_reader.specs.TextLaws.{HaveSameModules, HasFaultAtFirstToken}
 

@@ -1,6 +1,3 @@
-pub mod Cursor
-pub mod Next
-pub mod Reading
 pub mod Headers
 pub mod Begun
 pub mod File

@@ -3,7 +3,7 @@ use Rattle.std.specs.Prelude.{◌≡◌, ◌↔◌, ℕ, List, [], ◌∷◌, �
 use Rattle.grammar_rules.specs.Rule.{Refuses, Front}
 use Rattle.grammar_rules.specs.Loose.{loose, Fouls}
 use Rattle.specify_blocks.specs.declared.model.VModule.{VModule}
-use Rattle.specify_blocks.specs.VerilogRules.{Refusal}
+use Rattle.rule_readers.specs.declared.refusal.Refusal.{Refusal}
 use Rattle.specify_blocks.specs.VerilogText.{file, text_tokens, IsVerilogText}
 
 -- the same modules have both texts

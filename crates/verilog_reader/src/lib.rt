@@ -2,7 +2,6 @@
 #![tactic(auto)]
 
 mod checks;
-mod cursor;
 mod declarations;
 mod file;
 mod instances;
@@ -11,11 +10,7 @@ mod nets;
 mod numbers;
 mod paths;
 mod ports;
-mod primitive;
 mod read;
-mod refusal;
-mod row;
-mod rules;
 mod terminals;
 
 pub use laws::{added_separators_change_no_module, fault_is_at_first_token, text_has_one_answer};

@@ -3,22 +3,20 @@
 ghost use Rattle.std.specs.Prelude.{◌≡◌};
 ghost use Rattle.grammar_rules.specs.Reading.{read};
 ghost use Rattle.specify_blocks.specs.VerilogBlocks as spec;
-ghost use Rattle.verilog_reader.specs.Reading.{Reads};
+ghost use Rattle.rule_readers.specs.Reading.{Reads};
 
-use crate::cursor::Cursor;
-use crate::refusal::{Refusal, Stop};
+use rule_readers::{Cursor, Refusal, Stop};
+use udp_reader::Verilog;
 use verilog_tokens::number_of;
 
-impl Cursor<'_> {
-    /// The number that stands next.
-    #[tactic(auto, using(crate::proofs::Values::valued_some, crate::proofs::Values::valued_none), unfolding(specify_blocks::specs::VerilogBlocks::a_number))]
-    pub fn number(&mut self) -> Result<u64, Stop>
-        ensures { Reads (read spec.a_number self.old) result self.new }
-    {
-        let Some(number) = number_of(self.bytes()) else {
-            return Err(Stop::Refused(Refusal::Syntax));
-        };
-        self.skip();
-        Ok(number)
-    }
+/// The number that stands next.
+#[tactic(auto, using(rule_readers::proofs::Values::valued_some, rule_readers::proofs::Values::valued_none), unfolding(specify_blocks::specs::VerilogBlocks::a_number))]
+pub fn number(cursor: &mut Cursor<'_, Verilog>) -> Result<u64, Stop>
+    ensures { Reads (read spec.a_number cursor.old) result cursor.new }
+{
+    let Some(number) = number_of(cursor.bytes()) else {
+        return Err(Stop::Refused(Refusal::Syntax));
+    };
+    cursor.skip();
+    Ok(number)
 }

@@ -2,11 +2,12 @@
 
 ghost use Rattle.std.specs.Prelude.{◌≡◌, ◌<◌, ◌++◌, length, IfSome};
 ghost use Rattle.std.specs.Str.{bytes_eq};
-ghost use Rattle.specify_blocks.specs.VerilogRules.{is_among, place_from};
+ghost use Rattle.udp_tables.specs.VerilogRules.{is_among, place_from};
 ghost use Rattle.specify_blocks.specs.VerilogModules.{port_names, output_place};
 
-use crate::rules::is_among;
+use rule_readers::is_among;
 use sqlite_items::Items;
+use udp_reader::Verilog;
 use udp_tables::VPort;
 
 /// Whether a name is one of a port.
@@ -26,7 +27,7 @@ pub fn has_port(ports: &[VPort], name: &[u8]) -> bool
 pub fn is_declared(ports: &[VPort], wires: &[Items<u8>], name: &[u8]) -> bool
     ensures { result ≡ is_among (port_names ports.now ++ wires.now) name.now }
 {
-    has_port(ports, name) || is_among(wires, name)
+    has_port(ports, name) || is_among::<Verilog>(wires, name)
 }
 
 /// The first place, from this one on, of a port of this name.

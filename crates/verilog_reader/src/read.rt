@@ -2,19 +2,35 @@
 
 ghost use Rattle.std.specs.Prelude.{◌≡◌, length, IfOk, IfErr, Ok};
 ghost use Rattle.grammar_rules.specs.Reading.{read};
+ghost use Rattle.udp_tables.specs.VerilogRules.{fault_at};
 ghost use Rattle.specify_blocks.specs.VerilogText.{verilog_text, place_from, refusal_fault};
 ghost use Rattle.verilog_tokens.specs.Spans.{tokens_of};
-ghost use Rattle.verilog_reader.specs.Cursor.{spelled};
-ghost use Rattle.verilog_reader.specs.Reading.{refusal_of};
+ghost use Rattle.token_spans.specs.Spans.{spelled};
 ghost use Rattle.verilog_reader.specs.File.{IsFaultOf};
 
-use crate::cursor::Cursor;
-use crate::file::Before;
-use crate::refusal::{Refusal, Stop, fault_at};
+use crate::file::{Before, file};
+use rule_readers::{Cursor, Refusal, Stop};
 use specify_blocks::VModule;
 use std::alloc::Global;
+use token_spans::{Scan, Span};
+use udp_reader::Verilog;
 use udp_tables::ModelFault;
-use verilog_tokens::{Scan, Span, scan};
+use verilog_tokens::scan;
+
+/// The fault of a refusal at an offset.
+fn fault_at(refusal: Refusal, at: usize) -> ModelFault
+    ensures { result ≡ fault_at refusal at }
+{
+    match refusal {
+        Refusal::Syntax => ModelFault::Syntax(at),
+        Refusal::TwoEdges => ModelFault::TwoEdges(at),
+        Refusal::Width => ModelFault::Width(at),
+        Refusal::Undefined => ModelFault::Undefined(at),
+        Refusal::Twice => ModelFault::Twice(at),
+        Refusal::Undriven => ModelFault::Undriven(at),
+        Refusal::Unequal => ModelFault::Unequal(at),
+    }
+}
 
 /// The offset of the token with which so many tokens are left; the length of the text where none is left.
 fn place_of(text: &[u8], tokens: &[Span], left: usize) -> usize
@@ -38,9 +54,9 @@ fn refusal_fault_of(
     tokens: &[Span],
     lexical: Option<usize>,
     refusal: Refusal,
-    left: &Cursor<'_>,
+    left: &Cursor<'_, Verilog>,
 ) -> ModelFault
-    ensures { result ≡ refusal_fault (length text.now) (tokens_of text.now tokens.now) lexical (refusal_of refusal) left.now }
+    ensures { result ≡ refusal_fault (length text.now) (tokens_of text.now tokens.now) lexical refusal left.now }
 {
     if left.left() > 0 {
         return fault_at(refusal, place_of(text, tokens, left.left()));
@@ -63,8 +79,8 @@ pub fn read_models(alloc: Global, text: &[u8]) -> Result<Vec<VModule>, ModelFaul
     let Ok(Scan { tokens, fault }) = scan(alloc, text) else {
         return Err(ModelFault::Memory);
     };
-    let mut cursor = Cursor::new(text, &tokens);
-    match cursor.file(alloc) {
+    let mut cursor = Cursor::<Verilog>::new(text, &tokens);
+    match file(&mut cursor, alloc) {
         Ok(Before { modules, .. }) => match fault {
             None => Ok(modules),
             Some(at) => Err(ModelFault::Lexical(at)),

@@ -2,8 +2,9 @@
 use Rattle.std.proofs.Common.{◌≡◌, ℕ, zero, suc, ◌+◌, ◌-◌, ◌≤◌, ◌<◌, Bool, true, false, List, [], ◌∷◌, ◌++◌, length, take, drop, map, get_or, slice_range, Option, Some, None, refl, sym, ap, subst, ◌∙◌, arith, add-one, drop-cons, append_assoc}
 use Rattle.std.proofs.lemmas.List.{map-append, append-nil}
 use Rattle.verilog_tokens.specs.Tokens.{Token, scan, at_front, after, is_open_after, separator_length, token_length}
-use Rattle.verilog_tokens.specs.declared.span.Span.{Span}
-use Rattle.verilog_tokens.specs.Spans.{token_of, tokens_of, LieInside, after_tokens, from_here}
+use Rattle.token_spans.specs.declared.span.Span.{Span}
+use Rattle.token_spans.specs.Spans.{LieInside}
+use Rattle.verilog_tokens.specs.Spans.{token_of, tokens_of, after_tokens, from_here}
 
 -- the bytes from an offset on: the one there, and those behind it
 cons : (text : List ℕ) (at : ℕ) → at < length text → drop at text ≡ get_or text at 0 ∷ drop (at + 1) text

@@ -1,7 +1,7 @@
 -- Tokens as places of a text, and the tokens that they are.
 use Rattle.std.specs.Prelude.{ℕ, ◌+◌, ◌-◌, ◌≤◌, Bool, List, [], ◌∷◌, ◌++◌, Option, length, map, drop, slice_range}
 use Rattle.verilog_tokens.specs.Tokens.{Token, scan}
-use Rattle.verilog_tokens.specs.declared.span.Span.{Span}
+use Rattle.token_spans.specs.declared.span.Span.{Span}
 
 -- the token at a place of a text
 abbrev pub token_of : List ℕ → Span → Token
@@ -9,11 +9,6 @@ token_of text s = record { at = s.at; bytes = slice_range text s.at s.end }
 
 abbrev pub tokens_of : List ℕ → List Span → List Token
 tokens_of text spans = map (token_of text) spans
-
--- each place lies inside the text
-abbrev pub LieInside : List ℕ → List Span → Type 0
-LieInside text [] = Unit {0}
-LieInside text (s ∷ spans) = (s.at ≤ s.end) × (s.end ≤ length text) × LieInside text spans
 
 -- these tokens stand before those
 abbrev pub after_tokens : List Token → List Token × Option ℕ → List Token × Option ℕ

@@ -2,11 +2,12 @@
 
 ghost use Rattle.std.specs.Prelude.{◌≡◌, ◌+◌, ◌<◌, length, true, false, IfOk, Some};
 ghost use Rattle.verilog_tokens.specs.Tokens.{scan_of};
-ghost use Rattle.verilog_tokens.specs.Spans.{tokens_of, from_here, LieInside};
+ghost use Rattle.token_spans.specs.Spans.{LieInside};
+ghost use Rattle.verilog_tokens.specs.Spans.{tokens_of, from_here};
 
 use crate::fronts::{is_open_after, separator_length, token_length};
-use crate::span::{Memory, Scan, Span};
 use std::alloc::Global;
+use token_spans::{Memory, Scan, Span};
 
 /// The tokens that were found so far. None begins before the offset `next`.
 #[derive(Drop)]

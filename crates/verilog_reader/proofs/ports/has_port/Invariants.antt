@@ -1,5 +1,5 @@
 use Rattle.std.proofs.Common.{◌≡◌, drop}
-use Rattle.specify_blocks.specs.VerilogRules.{is_among}
+use Rattle.udp_tables.specs.VerilogRules.{is_among}
 use Rattle.specify_blocks.specs.VerilogModules.{port_names}
 use Rattle.verilog_reader.proofs.ports.has_port.Given as goal
 

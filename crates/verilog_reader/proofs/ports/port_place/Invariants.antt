@@ -1,7 +1,7 @@
 use Rattle.std.proofs.Common.{◌≡◌}
 use Rattle.std.specs.Str.{bytes_eq}
 use Rattle.udp_tables.specs.declared.models.VPort.{VPort}
-use Rattle.specify_blocks.specs.VerilogRules.{place_from}
+use Rattle.udp_tables.specs.VerilogRules.{place_from}
 use Rattle.verilog_reader.proofs.ports.port_place.Given as goal
 
 abbrev pub invariant-loop-at : goal.invariant-loop-at

@@ -1,6 +1,7 @@
 use Rattle.std.proofs.Common.{◌≡◌}
 use Rattle.verilog_tokens.specs.Tokens.{scan_of}
-use Rattle.verilog_tokens.specs.Spans.{from_here, LieInside}
+use Rattle.token_spans.specs.Spans.{LieInside}
+use Rattle.verilog_tokens.specs.Spans.{from_here}
 use Rattle.verilog_tokens.proofs.scanner.scan.Given as goal
 
 abbrev pub invariant-loop-at : goal.invariant-loop-at

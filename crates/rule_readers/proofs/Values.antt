@@ -1,0 +1,41 @@
+-- Places where a token stands for a value, at the next token.
+use Rattle.std.proofs.Common.{◌≡◌, ℕ, Bool, true, false, List, [], ◌∷◌, Option, Some, None, Ok, Err, refl}
+use Rattle.grammar_rules.specs.Reading.{read}
+use Rattle.rule_readers.specs.declared.refusal.Refusal.TheVariants.{Syntax, Undefined}
+use Rattle.rule_readers.specs.Words.{valued, known}
+use Rattle.rule_readers.specs.Next.{next_bytes, rest}
+
+-- a token that stands for this value
+pub valued_some : {A : Type 0} (find : List ℕ → Option A) (s : List (List ℕ)) (a : A) → find (next_bytes s) ≡ Some a → find [] ≡ None → read (valued find) s ≡ Ok (a, rest s)
+valued_some find [] a e f = absurd cc
+valued_some find (x ∷ s) a e f = rw e refl
+
+-- a token that stands for no value, or no token
+pub valued_none : {A : Type 0} (find : List ℕ → Option A) (s : List (List ℕ)) → find (next_bytes s) ≡ None → read (valued find) s ≡ Err (Syntax, s)
+valued_none find [] e = refl
+valued_none find (x ∷ s) e = rw e refl
+
+module _ {A : Type 0} (is_name : List ℕ → Bool) (nothing_is_none : is_name [] ≡ false) (find : List ℕ → Option A) (s : List (List ℕ)) where
+  -- a name that stands for this value
+  pub known_some : (a : A) → is_name (next_bytes s) ≡ true → find (next_bytes s) ≡ Some a → read (known is_name find) s ≡ Ok (a, rest s)
+  known_some a e f = by s e f
+    where
+      by : (m : List (List ℕ)) → is_name (next_bytes m) ≡ true → find (next_bytes m) ≡ Some a → read (known is_name find) m ≡ Ok (a, rest m)
+      by [] g h = absurd cc
+      by (x ∷ m) g h = rw (g, h) refl
+
+  -- a name that stands for no value
+  pub known_none : is_name (next_bytes s) ≡ true → find (next_bytes s) ≡ None → read (known is_name find) s ≡ Err (Undefined, s)
+  known_none e f = by s e f
+    where
+      by : (m : List (List ℕ)) → is_name (next_bytes m) ≡ true → find (next_bytes m) ≡ None → read (known is_name find) m ≡ Err (Undefined, m)
+      by [] g h = absurd cc
+      by (x ∷ m) g h = rw (g, h) refl
+
+  -- a token that is no name, or no token
+  pub known_other : is_name (next_bytes s) ≡ false → read (known is_name find) s ≡ Err (Syntax, s)
+  known_other e = by s e
+    where
+      by : (m : List (List ℕ)) → is_name (next_bytes m) ≡ false → read (known is_name find) m ≡ Err (Syntax, m)
+      by [] f = refl
+      by (x ∷ m) f = rw f refl

@@ -1,0 +1,39 @@
+//! What a scan of a text gives.
+
+use std::alloc::{AllocError, AllocFailed};
+use thiserror::Error;
+
+/// Where a token stands: its bytes are those from offset `at` up to, but not including, `end`.
+#[derive(Clone, Copy, Debug, PartialEq, Eq)]
+pub struct Span {
+    /// Counted in bytes from 0.
+    pub at: usize,
+    /// Counted in bytes from 0.
+    pub end: usize,
+}
+
+/// The tokens of a text before its lexical fault, and the offset of the fault, if there is one.
+#[derive(Debug, Drop)]
+pub struct Scan {
+    /// In the order of their offsets.
+    pub tokens: Vec<Span>,
+    /// Where no token begins and nothing separates tokens.
+    pub fault: Option<usize>,
+}
+
+/// There was no memory for the tokens.
+#[derive(Clone, Copy, Debug, PartialEq, Eq, Error)]
+#[error("out of memory")]
+pub struct Memory;
+
+impl From<AllocError> for Memory {
+    fn from(_: AllocError) -> Memory {
+        Memory
+    }
+}
+
+impl<T: Drop> From<AllocFailed<T>> for Memory {
+    fn from(_: AllocFailed<T>) -> Memory {
+        Memory
+    }
+}

@@ -1,0 +1,9 @@
+//! Primitives of Verilog text, by recursive descent. (IEEE 1364-2005, clause 8.)
+#![tactic(auto)]
+
+mod language;
+mod primitives;
+mod row;
+
+pub use language::Verilog;
+pub use primitives::primitive;

@@ -1,0 +1,260 @@
+//! Primitives, by recursive descent. (IEEE 1364-2005, clause 8.)
+
+ghost use Rattle.std.specs.Prelude.{◌≡◌, [], ◌∷◌};
+ghost use Rattle.grammar_rules.specs.Rule.{Token, Many};
+ghost use Rattle.grammar_rules.specs.Reading.{read};
+ghost use Rattle.rule_readers.specs.declared.refusal.Refusal.TheVariants.{Syntax};
+ghost use Rattle.udp_tables.specs.VerilogRules.{new_name, is_among};
+ghost use Rattle.udp_tables.specs.VerilogPrimitives as spec;
+ghost use Rattle.rule_readers.specs.Reading.{Reads, ReadsAs};
+ghost use Rattle.rule_readers.specs.Next.{next_bytes};
+ghost use Rattle.udp_reader.specs.Headers.{header_of};
+
+use crate::language::Verilog;
+use crate::row::{begins_entry, row};
+use rule_readers::{Cursor, Refusal, Stop, is_among};
+use sqlite_items::Items;
+use std::alloc::Global;
+use udp_tables::{Udp, UdpRow};
+
+/// How many inputs a primitive may have.
+const MOST_INPUTS: usize = 10;
+
+/// How many inputs a primitive with a state may have.
+const MOST_INPUTS_WITH_STATE: usize = 9;
+
+/// The output and the inputs of a primitive's header.
+#[derive(Debug, Drop)]
+pub struct Header {
+    pub output: Items<u8>,
+    pub inputs: Items<Items<u8>>,
+}
+
+/// Whether a name is that of the output or of one of the inputs.
+fn is_port(output: &[u8], inputs: &[Items<u8>], name: &[u8]) -> bool
+    ensures { result ≡ is_among (output.now ∷ inputs.now) name.now }
+{
+    name == output || is_among::<Verilog>(inputs, name)
+}
+
+/// The name of an input of a header, behind the names of its output and of others.
+fn new_input(
+    cursor: &mut Cursor<'_, Verilog>,
+    alloc: Global,
+    output: &[u8],
+    inputs: &[Items<u8>],
+) -> Result<Items<u8>, Stop>
+    ensures { Reads (read (new_name (output.now ∷ inputs.now)) cursor.old) result cursor.new }
+{
+    let taken = is_port(output, inputs, cursor.bytes());
+    cursor.fresh_name(alloc, taken)
+}
+
+/// The inputs of a header behind these.
+#[tactic(auto, unfolding(udp_tables::specs::VerilogPrimitives::more_inputs, udp_tables::specs::VerilogPrimitives::next_input), using(rule_readers::proofs::Repeats::turn, crate::proofs::Words::choose_begun, crate::proofs::Words::choose_other))]
+fn more_inputs(
+    cursor: &mut Cursor<'_, Verilog>,
+    alloc: Global,
+    output: &[u8],
+    mut inputs: Items<Items<u8>>,
+) -> Result<Items<Items<u8>>, Stop>
+    ensures { Reads (read (spec.more_inputs output.now inputs) cursor.old) result cursor.new }
+{
+    for _turn in 0..cursor.left() {
+        if !cursor.is_next(b",") {
+            break;
+        }
+        cursor.skip();
+        inputs.push(new_input(cursor, alloc, output, inputs.as_slice())?)?;
+    }
+    Ok(inputs)
+}
+
+/// The first input of a header.
+#[tactic(auto, unfolding(udp_tables::specs::VerilogPrimitives::next_input))]
+fn first_input(
+    cursor: &mut Cursor<'_, Verilog>,
+    alloc: Global,
+    output: &[u8],
+) -> Result<Items<Items<u8>>, Stop>
+    ensures { Reads (read (spec.next_input output.now []) cursor.old) result cursor.new }
+{
+    let mut inputs = Items::new(alloc);
+    inputs.push(new_input(cursor, alloc, output, inputs.as_slice())?)?;
+    Ok(inputs)
+}
+
+/// The header of a primitive, behind its name.
+#[tactic(auto, unfolding(udp_tables::specs::VerilogPrimitives::header))]
+fn primitive_header(cursor: &mut Cursor<'_, Verilog>, alloc: Global) -> Result<Header, Stop>
+    ensures { ReadsAs header_of (read spec.header cursor.old) result cursor.new }
+{
+    cursor.expect(b"(")?;
+    let output = cursor.any_name(alloc)?;
+    cursor.expect(b",")?;
+    let first = first_input(cursor, alloc, output.as_slice())?;
+    let inputs = more_inputs(cursor, alloc, output.as_slice(), first)?;
+    cursor.expect_where(inputs.len() <= MOST_INPUTS, Refusal::Width, b")")?;
+    cursor.expect(b";")?;
+    Ok(Header { output, inputs })
+}
+
+/// The declaration of the output.
+#[tactic(auto, unfolding(udp_tables::specs::VerilogPrimitives::declared_output))]
+fn primitive_output(cursor: &mut Cursor<'_, Verilog>, output: &[u8]) -> Result<(), Stop>
+    ensures { Reads (read (spec.declared_output output.now) cursor.old) result cursor.new }
+{
+    cursor.expect(b"output")?;
+    cursor.this_name(output)?;
+    cursor.expect(b";")
+}
+
+/// The declaration of the state, behind its word.
+#[tactic(auto, unfolding(udp_tables::specs::VerilogPrimitives::declared_state))]
+fn primitive_state(cursor: &mut Cursor<'_, Verilog>, output: &[u8]) -> Result<bool, Stop>
+    ensures { Reads (read (spec.declared_state output.now) cursor.old) result cursor.new }
+{
+    cursor.this_name(output)?;
+    cursor.expect(b";")?;
+    Ok(true)
+}
+
+/// Whether the primitive has a state.
+#[tactic(auto, unfolding(udp_tables::specs::VerilogPrimitives::register))]
+fn primitive_register(cursor: &mut Cursor<'_, Verilog>, header: &Header) -> Result<bool, Stop>
+    ensures { Reads (read (spec.register (header_of header.now)) cursor.old) result cursor.new }
+{
+    if !cursor.is_next(b"reg") {
+        return Ok(false);
+    }
+    let may = header.inputs.len() <= MOST_INPUTS_WITH_STATE;
+    cursor.expect_where(may, Refusal::Width, b"reg")?;
+    primitive_state(cursor, header.output.as_slice())
+}
+
+/// One more declared input, where so many are declared.
+#[tactic(auto, unfolding(udp_tables::specs::VerilogPrimitives::declared_input))]
+fn primitive_input(
+    cursor: &mut Cursor<'_, Verilog>,
+    inputs: &[Items<u8>],
+    count: usize,
+) -> Result<usize, Stop>
+    ensures { Reads (read (spec.declared_input inputs.now count) cursor.old) result cursor.new }
+{
+    let Some(name) = inputs.get(count) else {
+        return Err(Stop::Refused(cursor.no_name()));
+    };
+    cursor.this_name(name.as_slice())?;
+    cursor.expect(b";")?;
+    Ok(count + 1)
+}
+
+/// The declarations of all inputs.
+#[tactic(auto, unfolding(udp_tables::specs::VerilogPrimitives::declared_inputs), using(rule_readers::proofs::Repeats::turn, crate::proofs::Words::choose_begun, crate::proofs::Words::choose_other))]
+fn primitive_inputs(cursor: &mut Cursor<'_, Verilog>, inputs: &[Items<u8>]) -> Result<(), Stop>
+    ensures { Reads (read (spec.declared_inputs inputs.now) cursor.old) result cursor.new }
+{
+    let mut count = 0;
+    for _turn in 0..cursor.left() {
+        if !cursor.is_next(b"input") {
+            break;
+        }
+        cursor.skip();
+        count = primitive_input(cursor, inputs, count)?;
+    }
+    cursor.go_on_where(count == inputs.len())
+}
+
+/// One more row, behind its first token.
+#[tactic(auto, unfolding(udp_tables::specs::VerilogPrimitives::next_row))]
+fn first_row(
+    cursor: &mut Cursor<'_, Verilog>,
+    alloc: Global,
+    sequential: bool,
+    inputs: usize,
+    first: &[u8],
+) -> Result<Items<UdpRow>, Stop>
+    ensures { Reads (read (spec.next_row sequential inputs [] first.now) cursor.old) result cursor.new }
+{
+    let mut rows = Items::new(alloc);
+    rows.push(row(cursor, alloc, sequential, inputs, first)?)?;
+    Ok(rows)
+}
+
+/// The rows of a table behind these.
+#[tactic(auto, unfolding(udp_tables::specs::VerilogPrimitives::next_row), using(rule_readers::proofs::Repeats::turn, crate::proofs::Entries::no_row, crate::proofs::Entries::one_row))]
+fn more_rows(
+    cursor: &mut Cursor<'_, Verilog>,
+    alloc: Global,
+    sequential: bool,
+    inputs: usize,
+    mut rows: Items<UdpRow>,
+) -> Result<Items<UdpRow>, Stop>
+    ensures { Reads (read (Many (λ _. spec.begins_row sequential) (spec.next_row sequential inputs) rows) cursor.old) result cursor.new }
+{
+    for _turn in 0..cursor.left() {
+        let token = cursor.bytes();
+        if !begins_entry(sequential, token) {
+            break;
+        }
+        cursor.skip();
+        rows.push(row(cursor, alloc, sequential, inputs, token)?)?;
+    }
+    Ok(rows)
+}
+
+/// Goes behind the first token of a table's first row.
+fn begin_row(cursor: &mut Cursor<'_, Verilog>, sequential: bool) -> Result<(), Stop>
+    ensures { ReadsAs (λ _. next_bytes cursor.old) (read (Token (spec.first_of_row sequential) Syntax) cursor.old) result cursor.new }
+{
+    if !begins_entry(sequential, cursor.bytes()) {
+        return Err(Stop::Refused(Refusal::Syntax));
+    }
+    cursor.skip();
+    Ok(())
+}
+
+/// The table of a primitive.
+#[tactic(auto, unfolding(udp_tables::specs::VerilogPrimitives::table))]
+fn table(
+    cursor: &mut Cursor<'_, Verilog>,
+    alloc: Global,
+    sequential: bool,
+    inputs: usize,
+) -> Result<Items<UdpRow>, Stop>
+    ensures { Reads (read (spec.table sequential inputs) cursor.old) result cursor.new }
+{
+    cursor.expect(b"table")?;
+    let token = cursor.bytes();
+    begin_row(cursor, sequential)?;
+    let first = first_row(cursor, alloc, sequential, inputs, token)?;
+    let rows = more_rows(cursor, alloc, sequential, inputs, first)?;
+    cursor.expect(b"endtable")?;
+    Ok(rows)
+}
+
+/// A primitive behind the word `primitive`, where primitives and modules of these names stand before it.
+#[tactic(auto, unfolding(udp_tables::specs::VerilogPrimitives::primitive))]
+pub fn primitive(
+    cursor: &mut Cursor<'_, Verilog>,
+    alloc: Global,
+    names: &[Items<u8>],
+) -> Result<Udp, Stop>
+    ensures { Reads (read (spec.primitive names.now) cursor.old) result cursor.new }
+{
+    let name = cursor.new_name(alloc, names)?;
+    let header = primitive_header(cursor, alloc)?;
+    primitive_output(cursor, header.output.as_slice())?;
+    let sequential = primitive_register(cursor, &header)?;
+    primitive_inputs(cursor, header.inputs.as_slice())?;
+    let rows = table(cursor, alloc, sequential, header.inputs.len())?;
+    cursor.expect(b"endprimitive")?;
+    let Header { output, inputs } = header;
+    Ok(Udp {
+        name,
+        output,
+        inputs,
+        sequential,
+        rows,
+    })
+}

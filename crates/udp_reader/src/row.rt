@@ -1,0 +1,269 @@
+//! The rows of a primitive's table, by recursive descent. (IEEE 1364-2005, 8.1.4, 8.2 and 8.4.)
+
+ghost use Rattle.std.specs.Prelude.{◌≡◌, ◌&&◌, []};
+ghost use Rattle.grammar_rules.specs.Reading.{read};
+ghost use Rattle.rule_readers.specs.Words.{valued};
+ghost use Rattle.udp_tables.specs.VerilogPrimitives as spec;
+ghost use Rattle.rule_readers.specs.Reading.{Reads};
+
+use crate::language::Verilog;
+use rule_readers::{Cursor, Refusal, Stop};
+use sqlite_items::Items;
+use std::alloc::Global;
+use udp_tables::{Entry, Level, Next, UdpRow};
+
+/// The level that a symbol stands for.
+fn level_by(byte: u8) -> Option<Level>
+    ensures { result ≡ spec.level_by byte }
+{
+    match byte {
+        b'0' => Some(Level::Zero),
+        b'1' => Some(Level::One),
+        b'x' | b'X' => Some(Level::Unknown),
+        b'?' => Some(Level::Any),
+        b'b' | b'B' => Some(Level::Binary),
+        _ => None,
+    }
+}
+
+/// The level that a token stands for.
+fn level(token: &[u8]) -> Option<Level>
+    ensures { result ≡ spec.symbol spec.level_by token.now }
+{
+    match token {
+        [byte] => level_by(*byte),
+        _ => None,
+    }
+}
+
+/// The change that a symbol stands for.
+fn change_by(byte: u8) -> Option<Entry>
+    ensures { result ≡ spec.change_by byte }
+{
+    match byte {
+        b'r' | b'R' => Some(Entry::R),
+        b'f' | b'F' => Some(Entry::F),
+        b'p' | b'P' => Some(Entry::P),
+        b'n' | b'N' => Some(Entry::N),
+        b'*' => Some(Entry::Star),
+        _ => None,
+    }
+}
+
+/// The change that a token alone stands for.
+fn change(token: &[u8]) -> Option<Entry>
+    ensures { result ≡ spec.symbol spec.change_by token.now }
+{
+    match token {
+        [byte] => change_by(*byte),
+        _ => None,
+    }
+}
+
+/// What a symbol gives as an output.
+fn next_by(sequential: bool, byte: u8) -> Option<Next>
+    ensures { result ≡ spec.next_by sequential byte }
+{
+    match byte {
+        b'0' => Some(Next::Zero),
+        b'1' => Some(Next::One),
+        b'x' | b'X' => Some(Next::Unknown),
+        b'-' if sequential => Some(Next::Keep),
+        _ => None,
+    }
+}
+
+/// What a token gives as an output.
+fn next(sequential: bool, token: &[u8]) -> Option<Next>
+    ensures { result ≡ spec.symbol (spec.next_by sequential) token.now }
+{
+    match token {
+        [byte] => next_by(sequential, *byte),
+        _ => None,
+    }
+}
+
+/// Whether a token begins a change.
+fn begins_change(token: &[u8]) -> bool
+    ensures { result ≡ spec.begins_change token.now }
+{
+    change(token).is_some() || token == b"(".as_slice()
+}
+
+/// Whether a token begins an entry.
+pub fn begins_entry(sequential: bool, token: &[u8]) -> bool
+    ensures { result ≡ spec.begins_entry sequential token.now }
+{
+    level(token).is_some() || sequential && begins_change(token)
+}
+
+/// The entry that a token alone is.
+fn whole_entry(token: &[u8]) -> Option<Entry>
+    ensures { result ≡ spec.whole_entry token.now }
+{
+    match level(token) {
+        Some(level) => Some(Entry::Level(level)),
+        None => change(token),
+    }
+}
+
+/// Whether one of the entries is a change.
+fn has_change(entries: &[Entry]) -> bool
+    ensures { result ≡ spec.has_change entries.now }
+{
+    for entry in entries {
+        if !matches!(entry, Entry::Level(_)) {
+            return true;
+        }
+    }
+    false
+}
+
+/// Whether a token begins a second change of a row with these entries.
+fn begins_second_change(entries: &[Entry], token: &[u8]) -> bool
+    ensures { result ≡ (spec.has_change entries.now && spec.begins_change token.now) }
+{
+    has_change(entries) && begins_change(token)
+}
+
+/// A level.
+fn a_level(cursor: &mut Cursor<'_, Verilog>) -> Result<Level, Stop>
+    ensures { Reads (read spec.a_level cursor.old) result cursor.new }
+{
+    let Some(level) = level(cursor.bytes()) else {
+        return Err(Stop::Refused(Refusal::Syntax));
+    };
+    cursor.skip();
+    Ok(level)
+}
+
+/// What a row gives as an output.
+fn an_output(cursor: &mut Cursor<'_, Verilog>, sequential: bool) -> Result<Next, Stop>
+    ensures { Reads (read (valued (spec.symbol (spec.next_by sequential))) cursor.old) result cursor.new }
+{
+    let Some(next) = next(sequential, cursor.bytes()) else {
+        return Err(Stop::Refused(Refusal::Syntax));
+    };
+    cursor.skip();
+    Ok(next)
+}
+
+/// A change from a level to another, behind its bracket.
+#[tactic(auto, unfolding(udp_tables::specs::VerilogPrimitives::pair))]
+fn pair(cursor: &mut Cursor<'_, Verilog>) -> Result<Entry, Stop>
+    ensures { Reads (read spec.pair cursor.old) result cursor.new }
+{
+    let before = a_level(cursor)?;
+    let after = a_level(cursor)?;
+    cursor.expect(b")")?;
+    Ok(Entry::Pair(before, after))
+}
+
+/// An entry, behind its first token.
+fn entry_after(cursor: &mut Cursor<'_, Verilog>, first: &[u8]) -> Result<Entry, Stop>
+    ensures { Reads (read (spec.entry_after first.now) cursor.old) result cursor.new }
+{
+    match whole_entry(first) {
+        Some(entry) => Ok(entry),
+        None => pair(cursor),
+    }
+}
+
+/// The first entry of a row, behind its first token.
+#[tactic(auto, unfolding(udp_tables::specs::VerilogPrimitives::next_entry))]
+fn first_entry(
+    cursor: &mut Cursor<'_, Verilog>,
+    alloc: Global,
+    first: &[u8],
+) -> Result<Items<Entry>, Stop>
+    ensures { Reads (read (spec.next_entry [] first.now) cursor.old) result cursor.new }
+{
+    let mut entries = Items::new(alloc);
+    entries.push(entry_after(cursor, first)?)?;
+    Ok(entries)
+}
+
+/// The entries of a row behind these.
+#[tactic(auto, unfolding(udp_tables::specs::VerilogPrimitives::more_entries, udp_tables::specs::VerilogPrimitives::next_entry), using(rule_readers::proofs::Repeats::turn, crate::proofs::Entries::no_entry, crate::proofs::Entries::second_change, crate::proofs::Entries::one_entry))]
+fn more_entries(
+    cursor: &mut Cursor<'_, Verilog>,
+    sequential: bool,
+    mut entries: Items<Entry>,
+) -> Result<Items<Entry>, Stop>
+    ensures { Reads (read (spec.more_entries sequential entries) cursor.old) result cursor.new }
+{
+    for _turn in 0..cursor.left() {
+        let token = cursor.bytes();
+        if !begins_entry(sequential, token) {
+            break;
+        }
+        if begins_second_change(entries.as_slice(), token) {
+            return Err(Stop::Refused(Refusal::TwoEdges));
+        }
+        cursor.skip();
+        entries.push(entry_after(cursor, token)?)?;
+    }
+    Ok(entries)
+}
+
+/// The state and the output of a row with a state, behind its entries.
+#[tactic(auto, unfolding(udp_tables::specs::VerilogPrimitives::state_and_next))]
+fn state_and_next(cursor: &mut Cursor<'_, Verilog>, inputs: Items<Entry>) -> Result<UdpRow, Stop>
+    ensures { Reads (read (spec.state_and_next inputs) cursor.old) result cursor.new }
+{
+    let state = a_level(cursor)?;
+    cursor.expect(b":")?;
+    let next = an_output(cursor, true)?;
+    cursor.expect(b";")?;
+    Ok(UdpRow {
+        inputs,
+        state,
+        next,
+    })
+}
+
+/// The output of a row without a state, behind its entries.
+#[tactic(auto, unfolding(udp_tables::specs::VerilogPrimitives::output_level))]
+fn output_level(cursor: &mut Cursor<'_, Verilog>, inputs: Items<Entry>) -> Result<UdpRow, Stop>
+    ensures { Reads (read (spec.output_level inputs) cursor.old) result cursor.new }
+{
+    let next = an_output(cursor, false)?;
+    cursor.expect(b";")?;
+    Ok(UdpRow {
+        inputs,
+        state: Level::Any,
+        next,
+    })
+}
+
+/// What stands behind the entries of a row.
+fn row_end(
+    cursor: &mut Cursor<'_, Verilog>,
+    sequential: bool,
+    inputs: Items<Entry>,
+) -> Result<UdpRow, Stop>
+    ensures { Reads (read (spec.row_end sequential inputs) cursor.old) result cursor.new }
+{
+    if sequential {
+        state_and_next(cursor, inputs)
+    } else {
+        output_level(cursor, inputs)
+    }
+}
+
+/// A row with an entry for each of so many inputs, behind its first token.
+#[tactic(auto, unfolding(udp_tables::specs::VerilogPrimitives::row))]
+pub fn row(
+    cursor: &mut Cursor<'_, Verilog>,
+    alloc: Global,
+    sequential: bool,
+    inputs: usize,
+    first: &[u8],
+) -> Result<UdpRow, Stop>
+    ensures { Reads (read (spec.row sequential inputs first.now) cursor.old) result cursor.new }
+{
+    let one = first_entry(cursor, alloc, first)?;
+    let entries = more_entries(cursor, sequential, one)?;
+    cursor.expect_where(entries.len() == inputs, Refusal::Width, b":")?;
+    row_end(cursor, sequential, entries)
+}

@@ -1,0 +1,10 @@
+use Rattle.std.proofs.Common.{◌≡◌, ◌-◌, [], codes}
+use Rattle.grammar_rules.specs.Reading.{repeat, read}
+use Rattle.udp_tables.specs.VerilogRules.{begins}
+use Rattle.specify_blocks.specs.VerilogModules.{declared_wire}
+use Rattle.verilog_reader.proofs.declarations.module_wires.Given as goal
+
+abbrev pub invariant-loop-turn : goal.invariant-loop-turn
+invariant-loop-turn l =
+    repeat (λ _. begins (codes "wire")) (λ u _ r. read (declared_wire l.ports u) r) (l._turn-end - l._turn) l.wires l.cursor
+    ≡ repeat (λ _. begins (codes "wire")) (λ u _ r. read (declared_wire l.ports u) r) l._turn-end [] l.initial.cursor

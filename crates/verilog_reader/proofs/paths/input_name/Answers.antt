@@ -1,0 +1,12 @@
+use Rattle.std.proofs.Common.{ℕ, List, Option, ap, ◌∙◌}
+use Rattle.std.specs.List.{position}
+use Rattle.std.specs.Str.{bytes_eq}
+use Rattle.specify_blocks.specs.Nets.{is_input_port, is_output_port, is_value}
+use Rattle.specify_blocks.specs.VerilogBlocks.{kept, port_of, an_input}
+use Rattle.verilog_reader.proofs.paths.input_name.Goals as goal
+
+pub returns : goal.returns
+unfolding an_input
+returns c =
+    let find : List ℕ → Option ℕ = λ x. kept (is_input_port c.args.model.now.ports) (port_of c.args.model.now x) in
+    c.known_number.ensures find (c.input_of-found.ensures ∙ ap find c.bytes.ensures)

@@ -91,7 +91,7 @@ accepted_meets_none_here pins earlier cell h =
     }
 
 -- Nothing refuses the timing of an accepted cell.
-timing_limits :
+pub timing_limits :
     (pins : Subject) (earlier : List (List ℕ)) (cell : Group)
     → refusal_of pins earlier cell ≡ None
     → (first_past 256 (flat_map check_at_in (timing_answers pins cell)) ≡ [])

@@ -2,6 +2,7 @@ pub mod Refused
 pub mod Accepted
 pub mod Chains
 pub mod TimingRules
+pub mod Held
 pub mod PinNames
 pub mod PartCounts
 pub mod GroupsPast

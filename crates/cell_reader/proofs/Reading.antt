@@ -1,5 +1,5 @@
 -- The refusals one after another, and the rules that an accepted cell keeps.
-use Rattle.std.proofs.Common.{◌≡◌, ℕ, suc, ◌+◌, ◌≤◌, List, [], ◌∷◌, length, refl, sym, ◌∙◌, ap, IsTrue, Option, Some, None, nat_le, Result, Ok, Err}
+use Rattle.std.proofs.Common.{◌≡◌, ℕ, ◌≤◌, List, [], ◌∷◌, length, refl, sym, ◌∙◌, ap, IsTrue, Option, Some, None, nat_le, Result, Ok, Err}
 use Rattle.std.specs.Prelude.{IfOk, IfErr}
 use Rattle.std.proofs.lemmas.Bool.{and_parts, leb-true}
 use Rattle.liberty_text.specs.declared.time.Unit.{Unit}
@@ -22,7 +22,6 @@ use Rattle.cell_parts.proofs.Distinct.{nil_parts, pins_are_distinct}
 use Rattle.cell_reader.specs.declared.refusal.Refusal.{Refusal}
 use Rattle.cell_reader.specs.declared.refusal.Reason.TheVariants as reason
 use Rattle.cell_reader.specs.CellTexts.{subject_of, IsEarlyUnmet, IsUnmet}
-use Rattle.cell_reader.specs.PinTimings.{answers_from}
 use Rattle.cell_reader.specs.Refusals.{met, refused_or, first_refusal, early_reasons, middle_reasons, later_reasons, refusal_of, udp_inputs, checks_of, arcs_of}
 use Rattle.cell_reader.proofs.Refused.{all_unmet}
 use Rattle.cell_reader.proofs.Chains.{unmet_first, met_first}
@@ -75,11 +74,6 @@ accepted_few_pins subject cell h =
 
 pub accepted_few_groups : (subject : Subject) (cell : Group) → IsUnmet subject cell → length (groups_of cell) ≤ 16
 accepted_few_groups subject cell h = accepted_states_are_few subject h.0 cell h.1
-
--- there is an answer for each pin
-pub answer_count : (subject : Subject) (pin : ℕ) (owners : List Group) → length (answers_from subject pin owners) ≡ length owners
-answer_count subject pin [] = refl
-answer_count subject pin (owner ∷ owners) = ap suc (answer_count subject (pin + 1) owners)
 
 -- the rules of cells
 pub keeps_rules :

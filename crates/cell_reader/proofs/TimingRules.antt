@@ -34,13 +34,13 @@ arcs_kept :
 arcs_kept subject owner (Ok timing) is narrow = arcs_are_sound subject owner timing is (no_wide timing.wide narrow)
 arcs_kept subject owner (Err e) is narrow = refl
 
-check_count :
+pub check_count :
     (subject : Subject) (owner : Group) (answer : Answer)
     → reading_answer subject owner ≡ answer → length (check_at_in answer) ≡ length (checks_in answer)
 check_count subject owner (Ok timing) is = (timings_are_placed subject owner timing is).checks
 check_count subject owner (Err e) is = refl
 
-arc_count :
+pub arc_count :
     (subject : Subject) (owner : Group) (answer : Answer)
     → reading_answer subject owner ≡ answer → length (arc_at_in answer) ≡ length (arcs_in answer)
 arc_count subject owner (Ok timing) is = (timings_are_placed subject owner timing is).arcs
@@ -88,7 +88,7 @@ all_arcs subject pin (owner ∷ owners) narrow =
     (and_from (list_all (is_arc subject.pins) (arcs_in answer)) (list_all (is_arc subject.pins) (flat_map arcs_in later))
     (arcs_kept (subject_at subject pin) owner answer refl parts.0) (all_arcs subject (pin + 1) owners parts.1))
 
-check_counts :
+pub check_counts :
     (subject : Subject) (pin : ℕ) (owners : List Group)
     → length (flat_map check_at_in (answers_from subject pin owners)) ≡ length (flat_map checks_in (answers_from subject pin owners))
 check_counts subject pin [] = refl
@@ -101,7 +101,7 @@ check_counts subject pin (owner ∷ owners) =
     ∙ (ap (λ n. n + length (flat_map check_at_in later)) here
     ∙ (ap (λ n. length (checks_in answer) + n) there ∙ sym (length-append (checks_in answer) (flat_map checks_in later))))
 
-arc_counts :
+pub arc_counts :
     (subject : Subject) (pin : ℕ) (owners : List Group)
     → length (flat_map arc_at_in (answers_from subject pin owners)) ≡ length (flat_map arcs_in (answers_from subject pin owners))
 arc_counts subject pin [] = refl

@@ -1,4 +1,5 @@
 pub mod PinTimings
+pub mod Held
 pub mod Refusals
 pub mod CellTexts
 pub mod Parts

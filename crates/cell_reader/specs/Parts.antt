@@ -11,7 +11,7 @@ use Rattle.cell_reader.specs.declared.parts.Parts.{Parts}
 use Rattle.cell_reader.specs.declared.numbered.Numbered.{Numbered}
 use Rattle.cell_reader.specs.CellTexts.{subject_of}
 use Rattle.cell_parts.specs.CellLaws.{readings_of, texts_of, numbers_of, groups_of}
-use Rattle.cell_reader.specs.Refusals.{timing_answers}
+use Rattle.cell_reader.specs.Held.{AreHeld}
 
 -- the pins of a cell, with the time unit of its library
 abbrev pub subject_in : Parts → Subject
@@ -28,7 +28,7 @@ pub record AreParts (parts : Parts) : Type 0 where
   pub of_vocabulary : shown_vocabulary parts.vocabulary ≡ vocabulary parts.cell.now
   pub of_readings : parts.readings ≡ readings_of parts.cell.now
   pub of_texts : parts.texts ≡ texts_of parts.cell.now
-  pub of_answers : parts.answers.items ≡ timing_answers (subject_in parts) parts.cell.now
+  pub of_answers : AreHeld (subject_in parts) (owners_of parts.cell.now) parts.answers.items
 
 -- The numbers and the groups are those of this cell.
 pub record AreNumbered (cell : Group) (numbered : Numbered) : Type 0 where

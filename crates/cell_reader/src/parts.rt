@@ -4,7 +4,7 @@ ghost use Rattle.cell_machine.specs.CellRules.{are_distinct};
 ghost use Rattle.cell_parts.specs.Groups.{inner_groups as inner_groups_of, pin_groups as pin_groups_of, state_groups as state_groups_of};
 ghost use Rattle.cell_parts.specs.Pins.{pin_names, pins_in, owners_in, pins_of as pins_of_cell};
 ghost use Rattle.cell_reader.specs.CellTexts.{subject_with};
-ghost use Rattle.cell_reader.specs.PinTimings.{answers_from};
+ghost use Rattle.cell_reader.specs.Held.{AreHeld};
 ghost use Rattle.cell_reader.specs.Parts.{AreParts};
 
 use crate::answers::timing_answers;
@@ -42,7 +42,7 @@ pub struct Parts<'a> {
     pub readings: Items<StateReading>,
     /// The text of each of the pin groups.
     pub texts: Items<Text>,
-    /// What reading the timing of each pin answers.
+    /// What reading the timing of each pin answers, as far as it decides or is wanted.
     pub answers: Vec<Result<PinTiming, TimingFault>>,
 }
 
@@ -67,7 +67,7 @@ fn answers_of(
 ) -> Result<Vec<Result<PinTiming, TimingFault>>, Memory>
     requires owners { map (λ group. group.now) owners.now ≡ flat_map owners_in (map (λ group. group.now) groups.now) }
     requires distinct { IsTrue (are_distinct (pin_names (flat_map pins_in (map (λ group. group.now) groups.now)))) }
-    ensures { IfOk result (λ answers. answers.items ≡ answers_from (subject_with unit (flat_map pins_in (map (λ group. group.now) groups.now))) 0 (map (λ group. group.now) owners.now)) }
+    ensures { IfOk result (λ answers. AreHeld (subject_with unit (flat_map pins_in (map (λ group. group.now) groups.now))) (map (λ group. group.now) owners.now) answers.items) }
 {
     let pins = pins_of(alloc, groups)?;
     let names = names_of(alloc, pins.as_slice())?;
@@ -77,7 +77,8 @@ fn answers_of(
         place: 0,
         unit,
     };
-    timing_answers(alloc, &mut subject, owners)
+    let answers = timing_answers(alloc, &mut subject, owners)?;
+    Ok(answers)
 }
 
 /// What a cell is made from, where these are its groups, those of them that make pins, and those that hold states.

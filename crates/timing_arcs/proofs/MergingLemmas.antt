@@ -12,9 +12,14 @@ use Rattle.bool_functions.specs.declared.tree.Node.{Node}
 use Rattle.cell_machine.specs.declared.arcs.Arc.{Arc}
 use Rattle.timing_arcs.specs.Tables.{greatest}
 use Rattle.timing_arcs.specs.Merging.{same_condition, same_path, Placed, firsts_after, firsts, merged_into, merged, merged_at}
-use Rattle.timing_arcs.specs.Adding.{joined_with, with_arc}
+use Rattle.timing_arcs.specs.Adding.{joined_with}
 use Rattle.bool_functions.proofs.SameTreeLemmas.{same_tree-equal, same_tree-refl}
 use Rattle.timing_arcs.proofs.SumLemmas.{greatest-append}
+
+-- some arcs, with a new one
+abbrev pub with_arc : List Arc → Arc → List Arc
+with_arc arcs arc =
+    if list_any (same_path arc) arcs then map (joined_with arc) arcs else map (joined_with arc) arcs ++ arc ∷ []
 
 -- equal conditions are equal
 condition-equal : (a b : Option Node) → same_condition a b ≡ true → a ≡ b

@@ -1,5 +1,5 @@
 -- How the timing of a pin is put together, one statement after another.
-use Rattle.std.specs.Prelude.{ℕ, ◌+◌, max, ◌==◌, List, [], ◌∷◌, ◌++◌, map, fold, codes, Option, Some, None, Result, Ok, if◌then◌else◌}
+use Rattle.std.specs.Prelude.{ℕ, ◌+◌, max, ◌==◌, ◌&&◌, nat_lt, List, [], ◌∷◌, ◌++◌, length, map, fold, codes, Option, Some, None, Result, Ok, if◌then◌else◌}
 use Rattle.std.specs.List.{list_any}
 use Rattle.liberty_groups.specs.declared.tree.Item.{Item, out-Item}
 use Rattle.liberty_groups.specs.declared.tree.Group.{Group}
@@ -14,6 +14,7 @@ use Rattle.timing_arcs.specs.declared.fault.TimingFault.TheVariants as fault
 use Rattle.timing_arcs.specs.declared.found.Found.{Found}
 use Rattle.timing_arcs.specs.declared.subject.Subject.{Subject}
 use Rattle.timing_arcs.specs.declared.subject.PinTiming.{PinTiming}
+use Rattle.timing_arcs.specs.declared.subject.Room.{Room}
 use Rattle.timing_arcs.specs.Attributes.{Attribute, group_named}
 use Rattle.timing_arcs.specs.Offsets.{lesser}
 use Rattle.timing_arcs.specs.Times.{time_of}
@@ -28,22 +29,32 @@ abbrev pub joined_with : Arc → Arc → Arc
 joined_with arc kept =
     if same_path arc kept then record kept { rise = max kept.rise arc.rise; fall = max kept.fall arc.fall } else kept
 
--- some arcs, with a new one
-abbrev pub with_arc : List Arc → Arc → List Arc
-with_arc arcs arc =
-    if list_any (same_path arc) arcs then map (joined_with arc) arcs else map (joined_with arc) arcs ++ arc ∷ []
+-- a list that holds so many at most, with one more at its end where it holds fewer
+abbrev pub pushed : {A : Type 0} → ℕ → List A → A → List A
+pushed room xs x = if nat_lt (length xs) room then xs ++ x ∷ [] else xs
 
 -- what was found so far, with a check that was made at this offset, if it has a limit
 abbrev pub with_check : ℕ → Found → Check → Found
 with_check at found k =
-    if k.limit == 0 then found else record found { checks = found.checks ++ k ∷ []; check_at = found.check_at ++ at ∷ [] }
+    if k.limit == 0
+    then found
+    else record found { checks = pushed found.room.checks found.checks k; check_at = pushed found.room.checks found.check_at at }
+
+-- with an arc of its own that was made at this offset
+abbrev pub with_own : ℕ → Found → Arc → Found
+with_own at found arc =
+    record found { arcs = pushed found.room.arcs found.arcs arc; arc_at = pushed found.room.arcs found.arc_at at }
+
+-- with the place of a left-out group, where they are listed
+abbrev pub with_left_out : Found → ℕ → Found
+with_left_out found place = if found.room.left_out then record found { left_out = found.left_out ++ place ∷ [] } else found
 
 -- with an arc that was made at this offset
 abbrev pub with_placed : ℕ → Found → Arc → Found
 with_placed at found arc =
     if list_any (same_path arc) found.arcs
-    then record found { arcs = with_arc found.arcs arc }
-    else record found { arcs = with_arc found.arcs arc; arc_at = found.arc_at ++ at ∷ [] }
+    then record found { arcs = map (joined_with arc) found.arcs }
+    else with_own at (record found { arcs = map (joined_with arc) found.arcs }) arc
 
 -- with all of these
 abbrev pub with_checks : ℕ → Found → List Check → Found
@@ -63,10 +74,8 @@ with_inputs subject group found inputs = fold (with_related subject group) found
 -- with what is noted in a group at this place, and whether it is left out
 abbrev pub with_noted : Subject → ℕ → Found → Group → Found
 with_noted subject place found group =
-    record found {
-      left_out = (if is_left_out subject group then found.left_out ++ place ∷ [] else found.left_out);
-      offsets = joined found.offsets (offsets_in subject group);
-    }
+    let joint : Found = record found { offsets = joined found.offsets (offsets_in subject group) } in
+    if is_left_out subject group then with_left_out joint place else joint
 
 -- with a group at this place, if there is one
 abbrev pub with_group : Subject → ℕ → Found → Group → Found
@@ -101,15 +110,15 @@ with_attribute subject k first second found (Some attribute) =
     with_limit subject k first second found attribute.at (time_of subject.unit attribute.text)
 
 -- nothing
-abbrev pub nothing_found : Found
-nothing_found = record { checks = []; check_at = []; arcs = []; arc_at = []; left_out = []; offsets = no_offsets }
+abbrev pub nothing_found : Room → Found
+nothing_found room = record { room = room; checks = []; check_at = []; arcs = []; arc_at = []; left_out = []; offsets = no_offsets }
 
 -- what is found of a pin
-abbrev pub found_of : Subject → Group → Found
-found_of subject pin =
+abbrev pub found_of : Room → Subject → Group → Found
+found_of room subject pin =
     with_attribute subject kind.Period Any Any
     (with_attribute subject kind.Width Fall Rise
-    (with_attribute subject kind.Width Rise Fall (with_items subject 0 nothing_found pin.items) (pulse_high subject pin))
+    (with_attribute subject kind.Width Rise Fall (with_items subject 0 (nothing_found room) pin.items) (pulse_high subject pin))
     (pulse_low subject pin))
     (least_period subject pin)
 

@@ -8,6 +8,8 @@ use Rattle.timing_arcs.specs.declared.subject.Subject.{Subject}
 use Rattle.timing_arcs.specs.Offsets.{lesser, least}
 use Rattle.timing_arcs.specs.TimingTypes.{type_of}
 use Rattle.timing_arcs.specs.RelatedPins.{inputs_of, is_read, is_left_out}
+use Rattle.timing_arcs.specs.declared.condition.Condition.TheVariants.{Always}
+use Rattle.timing_arcs.specs.Conditions.{condition_of}
 use Rattle.timing_arcs.specs.Making.{is_made, rise_of, fall_of}
 use Rattle.timing_arcs.specs.Timing.{malformed_in, unknown_condition_in, unknown_in, own_in, wide_in, bad_numbers_in}
 
@@ -57,6 +59,7 @@ nothing_read timing_type is_left_out unknown_name = record {
   inputs = [];
   rise = 0;
   fall = 0;
+  condition = Always;
   offsets = record { malformed = None; unknown_name = unknown_name; own_condition = None; number = None; wide = None };
 }
 
@@ -68,4 +71,5 @@ pub record IsReading (subject : Subject) (group : Group) (reading : Reading) : T
   pub inputs : reading.inputs ≡ (if is_read subject group then inputs_of subject group else [])
   pub rise : reading.rise ≡ (if is_read subject group then rise_of subject group else 0)
   pub fall : reading.fall ≡ (if is_read subject group then fall_of subject group else 0)
+  pub condition : reading.condition ≡ (if is_read subject group then condition_of subject group else Always)
   pub offsets : reading.offsets ≡ offsets_in subject group

@@ -1,6 +1,6 @@
 -- The timing of one pin: what its timing groups, its pulse widths and its period make (Liberty Reference Manual, `timing`
 -- group, `min_pulse_width_high`, `min_pulse_width_low` and `min_period`).
-use Rattle.std.specs.Prelude.{◌≡◌, ℕ, ◌+◌, ◌&&◌, List, [], ◌∷◌, ◌++◌, map, filter, flat_map, codes, Option, Some, None, is_none, unwrap_or, Result, Ok, Err, if◌then◌else◌}
+use Rattle.std.specs.Prelude.{◌≡◌, ℕ, ◌+◌, ◌&&◌, List, [], ◌∷◌, ◌++◌, map, filter, flat_map, take, codes, Option, Some, None, is_none, unwrap_or, Result, Ok, Err, if◌then◌else◌}
 use Rattle.std.specs.Option.{option_map_or}
 use Rattle.std.specs.List.{list_any}
 use Rattle.liberty_groups.specs.declared.tree.Item.{Item, out-Item}
@@ -15,6 +15,7 @@ use Rattle.timing_arcs.specs.declared.fault.TimingFault.{TimingFault}
 use Rattle.timing_arcs.specs.declared.fault.TimingFault.TheVariants as fault
 use Rattle.timing_arcs.specs.declared.subject.Subject.{Subject}
 use Rattle.timing_arcs.specs.declared.subject.PinTiming.{PinTiming}
+use Rattle.timing_arcs.specs.declared.subject.Room.{Room}
 use Rattle.timing_arcs.specs.Attributes.{Attribute, attribute_of, group_named, groups_named, place_of}
 pub use Rattle.timing_arcs.specs.Offsets.{lesser, least}
 use Rattle.timing_arcs.specs.Times.{time_of}
@@ -175,6 +176,20 @@ reading_answer subject pin =
     (unless_at fault.UnknownName (least (unknown_names_at subject pin))
     (unless_at fault.OwnCondition (least (own_conditions_at subject pin))
     (unless_at fault.Number (least (numbers_at subject pin)) (Ok (timing_of subject pin)))))
+
+-- What is held of a timing: its first checks and arcs, and its left-out groups where they are listed.
+abbrev pub held : Room → PinTiming → PinTiming
+held room timing = record timing {
+  checks = take room.checks timing.checks;
+  check_at = take room.checks timing.check_at;
+  arcs = take room.arcs timing.arcs;
+  arc_at = take room.arcs timing.arc_at;
+  left_out = (if room.left_out then timing.left_out else []);
+}
+
+abbrev pub held_answer : Room → Result PinTiming TimingFault → Result PinTiming TimingFault
+held_answer room (Ok timing) = Ok (held room timing)
+held_answer room (Err wrong) = Err wrong
 
 -- The answer of a call is this one, unless memory was not found.
 abbrev pub Gives : Result PinTiming TimingFault → Result PinTiming TimingFault → Type 0

@@ -1,8 +1,10 @@
 //! Arcs that are merged as they come.
-ghost use Rattle.std.specs.Prelude.{◌≡◌, [], ◌∷◌, ◌++◌, ◌==◌, map, IfOk, IsTrue, not};
+ghost use Rattle.std.specs.Prelude.{◌≡◌, [], ◌∷◌, ◌++◌, ◌==◌, length, map, OnOk, not};
 ghost use Rattle.std.specs.List.{list_any};
+ghost use Rattle.std.specs.Option.{option_copied};
 ghost use Rattle.timing_arcs.specs.Merging.{same_condition, same_path};
-ghost use Rattle.timing_arcs.specs.Adding.{joined_with, with_arc};
+ghost use Rattle.timing_arcs.specs.Adding.{joined_with, pushed};
+ghost use Rattle.timing_arcs.specs.Shown.{arc_on};
 
 use crate::fault::Memory;
 use bool_functions::Function;
@@ -30,9 +32,19 @@ impl Model for ArcList {
     ghost view = { λ a. a.arcs.items };
 }
 
+/// An arc whose condition stands elsewhere.
+#[derive(Clone, Copy, Debug)]
+pub(crate) struct Path<'a> {
+    pub(crate) from: usize,
+    pub(crate) to: usize,
+    pub(crate) rise: u64,
+    pub(crate) fall: u64,
+    pub(crate) condition: Option<&'a Function>,
+}
+
 /// Whether two conditions are equal: the same tree, or none.
-fn same_condition(one: &Option<Function>, other: &Option<Function>) -> bool
-    ensures { result ≡ same_condition one.now other.now }
+fn same_condition(one: Option<&Function>, other: &Option<Function>) -> bool
+    ensures { result ≡ same_condition (option_copied one.entry) other.now }
 {
     match (one, other) {
         (None, None) => true,
@@ -42,36 +54,36 @@ fn same_condition(one: &Option<Function>, other: &Option<Function>) -> bool
     }
 }
 
-/// Whether two arcs have the same ends and the same condition.
-fn same_path(one: &Arc, other: &Arc) -> bool
-    ensures { result ≡ same_path one.now other.now }
+/// Whether an arc has the ends and the condition of a path.
+fn same_path(path: &Path<'_>, arc: &Arc) -> bool
+    ensures { result ≡ same_path (arc_on path.now) arc.now }
 {
-    one.from == other.from && one.to == other.to && same_condition(&one.condition, &other.condition)
+    path.from == arc.from && path.to == arc.to && same_condition(path.condition, &arc.condition)
 }
 
 /// Gives an arc with the ends and the condition of the new one the greater rise and the greater fall, and answers
 /// whether it is one.
-fn join_one(kept: &mut Arc, arc: &Arc) -> bool
-    ensures kept { kept.new ≡ joined_with arc.now kept.old }
-    ensures same { result ≡ same_path arc.now kept.old }
+fn join_one(kept: &mut Arc, path: &Path<'_>) -> bool
+    ensures kept { kept.new ≡ joined_with (arc_on path.now) kept.old }
+    ensures same { result ≡ same_path (arc_on path.now) kept.old }
 {
-    if !same_path(arc, kept) {
+    if !same_path(path, kept) {
         return false;
     }
-    kept.rise = kept.rise.max(arc.rise);
-    kept.fall = kept.fall.max(arc.fall);
+    kept.rise = kept.rise.max(path.rise);
+    kept.fall = kept.fall.max(path.fall);
     true
 }
 
 /// Gives each arc with the ends and the condition of the new one the greater rise and the greater fall, and answers
 /// whether there is one.
-fn join(arcs: &mut [Arc], arc: &Arc) -> bool
-    ensures arcs { arcs.new ≡ map (joined_with arc.now) arcs.old }
-    ensures found { result ≡ list_any (same_path arc.now) arcs.old }
+fn join(arcs: &mut [Arc], path: &Path<'_>) -> bool
+    ensures arcs { arcs.new ≡ map (joined_with (arc_on path.now)) arcs.old }
+    ensures found { result ≡ list_any (same_path (arc_on path.now)) arcs.old }
 {
     let mut found = false;
     for kept in arcs.iter_mut() {
-        found |= join_one(kept, arc);
+        found |= join_one(kept, path);
     }
     found
 }
@@ -85,17 +97,28 @@ impl ArcList {
         }
     }
 
-    /// Adds an arc, and answers whether it is one of its own. Otherwise it is merged into the one that has its ends and
-    /// its condition.
-    pub(crate) fn add(&mut self, arc: Arc) -> Result<bool, Memory>
-        ensures arcs { IfOk result (λ is_new. self.new ≡ with_arc self.old arc) }
-        ensures found { IfOk result (λ is_new. is_new ≡ not (list_any (same_path arc) self.old)) }
+    pub(crate) fn len(&self) -> usize
+        ensures { result ≡ length self.now }
     {
-        if join(&mut self.arcs, &arc) {
-            return Ok(false);
+        self.arcs.len()
+    }
+
+    /// Merges an arc into the one that has its ends and its condition, and answers whether there is one.
+    pub(crate) fn join(&mut self, path: &Path<'_>) -> bool
+        ensures arcs { self.new ≡ map (joined_with (arc_on path.now)) self.old }
+        ensures found { result ≡ list_any (same_path (arc_on path.now)) self.old }
+    {
+        join(&mut self.arcs, path)
+    }
+
+    /// Adds an arc of its own at the end, where fewer than so many are there.
+    pub(crate) fn push_within(&mut self, room: usize, arc: Arc) -> Result<(), Memory>
+        ensures { OnOk result (self.new ≡ pushed room self.old arc) }
+    {
+        if self.arcs.len() < room {
+            self.arcs.push(arc)?;
         }
-        self.arcs.push(arc)?;
-        Ok(true)
+        Ok(())
     }
 
     pub(crate) fn into_items(self) -> Items<Arc>

@@ -1,6 +1,7 @@
 //! The condition of a timing group.
 ghost use Rattle.std.specs.Prelude.{◌≡◌, ◌≤◌, length, IfOk};
 ghost use Rattle.std.specs.List.{list_all};
+ghost use Rattle.std.specs.Option.{option_copied};
 ghost use Rattle.bool_functions.specs.Tree.{name_bound};
 ghost use Rattle.cell_machine.specs.CellRules.{is_input_pin};
 ghost use Rattle.timing_arcs.specs.Conditions.{condition_of_tree, condition_in, condition_of, tree_of, may_hold, is_malformed, has_unknown, named_pins};
@@ -91,6 +92,16 @@ impl Condition {
     }
 
     /// Its function, where it is none that always holds.
+    pub(crate) fn function(&self) -> Option<&Function>
+        ensures { option_copied result ≡ tree_of self.now }
+    {
+        match self {
+            Condition::Where(function) => Some(function),
+            _ => None,
+        }
+    }
+
+    /// The same, of a condition that is used up.
     pub(crate) fn into_function(self) -> Option<Function>
         ensures { result ≡ tree_of self }
     {

@@ -1,12 +1,12 @@
 //! What is found of a pin's timing, statement by statement.
-ghost use Rattle.std.specs.Prelude.{◌≡◌, Ok, OnOk, IfOk};
-ghost use Rattle.timing_arcs.specs.Adding.{with_check, with_placed, with_number, nothing_found, answer_found};
+ghost use Rattle.std.specs.Prelude.{◌≡◌, ◌||◌, nat_lt, length, Ok, OnOk, IfOk};
+ghost use Rattle.timing_arcs.specs.Adding.{pushed, with_check, with_own, with_left_out, with_number, nothing_found, answer_found};
 ghost use Rattle.timing_arcs.specs.Timing.{Gives};
 
 use crate::arc_list::ArcList;
 use crate::fault::{Memory, TimingFault};
 use crate::offsets::{Offsets, lesser};
-use crate::subject::PinTiming;
+use crate::subject::{PinTiming, Room};
 use cell_machine::{Arc, Check};
 use sqlite_items::Items;
 use std::alloc::Global;
@@ -14,6 +14,8 @@ use std::alloc::Global;
 /// What is found so far.
 #[derive(Debug, Drop)]
 pub(crate) struct Found {
+    /// How much is held.
+    pub(crate) room: Room,
     /// The checks, in order.
     pub(crate) checks: Items<Check>,
     /// For each check the offset of the group or attribute that made it.
@@ -28,12 +30,23 @@ pub(crate) struct Found {
     pub(crate) offsets: Offsets,
 }
 
+/// Adds one at the end of a list, where fewer than so many are there.
+fn push_within<T: Drop>(items: &mut Items<T>, room: usize, item: T) -> Result<(), Memory>
+    ensures { OnOk result (items.new ≡ pushed room items.old item) }
+{
+    if items.len() < room {
+        items.push(item)?;
+    }
+    Ok(())
+}
+
 impl Found {
     /// Nothing.
-    pub(crate) fn new(alloc: Global) -> Found
-        ensures { result ≡ nothing_found }
+    pub(crate) fn new(alloc: Global, room: Room) -> Found
+        ensures { result ≡ nothing_found room }
     {
         Found {
+            room,
             checks: Items::new(alloc),
             check_at: Items::new(alloc),
             arcs: ArcList::new(alloc),
@@ -43,24 +56,45 @@ impl Found {
         }
     }
 
-    /// Adds a check that is made at this offset, if its limit is not 0.
+    /// Whether one more check is held.
+    pub(crate) fn has_check_room(&self) -> bool
+        ensures { result ≡ (nat_lt (length self.now.checks) self.now.room.checks || nat_lt (length self.now.check_at) self.now.room.checks) }
+    {
+        self.checks.len() < self.room.checks || self.check_at.len() < self.room.checks
+    }
+
+    /// Adds a check that is made at this offset, if its limit is not 0 and there is room.
     pub(crate) fn add_check(&mut self, at: usize, check: Check) -> Result<(), Memory>
         ensures { OnOk result (self.new ≡ with_check at self.old check) }
     {
         if check.limit == 0 {
             return Ok(());
         }
-        self.checks.push(check)?;
-        self.check_at.push(at)?;
-        Ok(())
+        push_within(&mut self.checks, self.room.checks, check)?;
+        push_within(&mut self.check_at, self.room.checks, at)
     }
 
-    /// Adds an arc that is made at this offset.
-    pub(crate) fn add_arc(&mut self, at: usize, arc: Arc) -> Result<(), Memory>
-        ensures { OnOk result (self.new ≡ with_placed at self.old arc) }
+    /// Whether one more arc is held.
+    pub(crate) fn has_arc_room(&self) -> bool
+        ensures { result ≡ (nat_lt (length self.now.arcs) self.now.room.arcs || nat_lt (length self.now.arc_at) self.now.room.arcs) }
     {
-        if self.arcs.add(arc)? {
-            self.arc_at.push(at)?;
+        self.arcs.len() < self.room.arcs || self.arc_at.len() < self.room.arcs
+    }
+
+    /// Adds an arc of its own that is made at this offset, if there is room.
+    pub(crate) fn push_arc(&mut self, at: usize, arc: Arc) -> Result<(), Memory>
+        ensures { OnOk result (self.new ≡ with_own at self.old arc) }
+    {
+        self.arcs.push_within(self.room.arcs, arc)?;
+        push_within(&mut self.arc_at, self.room.arcs, at)
+    }
+
+    /// Lists a left-out group at this place, if they are listed.
+    pub(crate) fn leave_out(&mut self, place: usize) -> Result<(), Memory>
+        ensures { OnOk result (self.new ≡ with_left_out self.old place) }
+    {
+        if self.room.left_out {
+            self.left_out.push(place)?;
         }
         Ok(())
     }

@@ -23,7 +23,7 @@ pub use laws::{
     arcs_are_apart, arcs_are_sound, arcs_end_here, checks_are_sound, timings_are_placed,
 };
 pub use pin_timing::read_timing;
-pub use subject::{PinTiming, Subject};
+pub use subject::{PinTiming, Room, Subject};
 
 #[cfg(test)]
 mod tests;

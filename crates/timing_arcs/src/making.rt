@@ -5,6 +5,7 @@ ghost use Rattle.timing_arcs.specs.Making.{check, event, checks_with, arcs_with,
 ghost use Rattle.timing_arcs.specs.TimingTypes.{type_of};
 ghost use Rattle.timing_arcs.specs.Adding.{with_check, with_checks, with_arcs, with_related, with_inputs};
 
+use crate::arc_list::Path;
 use crate::condition::Condition;
 use crate::fault::Memory;
 use crate::found::Found;
@@ -45,6 +46,7 @@ pub(crate) struct Making<'a> {
     pub(crate) timing_type: TimingType,
     pub(crate) rise: u64,
     pub(crate) fall: u64,
+    pub(crate) condition: &'a Condition,
 }
 
 fn event(pin: usize, edge: Edge) -> Event
@@ -54,7 +56,7 @@ fn event(pin: usize, edge: Edge) -> Event
 }
 
 impl Making<'_> {
-    /// The condition of what the group makes. Each check and arc has one of its own, so it is read for each.
+    /// The condition of what the group makes. Each check and arc that is held has one of its own, so it is read for each.
     fn condition(&self, alloc: Global) -> Result<Option<Function>, Memory>
         ensures { IfOk result (λ function. function ≡ tree_of (condition_of self.now.subject.now self.now.group.now)) }
     {
@@ -66,6 +68,9 @@ impl Making<'_> {
     fn add_check(&self, alloc: Global, timed: Timed, found: &mut Found) -> Result<(), Memory>
         ensures { OnOk result (found.new ≡ with_check self.now.group.now.at found.old (check timed.kind timed.first timed.second timed.limit (tree_of (condition_of self.now.subject.now self.now.group.now)))) }
     {
+        if !found.has_check_room() {
+            return Ok(());
+        }
         let check = Check {
             kind: timed.kind,
             first: timed.first,
@@ -192,11 +197,25 @@ impl Making<'_> {
 
     /// Adds the arc from a pin that the group is related to, if the group is one of a delay.
     fn add_arcs(&self, alloc: Global, related: usize, found: &mut Found) -> Result<(), Memory>
+        requires { self.now.condition.now ≡ condition_of self.now.subject.now self.now.group.now }
         ensures { OnOk result (found.new ≡ with_arcs self.now.group.now.at found.old (arcs_with self.now.timing_type self.now.subject.now.place related self.now.rise self.now.fall (tree_of (condition_of self.now.subject.now self.now.group.now)))) }
     {
         let TimingType::Delay = self.timing_type else {
             return Ok(());
         };
+        let path = Path {
+            from: related,
+            to: self.subject.place,
+            rise: self.rise,
+            fall: self.fall,
+            condition: self.condition.function(),
+        };
+        if found.arcs.join(&path) {
+            return Ok(());
+        }
+        if !found.has_arc_room() {
+            return Ok(());
+        }
         let arc = Arc {
             from: related,
             to: self.subject.place,
@@ -204,7 +223,7 @@ impl Making<'_> {
             fall: self.fall,
             condition: self.condition(alloc)?,
         };
-        found.add_arc(self.group.at, arc)
+        found.push_arc(self.group.at, arc)
     }
 
     /// Adds what the group makes with these pins that it is related to, in order.
@@ -217,6 +236,7 @@ impl Making<'_> {
         requires its_type { self.now.timing_type ≡ type_of self.now.group.now }
         requires rise { self.now.rise ≡ rise_of self.now.subject.now self.now.group.now }
         requires fall { self.now.fall ≡ fall_of self.now.subject.now self.now.group.now }
+        requires condition { self.now.condition.now ≡ condition_of self.now.subject.now self.now.group.now }
         ensures { OnOk result (found.new ≡ with_inputs self.now.subject.now self.now.group.now found.old inputs.now) }
     {
         for related in inputs {

@@ -3,14 +3,14 @@ ghost use Rattle.std.specs.Prelude.{◌≡◌, ◌<◌, Ok, length, map, OnOk};
 ghost use Rattle.std.specs.Option.{option_map};
 ghost use Rattle.timing_arcs.specs.Adding.{with_noted, with_group, with_items, with_limit, with_attribute, nothing_found};
 ghost use Rattle.timing_arcs.specs.Shown.{shown};
-ghost use Rattle.timing_arcs.specs.Timing.{reading_answer, limit_attribute, Gives};
+ghost use Rattle.timing_arcs.specs.Timing.{reading_answer, held_answer, limit_attribute, Gives};
 
 use crate::attributes::{Attribute, inner_group, last_attribute};
 use crate::fault::{Memory, TimingFault};
 use crate::found::Found;
 use crate::making::Making;
 use crate::reading::Reading;
-use crate::subject::{PinTiming, Subject};
+use crate::subject::{PinTiming, Room, Subject};
 use crate::tables::time;
 use crate::timing_type::is_input_pin;
 use cell_machine::{Check, CheckKind, Edge, Event};
@@ -31,7 +31,7 @@ fn add_group(
     let reading = Reading::of_group(alloc, subject, group)?;
     found.offsets = found.offsets.joined(reading.offsets);
     if reading.is_left_out {
-        found.left_out.push(place)?;
+        found.leave_out(place)?;
     }
     if !reading.is_made {
         return Ok(());
@@ -42,6 +42,7 @@ fn add_group(
         timing_type: reading.timing_type,
         rise: reading.rise,
         fall: reading.fall,
+        condition: &reading.condition,
     };
     making.add_all(alloc, reading.inputs.as_slice(), found)
 }
@@ -111,15 +112,21 @@ fn add_attribute(
 /// Reads the timing of a pin from its group: its checks, its arcs and its left-out timing groups, as the Liberty
 /// Reference Manual says of the `timing` group and of `min_pulse_width_high`, `min_pulse_width_low` and `min_period`.
 /// Times are in picoseconds, rounded up; of all tables of one name in a group the greatest entry is taken. The subject's
-/// names are those of its pins in their order.
+/// names are those of its pins in their order. Of the checks and arcs no more are held than there is room for, the first
+/// ones, but all of them are judged.
 ///
 /// A fault is answered exactly where something is wrong in a text that is read. The first kind in the order of
 /// `TimingFault` decides, and of it the least offset. `Memory` is answered where memory is wanted and not there.
-pub fn read_timing(alloc: Global, pin: &Group, subject: &Subject) -> Result<PinTiming, TimingFault>
+pub fn read_timing(
+    alloc: Global,
+    pin: &Group,
+    subject: &Subject,
+    room: Room,
+) -> Result<PinTiming, TimingFault>
     requires { subject.now.place < length subject.now.pins }
-    ensures { Gives result (reading_answer subject.now pin.now) }
+    ensures { Gives result (held_answer room (reading_answer subject.now pin.now)) }
 {
-    let mut found = Found::new(alloc);
+    let mut found = Found::new(alloc, room);
     add_groups(alloc, subject, pin.items.as_slice(), &mut found)?;
     let high = limit_attribute(subject, pin, b"min_pulse_width_high");
     add_attribute(

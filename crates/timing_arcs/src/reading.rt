@@ -39,6 +39,8 @@ pub(crate) struct Reading {
     pub(crate) rise: u64,
     /// The limit or delay for a fall of the pin, in picoseconds. 0 where its tables are not read.
     pub(crate) fall: u64,
+    /// Its condition. Always where its tables are not read.
+    pub(crate) condition: Condition,
     /// What is noted in it.
     pub(crate) offsets: Offsets,
 }
@@ -109,6 +111,7 @@ fn nothing_read(
         inputs: Items::new(alloc),
         rise: 0,
         fall: 0,
+        condition: Condition::Always,
         offsets: Offsets {
             malformed: None,
             unknown_name,
@@ -148,6 +151,7 @@ impl Reading {
             inputs,
             rise: rise.time,
             fall: fall.time,
+            condition,
             offsets: Offsets {
                 malformed: noted.malformed,
                 unknown_name: lesser(unknown_pin, noted.unknown_name),

@@ -17,6 +17,17 @@ pub struct Subject {
     pub unit: Option<Unit>,
 }
 
+/// How much of the timing of a pin is held. What is over a limit refuses a cell, so no more than one over it is wanted.
+#[derive(Clone, Copy, Debug)]
+pub struct Room {
+    /// The most checks.
+    pub checks: usize,
+    /// The most arcs.
+    pub arcs: usize,
+    /// Whether the left-out timing groups are listed.
+    pub left_out: bool,
+}
+
 /// The timing of a pin.
 #[derive(Debug, Drop)]
 pub struct PinTiming {

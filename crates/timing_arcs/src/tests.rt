@@ -64,7 +64,12 @@ fn read(alloc: Global, text: &[u8], place: usize) -> Result<PinTiming, Fail> {
     if subject.place >= subject.pins.len() {
         return Err("no such pin".into());
     }
-    Ok(read_timing(alloc, pin, &subject)?)
+    let room = Room {
+        checks: 3,
+        arcs: 4,
+        left_out: true,
+    };
+    Ok(read_timing(alloc, pin, &subject, room)?)
 }
 
 type Shape = (CheckKind, Event, Event, u64);

@@ -1,6 +1,15 @@
-use Rattle.std.proofs.Common.{◌≡◌, ◌∙◌, length, map, sym, ap, arith}
+use Rattle.std.proofs.Common.{◌≡◌, ◌∙◌, List, length, map, sym, ap, subst, arith}
+use Rattle.std.specs.Prelude.{flat_map}
+use Rattle.liberty_groups.specs.declared.tree.Group.{Group}
+use Rattle.cell_machine.specs.declared.pins.Pin.{Pin}
+use Rattle.timing_arcs.specs.declared.subject.Subject.{Subject}
+use Rattle.cell_parts.specs.Pins.{pin_names, pins_in}
 use Rattle.cell_parts.proofs.PinRules.{owners_count}
 use Rattle.cell_parts.proofs.Turns.{count_shown}
+use Rattle.cell_reader.specs.CellTexts.{subject_with}
+use Rattle.cell_reader.specs.PinTimings.{Answer}
+use Rattle.cell_reader.specs.Held.{cell_room, held_from, AreHeld}
+use Rattle.cell_reader.proofs.Held.{are_held}
 use Rattle.cell_reader.proofs.parts.answers_of.Goals as goal
 
 -- each pin has its group
@@ -11,3 +20,21 @@ timing_answers-requires-clause-count c =
     ∙ (ap length c.requires.owners
     ∙ (owners_count (map (λ group. group.now) c.args.groups.now) ∙ sym (ap length c.in_ok-pins.ensures))) in
     omega arith
+
+pub returns : goal.returns
+returns c =
+    let owners : List Group = map (λ group. group.now) c.args.owners.now in
+    let pins : List Pin = flat_map pins_in (map (λ group. group.now) c.args.groups.now) in
+    let subject : Subject = subject_with c.args.unit pins in
+    let here : Subject = record { names = c.in_ok-names.names; pins = c.in_ok-pins.pins; place = 0; unit = c.args.unit } in
+    let same : here ≡ subject = λ i. record {
+      names = (c.in_ok-names.ensures ∙ ap pin_names (c.as_slice.ensures ∙ c.in_ok-pins.ensures)) i;
+      pins = c.in_ok-pins.ensures i;
+      place = 0;
+      unit = c.args.unit;
+    } in
+    let held : c.in_ok-answers.answers.items ≡ held_from (cell_room (length owners)) subject 0 owners =
+    c.in_ok-answers.ensures
+    ∙ ap (λ n. held_from (cell_room n) here 0 owners) (sym (count_shown (λ group. group.now) c.args.owners.now))
+    ∙ ap (λ (s : Subject). held_from (cell_room (length owners)) s 0 owners) same in
+    subst (λ (answers : List Answer). AreHeld subject owners answers) (sym held) (are_held subject owners)

@@ -41,7 +41,7 @@ use Rattle.cell_cursor.specs.Reached.{is_settled}
 use Rattle.cell_cursor.specs.Scanned.{AreScanned, stop_behind}
 use Rattle.cell_cursor.proofs.Closed.{refuses_on}
 use Rattle.cell_cursor.proofs.Gathers.{listed, library_listed, outcome_listed, halt_listed}
-use Rattle.cell_cursor.proofs.LeadsLemmas.{lexemes_zero, part_lexemes}
+use Rattle.cell_cursor.proofs.LeadsLemmas.{leads_here, lexemes_zero, part_lexemes}
 use Rattle.cell_cursor.proofs.Prefix.{Told, prefixed, rest_behind, items_prefixed}
 
 abbrev tokens_of : List ℕ → List Lexeme
@@ -90,19 +90,19 @@ refused_end b w items k x m others e h f i =
 
 -- a token of a part that is refused is refused whatever follows the part
 pub refused_on : (before bytes : List ℕ) (tokens : List Token) (mode : Mode) (here : Place) (items all : List LibraryItem) (k : Refusal) (x : Lexeme) (m : List Lexeme) (more : List ℕ) →
-    LeadTo before here items → AreScanned bytes tokens mode → LieInside bytes tokens → read (rest_at here []) (lexemes_behind (length before) bytes tokens) ≡ Err ((all, k), x ∷ m) →
+    ((tail : List ℕ) → LeadTo before (bytes ++ tail) here items) → AreScanned bytes tokens mode → LieInside bytes tokens → read (rest_at here []) (lexemes_behind (length before) bytes tokens) ≡ Err ((all, k), x ∷ m) →
     (others : List Lexeme) × (items_outcome (before ++ (bytes ++ more)) ≡ Err ((items ++ all, k), x ∷ (m ++ others)))
 refused_on before bytes tokens mode here items all k x m more leads scanned inside e =
     let split = part_lexemes (length before) bytes tokens mode more scanned inside in (
       split.0,
-      leads.outcome (bytes ++ more)
+      (leads more).outcome
           ∙ ap (read (rest_at here items)) split.1
           ∙ rest_behind here items (lexemes_behind (length before) bytes tokens ++ split.0)
           ∙ ap (prefixed items) (refuses_on (rest_at here []) (lexemes_behind (length before) bytes tokens) (all, k) x m split.0 e),
     )
 
 pub refused_reads : (before bytes : List ℕ) (tokens : List Token) (mode : Mode) (here : Place) (items all : List LibraryItem) (k : Refusal) (x : Lexeme) (m : List Lexeme) (more : List ℕ) →
-    LeadTo before here items → AreScanned bytes tokens mode → LieInside bytes tokens → read (rest_at here []) (lexemes_behind (length before) bytes tokens) ≡ Err ((all, k), x ∷ m) →
+    ((tail : List ℕ) → LeadTo before (bytes ++ tail) here items) → AreScanned bytes tokens mode → LieInside bytes tokens → read (rest_at here []) (lexemes_behind (length before) bytes tokens) ≡ Err ((all, k), x ∷ m) →
     is_settled (length before + length bytes) x m ≡ true →
     (items ++ all ≡ items_of_bytes (before ++ (bytes ++ more))) × ((w : Bool) → end_of_bytes (before ++ (bytes ++ more)) w ≡ Fault (fault_at k x.token.at))
 refused_reads before bytes tokens mode here items all k x m more leads scanned inside e f =
@@ -122,21 +122,21 @@ left_prefixed : (pre : List LibraryItem) (o : Told) → left_in (prefixed pre o)
 left_prefixed pre (Ok p) = refl
 left_prefixed pre (Err e) = refl
 
-part_read : (before bytes : List ℕ) (here : Place) (items : List LibraryItem) → LeadTo before here items → items_outcome (before ++ bytes) ≡ prefixed items (part_outcome here (length before) bytes)
+part_read : (before bytes : List ℕ) (here : Place) (items : List LibraryItem) → LeadTo before bytes here items → items_outcome (before ++ bytes) ≡ prefixed items (part_outcome here (length before) bytes)
 unfolding part_outcome
-part_read before bytes here items leads = leads.outcome bytes ∙ rest_behind here items (lexemes_behind (length before) bytes (scan_of bytes).0)
+part_read before bytes here items leads = leads.outcome ∙ rest_behind here items (lexemes_behind (length before) bytes (scan_of bytes).0)
 
-only_token : (before bytes : List ℕ) (here : Place) (items : List LibraryItem) → LeadTo before here items →
+only_token : (before bytes : List ℕ) (here : Place) (items : List LibraryItem) → LeadTo before bytes here items →
     is_last (tokens_of (before ++ bytes)) ≡ (is_start here && is_last (lexemes_behind (length before) bytes (scan_of bytes).0))
 only_token before bytes place.Start items leads =
     let none : before ≡ [] = leads.begins refl in
     ap (λ (b : List ℕ). is_last (tokens_of (b ++ bytes))) none
     ∙ ap is_last (lexemes_zero bytes (scan_of bytes).0)
     ∙ ap (λ (b : List ℕ). is_last (lexemes_behind (length b) bytes (scan_of bytes).0)) (sym none)
-only_token before bytes place.Inside items leads = leads.several refl bytes
-only_token before bytes place.Behind items leads = leads.several refl bytes
+only_token before bytes place.Inside items leads = leads.several refl
+only_token before bytes place.Behind items leads = leads.several refl
 
-part_halts : (before bytes : List ℕ) (here : Place) (items : List LibraryItem) → LeadTo before here items →
+part_halts : (before bytes : List ℕ) (here : Place) (items : List LibraryItem) → LeadTo before bytes here items →
     halt_in (length (before ++ bytes)) (is_last (tokens_of (before ++ bytes))) (items_outcome (before ++ bytes)) ≡ part_halt here (length before) bytes
 unfolding part_halt
 part_halts before bytes here items leads =
@@ -145,14 +145,14 @@ part_halts before bytes here items leads =
     ∙ ap (λ (n : ℕ). halt_in n (is_last (tokens_of (before ++ bytes))) (part_outcome here (length before) bytes)) (length-append before bytes)
     ∙ ap (λ (x : Bool). halt_in (length before + length bytes) x (part_outcome here (length before) bytes)) (only_token before bytes here items leads)
 
-part_ends : (before bytes : List ℕ) (here : Place) (items : List LibraryItem) (w : Bool) → LeadTo before here items →
+part_ends : (before bytes : List ℕ) (here : Place) (items : List LibraryItem) (w : Bool) → LeadTo before bytes here items →
     end_of_bytes (before ++ bytes) w ≡ end_of (before ++ bytes) w (part_halt here (length before) bytes) (stop_behind (length before) (scan_of bytes).1)
 part_ends before bytes here items w leads =
     ends_so (before ++ bytes) w
     ∙ ap (λ (h : Halt). end_of (before ++ bytes) w h (scan_of (before ++ bytes)).1) (part_halts before bytes here items leads)
-    ∙ ap (end_of (before ++ bytes) w (part_halt here (length before) bytes)) (leads.stop bytes)
+    ∙ ap (end_of (before ++ bytes) w (part_halt here (length before) bytes)) (leads.stop)
 
-pub part_items : (before bytes : List ℕ) (here : Place) (items : List LibraryItem) → LeadTo before here items →
+pub part_items : (before bytes : List ℕ) (here : Place) (items : List LibraryItem) → LeadTo before bytes here items →
     items ++ items_in (part_outcome here (length before) bytes) ≡ items_of_bytes (before ++ bytes)
 part_items before bytes here items leads =
     sym (ap items_in (part_read before bytes here items leads) ∙ items_prefixed items (part_outcome here (length before) bytes))
@@ -184,7 +184,7 @@ outline_is : (b : List ℕ) → has_outline (tokens_of b) ≡ is_nil (left_in (i
 unfolding items_outcome
 outline_is b = some_standing (tokens_of b) (stands Start (tokens_of b)) refl
 
-closed_same : (before bytes : List ℕ) (here : Place) (items : List LibraryItem) → LeadTo before here items →
+closed_same : (before bytes : List ℕ) (here : Place) (items : List LibraryItem) → LeadTo before (closed_text bytes) here items →
     closed_has_outline (before ++ bytes) ≡ goes_on_closed here (length before) bytes
 closed_same before bytes here items leads =
     ap (λ (b : List ℕ). has_outline (tokens_of b)) (append_assoc before bytes (32 ∷ 34 ∷ []))
@@ -192,7 +192,7 @@ closed_same before bytes here items leads =
     ∙ ap (λ (o : Told). is_nil (left_in o)) (part_read before (closed_text bytes) here items leads)
     ∙ ap is_nil (left_prefixed items (part_outcome here (length before) (closed_text bytes)))
 
-goes_on_same : (before bytes : List ℕ) (here : Place) (items : List LibraryItem) (stop : Stop) → LeadTo before here items →
+goes_on_same : (before bytes : List ℕ) (here : Place) (items : List LibraryItem) (stop : Stop) → LeadTo before (closed_text bytes) here items →
     goes_on_after (before ++ bytes) (stop_behind (length before) stop) ≡ goes_on_from here (length before) bytes stop
 goes_on_same before bytes here items End leads = refl
 goes_on_same before bytes here items (BadByte at) leads = refl
@@ -207,7 +207,7 @@ end_same n (OpenText at) = refl
 end_same n (OpenComment at) = refl
 end_same n (OpenContinuation at) = refl
 
-may_same : (before bytes : List ℕ) (here : Place) (items : List LibraryItem) (h : Halt) (stop : Stop) → LeadTo before here items →
+may_same : (before bytes : List ℕ) (here : Place) (items : List LibraryItem) (h : Halt) (stop : Stop) → LeadTo before (closed_text bytes) here items →
     whole.may_go_on (before ++ bytes) h (stop_behind (length before) stop) ≡ may_go_on here (length before) bytes h stop
 may_same before bytes here items halt.Whole stop leads = goes_on_same before bytes here items stop leads
 may_same before bytes here items (halt.Short k) stop leads = goes_on_same before bytes here items stop leads
@@ -231,7 +231,7 @@ by_front : (x : Bool) (o : Option LibraryFault) → cond x answer.Over (answer_b
 by_front true o = refl
 by_front false o = by_fault false o
 
-ends_part : (before bytes : List ℕ) (here : Place) (items : List LibraryItem) (w : Bool) → LeadTo before here items →
+ends_part : (before bytes : List ℕ) (here : Place) (items : List LibraryItem) (w : Bool) → LeadTo before (closed_text bytes) here items →
     answer_at here (length before) bytes w ≡ answer_for w (end_of (before ++ bytes) w (part_halt here (length before) bytes) (stop_behind (length before) (scan_of bytes).1))
 unfolding answer_at
 ends_part before bytes here items true leads =
@@ -244,9 +244,10 @@ ends_part before bytes here items false leads =
     ∙ by_front (whole.may_go_on (before ++ bytes) (part_halt here (length before) bytes) (stop_behind (length before) (scan_of bytes).1)) (fault_of (length (before ++ bytes)) (part_halt here (length before) bytes) (stop_behind (length before) (scan_of bytes).1))
 
 -- the answer at the end of a part is that of the library
-pub part_answers : (before bytes : List ℕ) (here : Place) (items : List LibraryItem) (w : Bool) → LeadTo before here items →
+pub part_answers : (before bytes : List ℕ) (here : Place) (items : List LibraryItem) (w : Bool) → ((more : List ℕ) → LeadTo before (bytes ++ more) here items) →
     answer_at here (length before) bytes w ≡ answer_for w (end_of_bytes (before ++ bytes) w)
-part_answers before bytes here items w leads = ends_part before bytes here items w leads ∙ ap (answer_for w) (sym (part_ends before bytes here items w leads))
+part_answers before bytes here items w leads =
+    ends_part before bytes here items w (leads (32 ∷ 34 ∷ [])) ∙ ap (answer_for w) (sym (part_ends before bytes here items w (leads_here before bytes here items leads)))
 
 pub never_whole : (b : List ℕ) → end_of_bytes b false ≢ Whole
 never_whole b e =

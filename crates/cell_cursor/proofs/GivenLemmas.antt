@@ -24,6 +24,7 @@ use Rattle.cell_cursor.specs.Scanned.{AreScanned, NoneEnds}
 use Rattle.cell_cursor.specs.Stands.{Keeps, Goes, MayTake, GoesBy}
 use Rattle.cell_cursor.proofs.Depths.{lexeme_kinds_behind}
 use Rattle.cell_cursor.proofs.EndsLemmas.{part_items}
+use Rattle.cell_cursor.proofs.LeadsLemmas.{leads_here}
 use Rattle.cell_cursor.proofs.LastCell.{no_cell_behind, last_cell_front, front_of_more}
 use Rattle.cell_cursor.proofs.RunTokens.{closing_outer}
 use Rattle.cell_cursor.proofs.OpenParts.{part_no_cell}
@@ -62,7 +63,7 @@ given_seen n bytes items h l e far = h e (omega (arith, l, far))
 
 -- A part
 
-pub part_closed : (before bytes : List ℕ) (tokens : List Token) (mode : Mode) (here : Place) (items : List LibraryItem) → LeadTo before here items → AreScanned bytes tokens mode →
+pub part_closed : (before bytes : List ℕ) (tokens : List Token) (mode : Mode) (here : Place) (items : List LibraryItem) → LeadTo before bytes here items → AreScanned bytes tokens mode →
     has_outer here (kinds_of tokens) ≡ false → closed_items (before ++ bytes) ≡ up_to_last_cell items
 unfolding part_outcome
 part_closed before bytes tokens mode here items leads scanned none =
@@ -80,9 +81,9 @@ none_follows place.Inside items e = refl
 none_follows place.Behind items e = refl
 
 -- statements have ended with the last byte
-pub place_closed : (before : List ℕ) (there : Place) (items : List LibraryItem) → LeadTo before there items → is_start there ≡ false → closed_items before ≡ up_to_last_cell items
+pub place_closed : (before : List ℕ) (there : Place) (items : List LibraryItem) → LeadTo before [] there items → is_start there ≡ false → closed_items before ≡ up_to_last_cell items
 place_closed before there items leads e =
-    ap closed_items (sym (append-nil before)) ∙ ap (λ o. up_to_last_cell (items_in o)) (leads.outcome []) ∙ ap up_to_last_cell (none_follows there items e)
+    ap closed_items (sym (append-nil before)) ∙ ap (λ o. up_to_last_cell (items_in o)) leads.outcome ∙ ap up_to_last_cell (none_follows there items e)
 
 pub none_closed : closed_items [] ≡ []
 unfolding items_outcome header
@@ -107,7 +108,7 @@ goes_open c bytes items k scanned none seen = record {
   keeps = k;
   inner = none;
   seen = seen_next (scanned_by c) bytes items seen
-      (front_same (take (scanned_by c) bytes) items (ap closed_items (keeps_front c bytes items k) ∙ part_closed k.before c.part.bytes c.part.tokens c.part.mode c.place items k.leads scanned none));
+      (front_same (take (scanned_by c) bytes) items (ap closed_items (keeps_front c bytes items k) ∙ part_closed k.before c.part.bytes c.part.tokens c.part.mode c.place items (leads_here k.before c.part.bytes c.place items k.leads) scanned none));
 }
 
 -- as far as no token has ended since
@@ -125,7 +126,7 @@ seen_within o count bytes items none g e less = by_test (nat_lt e (scanned_by o 
         ∙ take-append-add front o.piece j
         ∙ append_assoc k.before o.part.bytes (take j o.piece) in
         let there = none j within in
-        front_same (take e bytes) items (ap closed_items same ∙ part_closed k.before (o.part.bytes ++ take j o.piece) o.part.tokens there.0 o.place items k.leads there.1 g.inner)
+        front_same (take e bytes) items (ap closed_items same ∙ part_closed k.before (o.part.bytes ++ take j o.piece) o.part.tokens there.0 o.place items (k.leads (take j o.piece)) there.1 g.inner)
 
     by_test : (b : Bool) → nat_lt e (scanned_by o + 1) ≡ b → IsFrontOf (closed_items (take e bytes)) items
     by_test true t = g.seen e (grind (arith, nat_tests, t))
@@ -149,7 +150,10 @@ goes_run o n may count bytes items place_is before_is bytes_are piece_is within 
           ∙ ap (λ (s : List ℕ). g.keeps.before ++ (s ++ drop count o.piece)) (sym bytes_are)
           ∙ ap (λ (s : List ℕ). g.keeps.before ++ (n.part.bytes ++ s)) (sym piece_is);
       size = before_is ∙ g.keeps.size;
-      leads = subst (λ (p : Place). LeadTo g.keeps.before p items) (sym place_is) g.keeps.leads;
+      leads = λ more.
+          subst (λ (p : Place). LeadTo g.keeps.before (n.part.bytes ++ more) p items) (sym place_is)
+          (subst (λ (b : List ℕ). LeadTo g.keeps.before b o.place items) (sym (ap (λ (s : List ℕ). s ++ more) bytes_are ∙ append_assoc o.part.bytes (take count o.piece) more))
+          (g.keeps.leads (take count o.piece ++ more)));
     }
 
     so_many : scanned_by n ≡ scanned_by o + count

@@ -1,5 +1,5 @@
 -- How far a library has come, one part after another.
-use Rattle.std.proofs.Common.{◌≡◌, ◌≢◌, ℕ, ◌+◌, Bool, true, false, List, [], ◌∷◌, ◌++◌, length, slice_range, Ok, Err, ◌⊎◌, inl, inr, not, refl, sym, ap, ◌∙◌, arith, length-append}
+use Rattle.std.proofs.Common.{◌≡◌, ◌≢◌, ℕ, ◌+◌, Bool, true, false, List, [], ◌∷◌, ◌++◌, length, slice_range, Ok, Err, ◌⊎◌, inl, inr, not, refl, sym, ap, subst, ◌∙◌, arith, length-append}
 use Rattle.std.proofs.lemmas.List.{append-nil, append_assoc, map-append}
 use Rattle.grammar_rules.specs.Rule.{Verdict, Fits, Foul, Misfit}
 use Rattle.grammar_rules.specs.Reading.{Outcome, and_then, marked, judge, read}
@@ -51,13 +51,12 @@ begin_outcome : (more : List ℕ) → items_outcome more ≡ read (rest_at place
 unfolding items_outcome
 begin_outcome more = ap (read (rest_at place.Start [])) (lexemes_zero more (scan_of more).0)
 
-pub leads_first : LeadTo [] place.Start []
-leads_first = record {
-  outcome = begin_outcome;
-  stop = λ more. stop_zero (scan_of more).1;
-  several = λ e more. absurd cc;
-  begins = λ e. refl;
-}
+pub leads_first : (more : List ℕ) → LeadTo [] more place.Start []
+leads_first more = record { outcome = begin_outcome more; stop = stop_zero (scan_of more).1; several = λ e. absurd cc; begins = λ e. refl }
+
+-- bytes that lead on whatever follows the first of the others, where no more follow
+pub leads_here : (before bytes : List ℕ) (here : Place) (items : List LibraryItem) → ((more : List ℕ) → LeadTo before (bytes ++ more) here items) → LeadTo before bytes here items
+leads_here before bytes here items leads = subst (λ (b : List ℕ). LeadTo before b here items) (append-nil bytes) (leads [])
 
 -- a part whatever is open at its end: its tokens are the first ones
 part_tokens : (bytes : List ℕ) (tokens : List Token) (mode : Mode) (more : List ℕ) → AreScanned bytes tokens mode → (scan_of (bytes ++ more)).0 ≡ tokens ++ (run mode (length bytes) more).0
@@ -80,7 +79,7 @@ closed_lexemes n bytes tokens more h i =
     ap (λ (p : List Token × Stop). lexemes_behind n (bytes ++ more) p.0) (scan_on bytes tokens h more)
     ∙ lexemes_split n bytes more tokens (scan_of more).0 i
 
-stop_twice : (n k : ℕ) (stop : Stop) → stop_behind n (stop_behind k stop) ≡ stop_behind (n + k) stop
+pub stop_twice : (n k : ℕ) (stop : Stop) → stop_behind n (stop_behind k stop) ≡ stop_behind (n + k) stop
 stop_twice n k End = refl
 stop_twice n k (BadByte at) = let e : at + k + n ≡ at + (n + k) = omega arith in ap BadByte e
 stop_twice n k (OpenText at) = let e : at + k + n ≡ at + (n + k) = omega arith in ap OpenText e
@@ -160,11 +159,11 @@ several_lead (x ∷ []) there all others h e =
     ]
 several_lead (x ∷ y ∷ s) there all others h e = refl
 
-several_on : (before bytes : List ℕ) (tokens : List Token) (here there : Place) (items all : List LibraryItem) →
-    LeadTo before here items → AreScanned bytes tokens (Between false) → LieInside bytes tokens → is_start there ≡ false →
+several_on : (before bytes : List ℕ) (tokens : List Token) (here there : Place) (items all : List LibraryItem) (more : List ℕ) →
+    LeadTo before (bytes ++ more) here items → AreScanned bytes tokens (Between false) → LieInside bytes tokens → is_start there ≡ false →
     ((more : List Lexeme) → read (rest_at here []) (lexemes_behind (length before) bytes tokens ++ more) ≡ read (rest_at there all) more) →
-    (more : List ℕ) → is_last (lexemes_of (before ++ (bytes ++ more)) (scan_of (before ++ (bytes ++ more))).0) ≡ false
-several_on before bytes tokens place.Start there items all leads scanned inside not_start comes more =
+    is_last (lexemes_of (before ++ (bytes ++ more)) (scan_of (before ++ (bytes ++ more))).0) ≡ false
+several_on before bytes tokens place.Start there items all more leads scanned inside not_start comes =
     let none : before ≡ [] = leads.begins refl in
     let size : length before ≡ 0 = ap length none in
     let lead : read (rest_at place.Start []) (lexemes_behind (length before) bytes tokens) ≡ read (rest_at there all) [] =
@@ -173,31 +172,31 @@ several_on before bytes tokens place.Start there items all leads scanned inside 
     ∙ ap is_last (lexemes_zero (bytes ++ more) (scan_of (bytes ++ more)).0 ∙ closed_lexemes 0 bytes tokens more scanned inside
     ∙ ap (λ (n : ℕ). lexemes_behind n bytes tokens ++ lexemes_behind (0 + length bytes) more (scan_of more).0) (sym size))
     ∙ several_lead (lexemes_behind (length before) bytes tokens) there all (lexemes_behind (0 + length bytes) more (scan_of more).0) not_start lead
-several_on before bytes tokens place.Inside there items all leads scanned inside not_start comes more = leads.several refl (bytes ++ more)
-several_on before bytes tokens place.Behind there items all leads scanned inside not_start comes more = leads.several refl (bytes ++ more)
+several_on before bytes tokens place.Inside there items all more leads scanned inside not_start comes = leads.several refl
+several_on before bytes tokens place.Behind there items all more leads scanned inside not_start comes = leads.several refl
 
 -- a part with nothing open at its end leads on
-pub leads_on : (before bytes : List ℕ) (tokens : List Token) (here there : Place) (items all : List LibraryItem) →
-    LeadTo before here items → AreScanned bytes tokens (Between false) → LieInside bytes tokens → is_start there ≡ false →
+pub leads_on : (before bytes : List ℕ) (tokens : List Token) (here there : Place) (items all : List LibraryItem) (more : List ℕ) →
+    LeadTo before (bytes ++ more) here items → AreScanned bytes tokens (Between false) → LieInside bytes tokens → is_start there ≡ false →
     ((more : List Lexeme) → read (rest_at here []) (lexemes_behind (length before) bytes tokens ++ more) ≡ read (rest_at there all) more) →
-    LeadTo (before ++ bytes) there (items ++ all)
-leads_on before bytes tokens here there items all leads scanned inside not_start comes = record {
-  outcome = λ more.
+    LeadTo (before ++ bytes) more there (items ++ all)
+leads_on before bytes tokens here there items all more leads scanned inside not_start comes = record {
+  outcome =
       ap items_outcome (append_assoc before bytes more)
-      ∙ leads.outcome (bytes ++ more)
+      ∙ leads.outcome
       ∙ ap (read (rest_at here items)) (closed_lexemes (length before) bytes tokens more scanned inside)
       ∙ rest_behind here items (lexemes_behind (length before) bytes tokens ++ lexemes_behind (length before + length bytes) more (scan_of more).0)
       ∙ ap (prefixed items) (comes (lexemes_behind (length before + length bytes) more (scan_of more).0))
       ∙ sym (rest_prefixed there items all (lexemes_behind (length before + length bytes) more (scan_of more).0))
       ∙ ap (λ (n : ℕ). read (rest_at there (items ++ all)) (lexemes_behind n more (scan_of more).0)) (sym (length-append before bytes));
-  stop = λ more.
+  stop =
       ap (λ (b : List ℕ). (scan_of b).1) (append_assoc before bytes more)
-      ∙ leads.stop (bytes ++ more)
+      ∙ leads.stop
       ∙ ap (λ (p : List Token × Stop). stop_behind (length before) p.1) (scan_on bytes tokens scanned more)
       ∙ stop_twice (length before) (length bytes) (scan_of more).1
       ∙ ap (λ (n : ℕ). stop_behind n (scan_of more).1) (sym (length-append before bytes));
-  several = λ e more.
+  several = λ e.
       ap (λ (b : List ℕ). is_last (lexemes_of b (scan_of b).0)) (append_assoc before bytes more)
-      ∙ several_on before bytes tokens here there items all leads scanned inside not_start comes more;
+      ∙ several_on before bytes tokens here there items all more leads scanned inside not_start comes;
   begins = λ e. absurd (let f : true ≡ false = sym e ∙ not_start in cc);
 }

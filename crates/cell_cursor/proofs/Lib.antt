@@ -2,6 +2,7 @@ pub mod AdvanceLemmas
 pub mod Ascending
 pub mod Closed
 pub mod Comings
+pub mod Cutting
 pub mod Depths
 pub mod EndsLemmas
 pub mod Gathers

@@ -38,7 +38,7 @@ use Rattle.cell_cursor.proofs.EndsLemmas.{refused_reads, part_items, part_answer
 use Rattle.cell_cursor.specs.Progress.{scanned_by}
 use Rattle.cell_cursor.proofs.Depths.{lexeme_kinds_behind}
 use Rattle.cell_cursor.proofs.GivenLemmas.{seen_more, seen_items, seen_next, given_items, given_seen, place_closed, none_closed, keeps_front, front_same, goes_open}
-use Rattle.cell_cursor.proofs.LeadsLemmas.{leads_on, leads_first}
+use Rattle.cell_cursor.proofs.LeadsLemmas.{leads_on, leads_first, leads_here}
 
 -- the first bytes of a library, up to a limit that is behind them
 take_within : (limit : ℕ) (bytes more : List ℕ) → length bytes ≤ limit → take limit (bytes ++ more) ≡ bytes ++ take (limit - length bytes) more
@@ -46,12 +46,12 @@ take_within limit bytes more h =
     let e : limit ≡ length bytes + (limit - length bytes) = omega (arith, h) in
     ap (λ (n : ℕ). take n (bytes ++ more)) e ∙ take-append-add bytes more (limit - length bytes)
 
-pub are_first : (limit : ℕ) (before tail : List ℕ) (here : Place) (items : List LibraryItem) → LeadTo before here items → length (before ++ tail) ≤ limit → AreFirst limit (before ++ tail) items
+pub are_first : (limit : ℕ) (before tail : List ℕ) (here : Place) (items : List LibraryItem) → ((more : List ℕ) → LeadTo before (tail ++ more) here items) → length (before ++ tail) ≤ limit → AreFirst limit (before ++ tail) items
 unfolding items_within
 are_first limit before tail here items leads h more =
     let rest = take (limit - length (before ++ tail)) more in (
       items_in (part_outcome here (length before) (tail ++ rest)),
-      part_items before (tail ++ rest) here items leads
+      part_items before (tail ++ rest) here items (leads rest)
           ∙ ap items_of_bytes (sym (append_assoc before tail rest))
           ∙ ap items_of_bytes (sym (take_within limit (before ++ tail) more h)),
     )
@@ -69,7 +69,7 @@ reads_by limit file front items end e h i = record {
 }
 
 pub reads_refused : (limit : ℕ) (before bytes piece : List ℕ) (tokens : List Token) (mode : Mode) (here : Place) (items all : List LibraryItem) (k : Refusal) (x : Lexeme) (m : List Lexeme) →
-    LeadTo before here items → AreScanned bytes tokens mode → LieInside bytes tokens → read (rest_at here []) (lexemes_behind (length before) bytes tokens) ≡ Err ((all, k), x ∷ m) →
+    ((tail : List ℕ) → LeadTo before (bytes ++ tail) here items) → AreScanned bytes tokens mode → LieInside bytes tokens → read (rest_at here []) (lexemes_behind (length before) bytes tokens) ≡ Err ((all, k), x ∷ m) →
     is_settled (length before + length bytes) x m ≡ true → length (before ++ (bytes ++ piece)) ≤ limit →
     (more : List ℕ) → ReadsSo limit ((before ++ (bytes ++ piece)) ++ more) (items ++ all) (Fault (fault_at k x.token.at))
 reads_refused limit before bytes piece tokens mode here items all k x m leads scanned inside e f h more =
@@ -80,7 +80,7 @@ reads_refused limit before bytes piece tokens mode here items all k x m leads sc
     reads_by limit ((before ++ (bytes ++ piece)) ++ more) (before ++ (bytes ++ (piece ++ rest))) (items ++ all) (Fault (fault_at k x.token.at))
     (take_within limit (before ++ (bytes ++ piece)) more h ∙ same) r.0 (r.1 (nat_le (length ((before ++ (bytes ++ piece)) ++ more)) limit))
 
-pub reads_end : (limit : ℕ) (before bytes : List ℕ) (here : Place) (items : List LibraryItem) → LeadTo before here items → length (before ++ bytes) ≤ limit →
+pub reads_end : (limit : ℕ) (before bytes : List ℕ) (here : Place) (items : List LibraryItem) → LeadTo before bytes here items → length (before ++ bytes) ≤ limit →
     ReadsSo limit (before ++ bytes) (items ++ items_in (part_outcome here (length before) bytes)) (end_of_bytes (before ++ bytes) true)
 reads_end limit before bytes here items leads h =
     reads_by limit (before ++ bytes) (before ++ bytes) (items ++ items_in (part_outcome here (length before) bytes)) (end_of_bytes (before ++ bytes) true)
@@ -90,7 +90,7 @@ reads_end limit before bytes here items leads h =
     inside : (n limit : ℕ) → n ≤ limit → nat_le n limit ≡ true
     inside n limit h = grind (arith, nat_tests, h)
 
-pub reads_limit : (limit : ℕ) (before bytes : List ℕ) (y : ℕ) (here : Place) (items : List LibraryItem) → LeadTo before here items → length (before ++ bytes) ≡ limit →
+pub reads_limit : (limit : ℕ) (before bytes : List ℕ) (y : ℕ) (here : Place) (items : List LibraryItem) → LeadTo before bytes here items → length (before ++ bytes) ≡ limit →
     (more : List ℕ) → ReadsSo limit (((before ++ bytes) ++ y ∷ []) ++ more) (items ++ items_in (part_outcome here (length before) bytes)) (end_of_bytes (before ++ bytes) false)
 reads_limit limit before bytes y here items leads h more =
     reads_by limit (((before ++ bytes) ++ y ∷ []) ++ more) (before ++ bytes) (items ++ items_in (part_outcome here (length before) bytes)) (end_of_bytes (before ++ bytes) false)
@@ -137,8 +137,10 @@ keeps_on o n there all bytes items g scanned mode inside not_start comes place_i
           ∙ ap (λ (s : List ℕ). (g.before ++ o.part.bytes) ++ s) (sym piece_is)
           ∙ ap (λ (s : List ℕ). (g.before ++ o.part.bytes) ++ (s ++ n.piece)) (sym bytes_are);
       size = before_is ∙ ap (λ (k : ℕ). k + length o.part.bytes) g.size ∙ sym (length-append g.before o.part.bytes);
-      leads = subst (λ (p : Place). LeadTo (g.before ++ o.part.bytes) p (items ++ all)) (sym place_is)
-          (leads_on g.before o.part.bytes o.part.tokens o.place there items all g.leads scanned' inside not_start comes');
+      leads = λ more.
+          subst (λ (p : Place). LeadTo (g.before ++ o.part.bytes) (n.part.bytes ++ more) p (items ++ all)) (sym place_is)
+          (subst (λ (b : List ℕ). LeadTo (g.before ++ o.part.bytes) (b ++ more) there (items ++ all)) (sym bytes_are)
+          (leads_on g.before o.part.bytes o.part.tokens o.place there items all more (g.leads more) scanned' inside not_start comes'));
     }
 
 none_inner : (n : CellCursor) → n.part.tokens ≡ [] → has_outer n.place (kinds_of n.part.tokens) ≡ false
@@ -149,7 +151,7 @@ seen_there : (n : CellCursor) (there : Place) (bytes : List ℕ) (items : List L
 seen_there n there bytes items place_is not_start bytes_are k =
     front_same (take (scanned_by n) bytes) items
     (ap closed_items (keeps_front n bytes items k ∙ ap (λ (b : List ℕ). k.before ++ b) bytes_are ∙ append-nil k.before)
-    ∙ place_closed k.before n.place items k.leads (ap is_start place_is ∙ not_start))
+    ∙ place_closed k.before n.place items (subst (λ (b : List ℕ). LeadTo k.before b n.place items) bytes_are (leads_here k.before n.part.bytes n.place items k.leads)) (ap is_start place_is ∙ not_start))
 
 pub goes_on : (o n : CellCursor) (there : Place) (all : List LibraryItem) (bytes : List ℕ) (items : List LibraryItem) → MayTake o bytes items →
     AreScanned o.part.bytes o.part.tokens o.part.mode → o.part.mode ≡ Between false → LieInside o.part.bytes o.part.tokens →
@@ -232,7 +234,8 @@ stands_refused o n f all k x m scanned inside fault_is e final limit_is answer_i
 first_of_kept : (o : CellCursor) (bytes : List ℕ) (items : List LibraryItem) (limit : ℕ) → limit ≡ o.limit → Keeps o bytes items → AreFirst limit bytes items
 first_of_kept o bytes items limit limit_is g =
     let h : length (g.before ++ (o.part.bytes ++ o.piece)) ≤ limit = subst (λ (b : List ℕ). length b ≤ limit) g.split (taken_within o bytes items limit g (subst (λ (l : ℕ). o.part.before + (length o.part.bytes + length o.piece) ≤ l) (sym limit_is) o.within)) in
-    subst (λ (b : List ℕ). AreFirst limit b items) (sym g.split) (are_first limit g.before (o.part.bytes ++ o.piece) o.place items g.leads h)
+    subst (λ (b : List ℕ). AreFirst limit b items) (sym g.split) (are_first limit g.before (o.part.bytes ++ o.piece) o.place items
+    (λ more. subst (λ (b : List ℕ). LeadTo g.before b o.place items) (sym (append_assoc o.part.bytes o.piece more)) (g.leads (o.piece ++ more))) h)
 
 pub first_of_going : (o : CellCursor) (bytes : List ℕ) (items : List LibraryItem) (limit : ℕ) → limit ≡ o.limit → Goes o bytes items → AreFirst limit bytes items
 first_of_going o bytes items limit limit_is g = first_of_kept o bytes items limit limit_is g.keeps
@@ -248,7 +251,9 @@ keeps_read o n bytes xs items none part_is place_is piece_is g = record {
       ∙ ap (λ (p : Scanned). g.before ++ (p.bytes ++ xs)) (sym part_is)
       ∙ ap (λ (s : List ℕ). g.before ++ (n.part.bytes ++ s)) (sym piece_is);
   size = ap (λ (p : Scanned). p.before) part_is ∙ g.size;
-  leads = subst (λ (p : Place). LeadTo g.before p items) (sym place_is) g.leads;
+  leads = λ more.
+      subst (λ (p : Place). LeadTo g.before (n.part.bytes ++ more) p items) (sym place_is)
+      (subst (λ (v : Scanned). LeadTo g.before (v.bytes ++ more) o.place items) (sym part_is) (g.leads more));
 }
 
 inner_same : (o n : CellCursor) → n.part ≡ o.part → n.place ≡ o.place → has_outer o.place (kinds_of o.part.tokens) ≡ false → has_outer n.place (kinds_of n.part.tokens) ≡ false
@@ -290,7 +295,7 @@ knows_end o n bytes items none limit_is g =
     let end : End = end_of_bytes (g.before ++ o.part.bytes) true in
     let all : ℕ → List LibraryItem = λ i. items ++ items_in (part_outcome o.place i o.part.bytes) in
     let r : ReadsSo n.limit (g.before ++ o.part.bytes) (all (length g.before)) end =
-    subst (λ (l : ℕ). ReadsSo l (g.before ++ o.part.bytes) (all (length g.before)) end) (sym limit_is) (reads_end o.limit g.before o.part.bytes o.place items g.leads h) in
+    subst (λ (l : ℕ). ReadsSo l (g.before ++ o.part.bytes) (all (length g.before)) end) (sym limit_is) (reads_end o.limit g.before o.part.bytes o.place items (leads_here g.before o.part.bytes o.place items g.leads) h) in
     let k = by_end n end (g.before ++ o.part.bytes) (all (length g.before)) (never_cut (g.before ++ o.part.bytes)) r in
     subst (λ (b : List ℕ). Knows (Some (answer_at o.place o.part.before o.part.bytes true)) n b (all o.part.before)) (sym b_is)
     (subst (λ (i : ℕ). Knows (Some (answer_at o.place i o.part.bytes true)) n (g.before ++ o.part.bytes) (all i)) (sym g.size)
@@ -305,7 +310,7 @@ knows_limit o n bytes y items none limit_is full g =
     let end : End = end_of_bytes (g.before ++ o.part.bytes) false in
     let all : ℕ → List LibraryItem = λ i. items ++ items_in (part_outcome o.place i o.part.bytes) in
     let r : (more : List ℕ) → ReadsSo n.limit (((g.before ++ o.part.bytes) ++ y ∷ []) ++ more) (all (length g.before)) end = λ more.
-    subst (λ (l : ℕ). ReadsSo l (((g.before ++ o.part.bytes) ++ y ∷ []) ++ more) (all (length g.before)) end) (sym limit_is) (reads_limit o.limit g.before o.part.bytes y o.place items g.leads h more) in
+    subst (λ (l : ℕ). ReadsSo l (((g.before ++ o.part.bytes) ++ y ∷ []) ++ more) (all (length g.before)) end) (sym limit_is) (reads_limit o.limit g.before o.part.bytes y o.place items (leads_here g.before o.part.bytes o.place items g.leads) h more) in
     let k = by_front n end ((g.before ++ o.part.bytes) ++ y ∷ []) (all (length g.before)) (never_whole (g.before ++ o.part.bytes)) r in
     subst (λ (b : List ℕ). Knows (Some (answer_at o.place o.part.before o.part.bytes false)) n (b ++ y ∷ []) (all o.part.before)) (sym b_is)
     (subst (λ (i : ℕ). Knows (Some (answer_at o.place i o.part.bytes false)) n ((g.before ++ o.part.bytes) ++ y ∷ []) (all i)) (sym g.size)
@@ -334,7 +339,9 @@ keeps_same o n place_is piece_is part_is bytes all g = record {
   before = g.before;
   split = g.split ∙ ap (λ (p : Scanned). g.before ++ (p.bytes ++ o.piece)) (sym part_is) ∙ ap (λ (b : List ℕ). g.before ++ (n.part.bytes ++ b)) (sym piece_is);
   size = ap (λ (p : Scanned). p.before) part_is ∙ g.size;
-  leads = subst (λ (p : Place). LeadTo g.before p all) (sym place_is) g.leads;
+  leads = λ more.
+      subst (λ (p : Place). LeadTo g.before (n.part.bytes ++ more) p all) (sym place_is)
+      (subst (λ (v : Scanned). LeadTo g.before (v.bytes ++ more) o.place all) (sym part_is) (g.leads more));
 }
 
 pub goes_same : (o n : CellCursor) → n.place ≡ o.place → n.piece ≡ o.piece → n.part ≡ o.part → (bytes : List ℕ) (all : List LibraryItem) → Goes o bytes all → Goes n bytes all
@@ -383,7 +390,7 @@ stands_first c going none place_is before_is bytes_are no_tokens piece_is =
         before = [];
         split = ap (λ (b : List ℕ). b ++ []) (sym bytes_are) ∙ ap (λ (b : List ℕ). c.part.bytes ++ b) (sym piece_is);
         size = before_is;
-        leads = subst (λ (p : Place). LeadTo [] p []) (sym place_is) leads_first;
+        leads = λ more. subst (λ (p : Place). LeadTo [] (c.part.bytes ++ more) p []) (sym place_is) (leads_first (c.part.bytes ++ more));
       };
       inner = none_inner c no_tokens;
       seen = λ e less. subst (λ (b : List ℕ). IsFrontOf (closed_items b) []) (sym (no_bytes e)) (subst (λ (l : List LibraryItem). IsFrontOf l []) (sym none_closed) ([], refl));

@@ -1,8 +1,9 @@
 -- One statement of the library after another.
-use Rattle.std.proofs.Common.{◌≡◌, ℕ, ◌+◌, ◌≤◌, Bool, true, List, [], ◌∷◌, ◌++◌, length, Option, Some, None, Ok, Err, refl, sym, ap, ◌∙◌, arith}
+use Rattle.std.proofs.Common.{◌≡◌, ℕ, ◌+◌, ◌≤◌, Bool, true, List, [], ◌∷◌, ◌++◌, length, Option, Some, None, Ok, Err, refl, sym, ap, subst, ◌∙◌, arith}
 use Rattle.std.proofs.lemmas.List.{append-nil}
 use Rattle.grammar_rules.specs.Reading.{Outcome, and_then, read}
-use Rattle.grammar_rules.proofs.Steps.{choose_fits, and_then_fails}
+use Rattle.grammar_rules.proofs.Steps.{choose_fits, and_then_fails, rest_of}
+use Rattle.grammar_rules.proofs.Places.{Suffix, suffix, suffix_trans}
 use Rattle.grammar_rules.proofs.Exact.{parts_shrink, shrinks}
 use Rattle.grammar_rules.proofs.Turns.{turns, unroll, turn, ends}
 use Rattle.liberty_groups.specs.declared.fault.Refusal.{Refusal}
@@ -15,8 +16,9 @@ use Rattle.liberty_groups.specs.Grammar.{starts, next_start, next_at, statement}
 use Rattle.liberty_groups.specs.Library.{levels_inside}
 use Rattle.cell_cursor.specs.declared.item.LibraryItem.{LibraryItem}
 use Rattle.cell_cursor.specs.Items.{Adds, given, has_ended, item_statement, adding, statements_after}
-use Rattle.cell_cursor.specs.Reached.{ReadsOn}
+use Rattle.cell_cursor.specs.Reached.{ReadsOn, ReadsUpTo}
 use Rattle.cell_cursor.proofs.Closed.{reads_on, closed_statement}
+use Rattle.cell_cursor.proofs.Prefix.{Told}
 
 pub statement_read : (items : List LibraryItem) (name : List ℕ) (at : ℕ) (s : List Lexeme) (one : Item) (left : List Lexeme) →
     read (statement levels_inside name at) s ≡ Ok (one, left) → read (item_statement items name at) s ≡ Ok (items ++ given one, left)
@@ -139,3 +141,23 @@ named_turn_as items all more_items all' s left next left' h e one f g more =
 pub empty_less : (left left' : List Lexeme) → next_start left ≡ start.Empty → left' ≡ rest left → length left' + 1 ≤ length left
 empty_less [] left' e f = absurd cc
 empty_less (x ∷ left) left' e f = let k = ap length f in omega (arith, k)
+
+-- what a turn leaves is the end of what it began with
+
+rest_ends : (s left : List Lexeme) → Suffix s left → Suffix s (rest left)
+rest_ends s [] h = h
+rest_ends s (x ∷ left) h = suffix_trans s (x ∷ left) left h (x ∷ [], refl)
+
+pub empty_ends : (s left left' : List Lexeme) → Suffix s left → left' ≡ rest left → Suffix s left'
+empty_ends s left left' h e = subst (λ (l : List Lexeme). Suffix s l) (sym e) (rest_ends s left h)
+
+pub named_ends : (all more_items : List LibraryItem) (s left next left' : List Lexeme) → Suffix s left →
+    ((more : List Lexeme) → read (item_statement all (next_bytes left) (next_at left)) (rest left ++ more) ≡ Ok (more_items, next ++ more)) → left' ≡ next → Suffix s left'
+named_ends all more_items s left next left' h one e =
+    let now : read (item_statement all (next_bytes left) (next_at left)) (rest left) ≡ Ok (more_items, next) =
+    ap (read (item_statement all (next_bytes left) (next_at left))) (sym (append-nil (rest left))) ∙ one [] ∙ ap (λ (t : List Lexeme). Ok (more_items, t)) (append-nil next) in
+    let i : Suffix (rest left) next = subst (λ (o : Told). Suffix (rest left) (rest_of o)) now (suffix (item_statement all (next_bytes left) (next_at left)) (rest left)) in
+    subst (λ (l : List Lexeme). Suffix s l) (sym e) (suffix_trans s (rest left) next (rest_ends s left h) i)
+
+pub reaches : (items all : List LibraryItem) (s left : List Lexeme) (count : ℕ) → Suffix s left → length left ≡ count → ReadsOn items s all left → ReadsUpTo items s all count
+reaches items all s left count h size on = (h.0, left, h.1, size, on)

@@ -14,10 +14,10 @@ abbrev pub is_start : Place → Bool
 is_start place.Start = true
 is_start _ = false
 
--- These bytes lead to this place of a library, behind these items: whatever follows them is read, with its offsets, from this
--- place on, and stops where it would alone.
-pub record LeadTo (before : List ℕ) (here : Place) (items : List LibraryItem) : Type 0 where
-  pub outcome : (more : List ℕ) → items_outcome (before ++ more) ≡ read (rest_at here items) (lexemes_behind (length before) more (scan_of more).0)
-  pub stop : (more : List ℕ) → (scan_of (before ++ more)).1 ≡ stop_behind (length before) (scan_of more).1
-  pub several : is_start here ≡ false → (more : List ℕ) → is_last (lexemes_of (before ++ more) (scan_of (before ++ more)).0) ≡ false
+-- These bytes lead to this place of a library, behind these items, where those follow: they are read, with their offsets, from
+-- this place on, and stop where they would alone.
+pub record LeadTo (before tail : List ℕ) (here : Place) (items : List LibraryItem) : Type 0 where
+  pub outcome : items_outcome (before ++ tail) ≡ read (rest_at here items) (lexemes_behind (length before) tail (scan_of tail).0)
+  pub stop : (scan_of (before ++ tail)).1 ≡ stop_behind (length before) (scan_of tail).1
+  pub several : is_start here ≡ false → is_last (lexemes_of (before ++ tail) (scan_of (before ++ tail)).0) ≡ false
   pub begins : is_start here ≡ true → before ≡ []

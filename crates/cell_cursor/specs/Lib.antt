@@ -1,4 +1,5 @@
 pub mod Braces
+pub mod Cut
 pub mod Ends
 pub mod Finish
 pub mod Given

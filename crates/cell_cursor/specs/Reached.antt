@@ -1,5 +1,5 @@
 -- What the tokens of a part of a library come to, whatever follows them.
-use Rattle.std.specs.Prelude.{◌≡◌, ℕ, ◌++◌, ◌||◌, not, nat_lt, Bool, true, false, List, [], ◌∷◌, Result, Ok, Err}
+use Rattle.std.specs.Prelude.{◌≡◌, ℕ, ◌++◌, length, ◌||◌, not, nat_lt, Bool, true, false, List, [], ◌∷◌, Result, Ok, Err}
 use Rattle.grammar_rules.specs.Reading.{read}
 use Rattle.liberty_groups.specs.declared.fault.Refusal.{Refusal}
 use Rattle.liberty_groups.specs.declared.fault.Stop.{Stop}
@@ -22,6 +22,10 @@ use Rattle.cell_cursor.specs.Leads.{is_start}
 -- all items.
 abbrev pub ReadsOn : List LibraryItem → List Lexeme → List LibraryItem → List Lexeme → Type 0
 ReadsOn items s all left = (more : List Lexeme) → read (statements_after items) (s ++ more) ≡ read (statements_after all) (left ++ more)
+
+-- The tokens are read on up to the last so many of them, where a statement ends.
+abbrev pub ReadsUpTo : List LibraryItem → List Lexeme → List LibraryItem → ℕ → Type 0
+ReadsUpTo items s all count = (front left : List Lexeme) × (s ≡ front ++ left) × (length left ≡ count) × ReadsOn items s all left
 
 -- a token is the same whatever follows the bytes up to this offset: a Word that ends with them may go on
 abbrev pub is_final : ℕ → Token → Bool

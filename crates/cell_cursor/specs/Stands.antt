@@ -38,12 +38,13 @@ abbrev pub given_by : Result Next CursorFault → List LibraryItem
 given_by (Ok one) = given_next one
 given_by (Err f) = []
 
--- What the cursor keeps is the end of the bytes that were taken, and those before it lead to its place, behind these items.
+-- What the cursor keeps is the end of the bytes that were taken, and those before it lead to its place, behind these items,
+-- whatever follows the bytes of its part.
 pub record Keeps (c : CellCursor) (bytes : List ℕ) (items : List LibraryItem) : Type 0 where
   pub before : List ℕ
   pub split : bytes ≡ before ++ (c.part.bytes ++ c.piece)
   pub size : c.part.before ≡ length before
-  pub leads : LeadTo before c.place items
+  pub leads : (more : List ℕ) → LeadTo before (c.part.bytes ++ more) c.place items
 
 -- The cursor has no answer yet. No group of the library has ended in its part, and each cell that is closed in the bytes that
 -- are scanned is among these items.

@@ -22,8 +22,8 @@ pub(crate) enum Answer {
     Fault(CursorFault),
 }
 
-/// A library that is read from a desk, one item after another. It holds a read, the bytes and tokens from the last semicolon or
-/// brace on with which all statements before it had ended, and the items of those that ended there.
+/// A library that is read from a desk, one item after another. It holds a read, the bytes and tokens of the statement that
+/// has not ended, and the items of those that ended before it.
 #[derive(Drop)]
 pub struct CellCursor {
     pub(crate) alloc: Global,

@@ -1,5 +1,5 @@
-//! A library's cells one at a time: a Liberty text that is read from a desk in pieces, and held only from the last semicolon
-//! or brace on with which all statements before it had ended.
+//! A library's cells one at a time: a Liberty text that is read from a desk in pieces, and held only from the statement
+//! on that has not ended.
 #![tactic(auto)]
 
 mod cursor;

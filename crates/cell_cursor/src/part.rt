@@ -1,6 +1,6 @@
 //! The part of a library that is scanned and whose statements have not all ended.
 
-ghost use Rattle.std.specs.Prelude.{◌≡◌, ℕ, true, false, ◌<◌, ◌≤◌, ◌+◌, ◌^◌, [], ◌++◌, take, length, IfOk, OnErr};
+ghost use Rattle.std.specs.Prelude.{◌≡◌, ℕ, true, false, ◌<◌, ◌≤◌, ◌+◌, ◌^◌, [], ◌++◌, take, length, IfOk, IfSome, OnErr};
 ghost use Rattle.liberty_text.specs.declared.scanner.Mode.TheVariants.{Between};
 ghost use Rattle.liberty_groups.specs.Lexeme.{LieInside};
 ghost use Rattle.liberty_text.specs.Runs.{mode_behind, tokens_ended};
@@ -136,6 +136,30 @@ impl Part {
             }
         }
     }
+}
+
+/// A part of these bytes, before which so many others stand, with all of them scanned. There is none where a statement may
+/// end in it.
+pub(crate) fn scanned_part(
+    alloc: Global,
+    before: usize,
+    place: Place,
+    bytes: &[u8],
+) -> Result<Option<Part>, Memory>
+    ensures before { IfOk result (λ found. IfSome found (λ part. part.before ≡ before)) }
+    ensures bytes { IfOk result (λ found. IfSome found (λ part. part.bytes ≡ bytes.now)) }
+    ensures inner { IfOk result (λ found. IfSome found (λ part. has_outer place (kinds_of part.tokens) ≡ false)) }
+{
+    let mut part = Part::new(alloc, before, place);
+    let mut left = bytes;
+    while !left.is_empty() {
+        let run = part.scan(alloc, place, left)?;
+        if run.may_end {
+            return Ok(None);
+        }
+        left = &left[run.count..];
+    }
+    Ok(Some(part))
 }
 
 /// Where the next token stands at a place of a library.

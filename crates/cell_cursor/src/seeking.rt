@@ -1,10 +1,11 @@
 //! The next item.
 
-ghost use Rattle.std.specs.Prelude.{◌≡◌, ℕ, true, false, ◌<◌, ◌≤◌, ◌+◌, List, [], reverse, length, IsTrue, IsOk, OnOk, OnErr, IfOk, IfErr, Some, None, ◌⊎◌};
+ghost use Rattle.std.specs.Prelude.{◌≡◌, ℕ, true, false, ◌<◌, ◌≤◌, ◌+◌, ◌^◌, List, [], reverse, length, IsTrue, IsOk, OnOk, OnErr, IfOk, IfErr, IfSome, Some, None, ◌⊎◌};
 ghost use Rattle.text_io.specs.declared.slots.InSlot.TheVariants.{Library};
 ghost use Rattle.text_io.specs.declared.slots.Slot.TheVariants.{Input};
 ghost use Rattle.text_io.specs.Desk.{is_bound, Rose};
 ghost use Rattle.liberty_text.specs.declared.scanner.Mode.TheVariants.{Between};
+ghost use Rattle.cell_cursor.specs.Cut.{IsCut};
 ghost use Rattle.cell_cursor.specs.Finish.{part_outcome, answer_at};
 ghost use Rattle.cell_cursor.specs.Items.{items_in};
 ghost use Rattle.cell_cursor.specs.Progress.{taken_by, to_do, may_have_ended, is_whole};
@@ -14,12 +15,13 @@ ghost use Rattle.cell_cursor.specs.Stands.{answered, given_by, is_going, is_fail
 use crate::cursor::{Answer, CellCursor};
 use crate::fault::{CursorFault, Memory};
 use crate::item::{LibraryItem, Next, next_of};
-use crate::part::{Part, Place};
+use crate::part::{Part, Place, scanned_part};
 use crate::piece::Piece;
 use crate::reading::read_end;
-use crate::statements::{Reached, reach};
+use crate::statements::{Reached, reach, reach_rest};
 use crate::watch::Sight;
 use liberty_groups::{Cursor, LibraryFault};
+use liberty_text::{Token, TokenKind};
 use std::alloc::Global;
 use text_io::{Desk, InSlot};
 
@@ -32,6 +34,8 @@ pub(crate) enum Scanned {
     MayEnd,
     /// No library text goes on with the last tokens.
     Misfit,
+    /// The name of a statement ended with the last tokens, and the statements before it ended without a semicolon or a brace.
+    Name,
 }
 
 impl CellCursor {
@@ -70,8 +74,10 @@ impl CellCursor {
             if run.may_end {
                 return Ok(Scanned::MayEnd);
             }
-            if run.sight == Sight::Misfit {
-                return Ok(Scanned::Misfit);
+            match run.sight {
+                Sight::Misfit => return Ok(Scanned::Misfit),
+                Sight::Name => return Ok(Scanned::Name),
+                Sight::Nothing => {}
             }
         }
         Ok(Scanned::All)
@@ -128,6 +134,43 @@ impl CellCursor {
                 Ok(())
             }
         }
+    }
+
+    /// Takes the statements of the part before the name that ended last, if they have ended.
+    fn take_before_name(&mut self) -> Result<(), Memory>
+        requires none_waits { self.old.waiting.items ≡ [] }
+        requires going { self.old.answer ≡ None }
+        ensures stands { OnOk result ((bytes : List ℕ) (items : List Given) → Goes self.old bytes items → Stands self.new bytes items) }
+        ensures err { OnErr result (self.new.waiting.items ≡ []) }
+        ensures open { OnOk result (is_ended self.new.answer ≡ false) }
+        ensures limit { self.new.limit ≡ self.old.limit }
+        ensures taken { taken_by self.new ≡ taken_by self.old }
+        ensures piece { self.new.piece ≡ self.old.piece }
+        ensures never { is_failed self.old.answer ≡ false → is_failed self.new.answer ≡ false }
+    {
+        let mut items = Vec::new(self.alloc);
+        match part_behind(self.alloc, &self.part, self.place, &mut items)? {
+            Some(rest) => {
+                self.go_on_with(rest, items);
+                Ok(())
+            }
+            None => Ok(()),
+        }
+    }
+
+    /// The statements before this part were taken, with these items.
+    fn go_on_with(&mut self, rest: Part, mut items: Vec<LibraryItem>)
+        requires { rest.before + (length rest.bytes + length self.old.piece) ≤ self.old.limit }
+        ensures limit { self.new.limit ≡ self.old.limit }
+        ensures piece { self.new.piece ≡ self.old.piece }
+        ensures part { self.new.part ≡ rest }
+        ensures place { self.new.place ≡ self.old.place }
+        ensures answer { self.new.answer ≡ self.old.answer }
+        ensures items { self.new.waiting.items ≡ reverse items.items }
+    {
+        items.reverse();
+        self.waiting = items;
+        self.part = rest;
     }
 
     /// A token is refused, behind these items.
@@ -216,6 +259,7 @@ impl CellCursor {
         match self.scan_on()? {
             Scanned::MayEnd => return Ok(self.take_part()?),
             Scanned::Misfit => return Ok(self.refuse_part()?),
+            Scanned::Name => return Ok(self.take_before_name()?),
             Scanned::All => {}
         }
         let taken = self.part.before() + self.part.bytes().len();
@@ -275,6 +319,46 @@ impl CellCursor {
             }
             self.go_on(desk);
         }
+    }
+}
+
+/// The part behind the statements of this part that have ended before the name that ended last, if they have, and their items.
+fn part_behind(
+    alloc: Global,
+    part: &Part,
+    place: Place,
+    items: &mut Vec<LibraryItem>,
+) -> Result<Option<Part>, Memory>
+    requires none { items.old.items ≡ [] }
+    requires fits { part.now.before + length part.now.bytes < 2 ^ 64 }
+    ensures { IfOk result (λ found. IfSome found (λ rest. IsCut place part.now rest items.new.items)) }
+{
+    let tokens = part.tokens();
+    let bytes = part.bytes();
+    let before = part.before();
+    let (front, back) = tokens.split_at(name_at(tokens));
+    let Some((last, _)) = front.split_last() else {
+        return Ok(None);
+    };
+    let end = last.end;
+    if place != Place::Inside || bytes.len() < end {
+        return Ok(None);
+    }
+    let mut cursor = Cursor::behind(before, bytes, tokens);
+    if !reach_rest(&mut cursor, alloc, back.len(), items)? {
+        return Ok(None);
+    }
+    let (_, behind) = bytes.split_at(end);
+    scanned_part(alloc, before + end, Place::Inside, behind)
+}
+
+/// The index of the name that is among the tokens that ended last: a mark may have ended with the byte that ended the name.
+fn name_at(tokens: &[Token]) -> usize
+    ensures { result ≤ length tokens.now }
+{
+    match tokens {
+        [.., last] if last.kind == TokenKind::Word => tokens.len() - 1,
+        _ => tokens.len().saturating_sub(2),
     }
 }
 

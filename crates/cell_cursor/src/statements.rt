@@ -10,7 +10,7 @@ ghost use Rattle.cell_cursor.specs.Items.{Adds, has_ended, item_statement, state
 ghost use Rattle.cell_cursor.specs.declared.part.Place.TheVariants as place;
 ghost use Rattle.cell_cursor.specs.declared.item.LibraryItem.{LibraryItem as Given};
 ghost use Rattle.cell_cursor.specs.Braces.{has_outer, LastIsNotOuter, lexeme_kinds};
-ghost use Rattle.cell_cursor.specs.Reached.{ReadsOn, Comes, ComesSo, EndsInner, is_final};
+ghost use Rattle.cell_cursor.specs.Reached.{ReadsOn, ReadsUpTo, Comes, ComesSo, EndsInner, is_final};
 
 use crate::fault::Memory;
 use crate::item::{LibraryItem, item_of};
@@ -94,6 +94,47 @@ fn read_statements(
         }
     }
     Ok(true)
+}
+
+/// A statement of the library, whose item, if it is one, is added to `items`. Whether it was read and has ended whatever follows.
+fn statement_ends(
+    cursor: &mut Cursor<'_>,
+    alloc: Global,
+    items: &mut Vec<LibraryItem>,
+) -> Result<bool, Memory>
+    ensures { IfOk result (λ ends. ends ≡ true → (more : List Lexeme) → read (item_statement items.old.items (next_bytes cursor.old) (next_at cursor.old)) (rest cursor.old ++ more) ≡ Ok (items.new.items, cursor.new ++ more)) }
+{
+    match read_statement(cursor, alloc, items) {
+        Ok(ended) => Ok(ended),
+        Err(Stop::Refused(_)) => Ok(false),
+        Err(Stop::Memory) => Err(Memory),
+    }
+}
+
+/// The statements of the library from here on, up to the last so many tokens. Whether a statement ends before these.
+pub(crate) fn reach_rest(
+    cursor: &mut Cursor<'_>,
+    alloc: Global,
+    left: usize,
+    items: &mut Vec<LibraryItem>,
+) -> Result<bool, Memory>
+    ensures { IfOk result (λ ends. ends ≡ true → ReadsUpTo items.old.items cursor.old items.new.items left) }
+{
+    for _turn in 0..cursor.left() {
+        if cursor.left() == left {
+            return Ok(true);
+        }
+        match cursor.start() {
+            Start::Empty => cursor.skip(),
+            Start::Named => {
+                if !statement_ends(cursor, alloc, items)? {
+                    return Ok(false);
+                }
+            }
+            Start::Other => return Ok(false),
+        }
+    }
+    Ok(false)
 }
 
 /// The end of the file, behind the library.

@@ -10,6 +10,8 @@ pub(crate) enum Sight {
     Nothing,
     /// No library text goes on with one of them.
     Misfit,
+    /// One of them is the name of a statement of the library, and what stands before it ended without a semicolon or a brace.
+    Name,
 }
 
 /// A watch over the tokens of a part.
@@ -29,16 +31,25 @@ impl Watch {
 
     /// Sees tokens of these bytes that have ended. A misfit is told once.
     pub(crate) fn see(&mut self, bytes: &[u8], tokens: &[Token]) -> Sight {
+        let mut sight = Sight::Nothing;
         for token in tokens {
             let Some(here) = self.standing else {
-                return Sight::Nothing;
+                return sight;
             };
             let is_library = bytes.get(token.at..token.end) == Some(b"library".as_slice());
             self.standing = next_standing(here, *token, is_library);
             if self.standing.is_none() {
                 return Sight::Misfit;
             }
+            if is_behind_statement(here) && self.standing == Some(Standing::AfterName(0)) {
+                sight = Sight::Name;
+            }
         }
-        Sight::Nothing
+        sight
     }
+}
+
+/// Whether a statement of the library may end here before any token.
+fn is_behind_statement(here: Standing) -> bool {
+    matches!(here, Standing::Value(0) | Standing::AfterArguments(0))
 }

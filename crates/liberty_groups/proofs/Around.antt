@@ -29,6 +29,7 @@ pub record Around (at : ℕ) (line : Bool) (bs : List ℕ) (E : List Token) (x :
   pub word : ends_word bs ≡ true → (z : List ℕ) → MayFollow x z → ends_word (q ++ z) ≡ true
   pub spells : (y : List ℕ) (V : List Token) (s : Stop) → EndsBefore x y → Lexes x.end false y V s → Lexes x.at x.line_before (w ++ y) (x ∷ V) s
   pub begins : (y : List ℕ) → MayFollow x (w ++ y)
+  pub ends : EndsBefore x r
 
 no_tokens : (E : List Token) (x : Token) (B : List Token) → [] ≡ E ++ x ∷ B → {P : Type 0} → P
 no_tokens [] x B e = absurd cc
@@ -57,6 +58,7 @@ around {at = at} (lex.blank {b = b} {rest = rest} f d) E x B e =
       word = λ _ z p. rw f refl;
       spells = c.spells;
       begins = c.begins;
+      ends = c.ends;
     }
 around {at = at} (lex.line_end {b = b} {rest = rest} f d) E x B e =
     let c = around d E x B e in record {
@@ -70,6 +72,7 @@ around {at = at} (lex.line_end {b = b} {rest = rest} f d) E x B e =
       word = λ _ z p. rw f refl;
       spells = c.spells;
       begins = c.begins;
+      ends = c.ends;
     }
 around {at = at} {bs = bs} (lex.continuation blanks rest all split d) E x B e =
     let c = around d E x B e in record {
@@ -83,6 +86,7 @@ around {at = at} {bs = bs} (lex.continuation blanks rest all split d) E x B e =
       word = λ _ z p. refl;
       spells = c.spells;
       begins = c.begins;
+      ends = c.ends;
     }
 around {at = at} {bs = bs} (lex.comment body rest all split d) E x B e =
     let c = around d E x B e in record {
@@ -96,6 +100,7 @@ around {at = at} {bs = bs} (lex.comment body rest all split d) E x B e =
       word = λ _ z p. refl;
       spells = c.spells;
       begins = c.begins;
+      ends = c.ends;
     }
 around {at = at} {line = line} {bs = bs} (lex.mark {b = b} {rest = rest} kind f d) [] x B e =
     subst (λ (t : Token). Around at line bs [] t) (head_same e)
@@ -110,6 +115,7 @@ around {at = at} {line = line} {bs = bs} (lex.mark {b = b} {rest = rest} kind f 
       word = λ _ z p. p (mark_kind b kind f);
       spells = λ y V s p z. lex.mark kind f z;
       begins = λ y _. rw f refl;
+      ends = λ h. absurd (let k = mark_kind b kind f in cc);
     })
 around {at = at} {line = line} (lex.mark {b = b} {rest = rest} kind f d) (t ∷ E) x B e =
     let c = around d E x B (tail_same e) in record {
@@ -123,6 +129,7 @@ around {at = at} {line = line} (lex.mark {b = b} {rest = rest} kind f d) (t ∷ 
       word = λ _ z p. rw f refl;
       spells = c.spells;
       begins = c.begins;
+      ends = c.ends;
     }
 around {at = at} {line = line} {bs = bs} (lex.text body rest all split d) [] x B e =
     subst (λ (t : Token). Around at line bs [] t) (head_same e)
@@ -137,6 +144,7 @@ around {at = at} {line = line} {bs = bs} (lex.text body rest all split d) [] x B
       word = λ _ z p. p refl;
       spells = λ y V s p z. lex.text body y all (ap (λ (t : List ℕ). 34 ∷ t) (append_assoc body (34 ∷ []) y)) z;
       begins = λ y _. refl;
+      ends = λ h. absurd cc;
     })
 around {at = at} {line = line} {bs = bs} (lex.text body rest all split d) (t ∷ E) x B e =
     let c = around d E x B (tail_same e) in record {
@@ -151,6 +159,7 @@ around {at = at} {line = line} {bs = bs} (lex.text body rest all split d) (t ∷
       word = λ _ z p. refl;
       spells = c.spells;
       begins = c.begins;
+      ends = c.ends;
     }
 around {at = at} {line = line} {bs = bs} (lex.word b w rest (lex.word_byte f more) split d) [] x B e =
     subst (λ (t : Token). Around at line bs [] t) (head_same e)
@@ -165,6 +174,7 @@ around {at = at} {line = line} {bs = bs} (lex.word b w rest (lex.word_byte f mor
       word = λ h z p. (let g = subst (λ (t : List ℕ). ends_word t ≡ true) split h in absurd cc);
       spells = λ y V s p z. lex.word b w y (word_any (lex.word_byte f more) y (p refl)) refl z;
       begins = λ y p. absurd cc;
+      ends = λ _. word_end more;
     })
 around {at = at} {line = line} {bs = bs} (lex.word b w rest (lex.word_byte f more) split d) (t ∷ E) x B e =
     let c = around d E x B (tail_same e) in record {
@@ -180,6 +190,7 @@ around {at = at} {line = line} {bs = bs} (lex.word b w rest (lex.word_byte f mor
       word = λ h z p. (let g = subst (λ (t : List ℕ). ends_word t ≡ true) split h in absurd cc);
       spells = c.spells;
       begins = c.begins;
+      ends = c.ends;
     }
 around (lex.bad f) E x B e = no_tokens E x B e
 around (lex.bad_backslash blanks b rest all other split) E x B e = no_tokens E x B e

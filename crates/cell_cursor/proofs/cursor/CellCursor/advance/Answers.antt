@@ -96,3 +96,19 @@ returns-in_err-take_end-clause-advances g c =
 pub returns-then-taken-self-clause-advances : goal.returns-then-taken-self-clause-advances
 returns-then-taken-self-clause-advances g c =
     advance_scanned _ c.args.self.now c.scan_on.new.self c.take_at_limit.new.self _ _ (goes_still (ap may_have_ended c.in-All.is) c.in_ok-scan_on.ensures.goes) c.scan_on.ensures.limit c.take_at_limit.ensures.advances
+
+pub returns-in_err-take_before_name-in-Name-clause-advances : goal.returns-in_err-take_before_name-in-Name-clause-advances
+returns-in_err-take_before_name-in-Name-clause-advances g c =
+    let y = err_from_is_err_and c.from_residual-in_err-take_before_name-in-Name.result c.from_residual-in_err-take_before_name-in-Name.ensures.1 in
+    subst (λ r. Advances r c.args.self.now c.take_before_name.new.self (g.D.Desk.state c.args.desk.now) (g.D.Desk.state c.args.desk.now)) (sym y.1)
+    (advance_fails c.args.self.now c.take_before_name.new.self _ _ [] y.0 (takes_none _) (c.take_before_name.ensures.limit ∙ c.scan_on.ensures.limit) c.in_err-take_before_name-in-Name.ensures.err (omega arith) (omega (arith, c.args.self.now.within)))
+
+pub returns-in-Name-clause-advances : goal.returns-in-Name-clause-advances
+returns-in-Name-clause-advances g c =
+    advance_refuses c.args.self.now c.scan_on.new.self c.take_before_name.new.self _ (goes_still (ap may_have_ended c.in-Name.is) c.in_ok-scan_on.ensures.goes)
+    c.scan_on.ensures.limit c.take_before_name.ensures.limit c.in_ok-take_before_name-in-Name.ensures.stands c.in_ok-take_before_name-in-Name.ensures.open
+
+pub returns-in-Name-clause-progress : goal.returns-in-Name-clause-progress
+returns-in-Name-clause-progress g c = λ _.
+    less_to_do c.args.self.now c.scan_on.new.self c.take_before_name.new.self c.scan_on.ensures.limit c.in_ok-scan_on.ensures.taken (c.in_ok-scan_on.ensures.some (ap is_whole c.in-Name.is))
+    c.take_before_name.ensures.limit c.take_before_name.ensures.taken c.take_before_name.ensures.piece

@@ -25,7 +25,12 @@ returns-then-run-clause-goes c = λ bytes items g.
 pub returns-clause-goes : goal.returns-clause-goes
 returns-clause-goes c = λ bytes items g. goes_same c.loop-self.self _ refl refl refl bytes items (c.loop-self.invariant.goes bytes items g)
 
-pub returns-then-eq-clause-goes : goal.returns-then-eq-clause-goes
-returns-then-eq-clause-goes c = λ bytes items g.
+pub returns-in-Misfit-clause-goes : goal.returns-in-Misfit-clause-goes
+returns-in-Misfit-clause-goes c = λ bytes items g.
+    goes_further c.loop-self.self _ c.in_ok-run.run'.may_end c.in_ok-run.run'.count c.unread-in-loop-self.result.now c.if-run.false c.unread-in-loop-self.ensures refl c.in_ok-run.ensures.before
+    c.in_ok-run.ensures.bytes c.take_out.ensures c.in_ok-run.ensures.count c.in_ok-run.ensures.scanned c.in_ok-run.ensures.none_before c.in_ok-run.ensures.outer bytes items (c.loop-self.invariant.goes bytes items g)
+
+pub returns-in-Name-clause-goes : goal.returns-in-Name-clause-goes
+returns-in-Name-clause-goes c = λ bytes items g.
     goes_further c.loop-self.self _ c.in_ok-run.run'.may_end c.in_ok-run.run'.count c.unread-in-loop-self.result.now c.if-run.false c.unread-in-loop-self.ensures refl c.in_ok-run.ensures.before
     c.in_ok-run.ensures.bytes c.take_out.ensures c.in_ok-run.ensures.count c.in_ok-run.ensures.scanned c.in_ok-run.ensures.none_before c.in_ok-run.ensures.outer bytes items (c.loop-self.invariant.goes bytes items g)

@@ -1,0 +1,5 @@
+pub mod Status
+pub mod Written
+pub mod Binding
+pub mod Outcome
+pub mod Runs

@@ -1,0 +1,28 @@
+-- The statuses of a run, and the program's exit codes. This project's rule.
+use Rattle.std.specs.Prelude.{ℕ, Bool, true, false}
+use Rattle.command_outcomes.specs.declared.status.Status.{Status}
+use Rattle.command_outcomes.specs.declared.status.Status.TheVariants.{Done, Usage, Library, Cells, Stimulus, Model, Differ, Outside, Memory, TooLong}
+
+-- the program's exit code for a status
+abbrev pub code_of : Status → ℕ
+code_of Done = 0
+code_of Usage = 1
+code_of Library = 2
+code_of Cells = 3
+code_of Stimulus = 4
+code_of Model = 5
+code_of Differ = 6
+code_of Outside = 7
+code_of Memory = 8
+code_of TooLong = 9
+
+-- the run came to its end: no call failed, and memory was found
+abbrev pub is_decided : Status → Bool
+is_decided Outside = false
+is_decided Memory = false
+is_decided _ = true
+
+-- the run ended without a failed call
+abbrev pub is_unfailed : Status → Bool
+is_unfailed Outside = false
+is_unfailed _ = true

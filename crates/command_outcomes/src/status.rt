@@ -1,0 +1,47 @@
+//! The statuses of a run, and the program's exit codes.
+ghost use Rattle.std.specs.Prelude.{◌≡◌};
+ghost use Rattle.command_outcomes.specs.Status.{code_of};
+/// How a run of a command ended.
+#[derive(Clone, Copy, Debug, PartialEq, Eq)]
+pub enum Status {
+    /// The command did all its work.
+    Done,
+    /// The words have no reading.
+    Usage,
+    /// The library's text is refused.
+    Library,
+    /// A cell was refused.
+    Cells,
+    /// The stimulus has a bad line.
+    Stimulus,
+    /// A model file is refused, or has not the ports of its cell.
+    Model,
+    /// Two traces differ.
+    Differ,
+    /// A call on the world outside failed.
+    Outside,
+    /// There was no memory.
+    Memory,
+    /// A file has more bytes than its limit.
+    TooLong,
+}
+
+impl Status {
+    /// The exit code of the program: 0 to 9, in the order of the statuses.
+    pub fn code(&self) -> u8
+        ensures { result ≡ code_of self.now }
+    {
+        match self {
+            Status::Done => 0,
+            Status::Usage => 1,
+            Status::Library => 2,
+            Status::Cells => 3,
+            Status::Stimulus => 4,
+            Status::Model => 5,
+            Status::Differ => 6,
+            Status::Outside => 7,
+            Status::Memory => 8,
+            Status::TooLong => 9,
+        }
+    }
+}

@@ -1,0 +1,3 @@
+pub mod ModulePorts
+pub mod FaultLines
+pub mod Outcome

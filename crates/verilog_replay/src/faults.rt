@@ -1,0 +1,106 @@
+//! The lines on a Verilog file or a stimulus that is not read.
+ghost use Rattle.std.specs.Prelude.{◌≡◌};
+ghost use Rattle.text_io.specs.declared.slots.OutSlot.TheVariants.{Faults};
+ghost use Rattle.text_io.specs.Desk.{HasCause, WritesText};
+ghost use Rattle.verilog_replay.specs.FaultLines.{word_of_fault, place_of_fault, verilog_fault_line, stimulus_fault_line, verilog_too_long_line, stimulus_too_long_line};
+
+use itoa::Buffer;
+use stimulus::Cause;
+use text_io::{Desk, Failed, OutSlot, write_pieces, write_whole};
+use udp_tables::ModelFault;
+
+/// The word of a fault.
+#[tactic(auto, unfolding(crate::specs::FaultLines::word_of_fault))]
+fn word_of_fault(fault: &ModelFault) -> &'static [u8]
+    ensures { result.now ≡ word_of_fault fault.now }
+{
+    match fault {
+        ModelFault::Lexical(_) => b"lexical",
+        ModelFault::Syntax(_) => b"syntax",
+        ModelFault::TwoEdges(_) => b"two edges",
+        ModelFault::Width(_) => b"width",
+        ModelFault::Undefined(_) => b"undefined",
+        ModelFault::Twice(_) => b"twice",
+        ModelFault::Undriven(_) => b"undriven",
+        ModelFault::Unequal(_) => b"unequal",
+        ModelFault::Memory => b"",
+    }
+}
+
+/// The offset of a fault.
+#[tactic(auto, unfolding(crate::specs::FaultLines::place_of_fault))]
+fn place_of_fault(fault: &ModelFault) -> usize
+    ensures { result ≡ place_of_fault fault.now }
+{
+    match fault {
+        ModelFault::Lexical(at) => *at,
+        ModelFault::Syntax(at) => *at,
+        ModelFault::TwoEdges(at) => *at,
+        ModelFault::Width(at) => *at,
+        ModelFault::Undefined(at) => *at,
+        ModelFault::Twice(at) => *at,
+        ModelFault::Undriven(at) => *at,
+        ModelFault::Unequal(at) => *at,
+        ModelFault::Memory => 0,
+    }
+}
+
+/// Tells a Verilog text that is refused, with the offset of its first fault, from 0, and the fault's word. After `Failed`,
+/// which comes only where a write failed, a prefix of the line was appended.
+#[tactic(auto, unfolding(crate::specs::FaultLines::verilog_fault_line))]
+pub fn write_verilog_fault<D: Desk>(desk: &mut D, fault: &ModelFault) -> Result<(), Failed>
+    ensures text { WritesText (D.state desk.old) (D.state desk.new) Faults (verilog_fault_line fault.now) result }
+    ensures cause { HasCause (D.faults desk.old) (D.faults desk.new) result }
+{
+    let mut offset = Buffer::new();
+    write_pieces(
+        desk,
+        OutSlot::Faults,
+        &[
+            b"verilog refused at ",
+            offset.format(place_of_fault(fault)).as_bytes(),
+            b": ",
+            word_of_fault(fault),
+            b"\n",
+        ],
+    )
+}
+
+/// Tells a stimulus with a bad line, with the first one's number, from 1, and its cause. After `Failed`, which comes only
+/// where a write failed, a prefix of the line was appended.
+#[tactic(auto, unfolding(crate::specs::FaultLines::stimulus_fault_line))]
+pub fn write_stimulus_fault<D: Desk>(desk: &mut D, line: usize, cause: Cause) -> Result<(), Failed>
+    ensures text { WritesText (D.state desk.old) (D.state desk.new) Faults (stimulus_fault_line line cause) result }
+    ensures cause { HasCause (D.faults desk.old) (D.faults desk.new) result }
+{
+    let mut number = Buffer::new();
+    write_pieces(
+        desk,
+        OutSlot::Faults,
+        &[
+            b"stimulus line ",
+            number.format(line).as_bytes(),
+            b": ",
+            cause.word(),
+            b"\n",
+        ],
+    )
+}
+
+/// Tells a Verilog file with too many bytes. After `Failed`, which comes only where a write failed, a prefix of the line
+/// was appended.
+pub fn write_verilog_too_long<D: Desk>(desk: &mut D) -> Result<(), Failed>
+    ensures text { WritesText (D.state desk.old) (D.state desk.new) Faults verilog_too_long_line result }
+    ensures cause { HasCause (D.faults desk.old) (D.faults desk.new) result }
+{
+    write_whole(desk, OutSlot::Faults, b"verilog too long\n")
+}
+
+/// Tells a stimulus with too many bytes. After `Failed`, which comes only where a write failed, a prefix of the line was
+/// appended.
+pub fn write_stimulus_too_long<D: Desk>(desk: &mut D) -> Result<(), Failed>
+    ensures text { WritesText (D.state desk.old) (D.state desk.new) Faults stimulus_too_long_line result }
+    ensures cause { HasCause (D.faults desk.old) (D.faults desk.new) result }
+{
+    write_whole(desk, OutSlot::Faults, b"stimulus too long\n")
+}

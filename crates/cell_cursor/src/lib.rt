@@ -3,6 +3,7 @@
 #![tactic(auto)]
 
 mod cursor;
+mod cut;
 mod fault;
 mod item;
 mod laws;

@@ -1,11 +1,10 @@
 //! The next item.
 
-ghost use Rattle.std.specs.Prelude.{◌≡◌, ℕ, true, false, ◌<◌, ◌≤◌, ◌+◌, ◌^◌, List, [], reverse, length, IsTrue, IsOk, OnOk, OnErr, IfOk, IfErr, IfSome, Some, None, ◌⊎◌};
+ghost use Rattle.std.specs.Prelude.{◌≡◌, ℕ, true, false, ◌<◌, ◌≤◌, ◌+◌, List, [], reverse, length, IsTrue, IsOk, OnOk, OnErr, IfOk, IfErr, Some, None, ◌⊎◌};
 ghost use Rattle.text_io.specs.declared.slots.InSlot.TheVariants.{Library};
 ghost use Rattle.text_io.specs.declared.slots.Slot.TheVariants.{Input};
 ghost use Rattle.text_io.specs.Desk.{is_bound, Rose};
 ghost use Rattle.liberty_text.specs.declared.scanner.Mode.TheVariants.{Between};
-ghost use Rattle.cell_cursor.specs.Cut.{IsCut};
 ghost use Rattle.cell_cursor.specs.Finish.{part_outcome, answer_at};
 ghost use Rattle.cell_cursor.specs.Items.{items_in};
 ghost use Rattle.cell_cursor.specs.Progress.{taken_by, to_do, may_have_ended, is_whole};
@@ -13,15 +12,15 @@ ghost use Rattle.cell_cursor.specs.declared.item.LibraryItem.{LibraryItem as Giv
 ghost use Rattle.cell_cursor.specs.Stands.{answered, given_by, is_going, is_failed, is_failure, tells_failure, is_ended, is_library, Goes, MayTake, GoesBy, Stands, Advances, Moves, IsSettled, IsAnswered, StaysSettled};
 
 use crate::cursor::{Answer, CellCursor};
+use crate::cut::part_behind;
 use crate::fault::{CursorFault, Memory};
 use crate::item::{LibraryItem, Next, next_of};
-use crate::part::{Part, Place, scanned_part};
+use crate::part::{Part, Place};
 use crate::piece::Piece;
 use crate::reading::read_end;
-use crate::statements::{Reached, reach, reach_rest};
+use crate::statements::{Reached, reach};
 use crate::watch::Sight;
 use liberty_groups::{Cursor, LibraryFault};
-use liberty_text::{Token, TokenKind};
 use std::alloc::Global;
 use text_io::{Desk, InSlot};
 
@@ -319,46 +318,6 @@ impl CellCursor {
             }
             self.go_on(desk);
         }
-    }
-}
-
-/// The part behind the statements of this part that have ended before the name that ended last, if they have, and their items.
-fn part_behind(
-    alloc: Global,
-    part: &Part,
-    place: Place,
-    items: &mut Vec<LibraryItem>,
-) -> Result<Option<Part>, Memory>
-    requires none { items.old.items ≡ [] }
-    requires fits { part.now.before + length part.now.bytes < 2 ^ 64 }
-    ensures { IfOk result (λ found. IfSome found (λ rest. IsCut place part.now rest items.new.items)) }
-{
-    let tokens = part.tokens();
-    let bytes = part.bytes();
-    let before = part.before();
-    let (front, back) = tokens.split_at(name_at(tokens));
-    let Some((last, _)) = front.split_last() else {
-        return Ok(None);
-    };
-    let end = last.end;
-    if place != Place::Inside || bytes.len() < end {
-        return Ok(None);
-    }
-    let mut cursor = Cursor::behind(before, bytes, tokens);
-    if !reach_rest(&mut cursor, alloc, back.len(), items)? {
-        return Ok(None);
-    }
-    let (_, behind) = bytes.split_at(end);
-    scanned_part(alloc, before + end, Place::Inside, behind)
-}
-
-/// The index of the name that is among the tokens that ended last: a mark may have ended with the byte that ended the name.
-fn name_at(tokens: &[Token]) -> usize
-    ensures { result ≤ length tokens.now }
-{
-    match tokens {
-        [.., last] if last.kind == TokenKind::Word => tokens.len() - 1,
-        _ => tokens.len().saturating_sub(2),
     }
 }
 

@@ -1,0 +1,52 @@
+//! Where a part is cut whose statements ended without a semicolon or a brace.
+
+ghost use Rattle.std.specs.Prelude.{◌≡◌, ◌<◌, ◌≤◌, ◌+◌, ◌^◌, [], length, IfOk, IfSome};
+ghost use Rattle.cell_cursor.specs.Cut.{IsCut};
+
+use crate::fault::Memory;
+use crate::item::LibraryItem;
+use crate::part::{Part, Place, scanned_part};
+use crate::statements::reach_rest;
+use liberty_groups::Cursor;
+use liberty_text::{Token, TokenKind};
+use std::alloc::Global;
+
+/// The part behind the statements of this part that have ended before the name that ended last, if they have, and their items.
+pub(crate) fn part_behind(
+    alloc: Global,
+    part: &Part,
+    place: Place,
+    items: &mut Vec<LibraryItem>,
+) -> Result<Option<Part>, Memory>
+    requires none { items.old.items ≡ [] }
+    requires fits { part.now.before + length part.now.bytes < 2 ^ 64 }
+    ensures { IfOk result (λ found. IfSome found (λ rest. IsCut place part.now rest items.new.items)) }
+{
+    let tokens = part.tokens();
+    let bytes = part.bytes();
+    let before = part.before();
+    let (front, back) = tokens.split_at(name_at(tokens));
+    let Some((last, _)) = front.split_last() else {
+        return Ok(None);
+    };
+    let end = last.end;
+    if place != Place::Inside || bytes.len() < end {
+        return Ok(None);
+    }
+    let mut cursor = Cursor::behind(before, bytes, tokens);
+    if !reach_rest(&mut cursor, alloc, back.len(), items)? {
+        return Ok(None);
+    }
+    let (_, behind) = bytes.split_at(end);
+    scanned_part(alloc, before + end, Place::Inside, behind)
+}
+
+/// The index of the name that is among the tokens that ended last: a mark may have ended with the byte that ended the name.
+fn name_at(tokens: &[Token]) -> usize
+    ensures { result ≤ length tokens.now }
+{
+    match tokens {
+        [.., last] if last.kind == TokenKind::Word => tokens.len() - 1,
+        _ => tokens.len().saturating_sub(2),
+    }
+}

@@ -12,6 +12,7 @@ mod piece;
 mod reading;
 mod seeking;
 mod statements;
+mod taking;
 mod watch;
 
 pub use cursor::CellCursor;

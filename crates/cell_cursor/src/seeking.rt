@@ -12,15 +12,11 @@ ghost use Rattle.cell_cursor.specs.declared.item.LibraryItem.{LibraryItem as Giv
 ghost use Rattle.cell_cursor.specs.Stands.{answered, given_by, is_going, is_failed, is_failure, tells_failure, is_ended, is_library, Goes, MayTake, GoesBy, Stands, Advances, Moves, IsSettled, IsAnswered, StaysSettled};
 
 use crate::cursor::{Answer, CellCursor};
-use crate::cut::part_behind;
 use crate::fault::{CursorFault, Memory};
 use crate::item::{LibraryItem, Next, next_of};
 use crate::part::{Part, Place};
 use crate::piece::Piece;
-use crate::reading::read_end;
-use crate::statements::{Reached, reach};
 use crate::watch::Sight;
-use liberty_groups::{Cursor, LibraryFault};
 use std::alloc::Global;
 use text_io::{Desk, InSlot};
 
@@ -80,142 +76,6 @@ impl CellCursor {
             }
         }
         Ok(Scanned::All)
-    }
-
-    /// Sees which token of the part is refused, if one is.
-    fn refuse_part(&mut self) -> Result<(), Memory>
-        requires none_waits { self.old.waiting.items ≡ [] }
-        requires going { self.old.answer ≡ None }
-        ensures stands { OnOk result ((bytes : List ℕ) (items : List Given) → Goes self.old bytes items → Stands self.new bytes items) }
-        ensures err { OnErr result (self.new.waiting.items ≡ []) }
-        ensures open { OnOk result (is_ended self.new.answer ≡ false) }
-        ensures limit { self.new.limit ≡ self.old.limit }
-        ensures taken { taken_by self.new ≡ taken_by self.old }
-        ensures piece { self.new.piece ≡ self.old.piece }
-        ensures never { is_failed self.old.answer ≡ false → is_failed self.new.answer ≡ false }
-    {
-        let mut items = Vec::new(self.alloc);
-        let end = self.part.before() + self.part.bytes().len();
-        let mut tokens = Cursor::behind(self.part.before(), self.part.bytes(), self.part.tokens());
-        match reach(&mut tokens, self.alloc, self.place, end, &mut items)? {
-            Reached::Refused(fault) => {
-                self.refuse(fault, items);
-                Ok(())
-            }
-            _ => Ok(()),
-        }
-    }
-
-    /// Takes the statements of the part, if they have all ended.
-    fn take_part(&mut self) -> Result<(), Memory>
-        requires none_waits { self.old.waiting.items ≡ [] }
-        requires going { self.old.answer ≡ None }
-        requires mode { self.old.part.mode ≡ Between false }
-        ensures stands { OnOk result ((bytes : List ℕ) (items : List Given) → MayTake self.old bytes items → Stands self.new bytes items) }
-        ensures err { OnErr result (self.new.waiting.items ≡ []) }
-        ensures open { OnOk result (is_ended self.new.answer ≡ false) }
-        ensures limit { self.new.limit ≡ self.old.limit }
-        ensures taken { taken_by self.new ≡ taken_by self.old }
-        ensures piece { self.new.piece ≡ self.old.piece }
-        ensures never { is_failed self.old.answer ≡ false → is_failed self.new.answer ≡ false }
-    {
-        let mut items = Vec::new(self.alloc);
-        let end = self.part.before() + self.part.bytes().len();
-        let mut tokens = Cursor::behind(self.part.before(), self.part.bytes(), self.part.tokens());
-        match reach(&mut tokens, self.alloc, self.place, end, &mut items)? {
-            Reached::Unfinished => Ok(()),
-            Reached::Refused(fault) => {
-                self.refuse(fault, items);
-                Ok(())
-            }
-            Reached::To(place) => {
-                self.go_to(place, end, items);
-                Ok(())
-            }
-        }
-    }
-
-    /// Takes the statements of the part before the name that ended last, if they have ended.
-    fn take_before_name(&mut self) -> Result<(), Memory>
-        requires none_waits { self.old.waiting.items ≡ [] }
-        requires going { self.old.answer ≡ None }
-        ensures stands { OnOk result ((bytes : List ℕ) (items : List Given) → Goes self.old bytes items → Stands self.new bytes items) }
-        ensures err { OnErr result (self.new.waiting.items ≡ []) }
-        ensures open { OnOk result (is_ended self.new.answer ≡ false) }
-        ensures limit { self.new.limit ≡ self.old.limit }
-        ensures taken { taken_by self.new ≡ taken_by self.old }
-        ensures piece { self.new.piece ≡ self.old.piece }
-        ensures never { is_failed self.old.answer ≡ false → is_failed self.new.answer ≡ false }
-    {
-        let mut items = Vec::new(self.alloc);
-        match part_behind(self.alloc, &self.part, self.place, &mut items)? {
-            Some(rest) => {
-                self.go_on_with(rest, items);
-                Ok(())
-            }
-            None => Ok(()),
-        }
-    }
-
-    /// The statements before this part were taken, with these items.
-    fn go_on_with(&mut self, rest: Part, mut items: Vec<LibraryItem>)
-        requires { rest.before + (length rest.bytes + length self.old.piece) ≤ self.old.limit }
-        ensures limit { self.new.limit ≡ self.old.limit }
-        ensures piece { self.new.piece ≡ self.old.piece }
-        ensures part { self.new.part ≡ rest }
-        ensures place { self.new.place ≡ self.old.place }
-        ensures answer { self.new.answer ≡ self.old.answer }
-        ensures items { self.new.waiting.items ≡ reverse items.items }
-    {
-        items.reverse();
-        self.waiting = items;
-        self.part = rest;
-    }
-
-    /// A token is refused, behind these items.
-    fn refuse(&mut self, fault: LibraryFault, mut items: Vec<LibraryItem>)
-        ensures limit { self.new.limit ≡ self.old.limit }
-        ensures piece { self.new.piece ≡ self.old.piece }
-        ensures part { self.new.part ≡ self.old.part }
-        ensures answer { self.new.answer ≡ Some (Answer.Refused fault) }
-        ensures items { self.new.waiting.items ≡ reverse items.items }
-    {
-        items.reverse();
-        self.waiting = items;
-        self.answer = Some(Answer::Refused(fault));
-    }
-
-    /// The part led to a place, at an offset, behind these items.
-    fn go_to(&mut self, place: Place, end: usize, mut items: Vec<LibraryItem>)
-        requires { end + length self.old.piece ≤ self.old.limit }
-        ensures limit { self.new.limit ≡ self.old.limit }
-        ensures piece { self.new.piece ≡ self.old.piece }
-        ensures before { self.new.part.before ≡ end }
-        ensures bytes { self.new.part.bytes ≡ [] }
-        ensures tokens { self.new.part.tokens ≡ [] }
-        ensures place { self.new.place ≡ place }
-        ensures answer { self.new.answer ≡ self.old.answer }
-        ensures items { self.new.waiting.items ≡ reverse items.items }
-    {
-        items.reverse();
-        self.waiting = items;
-        self.place = place;
-        self.part = Part::new(self.alloc, end, place);
-    }
-
-    /// Takes what there is of a library that has ended or, where that is not `whole`, has come to the limit.
-    fn take_end(&mut self, whole: bool) -> Result<(), Memory>
-        ensures err { OnErr result (self.new.waiting.items ≡ self.old.waiting.items) }
-        ensures limit { self.new.limit ≡ self.old.limit }
-        ensures answer { OnOk result (self.new.answer ≡ Some (answer_at self.old.place self.old.part.before self.old.part.bytes whole)) }
-        ensures items { OnOk result (self.new.waiting.items ≡ reverse (items_in (part_outcome self.old.place self.old.part.before self.old.part.bytes))) }
-    {
-        let mut items = Vec::new(self.alloc);
-        let answer = read_end(self.alloc, &self.part, self.place, whole, &mut items)?;
-        items.reverse();
-        self.waiting = items;
-        self.answer = Some(answer);
-        Ok(())
     }
 
     /// Sees whether the library goes on behind the limit, and takes what there is of it.

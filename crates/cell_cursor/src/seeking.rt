@@ -1,15 +1,13 @@
 //! The next item.
 
-ghost use Rattle.std.specs.Prelude.{◌≡◌, ℕ, true, false, ◌<◌, ◌≤◌, ◌+◌, List, [], reverse, length, IsTrue, IsOk, OnOk, OnErr, IfOk, IfErr, Some, None, ◌⊎◌};
+ghost use Rattle.std.specs.Prelude.{◌≡◌, ℕ, true, false, ◌<◌, ◌≤◌, ◌+◌, List, [], length, IsTrue, IsOk, OnOk, OnErr, IfOk, IfErr, Some, None, ◌⊎◌};
 ghost use Rattle.text_io.specs.declared.slots.InSlot.TheVariants.{Library};
 ghost use Rattle.text_io.specs.declared.slots.Slot.TheVariants.{Input};
 ghost use Rattle.text_io.specs.Desk.{is_bound, Rose};
 ghost use Rattle.liberty_text.specs.declared.scanner.Mode.TheVariants.{Between};
-ghost use Rattle.cell_cursor.specs.Finish.{part_outcome, answer_at};
-ghost use Rattle.cell_cursor.specs.Items.{items_in};
 ghost use Rattle.cell_cursor.specs.Progress.{taken_by, to_do, may_have_ended, is_whole};
 ghost use Rattle.cell_cursor.specs.declared.item.LibraryItem.{LibraryItem as Given};
-ghost use Rattle.cell_cursor.specs.Stands.{answered, given_by, is_going, is_failed, is_failure, tells_failure, is_ended, is_library, Goes, MayTake, GoesBy, Stands, Advances, Moves, IsSettled, IsAnswered, StaysSettled};
+ghost use Rattle.cell_cursor.specs.Stands.{answered, given_by, is_going, is_failed, is_failure, tells_failure, is_ended, is_library, Goes, GoesBy, Stands, Advances, Moves, IsSettled, IsAnswered, StaysSettled};
 
 use crate::cursor::{Answer, CellCursor};
 use crate::fault::{CursorFault, Memory};

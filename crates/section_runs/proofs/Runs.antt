@@ -1,5 +1,5 @@
 -- The lines of a run, put one behind another as the simulator takes the changes.
-use Rattle.std.proofs.Common.{◌≡◌, ℕ, ◌+◌, ◌<◌, ◌≤◌, List, [], ◌∷◌, ◌++◌, get_or, drop, length, Some, None, Result, Ok, Err, IsErr, refl, sym, ◌∙◌, ap, subst, append_assoc}
+use Rattle.std.proofs.Common.{◌≡◌, ℕ, ◌+◌, Bool, true, false, if◌then◌else◌, ◌<◌, ◌≤◌, List, [], ◌∷◌, ◌++◌, get_or, drop, length, Option, Some, None, Result, Ok, Err, IsErr, refl, sym, ◌∙◌, ap, subst, append_assoc}
 use Rattle.std.proofs.lemmas.List.{append-nil, drop_more, drop_all}
 use Rattle.text_io.specs.declared.outside.Failed.{Failed}
 use Rattle.text_io.specs.declared.slots.OutSlot.TheVariants.{Report}
@@ -8,12 +8,13 @@ use Rattle.text_io.specs.Line.{Gathers, StopsWithin}
 use Rattle.text_io.proofs.Wrote.{wrote-nil, wrote_more, IsPrefix-append, IsPrefix-front}
 use Rattle.text_io.proofs.LineLaws.{Gathers-Gathers, Gathers-stops, StopsWithin-more, flushes}
 use Rattle.cell_machine.specs.declared.changes.Change.{Change}
-use Rattle.cell_machine.specs.History.{ComesAfter, IsProperFrom}
+use Rattle.cell_machine.specs.History.{IsProperFrom}
 use Rattle.cell_machine.specs.Lines.{Line, lines_from, trace}
 use Rattle.stimulus.specs.declared.ports.Ports.{Ports}
 use Rattle.stimulus.specs.TraceLine.{line_text}
 use Rattle.section_runs.specs.declared.faults.RunFault.{RunFault}
 use Rattle.section_runs.specs.TraceText.{change_texts, trace_text}
+use Rattle.section_runs.specs.Comparison.{Lines, lines_text, are_alike, all_from, compared_texts, compared_text, first_of, unlike_from, first_unlike}
 use Rattle.section_runs.specs.Writes.{WritesTrace, PutsTrace}
 
 -- a call that stops before anything is put
@@ -22,90 +23,186 @@ puts_nothing s l a n (Ok x) e = absurd cc
 puts_nothing s l a n (Err y) e =
     record { whole = tt; part = record { part = []; front = (l ++ a, refl); state = sym (wrote-nil s Report) } }
 
--- How far a run has come. The simulator stands after a history, the rest of the changes goes on from there, and the lines so
--- far, of which some wait, make with the lines of the rest the whole text.
-pub record Going (stands : List Change → Type 0) (line : List Change → Line) (n tag : ℕ) (ports : Ports) (s now : DeskState) (held : List ℕ) (rest : List Change) (whole : List ℕ) : Type 0 where
+-- what is printed of changes that go on from a history, where this is printed after each history
+abbrev pub texts_from : (List Change → List ℕ) → List Change → List Change → List ℕ
+texts_from shown h [] = []
+texts_from shown h (c ∷ cs) = shown (c ∷ h) ++ texts_from shown (c ∷ h) cs
+
+-- How far a run has come. The simulators stand after a history, the rest of the changes goes on from there, and the text so
+-- far, of which some waits, makes with that of the rest the whole text.
+pub record Going (stands : List Change → Type 0) (shown : List Change → List ℕ) (n : ℕ) (s now : DeskState) (held : List ℕ) (rest : List Change) (whole : List ℕ) : Type 0 where
   pub history : List Change
   pub standing : stands history
   pub proper : IsProperFrom n history rest
   pub done : List ℕ
   pub gathered : Gathers s now Report [] done held
-  pub joined : done ++ change_texts tag ports rest (lines_from line history rest) ≡ whole
+  pub joined : done ++ texts_from shown history rest ≡ whole
 
--- the run has begun: the line of the start was put
-pub begins : (stands : List Change → Type 0) (line : List Change → Line) (n tag : ℕ) (ports : Ports) (s now : DeskState) (held : List ℕ) (changes : List Change)
-    → stands [] → IsProperFrom n [] changes → Gathers s now Report [] (line_text tag None ports.inputs ports.outputs (line [])) held
-    → Going stands line n tag ports s now held changes (trace_text tag ports changes (trace line changes))
-begins stands line n tag ports s now held changes start proper put =
-    record { history = []; standing = start; proper = proper; done = line_text tag None ports.inputs ports.outputs (line []); gathered = put; joined = refl }
+-- the run has begun: the text of the start was put
+pub begins : (stands : List Change → Type 0) (shown : List Change → List ℕ) (n : ℕ) (s now : DeskState) (held : List ℕ) (changes : List Change) (whole : List ℕ)
+    → stands [] → IsProperFrom n [] changes → Gathers s now Report [] (shown []) held → shown [] ++ texts_from shown [] changes ≡ whole
+    → Going stands shown n s now held changes whole
+begins stands shown n s now held changes whole start proper put same =
+    record { history = []; standing = start; proper = proper; done = shown []; gathered = put; joined = same }
 
--- the next change may be given
-pub next_change : (stands : List Change → Type 0) (line : List Change → Line) (n tag : ℕ) (ports : Ports) (s now : DeskState) (held : List ℕ) (xs : List Change) (i : ℕ) (x : Change) (whole : List ℕ)
-    → i < length xs → x ≡ get_or xs i x → Going stands line n tag ports s now held (drop i xs) whole
-    → (x.pin < n) × ((h : List Change) × (stands h × ComesAfter x.at h))
-next_change stands line n tag ports s now held xs i x whole below is g =
-    let rest : drop i xs ≡ x ∷ drop (i + 1) xs = drop_more xs i x below ∙ ap (λ y. y ∷ drop (i + 1) xs) (sym is) in
+next_is : (xs : List Change) (i : ℕ) (x : Change) → i < length xs → x ≡ get_or xs i x → drop i xs ≡ x ∷ drop (i + 1) xs
+next_is xs i x below is = drop_more xs i x below ∙ ap (λ y. y ∷ drop (i + 1) xs) (sym is)
+
+-- the next change was given, and its text put
+pub goes_on : (stands later : List Change → Type 0) (shown : List Change → List ℕ) (n : ℕ) (s now next : DeskState) (held after : List ℕ) (xs : List Change) (i : ℕ) (x : Change) (whole : List ℕ)
+    → i < length xs → x ≡ get_or xs i x → ((h : List Change) → stands h → later (x ∷ h))
+    → Going stands shown n s now held (drop i xs) whole
+    → ((h : List Change) → later (x ∷ h) → Gathers now next Report held (shown (x ∷ h)) after)
+    → Going later shown n s next after (drop (i + 1) xs) whole
+goes_on stands later shown n s now next held after xs i x whole below is steps g put =
+    let rest = next_is xs i x below is in
     let proper : IsProperFrom n g.history (x ∷ drop (i + 1) xs) = subst (IsProperFrom n g.history) rest g.proper in
-    (proper.0, (g.history, (g.standing, proper.1)))
-
--- the next change was given, and its line put
-pub goes_on : (stands later : List Change → Type 0) (line shown : List Change → Line) (n tag : ℕ) (ports : Ports) (s now next : DeskState) (held after : List ℕ) (xs : List Change) (i : ℕ) (x : Change) (whole : List ℕ)
-    → i < length xs → x ≡ get_or xs i x → shown ≡ line → ((h : List Change) → stands h → later (x ∷ h))
-    → Going stands line n tag ports s now held (drop i xs) whole
-    → ((h : List Change) → later h → Gathers now next Report held (line_text tag (Some x) ports.inputs ports.outputs (shown h)) after)
-    → Going later line n tag ports s next after (drop (i + 1) xs) whole
-goes_on stands later line shown n tag ports s now next held after xs i x whole below is same steps g put =
-    let rest : drop i xs ≡ x ∷ drop (i + 1) xs = drop_more xs i x below ∙ ap (λ y. y ∷ drop (i + 1) xs) (sym is) in
-    let proper : IsProperFrom n g.history (x ∷ drop (i + 1) xs) = subst (IsProperFrom n g.history) rest g.proper in
-    let text = line_text tag (Some x) ports.inputs ports.outputs (line (x ∷ g.history)) in
+    let text = shown (x ∷ g.history) in
     let stood : later (x ∷ g.history) = steps g.history g.standing in
     record {
       history = x ∷ g.history;
       standing = stood;
       proper = proper.2;
       done = g.done ++ text;
-      gathered = Gathers-Gathers s now next Report [] held after g.done text g.gathered (subst (λ l. Gathers now next Report held (line_text tag (Some x) ports.inputs ports.outputs (l (x ∷ g.history))) after) same (put (x ∷ g.history) stood));
-      joined = append_assoc g.done text (change_texts tag ports (drop (i + 1) xs) (lines_from line (x ∷ g.history) (drop (i + 1) xs)))
-          ∙ (ap (λ ys. g.done ++ change_texts tag ports ys (lines_from line g.history ys)) (sym rest) ∙ g.joined);
+      gathered = Gathers-Gathers s now next Report [] held after g.done text g.gathered (put g.history stood);
+      joined = append_assoc g.done text (texts_from shown (x ∷ g.history) (drop (i + 1) xs))
+          ∙ (ap (λ ys. g.done ++ texts_from shown g.history ys) (sym rest) ∙ g.joined);
     }
 
--- the next change was given, and its line not put whole
-pub stops_in : {S T : Type 0} (stands later : List Change → Type 0) (line shown : List Change → Line) (n tag : ℕ) (ports : Ports) (s now next : DeskState) (held after : List ℕ) (xs : List Change) (i : ℕ) (x : Change) (whole : List ℕ) (y : RunFault) (r : Result T RunFault)
-    → i < length xs → x ≡ get_or xs i x → shown ≡ line → ((h : List Change) → stands h → later (x ∷ h))
-    → Going stands line n tag ports s now held (drop i xs) whole
-    → ((h : List Change) → later h → PutsTrace {T = S} now next held (line_text tag (Some x) ports.inputs ports.outputs (shown h)) after (Err y))
+-- the next change was given, and its text not put whole
+pub stops_in : {S T : Type 0} (stands later : List Change → Type 0) (shown : List Change → List ℕ) (n : ℕ) (s now next : DeskState) (held after : List ℕ) (xs : List Change) (i : ℕ) (x : Change) (whole : List ℕ) (y : RunFault) (r : Result T RunFault)
+    → i < length xs → x ≡ get_or xs i x → ((h : List Change) → stands h → later (x ∷ h))
+    → Going stands shown n s now held (drop i xs) whole
+    → ((h : List Change) → later (x ∷ h) → PutsTrace {T = S} now next held (shown (x ∷ h)) after (Err y))
     → IsErr r → WritesTrace s next whole r
-stops_in stands later line shown n tag ports s now next held after xs i x whole y (Ok z) below is same steps g put e = absurd cc
-stops_in stands later line shown n tag ports s now next held after xs i x whole y (Err z) below is same steps g put e =
-    let rest : drop i xs ≡ x ∷ drop (i + 1) xs = drop_more xs i x below ∙ ap (λ y. y ∷ drop (i + 1) xs) (sym is) in
-    let text = line_text tag (Some x) ports.inputs ports.outputs (line (x ∷ g.history)) in
-    let more = change_texts tag ports (drop (i + 1) xs) (lines_from line (x ∷ g.history) (drop (i + 1) xs)) in
-    let joined : g.done ++ (text ++ more) ≡ whole =
-    ap (λ ys. g.done ++ change_texts tag ports ys (lines_from line g.history ys)) (sym rest) ∙ g.joined in
-    let failed : StopsWithin now next Report (held ++ text) =
-    subst (λ l. StopsWithin now next Report (held ++ line_text tag (Some x) ports.inputs ports.outputs (l (x ∷ g.history)))) same ((put (x ∷ g.history) (steps g.history g.standing)).part) in
+stops_in stands later shown n s now next held after xs i x whole y (Ok z) below is steps g put e = absurd cc
+stops_in stands later shown n s now next held after xs i x whole y (Err z) below is steps g put e =
+    let text = shown (x ∷ g.history) in
+    let more = texts_from shown (x ∷ g.history) (drop (i + 1) xs) in
+    let joined : g.done ++ (text ++ more) ≡ whole = ap (λ ys. g.done ++ texts_from shown g.history ys) (sym (next_is xs i x below is)) ∙ g.joined in
+    let failed : StopsWithin now next Report (held ++ text) = (put g.history (steps g.history g.standing)).part in
     let stopped : StopsWithin s next Report (g.done ++ text) = Gathers-stops s now next Report [] held g.done text g.gathered failed in
     let part : StopsWithin s next Report (g.done ++ (text ++ more)) = StopsWithin-more s next Report g.done text more stopped in
     record { whole = tt; part = subst (StopsWithin s next Report) joined part }
 
--- the line of the start was not put whole
-pub stops_first : {S T : Type 0} (s next : DeskState) (line : List Change → Line) (tag : ℕ) (ports : Ports) (held after : List ℕ) (changes : List Change) (y : RunFault) (r : Result T RunFault)
-    → held ≡ [] → PutsTrace {T = S} s next held (line_text tag None ports.inputs ports.outputs (line [])) after (Err y) → IsErr r
-    → WritesTrace s next (trace_text tag ports changes (trace line changes)) r
-stops_first s next line tag ports held after changes y (Ok z) new put e = absurd cc
-stops_first s next line tag ports held after changes y (Err z) new put e =
-    let text = line_text tag None ports.inputs ports.outputs (line []) in
-    let stopped : StopsWithin s next Report text = subst (λ h. StopsWithin s next Report (h ++ text)) new put.part in
-    record { whole = tt; part = StopsWithin-more s next Report [] text (change_texts tag ports changes (lines_from line [] changes)) stopped }
-
--- the lines are all put, and what waits is written
-pub flushed : {S : Type 0} (stands : List Change → Type 0) (line : List Change → Line) (n tag : ℕ) (ports : Ports) (s now next : DeskState) (held : List ℕ) (xs : List Change) (i : ℕ) (whole : List ℕ) (r : Result S Failed)
-    → length xs ≤ i → Going stands line n tag ports s now held (drop i xs) whole → WritesText now next Report held r → WritesText s next Report whole r
-flushed stands line n tag ports s now next held xs i whole r over g w =
-    let none : drop i xs ≡ [] = drop_all i xs over in
-    let joined : g.done ≡ whole =
-    sym (append-nil g.done) ∙ (ap (λ ys. g.done ++ change_texts tag ports ys (lines_from line g.history ys)) (sym none) ∙ g.joined) in
+-- all is put, and what waits is written
+pub flushed : {S : Type 0} (stands : List Change → Type 0) (shown : List Change → List ℕ) (n : ℕ) (s now next : DeskState) (held : List ℕ) (xs : List Change) (i : ℕ) (whole : List ℕ) (r : Result S Failed)
+    → length xs ≤ i → Going stands shown n s now held (drop i xs) whole → WritesText now next Report held r → WritesText s next Report whole r
+flushed stands shown n s now next held xs i whole r over g w =
+    let joined : g.done ≡ whole = sym (append-nil g.done) ∙ (ap (λ ys. g.done ++ texts_from shown g.history ys) (sym (drop_all i xs over)) ∙ g.joined) in
     subst (λ t. WritesText s next Report t r) joined (flushes s now next Report held g.done r g.gathered w)
+
+-- One text and then another.
+
+pub puts_on : {S T : Type 0} (s t u : DeskState) (l m n a b : List ℕ) (x : S) (r : Result T RunFault)
+    → PutsTrace {T = S} s t l a m (Ok x) → PutsTrace t u m b n r → PutsTrace s u l (a ++ b) n r
+puts_on s t u l m n a b x (Ok y) p q = record { whole = Gathers-Gathers s t u Report l m n a b p.whole q.whole; part = tt }
+puts_on s t u l m n a b x (Err y) p q = record { whole = tt; part = Gathers-stops s t u Report l m a b p.whole q.part }
+
+pub puts_less : {S T : Type 0} (s t : DeskState) (l m n a b : List ℕ) (y : RunFault) (r : Result T RunFault)
+    → PutsTrace {T = S} s t l a m (Err y) → IsErr r → PutsTrace s t l (a ++ b) n r
+puts_less s t l m n a b y (Ok x) p e = absurd cc
+puts_less s t l m n a b y (Err z) p e = record { whole = tt; part = StopsWithin-more s t Report l a b p.part }
+
+-- The text of one simulator.
+
+abbrev pub newest : List Change → Option Change
+newest [] = None
+newest (c ∷ h) = Some c
+
+abbrev pub one_shown : ℕ → Ports → (List Change → Line) → List Change → List ℕ
+one_shown tag ports line h = line_text tag (newest h) ports.inputs ports.outputs (line h)
+
+change_texts-are : (tag : ℕ) (ports : Ports) (line : List Change → Line) (h cs : List Change) → texts_from (one_shown tag ports line) h cs ≡ change_texts tag ports cs (lines_from line h cs)
+change_texts-are tag ports line h [] = refl
+change_texts-are tag ports line h (c ∷ cs) =
+    ap (λ t. line_text tag (Some c) ports.inputs ports.outputs (line (c ∷ h)) ++ t) (change_texts-are tag ports line (c ∷ h) cs)
+
+pub trace_text-is : (tag : ℕ) (ports : Ports) (line : List Change → Line) (cs : List Change)
+    → one_shown tag ports line [] ++ texts_from (one_shown tag ports line) [] cs ≡ trace_text tag ports cs (trace line cs)
+trace_text-is tag ports line cs = ap (λ t. line_text tag None ports.inputs ports.outputs (line []) ++ t) (change_texts-are tag ports line [] cs)
+
+-- The text of three simulators.
+
+abbrev pub three_shown : Ports → (List Change → Lines) → List Change → List ℕ
+three_shown ports lines h = lines_text (newest h) ports (lines h)
+
+compared_texts-are : (ports : Ports) (lines : List Change → Lines) (h cs : List Change) → texts_from (three_shown ports lines) h cs ≡ compared_texts ports cs (all_from lines h cs)
+compared_texts-are ports lines h [] = refl
+compared_texts-are ports lines h (c ∷ cs) = ap (λ t. lines_text (Some c) ports (lines (c ∷ h)) ++ t) (compared_texts-are ports lines (c ∷ h) cs)
+
+pub compared_text-is : (ports : Ports) (lines : List Change → Lines) (cs : List Change)
+    → three_shown ports lines [] ++ texts_from (three_shown ports lines) [] cs ≡ compared_text ports cs lines
+compared_text-is ports lines cs = ap (λ t. lines_text None ports (lines []) ++ t) (compared_texts-are ports lines [] cs)
+
+-- the first number so far, or else the first one in the rest
+abbrev pub or_later : Option ℕ → Option ℕ → Option ℕ
+or_later (Some first) later = Some first
+or_later None later = later
+
+pub first_step : (alike : Bool) (first : Option ℕ) (number : ℕ) (later : Option ℕ) → or_later (first_of alike first number) later ≡ or_later first (if alike then later else Some number)
+first_step true (Some first) number later = refl
+first_step false (Some first) number later = refl
+first_step true None number later = refl
+first_step false None number later = refl
+
+-- the three stand after this history
+pub record Stand (liberty verilog vital : List Change → Type 0) (h : List Change) : Type 0 where
+  pub of_liberty : liberty h
+  pub of_verilog : verilog h
+  pub of_vital : vital h
+
+-- How far a run of three has come: as one, and the first number so far, or else that in the rest, is that of the whole.
+pub record Comparing (stands : List Change → Type 0) (ports : Ports) (lines : List Change → Lines) (n : ℕ) (s now : DeskState) (held : List ℕ) (changes rest : List Change) (first : Option ℕ) (number : ℕ) : Type 0 where
+  pub going : Going stands (three_shown ports lines) n s now held rest (compared_text ports changes lines)
+  pub found : or_later first (unlike_from number (all_from lines going.history rest)) ≡ first_unlike changes lines
+
+pub compares : (stands later : List Change → Type 0) (ports : Ports) (lines : List Change → Lines) (n : ℕ) (s now next : DeskState) (held after : List ℕ) (xs : List Change) (i : ℕ) (x : Change) (first : Option ℕ) (number : ℕ) (alike : Bool)
+    → i < length xs → x ≡ get_or xs i x → ((h : List Change) → stands h → later (x ∷ h))
+    → Comparing stands ports lines n s now held xs (drop i xs) first number
+    → ((h : List Change) → later (x ∷ h) → Gathers now next Report held (three_shown ports lines (x ∷ h)) after)
+    → ((h : List Change) → later (x ∷ h) → alike ≡ are_alike (lines (x ∷ h)))
+    → Comparing later ports lines n s next after xs (drop (i + 1) xs) (first_of alike first number) (number + 1)
+unfolding goes_on
+compares stands later ports lines n s now next held after xs i x first number alike below is steps c put shows =
+    let rest = next_is xs i x below is in
+    let h = c.going.history in
+    let here : alike ≡ are_alike (lines (x ∷ h)) = shows h (steps h c.going.standing) in
+    record {
+      going = goes_on stands later (three_shown ports lines) n s now next held after xs i x (compared_text ports xs lines) below is steps c.going put;
+      found = first_step alike first number (unlike_from (number + 1) (all_from lines (x ∷ h) (drop (i + 1) xs)))
+          ∙ (ap (λ b. or_later first (if b then unlike_from (number + 1) (all_from lines (x ∷ h) (drop (i + 1) xs)) else Some number)) here
+          ∙ (ap (λ ys. or_later first (unlike_from number (all_from lines h ys))) (sym rest) ∙ c.found));
+    }
+
+-- the run of three has begun: the text of the start was put
+pub compares_first : (stands : List Change → Type 0) (ports : Ports) (lines : List Change → Lines) (n : ℕ) (s now : DeskState) (held : List ℕ) (cs : List Change) (first : Option ℕ) (alike : Bool)
+    → stands [] → IsProperFrom n [] cs → Gathers s now Report [] (three_shown ports lines []) held → first ≡ first_of alike None 0 → alike ≡ are_alike (lines [])
+    → Comparing stands ports lines n s now held cs cs first 1
+compares_first stands ports lines n s now held cs first alike start proper put e a = record {
+  going = record { history = []; standing = start; proper = proper; done = three_shown ports lines []; gathered = put; joined = compared_text-is ports lines cs };
+  found = ap (λ f. or_later f (unlike_from 1 (all_from lines [] cs))) e
+      ∙ (first_step alike None 0 (unlike_from 1 (all_from lines [] cs)) ∙ ap (λ b. or_later None (if b then unlike_from 1 (all_from lines [] cs) else Some 0)) a);
+}
+
+-- what is put and shown, where the machines stay the same
+pub one_put : {S : Type 0} (later : List Change → Type 0) (tag : ℕ) (ports : Ports) (line shown : List Change → Line) (now next : DeskState) (held after : List ℕ) (x : Change) (r : Result S RunFault)
+    → shown ≡ line → ((h : List Change) → later h → PutsTrace now next held (line_text tag (Some x) ports.inputs ports.outputs (shown h)) after r)
+    → (h : List Change) → later (x ∷ h) → PutsTrace now next held (one_shown tag ports line (x ∷ h)) after r
+one_put later tag ports line shown now next held after x r same put h s =
+    subst (λ l. PutsTrace now next held (line_text tag (Some x) ports.inputs ports.outputs (l (x ∷ h))) after r) same (put (x ∷ h) s)
+
+pub three_put : {S : Type 0} (liberty verilog vital : List Change → Type 0) (ports : Ports) (lines shown : List Change → Lines) (now next : DeskState) (held after : List ℕ) (x : Change) (r : Result S RunFault)
+    → shown ≡ lines → ((h : List Change) → liberty h → verilog h → vital h → PutsTrace now next held (lines_text (Some x) ports (shown h)) after r)
+    → (h : List Change) → Stand liberty verilog vital (x ∷ h) → PutsTrace now next held (three_shown ports lines (x ∷ h)) after r
+three_put liberty verilog vital ports lines shown now next held after x r same put h s =
+    subst (λ l. PutsTrace now next held (lines_text (Some x) ports (l (x ∷ h))) after r) same (put (x ∷ h) s.of_liberty s.of_verilog s.of_vital)
+
+pub three_alike : (liberty verilog vital : List Change → Type 0) (lines shown : List Change → Lines) (x : Change) (b : Bool)
+    → shown ≡ lines → ((h : List Change) → liberty h → verilog h → vital h → b ≡ are_alike (shown h))
+    → (h : List Change) → Stand liberty verilog vital (x ∷ h) → b ≡ are_alike (lines (x ∷ h))
+three_alike liberty verilog vital lines shown x b same shows h s =
+    subst (λ l. b ≡ are_alike (l (x ∷ h))) same (shows (x ∷ h) s.of_liberty s.of_verilog s.of_vital)
 
 -- a text that was written but for its rest
 pub written_part : {S T : Type 0} (s next : DeskState) (text : List ℕ) (y : Failed) (r : Result T RunFault)

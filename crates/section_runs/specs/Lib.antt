@@ -1,3 +1,4 @@
 pub mod TraceText
 pub mod Writes
 pub mod Differences
+pub mod Comparison

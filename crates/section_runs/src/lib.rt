@@ -1,12 +1,14 @@
 //! A section of a stimulus run by simulators: the lines of a trace, printed to the report, and where two traces differ.
 #![tactic(auto)]
 
+mod comparison;
 mod differences;
 mod faults;
 mod heading;
 mod section;
 mod trace;
 
+pub use comparison::{Three, write_comparison, write_verdict};
 pub use differences::{first_difference, no_difference_is_equal, same_line};
 pub use faults::RunFault;
 pub use heading::write_heading;

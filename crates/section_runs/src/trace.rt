@@ -45,7 +45,7 @@ pub fn write_trace<D: Desk, S: CellSim>(
 }
 
 /// Puts the line that the simulator shows behind the bytes that wait.
-fn put_line<D: Desk, S: CellSim>(
+pub(crate) fn put_line<D: Desk, S: CellSim>(
     alloc: Global,
     desk: &mut D,
     line: &mut Line,

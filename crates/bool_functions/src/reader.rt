@@ -12,12 +12,16 @@ use std::marker::Model;
 /// How tightly an operator binds: the tighter, the greater. An open group holds all that is outside it.
 const GROUP: u8 = 0;
 
+/// How tightly `+` binds.
 const OR: u8 = 1;
 
+/// How tightly `*` binds.
 const AND: u8 = 2;
 
+/// How tightly `^` binds.
 const XOR: u8 = 3;
 
+/// How tightly inversion binds.
 const INVERSION: u8 = 4;
 
 /// What waits for its right side: an open group, an inversion, or an operator with its left side.

@@ -41,6 +41,7 @@ pub(crate) fn symbol_of(bytes: &[u8], names: &Names) -> Symbol
     }
 }
 
+/// The symbol of a run of digits: a constant, or none that a text may have.
 fn digit_of(first: u8, rest: &[u8]) -> Symbol
     ensures { result ≡ digit_of first rest.now }
 {
@@ -51,6 +52,7 @@ fn digit_of(first: u8, rest: &[u8]) -> Symbol
     }
 }
 
+/// The symbol of a byte that stands alone.
 fn mark_of(byte: u8) -> Symbol
     ensures { result ≡ mark_of byte }
 {

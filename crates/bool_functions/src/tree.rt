@@ -56,6 +56,7 @@ impl Model for Function {
 }
 
 impl Function {
+    /// The function of a tree.
     pub(crate) fn new(node: Node) -> Function
         ensures { result ≡ node }
     {

@@ -75,12 +75,14 @@ impl Part {
         }
     }
 
+    /// The bytes of the library before this part.
     pub(crate) fn before(&self) -> usize
         ensures { result ≡ self.now.before }
     {
         self.before
     }
 
+    /// The bytes of the part.
     pub(crate) fn bytes(&self) -> &[u8]
         ensures { result.now ≡ self.now.bytes }
     {

@@ -9,7 +9,7 @@ use bool_functions::Function;
 use sqlite_items::Items;
 use std::alloc::Global;
 
-// The pins that a condition names, none where there is no condition.
+/// The pins that a condition names, none where there is no condition.
 fn condition_names(alloc: Global, condition: &Option<Function>) -> Result<Items<usize>, Memory>
     ensures { IfOk result (λ names. names ≡ condition_names condition.now) }
 {

@@ -31,7 +31,7 @@ pub fn lesser(left: Option<u64>, right: Option<u64>) -> Option<u64>
     }
 }
 
-// Whether there is no condition or it is 0.
+/// Whether there is no condition or it is 0.
 fn is_off(condition: &Option<Function>, names: &[usize], pins: &[Pin], inputs: &[Trit]) -> bool
     requires bounded { IsBounded condition.now }
     requires names { names.now ≡ condition_names condition.now }
@@ -43,7 +43,7 @@ fn is_off(condition: &Option<Function>, names: &[usize], pins: &[Pin], inputs: &
     }
 }
 
-// Whether another arc leaves an arc without condition active: it has other pins, or its condition is 0.
+/// Whether another arc leaves an arc without condition active: it has other pins, or its condition is 0.
 fn is_quiet(arc: &Arc, other: &Arc, names: &[usize], pins: &[Pin], inputs: &[Trit]) -> bool
     requires bounded { IsBounded other.now.condition }
     requires names { names.now ≡ condition_names other.now.condition }
@@ -52,7 +52,7 @@ fn is_quiet(arc: &Arc, other: &Arc, names: &[usize], pins: &[Pin], inputs: &[Tri
     !arc.same_pins(other) || is_off(&other.condition, names, pins, inputs)
 }
 
-// Whether all other arcs leave an arc without condition active.
+/// Whether all other arcs leave an arc without condition active.
 fn all_are_quiet(cell: &Cell, names: &[Items<usize>], arc: &Arc, inputs: &[Trit]) -> bool
     requires { names.now ≡ arc_names (data_of cell.now) }
     ensures { result ≡ list_all (is_quiet cell.now.pins inputs.now arc.now) cell.now.arcs }
@@ -72,7 +72,7 @@ fn all_are_quiet(cell: &Cell, names: &[Items<usize>], arc: &Arc, inputs: &[Trit]
     true
 }
 
-// Whether the arc with this number is active.
+/// Whether the arc with this number is active.
 fn is_active(cell: &Cell, names: &[Items<usize>], i: usize, inputs: &[Trit]) -> bool
     requires names { names.now ≡ arc_names (data_of cell.now) }
     requires inside { i < length cell.now.arcs }
@@ -104,7 +104,7 @@ pub struct OutputChange {
     pub to: Trit,
 }
 
-// An arc's delay of a change, there where the arc leads from the input to the output and is active.
+/// An arc's delay of a change, there where the arc leads from the input to the output and is active.
 fn arc_delay(
     cell: &Cell,
     names: &[Items<usize>],

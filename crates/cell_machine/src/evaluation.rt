@@ -24,7 +24,7 @@ use crate::values::Values;
 use bool_functions::Function;
 use trit_cubes::Trit;
 
-// The second variable of a group with the state `state`.
+/// The second variable of a group with the state `state`.
 fn second_by(
     clear: &Option<Function>,
     preset: &Option<Function>,
@@ -65,7 +65,7 @@ impl GroupKind {
     }
 }
 
-// The second variable of group g, unknown where there is no such group.
+/// The second variable of group g, unknown where there is no such group.
 fn second_value(cell: &Cell, values: &Values, g: usize) -> Trit
     ensures { result ≡ second_value (length cell.now.pins) cell.now.groups values.now g }
 {
@@ -76,8 +76,8 @@ fn second_value(cell: &Cell, values: &Values, g: usize) -> Trit
     cell.group(g).kind.second(values, values.get(name))
 }
 
-// The value of a function for each choice of the second variables that may have either value. `values` are those of the
-// sources, `filled` those with the second variables written over.
+/// The value of a function for each choice of the second variables that may have either value. `values` are those of the
+/// sources, `filled` those with the second variables written over.
 fn chosen_from(
     cell: &Cell,
     function: &Function,
@@ -102,7 +102,7 @@ fn chosen_from(
     )
 }
 
-// The value of an output for each filling of the sources in `rest`.
+/// The value of an output for each filling of the sources in `rest`.
 fn output_from(
     cell: &Cell,
     output: &OutputPin,
@@ -131,7 +131,7 @@ fn output_from(
     )
 }
 
-// The name of a source.
+/// The name of a source.
 fn source_name(cell: &Cell, source: Source) -> usize
     requires { StatesBelow (length cell.now.groups) (source ∷ []) }
     ensures { result ≡ source_name (length cell.now.pins) source }
@@ -142,7 +142,7 @@ fn source_name(cell: &Cell, source: Source) -> usize
     }
 }
 
-// The value of a source.
+/// The value of a source.
 fn source_value(pins: &[Pin], inputs: &[Trit], states: &[Trit], source: Source) -> Trit
     ensures { result ≡ source_value pins.now inputs.now states.now source }
 {
@@ -155,7 +155,7 @@ fn source_value(pins: &[Pin], inputs: &[Trit], states: &[Trit], source: Source) 
     }
 }
 
-// The values of the names where these sources have the values of a point.
+/// The values of the names where these sources have the values of a point.
 fn values_at(cell: &Cell, sources: &[Source], point: &[bool]) -> Values
     requires lengths { length sources.now ≡ length point.now }
     requires states { StatesBelow (length cell.now.groups) sources.now }

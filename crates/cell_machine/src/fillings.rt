@@ -28,7 +28,7 @@ struct Sides {
 }
 
 impl Sides {
-    // The same value for a name on both sides.
+    /// The same value for a name on both sides.
     fn with(self, name: usize, value: bool) -> Sides
         ensures before { result.before ≡ slice_set self.before name value }
         ensures after { result.after ≡ slice_set self.after name value }
@@ -40,7 +40,7 @@ impl Sides {
     }
 }
 
-// The step for each filling of the state.
+/// The step for each filling of the state.
 fn state_filled(group: NamedKind<'_>, sides: &Sides, state: Trit) -> Trit
     requires name { group.name < 96 }
     requires bounded { KindIsBounded group.kind.now }
@@ -50,7 +50,7 @@ fn state_filled(group: NamedKind<'_>, sides: &Sides, state: Trit) -> Trit
     over!(state, bit => group.kind.step(group.name, before, after, bit))
 }
 
-// The step for each filling of the inputs under these names, the same before and after, and of the state.
+/// The step for each filling of the inputs under these names, the same before and after, and of the state.
 fn all_filled(
     group: NamedKind<'_>,
     names: &[usize],
@@ -71,7 +71,7 @@ fn all_filled(
     over!(*trit, bit => all_filled(group, names, trits, sides.with(first, bit), state))
 }
 
-// The same less the name at a place, which is written before.
+/// The same less the name at a place, which is written before.
 fn others_filled(
     group: NamedKind<'_>,
     place: usize,
@@ -110,7 +110,7 @@ pub struct PinChange {
     pub to: Trit,
 }
 
-// The step where the changed input has this new value.
+/// The step where the changed input has this new value.
 fn at_new(
     group: NamedKind<'_>,
     change: PinChange,
@@ -130,7 +130,7 @@ fn at_new(
     others_filled(group, change.place, names, trits, sides, state)
 }
 
-// The step for each filling of the changed input's new value too.
+/// The step for each filling of the changed input's new value too.
 fn new_filled(
     group: NamedKind<'_>,
     change: PinChange,
@@ -167,7 +167,7 @@ pub fn change_filled(
     )
 }
 
-// The step for both states.
+/// The step for both states.
 fn both_states(kind: &GroupKind, name: usize, before: &Values, after: &Values) -> Trit
     requires name { name < 96 }
     requires bounded { KindIsBounded kind.now }
@@ -177,7 +177,7 @@ fn both_states(kind: &GroupKind, name: usize, before: &Values, after: &Values) -
     zero.agreed(kind.step(name, before, after, true))
 }
 
-// The values with those of `from` for these names.
+/// The values with those of `from` for these names.
 fn copied(values: Values, names: &[usize], from: &Values) -> Values
     ensures { result ≡ written values names.now (picked from.now names.now) }
 {
@@ -188,7 +188,7 @@ fn copied(values: Values, names: &[usize], from: &Values) -> Values
     values
 }
 
-// The common step for both states, from the inputs after a change and each that differ from them in one of the names.
+/// The common step for both states, from the inputs after a change and each that differ from them in one of the names.
 fn forced_around(
     kind: &GroupKind,
     name: usize,
@@ -209,7 +209,7 @@ fn forced_around(
     same.agreed(both_states(kind, name, &other, after))
 }
 
-// The forced value for each filling of the inputs under `rest`.
+/// The forced value for each filling of the inputs under `rest`.
 fn forced_from(
     kind: &GroupKind,
     name: usize,

@@ -139,7 +139,7 @@ impl<'a> CellSim for LibertySim<'a> {
     ghost sized = { λ s. cell_machine_sized (data_of s.cell.now) };
 }
 
-// Whether some check reported.
+/// Whether some check reported.
 fn any_true(reports: &[bool]) -> bool
     ensures { result ≡ any_true reports.now }
 {

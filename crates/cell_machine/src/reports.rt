@@ -34,7 +34,7 @@ impl CheckKind {
     }
 }
 
-// Whether a check's condition is 1, or there is none.
+/// Whether a check's condition is 1, or there is none.
 fn condition_holds(
     condition: &Option<Function>,
     names: &[usize],
@@ -51,14 +51,14 @@ fn condition_holds(
     }
 }
 
-// Whether a change of an input that had the value `from` is this event.
+/// Whether a change of an input that had the value `from` is this event.
 fn happens(event: Event, pins: &[Pin], from: Trit, change: Change) -> bool
     ensures { result ≡ happens (input_event pins.now event) from change }
 {
     change.pin == input_number(pins, event.pin) && moves(event.edge, from, change.to)
 }
 
-// The time of the last event of an input.
+/// The time of the last event of an input.
 fn time_of(times: &[Times], input: usize, edge: Edge) -> Option<u64>
     ensures { result ≡ time_of (record { pin = input; edge = edge }) times.now }
 {
@@ -68,7 +68,7 @@ fn time_of(times: &[Times], input: usize, edge: Edge) -> Option<u64>
     }
 }
 
-// The time from which a check measures at a change.
+/// The time from which a check measures at a change.
 fn opened(check: &Check, pins: &[Pin], times: &[Times], from: Trit, change: Change) -> Option<u64>
     ensures { result ≡ time_of (opening (input_check pins.now check.now) from change) times.now }
 {
@@ -83,7 +83,7 @@ fn opened(check: &Check, pins: &[Pin], times: &[Times], from: Trit, change: Chan
     }
 }
 
-// Whether a check reports. `inputs` are those after the change, `times` those before it.
+/// Whether a check reports. `inputs` are those after the change, `times` those before it.
 fn reports(
     check: &Check,
     names: &[usize],

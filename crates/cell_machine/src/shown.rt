@@ -24,7 +24,7 @@ pub struct Shown {
     pub delay: Option<u64>,
 }
 
-// What one output shows after a change, where it showed the value `was` before.
+/// What one output shows after a change, where it showed the value `was` before.
 fn shown_step(
     cell: &Cell,
     names: &[Items<usize>],
@@ -75,7 +75,7 @@ pub fn show_all(
     }
 }
 
-// What one output shows at the start.
+/// What one output shows at the start.
 fn shown_first(cell: &Cell, i: usize, inputs: &[Trit], states: &[Trit]) -> Shown
     requires { i < length cell.now.outputs }
     ensures { (output : OutputPinOf) → slice_get cell.now.outputs i ≡ Some output → result ≡ shown_first cell.now.pins cell.now.groups inputs.now states.now output }

@@ -16,7 +16,7 @@ use crate::pins::Pin;
 use sqlite_items::Items;
 use trit_cubes::Trit;
 
-// The place of the changed input in a support, where it is there.
+/// The place of the changed input in a support, where it is there.
 fn place_in(pins: &[Pin], support: &[usize], change: Change) -> Option<usize>
     ensures { result ≡ place_in pins.now support.now change }
 {
@@ -25,8 +25,8 @@ fn place_in(pins: &[Pin], support: &[usize], change: Change) -> Option<usize>
         .position(|pin| input_number(pins, *pin) == change.pin)
 }
 
-// The next state of a group where no check reports. `inputs` are those after the change, `from` is the value that the
-// changed one had.
+/// The next state of a group where no check reports. `inputs` are those after the change, `from` is the value that the
+/// changed one had.
 fn moved(cell: &Cell, i: usize, inputs: &[Trit], from: Trit, change: Change, state: Trit) -> Trit
     requires { i < length cell.now.groups }
     ensures { (group : StateGroupOf) → slice_get cell.now.groups i ≡ Some group → result ≡ moved cell.now.pins (record { name = state_name (length cell.now.pins) i; group = group }) inputs.now from change state }
@@ -51,7 +51,7 @@ fn moved(cell: &Cell, i: usize, inputs: &[Trit], from: Trit, change: Change, sta
     change_filled(named, change, support, values.as_slice(), state)
 }
 
-// The state of a group where some check reports.
+/// The state of a group where some check reports.
 fn violated(cell: &Cell, i: usize, inputs: &[Trit]) -> Trit
     requires { i < length cell.now.groups }
     ensures { (group : StateGroupOf) → slice_get cell.now.groups i ≡ Some group → result ≡ violated cell.now.pins (record { name = state_name (length cell.now.pins) i; group = group }) inputs.now }
@@ -62,7 +62,7 @@ fn violated(cell: &Cell, i: usize, inputs: &[Trit]) -> Trit
     forced_filled(&group.kind, cell.state_name(i), support, values.as_slice())
 }
 
-// The next state of a group at a change of an input: forced where some check reports, else moved.
+/// The next state of a group at a change of an input: forced where some check reports, else moved.
 fn state_step(
     cell: &Cell,
     i: usize,

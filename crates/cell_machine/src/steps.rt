@@ -25,7 +25,7 @@ pub fn both_value(both: Both, state: bool) -> Trit
     }
 }
 
-// The lines on clear and preset, with `otherwise` where both are 0.
+/// The lines on clear and preset, with `otherwise` where both are 0.
 fn cleared_step(
     clear: &Option<Function>,
     preset: &Option<Function>,
@@ -48,6 +48,7 @@ fn cleared_step(
     }
 }
 
+/// What a flip-flop's texts give for a variable: clear and preset, then the clock, then the state.
 fn clocked_value(kind: &Clocked, name: usize, before: &Values, after: &Values, state: bool) -> Trit
     requires name { name < 96 }
     requires bounded { KindIsBounded (GroupKind.Ff kind.now) }
@@ -60,6 +61,7 @@ fn clocked_value(kind: &Clocked, name: usize, before: &Values, after: &Values, s
     }
 }
 
+/// The next state of a flip-flop, of which `name` is the variable.
 fn clocked_step(kind: &Clocked, name: usize, before: &Values, after: &Values, state: bool) -> Trit
     requires name { name < 96 }
     requires bounded { KindIsBounded (GroupKind.Ff kind.now) }
@@ -76,6 +78,7 @@ fn clocked_step(kind: &Clocked, name: usize, before: &Values, after: &Values, st
     )
 }
 
+/// What a latch's texts give for a variable: clear and preset, then the enable, then the state.
 fn gated_value(kind: &Gated, name: usize, after: &Values, state: bool) -> Trit
     requires name { name < 96 }
     requires bounded { KindIsBounded (GroupKind.Latch kind.now) }
@@ -88,6 +91,7 @@ fn gated_value(kind: &Gated, name: usize, after: &Values, state: bool) -> Trit
     }
 }
 
+/// The next state of a latch, of which `name` is the variable.
 fn gated_step(kind: &Gated, name: usize, after: &Values, state: bool) -> Trit
     requires name { name < 96 }
     requires bounded { KindIsBounded (GroupKind.Latch kind.now) }
@@ -104,7 +108,7 @@ fn gated_step(kind: &Gated, name: usize, after: &Values, state: bool) -> Trit
     )
 }
 
-// Whether each column's symbol matches the values of the column's pin.
+/// Whether each column's symbol matches the values of the column's pin.
 fn columns_match(symbols: &[InSymbol], inputs: &[usize], before: &Values, after: &Values) -> bool
     ensures { result ≡ inputs_match symbols.now (picked before.now inputs.now) (picked after.now inputs.now) }
 {
@@ -119,7 +123,7 @@ fn columns_match(symbols: &[InSymbol], inputs: &[usize], before: &Values, after:
     true
 }
 
-// Whether the row's columns match, and the symbol of the node's present state.
+/// Whether the row's columns match, and the symbol of the node's present state.
 fn row_matches(
     row: &TableRow,
     node: usize,
@@ -139,7 +143,7 @@ fn row_matches(
     }
 }
 
-// The next state of a node by the first row that matches.
+/// The next state of a node by the first row that matches.
 fn table_step(
     table: &StateTable,
     node: usize,
@@ -158,6 +162,7 @@ fn table_step(
     None
 }
 
+/// What a matching row gives for the node, where it is known.
 fn row_gives(row: &TableRow, node: usize, state: bool) -> Option<bool>
     ensures { result ≡ row_gives node state row.now }
 {

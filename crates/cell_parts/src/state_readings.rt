@@ -45,12 +45,14 @@ pub struct StateReading {
     pub support: Items<usize>,
 }
 
+/// Whether the group is `ff`, and no `latch`.
 pub fn is_ff(group: &Group) -> bool
     ensures { result ≡ is_ff_of group.now }
 {
     is_called(group, b"ff")
 }
 
+/// The attribute that gives the data: `next_state` or `data_in`.
 fn data_name(group: &Group) -> &[u8]
     ensures { result.now ≡ data_name_of group.now }
 {
@@ -61,6 +63,7 @@ fn data_name(group: &Group) -> &[u8]
     }
 }
 
+/// The attribute that gives the clock or the enable.
 fn control_name(group: &Group) -> &[u8]
     ensures { result.now ≡ control_name_of group.now }
 {
@@ -95,6 +98,7 @@ fn holds_state(alloc: Global, group: &Group) -> Result<bool, Memory>
     Ok(!states.is_empty())
 }
 
+/// The offset, where the fault is here.
 fn place_if(here: bool, at: usize) -> Option<usize>
     ensures { result ≡ place_if_of here at }
 {
@@ -187,6 +191,7 @@ fn numbers_of(
     Ok(numbers)
 }
 
+/// Whether a current symbol is `-`.
 fn is_free(symbol: CurrentSymbol) -> bool
     ensures { result ≡ is_free_symbol symbol }
 {

@@ -55,6 +55,7 @@ pub enum Text {
     Coupled(usize),
 }
 
+/// What a name means in a text that may not name the group's own variables.
 pub fn control_use(class: Class) -> Use
     ensures { result ≡ control_use_of class }
 {
@@ -65,6 +66,7 @@ pub fn control_use(class: Class) -> Use
     }
 }
 
+/// What a name means in `next_state` or `data_in`.
 fn own_use(own: bool, class: Class) -> Use
     ensures { result ≡ own_use_of own class }
 {
@@ -76,6 +78,7 @@ fn own_use(own: bool, class: Class) -> Use
     }
 }
 
+/// What a name means in a `function`.
 fn function_use(class: Class) -> Use
     ensures { result ≡ function_use_of class }
 {
@@ -85,6 +88,7 @@ fn function_use(class: Class) -> Use
     }
 }
 
+/// What a name means in a `state_function`.
 fn state_function_use(class: Class) -> Use
     ensures { result ≡ state_function_use_of class }
 {
@@ -94,6 +98,7 @@ fn state_function_use(class: Class) -> Use
     }
 }
 
+/// Whether this is the number, where there is one.
 fn is_number(i: usize, number: Option<usize>) -> bool
     ensures { result ≡ is_number_of i number }
 {
@@ -127,6 +132,7 @@ pub fn class_at(classes: &[Class], i: usize) -> Class
     }
 }
 
+/// What the name with this number means in a text of this scope.
 fn use_at(classes: &[Class], scope: Scope, i: usize) -> Use
     ensures { result ≡ use_at_place classes.now scope i }
 {

@@ -66,6 +66,7 @@ fn second_both(group: &Group) -> Both
     }
 }
 
+/// The texts of a flip-flop as functions.
 fn clocked(
     alloc: Global,
     to: &[usize],
@@ -85,6 +86,7 @@ fn clocked(
     })
 }
 
+/// The texts of a latch as functions.
 fn gated(
     alloc: Global,
     to: &[usize],

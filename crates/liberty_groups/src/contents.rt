@@ -36,6 +36,7 @@ pub fn one_text(alloc: Global, mut values: Items<Value>) -> Items<u8>
 }
 
 impl Contents {
+    /// Nothing found yet.
     pub fn new(alloc: Global) -> Contents
         ensures { found_of result ≡ nothing_found }
     {

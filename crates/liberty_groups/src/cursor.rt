@@ -31,6 +31,7 @@ impl<'a> Model for Cursor<'a> {
 }
 
 impl<'a> Cursor<'a> {
+    /// A cursor before the first token.
     pub fn new(text: &'a [u8], tokens: &'a [Token]) -> Cursor<'a>
         requires { LieInside text.now tokens.now }
         ensures { result ≡ lexemes_of text.now tokens.now }
@@ -55,12 +56,14 @@ impl<'a> Cursor<'a> {
         }
     }
 
+    /// How many tokens are left.
     pub fn left(&self) -> usize
         ensures { result ≡ length self.now }
     {
         self.left.len()
     }
 
+    /// The next token, which stays.
     pub fn peek(&self) -> Option<Token>
         ensures { result ≡ next_token self.now }
     {
@@ -82,6 +85,7 @@ impl<'a> Cursor<'a> {
         matches!(self.left, [_])
     }
 
+    /// Goes past the next token.
     pub fn skip(&mut self)
         ensures { self.new ≡ rest self.old }
     {

@@ -38,6 +38,7 @@ pub enum Standing {
     Done,
 }
 
+/// Where a closing brace leads from this depth.
 fn after_end(depth: usize) -> Standing
     ensures { result ≡ spec.after_end depth }
 {
@@ -48,6 +49,7 @@ fn after_end(depth: usize) -> Standing
     }
 }
 
+/// Where a token leads at the place of a statement.
 fn at_statement(depth: usize, token: Token) -> Option<Standing>
     ensures { result ≡ spec.at_statement depth token }
 {
@@ -59,6 +61,7 @@ fn at_statement(depth: usize, token: Token) -> Option<Standing>
     }
 }
 
+/// Where a token leads behind a complex statement.
 fn at_group(depth: usize, token: Token) -> Option<Standing>
     ensures { result ≡ spec.at_group depth token }
 {
@@ -72,6 +75,7 @@ fn at_group(depth: usize, token: Token) -> Option<Standing>
     }
 }
 
+/// Where a token leads among arguments.
 fn in_arguments(here: Standing, behind: Standing, token: Token) -> Option<Standing>
     ensures { result ≡ spec.in_arguments here behind token }
 {
@@ -82,12 +86,14 @@ fn in_arguments(here: Standing, behind: Standing, token: Token) -> Option<Standi
     }
 }
 
+/// The place behind a mark, where the token is that mark.
 fn at_mark(is: bool, next: Standing) -> Option<Standing>
     ensures { result ≡ spec.at_mark is next }
 {
     if is { Some(next) } else { None }
 }
 
+/// Where a token leads inside a value.
 fn at_value(depth: usize, goes_on: bool, ends: bool, token: Token) -> Option<Standing>
     ensures { result ≡ spec.at_value depth goes_on ends token }
 {
@@ -100,6 +106,7 @@ fn at_value(depth: usize, goes_on: bool, ends: bool, token: Token) -> Option<Sta
     }
 }
 
+/// Where a token leads behind a statement's name.
 fn after_name(depth: usize, kind: TokenKind) -> Option<Standing>
     ensures { result ≡ spec.after_name depth kind }
 {

@@ -159,6 +159,7 @@ pub fn fault_of(len: usize, halt: Halt, stop: TextStop) -> Option<LibraryFault>
     }
 }
 
+/// How the reading ended: whole, cut, or with its fault.
 fn end_of(
     alloc: Global,
     bytes: &[u8],

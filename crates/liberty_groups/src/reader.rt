@@ -44,6 +44,7 @@ pub enum Start {
     Other,
 }
 
+/// What a token begins at the place of a statement.
 pub fn start_by(kind: TokenKind) -> Start
     ensures { result ≡ spec.start_by kind }
 {
@@ -54,6 +55,7 @@ pub fn start_by(kind: TokenKind) -> Start
     }
 }
 
+/// Whether the token is this mark.
 pub fn is_mark(mark: Mark, kind: TokenKind) -> bool
     ensures { result ≡ spec.is_mark mark kind }
 {
@@ -67,6 +69,7 @@ pub fn is_mark(mark: Mark, kind: TokenKind) -> bool
     }
 }
 
+/// Whether the token may stand among arguments.
 pub fn is_argument(kind: TokenKind) -> bool
     ensures { result ≡ spec.is_argument kind }
 {
@@ -76,6 +79,7 @@ pub fn is_argument(kind: TokenKind) -> bool
     }
 }
 
+/// Whether the token may stand in a value.
 pub fn is_value(kind: TokenKind) -> bool
     ensures { result ≡ spec.is_value kind }
 {
@@ -86,6 +90,7 @@ pub fn is_value(kind: TokenKind) -> bool
     }
 }
 
+/// Whether the token goes on what stands at the place.
 pub fn goes_on(place: Place, token: Token) -> bool
     ensures { result ≡ spec.goes_on place token }
 {
@@ -96,6 +101,7 @@ pub fn goes_on(place: Place, token: Token) -> bool
     }
 }
 
+/// Whether the token ends a value.
 pub fn ends_by(kind: TokenKind) -> bool
     ensures { result ≡ spec.ends_by kind }
 {
@@ -106,6 +112,7 @@ pub fn ends_by(kind: TokenKind) -> bool
     }
 }
 
+/// Whether the token ends the value at the place, also by the line end before it.
 pub fn ends_value(place: Place, token: Token) -> bool
     ensures { result ≡ spec.ends_value place token }
 {

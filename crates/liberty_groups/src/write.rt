@@ -23,6 +23,7 @@ fn push_value(out: &mut Vec<u8>, value: &Value) -> Result<(), Memory>
     Ok(())
 }
 
+/// Appends values with commas between them.
 fn push_values(out: &mut Vec<u8>, values: &[Value]) -> Result<(), Memory>
     ensures { OnOk result (out.new.items ≡ out.old.items ++ values_text true values.now) }
 {
@@ -37,6 +38,7 @@ fn push_values(out: &mut Vec<u8>, values: &[Value]) -> Result<(), Memory>
     Ok(())
 }
 
+/// Appends a simple statement.
 fn push_simple(out: &mut Vec<u8>, name: &[u8], value: &[Value]) -> Result<(), Memory>
     ensures { OnOk result (out.new.items ≡ out.old.items ++ simple_text name.now value.now) }
 {
@@ -47,6 +49,7 @@ fn push_simple(out: &mut Vec<u8>, name: &[u8], value: &[Value]) -> Result<(), Me
     Ok(())
 }
 
+/// Appends a complex statement.
 fn push_complex(out: &mut Vec<u8>, name: &[u8], arguments: &[Value]) -> Result<(), Memory>
     ensures { OnOk result (out.new.items ≡ out.old.items ++ complex_text name.now arguments.now) }
 {
@@ -57,6 +60,7 @@ fn push_complex(out: &mut Vec<u8>, name: &[u8], arguments: &[Value]) -> Result<(
     Ok(())
 }
 
+/// Appends a group's name and arguments.
 fn push_head(out: &mut Vec<u8>, name: &[u8], arguments: &[Value]) -> Result<(), Memory>
     ensures { OnOk result (out.new.items ≡ out.old.items ++ head_text name.now arguments.now) }
 {
@@ -67,6 +71,7 @@ fn push_head(out: &mut Vec<u8>, name: &[u8], arguments: &[Value]) -> Result<(), 
     Ok(())
 }
 
+/// Appends one statement.
 #[cycle(writing)]
 fn push_item(out: &mut Vec<u8>, item: &Item) -> Result<(), Memory>
     ensures { OnOk result (out.new.items ≡ out.old.items ++ item_text item.now) }
@@ -82,6 +87,7 @@ fn push_item(out: &mut Vec<u8>, item: &Item) -> Result<(), Memory>
     }
 }
 
+/// Appends statements in order.
 #[cycle(writing)]
 fn push_items(out: &mut Vec<u8>, items: &[Item]) -> Result<(), Memory>
     ensures { OnOk result (out.new.items ≡ out.old.items ++ items_text items.now) }
@@ -92,6 +98,7 @@ fn push_items(out: &mut Vec<u8>, items: &[Item]) -> Result<(), Memory>
     Ok(())
 }
 
+/// Appends a group with all that stands in it.
 #[cycle(writing)]
 fn push_group(out: &mut Vec<u8>, group: &Group) -> Result<(), Memory>
     ensures { OnOk result (out.new.items ≡ out.old.items ++ group_text group.now) }

@@ -76,6 +76,7 @@ impl Scanner {
         self.tokens.as_slice()
     }
 
+    /// Keeps a token.
     fn push(
         &mut self,
         kind: TokenKind,

@@ -48,6 +48,7 @@ fn add_groups(alloc: Global, instances: &mut Items<Instance>, cell: &Cell) -> Re
     Ok(())
 }
 
+/// The instance of a state group's primitive.
 fn group_instance(
     alloc: Global,
     cell: &Cell,
@@ -80,6 +81,7 @@ fn add_conditions(
     Ok(())
 }
 
+/// The instance of a condition's primitive.
 fn condition_instance(
     alloc: Global,
     cell: &Cell,
@@ -120,6 +122,7 @@ fn add_outputs(
     Ok(())
 }
 
+/// The instance of an output's primitive, or the `buf` of a constant.
 #[tactic(auto, unfolding(cell_machine::specs::Values::no_values))]
 fn output_instance(
     alloc: Global,

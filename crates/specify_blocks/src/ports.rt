@@ -24,6 +24,7 @@ pub fn verilog_ports(alloc: Global, pins: &[Pin]) -> Result<Items<VPort>, Memory
     Ok(ports)
 }
 
+/// The port of a pin.
 fn port_of(alloc: Global, number: usize, pin: &Pin) -> Result<VPort, Memory>
     ensures { IfOk result (λ port. port ≡ port_of number pin.now) }
 {
@@ -33,6 +34,7 @@ fn port_of(alloc: Global, number: usize, pin: &Pin) -> Result<VPort, Memory>
     })
 }
 
+/// The name of a port: the pin's, or one by its number.
 fn port_name(alloc: Global, number: usize, name: &[u8]) -> Result<Items<u8>, Memory>
     ensures { IfOk result (λ port. port ≡ port_name number name.now) }
 {

@@ -29,6 +29,7 @@ pub(crate) fn paths_of(
     Ok(paths)
 }
 
+/// The path of an arc.
 fn path_of(cell: &Cell, conditions: &[&Function], arc: &Arc) -> VPath
     requires { map (λ f. f.now) conditions.now ≡ conditions_of (data_of cell.now) }
     ensures { result ≡ path_of (data_of cell.now) arc.now }
@@ -43,6 +44,7 @@ fn path_of(cell: &Cell, conditions: &[&Function], arc: &Arc) -> VPath
     }
 }
 
+/// When the path of an arc counts.
 fn gate_of(cell: &Cell, conditions: &[&Function], arc: &Arc) -> Gate
     requires { map (λ f. f.now) conditions.now ≡ conditions_of (data_of cell.now) }
     ensures { result ≡ gate_by (data_of cell.now) arc.now arc.now.condition }
@@ -102,6 +104,7 @@ pub(crate) fn checks_of(
     Ok(checks)
 }
 
+/// The timing check of a cell's check.
 fn check_of(cell: &Cell, conditions: &[&Function], check: &Check) -> VCheck
     requires { map (λ f. f.now) conditions.now ≡ conditions_of (data_of cell.now) }
     ensures { result ≡ check_of (data_of cell.now) check.now }

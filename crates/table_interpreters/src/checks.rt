@@ -15,7 +15,7 @@ use sqlite_items::Items;
 use trit_cubes::Trit;
 use udp_tables::VPort;
 
-// Whether a check of this kind measures from an event of the change's own kind.
+/// Whether a check of this kind measures from an event of the change's own kind.
 fn is_period(kind: CheckKind) -> bool
     ensures { result ≡ is_period kind }
 {
@@ -77,7 +77,7 @@ pub(crate) fn opened(check: &VCheck, from: Trit, change: Change, stamps: Stamps)
     }
 }
 
-// Whether a check's condition lets it count: there is none, or its net is 1.
+/// Whether a check's condition lets it count: there is none, or its net is 1.
 fn is_enabled(
     model: &VModule,
     inputs: &[Trit],
@@ -95,7 +95,7 @@ fn is_enabled(
     }
 }
 
-// Whether a check reports. `inputs` and `states` are those after the change, `from` is the value that the input had.
+/// Whether a check reports. `inputs` and `states` are those after the change, `from` is the value that the input had.
 fn check_reports(
     model: &VModule,
     inputs: &[Trit],

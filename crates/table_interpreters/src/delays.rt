@@ -26,7 +26,7 @@ pub struct OutputChange {
     pub to: Trit,
 }
 
-// Whether a path is no `if` path or its net is 0.
+/// Whether a path is no `if` path or its net is 0.
 fn is_off(
     model: &VModule,
     inputs: &[Trit],
@@ -45,7 +45,7 @@ fn is_off(
     }
 }
 
-// Whether another path leaves an `ifnone` path active.
+/// Whether another path leaves an `ifnone` path active.
 fn is_quiet(
     model: &VModule,
     inputs: &[Trit],
@@ -65,7 +65,7 @@ fn is_quiet(
     is_off(model, inputs, states, other.gate, room)
 }
 
-// Whether all other paths leave an `ifnone` path active.
+/// Whether all other paths leave an `ifnone` path active.
 fn all_are_quiet(
     model: &VModule,
     inputs: &[Trit],
@@ -86,7 +86,7 @@ fn all_are_quiet(
     true
 }
 
-// Whether a path is active.
+/// Whether a path is active.
 fn is_active(
     model: &VModule,
     inputs: &[Trit],
@@ -105,7 +105,7 @@ fn is_active(
     }
 }
 
-// The delay that a path gives, there where it leads from the input to the output and is active.
+/// The delay that a path gives, there where it leads from the input to the output and is active.
 fn path_delay(
     model: &VModule,
     inputs: &[Trit],

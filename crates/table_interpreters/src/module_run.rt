@@ -12,7 +12,7 @@ use specify_blocks::VModule;
 use sqlite_items::Items;
 use trit_cubes::Trit;
 
-// What the register of the checks becomes at a violation.
+/// What the register of the checks becomes at a violation.
 fn toggled(notifier: Trit) -> Trit
     ensures { result ≡ toggled notifier }
 {
@@ -23,7 +23,7 @@ fn toggled(notifier: Trit) -> Trit
     }
 }
 
-// The input takes its value, and the primitives that it feeds their next states.
+/// The input takes its value, and the primitives that it feeds their next states.
 fn enter(run: &mut ModuleRun, model: &VModule, change: Change, from: Trit, room: &mut Items<Trit>)
     requires wired { IsTrue (is_wired (length room.old) model.now) }
     requires one_each { HasEach model.now run.old }
@@ -48,7 +48,7 @@ fn enter(run: &mut ModuleRun, model: &VModule, change: Change, from: Trit, room:
     );
 }
 
-// The register of the checks changes once.
+/// The register of the checks changes once.
 fn notify(run: &mut ModuleRun, model: &VModule, room: &mut Items<Trit>)
     requires wired { IsTrue (is_wired (length room.old) model.now) }
     requires one_each { HasEach model.now run.old }
@@ -72,7 +72,7 @@ fn notify(run: &mut ModuleRun, model: &VModule, room: &mut Items<Trit>)
     );
 }
 
-// The register changes where a check reported.
+/// The register changes where a check reported.
 fn answer(run: &mut ModuleRun, model: &VModule, reported: bool, room: &mut Items<Trit>)
     requires wired { IsTrue (is_wired (length room.old) model.now) }
     requires one_each { HasEach model.now run.old }
@@ -86,7 +86,7 @@ fn answer(run: &mut ModuleRun, model: &VModule, reported: bool, room: &mut Items
     }
 }
 
-// The register changes once for each report.
+/// The register changes once for each report.
 fn shake(run: &mut ModuleRun, model: &VModule, reports: &[bool], room: &mut Items<Trit>)
     requires wired { IsTrue (is_wired (length room.old) model.now) }
     requires one_each { HasEach model.now run.old }
@@ -100,7 +100,7 @@ fn shake(run: &mut ModuleRun, model: &VModule, reports: &[bool], room: &mut Item
     }
 }
 
-// Takes the run over an event, and writes which checks report.
+/// Takes the run over an event, and writes which checks report.
 fn happen(
     run: &mut ModuleRun,
     model: &VModule,

@@ -15,7 +15,7 @@ use sqlite_items::Items;
 use trit_cubes::Trit;
 use udp_tables::{Udp, udp_level};
 
-// Whether these are the same net.
+/// Whether these are the same net.
 fn same_net(net: VNet, other: VNet) -> bool
     ensures { result ≡ same_net net other }
 {
@@ -38,7 +38,7 @@ fn same_net(net: VNet, other: VNet) -> bool
     }
 }
 
-// The net that an instance drives.
+/// The net that an instance drives.
 fn net_driven(instance: &Instance) -> VNet
     ensures { result ≡ net_driven instance.now }
 {
@@ -48,7 +48,7 @@ fn net_driven(instance: &Instance) -> VNet
     }
 }
 
-// The place of the instance that drives a net, where there is one.
+/// The place of the instance that drives a net, where there is one.
 fn driver(instances: &[Instance], net: VNet) -> Option<usize>
     ensures { result ≡ driver instances.now net }
 {
@@ -57,7 +57,7 @@ fn driver(instances: &[Instance], net: VNet) -> Option<usize>
         .position(|instance| same_net(net_driven(instance), net))
 }
 
-// The state of the instance at this place, unknown where there is none.
+/// The state of the instance at this place, unknown where there is none.
 fn kept_state(states: &[Trit], place: Option<usize>) -> Trit
     ensures { result ≡ kept_state states.now place }
 {
@@ -70,7 +70,7 @@ fn kept_state(states: &[Trit], place: Option<usize>) -> Trit
     }
 }
 
-// The value of a net that feeds a primitive without a state.
+/// The value of a net that feeds a primitive without a state.
 fn source_value(model: &VModule, inputs: &[Trit], states: &[Trit], net: VNet) -> Trit
     ensures { result ≡ source_value model.now inputs.now states.now net }
 {
@@ -84,7 +84,7 @@ fn source_value(model: &VModule, inputs: &[Trit], states: &[Trit], net: VNet) ->
     }
 }
 
-// Writes the values of the nets that feed a primitive without a state to the front of the room.
+/// Writes the values of the nets that feed a primitive without a state to the front of the room.
 fn feed(model: &VModule, inputs: &[Trit], states: &[Trit], nets: &[VNet], room: &mut Items<Trit>)
     requires { length nets.now ≤ length room.old }
     ensures front { take (length nets.now) room.new ≡ map (source_value model.now inputs.now states.now) nets.now }
@@ -95,7 +95,7 @@ fn feed(model: &VModule, inputs: &[Trit], states: &[Trit], nets: &[VNet], room: 
     }
 }
 
-// What a primitive without a state gives for the nets that feed it.
+/// What a primitive without a state gives for the nets that feed it.
 fn table_value(
     model: &VModule,
     inputs: &[Trit],
@@ -114,7 +114,7 @@ fn table_value(
     udp_level(udp, &room.as_slice()[..nets.len()])
 }
 
-// What a primitive drives whose instance has this state.
+/// What a primitive drives whose instance has this state.
 fn primitive_value(
     model: &VModule,
     inputs: &[Trit],
@@ -137,7 +137,7 @@ fn primitive_value(
     }
 }
 
-// What an instance with this state drives.
+/// What an instance with this state drives.
 fn instance_value(
     model: &VModule,
     inputs: &[Trit],

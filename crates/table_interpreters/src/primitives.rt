@@ -13,7 +13,7 @@ use sqlite_items::Items;
 use trit_cubes::Trit;
 use udp_tables::{Udp, VPort, udp_next};
 
-// Whether this net is what changes.
+/// Whether this net is what changes.
 fn is_turned(ports: &[VPort], what: Turned, net: VNet) -> bool
     ensures { result ≡ is_turned ports.now what net }
 {
@@ -31,14 +31,14 @@ fn is_turned(ports: &[VPort], what: Turned, net: VNet) -> bool
     }
 }
 
-// The place of what changes among the nets that feed a primitive, where it is there.
+/// The place of what changes among the nets that feed a primitive, where it is there.
 fn place_of(ports: &[VPort], what: Turned, nets: &[VNet]) -> Option<usize>
     ensures { result ≡ position (is_turned ports.now what) nets.now }
 {
     nets.iter().position(|net| is_turned(ports, what, *net))
 }
 
-// The value of a net that feeds a primitive with a state.
+/// The value of a net that feeds a primitive with a state.
 fn entry_value(ports: &[VPort], inputs: &[Trit], notifier: Trit, net: VNet) -> Trit
     ensures { result ≡ entry_value ports.now inputs.now notifier net }
 {
@@ -49,7 +49,7 @@ fn entry_value(ports: &[VPort], inputs: &[Trit], notifier: Trit, net: VNet) -> T
     }
 }
 
-// Writes the values of the nets that feed a primitive with a state to the front of the room.
+/// Writes the values of the nets that feed a primitive with a state to the front of the room.
 fn feed(ports: &[VPort], inputs: &[Trit], notifier: Trit, nets: &[VNet], room: &mut Items<Trit>)
     requires { length nets.now ≤ length room.old }
     ensures front { take (length nets.now) room.new ≡ map (entry_value ports.now inputs.now notifier) nets.now }
@@ -60,7 +60,7 @@ fn feed(ports: &[VPort], inputs: &[Trit], notifier: Trit, nets: &[VNet], room: &
     }
 }
 
-// The next state of an instance of a primitive that these nets feed.
+/// The next state of an instance of a primitive that these nets feed.
 fn primitive_next(
     ports: &[VPort],
     inputs: &[Trit],
@@ -87,7 +87,7 @@ fn primitive_next(
     udp_next(udp, state, &room.as_slice()[..nets.len()], place, turn.from)
 }
 
-// The next state of an instance.
+/// The next state of an instance.
 fn next_state(
     model: &VModule,
     inputs: &[Trit],

@@ -14,7 +14,7 @@ use sqlite_items::Items;
 use trit_cubes::Trit;
 use vital_models::{HCheck, VEntity};
 
-// A check of an entity as one of a module.
+/// A check of an entity as one of a module.
 fn as_module_check(check: HCheck) -> VCheck
     ensures { result ≡ as_module_check check }
 {
@@ -27,7 +27,7 @@ fn as_module_check(check: HCheck) -> VCheck
     }
 }
 
-// Whether a check reports. `inputs` are those after the change, `from` is the value that the input had.
+/// Whether a check reports. `inputs` are those after the change, `from` is the value that the input had.
 fn check_reports(
     model: &VEntity,
     inputs: &[Trit],

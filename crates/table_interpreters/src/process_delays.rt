@@ -17,7 +17,7 @@ use sqlite_items::Items;
 use trit_cubes::Trit;
 use vital_models::{HGate, HPath, VEntity, VOutput};
 
-// Whether all these conditions are 0.
+/// Whether all these conditions are 0.
 fn all_zero(model: &VEntity, inputs: &[Trit], conditions: &[usize], room: &mut Items<Trit>) -> bool
     requires sound { IsSound model.now }
     requires room { HasRoom (length room.old) model.now }
@@ -32,7 +32,7 @@ fn all_zero(model: &VEntity, inputs: &[Trit], conditions: &[usize], room: &mut I
     true
 }
 
-// Whether a path's condition holds.
+/// Whether a path's condition holds.
 fn gate_holds(model: &VEntity, inputs: &[Trit], gate: &HGate, room: &mut Items<Trit>) -> bool
     requires sound { IsSound model.now }
     requires room { HasRoom (length room.old) model.now }
@@ -46,7 +46,7 @@ fn gate_holds(model: &VEntity, inputs: &[Trit], gate: &HGate, room: &mut Items<T
     }
 }
 
-// The delay that a path gives, there where it begins at the input and its condition holds.
+/// The delay that a path gives, there where it begins at the input and its condition holds.
 fn path_delay(
     model: &VEntity,
     inputs: &[Trit],
@@ -72,7 +72,7 @@ fn path_delay(
     })
 }
 
-// The least delay over the paths of an output that hold, 0 where none does.
+/// The least delay over the paths of an output that hold, 0 where none does.
 fn least_delay(
     model: &VEntity,
     inputs: &[Trit],

@@ -47,7 +47,7 @@ fn source_count(value: &OutValue) -> usize
     }
 }
 
-// The most columns of a state's table.
+/// The most columns of a state's table.
 fn most_in_states(states: &[VState]) -> usize
     ensures { All (λ s. columns_of s ≤ result) states.now }
 {
@@ -58,7 +58,7 @@ fn most_in_states(states: &[VState]) -> usize
     most
 }
 
-// The most columns of a condition's table.
+/// The most columns of a condition's table.
 fn most_in_conditions(conditions: &[VTruth]) -> usize
     ensures { All (λ t. length t.inputs ≤ result) conditions.now }
 {
@@ -69,7 +69,7 @@ fn most_in_conditions(conditions: &[VTruth]) -> usize
     most
 }
 
-// The most columns of an output's table.
+/// The most columns of an output's table.
 fn most_in_outputs(outputs: &[VOutput]) -> usize
     ensures { All (λ o. source_count o.value ≤ result) outputs.now }
 {

@@ -31,14 +31,14 @@ pub struct ProcessState {
     pub stamps: Items<Stamps>,
 }
 
-// Whether some check reported.
+/// Whether some check reported.
 fn any_true(reports: &[bool]) -> bool
     ensures { result ≡ any_true reports.now }
 {
     reports.iter().any(|reported| *reported)
 }
 
-// The violation: X where some check reported, else 0.
+/// The violation: X where some check reported, else 0.
 fn violation_of(reports: &[bool]) -> Trit
     ensures { result ≡ violation_by (any_true reports.now) }
 {
@@ -49,7 +49,7 @@ fn violation_of(reports: &[bool]) -> Trit
     }
 }
 
-// Takes the run over an event, and writes which checks report.
+/// Takes the run over an event, and writes which checks report.
 fn happen(
     run: &mut ProcessState,
     model: &VEntity,

@@ -16,7 +16,7 @@ use std::alloc::Global;
 use trit_cubes::Trit;
 use vital_models::{VEntity, VOutput};
 
-// What one output shows after a change of an input.
+/// What one output shows after a change of an input.
 fn output_step(
     model: &VEntity,
     inputs: &[Trit],

@@ -13,7 +13,7 @@ use trit_cubes::Trit;
 use udp_tables::VPort;
 use vital_models::{VEntity, VState, lookup_state};
 
-// Writes the columns of a state's table to the front of the room.
+/// Writes the columns of a state's table to the front of the room.
 fn feed_columns(
     ports: &[VPort],
     violation: Trit,
@@ -33,7 +33,7 @@ fn feed_columns(
     }
 }
 
-// The next state by a table.
+/// The next state by a table.
 fn next_state(
     model: &VEntity,
     was: Trit,

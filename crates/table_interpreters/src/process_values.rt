@@ -31,7 +31,7 @@ pub(crate) fn feed(
     }
 }
 
-// What a truth table of input ports gives.
+/// What a truth table of input ports gives.
 fn truth_value(ports: &[VPort], inputs: &[Trit], truth: &VTruth, room: &mut Items<Trit>) -> Trit
     requires rows { All (λ row. length row.inputs ≡ length truth.now.inputs) truth.now.table.rows }
     requires room { length truth.now.inputs ≤ length room.old }
@@ -80,7 +80,7 @@ pub(crate) fn is_enabled(
     }
 }
 
-// The value of an input port, or of a state.
+/// The value of an input port, or of a state.
 fn source_value(ports: &[VPort], inputs: &[Trit], states: &[Trit], source: Source) -> Trit
     ensures { result ≡ source_value ports.now inputs.now states.now source }
 {
@@ -93,7 +93,7 @@ fn source_value(ports: &[VPort], inputs: &[Trit], states: &[Trit], source: Sourc
     }
 }
 
-// Writes the values of these ports and states to the front of the room.
+/// Writes the values of these ports and states to the front of the room.
 fn feed_sources(
     ports: &[VPort],
     inputs: &[Trit],

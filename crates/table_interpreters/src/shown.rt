@@ -23,7 +23,7 @@ pub struct Shown {
     pub delay: Option<u64>,
 }
 
-// What one output shows after a change of an input.
+/// What one output shows after a change of an input.
 fn shown_step(
     model: &VModule,
     inputs: &[Trit],
@@ -69,7 +69,7 @@ pub(crate) fn show_all(
     }
 }
 
-// Adds what a port shows at the start, where it is an output.
+/// Adds what a port shows at the start, where it is an output.
 fn add_first(
     model: &VModule,
     inputs: &[Trit],

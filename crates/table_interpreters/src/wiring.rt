@@ -26,7 +26,7 @@ pub(crate) fn most_nets(model: &VModule) -> usize
     most
 }
 
-// How many nets feed an instance.
+/// How many nets feed an instance.
 fn net_count(instance: &Instance) -> usize
     ensures { result ≡ net_count instance.now }
 {

@@ -1,3 +1,5 @@
+//! A value for each input slot, and one for each output slot.
+
 ghost use Rattle.std.specs.Prelude.{◌≡◌};
 ghost use Rattle.text_io.specs.Slots.{put_in, put_out};
 ghost use Rattle.text_io.specs.EachSlot.{input_of, output_of};
@@ -14,6 +16,7 @@ pub(crate) struct Inputs<T> {
 }
 
 impl<T> Inputs<T> {
+    /// The value of a slot.
     pub(crate) fn get(&self, slot: InSlot) -> &T
         ensures { result.now ≡ input_of self.now slot }
     {
@@ -25,6 +28,7 @@ impl<T> Inputs<T> {
         }
     }
 
+    /// Gives a slot another value.
     pub(crate) fn set(&mut self, slot: InSlot, value: T)
     where
         T: Drop,
@@ -49,6 +53,7 @@ pub(crate) struct Outputs<T> {
 }
 
 impl<T> Outputs<T> {
+    /// The value of a slot.
     pub(crate) fn get(&self, slot: OutSlot) -> &T
         ensures { result.now ≡ output_of self.now slot }
     {
@@ -60,6 +65,7 @@ impl<T> Outputs<T> {
         }
     }
 
+    /// Gives a slot another value.
     pub(crate) fn set(&mut self, slot: OutSlot, value: T)
     where
         T: Drop,

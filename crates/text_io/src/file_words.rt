@@ -1,3 +1,5 @@
+//! Which of a command's words name files, and for which slots.
+
 ghost use Rattle.std.specs.Prelude.{◌≡◌, map, string_bytes};
 ghost use Rattle.text_io.specs.Plan.{slots_of, is_among, are_file_words, planned_slots};
 ghost use Rattle.text_io.specs.NamedFiles.{folder_of};

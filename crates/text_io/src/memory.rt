@@ -1,3 +1,5 @@
+//! The desk over memory, which fails where it was told to.
+
 ghost use Rattle.std.specs.Prelude.{◌≡◌, ◌<◌, ◌≤◌, ◌-◌, ◌||◌, List, ℕ, [], length, min, take, map, slice_get, string_bytes, is_err, IsTrue, IsOk, IfOk, IfSome, OnOk, OnErr, Some, Contains};
 ghost use Rattle.std.specs.Option.{option_copied, option_and_then};
 ghost use Rattle.text_io.specs.declared.slots.Slot.TheVariants.{Input, Output};

@@ -1,3 +1,5 @@
+//! Files of the desks over memory: found by their names, read piece by piece.
+
 ghost use Rattle.std.specs.Prelude.{◌≡◌, ◌<◌, length, min, take, drop, map, slice_get, string_bytes, IfSome};
 ghost use Rattle.std.specs.Option.{option_and_then};
 ghost use Rattle.text_io.specs.Desk.{file_of};

@@ -1,3 +1,5 @@
+//! The desk as a trait: what each call does to its state, and where it may fail.
+
 ghost use Rattle.std.specs.Prelude.{◌≡◌, ◌<◌, ◌≤◌, ℕ, [], List, length, take, slice_get, IsTrue, IsOk, IfOk, IfSome, OnOk, OnErr, Contains};
 ghost use Rattle.std.specs.Option.{option_copied};
 ghost use Rattle.text_io.specs.declared.slots.Slot.TheVariants.{Input, Output};

@@ -1,3 +1,5 @@
+//! How many bytes a call moves at most.
+
 ghost use Rattle.std.specs.Prelude.{◌<◌};
 
 /// How many bytes a read or a write moves at most, which is some.

@@ -1,3 +1,5 @@
+//! A whole file, up to a limit, from a desk.
+
 ghost use Rattle.std.specs.Prelude.{◌≡◌, ◌+◌, ◌≤◌, IsTrue, IfOk, IfErr, OnOk, OnErr};
 ghost use Rattle.text_io.specs.declared.reading.ReadFault.TheVariants as fault;
 ghost use Rattle.text_io.specs.declared.slots.Slot.TheVariants.{Input};

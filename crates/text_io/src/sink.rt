@@ -1,3 +1,5 @@
+//! The bytes written to one slot of a desk over memory.
+
 ghost use Rattle.std.specs.Prelude.{◌≡◌, ◌-◌, ◌≤◌, [], ◌++◌, length, min, take, vec_capacity, IfOk};
 
 use std::alloc::{AllocError, Global};

@@ -1,3 +1,5 @@
+//! The bytes written to each output slot.
+
 ghost use Rattle.std.specs.Prelude.{◌≡◌, ◌-◌, [], ◌++◌, length, min, take, IfOk};
 ghost use Rattle.text_io.specs.Slots.{put_out};
 ghost use Rattle.text_io.specs.EachSlot.{bytes_in, room_in};

@@ -1,3 +1,5 @@
+//! The slots for files that a command reads and writes.
+
 /// What a command reads: a Liberty library, a Verilog file, a VHDL file, a stimulus.
 #[derive(Clone, Copy, Debug, PartialEq, Eq)]
 pub enum InSlot {

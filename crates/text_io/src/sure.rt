@@ -1,3 +1,5 @@
+//! The desk over memory on which no call fails.
+
 ghost use Rattle.std.specs.Prelude.{◌≡◌, map, string_bytes, IsTrue};
 ghost use Rattle.text_io.specs.NamedFiles.{folder_of};
 ghost use Rattle.text_io.specs.Found.{inputs_found};

@@ -1,3 +1,5 @@
+//! The desks called once, a real file among them.
+
 ghost use Rattle.std.specs.Prelude.{◌≡◌, [], ◌∷◌, map, codes, string_bytes, IfOk, OnOk, IsTrue};
 ghost use Rattle.text_io.specs.declared.slots.InSlot.TheVariants.{Library};
 ghost use Rattle.text_io.specs.declared.slots.OutSlot.TheVariants.{VerilogText, VitalText};

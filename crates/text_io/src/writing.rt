@@ -1,3 +1,5 @@
+//! Whole texts handed to a desk.
+
 ghost use Rattle.std.specs.Prelude.{◌≡◌, IsTrue};
 ghost use Rattle.std.specs.List.{flat_map};
 ghost use Rattle.text_io.specs.declared.slots.Slot.TheVariants.{Output};

@@ -89,6 +89,7 @@ fn join(arcs: &mut [Arc], path: &Path<'_>) -> bool
 }
 
 impl ArcList {
+    /// No arcs.
     pub(crate) fn new(alloc: Global) -> ArcList
         ensures { result ≡ [] }
     {
@@ -97,6 +98,7 @@ impl ArcList {
         }
     }
 
+    /// How many arcs there are.
     pub(crate) fn len(&self) -> usize
         ensures { result ≡ length self.now }
     {
@@ -121,6 +123,7 @@ impl ArcList {
         Ok(())
     }
 
+    /// The arcs in their order.
     pub(crate) fn into_items(self) -> Items<Arc>
         ensures { result ≡ self }
     {

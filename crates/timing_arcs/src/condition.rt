@@ -121,6 +121,7 @@ impl Condition {
         }
     }
 
+    /// Whether the text does not read.
     pub(crate) fn is_malformed(&self) -> bool
         ensures { result ≡ is_malformed self.now }
     {

@@ -26,6 +26,7 @@ struct Timed {
 }
 
 impl Timed {
+    /// A check or an arc as the timing group tells it, before its condition.
     fn new(kind: CheckKind, first: Event, second: Event, limit: u64) -> Timed
         ensures { result ≡ record { kind = kind; first = first; second = second; limit = limit } }
     {
@@ -49,6 +50,7 @@ pub(crate) struct Making<'a> {
     pub(crate) condition: &'a Condition,
 }
 
+/// A change of this kind of a pin.
 fn event(pin: usize, edge: Edge) -> Event
     ensures { result ≡ event pin edge }
 {

@@ -26,6 +26,7 @@ pub(crate) enum Related {
 }
 
 impl Related {
+    /// Whether it is an output or an internal pin.
     fn is_driven(self) -> bool
         ensures { result ≡ is_driven self }
     {
@@ -35,6 +36,7 @@ impl Related {
         }
     }
 
+    /// Whether it names no pin.
     fn is_unknown(self) -> bool
         ensures { result ≡ is_unknown self }
     {

@@ -69,6 +69,7 @@ impl TimingType {
     }
 }
 
+/// Whether it is `input`.
 fn is_input(direction: Direction) -> bool
     ensures { result ≡ is_input direction }
 {
@@ -78,6 +79,7 @@ fn is_input(direction: Direction) -> bool
     }
 }
 
+/// Whether it is `output`.
 fn is_output(direction: Direction) -> bool
     ensures { result ≡ is_output direction }
 {

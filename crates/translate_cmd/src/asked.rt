@@ -1,3 +1,5 @@
+//! What the words ask for.
+
 ghost use Rattle.std.specs.Prelude.{◌≡◌, ◌≤◌, [], ◌∷◌, drop, Ok, IfOk};
 ghost use Rattle.bool_functions.specs.Tree.{name_bound};
 ghost use Rattle.text_io.specs.Plan.{are_file_words};

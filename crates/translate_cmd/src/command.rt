@@ -1,3 +1,5 @@
+//! The top call: the words' command, over any desk.
+
 ghost use Rattle.std.specs.Prelude.{◌≡◌, ◌≤◌, ◌↔◌, IsTrue, MatchResult};
 ghost use Rattle.text_io.specs.Desk.{HasCause, Rose};
 ghost use Rattle.text_io.specs.Sure.{sure_state};

@@ -1,3 +1,5 @@
+//! Runs of `udp` and of words without a reading.
+
 use crate::{Status, run, run_sure};
 use std::alloc::{AllocError, Global};
 use std::test::Fail;

@@ -1,3 +1,5 @@
+//! When one cube covers another.
+
 ghost use Rattle.std.specs.Prelude.{◌≡◌};
 ghost use Rattle.trit_cubes.specs.Filling.{covers};
 

@@ -1,3 +1,5 @@
+//! Packed cubes: lists of at most ten trits in two words.
+
 ghost use Rattle.std.specs.Prelude.{◌≡◌, ◌↔◌, ◌<◌, ◌≤◌, [], ◌∷◌, length, replicate, slice_get, IsNone, IfSome};
 ghost use Rattle.trit_cubes.specs.Words.{fixed_word, value_word};
 

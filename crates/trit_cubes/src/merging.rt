@@ -1,3 +1,5 @@
+//! The primes of a set from those of its two halves.
+
 ghost use Rattle.std.specs.Prelude.{◌≡◌, ℕ, ◌+◌, ◌<◌, Bool, List, ◌∷◌, ◌++◌, map, length, All, IfOk, OnOk};
 ghost use Rattle.trit_cubes.specs.declared.trits.Trit.{Trit};
 ghost use Rattle.trit_cubes.specs.Sets.{joined};
@@ -24,7 +26,7 @@ pub fn merge_primes(
     Ok(found)
 }
 
-// The lists merged, of cubes that leave room for one more place.
+/// The lists merged, of cubes that leave room for one more place.
 pub(crate) fn merge(
     alloc: Global,
     zero: &[Cube],
@@ -43,7 +45,7 @@ pub(crate) fn merge(
     Ok(found)
 }
 
-// Adds the cubes with one more place in front.
+/// Adds the cubes with one more place in front.
 pub(crate) fn add_all(found: &mut Vec<Cube>, first: Trit, cubes: &[Cube]) -> Result<(), Memory>
     requires { All (λ cube. length cube < 10) cubes.now }
     ensures { OnOk result (found.new.items ≡ found.old.items ++ map (λ cube. first ∷ cube) cubes.now) }
@@ -54,7 +56,7 @@ pub(crate) fn add_all(found: &mut Vec<Cube>, first: Trit, cubes: &[Cube]) -> Res
     Ok(())
 }
 
-// Adds the cubes that no cube of the cover covers, with one more place in front.
+/// Adds the cubes that no cube of the cover covers, with one more place in front.
 fn add_uncovered(
     found: &mut Vec<Cube>,
     first: Trit,
@@ -72,7 +74,7 @@ fn add_uncovered(
     Ok(())
 }
 
-// Whether one of the cubes covers this one.
+/// Whether one of the cubes covers this one.
 fn is_covered(cover: &[Cube], cube: &Cube) -> bool
     ensures { result ≡ any_covers cover.now cube.now }
 {

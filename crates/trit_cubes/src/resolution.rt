@@ -1,3 +1,5 @@
+//! The value that a function gives on every filling of a list of trits, else unknown.
+
 ghost use Rattle.std.specs.Prelude.{◌≡◌, ◌+◌, ◌*◌, ◌^◌, ◌<◌, ◌≤◌, Bool, List, length};
 ghost use Rattle.trit_cubes.specs.declared.trits.Trit.{Trit};
 ghost use Rattle.trit_cubes.specs.Filling.{number};
@@ -15,7 +17,7 @@ pub fn resolve<F: Fn(u16) -> Trit>(places: &[Trit], f: &F) -> Trit
     resolve_from(places, f, 1, 0)
 }
 
-// The same for the last places of points: the first of them weighs `weight`, and the places before it give `at`.
+/// The same for the last places of points: the first of them weighs `weight`, and the places before it give `at`.
 fn resolve_from<F: Fn(u16) -> Trit>(places: &[Trit], f: &F, weight: u16, at: u16) -> Trit
     requires callable { F.IsAlwaysCallable f.now }
     requires room { weight * 2 ^ length places.now ≤ 1024 }

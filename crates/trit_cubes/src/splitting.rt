@@ -1,3 +1,5 @@
+//! The primes of a set by splitting it at its first place.
+
 ghost use Rattle.std.specs.Prelude.{◌≡◌, ℕ, ◌+◌, ◌*◌, ◌/◌, ◌^◌, ◌<◌, ◌≤◌, Bool, false, List, ◌∷◌, ◌&&◌, length, slice_index_or, IfOk, IfSome, IsNone, vec_len};
 ghost use Rattle.trit_cubes.specs.Sets.{has, common};
 ghost use Rattle.trit_cubes.specs.Prime.{prime_list};
@@ -27,7 +29,7 @@ pub fn primes(alloc: Global, n: usize, set: &[bool]) -> Result<Vec<Cube>, Memory
     Ok(found)
 }
 
-// The value that all entries of a table have, if they have one.
+/// The value that all entries of a table have, if they have one.
 fn common_entry(set: &[bool]) -> Option<bool>
     requires { 0 < length set.now }
     ensures some { IfSome result (λ all. (k : ℕ) → k < length set.now → slice_index_or set.now k false ≡ all) }
@@ -41,7 +43,7 @@ fn common_entry(set: &[bool]) -> Option<bool>
     }
 }
 
-// The primes of the set of all points, or of the empty set.
+/// The primes of the set of all points, or of the empty set.
 fn of_all_or_none(alloc: Global, n: usize, all: bool) -> Result<Vec<Cube>, Memory>
     requires { n ≤ 10 }
     ensures { IfOk result (λ found. found.items ≡ prime_list n (λ _. all)) }
@@ -54,7 +56,7 @@ fn of_all_or_none(alloc: Global, n: usize, all: bool) -> Result<Vec<Cube>, Memor
     Ok(found)
 }
 
-// The points with this value at place 0, without that place.
+/// The points with this value at place 0, without that place.
 fn half(alloc: Global, set: &[bool], first: bool) -> Result<Vec<bool>, Memory>
     ensures entries { IfOk result (λ points. vec_len points ≡ length set.now / 2) }
     ensures values { IfOk result (λ points. (p : List Bool) → 2 * vec_len points ≡ length set.now → has points.items p ≡ has set.now (first ∷ p)) }
@@ -67,7 +69,7 @@ fn half(alloc: Global, set: &[bool], first: bool) -> Result<Vec<bool>, Memory>
     Ok(points)
 }
 
-// The points in both sets.
+/// The points in both sets.
 fn common(alloc: Global, one: &[bool], other: &[bool]) -> Result<Vec<bool>, Memory>
     requires { length one.now ≡ length other.now }
     ensures entries { IfOk result (λ points. vec_len points ≡ length one.now) }

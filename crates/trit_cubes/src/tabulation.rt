@@ -1,3 +1,5 @@
+//! The points at which a test holds, as a table.
+
 ghost use Rattle.std.specs.Prelude.{◌≡◌, ◌^◌, ◌≤◌, Bool, List, length, IfOk};
 ghost use Rattle.std.specs.Fn.{FnReturnsAt};
 ghost use Rattle.trit_cubes.specs.Sets.{Tests, IsTableOf, point_of};
@@ -25,7 +27,7 @@ pub fn table_of<F: Fn(&[bool]) -> bool>(
     Ok(table)
 }
 
-// The first ten places of the point with this number.
+/// The first ten places of the point with this number.
 fn point_of(number: u32) -> [bool; 10]
     ensures { result ≡ point_of 10 number }
 {

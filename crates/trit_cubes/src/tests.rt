@@ -1,3 +1,5 @@
+//! Primes that both ways find, and lists of primes that are known.
+
 use crate::cubes::Cube;
 use crate::merging::merge_primes;
 use crate::splitting::primes;
@@ -7,7 +9,7 @@ use crate::trying::primes_by_trying;
 use std::alloc::Global;
 use std::test::Fail;
 
-// The places of the cubes, a character for each, and a blank after each cube.
+/// The places of the cubes, a character for each, and a blank after each cube.
 fn shown(alloc: Global, cubes: &[Cube]) -> Result<String, Fail> {
     let mut text = String::new(alloc);
     for cube in cubes {

@@ -1,3 +1,5 @@
+//! Trits: 0, 1 and unknown.
+
 ghost use Rattle.std.specs.Prelude.{◌≡◌};
 ghost use Rattle.trit_cubes.specs.Filling.{is_unknown, trit_of};
 ghost use Rattle.trit_cubes.specs.Resolution.{agreed};

@@ -29,7 +29,7 @@ pub fn primes_by_trying(alloc: Global, n: usize, set: &[bool]) -> Result<Vec<Cub
     Ok(found)
 }
 
-// All lists of n trits, in order.
+/// All lists of n trits, in order.
 fn all_cubes(alloc: Global, n: usize) -> Result<Vec<Cube>, Memory>
     requires { n ≤ 10 }
     ensures { IfOk result (λ cubes. cubes.items ≡ cubes_of n) }
@@ -46,6 +46,7 @@ fn all_cubes(alloc: Global, n: usize) -> Result<Vec<Cube>, Memory>
     Ok(cubes)
 }
 
+/// Whether the cube is a prime of the set.
 fn is_prime(cube: &Cube, set: &[bool]) -> bool
     ensures { result ≡ is_prime (has set.now) cube.now }
 {
@@ -60,7 +61,7 @@ fn is_prime(cube: &Cube, set: &[bool]) -> bool
     true
 }
 
-// Whether the place is free, or leads out of the set where it is freed.
+/// Whether the place is free, or leads out of the set where it is freed.
 fn stays_fixed(cube: &Cube, i: usize, set: &[bool]) -> bool
     requires { i < length cube.now }
     ensures { result ≡ (is_unknown (slice_index_or cube.now i Unknown) || not (is_inside (has set.now) (slice_set cube.now i Unknown))) }
@@ -68,7 +69,7 @@ fn stays_fixed(cube: &Cube, i: usize, set: &[bool]) -> bool
     cube.place(i).is_unknown() || !is_inside(&freed(cube, i), set)
 }
 
-// The cube with one place free.
+/// The cube with one place free.
 fn freed(cube: &Cube, i: usize) -> Cube
     requires { i < length cube.now }
     ensures { result ≡ slice_set cube.now i Unknown }
@@ -82,7 +83,7 @@ fn freed(cube: &Cube, i: usize) -> Cube
     freed
 }
 
-// The place `at` of the cube with place `i` free.
+/// The place `at` of the cube with place `i` free.
 fn freed_place(cube: &Cube, i: usize, at: usize) -> Trit
     requires { at < length cube.now }
     ensures { slice_get (slice_set cube.now i Unknown) at ≡ Some result }
@@ -94,6 +95,7 @@ fn freed_place(cube: &Cube, i: usize, at: usize) -> Trit
     }
 }
 
+/// Whether all points of the cube are in the set.
 fn is_inside(cube: &Cube, set: &[bool]) -> bool
     ensures { result ≡ is_inside (has set.now) cube.now }
 {
@@ -101,7 +103,7 @@ fn is_inside(cube: &Cube, set: &[bool]) -> bool
     is_one(resolved(&places[..cube.len()], set))
 }
 
-// The resolution of being in the set.
+/// The resolution of being in the set.
 fn resolved(places: &[Trit], set: &[bool]) -> Trit
     requires { length places.now ≤ 10 }
     ensures { result ≡ res (λ p. trit_of (has set.now p)) places.now }
@@ -109,6 +111,7 @@ fn resolved(places: &[Trit], set: &[bool]) -> Trit
     resolve(places, &|point: u16| member(set, point))
 }
 
+/// The places of the cube, with free ones behind them.
 fn places_of(cube: &Cube) -> [Trit; 10]
     ensures { take (length cube.now) result ≡ cube.now }
 {
@@ -119,6 +122,7 @@ fn places_of(cube: &Cube) -> [Trit; 10]
     places
 }
 
+/// Whether the trit is 1.
 fn is_one(trit: Trit) -> bool
     ensures { result ≡ same One trit }
 {
@@ -128,6 +132,7 @@ fn is_one(trit: Trit) -> bool
     }
 }
 
+/// Whether the point is in the set, as a trit.
 fn member(set: &[bool], point: u16) -> Trit
     ensures { result ≡ trit_of (slice_index_or set.now point false) }
 {

@@ -35,7 +35,7 @@ pub fn condition_number(conditions: &[&Function], condition: &Function) -> usize
     conditions.len()
 }
 
-// Whether one of the conditions is this tree.
+/// Whether one of the conditions is this tree.
 fn holds(conditions: &[&Function], condition: &Function) -> bool
     ensures { result ≡ list_any (same_tree condition.now) (map (λ other. other.now) conditions.now) }
 {
@@ -47,7 +47,7 @@ fn holds(conditions: &[&Function], condition: &Function) -> bool
     false
 }
 
-// Adds a condition, unless it is there.
+/// Adds a condition, unless it is there.
 fn add<'a>(found: &mut Vec<&'a Function>, condition: &'a Function) -> Result<(), Memory>
     ensures { OnOk result (map (λ other. other.now) found.new.items ≡ added (map (λ other. other.now) found.old.items) condition.now) }
 {
@@ -57,7 +57,7 @@ fn add<'a>(found: &mut Vec<&'a Function>, condition: &'a Function) -> Result<(),
     Ok(())
 }
 
-// Adds a condition that may be absent.
+/// Adds a condition that may be absent.
 fn add_if_there<'a>(
     found: &mut Vec<&'a Function>,
     condition: &'a Option<Function>,
@@ -70,7 +70,7 @@ fn add_if_there<'a>(
     }
 }
 
-// Adds those of all checks.
+/// Adds those of all checks.
 fn add_of_checks<'a>(found: &mut Vec<&'a Function>, cell: &'a Cell) -> Result<(), Memory>
     ensures { OnOk result (map (λ other. other.now) found.new.items ≡ added_all (map (λ other. other.now) found.old.items) (flat_map (λ (check : Check). condition_list check.condition) cell.now.checks)) }
 {
@@ -80,7 +80,7 @@ fn add_of_checks<'a>(found: &mut Vec<&'a Function>, cell: &'a Cell) -> Result<()
     Ok(())
 }
 
-// Adds those of all arcs.
+/// Adds those of all arcs.
 fn add_of_arcs<'a>(found: &mut Vec<&'a Function>, arcs: &'a [Arc]) -> Result<(), Memory>
     ensures { OnOk result (map (λ other. other.now) found.new.items ≡ added_all (map (λ other. other.now) found.old.items) (flat_map (arc_conditions arcs.now) arcs.now)) }
 {
@@ -90,7 +90,7 @@ fn add_of_arcs<'a>(found: &mut Vec<&'a Function>, arcs: &'a [Arc]) -> Result<(),
     Ok(())
 }
 
-// Adds what an arc uses.
+/// Adds what an arc uses.
 fn add_of_arc<'a>(
     found: &mut Vec<&'a Function>,
     arcs: &'a [Arc],
@@ -104,7 +104,7 @@ fn add_of_arc<'a>(
     }
 }
 
-// Adds those of all arcs that have the two pins of an arc.
+/// Adds those of all arcs that have the two pins of an arc.
 fn add_beside<'a>(found: &mut Vec<&'a Function>, arcs: &'a [Arc], arc: &Arc) -> Result<(), Memory>
     ensures { OnOk result (map (λ other. other.now) found.new.items ≡ added_all (map (λ other. other.now) found.old.items) (conditions_beside arcs.now arc.now)) }
 {

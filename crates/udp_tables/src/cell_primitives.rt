@@ -39,7 +39,7 @@ pub fn sequential_udp(alloc: Global, cell: &Cell, group: usize) -> Result<Udp, M
     })
 }
 
-// How many inputs the primitive of a group has.
+/// How many inputs the primitive of a group has.
 fn group_inputs(cell: &Cell, group: usize) -> usize
     requires { group < length cell.now.groups }
     ensures { result ≡ group_inputs (data_of cell.now) group }
@@ -80,6 +80,7 @@ pub fn part_udp(
     }
 }
 
+/// The primitive of an output.
 fn output_udp(
     alloc: Global,
     cell: &Cell,
@@ -100,8 +101,8 @@ fn output_udp(
     })
 }
 
-// The number of the primitive of an output: after the groups, the conditions and the outputs before it that depend on
-// anything.
+/// The number of the primitive of an output: after the groups, the conditions and the outputs before it that depend on
+/// anything.
 fn output_number(cell: &Cell, conditions: &[&Function], output: usize) -> usize
     requires output { output < length cell.now.outputs }
     requires conditions { map (λ condition. condition.now) conditions.now ≡ conditions_of (data_of cell.now) }
@@ -111,7 +112,7 @@ fn output_number(cell: &Cell, conditions: &[&Function], output: usize) -> usize
     cell.groups.len() + conditions.len() + before + 1
 }
 
-// How many of the first outputs depend on anything.
+/// How many of the first outputs depend on anything.
 fn outputs_before(outputs: &[OutputPin], count: usize) -> usize
     requires { count ≤ length outputs.now }
     ensures { result ≡ count_by has_sources (take count outputs.now) }
@@ -125,12 +126,14 @@ fn outputs_before(outputs: &[OutputPin], count: usize) -> usize
     found
 }
 
+/// Whether the output depends on anything.
 fn has_sources(output: &OutputPin) -> bool
     ensures { result ≡ has_sources output.now }
 {
     !output.support.is_empty()
 }
 
+/// The primitive of a condition.
 fn condition_udp(
     alloc: Global,
     cell: &Cell,
@@ -147,7 +150,7 @@ fn condition_udp(
     Ok(udp)
 }
 
-// The primitive of a condition with this name.
+/// The primitive of a condition with this name.
 fn udp_of_condition(alloc: Global, name: Items<u8>, condition: &Function) -> Result<Udp, Memory>
     requires { IsSmall condition.now }
     ensures { IfOk result (λ udp. udp ≡ condition_udp name condition.now) }

@@ -22,7 +22,7 @@ pub fn udp_level(udp: &Udp, inputs: &[Trit]) -> Trit
 }
 
 impl UdpRow {
-    // Whether each entry matches its input, where no input changes.
+    /// Whether each entry matches its input, where no input changes.
     fn matches(&self, inputs: &[Trit]) -> bool
         requires { length self.now.inputs ≡ length inputs.now }
         ensures { result ≡ inputs_match inputs.now self.now }
@@ -31,6 +31,7 @@ impl UdpRow {
     }
 }
 
+/// Whether each entry matches its input.
 fn entries_match(entries: &[Entry], inputs: &[Trit]) -> bool
     requires { length entries.now ≡ length inputs.now }
     ensures { result ≡ columns_match entry_matches entries.now inputs.now inputs.now }

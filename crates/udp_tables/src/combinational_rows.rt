@@ -50,7 +50,7 @@ pub(crate) fn output_rows(
     Ok(rows)
 }
 
-// The primes of the points at which an output has this value.
+/// The primes of the points at which an output has this value.
 fn output_primes(
     alloc: Global,
     cell: &Cell,

@@ -40,7 +40,7 @@ pub(crate) fn change_entries(alloc: Global, place: usize, cube: &Cube) -> Result
     Ok(entries)
 }
 
-// The levels of the inputs that do not change.
+/// The levels of the inputs that do not change.
 fn other_entries(alloc: Global, cube: &Cube) -> Result<Vec<Entry>, Memory>
     requires { 3 ≤ length cube.now }
     ensures { IfOk result (λ entries. entries.items ≡ map level_entry (drop 2 (init cube.now))) }
@@ -52,7 +52,7 @@ fn other_entries(alloc: Global, cube: &Cube) -> Result<Vec<Entry>, Memory>
     Ok(entries)
 }
 
-// The entry for the value before a change and the value after it.
+/// The entry for the value before a change and the value after it.
 fn change_entry(old: Trit, new: Trit) -> Entry
     ensures { result ≡ edge_entry old new }
 {

@@ -40,7 +40,7 @@ pub fn function_udp(
     })
 }
 
-// The rows of the function over its first names.
+/// The rows of the function over its first names.
 fn function_rows(alloc: Global, function: &Function, names: usize) -> Result<Items<UdpRow>, Memory>
     requires few { names ≤ 10 }
     requires numbered { (i : ℕ) → Has function.now i → i < names }
@@ -69,7 +69,7 @@ pub(crate) fn table_rows(
     Ok(rows)
 }
 
-// The values of the function at all points over its first names.
+/// The values of the function at all points over its first names.
 fn value_table(alloc: Global, function: &Function, names: usize) -> Result<Vec<bool>, Memory>
     requires few { names ≤ 10 }
     requires numbered { (i : ℕ) → Has function.now i → i < names }
@@ -81,7 +81,7 @@ fn value_table(alloc: Global, function: &Function, names: usize) -> Result<Vec<b
     Ok(values)
 }
 
-// The numbers from 0 on.
+/// The numbers from 0 on.
 fn first_numbers(alloc: Global, count: usize) -> Result<Vec<usize>, Memory>
     ensures { IfOk result (λ numbers. numbers.items ≡ numbers_below count) }
 {
@@ -92,6 +92,7 @@ fn first_numbers(alloc: Global, count: usize) -> Result<Vec<usize>, Memory>
     Ok(numbers)
 }
 
+/// Each value inverted.
 fn inverted(alloc: Global, values: &[bool]) -> Result<Vec<bool>, Memory>
     ensures { IfOk result (λ inverses. inverses.items ≡ map not values.now) }
 {
@@ -116,7 +117,7 @@ pub(crate) fn cube_rows(
     Ok(rows)
 }
 
-// Adds a row with this value for each cube.
+/// Adds a row with this value for each cube.
 fn add_rows(
     alloc: Global,
     rows: &mut Items<UdpRow>,
@@ -131,6 +132,7 @@ fn add_rows(
     Ok(())
 }
 
+/// The row of a prime.
 fn level_row(alloc: Global, value: Trit, cube: &Cube) -> Result<UdpRow, Memory>
     ensures { IfOk result (λ row. row ≡ level_row value cube.now) }
 {
@@ -142,7 +144,7 @@ fn level_row(alloc: Global, value: Trit, cube: &Cube) -> Result<UdpRow, Memory>
     })
 }
 
-// The row of free places that gives x.
+/// The row of free places that gives x.
 fn free_row(alloc: Global, places: usize) -> Result<UdpRow, Memory>
     ensures { IfOk result (λ row. row ≡ level_row trit.Unknown (replicate places trit.Unknown)) }
 {

@@ -37,7 +37,7 @@ pub(crate) fn group_rows(alloc: Global, cell: &Cell, group: usize) -> Result<Ite
     Ok(rows)
 }
 
-// The rows, or one row of free places that gives x where there is none.
+/// The rows, or one row of free places that gives x where there is none.
 fn or_free_row(
     alloc: Global,
     rows: Items<UdpRow>,
@@ -59,7 +59,7 @@ fn or_free_row(
     Ok(rows)
 }
 
-// Adds the row by which each change of the notifier makes the state unknown, where there is a notifier.
+/// Adds the row by which each change of the notifier makes the state unknown, where there is a notifier.
 fn add_notifier_row(
     alloc: Global,
     rows: &mut Items<UdpRow>,
@@ -80,7 +80,7 @@ fn add_notifier_row(
     Ok(())
 }
 
-// Adds the rows of the points that force the state to 1, and then to 0.
+/// Adds the rows of the points that force the state to 1, and then to 0.
 fn add_forced_rows(
     alloc: Global,
     rows: &mut Items<UdpRow>,
@@ -98,7 +98,7 @@ fn add_forced_rows(
     Ok(())
 }
 
-// The primes of the points that force the state of a group to this value.
+/// The primes of the points that force the state of a group to this value.
 fn forced_primes(alloc: Global, cell: &Cell, group: usize, value: Trit) -> Result<Vec<Cube>, Memory>
     requires { group < length cell.now.groups }
     ensures { IfOk result (λ cubes. cubes.items ≡ prime_list (length (support_at (data_of cell.now) group)) (gives value (forced_at (step_at (data_of cell.now) group)))) }
@@ -113,7 +113,7 @@ fn forced_primes(alloc: Global, cell: &Cell, group: usize, value: Trit) -> Resul
     Ok(cubes)
 }
 
-// Adds a row of levels with this value for each cube.
+/// Adds a row of levels with this value for each cube.
 fn add_state_rows(
     alloc: Global,
     rows: &mut Items<UdpRow>,
@@ -129,6 +129,7 @@ fn add_state_rows(
     Ok(())
 }
 
+/// The level row of a prime at whose points the state is forced.
 fn state_row(alloc: Global, notifier: bool, value: Trit, cube: &Cube) -> Result<UdpRow, Memory>
     ensures { IfOk result (λ row. row ≡ state_row notifier value cube.now) }
 {
@@ -141,7 +142,7 @@ fn state_row(alloc: Global, notifier: bool, value: Trit, cube: &Cube) -> Result<
     })
 }
 
-// Adds the rows of the changes of each input.
+/// Adds the rows of the changes of each input.
 fn add_rows_of_changes(
     alloc: Global,
     rows: &mut Items<UdpRow>,

@@ -6,14 +6,14 @@ ghost use Rattle.udp_tables.specs.Primitive.{level_matches, goes, entry_matches,
 use crate::table::{Entry, Level, Next};
 use trit_cubes::Trit;
 
-// Whether an input goes from this value to that one.
+/// Whether an input goes from this value to that one.
 fn goes(from: Trit, to: Trit, old: Trit, new: Trit) -> bool
     ensures { result ≡ goes from to old new }
 {
     from == old && to == new
 }
 
-// Whether two values are equal.
+/// Whether two values are equal.
 fn same(one: Trit, other: Trit) -> bool
     ensures { result ≡ same one other }
 {
@@ -21,7 +21,7 @@ fn same(one: Trit, other: Trit) -> bool
 }
 
 impl Entry {
-    // Whether the entry matches an input that goes from this value to that one, or keeps its value.
+    /// Whether the entry matches an input that goes from this value to that one, or keeps its value.
     pub(crate) fn matches(self, old: Trit, new: Trit) -> bool
         ensures { result ≡ entry_matches self old new }
     {
@@ -44,7 +44,7 @@ impl Entry {
         }
     }
 
-    // Whether the entry is a level, and no change.
+    /// Whether the entry is a level, and no change.
     pub(crate) fn is_level(self) -> bool
         ensures { result ≡ is_level self }
     {
@@ -76,7 +76,7 @@ impl Level {
 }
 
 impl Next {
-    // What a row gives in this state.
+    /// What a row gives in this state.
     pub(crate) fn after(self, state: Trit) -> Trit
         ensures { result ≡ next_of state self }
     {

@@ -30,6 +30,7 @@ impl Bits {
     /// The most inputs of a group.
     const MOST: usize = 8;
 
+    /// The point without places.
     fn none() -> Bits
         ensures { result ≡ [] }
     {
@@ -94,7 +95,7 @@ pub(crate) fn forces(cell: &Cell, group: usize, value: Trit, point: &[bool]) -> 
     forced_value(cell, group, point) == value
 }
 
-// The value to which a point forces the state of a group.
+/// The value to which a point forces the state of a group.
 fn forced_value(cell: &Cell, group: usize, point: &[bool]) -> Trit
     requires group { group < length cell.now.groups }
     requires point { length point.now ≡ length (support_at (data_of cell.now) group) }
@@ -122,7 +123,7 @@ pub(crate) fn steps_to(cell: &Cell, group: usize, place: usize, value: Trit, poi
     edge_value(cell, group, place, point) == value
 }
 
-// What the step gives there.
+/// What the step gives there.
 fn edge_value(cell: &Cell, group: usize, place: usize, point: &[bool]) -> Trit
     requires group { group < length cell.now.groups }
     requires place { place < length (support_at (data_of cell.now) group) }

@@ -8,14 +8,14 @@ use itoa::Buffer;
 use sqlite_items::Items;
 use std::alloc::Global;
 
-// The name of the output.
+/// The name of the output.
 pub(crate) fn output_name(alloc: Global) -> Result<Items<u8>, Memory>
     ensures { IfOk result (λ name. name ≡ output_name) }
 {
     Ok(Items::from_slice(alloc, b"q")?)
 }
 
-// The names of the first inputs.
+/// The names of the first inputs.
 pub(crate) fn input_names(alloc: Global, count: usize) -> Result<Items<Items<u8>>, Memory>
     ensures { IfOk result (λ names. names ≡ input_names count) }
 {
@@ -26,7 +26,7 @@ pub(crate) fn input_names(alloc: Global, count: usize) -> Result<Items<Items<u8>
     Ok(names)
 }
 
-// The name of the input with this number from 1.
+/// The name of the input with this number from 1.
 fn input_name(alloc: Global, number: usize) -> Result<Items<u8>, Memory>
     ensures { IfOk result (λ name. name ≡ input_name number) }
 {

@@ -26,7 +26,7 @@ pub fn udp_next(udp: &Udp, state: Trit, inputs: &[Trit], changed: usize, old: Tr
     edge_next(udp, state, inputs, changed, old)
 }
 
-// What the first row with a change entry that matches gives, x without one.
+/// What the first row with a change entry that matches gives, x without one.
 fn edge_next(udp: &Udp, state: Trit, inputs: &[Trit], changed: usize, old: Trit) -> Trit
     requires table { HasEntries udp.now }
     requires entries { length inputs.now ≡ length udp.now.inputs }
@@ -41,14 +41,14 @@ fn edge_next(udp: &Udp, state: Trit, inputs: &[Trit], changed: usize, old: Trit)
 }
 
 impl UdpRow {
-    // Whether the row has no change entry.
+    /// Whether the row has no change entry.
     fn is_level(&self) -> bool
         ensures { result ≡ is_level_row self.now }
     {
         all_levels(self.inputs.as_slice())
     }
 
-    // Whether the row matches a change of one input in this state.
+    /// Whether the row matches a change of one input in this state.
     fn matches_change(&self, inputs: &[Trit], changed: usize, old: Trit, state: Trit) -> bool
         requires { length self.now.inputs ≡ length inputs.now }
         ensures { result ≡ row_matches (slice_set inputs.now changed old) inputs.now state self.now }
@@ -57,6 +57,7 @@ impl UdpRow {
     }
 }
 
+/// Whether no entry is a change.
 fn all_levels(entries: &[Entry]) -> bool
     ensures { result ≡ list_all is_level entries.now }
 {
@@ -68,7 +69,7 @@ fn all_levels(entries: &[Entry]) -> bool
     true
 }
 
-// The value before a change of the input with the number `changed`, of the input i.
+/// The value before a change of the input with the number `changed`, of the input i.
 fn value_before(inputs: &[Trit], changed: usize, old: Trit, i: usize) -> Trit
     requires { i < length inputs.now }
     ensures { result ≡ slice_index_or (slice_set inputs.now changed old) i trit.Unknown }
@@ -76,7 +77,7 @@ fn value_before(inputs: &[Trit], changed: usize, old: Trit, i: usize) -> Trit
     if i == changed { old } else { inputs[i] }
 }
 
-// Whether each entry matches its input at a change of one.
+/// Whether each entry matches its input at a change of one.
 fn changes_match(entries: &[Entry], inputs: &[Trit], changed: usize, old: Trit) -> bool
     requires { length entries.now ≡ length inputs.now }
     ensures { result ≡ columns_match entry_matches entries.now (slice_set inputs.now changed old) inputs.now }

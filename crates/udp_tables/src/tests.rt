@@ -5,7 +5,7 @@ use bool_functions::read_free;
 use std::alloc::Global;
 use std::test::Fail;
 
-// The rows as they are written, with a comma after each.
+/// The rows as they are written, with a comma after each.
 fn shown(alloc: Global, rows: &[UdpRow]) -> Result<String, Fail> {
     let mut text = String::new(alloc);
     for row in rows {
@@ -26,7 +26,7 @@ fn shown(alloc: Global, rows: &[UdpRow]) -> Result<String, Fail> {
     Ok(text)
 }
 
-// The primitive of a text with one to ten names.
+/// The primitive of a text with one to ten names.
 fn primitive(alloc: Global, name: &[u8], text: &[u8]) -> Result<Udp, Fail> {
     let (function, names) = read_free(alloc, text)?;
     let count = names.len();

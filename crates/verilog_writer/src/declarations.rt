@@ -92,6 +92,7 @@ fn put_next_ports<D: Desk>(
     Ok(())
 }
 
+/// Puts one more port of the header.
 #[tactic(auto, unfolding(crate::specs::Model::next_port_text))]
 fn put_next_port<D: Desk>(
     line: &mut Line,
@@ -140,6 +141,7 @@ fn put_inputs<D: Desk>(
     Ok(())
 }
 
+/// Puts the line of an input.
 #[tactic(auto, unfolding(crate::specs::Model::input_port_text))]
 fn put_input_port<D: Desk>(
     line: &mut Line,
@@ -175,6 +177,7 @@ fn put_outputs<D: Desk>(
     Ok(())
 }
 
+/// Puts the line of an output.
 #[tactic(auto, unfolding(crate::specs::Model::output_port_text))]
 fn put_output_port<D: Desk>(
     line: &mut Line,
@@ -210,6 +213,7 @@ fn put_wires<D: Desk>(
     Ok(())
 }
 
+/// Puts the line of a wire.
 #[tactic(auto, unfolding(crate::specs::Model::wire_text))]
 fn put_wire<D: Desk>(
     line: &mut Line,

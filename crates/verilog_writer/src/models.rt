@@ -183,6 +183,7 @@ fn put_terminals<D: Desk>(
     Ok(())
 }
 
+/// Puts one more terminal of an instance.
 #[tactic(auto, unfolding(crate::specs::Model::terminal_text))]
 fn put_terminal<D: Desk>(
     line: &mut Line,

@@ -1,3 +1,5 @@
+//! The text of a primitive.
+
 ghost use Rattle.std.specs.Prelude.{IsTrue};
 ghost use Rattle.std.specs.List.{flat_map};
 ghost use Rattle.text_io.specs.declared.slots.Slot.TheVariants.{Output};
@@ -66,6 +68,7 @@ fn write_ports<D: Desk>(desk: &mut D, slot: OutSlot, inputs: &[Items<u8>]) -> Re
     Ok(())
 }
 
+/// Writes one more port of the header.
 #[tactic(auto, unfolding(crate::specs::Primitive::port_text))]
 fn write_port<D: Desk>(desk: &mut D, slot: OutSlot, name: &[u8]) -> Result<(), Failed>
     requires { IsTrue (is_bound (D.state desk.old) (Output slot)) }
@@ -106,6 +109,7 @@ fn write_inputs<D: Desk>(desk: &mut D, slot: OutSlot, inputs: &[Items<u8>]) -> R
     Ok(())
 }
 
+/// Writes the line of an input.
 #[tactic(auto, unfolding(crate::specs::Primitive::input_text))]
 fn write_input<D: Desk>(desk: &mut D, slot: OutSlot, name: &[u8]) -> Result<(), Failed>
     requires { IsTrue (is_bound (D.state desk.old) (Output slot)) }

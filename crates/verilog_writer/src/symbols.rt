@@ -1,3 +1,5 @@
+//! The symbols of a table's entries.
+
 ghost use Rattle.std.specs.Prelude.{◌≡◌};
 ghost use Rattle.verilog_writer.specs.Symbols.{level_text, next_text};
 

@@ -48,6 +48,7 @@ fn states_of(alloc: Global, cell: &Cell) -> Result<Items<VState>, Memory>
     Ok(states)
 }
 
+/// The state of a group, with its table.
 fn state_of(alloc: Global, cell: &Cell, group: usize) -> Result<VState, Memory>
     requires { group < length cell.now.groups }
     ensures { IfOk result (λ state. state ≡ state_of (data_of cell.now) group) }

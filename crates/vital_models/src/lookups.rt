@@ -57,6 +57,7 @@ impl VStateRow {
     }
 }
 
+/// Whether each column matches its input.
 fn levels_match(levels: &[Trits], inputs: &[Trit]) -> bool
     requires { length levels.now ≡ length inputs.now }
     ensures { result ≡ columns_match level_matches levels.now inputs.now inputs.now }
@@ -69,6 +70,7 @@ fn levels_match(levels: &[Trits], inputs: &[Trit]) -> bool
     true
 }
 
+/// Whether each column matches its input before and after.
 fn symbols_match(symbols: &[VSymbol], before: &[Trit], after: &[Trit]) -> bool
     requires row { length symbols.now ≡ length after.now }
     requires columns { length before.now ≡ length after.now }

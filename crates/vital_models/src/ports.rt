@@ -38,6 +38,7 @@ fn port_after(alloc: Global, entity: &[u8], ports: &[VPort], pin: &Pin) -> Resul
     })
 }
 
+/// The name of a port: the pin's, or one by its number.
 fn port_name(
     alloc: Global,
     entity: &[u8],

@@ -19,7 +19,7 @@ use std::alloc::{AllocError, Global};
 use std::test::Fail;
 use trit_cubes::Trit;
 
-// A list of one item.
+/// A list of one item.
 fn one<T: Drop>(alloc: Global, item: T) -> Result<Items<T>, AllocError>
     ensures { IfOk result (λ l. l ≡ item ∷ []) }
 {
@@ -28,7 +28,7 @@ fn one<T: Drop>(alloc: Global, item: T) -> Result<Items<T>, AllocError>
     Ok(items)
 }
 
-// Pins by their names and directions.
+/// Pins by their names and directions.
 fn pins(alloc: Global, listed: &[(&str, Direction)]) -> Result<Items<Pin>, AllocError>
     ensures { IfOk result (λ l. l ≡ map (λ p. record { name = p.0.now; direction = p.1 }) listed.now) }
 {
@@ -42,7 +42,7 @@ fn pins(alloc: Global, listed: &[(&str, Direction)]) -> Result<Items<Pin>, Alloc
     Ok(found)
 }
 
-// A flip-flop that takes pin 1 at a rise of pin 0.
+/// A flip-flop that takes pin 1 at a rise of pin 0.
 fn group(alloc: Global) -> Result<StateGroup, AllocError>
     ensures { IfOk result (λ g. g ≡ record { kind = kind.Ff (record { next_state = tree.Name 1; clocked_on = tree.Name 0; clear = None; preset = None; both1 = both.Unknown; both2 = both.Unknown }); support = 0 ∷ 1 ∷ [] }) }
 {
@@ -59,7 +59,7 @@ fn group(alloc: Global) -> Result<StateGroup, AllocError>
     })
 }
 
-// An output that shows the name `shown`.
+/// An output that shows the name `shown`.
 fn shows(
     alloc: Global,
     pin: usize,
@@ -81,7 +81,7 @@ const PINS: [(&str, Direction); 3] = [
     ("Q", Direction::Output),
 ];
 
-// A flip-flop with the pins CK, D and Q, a setup time of 50 before the rising clock, and delays of 100 and 120.
+/// A flip-flop with the pins CK, D and Q, a setup time of 50 before the rising clock, and delays of 100 and 120.
 fn flip_flop(alloc: Global) -> Result<Cell, AllocError> {
     let name = Items::from_slice(alloc, b"DFFT")?;
     let pins = pins(alloc, &PINS)?;
@@ -163,7 +163,7 @@ fn value(shown: Trit) -> char {
     }
 }
 
-// The rows of a state table as they are written, with a space after each.
+/// The rows of a state table as they are written, with a space after each.
 fn state_text(alloc: Global, rows: &[VStateRow]) -> Result<String, Fail> {
     let mut text = String::new(alloc);
     for row in rows {
@@ -177,7 +177,7 @@ fn state_text(alloc: Global, rows: &[VStateRow]) -> Result<String, Fail> {
     Ok(text)
 }
 
-// The rows of a truth table, likewise.
+/// The rows of a truth table, likewise.
 fn truth_text(alloc: Global, rows: &[TruthRow]) -> Result<String, Fail> {
     let mut text = String::new(alloc);
     for row in rows {

@@ -39,6 +39,7 @@ fn ends_at(arc: &Arc, pin: usize) -> bool
     arc.to == pin
 }
 
+/// The path of an arc.
 fn path_of(alloc: Global, cell: &Cell, conditions: &[&Function], arc: &Arc) -> Result<HPath, Memory>
     requires { map (λ f. f.now) conditions.now ≡ conditions_of (data_of cell.now) }
     ensures { IfOk result (λ path. path ≡ path_of (data_of cell.now) arc.now) }
@@ -51,6 +52,7 @@ fn path_of(alloc: Global, cell: &Cell, conditions: &[&Function], arc: &Arc) -> R
     })
 }
 
+/// When the path of an arc counts.
 fn gate_of(alloc: Global, cell: &Cell, conditions: &[&Function], arc: &Arc) -> Result<HGate, Memory>
     requires { map (λ f. f.now) conditions.now ≡ conditions_of (data_of cell.now) }
     ensures { IfOk result (λ gate. gate ≡ gate_by (data_of cell.now) arc.now arc.now.condition) }
@@ -120,6 +122,7 @@ pub(crate) fn checks_of(
     Ok(checks)
 }
 
+/// The timing check of a cell's check.
 fn check_of(cell: &Cell, conditions: &[&Function], check: &Check) -> HCheck
     requires { map (λ f. f.now) conditions.now ≡ conditions_of (data_of cell.now) }
     ensures { result ≡ check_of (data_of cell.now) check.now }

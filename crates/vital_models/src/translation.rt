@@ -23,6 +23,7 @@ pub(crate) fn truth_rows_from(alloc: Global, rows: &[UdpRow]) -> Result<Items<Tr
     Ok(truth)
 }
 
+/// The row of a truth table that a combinational row becomes.
 fn truth_row_from(alloc: Global, row: &UdpRow) -> Result<TruthRow, Memory>
     ensures { IfOk result (λ truth. truth ≡ truth_row_from row.now) }
 {
@@ -37,6 +38,7 @@ fn truth_row_from(alloc: Global, row: &UdpRow) -> Result<TruthRow, Memory>
     })
 }
 
+/// The symbols of levels alone.
 fn all_trits_from(alloc: Global, entries: &[Entry]) -> Result<Items<Trits>, Memory>
     ensures { IfOk result (λ levels. levels ≡ map trits_from entries.now) }
 {
@@ -62,6 +64,7 @@ fn trits_from(given: Entry) -> Trits
     }
 }
 
+/// The symbol of a level.
 fn level_from(given: Level) -> Trits
     ensures { result ≡ level_from given }
 {
@@ -92,12 +95,14 @@ pub(crate) fn add_state_rows(
     Ok(())
 }
 
+/// Whether a primitive's row has one in a state table.
 fn is_written(checks: bool, row: &UdpRow) -> bool
     ensures { result ≡ is_written checks row.now }
 {
     checks || row.next != Next::Unknown
 }
 
+/// The row of a state table that a sequential row becomes.
 fn state_row_from(alloc: Global, checks: bool, row: &UdpRow) -> Result<VStateRow, Memory>
     ensures { IfOk result (λ state. state ≡ state_row_from checks row.now) }
 {
@@ -123,6 +128,7 @@ fn columns_from(alloc: Global, checks: bool, entries: &[Entry]) -> Result<Items<
     Ok(columns)
 }
 
+/// Adds the symbols of the entries.
 fn add_symbols(columns: &mut Items<VSymbol>, entries: &[Entry]) -> Result<(), Memory>
     ensures { OnOk result (columns.new ≡ columns.old ++ map symbol_from entries.now) }
 {
@@ -143,6 +149,7 @@ fn split_note(entries: &[Entry]) -> (Entry, &[Entry])
     }
 }
 
+/// The symbol of the violation column.
 fn violation_from(note: Entry) -> VSymbol
     ensures { result ≡ violation_from note }
 {
@@ -206,6 +213,7 @@ fn edge_to(to: Level) -> VSymbol
     }
 }
 
+/// The result of a row.
 fn result_from(next: Next) -> VNext
     ensures { result ≡ result_from next }
 {

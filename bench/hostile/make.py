@@ -109,7 +109,7 @@ def unlike_ends(n):
 
 def flip_flops(n):
     names = ["D%d" % k for k in range(8)]
-    text = long_text(names, "D0")
+    text = long_text(names, names[0])
     groups = "".join(
         'ff (q%d, n%d) { next_state : "%s"; clocked_on : "%s"; clear : "%s"; preset : "%s"; clear_preset_var1 : L; clear_preset_var2 : L; }\n'
         % (k, k, text, text, text, text)

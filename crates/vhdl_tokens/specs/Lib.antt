@@ -1,0 +1,7 @@
+pub mod Tokens
+pub mod Places
+pub mod Separators
+pub mod Spans
+pub mod Numbers
+pub mod Cover
+pub mod Spelling

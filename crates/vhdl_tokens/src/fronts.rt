@@ -1,0 +1,173 @@
+//! What begins at the front of bytes of a VHDL text.
+
+ghost use Rattle.std.specs.Prelude.{◌≡◌, ◌≤◌, length, not, ◌==◌, IfSome};
+ghost use Rattle.std.specs.List.{prefix_len};
+ghost use Rattle.std.specs.Char.{is_ascii_digit};
+ghost use Rattle.vhdl_tokens.specs.Tokens as spec;
+
+/// How many bytes stand before the first line end.
+fn line_length(bytes: &[u8]) -> usize
+    ensures value { result ≡ prefix_len (λ c. not (c == 10)) bytes.now }
+    ensures within { result ≤ length bytes.now }
+{
+    for (at, byte) in bytes.iter().enumerate() {
+        if *byte == b'\n' {
+            return at;
+        }
+    }
+    bytes.len()
+}
+
+/// How many letters, digits and `_` stand at the front of the bytes.
+fn name_length(bytes: &[u8]) -> usize
+    ensures value { result ≡ prefix_len spec.is_name_byte bytes.now }
+    ensures within { result ≤ length bytes.now }
+{
+    for (at, byte) in bytes.iter().enumerate() {
+        if !byte.is_ascii_alphanumeric() && *byte != b'_' {
+            return at;
+        }
+    }
+    bytes.len()
+}
+
+/// How many digits stand at the front of the bytes.
+fn digits_length(bytes: &[u8]) -> usize
+    ensures value { result ≡ prefix_len is_ascii_digit bytes.now }
+    ensures within { result ≤ length bytes.now }
+{
+    for (at, byte) in bytes.iter().enumerate() {
+        if !byte.is_ascii_digit() {
+            return at;
+        }
+    }
+    bytes.len()
+}
+
+/// How many bytes end a string, up to and with its closing quotation mark, which stands before its line end.
+fn string_rest(bytes: &[u8]) -> Option<usize>
+    ensures value { result ≡ spec.string_rest bytes.now }
+    ensures within { IfSome result (λ n. n ≤ length bytes.now) }
+{
+    for (at, byte) in bytes.iter().enumerate() {
+        if *byte == b'"' {
+            return Some(at + 1);
+        }
+        if *byte == b'\n' {
+            return None;
+        }
+    }
+    None
+}
+
+/// How many bytes of a string stand at the front of these, which begin with a quotation mark; none where it does not close.
+fn string_length(bytes: &[u8]) -> usize
+    ensures value { result ≡ spec.string_length bytes.now }
+    ensures within { result ≤ length bytes.now }
+{
+    match bytes {
+        [_, rest @ ..] => match string_rest(rest) {
+            Some(end) => 1 + end,
+            None => 0,
+        },
+        _ => 0,
+    }
+}
+
+/// How many bytes of a character literal stand at the front of these, which begin with an apostrophe.
+fn character_length(bytes: &[u8]) -> usize
+    ensures value { result ≡ spec.character_length bytes.now }
+    ensures within { result ≤ length bytes.now }
+{
+    match bytes {
+        [_, inner, b'\'', ..] if inner.is_ascii_graphic() || *inner == b' ' => 3,
+        _ => 0,
+    }
+}
+
+/// How many bytes of a separator stand at the front of these: a blank or a comment.
+pub fn separator_length(bytes: &[u8]) -> usize
+    ensures value { result ≡ spec.separator_length bytes.now }
+    ensures within { result ≤ length bytes.now }
+{
+    let Some(first) = bytes.first() else {
+        return 0;
+    };
+    if b" \t\n".contains(first) {
+        1
+    } else if bytes.starts_with(b"--") {
+        line_length(bytes)
+    } else {
+        0
+    }
+}
+
+/// How many bytes of a delimiter that is no mark of its own stand at the front of these.
+fn sign_length(bytes: &[u8]) -> usize
+    ensures value { result ≡ spec.sign_length bytes.now }
+    ensures within { result ≤ length bytes.now }
+{
+    if bytes.starts_with(b":=") {
+        2
+    } else if bytes.starts_with(b"=>") {
+        2
+    } else if bytes.starts_with(b"<=") {
+        2
+    } else if bytes.starts_with(b"/=") {
+        2
+    } else if bytes.starts_with(b":") {
+        1
+    } else if bytes.starts_with(b"=") {
+        1
+    } else {
+        0
+    }
+}
+
+/// How many bytes of a number stand at the front of these.
+fn number_length(bytes: &[u8]) -> usize
+    ensures value { result ≡ spec.number_length bytes.now }
+    ensures within { result ≤ length bytes.now }
+{
+    let length = digits_length(bytes);
+    if length <= 15 { length } else { 0 }
+}
+
+/// How many bytes of an identifier stand at the front of these, where the first is a letter.
+fn word_length(bytes: &[u8]) -> usize
+    ensures value { result ≡ spec.word_length bytes.now }
+    ensures within { result ≤ length bytes.now }
+{
+    match bytes.split_first() {
+        None => 0,
+        Some((_, rest)) => 1 + name_length(rest),
+    }
+}
+
+/// How many bytes of the longest token stand at the front of these, where `after_name` says whether the token before is a name.
+/// None where no token begins.
+pub fn token_length(after_name: bool, bytes: &[u8]) -> usize
+    ensures value { result ≡ spec.token_length after_name bytes.now }
+    ensures within { result ≤ length bytes.now }
+{
+    let Some(first) = bytes.first() else {
+        return 0;
+    };
+    if b"(),;.".contains(first) {
+        1
+    } else if *first == b'\'' {
+        if after_name {
+            1
+        } else {
+            character_length(bytes)
+        }
+    } else if *first == b'"' {
+        string_length(bytes)
+    } else if first.is_ascii_alphabetic() {
+        word_length(bytes)
+    } else if first.is_ascii_digit() {
+        number_length(bytes)
+    } else {
+        sign_length(bytes)
+    }
+}

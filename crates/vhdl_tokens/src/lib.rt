@@ -1,0 +1,17 @@
+//! The lexical level of VHDL text: its tokens, which of them are names, and when two stand for the same. (IEEE 1076-1993, clause
+//! 13.)
+#![tactic(auto)]
+
+mod fronts;
+mod laws;
+mod numbers;
+mod scanner;
+mod spelling;
+
+pub use laws::{added_separators_change_no_token, tokens_cover, tokens_stand_in_order};
+pub use numbers::{is_number, number_of};
+pub use scanner::scan;
+pub use spelling::{is_name, is_quoted, is_same, is_string};
+
+#[cfg(test)]
+mod tests;

@@ -1,0 +1,76 @@
+//! VHDL text to tokens.
+
+ghost use Rattle.std.specs.Prelude.{◌≡◌, ◌+◌, ◌<◌, length, true, false, IfOk, Some};
+ghost use Rattle.vhdl_tokens.specs.Tokens.{scan_of};
+ghost use Rattle.token_spans.specs.Spans.{LieInside};
+ghost use Rattle.vhdl_tokens.specs.Spans.{tokens_of, from_here};
+
+use crate::fronts::{separator_length, token_length};
+use crate::spelling::is_name;
+use std::alloc::Global;
+use token_spans::{Memory, Scan, Span};
+
+/// The tokens that were found so far, and whether the last of them is a name. None begins before the offset `next`.
+#[derive(Drop)]
+struct Scanner {
+    tokens: Vec<Span>,
+    after_name: bool,
+    next: usize,
+}
+
+impl Scanner {
+    /// Goes on with the byte at an offset. False says that neither a separator nor a token begins there.
+    fn step(&mut self, text: &[u8], at: usize) -> Result<bool, Memory>
+        requires here { at < length text.now }
+        requires inside { LieInside text.now self.old.tokens.items }
+        ensures goes_on { IfOk result (λ good. good ≡ true → from_here text.now self.new.tokens.items self.new.after_name self.new.next (at + 1) ≡ from_here text.now self.old.tokens.items self.old.after_name self.old.next at) }
+        ensures stops { IfOk result (λ good. good ≡ false → from_here text.now self.old.tokens.items self.old.after_name self.old.next at ≡ (tokens_of text.now self.new.tokens.items, Some at)) }
+        ensures inside { IfOk result (λ good. LieInside text.now self.new.tokens.items) }
+    {
+        if at < self.next {
+            return Ok(true);
+        }
+        let (_, rest) = text.split_at(at);
+        let skipped = separator_length(rest);
+        if skipped > 0 {
+            self.next = at + skipped;
+            return Ok(true);
+        }
+        let length = token_length(self.after_name, rest);
+        if length == 0 {
+            return Ok(false);
+        }
+        self.tokens.push(Span {
+            at,
+            end: at + length,
+        })?;
+        self.after_name = is_name(&rest[..length]);
+        self.next = at + length;
+        Ok(true)
+    }
+}
+
+/// The tokens of a VHDL text before its lexical fault, and the offset of the fault, if there is one.
+pub fn scan(alloc: Global, text: &[u8]) -> Result<Scan, Memory>
+    ensures tokens { IfOk result (λ found. tokens_of text.now found.tokens.items ≡ (scan_of text.now).0) }
+    ensures fault { IfOk result (λ found. found.fault ≡ (scan_of text.now).1) }
+    ensures inside { IfOk result (λ found. LieInside text.now found.tokens.items) }
+{
+    let mut scanner = Scanner {
+        tokens: Vec::new(alloc),
+        after_name: false,
+        next: 0,
+    };
+    for at in 0..text.len() {
+        if !scanner.step(text, at)? {
+            return Ok(Scan {
+                tokens: scanner.tokens,
+                fault: Some(at),
+            });
+        }
+    }
+    Ok(Scan {
+        tokens: scanner.tokens,
+        fault: None,
+    })
+}

@@ -59,7 +59,7 @@ over-optional pins apart None h = refl
 over-optional pins apart (Some f) h = and_from (is_over pins f) true (over pins apart f h) refl
 
 -- what each part of a list gives passes a test
-flat-passes :
+pub flat-passes :
     {X : Type 0} (p : X → Bool) (t : Node → Bool) (g : X → List Node) (xs : List X)
     → ((x : X) → IsTrue (p x) → IsTrue (list_all t (g x))) → IsTrue (list_all p xs) → IsTrue (list_all t (flat_map g xs))
 flat-passes p t g [] h k = refl
@@ -68,7 +68,7 @@ flat-passes p t g (x ∷ xs) h k =
     list_all-append t (g x) (flat_map g xs)
     ∙ and_from (list_all t (g x)) (list_all t (flat_map g xs)) (h x parts.0) (flat-passes p t g xs h parts.1)
 
-filter-passes : {X : Type 0} (p q : X → Bool) (xs : List X) → IsTrue (list_all p xs) → IsTrue (list_all p (filter q xs))
+pub filter-passes : {X : Type 0} (p q : X → Bool) (xs : List X) → IsTrue (list_all p xs) → IsTrue (list_all p (filter q xs))
 filter-passes p q [] h = refl
 filter-passes p q (x ∷ xs) h =
     let parts = and_parts (p x) (list_all p xs) h in
@@ -100,7 +100,7 @@ added-passes t trees f h k = by (list_any (same_tree f) trees)
         list_all-append t trees (f ∷ [])
         ∙ and_from (list_all t trees) (list_all t (f ∷ [])) h (and_from (t f) true k refl)
 
-all-added-pass :
+pub all-added-pass :
     (t : Node → Bool) (trees fs : List Node) → IsTrue (list_all t trees) → IsTrue (list_all t fs) → IsTrue (list_all t (added_all trees fs))
 all-added-pass t trees [] h k = h
 all-added-pass t trees (f ∷ fs) h k =

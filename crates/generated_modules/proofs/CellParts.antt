@@ -1,0 +1,87 @@
+-- What the rules of cells say of a cell's groups, outputs, checks and arcs.
+use Rattle.std.proofs.Common.{◌≡◌, ℕ, zero, suc, ◌+◌, ◌<◌, ◌≤◌, Bool, ◌&&◌, IsTrue, List, [], ◌∷◌, length, map, sym, ◌∙◌, ap, subst, arith, nat_lt, nat_le, slice_get}
+use Rattle.std.specs.List.{list_all}
+use Rattle.std.specs.Option.{option_map_or}
+use Rattle.std.proofs.lemmas.Bool.{and_parts, ltb-true, leb-true}
+use Rattle.std.proofs.lemmas.List.{length-map}
+use Rattle.cell_machine.specs.declared.pins.Pin.{Pin}
+use Rattle.cell_machine.specs.declared.groups.StateGroup.{StateGroup}
+use Rattle.cell_machine.specs.declared.outputs.OutputPin.{OutputPin}
+use Rattle.cell_machine.specs.declared.arcs.Arc.{Arc}
+use Rattle.cell_machine.specs.Names.{source_name}
+use Rattle.cell_machine.specs.CellRules.{is_name, are_distinct, is_support, is_group, are_groups_from, is_output_of, is_check, is_arc, is_in_order, output_pins_from, HoldsRules}
+use Rattle.cell_machine.specs.CellData.{CellData}
+use Rattle.cell_machine.specs.CellTrace.{support_at}
+use Rattle.specify_blocks.proofs.OutputPins.{outputs_are_pins, few_output_pins}
+
+abbrev pub Rules : CellData → Type 0
+Rules cell = HoldsRules cell.name cell.pins cell.groups cell.outputs cell.checks cell.arcs
+
+-- between these numbers
+pub record IsWithin (low high n : ℕ) : Type 0 where
+  pub least : low ≤ n
+  pub most : n ≤ high
+
+supports :
+    (pins : List Pin) (name : ℕ) (groups : List StateGroup) (g : ℕ) → IsTrue (are_groups_from pins name groups) → g < length groups
+    → IsWithin 1 8 (length (option_map_or (λ (group : StateGroup). group.support) (slice_get groups g) []))
+supports pins name [] g h within = absurd (omega arith)
+supports pins name (x ∷ xs) zero h within =
+    let group = and_parts (is_group pins name x) (are_groups_from pins (name + 2) xs) h in
+    let support = and_parts (is_support pins x.support) _ group.0 in
+    let some = and_parts (nat_lt 0 (length x.support)) _ support.0 in
+    let few = and_parts (nat_le (length x.support) 8) _ some.1 in
+    let least : 0 < length x.support = ltb-true 0 (length x.support) some.0 in
+    record { least = omega arith; most = leb-true (length x.support) 8 few.0 }
+supports pins name (x ∷ xs) (suc g) h within =
+    supports pins (name + 2) xs g (and_parts (is_group pins name x) (are_groups_from pins (name + 2) xs) h).1 (omega arith)
+
+pub few_sources : (pins : List Pin) (groups : List StateGroup) (output : OutputPin) → IsTrue (is_output_of pins groups output) → length output.support ≤ 10
+few_sources pins groups output h =
+    let held : List ℕ = map (source_name (length pins)) output.support in
+    let few = and_parts (nat_le (length held) 10) _ h in
+    subst (λ n. n ≤ 10) (length-map output.support (source_name (length pins))) (leb-true (length held) 10 few.0)
+
+module _ (cell : CellData) (h : Rules cell) where
+  pub few_pins : length cell.pins ≤ 64
+  few_pins = leb-true (length cell.pins) 64 (and_parts (nat_le (length cell.pins) 64) _ h.of_pins).0
+
+  pub distinct_pins : IsTrue (are_distinct (map (λ (pin : Pin). pin.name) cell.pins))
+  distinct_pins =
+      (and_parts (list_all (λ (pin : Pin). is_name pin.name) cell.pins) (are_distinct (map (λ (pin : Pin). pin.name) cell.pins))
+      (and_parts (nat_le (length cell.pins) 64) _ h.of_pins).1).1
+
+  pub few_groups : length cell.groups ≤ 16
+  few_groups = leb-true (length cell.groups) 16 (and_parts (nat_le (length cell.groups) 16) _ h.of_groups).0
+
+  pub group_support : (g : ℕ) → g < length cell.groups → IsWithin 1 8 (length (support_at cell g))
+  group_support g within =
+      supports cell.pins (length cell.pins) cell.groups g
+      (and_parts (nat_le (length cell.groups) 16) (are_groups_from cell.pins (length cell.pins) cell.groups) h.of_groups).1 within
+
+  pub outputs_hold : IsTrue (list_all (is_output_of cell.pins cell.groups) cell.outputs)
+  outputs_hold = (and_parts _ (list_all (is_output_of cell.pins cell.groups) cell.outputs) h.of_outputs).1
+
+  pub few_outputs : length cell.outputs ≤ 64
+  few_outputs =
+      let same = outputs_are_pins cell.pins cell.groups cell.outputs h.of_outputs in
+      let longest = few_output_pins 0 cell.pins in
+      let pins = few_pins in
+      let equal : length cell.outputs ≡ length (output_pins_from 0 cell.pins)
+      = sym (length-map cell.outputs (λ (output : OutputPin). output.pin)) ∙ ap length same in
+      omega (arith, equal, longest, pins)
+
+  pub few_checks : length cell.checks ≤ 256
+  few_checks = leb-true (length cell.checks) 256 (and_parts (nat_le (length cell.checks) 256) _ h.of_checks).0
+
+  pub checks_hold : IsTrue (list_all (is_check cell.pins) cell.checks)
+  checks_hold = (and_parts (nat_le (length cell.checks) 256) (list_all (is_check cell.pins) cell.checks) h.of_checks).1
+
+  pub few_arcs : length cell.arcs ≤ 1024
+  few_arcs = leb-true (length cell.arcs) 1024 (and_parts (nat_le (length cell.arcs) 1024) _ h.of_arcs).0
+
+  pub arcs_hold : IsTrue (list_all (is_arc cell.pins) cell.arcs)
+  arcs_hold =
+      let order : Bool = is_in_order (map (λ (arc : Arc). arc.to) cell.arcs) in
+      (and_parts (list_all (is_arc cell.pins) cell.arcs) order
+      (and_parts (nat_le (length cell.arcs) 1024) (list_all (is_arc cell.pins) cell.arcs && order) h.of_arcs).1).0

@@ -1,0 +1,114 @@
+-- The generated primitives are such as a text can declare.
+use Rattle.std.proofs.Common.{◌≡◌, ℕ, zero, suc, ◌+◌, ◌^◌, ◌<◌, ◌≤◌, Bool, true, false, List, [], ◌∷◌, ◌++◌, length, map, replicate, refl, sym, ap, subst, arith, codes, if◌then◌else◌}
+use Rattle.std.specs.Prelude.{All}
+use Rattle.std.specs.Str.{bytes_eq}
+use Rattle.std.proofs.lemmas.List.Elements.{All-nil, All-cons, All-head, All-tail, All-append, All-map}
+use Rattle.trit_cubes.specs.declared.trits.Trit.{Trit}
+use Rattle.trit_cubes.specs.declared.trits.Trit.TheVariants.{Zero, One, Unknown}
+use Rattle.trit_cubes.specs.Sets.{gives}
+use Rattle.trit_cubes.specs.Prime.{prime_list}
+use Rattle.cell_machine.specs.CellData.{CellData}
+use Rattle.cell_machine.specs.CellTrace.{support_at}
+use Rattle.verilog_tokens.specs.Words.{verilog_words, is_verilog_word}
+use Rattle.udp_tables.specs.declared.table.UdpRow.{UdpRow}
+use Rattle.udp_tables.specs.Tables.{value_rows, or_row}
+use Rattle.udp_tables.specs.PortNames.{output_name, input_name, input_names}
+use Rattle.udp_tables.specs.Generated.{level_row, function_rows, primitive_of}
+use Rattle.udp_tables.specs.CellPrimitives.{has_notifier, group_inputs, group_primitive}
+use Rattle.udp_tables.proofs.TableLemmas.{length-input_names, primitive-combinational}
+use Rattle.udp_tables.proofs.CellLaws.{groups_are_sequential-lem}
+use Rattle.specify_blocks.specs.Names.{numbered}
+use Rattle.specify_blocks.specs.WellFormed.{IsName, HasNoState, IsWellFormedUdp}
+use Rattle.specify_blocks.proofs.ReadNames.{AreNames}
+use Rattle.generated_modules.proofs.NameLists.{cons_name}
+use Rattle.generated_modules.proofs.NumberedNames.{input_stem, numbered_names, numbered_form}
+
+-- ports
+
+inputs-numbered : (n : ℕ) → input_names n ≡ numbered (codes "i") n
+inputs-numbered zero = refl
+inputs-numbered (suc n) = ap (λ l. l ++ input_name (suc n) ∷ []) (inputs-numbered n)
+
+output_is_name : IsName output_name
+unfolding is_verilog_word verilog_words
+output_is_name = record { identifier = refl; no_word = refl }
+
+ports_named : (n : ℕ) → n < 2 ^ 64 → AreNames (output_name ∷ input_names n)
+ports_named n h =
+    subst (λ l. AreNames (output_name ∷ l)) (sym (inputs-numbered n))
+    (cons_name output_name (numbered (codes "i") n) output_is_name (numbered_names (codes "i") input_stem n h)
+    (λ y m. let form = numbered_form (codes "i") n y m in subst (λ z. bytes_eq output_name z ≡ false) (sym form.3) refl))
+
+-- rows
+
+some_row : (alone : UdpRow) (rows : List UdpRow) → 1 ≤ length (or_row alone rows)
+some_row alone [] = omega arith
+some_row alone (row ∷ rows) = omega arith
+
+row_stateless : (v : Trit) (cube : List Trit) → HasNoState (level_row v cube)
+row_stateless Zero cube = record { state = refl; next = λ e. cc }
+row_stateless One cube = record { state = refl; next = λ e. cc }
+row_stateless Unknown cube = record { state = refl; next = λ e. cc }
+
+rows_stateless : (v : Trit) (cubes : List (List Trit)) → All HasNoState (map (level_row v) cubes)
+rows_stateless v cubes = All-map HasNoState (level_row v) cubes (λ k d within. row_stateless v _)
+
+or_stateless : (alone : UdpRow) (rows : List UdpRow) → HasNoState alone → All HasNoState rows → All HasNoState (or_row alone rows)
+or_stateless alone [] h k = All-cons HasNoState alone [] h (All-nil HasNoState)
+or_stateless alone (row ∷ rows) h k = k
+
+function_stateless : (n : ℕ) (f : List Bool → Trit) → All HasNoState (function_rows n f)
+function_stateless n f =
+    let ones : List (List Trit) = prime_list n (gives One f) in
+    let zeros : List (List Trit) = prime_list n (gives Zero f) in
+    or_stateless (level_row Unknown (replicate n Unknown)) (value_rows level_row ones zeros) (row_stateless Unknown (replicate n Unknown))
+    (All-append HasNoState (map (level_row One) ones) (map (level_row Zero) zeros) (rows_stateless One ones) (rows_stateless Zero zeros))
+
+-- the primitive of a function of 1 to 10 places
+pub function_well_formed :
+    (name : List ℕ) (n : ℕ) (f : List Bool → Trit) → IsName name → 1 ≤ n → n ≤ 10 → IsWellFormedUdp (primitive_of name n f)
+function_well_formed name n f named some few =
+    let ports = ports_named n (omega arith) in
+    let long = length-input_names n in
+    record {
+      name = named;
+      output = All-head IsName output_name (input_names n) ports.all;
+      inputs = All-tail IsName output_name (input_names n) ports.all;
+      apart = ports.apart;
+      some = omega (arith, long, some);
+      most = omega (arith, long, few);
+      rows = some_row (level_row Unknown (replicate n Unknown)) _;
+      table = primitive-combinational name n f;
+      stateless = function_stateless n f;
+    }
+
+-- one input more for the notifier, where there is one
+at_least : (b : Bool) (n : ℕ) → 1 ≤ n → 1 ≤ (if b then n + 1 else n)
+at_least true n h = omega arith
+at_least false n h = h
+
+at_most : (b : Bool) (n : ℕ) → n ≤ 8 → (if b then n + 1 else n) ≤ 9
+at_most true n h = omega arith
+at_most false n h = omega arith
+
+-- the primitive of a group with a support of 1 to 8 pins
+pub group_well_formed :
+    (cell : CellData) (i : ℕ) → IsName (group_primitive cell i).name → 1 ≤ length (support_at cell i) → length (support_at cell i) ≤ 8
+    → IsWellFormedUdp (group_primitive cell i)
+group_well_formed cell i named some few =
+    let n : ℕ = group_inputs cell i in
+    let least : 1 ≤ n = at_least (has_notifier cell) (length (support_at cell i)) some in
+    let most : n ≤ 9 = at_most (has_notifier cell) (length (support_at cell i)) few in
+    let ports = ports_named n (omega (arith, most)) in
+    let long = length-input_names n in
+    record {
+      name = named;
+      output = All-head IsName output_name (input_names n) ports.all;
+      inputs = All-tail IsName output_name (input_names n) ports.all;
+      apart = ports.apart;
+      some = omega (arith, long, least);
+      most = omega (arith, long, most);
+      rows = some_row _ _;
+      table = groups_are_sequential-lem cell i;
+      stateless = tt;
+    }

@@ -1,0 +1,14 @@
+-- Laws of the modules that are generated for cells.
+use Rattle.std.specs.Prelude.{List, map}
+use Rattle.cell_machine.specs.CellData.{CellData}
+use Rattle.specify_blocks.specs.Generated.{module_of}
+use Rattle.specify_blocks.specs.WellFormed.{IsWellFormedModule, AreWellFormed}
+use Rattle.generated_modules.specs.Cells.{IsNumberedCell, AreCellsOfOneLibrary}
+
+-- the module of data that keep the rules of cells is well formed
+abbrev pub ModuleIsWellFormed : Type 0
+ModuleIsWellFormed = (cell : CellData) → IsNumberedCell cell → IsWellFormedModule (module_of cell)
+
+-- the modules of the cells of one library are well formed together
+abbrev pub ModulesAreWellFormed : Type 0
+ModulesAreWellFormed = (cells : List CellData) → AreCellsOfOneLibrary cells → AreWellFormed (map module_of cells)

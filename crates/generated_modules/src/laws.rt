@@ -1,0 +1,15 @@
+//! Theorems on the definitions, for the proofs of other crates. The functions do nothing.
+
+ghost use Rattle.generated_modules.specs.Laws.{ModuleIsWellFormed, ModulesAreWellFormed};
+
+/// The module that is generated for a cell is well formed: it is sound, its names are identifiers and no words, of which none
+/// stands twice, its primitives have as many inputs and rows as the language allows, and its numbers have at most 15 digits.
+pub fn module_is_well_formed()
+    ensures { ModuleIsWellFormed }
+{}
+
+/// The list of the modules of cells of one library is well formed: each module is, and no two of all their primitives and
+/// modules share a name.
+pub fn modules_are_well_formed()
+    ensures { ModulesAreWellFormed }
+{}

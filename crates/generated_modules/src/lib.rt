@@ -1,0 +1,7 @@
+//! The modules that are generated for cells can be told as Verilog text, and so can lists of them. (IEEE 1364-2005, clauses 3, 8
+//! and 12.)
+#![tactic(auto)]
+
+mod laws;
+
+pub use laws::{module_is_well_formed, modules_are_well_formed};

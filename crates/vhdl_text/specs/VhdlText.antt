@@ -1,0 +1,219 @@
+-- VHDL text: the entities that its bytes are, or its fault. (IEEE 1076-1993, 1.1 and 1.2; IEEE 1076.4-2000; the subset is this
+-- project's.)
+use Rattle.std.specs.Prelude.{◌≡◌, ◌<◌, ◌≤◌, ◌⊎◌, ◌↔◌, ℕ, ◌==◌, nat_eq, Bool, if◌then◌else◌, List, [], ◌∷◌, ◌++◌, length, map, Option, Some, None, Result, Ok, Err, codes}
+use Rattle.grammar_rules.specs.Rule.{Takes, Refuses}
+use Rattle.grammar_rules.specs.Rule as r
+use Rattle.grammar_rules.specs.Reading.{Outcome, read}
+use Rattle.grammar_rules.specs.Loose.{loose, Fouls}
+use Rattle.udp_tables.specs.declared.models.ModelFault.{ModelFault}
+use Rattle.udp_tables.specs.declared.models.ModelFault.TheVariants as fault
+use Rattle.udp_tables.specs.VerilogRules.{fault_at}
+use Rattle.vital_models.specs.declared.table.TruthTable.{TruthTable}
+use Rattle.vital_models.specs.declared.table.VStateTable.{VStateTable}
+use Rattle.vital_models.specs.declared.model.VState.{VState}
+use Rattle.vital_models.specs.declared.model.VTruth.{VTruth}
+use Rattle.vital_models.specs.declared.model.OutValue.{OutValue}
+use Rattle.vital_models.specs.declared.model.OutValue.TheVariants as value
+use Rattle.vital_models.specs.declared.model.VOutput.{VOutput}
+use Rattle.vital_models.specs.declared.model.HPath.{HPath}
+use Rattle.vital_models.specs.declared.model.HCheck.{HCheck}
+use Rattle.vital_models.specs.declared.model.VEntity.{VEntity}
+use Rattle.vital_models.specs.Sound.{output_ports_from}
+use Rattle.rule_readers.specs.declared.refusal.Refusal.{Refusal}
+use Rattle.rule_readers.specs.declared.refusal.Refusal.TheVariants.{Syntax, Undriven}
+use Rattle.rule_readers.specs.Words.{Grammar, ◌>>=◌}
+use Rattle.vhdl_tokens.specs.Tokens.{Token, scan_of, spellings}
+use Rattle.vhdl_text.specs.declared.scope.Columns.{Columns}
+use Rattle.vhdl_text.specs.declared.scope.Assigned.{Assigned}
+use Rattle.vhdl_text.specs.declared.scope.Assigned.TheVariants as assigned
+use Rattle.vhdl_text.specs.declared.scope.Scope.{Scope}
+use Rattle.vhdl_text.specs.VhdlRules.{expect, expect_all, expect_where, begins, new_name}
+use Rattle.vhdl_text.specs.VhdlDeclarations.{packages, scope_of, input_names}
+use Rattle.vhdl_text.specs.VhdlNames.{Uses}
+use Rattle.vhdl_text.specs.VhdlChecks.{checks, violation, state_calls}
+use Rattle.vhdl_text.specs.VhdlOutputs.{Lines, values_of, output_lines}
+
+-- states: their tables, each with its columns
+abbrev pub states_with : List VStateTable → List Columns → List VState
+states_with [] columns = []
+states_with (table ∷ tables) [] = []
+states_with (table ∷ tables) (c ∷ columns) =
+    record { table = table; violation = c.violation; inputs = c.inputs } ∷ states_with tables columns
+
+-- conditions: their tables, each with its inputs
+abbrev pub conditions_with : List TruthTable → Uses → List VTruth
+conditions_with [] uses = []
+conditions_with (table ∷ tables) [] = []
+conditions_with (table ∷ tables) (inputs ∷ uses) = record { table = table; inputs = inputs } ∷ conditions_with tables uses
+
+-- the values of outputs: constants, and look-ups, each of the next table
+abbrev pub values_with : List TruthTable → List Assigned → List OutValue
+values_with tables [] = []
+values_with tables (assigned.Constant one ∷ values) = value.Constant one ∷ values_with tables values
+values_with [] (assigned.Lookup sources ∷ values) = []
+values_with (table ∷ tables) (assigned.Lookup sources ∷ values) = value.Table table sources ∷ values_with tables values
+
+-- outputs: their ports, values and paths
+abbrev pub outputs_with : List ℕ → List OutValue → List (List HPath) → List VOutput
+outputs_with [] values paths = []
+outputs_with (p ∷ ports) [] paths = []
+outputs_with (p ∷ ports) (v ∷ values) [] = []
+outputs_with (p ∷ ports) (v ∷ values) (these ∷ paths) = record { port = p; value = v; paths = these } ∷ outputs_with ports values paths
+
+-- the entity of these declarations and statements
+abbrev pub entity_with : Scope → List HCheck → List Columns → List Assigned → Lines → VEntity
+entity_with scope all columns values lines =
+    record {
+      name = scope.name;
+      ports = scope.ports;
+      states = states_with scope.tables.states columns;
+      conditions = conditions_with scope.tables.conditions lines.1;
+      outputs = outputs_with (output_ports_from 0 scope.ports) (values_with scope.tables.outputs values) lines.0;
+      checks = all;
+    }
+
+-- a process without a sensitivity list waits at its end (IEEE 1076-1993, 8.1)
+abbrev pub last_wait : List (List ℕ) → Grammar (Unit {0})
+last_wait [] = expect_all (codes "wait" ∷ codes ";" ∷ [])
+last_wait (name ∷ names) = r.Gives tt
+
+-- each condition was looked up
+abbrev pub are_looked_up : Scope → Uses → Bool
+are_looked_up scope uses = nat_eq (length uses) (length scope.tables.conditions)
+
+-- [ "wait" ";" ] "end" "process" ";" "end" "vital" ";", behind all look-ups of conditions
+unfoldable pub entity_end : Scope → Uses → Grammar (Unit {0})
+entity_end scope uses = do
+  _ ← last_wait (input_names scope.ports)
+  _ ← expect_where (are_looked_up scope uses) Undriven (codes "end")
+  expect_all (codes "process" ∷ codes ";" ∷ codes "end" ∷ codes "vital" ∷ codes ";" ∷ [])
+
+-- the statements behind the declarations: the checks, the violation, the states, the values of the outputs, the outputs
+unfoldable pub statements : Scope → Grammar VEntity
+statements scope = do
+  checked ← checks scope
+  _ ← violation (length scope.variables.periods)
+  columns ← state_calls scope
+  values ← values_of scope
+  lines ← output_lines scope checked.uses
+  _ ← entity_end scope lines.1
+  r.Gives (entity_with scope checked.checks columns values lines)
+
+-- an entity behind "library", where entities of these names stand before it
+unfoldable pub entity : List (List ℕ) → Grammar VEntity
+entity names = do
+  _ ← packages
+  _ ← expect (codes "entity")
+  name ← new_name names
+  scope ← scope_of name
+  statements scope
+
+-- the names of entities
+abbrev pub entity_names : List VEntity → List (List ℕ)
+entity_names entities = map (λ (e : VEntity). e.name) entities
+
+unfoldable pub next_entity : List VEntity → Grammar (List VEntity)
+next_entity entities = do
+  e ← entity (entity_names entities)
+  r.Gives (entities ++ e ∷ [])
+
+-- the grammar of a text: { entity }
+unfoldable pub file : Grammar (List VEntity)
+file = do
+  entities ← r.Many (λ _. begins (codes "library")) (λ found _. next_entity found) []
+  r.Last (λ _. Syntax) entities
+
+-- the tokens of a text before its lexical fault, by their spelling
+abbrev pub text_tokens : List ℕ → List (List ℕ)
+text_tokens bytes = spellings (scan_of bytes).0
+
+-- the offset of the lexical fault, if there is one
+abbrev pub lexical_place : List ℕ → Option ℕ
+lexical_place bytes = (scan_of bytes).1
+
+-- The bytes are the text of these entities: they are tokens, without a lexical fault, that the grammar takes.
+pub record IsVhdlText (bytes : List ℕ) (entities : List VEntity) : Type 0 where
+  pub lexes : lexical_place bytes ≡ None
+  pub takes : Takes file (text_tokens bytes) entities []
+
+-- the offset of the token with which so many tokens are left, and the length of the text where none is left
+abbrev pub place_from : ℕ → List Token → ℕ → ℕ
+place_from len [] left = len
+place_from len (t ∷ ts) left = if length (t ∷ ts) == left then t.at else place_from len ts left
+
+-- the offset of the first of the tokens that are left
+abbrev pub token_place : List ℕ → List (List ℕ) → ℕ
+token_place bytes left = place_from (length bytes) (scan_of bytes).0 (length left)
+
+-- A text meets a fault: a place where no token begins; a token that the loose subset takes, although it breaks a strict rule; the
+-- first token with which the tokens so far are no front of the loose subset; or the end of the text where it is a front and no text.
+abbrev pub MeetsFault : List ℕ → ModelFault → Type 0
+MeetsFault bytes f =
+    ((at : ℕ) × (lexical_place bytes ≡ Some at) × (f ≡ fault.Lexical at))
+    ⊎ (((k : Refusal) × (m : List (List ℕ)) × Fouls file (text_tokens bytes) k m × (f ≡ fault_at k (token_place bytes m)))
+    ⊎ (((k : Refusal) × (x : List ℕ) × (m : List (List ℕ)) × Refuses (loose file) (text_tokens bytes) k (x ∷ m) × (f ≡ fault_at k (token_place bytes (x ∷ m))))
+    ⊎ ((lexical_place bytes ≡ None) × (k : Refusal) × Refuses (loose file) (text_tokens bytes) k [] × (f ≡ fault_at k (length bytes)))))
+
+-- the offset of a fault
+abbrev pub fault_place : ModelFault → ℕ
+fault_place (fault.Lexical at) = at
+fault_place (fault.Syntax at) = at
+fault_place (fault.TwoEdges at) = at
+fault_place (fault.Width at) = at
+fault_place (fault.Undefined at) = at
+fault_place (fault.Twice at) = at
+fault_place (fault.Undriven at) = at
+fault_place (fault.Unequal at) = at
+fault_place fault.Memory = 0
+
+-- the number of a kind of fault, in the order in which they count at one offset
+abbrev pub fault_rank : ModelFault → ℕ
+fault_rank (fault.Lexical at) = 0
+fault_rank (fault.Syntax at) = 1
+fault_rank (fault.TwoEdges at) = 2
+fault_rank (fault.Width at) = 3
+fault_rank (fault.Undefined at) = 4
+fault_rank (fault.Twice at) = 5
+fault_rank (fault.Undriven at) = 6
+fault_rank (fault.Unequal at) = 7
+fault_rank fault.Memory = 8
+
+-- the least offset counts, and at one offset the first kind
+abbrev pub CountsBefore : ModelFault → ModelFault → Type 0
+CountsBefore f g = (fault_place f < fault_place g) ⊎ ((fault_place f ≡ fault_place g) × (fault_rank f ≤ fault_rank g))
+
+-- This is the fault of a text: of those that it meets, the first.
+pub record IsVhdlFault (bytes : List ℕ) (f : ModelFault) : Type 0 where
+  pub met : MeetsFault bytes f
+  pub first : (g : ModelFault) → MeetsFault bytes g → CountsBefore f g
+
+-- Below: the same as a function of the bytes.
+
+abbrev pub end_fault : ℕ → Refusal → Option ℕ → ModelFault
+end_fault len k None = fault_at k len
+end_fault len k (Some at) = fault.Lexical at
+
+-- the fault of a refusal before these tokens, in a text of this length with these tokens and this lexical fault
+abbrev pub refusal_fault : ℕ → List Token → Option ℕ → Refusal → List (List ℕ) → ModelFault
+refusal_fault len tokens lexical k [] = end_fault len k lexical
+refusal_fault len tokens lexical k (x ∷ m) = fault_at k (place_from len tokens (length (x ∷ m)))
+
+abbrev pub unless_lexical : {A : Type 0} → Option ℕ → A → Result A ModelFault
+unless_lexical None a = Ok a
+unless_lexical (Some at) a = Err (fault.Lexical at)
+
+abbrev pub answer_of : ℕ → List Token → Option ℕ → Outcome (List ℕ) Refusal (List VEntity) → Result (List VEntity) ModelFault
+answer_of len tokens lexical (Ok p) = unless_lexical lexical p.0
+answer_of len tokens lexical (Err e) = Err (refusal_fault len tokens lexical e.0 e.1)
+
+-- the entities of a text, or its fault
+unfoldable pub vhdl_text : List ℕ → Result (List VEntity) ModelFault
+vhdl_text bytes = answer_of (length bytes) (scan_of bytes).0 (scan_of bytes).1 (read file (text_tokens bytes))
+
+-- A text has entities or a fault, and one of them.
+pub record IsVhdlAnswer (bytes : List ℕ) : Type 0 where
+  pub entities : (es : List VEntity) → IsVhdlText bytes es ↔ (vhdl_text bytes ≡ Ok es)
+  pub fault : (f : ModelFault) → IsVhdlFault bytes f ↔ (vhdl_text bytes ≡ Err f)
+
+abbrev pub VhdlTextHasOneAnswer : Type 0
+VhdlTextHasOneAnswer = (bytes : List ℕ) → IsVhdlAnswer bytes

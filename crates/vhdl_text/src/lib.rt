@@ -1,0 +1,7 @@
+//! What VHDL text of this project's subset is: its grammar, the entities that a text has, and its faults. (IEEE 1076-1993 and
+//! IEEE 1076.4-2000.) The definitions stand in `specs/`; here are the parts of an entity of which they speak while it is read.
+#![tactic(auto)]
+
+mod scope;
+
+pub use scope::{Assigned, Columns, Scope, Tables, Variables};

@@ -8,3 +8,4 @@ pub mod Conditions
 pub mod CellParts
 pub mod Modules
 pub mod ModuleLists
+pub mod AcceptedCells

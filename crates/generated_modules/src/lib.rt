@@ -4,4 +4,7 @@
 
 mod laws;
 
-pub use laws::{module_is_well_formed, modules_are_well_formed};
+pub use laws::{
+    accepted_are_of_one_library, accepted_modules_are_well_formed, module_is_well_formed,
+    modules_are_well_formed,
+};

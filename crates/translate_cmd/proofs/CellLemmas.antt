@@ -10,7 +10,7 @@ use Rattle.cell_reader.specs.CellTexts.{subject_of, IsCellOf}
 use Rattle.cell_reader.specs.Refusals.{refusal_of, left_out_of}
 use Rattle.library_report.specs.CellLines.{refused_line}
 use Rattle.translate_cmd.specs.declared.progress.Progress.{Progress}
-use Rattle.translate_cmd.specs.Written.{in_report}
+use Rattle.command_outcomes.specs.Written.{in_report}
 use Rattle.translate_cmd.specs.Cells.{next_number, next_refusal, next_data, next_left_out, accepted_written, written_by}
 
 -- the cell that a group describes has the data of the next cell

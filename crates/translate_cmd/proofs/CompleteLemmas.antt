@@ -1,28 +1,27 @@
 -- A run on which no call failed did all that it was asked for.
-use Rattle.std.proofs.Common.{◌≡◌, ◌≤◌, ℕ, Bool, true, false, List, [], take, length, nat_le, ◌⊎◌, inl, inr, if◌then◌else◌, IsTrue, refl, sym, ap, ◌∙◌, arith}
+use Rattle.std.proofs.Common.{◌≡◌, ◌≤◌, ℕ, Bool, true, false, List, [], take, length, nat_le, ◌⊎◌, inl, inr, if◌then◌else◌, IsTrue, refl, ap, subst, ◌∙◌, arith}
 use Rattle.std.proofs.lemmas.List.{take_all}
 use Rattle.std.proofs.lemmas.Bool.Decides.{nat_tests}
-use Rattle.text_io.specs.declared.slots.InSlot.TheVariants.{Library}
 use Rattle.text_io.specs.declared.slots.OutSlot.TheVariants.{Faults}
-use Rattle.text_io.specs.Desk.{DeskState, Folder, took, wrote}
+use Rattle.text_io.specs.Desk.{DeskState, Folder, wrote}
 use Rattle.text_io.proofs.Wrote.{wrote-nil}
-use Rattle.cell_cursor.specs.Ends.{end_within}
+use Rattle.cell_cursor.specs.Ends.{items_within, end_within}
 use Rattle.cell_cursor.specs.declared.item.LibraryItem.{LibraryItem}
-use Rattle.translate_cmd.specs.declared.status.Status.{Status}
-use Rattle.translate_cmd.specs.declared.status.Status.TheVariants as status
+use Rattle.command_outcomes.specs.declared.status.Status.{Status}
+use Rattle.command_outcomes.specs.declared.status.Status.TheVariants as status
 use Rattle.translate_cmd.specs.declared.items.Ending.{Ending}
 use Rattle.translate_cmd.specs.declared.items.Ending.TheVariants as ending
 use Rattle.translate_cmd.specs.declared.asked.Command.{Command}
 use Rattle.translate_cmd.specs.declared.asked.Command.TheVariants as command
-use Rattle.translate_cmd.specs.Status.{is_decided}
+use Rattle.command_outcomes.specs.Status.{is_decided}
 use Rattle.translate_cmd.specs.Reading.{reading}
-use Rattle.translate_cmd.specs.Written.{Written, wrote_all}
-use Rattle.translate_cmd.specs.Binding.{bound_state, bound_by, IsLibrary}
-use Rattle.translate_cmd.specs.Library.{Outcome, library_limit, ending_of, outcome_at}
-use Rattle.translate_cmd.specs.Outcome.{outcome_of, outcome, library_bytes, TellsFor, Tells}
+use Rattle.command_outcomes.specs.Written.{Written, wrote_all}
+use Rattle.command_outcomes.specs.Outcome.{Outcome}
+use Rattle.command_outcomes.specs.Binding.{Files, bound_state, AreNamed, took_all, Tells, bytes_at}
+use Rattle.translate_cmd.specs.Library.{library_limit, ending_of, outcome_at}
+use Rattle.translate_cmd.specs.Outcome.{files_of, outcome_of, outcome}
 use Rattle.translate_cmd.specs.Runs.{Runs}
 use Rattle.translate_cmd.specs.Complete.{IsWholeLibrary, CanBeDone, IsAllDone, Completes}
-use Rattle.translate_cmd.proofs.TranslateLemmas.{named_bytes}
 
 -- how a status came about
 decided_or : (s : Status) → (s ≡ status.Outside) ⊎ ((s ≡ status.Memory) ⊎ IsTrue (is_decided s))
@@ -61,17 +60,18 @@ whole_is_good : (items : List LibraryItem) (end : Ending) → end ≡ ending.Who
 unfolding outcome_at
 whole_is_good items end e = rw e (record { status = done_or_cells _ _ refl; faults = refl })
 
-can_is_good : (asked : Command) (bytes : List ℕ) → CanBeDone asked bytes → IsGood (outcome_of asked bytes)
-can_is_good (command.Udp udp) bytes can = record { status = inl refl; faults = refl }
-can_is_good command.Translate bytes can = whole_is_good _ _ (ends_whole bytes can)
-can_is_good command.Usage bytes can = absurd can
+-- then its outcome is good, and all its files are bound
+record IsGoodOf (files : Files) (o : Outcome) : Type 0 where
+  good : IsGood o
+  binds : take o.binds files ≡ files
 
--- the library that was bound has the bytes of the file that the words name
-bound_same : (asked : Command) (old : DeskState) (files : Folder) (bytes : List ℕ) → TellsFor asked old files → IsLibrary old (bound_by asked) bytes
-    → bound_state old (bound_by asked) bytes ≡ bound_state old (bound_by asked) (library_bytes old.words files)
-bound_same command.Translate old files bytes tells file = ap (bound_state old (bound_by command.Translate)) (sym (named_bytes old.words old.folder files bytes tells.0 file))
-bound_same (command.Udp udp) old files bytes tells file = refl
-bound_same command.Usage old files bytes tells file = refl
+can_is_good : (asked : Command) (words : List (List ℕ)) (folder : Folder) → CanBeDone asked words folder → IsGoodOf (files_of asked) (outcome_of asked words folder)
+unfolding outcome_at
+can_is_good (command.Udp udp) words folder can = record { good = record { status = inl refl; faults = refl }; binds = refl }
+can_is_good command.Translate words folder can =
+    let bytes = bytes_at words folder 1 in
+    record { good = whole_is_good (items_within library_limit bytes) (ending_of library_limit bytes) (ends_whole bytes can); binds = refl }
+can_is_good command.Usage words folder can = absurd can
 
 -- a state behind some that was appended is the same where what was appended is
 same_state : (read new : DeskState) (text all : Written) (faults none : List ℕ) → new ≡ wrote (wrote_all read text) Faults faults → text ≡ all
@@ -79,24 +79,25 @@ same_state : (read new : DeskState) (text all : Written) (faults none : List ℕ
 same_state read new text all faults none e t f n =
     e ∙ ap (λ w. wrote (wrote_all read w) Faults faults) t ∙ ap (wrote (wrote_all read all) Faults) (f ∙ n) ∙ wrote-nil (wrote_all read all) Faults
 
-all_done : (old new : DeskState) (files : Folder) (result : Status) → Runs old new result → IsTrue (is_decided result) → Tells old files
-    → IsGood (outcome old.words files) → IsAllDone old new files result
-all_done old new files result r d tells good =
-    let all = r.whole d files tells in
-    let file = rw (r.all_bound d) at r.file in
-    let bound = ap (λ b. bound_state old b r.library) (r.all_bound d) ∙ bound_same (reading old.words) old files r.library tells file in
+all_done : (old new : DeskState) (folder : Folder) (result : Status) → Runs old new result → IsTrue (is_decided result) → Tells (files_of (reading old.words)) old folder
+    → IsGoodOf (files_of (reading old.words)) (outcome old.words folder) → IsAllDone old new folder result
+all_done old new folder result r d tells good =
+    let all = r.run.whole d folder tells in
+    let bound = r.run.all_bound d folder tells ∙ good.binds in
     record {
-      good = rw all.same_status good.status;
+      good = rw all.same_status good.good.status;
       same_status = all.same_status;
-      taken = r.taken;
-      state = same_state _ new r.text _ r.faults _
-          (r.state ∙ ap (λ s. wrote (wrote_all (took s Library r.taken) r.text) Faults r.faults) bound) all.same_text all.same_faults good.faults;
+      bytes = r.run.bytes;
+      named = subst (λ b. AreNamed old b r.run.bytes) bound r.run.named;
+      taken = r.run.taken;
+      state = same_state _ new r.run.text _ r.run.faults _
+          (r.run.state ∙ ap (λ b. wrote (wrote_all (took_all (bound_state old b r.run.bytes) r.run.taken) r.run.text) Faults r.run.faults) bound) all.same_text all.same_faults good.good.faults;
     }
 
 pub completes : (old new : DeskState) (result : Status) → Runs old new result → (result ≡ status.Outside → ⊥) → Completes old new result
-completes old new result r sound = λ files tells can.
+completes old new result r sound = λ folder tells can.
     elim (decided_or result) [
       | inl outside ↦ absurd (sound outside)
       | inr (inl memory) ↦ inl memory
-      | inr (inr d) ↦ inr (all_done old new files result r d tells (can_is_good (reading old.words) _ can))
+      | inr (inr d) ↦ inr (all_done old new folder result r d tells (can_is_good (reading old.words) old.words folder can))
     ]

@@ -3,9 +3,9 @@ use Rattle.std.proofs.Common.{◌≡◌, List, [], ◌∷◌, ◌++◌, refl, sy
 use Rattle.std.proofs.lemmas.List.{append-nil}
 use Rattle.cell_cursor.specs.declared.item.LibraryItem.{LibraryItem}
 use Rattle.translate_cmd.specs.declared.progress.Progress.{Progress}
-use Rattle.translate_cmd.specs.Written.{Written, nothing_written, joined, IsPart}
+use Rattle.command_outcomes.specs.Written.{Written, nothing_written, joined, IsPart}
 use Rattle.translate_cmd.specs.Cells.{item_written, after_item, progress_after, items_written}
-use Rattle.translate_cmd.proofs.WrittenLaws.{IsPart-front}
+use Rattle.command_outcomes.proofs.WrittenLaws.{IsPart-front}
 
 joined-nothing : (a : Written) → joined a nothing_written ≡ a
 joined-nothing a = λ i. record { verilog = append-nil a.verilog i; vital = append-nil a.vital i; report = append-nil a.report i }

@@ -15,19 +15,19 @@ use Rattle.cell_cursor.specs.declared.fault.CursorFault.TheVariants as fault
 use Rattle.cell_cursor.specs.Ends.{items_within, end_within}
 use Rattle.cell_cursor.specs.Given.{HasGiven}
 use Rattle.cell_cursor.specs.Taking.{Takes}
-use Rattle.cell_cursor.specs.Stands.{Knows, Stands, Moves, is_ended, is_going, is_failed, NothingLeft}
+use Rattle.cell_cursor.specs.Stands.{Knows, Stands, Moves, is_ended, is_going, NothingLeft}
 use Rattle.cell_cursor.proofs.StandsLemmas.{first_of_going}
 use Rattle.translate_cmd.specs.declared.stop.Stop.{Stop}
 use Rattle.translate_cmd.specs.declared.progress.Progress.{Progress}
 use Rattle.translate_cmd.specs.declared.items.Ending.{Ending}
 use Rattle.translate_cmd.specs.declared.items.Ending.TheVariants as ending
-use Rattle.translate_cmd.specs.Written.{Written, nothing_written, joined, IsPart, wrote_all, Writes}
+use Rattle.command_outcomes.specs.Written.{Written, nothing_written, joined, IsPart, wrote_all, Writes}
 use Rattle.translate_cmd.specs.Cells.{next_refusal, item_written, after_cell, after_item, progress_after, items_written}
 use Rattle.cell_parts.specs.Groups.{cell_name}
 use Rattle.translate_cmd.specs.Models.{HoldsCells}
 use Rattle.translate_cmd.specs.Library.{ending_by, IsHandled, Handles}
 use Rattle.translate_cmd.specs.Reached.{end_told, TellsEnd, IsAtEnd, Reached}
-use Rattle.translate_cmd.proofs.WrittenLaws.{wrote_all-nothing, took-wrote_all, wrote_on, IsPart-nothing, IsPart-all, IsPart-after, IsPart-front}
+use Rattle.command_outcomes.proofs.WrittenLaws.{wrote_all-nothing, took-wrote_all, wrote_on, IsPart-nothing, IsPart-all, IsPart-after, IsPart-front}
 use Rattle.translate_cmd.proofs.ItemTexts.{items_written-more, progress_after-more, first_part}
 use Rattle.translate_cmd.proofs.ModelsLemmas.{given_held, no_cell_owed}
 use Rattle.translate_cmd.proofs.TranslateLemmas.{IfSome-always, IfSome-map}
@@ -56,7 +56,7 @@ more_state : (base now next : DeskState) (a b : List ℕ) (text : Written) → n
 more_state base now next a b text first second =
     second
     ∙ ap (λ s. took s Library (length b)) first
-    ∙ took-wrote_all (took base Library (length a)) text (length b)
+    ∙ took-wrote_all (took base Library (length a)) text Library (length b)
     ∙ ap (λ s. wrote_all s text) (took-took base Library (length a) (length b) ∙ ap (took base Library) (sym (length-append a b)))
 
 left_now : (base now : DeskState) (taken : List ℕ) (text : Written) → now ≡ wrote_all (took base Library (length taken)) text
@@ -319,13 +319,7 @@ ends_so limit base now next p q c d e h m a t =
           });
     }
 
--- where a read failed, in a step or before it
-pub failed_by : (first old new : ℕ) (failed : Bool) → first ≤ old → old ≤ new → (failed ≡ true → Rose first old) → (failed ≡ true) ⊎ Rose old new → Rose first new
-failed_by first old new failed h k before w =
-    elim w [ inl was ↦ (let r = before was in omega (arith, r)) | inr rose ↦ omega (arith, rose) ]
-
-pub failed_later : (first old new : ℕ) → Rose first old → old ≤ new → Rose first new
-failed_later first old new r h = omega (arith, r, h)
-
-pub never_failed : {B : Type 0} (o : Option Answer) → o ≡ None → is_failed o ≡ true → B
-never_failed o e f = absurd (let h : false ≡ true = sym (ap is_failed e) ∙ f in cc)
+-- where a read failed in a step, and none before it
+pub failed_now : (first old new : ℕ) (failed : Bool) → old ≡ first → failed ≡ false → (failed ≡ true) ⊎ Rose old new → Rose first new
+failed_now first old new failed same not w =
+    elim w [ inl was ↦ absurd (let h : false ≡ true = sym not ∙ was in cc) | inr rose ↦ omega (arith, same, rose) ]

@@ -1,7 +1,6 @@
 pub mod Bounds
 pub mod RunsLemmas
 pub mod AskedLemmas
-pub mod WrittenLaws
 pub mod CellLemmas
 pub mod ItemTexts
 pub mod ModelsLemmas

@@ -6,10 +6,10 @@ use Rattle.verilog_writer.specs.Model.{prelude_text}
 use Rattle.cell_cursor.specs.declared.item.LibraryItem.{LibraryItem}
 use Rattle.cell_cursor.specs.Given.{closed_items, most_beyond, HasGiven}
 use Rattle.translate_cmd.specs.declared.progress.Progress.{Progress}
-use Rattle.translate_cmd.specs.Written.{Written, in_verilog, joined, IsPart}
+use Rattle.command_outcomes.specs.Written.{Written, in_verilog, joined, IsPart}
 use Rattle.translate_cmd.specs.Cells.{no_progress, items_written}
 use Rattle.translate_cmd.specs.Models.{HoldsCells, HoldsModels}
-use Rattle.translate_cmd.proofs.WrittenLaws.{IsPart-all, IsPart-after, IsPart-front}
+use Rattle.command_outcomes.proofs.WrittenLaws.{IsPart-all, IsPart-after, IsPart-front}
 use Rattle.translate_cmd.proofs.ItemTexts.{first_part}
 
 prefix_of_prefix : (a b c : List ℕ) → IsPrefix a b → IsPrefix b c → IsPrefix a c

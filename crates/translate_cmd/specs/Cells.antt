@@ -21,7 +21,7 @@ use Rattle.library_report.specs.LeftOutLines.{left_out_lines, left_out_file_line
 use Rattle.translate_cmd.specs.declared.progress.Progress.{Progress}
 use Rattle.cell_cursor.specs.declared.item.LibraryItem.{LibraryItem}
 use Rattle.cell_cursor.specs.declared.item.LibraryItem.TheVariants as item
-use Rattle.translate_cmd.specs.Written.{Written, nothing_written, in_verilog, in_report, joined}
+use Rattle.command_outcomes.specs.Written.{Written, nothing_written, in_verilog, in_report, joined}
 
 -- the unit of time that a text names (Liberty Reference Manual, `time_unit`)
 abbrev pub unit_of : List ℕ → Option Unit

@@ -1,10 +1,8 @@
-pub mod Status
 pub mod Reading
-pub mod Written
+pub mod Stops
 pub mod Cells
 pub mod Models
 pub mod Library
-pub mod Binding
 pub mod Outcome
 pub mod Runs
 pub mod Reached

@@ -10,14 +10,15 @@ use Rattle.text_io.specs.Desk.{DeskState, took, wrote, IsPrefix}
 use Rattle.verilog_writer.specs.Model.{prelude_text}
 use Rattle.library_report.specs.CellLines.{totals_line}
 use Rattle.library_report.specs.FaultLines.{library_fault_line, library_too_long_line}
-use Rattle.translate_cmd.specs.declared.status.Status.{Status}
-use Rattle.translate_cmd.specs.declared.status.Status.TheVariants as status
+use Rattle.command_outcomes.specs.declared.status.Status.{Status}
+use Rattle.command_outcomes.specs.declared.status.Status.TheVariants as status
 use Rattle.translate_cmd.specs.declared.stop.Stop.{Stop}
 use Rattle.translate_cmd.specs.declared.progress.Progress.{Progress}
 use Rattle.cell_cursor.specs.declared.item.LibraryItem.{LibraryItem}
 use Rattle.translate_cmd.specs.declared.items.Ending.{Ending}
 use Rattle.translate_cmd.specs.declared.items.Ending.TheVariants as ending
-use Rattle.translate_cmd.specs.Written.{Written, in_verilog, in_report, joined, IsPart, wrote_all}
+use Rattle.command_outcomes.specs.Outcome.{Outcome, IsPartOf, IsAllOf}
+use Rattle.command_outcomes.specs.Written.{Written, in_verilog, in_report, joined, IsPart, wrote_all}
 use Rattle.translate_cmd.specs.Cells.{no_progress, progress_after, items_written}
 use Rattle.translate_cmd.specs.Models.{HoldsCells, HoldsModels}
 
@@ -54,17 +55,12 @@ status_at ending.Whole p = if nat_eq p.refused 0 then status.Done else status.Ce
 status_at (ending.Fault fault) p = status.Library
 status_at ending.TooLong p = status.TooLong
 
--- a status, what is appended to the model files and the report, and the line of the faults
-pub record Outcome : Type 0 where
-  pub status : Status
-  pub text : Written
-  pub faults : List ℕ
-
--- what translating a library with these items and this end comes to: the prelude, then what is written for each item, in
--- order, then the last line
+-- what translating a library with these items and this end comes to: its three files are bound; the prelude, then what is
+-- written for each item, in order, then the last line
 unfoldable pub outcome_at : List LibraryItem → Ending → Outcome
 outcome_at items ending = record {
   status = status_at ending (progress_after no_progress items);
+  binds = 3;
   text = joined (joined (in_verilog prelude_text) (items_written no_progress items)) (in_report (last_line ending (progress_after no_progress items)));
   faults = fault_line ending;
 }
@@ -72,17 +68,6 @@ outcome_at items ending = record {
 -- what translating a library with these bytes comes to
 abbrev pub translate_outcome : List ℕ → Outcome
 translate_outcome bytes = outcome_at (items_within library_limit bytes) (ending_of library_limit bytes)
-
--- a part of what an outcome appends
-pub record IsPartOf (text : Written) (faults : List ℕ) (outcome : Outcome) : Type 0 where
-  pub text_part : IsPart text outcome.text
-  pub faults_part : IsPrefix faults outcome.faults
-
--- all of it, with its status
-pub record IsAllOf (status : Status) (text : Written) (faults : List ℕ) (outcome : Outcome) : Type 0 where
-  pub same_status : status ≡ outcome.status
-  pub same_text : text ≡ outcome.text
-  pub same_faults : faults ≡ outcome.faults
 
 -- the items of a library were handled, and it ended so
 pub record IsHandled (limit : ℕ) (bytes : List ℕ) (before after : Progress) (text : Written) (ending : Ending) : Type 0 where

@@ -14,7 +14,7 @@ use Rattle.translate_cmd.specs.declared.items.Ending.{Ending}
 use Rattle.translate_cmd.specs.declared.items.Ending.TheVariants as ending
 use Rattle.translate_cmd.specs.declared.items.Step.{Step}
 use Rattle.translate_cmd.specs.declared.items.Step.TheVariants as step
-use Rattle.translate_cmd.specs.Written.{wrote_all}
+use Rattle.command_outcomes.specs.Written.{wrote_all}
 use Rattle.translate_cmd.specs.Cells.{progress_after, items_written}
 
 -- the end that a cursor's answer tells

@@ -6,7 +6,8 @@ ghost use Rattle.text_io.specs.Desk.{is_bound, HasCause, WritesText};
 ghost use Rattle.cell_parts.specs.Groups.{cell_name};
 ghost use Rattle.cell_machine.specs.CellData.{data_of};
 ghost use Rattle.cell_cursor.specs.declared.item.LibraryItem.TheVariants as item;
-ghost use Rattle.translate_cmd.specs.Written.{Writes, StopsWithCause, in_verilog};
+ghost use Rattle.command_outcomes.specs.Written.{Writes, in_verilog};
+ghost use Rattle.translate_cmd.specs.Stops.{StopsWithCause};
 ghost use Rattle.translate_cmd.specs.Cells.{next_refusal, model_text, accepted_lines, accepted_written, written_by, item_written, after_item};
 
 use crate::progress::Progress;

@@ -3,15 +3,15 @@
 ghost use Rattle.std.specs.Prelude.{◌≡◌, ◌≤◌, ◌↔◌, IsTrue, MatchResult};
 ghost use Rattle.text_io.specs.Desk.{HasCause, Rose};
 ghost use Rattle.text_io.specs.Sure.{sure_state};
-ghost use Rattle.translate_cmd.specs.Status.{is_decided};
+ghost use Rattle.command_outcomes.specs.Status.{is_decided, is_unfailed};
 ghost use Rattle.translate_cmd.specs.declared.asked.Command.TheVariants as command;
 ghost use Rattle.translate_cmd.specs.Reading.{reading};
 ghost use Rattle.translate_cmd.specs.Runs.{Runs};
 ghost use Rattle.translate_cmd.specs.Complete.{Completes};
 
 use crate::asked::{Command, Memory, asked};
-use crate::status::Status;
 use crate::translate::translate;
+use command_outcomes::Status;
 use std::alloc::Global;
 use text_io::{Desk, Failed, OutSlot, SureDesk, write_whole};
 use verilog_writer::write_udp;
@@ -24,7 +24,8 @@ const USAGE: &[u8] = b"lib2sim: usage\n";
 ///
 /// It ends with the status of the outcome of the words and the desk's files, and all that the outcome appends was appended,
 /// or with one of two others: `Outside`, only where a call on the desk failed in this call, and `Memory`, where there was
-/// none. After these two what was appended is the first part of what the outcome appends to each output.
+/// none. After these two what was appended is the first part of what the outcome appends to each output. With every status
+/// but `Outside` no call failed: the count of faults is as it was.
 ///
 /// However `translate` ends, these two among the ways, all is there that is written for the cells whose closing braces lie
 /// more than 65,536 bytes before the end of the bytes that it read: the whole models of the accepted ones, and their lines.
@@ -39,6 +40,7 @@ pub fn run<D: Desk>(alloc: Global, desk: &mut D) -> Status
     ensures usage { IsTrue (is_decided result) → (result ≡ Status.Usage ↔ reading (D.state desk.old).words ≡ command.Usage) }
     ensures outside { result ≡ Status.Outside → Rose (D.faults desk.old) (D.faults desk.new) }
     ensures later { D.faults desk.old ≤ D.faults desk.new }
+    ensures kept { IsTrue (is_unfailed result) → D.faults desk.new ≡ D.faults desk.old }
     ensures complete { (Rose (D.faults desk.old) (D.faults desk.new) → ⊥) → Completes (D.state desk.old) (D.state desk.new) result }
 {
     carry_out(alloc, desk)
@@ -50,6 +52,7 @@ fn carry_out<D: Desk>(alloc: Global, desk: &mut D) -> Status
     ensures usage { IsTrue (is_decided result) → (result ≡ Status.Usage ↔ reading (D.state desk.old).words ≡ command.Usage) }
     ensures outside { result ≡ Status.Outside → Rose (D.faults desk.old) (D.faults desk.new) }
     ensures later { D.faults desk.old ≤ D.faults desk.new }
+    ensures kept { IsTrue (is_unfailed result) → D.faults desk.new ≡ D.faults desk.old }
 {
     match asked(alloc, desk) {
         Ok(Command::Udp(udp)) => ended(write_udp(desk, OutSlot::Report, &udp), Status::Done),

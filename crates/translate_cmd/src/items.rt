@@ -5,7 +5,8 @@ ghost use Rattle.text_io.specs.declared.slots.InSlot.TheVariants.{Library};
 ghost use Rattle.text_io.specs.declared.slots.OutSlot.TheVariants.{VerilogText};
 ghost use Rattle.text_io.specs.Desk.{is_bound, Rose};
 ghost use Rattle.cell_cursor.specs.Stands.{is_going, is_failed};
-ghost use Rattle.translate_cmd.specs.Written.{Writes, StopsWithCause};
+ghost use Rattle.command_outcomes.specs.Written.{Writes};
+ghost use Rattle.translate_cmd.specs.Stops.{StopsWithCause};
 ghost use Rattle.translate_cmd.specs.Cells.{item_written, after_item};
 ghost use Rattle.translate_cmd.specs.Library.{Handles};
 ghost use Rattle.translate_cmd.specs.Reached.{Steps};
@@ -70,7 +71,9 @@ fn next_step<D: Desk>(cursor: &mut CellCursor, desk: &mut D) -> Result<Step, Sto
     ensures kept { is_going cursor.old.answer ≡ false → cursor.new.answer ≡ cursor.old.answer }
     ensures later { D.faults desk.old ≤ D.faults desk.new }
     ensures failed { IfErr result (λ stop. stop ≡ Stop.Failed → (is_failed cursor.old.answer ≡ true) ⊎ Rose (D.faults desk.old) (D.faults desk.new)) }
-    ensures failing { is_failed cursor.new.answer ≡ true → (is_failed cursor.old.answer ≡ true) ⊎ Rose (D.faults desk.old) (D.faults desk.new) }
+    ensures unfailed { OnOk result (is_failed cursor.old.answer ≡ false → is_failed cursor.new.answer ≡ false) }
+    ensures clean { OnOk result (is_failed cursor.old.answer ≡ false → D.faults desk.new ≡ D.faults desk.old) }
+    ensures memory { IfErr result (λ stop. stop ≡ Stop.Memory → is_failed cursor.old.answer ≡ false → D.faults desk.new ≡ D.faults desk.old) }
 {
     match cursor.next_cell(desk) {
         Ok(Next::Cell(group)) => Ok(Step::Item(LibraryItem::Cell(group))),

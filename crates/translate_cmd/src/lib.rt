@@ -14,7 +14,6 @@ mod items;
 #[cfg(test)]
 mod library_desk;
 mod progress;
-mod status;
 mod stop;
 #[cfg(test)]
 mod tests;
@@ -25,4 +24,4 @@ mod translate;
 mod translation_tests;
 
 pub use command::{run, run_sure};
-pub use status::Status;
+pub use command_outcomes::Status;

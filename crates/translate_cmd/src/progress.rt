@@ -4,8 +4,8 @@ ghost use Rattle.translate_cmd.specs.declared.items.Ending.TheVariants as ending
 ghost use Rattle.translate_cmd.specs.Library.{status_at};
 ghost use Rattle.translate_cmd.specs.Cells.{unit_of, no_progress, next_number, after_cell};
 
-use crate::status::Status;
 use bool_functions::{Memory, Names};
+use command_outcomes::Status;
 use liberty_text::Unit;
 use std::alloc::Global;
 

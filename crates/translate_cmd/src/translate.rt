@@ -7,16 +7,17 @@ ghost use Rattle.text_io.specs.Desk.{is_bound, HasCause, Rose};
 ghost use Rattle.text_io.specs.Plan.{plan};
 ghost use Rattle.translate_cmd.specs.declared.asked.Command.TheVariants as command;
 ghost use Rattle.translate_cmd.specs.Reading.{reading};
-ghost use Rattle.translate_cmd.specs.Status.{is_decided};
-ghost use Rattle.translate_cmd.specs.Written.{StopsWithCause};
-ghost use Rattle.translate_cmd.specs.Binding.{Binds};
+ghost use Rattle.command_outcomes.specs.Status.{is_decided, is_unfailed};
+ghost use Rattle.translate_cmd.specs.Stops.{StopsWithCause};
+ghost use Rattle.command_outcomes.specs.Binding.{Binds};
+ghost use Rattle.translate_cmd.specs.Outcome.{translate_files};
 ghost use Rattle.translate_cmd.specs.Library.{Finishes, Translates};
 ghost use Rattle.translate_cmd.specs.Runs.{Runs};
 
 use crate::items::{Ending, handle_items};
 use crate::progress::Progress;
-use crate::status::Status;
 use crate::stop::Stop;
+use command_outcomes::Status;
 use library_report::{write_library_fault, write_library_too_long, write_totals};
 use std::alloc::Global;
 use text_io::{Desk, Failed, InSlot, OutSlot};
@@ -32,6 +33,7 @@ pub(crate) fn translate<D: Desk>(alloc: Global, desk: &mut D) -> Status
     ensures usage { result ≡ Status.Usage → ⊥ }
     ensures outside { result ≡ Status.Outside → Rose (D.faults desk.old) (D.faults desk.new) }
     ensures later { D.faults desk.old ≤ D.faults desk.new }
+    ensures kept { IsTrue (is_unfailed result) → D.faults desk.new ≡ D.faults desk.old }
 {
     match bind_files(desk) {
         Ok(()) => match translate_bound(alloc, desk) {
@@ -47,7 +49,7 @@ pub(crate) fn translate<D: Desk>(alloc: Global, desk: &mut D) -> Status
 #[tactic(auto, unfolding(text_io::specs::Desk::opened, text_io::specs::Desk::created))]
 fn bind_files<D: Desk>(desk: &mut D) -> Result<(), Failed>
     requires { plan (D.state desk.old).words ≡ (Input Library, 1) ∷ (Output VerilogText, 2) ∷ (Output VitalText, 3) ∷ [] }
-    ensures binds { Binds (D.state desk.old) (D.state desk.new) result }
+    ensures binds { Binds translate_files (D.state desk.old) (D.state desk.new) result }
     ensures cause { HasCause (D.faults desk.old) (D.faults desk.new) result }
 {
     desk.bind_in(InSlot::Library, 1)?;

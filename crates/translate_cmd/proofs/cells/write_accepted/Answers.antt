@@ -1,5 +1,5 @@
 use Rattle.translate_cmd.specs.Cells.{accepted_written}
-use Rattle.translate_cmd.proofs.WrittenLaws.{all_stops, all_goes_on, report_stops, report_whole, wrote_on}
+use Rattle.command_outcomes.proofs.WrittenLaws.{all_stops, all_goes_on, report_stops, report_whole, wrote_on}
 use Rattle.translate_cmd.proofs.cells.write_accepted.Goals as goal
 
 pub returns-in_err-write_verilog-clause-text : goal.returns-in_err-write_verilog-clause-text

@@ -1,7 +1,7 @@
 use Rattle.std.proofs.Common.{refl, sym, ap, Bool, Err}
 use Rattle.std.specs.Prelude.{is_none}
 use Rattle.translate_cmd.specs.declared.stop.Stop.TheVariants.{Memory}
-use Rattle.translate_cmd.proofs.WrittenLaws.{stopped_before, all_ended, report_stops, report_whole}
+use Rattle.command_outcomes.proofs.WrittenLaws.{stopped_before, all_ended, report_stops, report_whole}
 use Rattle.translate_cmd.proofs.CellLemmas.{accepted_as, accepted_written_as, refused_as, refused_written_as}
 use Rattle.translate_cmd.proofs.cells.write_cell.Goals as goal
 

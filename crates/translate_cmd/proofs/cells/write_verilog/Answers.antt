@@ -1,5 +1,5 @@
 use Rattle.translate_cmd.specs.Cells.{model_text}
-use Rattle.translate_cmd.proofs.WrittenLaws.{stopped_before, verilog_stops, verilog_whole}
+use Rattle.command_outcomes.proofs.WrittenLaws.{stopped_before, verilog_stops, verilog_whole}
 use Rattle.translate_cmd.proofs.cells.write_verilog.Goals as goal
 
 pub returns-in_err-model-clause-text : goal.returns-in_err-model-clause-text

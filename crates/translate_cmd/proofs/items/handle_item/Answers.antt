@@ -1,5 +1,5 @@
 use Rattle.std.proofs.Common.{sym}
-use Rattle.translate_cmd.proofs.WrittenLaws.{wrote_all-nothing, report_stops, report_whole}
+use Rattle.command_outcomes.proofs.WrittenLaws.{wrote_all-nothing, report_stops, report_whole}
 use Rattle.translate_cmd.proofs.items.handle_item.Goals as goal
 
 pub returns-in_err-write_left_out_file-in-LeftOut-clause-text : goal.returns-in_err-write_left_out_file-in-LeftOut-clause-text

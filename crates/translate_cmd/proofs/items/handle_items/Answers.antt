@@ -1,10 +1,11 @@
-use Rattle.std.proofs.Common.{refl, arith}
+use Rattle.std.proofs.Common.{refl, ap, ◌∙◌, arith}
 use Rattle.text_io.specs.declared.slots.InSlot.TheVariants.{Library}
 use Rattle.text_io.specs.declared.slots.OutSlot.TheVariants.{VerilogText}
 use Rattle.text_io.specs.declared.slots.Slot.TheVariants.{Input, Output}
 use Rattle.text_io.proofs.Took.{bound_still}
-use Rattle.translate_cmd.proofs.WrittenLaws.{still_bound_all}
-use Rattle.translate_cmd.proofs.ItemsLemmas.{room_kept, ends_on, failed_by, failed_later, never_failed, reached_start, reached_next, stops_first, stops_seeking, stops_between, stops_within, ends_so}
+use Rattle.command_outcomes.proofs.WrittenLaws.{still_bound_all}
+use Rattle.cell_cursor.specs.Stands.{is_failed}
+use Rattle.translate_cmd.proofs.ItemsLemmas.{room_kept, ends_on, failed_now, reached_start, reached_next, stops_first, stops_seeking, stops_between, stops_within, ends_so}
 use Rattle.translate_cmd.proofs.items.handle_items.Goals as goal
 
 pub returns-in_err-cursor-clause-text : goal.returns-in_err-cursor-clause-text
@@ -16,8 +17,8 @@ loop-turn-init g c = record {
   library = c.requires.library;
   verilog = c.requires.verilog;
   room = omega arith;
-  later = omega arith;
-  failing = never_failed c.in_ok-cursor.cursor.answer c.in_ok-cursor.ensures.going;
+  kept = refl;
+  unfailed = ap is_failed c.in_ok-cursor.ensures.going;
 }
 
 pub returns-in-Err-clause-text : goal.returns-in-Err-clause-text
@@ -26,8 +27,10 @@ returns-in-Err-clause-text g c =
 
 pub returns-in-Err-clause-cause : goal.returns-in-Err-clause-cause
 returns-in-Err-clause-cause g c = record {
-  later = omega (arith, c.in-Err.ensures.later, c.loop-turn.invariant.later);
-  failed = λ e. failed_by _ _ _ _ c.loop-turn.invariant.later c.in-Err.ensures.later c.loop-turn.invariant.failing (c.in-Err.ensures.failed e);
+  later = omega (arith, c.in-Err.ensures.later, c.loop-turn.invariant.kept);
+  kept = tt;
+  memory = λ e. c.in-Err.ensures.memory e c.loop-turn.invariant.unfailed ∙ c.loop-turn.invariant.kept;
+  failed = λ e. failed_now _ _ _ _ c.loop-turn.invariant.kept c.loop-turn.invariant.unfailed (c.in-Err.ensures.failed e);
 }
 
 pub handle_item-requires-clause-bound : goal.handle_item-requires-clause-bound
@@ -55,8 +58,8 @@ loop-turn-preserved g c =
       library = still_bound_all _ _ _ (Input Library) text (bound_still _ _ _ _ (Input Library) moves.takes.state c.loop-turn.invariant.library);
       verilog = still_bound_all _ _ _ (Output VerilogText) text (bound_still _ _ _ _ (Output VerilogText) moves.takes.state c.loop-turn.invariant.verilog);
       room = room_kept c.loop-turn.progress c.handle_item.new.progress c.in-Ok-Item.item c.loop-turn._turn c.in_ok-handle_item-in-Ok-Item.ensures.progress c.loop-turn.invariant.room;
-      later = omega (arith, c.in-Ok-Item.ensures.later, c.in_ok-handle_item-in-Ok-Item.ensures.cause.later);
-      failing = λ f. failed_later _ _ _ (failed_by _ _ _ _ c.loop-turn.invariant.later c.in-Ok-Item.ensures.later c.loop-turn.invariant.failing (c.in-Ok-Item.ensures.failing f)) c.in_ok-handle_item-in-Ok-Item.ensures.cause.later;
+      kept = c.in_ok-handle_item-in-Ok-Item.ensures.cause.kept ∙ c.in-Ok-Item.ensures.clean c.loop-turn.invariant.unfailed ∙ c.loop-turn.invariant.kept;
+      unfailed = c.in-Ok-Item.ensures.unfailed c.loop-turn.invariant.unfailed;
     }
 
 pub returns-clause-text : goal.returns-clause-text

@@ -1,8 +1,8 @@
-use Rattle.std.proofs.Common.{◌≡◌, ◌+◌, ◌≤◌, true, IsTrue}
+use Rattle.std.proofs.Common.{◌≡◌, ◌+◌, ◌≤◌, false, IsTrue}
 use Rattle.text_io.specs.declared.slots.InSlot.TheVariants.{Library}
 use Rattle.text_io.specs.declared.slots.OutSlot.TheVariants.{VerilogText}
 use Rattle.text_io.specs.declared.slots.Slot.TheVariants.{Input, Output}
-use Rattle.text_io.specs.Desk.{is_bound, Rose}
+use Rattle.text_io.specs.Desk.{is_bound}
 use Rattle.cell_cursor.specs.Stands.{is_failed}
 use Rattle.translate_cmd.specs.Reached.{Reached}
 use Rattle.translate_cmd.proofs.items.handle_items.Given as goal
@@ -13,6 +13,6 @@ invariant-loop-turn g l = record {
   library : IsTrue (is_bound (g.D.Desk.state l.desk) (Input Library));
   verilog : IsTrue (is_bound (g.D.Desk.state l.desk) (Output VerilogText));
   room : l.progress.accepted + l.progress.refused ≤ l._turn;
-  later : g.D.Desk.faults l.fn.desk ≤ g.D.Desk.faults l.desk;
-  failing : is_failed l.cursor.answer ≡ true → Rose (g.D.Desk.faults l.fn.desk) (g.D.Desk.faults l.desk);
+  kept : g.D.Desk.faults l.desk ≡ g.D.Desk.faults l.fn.desk;
+  unfailed : is_failed l.cursor.answer ≡ false;
 }

@@ -1,4 +1,5 @@
 pub mod AdvanceLemmas
+pub mod StatementOffsets
 pub mod Ascending
 pub mod Closed
 pub mod Comings

@@ -1,0 +1,2 @@
+pub mod AcceptedCells
+pub mod ModuleTexts

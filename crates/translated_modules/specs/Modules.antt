@@ -1,0 +1,39 @@
+-- The cells of a library that translating it accepts, and their modules. This project's rules.
+use Rattle.std.specs.Prelude.{ℕ, List, [], ◌∷◌, ◌++◌, map, Option, Some, None}
+use Rattle.liberty_groups.specs.declared.tree.Group.{Group}
+use Rattle.cell_machine.specs.CellData.{CellData}
+use Rattle.cell_reader.specs.declared.refusal.Refusal.{Refusal}
+use Rattle.cell_cursor.specs.declared.item.LibraryItem.{LibraryItem}
+use Rattle.cell_cursor.specs.declared.item.LibraryItem.TheVariants as item
+use Rattle.cell_cursor.specs.Ends.{items_within}
+use Rattle.specify_blocks.specs.declared.model.VModule.{VModule}
+use Rattle.specify_blocks.specs.Generated.{module_of}
+use Rattle.translate_cmd.specs.Cells.{no_progress, next_refusal, next_data, after_item}
+use Rattle.translate_cmd.specs.Library.{library_limit}
+
+-- how far the items of a library are handled: what `no_progress` is, before the first of them
+abbrev TypeOf : {A : Type 0} → A → Type 0
+TypeOf {A} a = A
+
+abbrev pub Progress : Type 0
+Progress = TypeOf no_progress
+
+-- the next cell, where nothing refuses it
+abbrev pub cells_by : Progress → Group → Option Refusal → List CellData
+cells_by p group None = next_data p group ∷ []
+cells_by p group (Some refusal) = []
+
+-- the cell that an item is, where it is one and is accepted
+abbrev pub item_cells : Progress → LibraryItem → List CellData
+item_cells p (item.Cell group) = cells_by p group (next_refusal p group)
+item_cells p (item.Unit line) = []
+item_cells p (item.LeftOut at) = []
+
+-- the accepted cells among these items, in order
+abbrev pub accepted_cells : Progress → List LibraryItem → List CellData
+accepted_cells p [] = []
+accepted_cells p (one ∷ items) = item_cells p one ++ accepted_cells (after_item p one) items
+
+-- the modules of the accepted cells of a library
+abbrev pub modules_of : List ℕ → List VModule
+modules_of bytes = map module_of (accepted_cells no_progress (items_within library_limit bytes))

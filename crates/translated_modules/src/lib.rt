@@ -1,0 +1,6 @@
+//! The Verilog that `translate` writes for a library is the text of a list of modules that a Verilog text can tell.
+#![tactic(auto)]
+
+mod laws;
+
+pub use laws::{libraries_are_well_formed, verilog_is_of_modules};

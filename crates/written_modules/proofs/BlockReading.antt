@@ -1,0 +1,68 @@
+-- The specify block of a written module is read from its tokens.
+use Rattle.std.proofs.Common.{◌≡◌, ℕ, Bool, true, false, ◌||◌, nat_lt, List, [], ◌∷◌, length, None, refl, sym, ap, ◌∙◌, arith, codes}
+use Rattle.std.specs.List.{AllByRecursion}
+use Rattle.std.proofs.lemmas.Bool.Decides.{nat_tests}
+use Rattle.grammar_rules.specs.Rule.{Stops}
+use Rattle.cell_machine.specs.declared.checks.CheckKind.{CheckKind}
+use Rattle.cell_machine.specs.declared.checks.CheckKind.TheVariants as check_kind
+use Rattle.specify_blocks.specs.declared.model.VPath.{VPath}
+use Rattle.specify_blocks.specs.declared.model.VCheck.{VCheck}
+use Rattle.specify_blocks.specs.declared.model.VModule.{VModule}
+use Rattle.specify_blocks.specs.Sound.{IsPath, IsCheck}
+use Rattle.specify_blocks.specs.WellFormed.{HasNumbers}
+use Rattle.specify_blocks.specs.VerilogBlocks.{is_path_start, paths, checks, block, specify}
+use Rattle.rule_readers.specs.Words.{begins_by}
+use Rattle.verilog_writer.specs.Timing.{has_block}
+use Rattle.written_modules.proofs.Spelling.{each}
+use Rattle.written_modules.proofs.TimingTokens.{check_word, path_tokens, check_tokens, block_by}
+use Rattle.written_modules.proofs.Derivations.{Reads, to_same, gives, in_turn, chosen, passed, through}
+use Rattle.written_modules.proofs.NameReading.{expected}
+use Rattle.written_modules.proofs.InstanceReading.{IsWritten}
+use Rattle.written_modules.proofs.PathReading.{joined, path_turn}
+use Rattle.written_modules.proofs.CheckReading.{HasNumber, check_turn}
+
+-- the paths and checks of a module, and their numbers
+pub record AreTimed (m : VModule) : Type 0 where
+  pub paths : AllByRecursion (IsPath m) m.paths
+  pub checks : AllByRecursion (IsCheck m) m.checks
+  pub delays : AllByRecursion HasNumbers m.paths
+  pub limits : AllByRecursion HasNumber m.checks
+
+no_path : (kind : CheckKind) → begins_by is_path_start (check_word kind) ≡ None
+no_path check_kind.Setup = refl
+no_path check_kind.Hold = refl
+no_path check_kind.Recovery = refl
+no_path check_kind.Removal = refl
+no_path check_kind.Width = refl
+no_path check_kind.Period = refl
+
+paths_end : (m : VModule) (all : List VCheck) (s : List (List ℕ)) → Stops (begins_by is_path_start) (each (check_tokens m) all (codes "endspecify" ∷ s))
+paths_end m [] s = refl
+paths_end m (k ∷ all) s = no_path k.kind
+
+empty_if : {A : Type 0} (xs : List A) → nat_lt 0 (length xs) ≡ false → xs ≡ []
+empty_if [] h = refl
+empty_if (x ∷ xs) h = absurd (grind (arith, nat_tests))
+
+both_no : (a b : Bool) → (a || b) ≡ false → (a ≡ false) × (b ≡ false)
+both_no true b e = absurd cc
+both_no false b e = (refl, e)
+
+-- a module without a block is the same before and after it
+without_block : (m : VModule) → has_block m ≡ false → joined m ≡ m
+without_block m h =
+    let parts = both_no (nat_lt 0 (length m.paths)) (nat_lt 0 (length m.checks)) h in
+    ap (λ (p : List VPath). record { name = m.name; ports = m.ports; wires = m.wires; notifier = m.notifier; udps = m.udps; instances = m.instances; paths = p; checks = [] }) (sym (empty_if m.paths parts.0))
+    ∙ ap (λ (c : List VCheck). record { name = m.name; ports = m.ports; wires = m.wires; notifier = m.notifier; udps = m.udps; instances = m.instances; paths = m.paths; checks = c }) (sym (empty_if m.checks parts.1))
+
+block_read : (m : VModule) → IsWritten m → AreTimed m → (b : Bool) → has_block m ≡ b → (s : List (List ℕ)) → Reads (specify (joined m)) (block_by b m (codes "endmodule" ∷ s)) m (codes "endmodule" ∷ s)
+unfolding specify block paths checks
+block_read m w t true e s =
+    chosen refl
+    (in_turn (through (λ (l : List VPath). l) (path_tokens m) [] m.paths (path_turn m w m.paths t.paths t.delays) (each (check_tokens m) m.checks (codes "endspecify" ∷ codes "endmodule" ∷ s)) (paths_end m m.checks (codes "endmodule" ∷ s)))
+    (in_turn (through (λ (l : List VCheck). l) (check_tokens m) [] m.checks (check_turn m w m.checks t.checks t.limits) (codes "endspecify" ∷ codes "endmodule" ∷ s) refl)
+    (in_turn expected gives)))
+block_read m w t false e s = to_same (without_block m e) (passed refl gives)
+
+pub specify_read : (m : VModule) → IsWritten m → AreTimed m → (s : List (List ℕ)) → Reads (specify (joined m)) (block_by (has_block m) m (codes "endmodule" ∷ s)) m (codes "endmodule" ∷ s)
+specify_read m w t s = block_read m w t (has_block m) refl s

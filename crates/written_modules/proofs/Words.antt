@@ -1,0 +1,229 @@
+-- Names and numbers are tokens where a blank or a mark follows.
+use Rattle.std.proofs.Common.{◌≡◌, ℕ, suc, ◌+◌, ◌-◌, ◌*◌, ◌^◌, ◌<◌, ◌≤◌, Bool, true, false, not, ◌&&◌, ◌||◌, ◌==◌, nat_eq, nat_le, if◌then◌else◌, List, [], ◌∷◌, ◌++◌, length, inl, inr, Some, refl, sym, ap, ◌∙◌, arith, subst, codes, decimal}
+use Rattle.std.proofs.lemmas.Bool.{and_parts, and_from, eqb-true, cases_Bool}
+use Rattle.std.proofs.lemmas.Bool.Decides.{nat_tests}
+use Rattle.std.proofs.lemmas.Slice.Eq.{bytes_eq-Decides}
+use Rattle.std.proofs.lemmas.Fmt.{decimal_is_IsNumeral, length-decimal-le}
+use Rattle.std.proofs.lemmas.Str.Parse.{digit_from_value}
+use Rattle.std.specs.Char.{is_ascii_alphabetic, is_ascii_digit, digit_value}
+use Rattle.std.specs.Str.{bytes_eq}
+use Rattle.std.specs.Str.Parse.{AllDigits, digits_value_after}
+use Rattle.std.specs.List.{list_all, list_any, prefix_len}
+use Rattle.verilog_tokens.specs.Kept.{is_name_byte}
+use Rattle.verilog_tokens.specs.Words.{is_verilog_word, verilog_words}
+use Rattle.verilog_tokens.specs.Numbers.{number_after, number_of}
+use Rattle.verilog_tokens.specs.Tokens.{is_blank, is_mark, is_one_of, begins_with, begins_word, word_length, number_length, sign_length, is_open_after, is_name, separator_length, token_length}
+use Rattle.verilog_tokens.proofs.Padding.{word_before, over_token}
+use Rattle.specify_blocks.specs.WellFormed.{IsName, IsNumber}
+use Rattle.written_modules.proofs.Spelling.{Spells, Ends, found}
+
+-- Bytes of one kind and of another.
+
+unlike : (test : ℕ → Bool) (c b : ℕ) → not (test c) ≡ true → test b ≡ true → nat_eq c b ≡ false
+unlike test c b h e = elim (cases_Bool (nat_eq c b)) [
+  | inl t ↦ (let same : test c ≡ true = subst (λ x. test x ≡ true) (sym (eqb-true c b t)) e in let no : not (test c) ≡ false = ap not same in absurd (cc (h, no)))
+  | inr f ↦ f
+]
+
+-- a byte that passes a test is none of those that do not
+none_of : (test : ℕ → Bool) (cs : List ℕ) (b : ℕ) → list_all (λ c. not (test c)) cs ≡ true → test b ≡ true → list_any (λ c. nat_eq c b) cs ≡ false
+none_of test [] b h e = refl
+none_of test (c ∷ cs) b h e =
+    let p = and_parts (not (test c)) (list_all (λ c. not (test c)) cs) h in
+    rw (unlike test c b p.0 e) (none_of test cs b p.1 e)
+
+-- a byte that is one of those does not pass
+one_of : (test : ℕ → Bool) (cs : List ℕ) (b : ℕ) → list_all (λ c. not (test c)) cs ≡ true → list_any (λ c. nat_eq c b) cs ≡ true → test b ≡ false
+one_of test cs b h e = elim (cases_Bool (test b)) [
+  | inl t ↦ absurd (cc (e, none_of test cs b h t))
+  | inr f ↦ f
+]
+
+-- what passes the test is no blank and no mark
+abbrev NoEnd : (ℕ → Bool) → Type 0
+NoEnd test = (list_all (λ c. not (test c)) (codes " \t\n") ≡ true) × (list_all (λ c. not (test c)) (codes "(),;:") ≡ true)
+
+ends_by : (test : ℕ → Bool) → NoEnd test → (c : ℕ) → (is_blank c || is_mark c) ≡ true → test c ≡ false
+ends_by test h c e = elim (cases_Bool (is_blank c)) [
+  | inl t ↦ one_of test (codes " \t\n") c h.0 t
+  | inr f ↦ one_of test (codes "(),;:") c h.1 (rw f at e)
+]
+
+-- a run of bytes that pass ends where a blank or a mark follows
+run_ends : (test : ℕ → Bool) → NoEnd test → (w r : List ℕ) → list_all test w ≡ true → Ends r → prefix_len test (w ++ r) ≡ length w
+run_ends test n [] [] h e = refl
+run_ends test n [] (c ∷ r) h e = rw (ends_by test n c e) refl
+run_ends test n (c ∷ w) r h e =
+    let p = and_parts (test c) (list_all test w) h in
+    let i : prefix_len test (w ++ r) ≡ length w = run_ends test n w r p.1 e in
+    rw p.0 (omega arith)
+
+no_separator : (b : ℕ) (s : List ℕ) → is_blank b ≡ false → nat_eq 47 b ≡ false → separator_length (b ∷ s) ≡ 0
+no_separator b s e f = rw (e, f) refl
+
+-- Names.
+
+abbrev begins_name : ℕ → Bool
+begins_name b = is_ascii_alphabetic b || b == 95
+
+flipped : (b : ℕ) → (b == 95) ≡ nat_eq 95 b
+flipped b = grind (arith, nat_tests)
+
+starts : (letter low low' others : Bool) → (letter || low') ≡ true → low' ≡ low → (letter || (low || others)) ≡ true
+starts true low low' others h e = refl
+starts false true low' others h e = refl
+starts false false low' others h e = absurd (cc (h, e))
+
+starts_word : (b : ℕ) → begins_name b ≡ true → begins_word b ≡ true
+starts_word b e = starts (is_ascii_alphabetic b) (nat_eq 95 b) (b == 95) (list_any (λ c. nat_eq c b) (36 ∷ 96 ∷ [])) e (flipped b)
+
+word_length_is : (b : ℕ) (w r : List ℕ) → is_mark b ≡ false → begins_word b ≡ true → is_one_of (codes "$`") b ≡ false → prefix_len is_name_byte (w ++ r) ≡ length w
+    → token_length false (b ∷ w ++ r) ≡ suc (length w)
+word_length_is b w r e f g h = rw (e, f, g, h) (omega arith)
+
+-- the table is not opened
+stays_shut : (x : List ℕ) → bytes_eq x (codes "table") ≡ false → is_open_after false x ≡ false
+stays_shut x e = rw e (both (bytes_eq x (codes "endtable")))
+  where
+    both : (t : Bool) → (if t then false else false) ≡ false
+    both true = refl
+    both false = refl
+
+-- a name is no word of Verilog
+pub unlike_word : (x w : List ℕ) → is_verilog_word w ≡ true → IsName x → bytes_eq x w ≡ false
+unlike_word x w e n = elim (cases_Bool (bytes_eq x w)) [
+  | inl t ↦ (let same : not (is_verilog_word x) ≡ false = ap not (subst (λ y. is_verilog_word y ≡ true) (sym ((bytes_eq-Decides x w).0 t)) e) in absurd (cc (n.no_word, same)))
+  | inr f ↦ f
+]
+
+table_word : is_verilog_word (codes "table") ≡ true
+unfolding is_verilog_word verilog_words
+table_word = refl
+
+name_found : (b : ℕ) (w : List ℕ) → IsName (b ∷ w) → (r : List ℕ) → Ends r → found false (b ∷ w ++ r) ≡ word_before (b ∷ w) (found false r)
+name_found b w n r e =
+    let p = and_parts (begins_name b) (list_all is_name_byte w) n.identifier in
+    over_token false 0 0 b w r
+    (no_separator b (w ++ r) (none_of begins_name (codes " \t\n") b refl p.0) (unlike begins_name 47 b refl p.0))
+    (word_length_is b w r (none_of begins_name (codes "(),;:") b refl p.0) (starts_word b p.0) (none_of begins_name (codes "$`") b refl p.0)
+    (run_ends is_name_byte (refl, refl) w r p.1 e))
+    ∙ ap (λ (t : Bool). word_before (b ∷ w) (found t r)) (stays_shut (b ∷ w) (unlike_word (b ∷ w) (codes "table") table_word n))
+
+-- a name is one token
+pub name : (x : List ℕ) → IsName x → Spells Ends false x (λ s. x ∷ s) false
+name [] n = absurd (cc n.identifier)
+name (b ∷ w) n = record { is = name_found b w n }
+
+-- a name is a name
+pub name_is : (x : List ℕ) → IsName x → is_name x ≡ true
+name_is [] n = absurd (cc n.identifier)
+name_is (b ∷ w) n = and_from (begins_name b) (not (is_verilog_word (b ∷ w))) (and_parts (begins_name b) (list_all is_name_byte w) n.identifier).0 n.no_word
+
+-- Numbers.
+
+and_no : (a b : Bool) → b ≡ false → (a && b) ≡ false
+and_no true b e = e
+and_no false b e = refl
+
+-- neither a digit nor a blank nor a mark stands behind digits
+no_more : (l : ℕ) (ls ds r : List ℕ) → NoEnd (λ c. nat_eq l c) → is_ascii_digit l ≡ false → list_all is_ascii_digit ds ≡ true → Ends r → begins_with (ds ++ r) (l ∷ ls) ≡ false
+no_more l ls [] [] n d h e = refl
+no_more l ls [] (c ∷ r) n d h e = rw (ends_by (λ x. nat_eq l x) n c e) refl
+no_more l ls (c ∷ ds) r n d h e =
+    let p = and_parts (is_ascii_digit c) (list_all is_ascii_digit ds) h in
+    let no : not (is_ascii_digit l) ≡ true = ap not d in
+    rw (unlike is_ascii_digit l c no p.0) refl
+
+-- digits, at most 15
+record AreFew (x : List ℕ) : Type 0 where
+  digits : list_all is_ascii_digit x ≡ true
+  few : length x ≤ 15
+
+number_length_is : (unit low high fits : Bool) (run n : ℕ) → unit ≡ false → low ≡ false → high ≡ false → fits ≡ true → run ≡ n →
+    (if unit then 3 else (if low || high then 4 else (if fits then run else 0))) ≡ n
+number_length_is unit low high fits run n a b c d e = rw (a, b, c, d) e
+
+digit_by : (mark letter digit : Bool) (word number sign n : ℕ) → mark ≡ false → letter ≡ false → digit ≡ true → number ≡ n →
+    (if mark then 1 else (if letter then word else (if digit then number else sign))) ≡ n
+digit_by mark letter digit word number sign n e f g h = rw (e, f, g) h
+
+digit_length_is : (b : ℕ) (bs : List ℕ) (n : ℕ) → is_mark b ≡ false → begins_word b ≡ false → is_ascii_digit b ≡ true → number_length (b ∷ bs) ≡ n → token_length false (b ∷ bs) ≡ n
+digit_length_is b bs n e f g h = digit_by (is_mark b) (begins_word b) (is_ascii_digit b) (word_length (b ∷ bs)) (number_length (b ∷ bs)) (sign_length (b ∷ bs)) n e f g h
+
+no_word_start : (b : ℕ) → is_ascii_digit b ≡ true → begins_word b ≡ false
+no_word_start b e =
+    let letter : is_ascii_alphabetic b ≡ false = grind (arith, nat_tests) in
+    rw (letter, none_of is_ascii_digit (codes "_$`") b refl e) refl
+
+short : (n : ℕ) → n ≤ 15 → nat_le n 15 ≡ true
+short n h = grind (arith, nat_tests)
+
+number_token : (b : ℕ) (w r : List ℕ) → AreFew (b ∷ w) → Ends r → token_length false (b ∷ w ++ r) ≡ suc (length w)
+number_token b w r f e =
+    let p = and_parts (is_ascii_digit b) (list_all is_ascii_digit w) f.digits in
+    let run : prefix_len is_ascii_digit (b ∷ w ++ r) ≡ suc (length w) = run_ends is_ascii_digit (refl, refl) (b ∷ w) r f.digits e in
+    let fits : nat_le (prefix_len is_ascii_digit (b ∷ w ++ r)) 15 ≡ true = short (prefix_len is_ascii_digit (b ∷ w ++ r)) (subst (λ n. n ≤ 15) (sym run) f.few) in
+    digit_length_is b (w ++ r) (suc (length w)) (none_of is_ascii_digit (codes "(),;:") b refl p.0) (no_word_start b p.0) p.0
+    (number_length_is (begins_with (b ∷ w ++ r) (codes "1ps")) (begins_with (b ∷ w ++ r) (codes "1'b0")) (begins_with (b ∷ w ++ r) (codes "1'b1"))
+    (nat_le (prefix_len is_ascii_digit (b ∷ w ++ r)) 15) (prefix_len is_ascii_digit (b ∷ w ++ r)) (suc (length w))
+    (and_no (nat_eq 49 b) (begins_with (w ++ r) (codes "ps")) (no_more 112 (codes "s") w r (refl, refl) refl p.1 e))
+    (and_no (nat_eq 49 b) (begins_with (w ++ r) (codes "'b0")) (no_more 39 (codes "b0") w r (refl, refl) refl p.1 e))
+    (and_no (nat_eq 49 b) (begins_with (w ++ r) (codes "'b1")) (no_more 39 (codes "b1") w r (refl, refl) refl p.1 e))
+    fits run)
+
+no_table : (x : List ℕ) → list_all is_ascii_digit x ≡ true → bytes_eq x (codes "table") ≡ false
+no_table x h = elim (cases_Bool (bytes_eq x (codes "table"))) [
+  | inl t ↦ absurd (cc (h, ap (list_all is_ascii_digit) ((bytes_eq-Decides x (codes "table")).0 t)))
+  | inr f ↦ f
+]
+
+digits_found : (b : ℕ) (w : List ℕ) → AreFew (b ∷ w) → (r : List ℕ) → Ends r → found false (b ∷ w ++ r) ≡ word_before (b ∷ w) (found false r)
+digits_found b w f r e =
+    let p = and_parts (is_ascii_digit b) (list_all is_ascii_digit w) f.digits in
+    over_token false 0 0 b w r
+    (no_separator b (w ++ r) (none_of is_ascii_digit (codes " \t\n") b refl p.0) (unlike is_ascii_digit 47 b refl p.0))
+    (number_token b w r f e)
+    ∙ ap (λ (t : Bool). word_before (b ∷ w) (found t r)) (stays_shut (b ∷ w) (no_table (b ∷ w) f.digits))
+
+few_digits : (x : List ℕ) → AreFew x → 0 < length x → Spells Ends false x (λ s. x ∷ s) false
+few_digits [] f some = absurd (omega arith)
+few_digits (b ∷ w) f some = record { is = digits_found b w f }
+
+all_digits : (x : List ℕ) → AllDigits 10 x → list_all is_ascii_digit x ≡ true
+all_digits [] h = refl
+all_digits (c ∷ x) h =
+    let range = digit_from_value c h.0 in
+    let digit : is_ascii_digit c ≡ true = grind (arith, nat_tests, range) in
+    and_from (is_ascii_digit c) (list_all is_ascii_digit x) digit (all_digits x h.1)
+
+same_value : (n : ℕ) (x : List ℕ) → AllDigits 10 x → number_after n x ≡ digits_value_after 10 n x
+same_value n [] h = refl
+same_value n (c ∷ x) h =
+    let range = digit_from_value c h.0 in
+    let value : c - 48 ≡ digit_value c = grind (arith, nat_tests, range) in
+    ap (λ k. number_after (n * 10 + k) x) value ∙ same_value (n * 10 + digit_value c) x h.1
+
+below_word : (n : ℕ) → IsNumber n → n < 2 ^ 64
+below_word n h = omega (arith, h)
+
+few : (n : ℕ) → IsNumber n → AreFew (decimal n)
+few n h = record {
+  digits = all_digits (decimal n) (decimal_is_IsNumeral n (below_word n h)).0.1;
+  few = length-decimal-le 15 n (omega arith) h (below_word n h);
+}
+
+-- a number is one token
+pub number : (n : ℕ) → IsNumber n → Spells Ends false (decimal n) (λ s. decimal n ∷ s) false
+number n h = few_digits (decimal n) (few n h) (decimal_is_IsNumeral n (below_word n h)).0.0
+
+is_number_of : (x : List ℕ) (n : ℕ) → AreFew x → 0 < length x → number_after 0 x ≡ n → number_of x ≡ Some n
+is_number_of [] n f some e = absurd (omega arith)
+is_number_of (b ∷ w) n f some e =
+    let digits : (is_ascii_digit b && list_all is_ascii_digit w) ≡ true = f.digits in
+    rw (digits, short (length (b ∷ w)) f.few) (ap Some e)
+
+-- a number is what its digits spell
+pub number_is : (n : ℕ) → IsNumber n → number_of (decimal n) ≡ Some n
+number_is n h =
+    let d = decimal_is_IsNumeral n (below_word n h) in
+    is_number_of (decimal n) n (few n h) d.0.0 (same_value 0 (decimal n) d.0.1 ∙ d.1)

@@ -1,0 +1,10 @@
+//! Laws of the Verilog text that this project writes: it reads back as what it was written of. The functions do nothing.
+#![tactic(auto)]
+
+ghost use Rattle.written_modules.specs.Laws.{WrittenModulesReadBack};
+
+/// A law: the text that is written of well formed modules, the prelude and then each module behind its primitives, is the text of
+/// these modules, and of no others. (IEEE 1364-2005, A.1.)
+pub fn written_modules_read_back()
+    ensures { WrittenModulesReadBack }
+{}

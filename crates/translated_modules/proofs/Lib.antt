@@ -1,2 +1,3 @@
 pub mod AcceptedCells
 pub mod ModuleTexts
+pub mod ReadBack

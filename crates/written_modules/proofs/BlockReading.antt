@@ -1,5 +1,5 @@
 -- The specify block of a written module is read from its tokens.
-use Rattle.std.proofs.Common.{◌≡◌, ℕ, Bool, true, false, ◌||◌, nat_lt, List, [], ◌∷◌, length, None, refl, sym, ap, ◌∙◌, arith, codes}
+use Rattle.std.proofs.Common.{◌≡◌, ℕ, Bool, true, false, nat_lt, List, [], ◌∷◌, length, None, refl, sym, ap, ◌∙◌, arith, codes}
 use Rattle.std.specs.List.{AllByRecursion}
 use Rattle.std.proofs.lemmas.Bool.Decides.{nat_tests}
 use Rattle.grammar_rules.specs.Rule.{Stops}
@@ -17,6 +17,7 @@ use Rattle.written_modules.proofs.Spelling.{each}
 use Rattle.written_modules.proofs.TimingTokens.{check_word, path_tokens, check_tokens, block_by}
 use Rattle.written_modules.proofs.Derivations.{Reads, to_same, gives, in_turn, chosen, passed, through}
 use Rattle.written_modules.proofs.NameReading.{expected}
+use Rattle.written_modules.proofs.NetReading.{both_no}
 use Rattle.written_modules.proofs.InstanceReading.{IsWritten}
 use Rattle.written_modules.proofs.PathReading.{joined, path_turn}
 use Rattle.written_modules.proofs.CheckReading.{HasNumber, check_turn}
@@ -43,10 +44,6 @@ paths_end m (k ∷ all) s = no_path k.kind
 empty_if : {A : Type 0} (xs : List A) → nat_lt 0 (length xs) ≡ false → xs ≡ []
 empty_if [] h = refl
 empty_if (x ∷ xs) h = absurd (grind (arith, nat_tests))
-
-both_no : (a b : Bool) → (a || b) ≡ false → (a ≡ false) × (b ≡ false)
-both_no true b e = absurd cc
-both_no false b e = (refl, e)
 
 -- a module without a block is the same before and after it
 without_block : (m : VModule) → has_block m ≡ false → joined m ≡ m

@@ -1,9 +1,8 @@
 -- The timing checks of a written module are read from their tokens.
-use Rattle.std.proofs.Common.{◌≡◌, ℕ, true, ◌&&◌, ◌==◌, nat_eq, IsTrue, List, [], ◌∷◌, ◌++◌, Option, Some, None, is_some, slice_get, refl, sym, ap, ◌∙◌, arith, subst, codes, decimal}
+use Rattle.std.proofs.Common.{◌≡◌, ℕ, true, ◌&&◌, nat_eq, IsTrue, List, [], ◌∷◌, ◌++◌, Option, Some, None, is_some, slice_get, refl, sym, ap, ◌∙◌, subst, codes, decimal}
 use Rattle.std.specs.List.{AllByRecursion}
 use Rattle.std.specs.Option.{option_map}
 use Rattle.std.proofs.lemmas.Bool.{and_parts, eqb-true}
-use Rattle.std.proofs.lemmas.Bool.Decides.{nat_tests}
 use Rattle.verilog_tokens.specs.Words.{is_verilog_word, verilog_words}
 use Rattle.grammar_rules.specs.Rule.{Fits}
 use Rattle.cell_machine.specs.declared.checks.CheckKind.{CheckKind}
@@ -26,6 +25,7 @@ use Rattle.written_modules.proofs.Words.{number_is, unlike_word}
 use Rattle.written_modules.proofs.TimingTokens.{IsNamedCondition, IsNamedCheck, edge_tokens, event_tokens, condition_tokens, end_tokens, ordered_tokens, turned_tokens, width_tokens, period_tokens, check_word, check_more, check_tokens}
 use Rattle.written_modules.proofs.Derivations.{Reads, to_same, gives, token, in_turn, chosen, passed, Turn, turn}
 use Rattle.written_modules.proofs.NameReading.{expected, so_named, at_place}
+use Rattle.written_modules.proofs.RowReading.{same_number as equal_numbers}
 use Rattle.written_modules.proofs.NetReading.{IsKnown, named_net, input_known, register_known}
 use Rattle.written_modules.proofs.InstanceReading.{IsWritten}
 use Rattle.written_modules.proofs.PathReading.{joined, input_name, input_read, condition_known, condition_named, wire_read, number_read}
@@ -143,12 +143,9 @@ any_edge_is edge.Fall h = absurd cc
 its_port : (m : VModule) (p : ℕ) → IsKnown m (net.Port p) → option_map port_name (slice_get m.ports p) ≡ Some (port_at m p)
 its_port m p (port, e) = rw e refl
 
-number_self : (n : ℕ) → (n == n) ≡ true
-number_self n = grind (arith, nat_tests)
-
 same_number_read : (n : ℕ) {s : List (List ℕ)} → IsNumber n → Reads (same_number n) (decimal n ∷ s) tt s
 unfolding same_number
-same_number_read n h = token (ap (equal_to n) (number_is n h) ∙ rw (number_self n) refl)
+same_number_read n h = token (ap (equal_to n) (number_is n h) ∙ rw (equal_numbers n n refl) refl)
 
 second_read : (m : VModule) → IsWritten m → (k : VCheck) (s : List (List ℕ)) → IsCheck m k → IsNumber k.limit
     → Reads (second_period (joined m) k.first.pin k.condition k.limit) (codes "$period" ∷ codes "(" ∷ period_tokens (codes "negedge") m k s) tt s

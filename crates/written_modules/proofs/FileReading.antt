@@ -1,7 +1,6 @@
 -- The text of well formed modules is read as these modules.
-use Rattle.std.proofs.Common.{◌≡◌, ℕ, Bool, false, List, [], ◌∷◌, ◌++◌, flat_map, Option, Some, None, is_some, Ok, refl, sym, ap, ◌∙◌, subst, codes, append_assoc}
+use Rattle.std.proofs.Common.{◌≡◌, ℕ, Bool, false, List, [], ◌∷◌, ◌++◌, flat_map, Ok, refl, sym, ap, ◌∙◌, subst, codes, append_assoc}
 use Rattle.std.specs.List.{AllByRecursion}
-use Rattle.std.specs.Str.{bytes_eq}
 use Rattle.std.proofs.lemmas.List.{append-nil, map-append}
 use Rattle.std.proofs.lemmas.Grind.{flat_map-append}
 use Rattle.std.proofs.lemmas.List.Elements.{recursion_from_All}
@@ -20,6 +19,8 @@ use Rattle.written_modules.proofs.PrimitiveTokens.{primitive_tokens, primitive_s
 use Rattle.written_modules.proofs.PrimitiveReading.{primitive_read}
 use Rattle.written_modules.proofs.Derivations.{Reads, to_same, gives, in_turn, Turn, turn, through}
 use Rattle.written_modules.proofs.NameReading.{expected, at_place, is_new}
+use Rattle.written_modules.proofs.PrimitiveText.{none_if}
+use Rattle.written_modules.proofs.NetReading.{apart_tail}
 use Rattle.written_modules.proofs.ModuleReading.{module_more, module_tokens, module_spelled, module_read}
 
 -- Names of all primitives and modules.
@@ -29,11 +30,6 @@ split_outer : (before : List VModule) (m : VModule) (after : List VModule)
 split_outer before m after =
     flat_map-append outer_names before (m ∷ after)
     ∙ ap (λ (l : List (List ℕ)). flat_map outer_names before ++ l) (append_assoc (udp_names m.udps) (m.name ∷ []) (flat_map outer_names after))
-
-tail_apart : (before after : List (List ℕ)) → AreApart (before ++ after) → AreApart after
-unfolding Rattle.std.specs.List.IsDistinct
-tail_apart [] after h = h
-tail_apart (x ∷ before) after h = tail_apart before after h.1
 
 -- the names before and behind a module, and what it is
 record IsPlaced (before : List VModule) (m : VModule) (others : List (List ℕ)) : Type 0 where
@@ -96,7 +92,7 @@ with_it before m =
     (append_assoc (flat_map outer_names before) (udp_names m.udps) (m.name ∷ []) ∙ sym (split_outer before m []))
 
 own_apart : (before : List VModule) (m : VModule) (others : List (List ℕ)) → IsPlaced before m others → AreApart (udp_names m.udps ++ m.name ∷ others)
-own_apart before m others h = tail_apart (flat_map outer_names before) (udp_names m.udps ++ m.name ∷ others) h.apart
+own_apart before m others h = apart_tail (flat_map outer_names before) (udp_names m.udps ++ m.name ∷ others) h.apart
 
 -- a module behind its primitives
 module_behind : (before : List VModule) (m : VModule) (others s : List (List ℕ)) → IsPlaced before m others → Reads (next_module (among before m.udps)) (module_more m s) (up_to (before ++ m ∷ [])) s
@@ -169,10 +165,6 @@ file_spelled ms h =
     let all : Spells Anything false (prelude_text ++ flat_map module_text ms) (λ s. codes "`timescale" ∷ codes "1ps" ∷ codes "/" ∷ codes "1ps" ∷ each design_tokens ms s) false =
     behind prelude_spelled (each_spelled IsAlone (λ m a. design_spelled m a.1.0 a.0 a.1.1) (λ m r q. tt) ms (all_alone ms h [] ms refl)) in
     ap (found false) (sym (append-nil (prelude_text ++ flat_map module_text ms))) ∙ all.is [] tt
-
-none_if : (o : Option ℕ) → is_some o ≡ false → o ≡ None
-none_if None h = refl
-none_if (Some at) h = absurd cc
 
 is_text : (ms : List VModule) → AreWellFormed ms → IsVerilogText (modules_text ms) ms
 is_text ms h =

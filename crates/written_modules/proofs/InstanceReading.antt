@@ -4,6 +4,7 @@ use Rattle.std.specs.List.{AllByRecursion, list_any, list_all}
 use Rattle.std.specs.Str.{bytes_eq}
 use Rattle.std.proofs.lemmas.Bool.{and_parts}
 use Rattle.std.proofs.lemmas.Bool.Decides.{nat_tests}
+use Rattle.std.proofs.lemmas.List.{append-nil}
 use Rattle.std.proofs.lemmas.List.Sums.{sum_by-append, sum_by-cons}
 use Rattle.verilog_tokens.specs.Words.{is_verilog_word, verilog_words}
 use Rattle.grammar_rules.specs.Rule.{Fits, Stops}
@@ -25,6 +26,7 @@ use Rattle.written_modules.proofs.Spelling.{each}
 use Rattle.written_modules.proofs.Words.{name_is, unlike_word}
 use Rattle.written_modules.proofs.Derivations.{Reads, gives, token, in_turn, Turn, turn, through}
 use Rattle.written_modules.proofs.NameReading.{expected, expected_where}
+use Rattle.written_modules.proofs.RowReading.{same_number}
 use Rattle.written_modules.proofs.ModuleTokens.{next_terminal, bit_text, instance_more, instance_tokens}
 use Rattle.written_modules.proofs.DeclarationReading.{AreDeclared, bare}
 use Rattle.written_modules.proofs.NetReading.{all_at, position_is, IsKnown, named_net, net_read, driven_known, state_driven, DrivesNet, feeding_value_known, feeding_state_known}
@@ -45,10 +47,6 @@ pub record IsWritten (m : VModule) : Type 0 where
 
 instance_from : (m : VModule) (earlier before : List Instance) (i : Instance) (after : List Instance) → AreInstances m earlier (before ++ i ∷ after) → IsInstance m (earlier ++ before) i
 instance_from m earlier [] i after h = subst (λ (l : List Instance). IsInstance m l i) (sym (append-nil earlier)) h.0
-  where
-    append-nil : (l : List Instance) → l ++ [] ≡ l
-    append-nil [] = refl
-    append-nil (x ∷ l) = ap (λ (k : List Instance). x ∷ k) (append-nil l)
 instance_from m earlier (x ∷ before) i after h =
     subst (λ (l : List Instance). IsInstance m l i) (append_assoc earlier (x ∷ []) before) (instance_from m (earlier ++ x ∷ []) before i after h.1)
 
@@ -163,9 +161,6 @@ new_net (k ∷ before) n after h =
     rw other (new_net before n after p.1)
 
 -- Instances of primitives.
-
-same_number : (n m : ℕ) → n ≡ m → (n == m) ≡ true
-same_number n m h = grind (arith, nat_tests)
 
 input_turn : (m : VModule) → IsWritten m → (before : List Instance) → AllByRecursion (DrivesNet m) before → (b : Bool) (output : VNet) (inputs : List VNet)
     → list_all (if b then feeds_state m else feeds_value m before) inputs ≡ true → are_apart (output ∷ inputs) ≡ true

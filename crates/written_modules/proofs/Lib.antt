@@ -5,6 +5,7 @@ pub mod PrimitiveTokens
 pub mod NameReading
 pub mod RowReading
 pub mod PrimitiveReading
+pub mod PrimitiveText
 pub mod ModuleTokens
 pub mod TimingTokens
 pub mod PortReading

@@ -27,7 +27,7 @@ use Rattle.written_modules.proofs.Spelling.{Front, Spells, Anything, behind, eac
 use Rattle.written_modules.proofs.Words.{unlike_word}
 use Rattle.written_modules.proofs.Derivations.{Reads, gives, in_turn}
 use Rattle.written_modules.proofs.NameReading.{expected_where, newly_named}
-use Rattle.written_modules.proofs.PrimitiveReading.{get_at, one_longer}
+use Rattle.written_modules.proofs.PrimitiveReading.{get_at, one_longer, both}
 use Rattle.written_modules.proofs.ModuleTokens.{IsNamedPort, IsNamed, IsNamedNet, AreNamed, listed, declaration_tokens, instance_tokens, header_spelled, declarations_spelled, instance_spelled}
 use Rattle.written_modules.proofs.TimingTokens.{block_by, block_tokens, block_spelled}
 use Rattle.written_modules.proofs.DeclarationReading.{AreDeclared, Other, EndsDeclarations, declarations_read}
@@ -105,10 +105,6 @@ all_named : (m : VModule) → IsWritten m → AllByRecursion (AreNamed m) m.inst
 all_named m w = instances_named m w [] m.instances tt w.sound.instances
 
 -- Its tokens.
-
-both : {A : Type 0} {P Q R : A → Type 0} → ((x : A) → P x → Q x → R x) → (xs : List A) → AllByRecursion P xs → AllByRecursion Q xs → AllByRecursion R xs
-both f [] p q = tt
-both f (x ∷ xs) p q = (f x p.0 q.0, both f xs p.1 q.1)
 
 abbrev body_tokens : VModule → Front
 body_tokens m s = each (instance_tokens m) m.instances (block_tokens m (codes "endmodule" ∷ s))

@@ -1,21 +1,16 @@
 -- What the words of the grammar take of names.
-use Rattle.std.proofs.Common.{◌≡◌, ℕ, Bool, true, false, List, [], ◌∷◌, ◌++◌, Option, Some, refl, sym, ◌∙◌}
+use Rattle.std.proofs.Common.{◌≡◌, ℕ, Bool, true, false, List, [], ◌∷◌, ◌++◌, Option, Some, refl, ◌∙◌}
 use Rattle.std.specs.List.{AllByRecursion, IsDistinct}
 use Rattle.std.specs.Str.{bytes_eq}
-use Rattle.std.proofs.lemmas.Bool.Decides.{same_from_decides}
-use Rattle.std.proofs.lemmas.Slice.Eq.{bytes_eq-Decides}
 use Rattle.rule_readers.specs.declared.refusal.Refusal.{Refusal}
 use Rattle.udp_tables.specs.VerilogRules.{expect, expect_where, any_name, is_among, new_name, known, this_name}
 use Rattle.specify_blocks.specs.WellFormed.{IsName, AreApart}
+use Rattle.specify_blocks.proofs.ReadNames.{bytes_equivalence}
 use Rattle.written_modules.proofs.Derivations.{Reads, token}
 use Rattle.written_modules.proofs.Words.{name_is}
 
 pub same_bytes : (x : List ℕ) → bytes_eq x x ≡ true
-same_bytes x = (bytes_eq-Decides x x).1 refl
-
-pub turned : (x y : List ℕ) → bytes_eq x y ≡ bytes_eq y x
-turned x y =
-    same_from_decides (bytes_eq x y) (bytes_eq y x) (bytes_eq-Decides x y) (λ e. sym ((bytes_eq-Decides y x).0 e), λ e. (bytes_eq-Decides y x).1 (sym e))
+same_bytes x = bytes_equivalence.refl x
 
 pub expected : {text : List ℕ} {s : List (List ℕ)} → Reads (expect text) (text ∷ s) tt s
 expected {text = text} = token (rw (same_bytes text) refl)
@@ -46,5 +41,5 @@ pub is_new : (before : List (List ℕ)) (x : List ℕ) (after : List (List ℕ))
 unfolding IsDistinct
 is_new [] x after h = refl
 is_new (y ∷ before) x after h =
-    let other : bytes_eq x y ≡ false = turned x y ∙ at_place (λ z. bytes_eq y z ≡ false) before x after h.0 in
+    let other : bytes_eq x y ≡ false = bytes_equivalence.symm x y ∙ at_place (λ z. bytes_eq y z ≡ false) before x after h.0 in
     rw other (is_new before x after h.1)

@@ -89,7 +89,7 @@ named_net m h (net.Port p) (port, e) = rw e (all_at IsNamedPort m.ports p port h
 named_net m h (net.Wire w) (x, e) = rw e (all_at IsName m.wires w x h.wires e)
 named_net m h net.Notifier (x, e) = rw e (named_register m.notifier x e h.register)
 
-both_no : (a b : Bool) → (a || b) ≡ false → (a ≡ false) × (b ≡ false)
+pub both_no : (a b : Bool) → (a || b) ≡ false → (a ≡ false) × (b ≡ false)
 both_no true b e = absurd cc
 both_no false b e = (refl, e)
 
@@ -101,7 +101,7 @@ no_port ports before x after apart =
     let parts = both_no (list_any (bytes_eq x) (port_names ports)) (list_any (bytes_eq x) before) (sym (list_any-append (bytes_eq x) (port_names ports) before) ∙ none) in
     (unfound (λ (port : VPort). bytes_eq x port.name) ports (among_names port_name x ports ∙ parts.0), unfound (bytes_eq x) before parts.1)
 
-apart_tail : (before after : List (List ℕ)) → AreApart (before ++ after) → AreApart after
+pub apart_tail : (before after : List (List ℕ)) → AreApart (before ++ after) → AreApart after
 unfolding Rattle.std.specs.List.IsDistinct
 apart_tail [] after h = h
 apart_tail (x ∷ before) after h = apart_tail before after h.1

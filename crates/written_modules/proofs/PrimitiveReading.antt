@@ -17,7 +17,7 @@ use Rattle.written_modules.proofs.Spelling.{Front, each}
 use Rattle.written_modules.proofs.PrimitiveTokens.{next_name, declared, output_tokens, row_tokens}
 use Rattle.written_modules.proofs.Derivations.{Reads, from_same, gives, token, in_turn, chosen, passed, Turn, turn, through}
 use Rattle.written_modules.proofs.NameReading.{expected, expected_where, any_named, newly_named, so_named, at_place, is_new}
-use Rattle.written_modules.proofs.RowReading.{IsRow, row_begun}
+use Rattle.written_modules.proofs.RowReading.{IsRow, row_begun, same_number}
 
 -- Headers.
 
@@ -97,14 +97,11 @@ pub goes_on : (b : Bool) (s : List (List ℕ)) → b ≡ true → Reads (go_on_w
 goes_on true s e = gives
 goes_on false s e = absurd cc
 
-same_number : (n : ℕ) → (n == n) ≡ true
-same_number n = grind (arith, nat_tests)
-
 declarations_read : (inputs s : List (List ℕ)) → AllByRecursion IsName inputs → Reads (declared_inputs inputs) (each (declared (codes "input")) inputs (codes "table" ∷ s)) tt (codes "table" ∷ s)
 unfolding declared_inputs
 declarations_read inputs s names =
     in_turn (through (λ (l : List (List ℕ)). length l) (declared (codes "input")) [] inputs (declaration_turn inputs names) (codes "table" ∷ s) refl)
-    (goes_on (length inputs == length inputs) (codes "table" ∷ s) (same_number (length inputs)))
+    (goes_on (length inputs == length inputs) (codes "table" ∷ s) (same_number (length inputs) (length inputs) refl))
 
 -- Tables.
 
@@ -131,7 +128,7 @@ table_read sequential n one rows s some all =
 
 -- The rows of a primitive that is well formed.
 
-both : {A : Type 0} {P Q R : A → Type 0} → ((x : A) → P x → Q x → R x) → (xs : List A) → AllByRecursion P xs → AllByRecursion Q xs → AllByRecursion R xs
+pub both : {A : Type 0} {P Q R : A → Type 0} → ((x : A) → P x → Q x → R x) → (xs : List A) → AllByRecursion P xs → AllByRecursion Q xs → AllByRecursion R xs
 both f [] p q = tt
 both f (x ∷ xs) p q = (f x p.0 q.0, both f xs p.1 q.1)
 

@@ -190,7 +190,7 @@ pub record BeginsRow (sequential : Bool) (n : ℕ) (row : UdpRow) (s left : List
   pub begins : begins_entry sequential start ≡ true
   pub reads : Reads (Rattle.udp_tables.specs.VerilogPrimitives.row sequential n start) more row left
 
-same_number : (n m : ℕ) → n ≡ m → (n == m) ≡ true
+pub same_number : (n m : ℕ) → n ≡ m → (n == m) ≡ true
 same_number n m h = grind (arith, nat_tests)
 
 row_behind : (sequential : Bool) (n : ℕ) (e : Entry) (entries : List Entry) (state : Level) (x : Next) (s : List (List ℕ))

@@ -1,10 +1,31 @@
--- What is written reads back. (IEEE 1364-2005, A.1, source text; the layout is this project's.)
-use Rattle.std.specs.Prelude.{◌≡◌, ℕ, List, ◌++◌, Ok}
+-- What is written reads back. (IEEE 1364-2005, A.1, source text, and A.5, primitives; the layout is this project's.)
+use Rattle.std.specs.Prelude.{◌≡◌, ℕ, List, [], ◌∷◌, ◌++◌, None, Ok, codes}
 use Rattle.std.specs.List.{flat_map}
+use Rattle.grammar_rules.specs.Rule.{Takes}
+use Rattle.udp_tables.specs.declared.table.Udp.{Udp}
+use Rattle.udp_tables.specs.VerilogPrimitives.{primitive}
 use Rattle.specify_blocks.specs.declared.model.VModule.{VModule}
-use Rattle.specify_blocks.specs.VerilogText.{IsVerilogText, verilog_text}
-use Rattle.specify_blocks.specs.WellFormed.{AreWellFormed}
+use Rattle.specify_blocks.specs.VerilogText.{text_tokens, lexical_place, IsVerilogText, verilog_text}
+use Rattle.specify_blocks.specs.WellFormed.{IsWellFormedUdp, AreWellFormed}
+use Rattle.verilog_writer.specs.Primitive.{primitive_text}
 use Rattle.verilog_writer.specs.Model.{prelude_text, module_text}
+
+-- The bytes are the text of this primitive alone: tokens, without a lexical fault, of which the first is `primitive` and the grammar
+-- takes the others.
+pub record IsPrimitiveText (bytes : List ℕ) (udp : Udp) : Type 0 where
+  pub lexes : lexical_place bytes ≡ None
+  pub others : List (List ℕ)
+  pub begins : text_tokens bytes ≡ codes "primitive" ∷ others
+  pub takes : Takes (primitive []) others udp []
+
+-- The text of a primitive reads as this primitive, and as no other.
+pub record PrimitiveReadBack (udp : Udp) : Type 0 where
+  pub text : IsPrimitiveText (primitive_text udp) udp
+  pub only : (other : Udp) → IsPrimitiveText (primitive_text udp) other → other ≡ udp
+
+-- a primitive that is well formed reads back from what is written of it
+abbrev pub WrittenPrimitivesReadBack : Type 0
+WrittenPrimitivesReadBack = (udp : Udp) → IsWellFormedUdp udp → PrimitiveReadBack udp
 
 -- the text of modules: the prelude, and each module behind its primitives
 unfoldable pub modules_text : List VModule → List ℕ
@@ -15,6 +36,6 @@ pub record ReadBack (ms : List VModule) : Type 0 where
   pub answer : verilog_text (modules_text ms) ≡ Ok ms
   pub only : (others : List VModule) → IsVerilogText (modules_text ms) others → others ≡ ms
 
--- what is well formed reads back from what is written of it
+-- modules that are well formed read back from what is written of them
 abbrev pub WrittenModulesReadBack : Type 0
 WrittenModulesReadBack = (ms : List VModule) → AreWellFormed ms → ReadBack ms

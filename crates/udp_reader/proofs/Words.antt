@@ -1,5 +1,5 @@
 -- Words and names of Verilog at the next token.
-use Rattle.std.proofs.Common.{◌≡◌, ℕ, Bool, true, false, List, [], ◌∷◌, Option, Some, None, Ok, Err, refl}
+use Rattle.std.proofs.Common.{◌≡◌, ℕ, true, false, List, Option, Some, None, Ok, Err, refl}
 use Rattle.std.specs.Str.{bytes_eq}
 use Rattle.grammar_rules.specs.Reading.{Outcome, choose, read}
 use Rattle.rule_readers.specs.declared.refusal.Refusal.{Refusal}

@@ -1,9 +1,11 @@
 //! Primitives of Verilog text, by recursive descent. (IEEE 1364-2005, clause 8.)
 #![tactic(auto)]
 
+mod declared;
 mod language;
 mod primitives;
 mod row;
 
+pub use declared::declare;
 pub use language::Verilog;
 pub use primitives::primitive;

@@ -1,18 +1,19 @@
 //! Primitives, by recursive descent. (IEEE 1364-2005, clause 8.)
 
-ghost use Rattle.std.specs.Prelude.{◌≡◌, [], ◌∷◌};
+ghost use Rattle.std.specs.Prelude.{◌≡◌, [], ◌∷◌, ◌++◌, IfOk};
 ghost use Rattle.grammar_rules.specs.Rule.{Token, Many};
 ghost use Rattle.grammar_rules.specs.Reading.{read};
 ghost use Rattle.rule_readers.specs.declared.refusal.Refusal.TheVariants.{Syntax};
-ghost use Rattle.udp_tables.specs.VerilogRules.{new_name, is_among};
 ghost use Rattle.udp_tables.specs.VerilogPrimitives as spec;
 ghost use Rattle.rule_readers.specs.Reading.{Reads, ReadsAs};
 ghost use Rattle.rule_readers.specs.Next.{next_bytes};
 ghost use Rattle.udp_reader.specs.Headers.{header_of};
 
+use crate::declared::{declare, one_name};
 use crate::language::Verilog;
 use crate::row::{begins_entry, row};
-use rule_readers::{Cursor, Refusal, Stop, is_among};
+use bool_functions::Names;
+use rule_readers::{Cursor, Refusal, Stop};
 use sqlite_items::Items;
 use std::alloc::Global;
 use udp_tables::{Udp, UdpRow};
@@ -30,34 +31,34 @@ pub struct Header {
     pub inputs: Items<Items<u8>>,
 }
 
-/// Whether a name is that of the output or of one of the inputs.
-fn is_port(output: &[u8], inputs: &[Items<u8>], name: &[u8]) -> bool
-    ensures { result ≡ is_among (output.now ∷ inputs.now) name.now }
-{
-    name == output || is_among::<Verilog>(inputs, name)
-}
-
-/// The name of an input of a header, behind the names of its output and of others.
-fn new_input(
+/// One more input of a header, whose output and inputs have these names.
+#[tactic(auto, unfolding(udp_tables::specs::VerilogPrimitives::next_input))]
+fn next_input(
     cursor: &mut Cursor<'_, Verilog>,
     alloc: Global,
     output: &[u8],
-    inputs: &[Items<u8>],
-) -> Result<Items<u8>, Stop>
-    ensures { Reads (read (new_name (output.now ∷ inputs.now)) cursor.old) result cursor.new }
+    names: &mut Names,
+    mut inputs: Items<Items<u8>>,
+) -> Result<Items<Items<u8>>, Stop>
+    requires { names.old ≡ output.now ∷ inputs }
+    ensures reads { Reads (read (spec.next_input output.now inputs) cursor.old) result cursor.new }
+    ensures named { IfOk result (λ more. names.new ≡ output.now ∷ more) }
 {
-    let taken = is_port(output, inputs, cursor.bytes());
-    cursor.fresh_name(alloc, taken)
+    let input = declare(cursor, alloc, names)?;
+    inputs.push(input)?;
+    Ok(inputs)
 }
 
-/// The inputs of a header behind these.
-#[tactic(auto, unfolding(udp_tables::specs::VerilogPrimitives::more_inputs, udp_tables::specs::VerilogPrimitives::next_input), using(rule_readers::proofs::Repeats::turn, crate::proofs::Words::choose_begun, crate::proofs::Words::choose_other))]
+/// The inputs of a header behind these, where its output and these have these names.
+#[tactic(auto, unfolding(udp_tables::specs::VerilogPrimitives::more_inputs), using(rule_readers::proofs::Repeats::turn, crate::proofs::Words::choose_begun, crate::proofs::Words::choose_other))]
 fn more_inputs(
     cursor: &mut Cursor<'_, Verilog>,
     alloc: Global,
     output: &[u8],
+    mut names: Names,
     mut inputs: Items<Items<u8>>,
 ) -> Result<Items<Items<u8>>, Stop>
+    requires { names ≡ output.now ∷ inputs }
     ensures { Reads (read (spec.more_inputs output.now inputs) cursor.old) result cursor.new }
 {
     for _turn in 0..cursor.left() {
@@ -65,22 +66,8 @@ fn more_inputs(
             break;
         }
         cursor.skip();
-        inputs.push(new_input(cursor, alloc, output, inputs.as_slice())?)?;
+        inputs = next_input(cursor, alloc, output, &mut names, inputs)?;
     }
-    Ok(inputs)
-}
-
-/// The first input of a header.
-#[tactic(auto, unfolding(udp_tables::specs::VerilogPrimitives::next_input))]
-fn first_input(
-    cursor: &mut Cursor<'_, Verilog>,
-    alloc: Global,
-    output: &[u8],
-) -> Result<Items<Items<u8>>, Stop>
-    ensures { Reads (read (spec.next_input output.now []) cursor.old) result cursor.new }
-{
-    let mut inputs = Items::new(alloc);
-    inputs.push(new_input(cursor, alloc, output, inputs.as_slice())?)?;
     Ok(inputs)
 }
 
@@ -92,8 +79,15 @@ fn primitive_header(cursor: &mut Cursor<'_, Verilog>, alloc: Global) -> Result<H
     cursor.expect(b"(")?;
     let output = cursor.any_name(alloc)?;
     cursor.expect(b",")?;
-    let first = first_input(cursor, alloc, output.as_slice())?;
-    let inputs = more_inputs(cursor, alloc, output.as_slice(), first)?;
+    let mut names = one_name(alloc, output.as_slice())?;
+    let first = next_input(
+        cursor,
+        alloc,
+        output.as_slice(),
+        &mut names,
+        Items::new(alloc),
+    )?;
+    let inputs = more_inputs(cursor, alloc, output.as_slice(), names, first)?;
     cursor.expect_where(inputs.len() <= MOST_INPUTS, Refusal::Width, b")")?;
     cursor.expect(b";")?;
     Ok(Header { output, inputs })
@@ -233,16 +227,18 @@ fn table(
     Ok(rows)
 }
 
-/// A primitive behind the word `primitive`, where primitives and modules of these names stand before it.
+/// A primitive behind the word `primitive`, where primitives and modules of these names stand before it. Its own name is then
+/// the last of them; where the reading stops they may have one name more.
 #[tactic(auto, unfolding(udp_tables::specs::VerilogPrimitives::primitive))]
 pub fn primitive(
     cursor: &mut Cursor<'_, Verilog>,
     alloc: Global,
-    names: &[Items<u8>],
+    names: &mut Names,
 ) -> Result<Udp, Stop>
-    ensures { Reads (read (spec.primitive names.now) cursor.old) result cursor.new }
+    ensures reads { Reads (read (spec.primitive names.old) cursor.old) result cursor.new }
+    ensures added { IfOk result (λ udp. names.new ≡ names.old ++ udp.name ∷ []) }
 {
-    let name = cursor.new_name(alloc, names)?;
+    let name = declare(cursor, alloc, names)?;
     let header = primitive_header(cursor, alloc)?;
     primitive_output(cursor, header.output.as_slice())?;
     let sequential = primitive_register(cursor, &header)?;

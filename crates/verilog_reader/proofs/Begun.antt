@@ -1,5 +1,6 @@
 -- The next token among the instances of a module.
-use Rattle.std.proofs.Common.{◌≡◌, ℕ, ◌+◌, ◌-◌, ◌<◌, ◌++◌, Ok, sym, ◌∙◌, Bool, true, false, ◌||◌, List, [], ◌∷◌, Option, Some, None, Err, if◌then◌else◌, codes, refl, ap}
+use Rattle.std.proofs.Common.{◌≡◌, ℕ, ◌+◌, ◌-◌, ◌<◌, ◌++◌, Ok, sym, ◌∙◌, Bool, true, false, ◌||◌, List, [], ◌∷◌, Option, Some, None, Result, Err, if◌then◌else◌, codes, refl, ap}
+use Rattle.std.specs.Result.{IsErrAnd}
 use Rattle.std.specs.Str.{bytes_eq}
 use Rattle.grammar_rules.specs.Rule.{Verdict, Fits, Misfit}
 use Rattle.grammar_rules.specs.Reading.{Outcome, and_then, choose, judge_first, read, repeat}
@@ -7,6 +8,9 @@ use Rattle.udp_tables.specs.declared.table.Udp.{Udp}
 use Rattle.verilog_tokens.specs.Tokens.{is_name}
 use Rattle.rule_readers.specs.declared.refusal.Refusal.{Refusal}
 use Rattle.rule_readers.specs.declared.refusal.Refusal.TheVariants.{Undefined}
+use Rattle.rule_readers.specs.declared.refusal.Stop.{Stop}
+use Rattle.rule_readers.specs.declared.refusal.Stop.TheVariants.{Memory, Refused}
+use Rattle.rule_readers.specs.Reading.{Reads, ReadsAs}
 use Rattle.specify_blocks.specs.VerilogModules.{begins_instance, of_primitive, primitive_number, one_instance, with_instance}
 use Rattle.specify_blocks.specs.declared.model.Instance.{Instance}
 use Rattle.specify_blocks.specs.declared.model.VModule.{VModule}
@@ -102,3 +106,35 @@ preserved n i m s left more x y udps starts found p j joined whole h ex es et eu
     ap (λ (z : List ℕ). instance_primitive m.udps z) (sym ey) ∙ ap (λ (us : List Udp). instance_primitive us y) (sym eu) ∙ sym ef ∙ ep in
     let reads : read (one_instance m p) (rest s) ≡ Ok (with_instance m j, left) = ap (λ (q : List (List ℕ)). read (one_instance m p) q) (sym em) ∙ er in
     ap (λ (is : List Instance). turns (n - (i + 1)) (with_instances m is) left) ej ∙ taken n i m s left p j h start which reads ∙ ew
+
+-- no primitive has the name that is next
+pub undefined_exit : (n i : ℕ) (m : VModule) (s : List (List ℕ)) (x y : List ℕ) (starts : Bool) (found : Option (Option ℕ)) (whole : Outcome (List ℕ) Refusal VModule) →
+    i < n → x ≡ next_bytes s → starts ≡ is_instance_start x → starts ≡ true → y ≡ next_bytes s → found ≡ instance_primitive m.udps y → found ≡ None →
+    turns (n - i) m s ≡ whole → whole ≡ Err (Undefined, s)
+undefined_exit n i m s x y starts found whole h ex es et ey ef en ew =
+    let go : Option ℕ → List (List ℕ) → Outcome (List ℕ) Refusal VModule = λ q r. and_then (read (one_instance m q) r) (λ v t. turns (n - (i + 1)) v t) in
+    let start : is_instance_start (next_bytes s) ≡ true = ap is_instance_start (sym ex) ∙ sym es ∙ et in
+    let which : instance_primitive m.udps (next_bytes s) ≡ None = ap (λ (z : List ℕ). instance_primitive m.udps z) (sym ey) ∙ sym ef ∙ en in
+    sym ew
+    ∙ turn (λ (u : VModule). begins_instance u.udps) (λ u q r. read (one_instance u q) r) n i m s h
+    ∙ undefined m.udps s go (Ok (m, s)) start which
+
+-- the instance that begins is refused
+pub refused_exit : (n i : ℕ) (m : VModule) (s left more : List (List ℕ)) (x y : List ℕ) (starts : Bool) (found : Option (Option ℕ)) (p : Option ℕ)
+    (whole : Outcome (List ℕ) Refusal VModule) (stop : Stop) (result : Result VModule Stop) →
+    i < n → x ≡ next_bytes s → starts ≡ is_instance_start x → starts ≡ true → y ≡ next_bytes s → found ≡ instance_primitive m.udps y → found ≡ Some p → more ≡ rest s →
+    ReadsAs {B = Instance} (with_instance m) (read (one_instance m p) more) (Err stop) left → turns (n - i) m s ≡ whole → IsErrAnd result (λ made. made ≡ stop) →
+    Reads whole result left
+refused_exit n i m s left more x y starts found p whole stop (Ok v) h ex es et ey ef ep em er ew made = absurd made
+refused_exit n i m s left more x y starts found p whole Memory (Err e) h ex es et ey ef ep em er ew made = rw made tt
+refused_exit n i m s left more x y starts found p whole (Refused k) (Err e) h ex es et ey ef ep em er ew made =
+    let go : Option ℕ → List (List ℕ) → Outcome (List ℕ) Refusal VModule = λ q r. and_then (read (one_instance m q) r) (λ v t. turns (n - (i + 1)) v t) in
+    let start : is_instance_start (next_bytes s) ≡ true = ap is_instance_start (sym ex) ∙ sym es ∙ et in
+    let which : instance_primitive m.udps (next_bytes s) ≡ Some p = ap (λ (z : List ℕ). instance_primitive m.udps z) (sym ey) ∙ sym ef ∙ ep in
+    let reads : read (one_instance m p) (rest s) ≡ Err (k, left) = ap (λ (q : List (List ℕ)). read (one_instance m p) q) (sym em) ∙ er in
+    let all : whole ≡ Err (k, left) =
+    sym ew
+    ∙ turn (λ (u : VModule). begins_instance u.udps) (λ u q r. read (one_instance u q) r) n i m s h
+    ∙ some_instance m.udps s go (Ok (m, s)) p start which
+    ∙ ap (λ (o : Outcome (List ℕ) Refusal VModule). and_then o (λ v t. turns (n - (i + 1)) v t)) reads in
+    rw made all

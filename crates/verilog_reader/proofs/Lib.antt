@@ -1,3 +1,4 @@
+mod PrimitiveNames
 pub mod Among
 pub mod Headers
 pub mod Periods

@@ -1,7 +1,7 @@
 -- What holds of every Verilog text.
-use Rattle.std.proofs.Common.{◌≡◌, ℕ, Bool, true, false, List, [], ◌∷◌, ◌++◌, Option, Some, None, is_some, refl, sym, ap, ◌∙◌, subst}
+use Rattle.std.proofs.Common.{◌≡◌, ℕ, Bool, false, List, [], ◌∷◌, Option, Some, None, is_some, refl, sym, ap, ◌∙◌, subst}
 use Rattle.std.proofs.lemmas.List.{append-nil}
-use Rattle.grammar_rules.specs.Rule.{Takes, Refuses, Front}
+use Rattle.grammar_rules.specs.Rule.{Takes, Front}
 use Rattle.grammar_rules.specs.Loose.{loose}
 use Rattle.grammar_rules.proofs.Places.{refuses_at_first}
 use Rattle.grammar_rules.proofs.LooseLaws.{fouls_in_fronts}
@@ -9,7 +9,6 @@ use Rattle.verilog_tokens.specs.Tokens.{Token, scan_of, spellings}
 use Rattle.verilog_tokens.specs.Separators.{spelled, Padded, HaveSameTokens}
 use Rattle.verilog_tokens.proofs.Padding.{same_tokens}
 use Rattle.specify_blocks.specs.declared.model.VModule.{VModule}
-use Rattle.rule_readers.specs.declared.refusal.Refusal.{Refusal}
 use Rattle.specify_blocks.specs.VerilogText.{file, text_tokens, IsVerilogText}
 use Rattle.verilog_reader.specs.TextLaws.{HaveSameModules, HasFaultAtFirstToken}
 

@@ -1,6 +1,5 @@
 -- What a token begins among the instances of a module.
 use Rattle.std.specs.Prelude.{ℕ, Bool, ◌||◌, List, Option, Some, None, if◌then◌else◌, codes}
-use Rattle.std.specs.Option.{option_map}
 use Rattle.std.specs.Str.{bytes_eq}
 use Rattle.udp_tables.specs.declared.table.Udp.{Udp}
 use Rattle.verilog_tokens.specs.Tokens.{is_name}

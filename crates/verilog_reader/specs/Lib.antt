@@ -2,3 +2,4 @@ pub mod Headers
 pub mod Begun
 pub mod File
 pub mod TextLaws
+pub mod PrimitiveNames

@@ -1,6 +1,6 @@
 //! Timing checks of specify blocks. (IEEE 1364-2005, 15.2 and 15.3.)
 
-ghost use Rattle.std.specs.Prelude.{◌≡◌, slice_get};
+ghost use Rattle.std.specs.Prelude.{◌≡◌, slice_get, IfOk};
 ghost use Rattle.std.specs.Option.{option_map};
 ghost use Rattle.grammar_rules.specs.Reading.{read};
 ghost use Rattle.rule_readers.specs.Words.{valued};
@@ -371,7 +371,8 @@ pub fn specify(
     alloc: Global,
     joined: VModule,
 ) -> Result<VModule, Stop>
-    ensures { Reads (read (spec.specify joined) cursor.old) result cursor.new }
+    ensures reads { Reads (read (spec.specify joined) cursor.old) result cursor.new }
+    ensures named { IfOk result (λ model. model.name ≡ joined.name) }
 {
     let mut model = joined;
     if !cursor.is_next(b"specify") {

@@ -1,6 +1,6 @@
 //! The declarations of a module, by recursive descent. (IEEE 1364-2005, 12.1 and 12.3, and A.1 to A.3.)
 
-ghost use Rattle.std.specs.Prelude.{◌≡◌, ◌++◌};
+ghost use Rattle.std.specs.Prelude.{◌≡◌, ◌++◌, IfOk};
 ghost use Rattle.grammar_rules.specs.Reading.{read};
 ghost use Rattle.udp_tables.specs.VerilogRules.{new_name, known};
 ghost use Rattle.specify_blocks.specs.VerilogModules as spec;
@@ -285,7 +285,8 @@ pub fn declarations(
     name: Items<u8>,
     udps: Items<Udp>,
 ) -> Result<VModule, Stop>
-    ensures { Reads (read (spec.declarations name udps) cursor.old) result cursor.new }
+    ensures reads { Reads (read (spec.declarations name udps) cursor.old) result cursor.new }
+    ensures named { IfOk result (λ model. model.name ≡ name) }
 {
     let plain = module_header(cursor, alloc)?;
     let Inputs { ports, .. } = module_inputs(

@@ -1,6 +1,6 @@
 //! The primitives and modules of a text, by recursive descent. (IEEE 1364-2005, A.1 and 19.8.)
 
-ghost use Rattle.std.specs.Prelude.{◌≡◌};
+ghost use Rattle.std.specs.Prelude.{◌≡◌, [], ◌∷◌, ◌++◌, IfOk};
 ghost use Rattle.grammar_rules.specs.Reading.{read};
 ghost use Rattle.specify_blocks.specs.VerilogText as spec;
 ghost use Rattle.verilog_reader.specs.File.{before_of, modules_of};
@@ -10,19 +10,20 @@ use crate::checks::specify;
 use crate::declarations::declarations;
 use crate::instances::instances;
 use crate::terminals::are_all_driven;
+use bool_functions::Names;
 use rule_readers::{Cursor, Refusal, Stop};
 use specify_blocks::VModule;
 use sqlite_items::Items;
 use std::alloc::Global;
-use udp_reader::{Verilog, primitive};
+use udp_reader::{Verilog, declare, primitive};
 use udp_tables::Udp;
 
 /// What stands before a place of a text: the modules, the names of all primitives and modules, and the primitives behind the
 /// last module.
-#[derive(Debug, Drop)]
+#[derive(Drop)]
 pub struct Before {
     pub modules: Vec<VModule>,
-    pub names: Items<Items<u8>>,
+    pub names: Names,
     pub udps: Items<Udp>,
 }
 
@@ -58,8 +59,7 @@ fn next_primitive(
         mut names,
         mut udps,
     } = before;
-    let udp = primitive(cursor, alloc, names.as_slice())?;
-    names.push(Items::from_slice(alloc, udp.name.as_slice())?)?;
+    let udp = primitive(cursor, alloc, &mut names)?;
     udps.push(udp)?;
     Ok(Before {
         modules,
@@ -87,17 +87,18 @@ fn more_primitives(
     Ok(before)
 }
 
-/// A module behind its word.
+/// A module behind its word. Its own name is then the last of the names.
 #[tactic(auto, unfolding(specify_blocks::specs::VerilogText::one_module))]
 fn one_module(
     cursor: &mut Cursor<'_, Verilog>,
     alloc: Global,
-    names: &[Items<u8>],
+    names: &mut Names,
     udps: Items<Udp>,
 ) -> Result<VModule, Stop>
-    ensures { Reads (read (spec.one_module names.now udps) cursor.old) result cursor.new }
+    ensures reads { Reads (read (spec.one_module names.old udps) cursor.old) result cursor.new }
+    ensures added { IfOk result (λ model. names.new ≡ names.old ++ model.name ∷ []) }
 {
-    let name = cursor.new_name(alloc, names)?;
+    let name = declare(cursor, alloc, names)?;
     let declared = declarations(cursor, alloc, name, udps)?;
     let joined = instances(cursor, alloc, declared)?;
     let whole = specify(cursor, alloc, joined)?;
@@ -119,8 +120,7 @@ fn next_module(
         mut names,
         udps,
     } = before;
-    let whole = one_module(cursor, alloc, names.as_slice(), udps)?;
-    names.push(Items::from_slice(alloc, whole.name.as_slice())?)?;
+    let whole = one_module(cursor, alloc, &mut names, udps)?;
     modules.push(whole)?;
     Ok(Before {
         modules,
@@ -167,7 +167,7 @@ fn designs(cursor: &mut Cursor<'_, Verilog>, alloc: Global) -> Result<Before, St
 {
     let mut before = Before {
         modules: Vec::new(alloc),
-        names: Items::new(alloc),
+        names: Names::new(alloc),
         udps: Items::new(alloc),
     };
     for _turn in 0..cursor.left() {

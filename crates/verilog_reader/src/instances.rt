@@ -1,22 +1,24 @@
 //! The instances of a module, by recursive descent. (IEEE 1364-2005, 7.1, 7.3 and 8.6.)
 
-ghost use Rattle.std.specs.Prelude.{◌≡◌, ◌∷◌, []};
+ghost use Rattle.std.specs.Prelude.{◌≡◌, ◌∷◌, [], List, IfOk};
 ghost use Rattle.grammar_rules.specs.Reading.{read};
 ghost use Rattle.rule_readers.specs.Words.{valued};
 ghost use Rattle.specify_blocks.specs.VerilogModules as spec;
+ghost use Rattle.udp_tables.specs.declared.table.Udp.{Udp};
 ghost use Rattle.verilog_reader.specs.Begun.{is_instance_start, instance_primitive};
+ghost use Rattle.verilog_reader.specs.PrimitiveNames.{FindsFirst};
 ghost use Rattle.rule_readers.specs.Reading.{Reads, ReadsAs};
 
 use crate::nets::is_sequential;
+use crate::primitive_names::{PrimitiveNames, primitive_names};
 use crate::terminals::{
-    has_all_inputs, is_driven_already, is_terminal, may_drive, may_feed, net_of, primitive_number,
+    has_all_inputs, is_driven_already, is_terminal, may_drive, may_feed, net_of,
 };
 use rule_readers::{Cursor, Refusal, Stop};
 use specify_blocks::{Instance, VModule, VNet};
 use sqlite_items::Items;
 use std::alloc::Global;
 use udp_reader::Verilog;
-use udp_tables::Udp;
 use verilog_tokens::is_name;
 
 /// The bit that a token stands for.
@@ -40,13 +42,13 @@ fn is_instance_start(token: &[u8]) -> bool
 }
 
 /// What a token begins an instance of: the primitive with a number, or a buffer. None where there is no such primitive.
-fn instance_primitive(udps: &[Udp], token: &[u8]) -> Option<Option<usize>>
-    ensures { result ≡ instance_primitive udps.now token.now }
+fn instance_primitive(names: &PrimitiveNames, token: &[u8]) -> Option<Option<usize>>
+    ensures { (udps : List Udp) → FindsFirst names.now udps → result ≡ instance_primitive udps token.now }
 {
     if token == b"buf".as_slice() {
         return Some(None);
     }
-    match primitive_number(udps, token) {
+    match names.number(token) {
         Some(udp) => Some(Some(udp)),
         None => None,
     }
@@ -214,13 +216,15 @@ pub fn instances(
     alloc: Global,
     mut model: VModule,
 ) -> Result<VModule, Stop>
-    ensures { Reads (read (spec.instances model) cursor.old) result cursor.new }
+    ensures reads { Reads (read (spec.instances model) cursor.old) result cursor.new }
+    ensures named { IfOk result (λ joined. joined.name ≡ model.name) }
 {
+    let names = primitive_names(alloc, model.udps.as_slice())?;
     for _turn in 0..cursor.left() {
         if !is_instance_start(cursor.bytes()) {
             break;
         }
-        let Some(udp) = instance_primitive(model.udps.as_slice(), cursor.bytes()) else {
+        let Some(udp) = instance_primitive(&names, cursor.bytes()) else {
             return Err(Stop::Refused(Refusal::Undefined));
         };
         cursor.skip();

@@ -10,6 +10,7 @@ mod nets;
 mod numbers;
 mod paths;
 mod ports;
+mod primitive_names;
 mod read;
 mod terminals;
 

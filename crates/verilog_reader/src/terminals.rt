@@ -1,8 +1,7 @@
 //! What the terminals of an instance may be. (IEEE 1364-2005, 8.6; the restrictions on places are this project's.)
 
 ghost use Rattle.std.specs.Prelude.{◌≡◌, ◌==◌, ◌∷◌, ◌++◌, length};
-ghost use Rattle.std.specs.List.{list_any, list_all, position};
-ghost use Rattle.std.specs.Str.{bytes_eq};
+ghost use Rattle.std.specs.List.{list_any, list_all};
 ghost use Rattle.specify_blocks.specs.Nets as nets;
 ghost use Rattle.specify_blocks.specs.VerilogModules as spec;
 
@@ -110,13 +109,6 @@ pub fn has_all_inputs(udps: &[Udp], udp: usize, inputs: &[VNet]) -> bool
     ensures { result ≡ (length inputs.now == spec.input_count udps.now udp) }
 {
     inputs.len() == input_count(udps, udp)
-}
-
-/// The number of the primitive of a name.
-pub fn primitive_number(udps: &[Udp], name: &[u8]) -> Option<usize>
-    ensures { result ≡ spec.primitive_number udps.now name.now }
-{
-    udps.iter().position(|udp| name == udp.name.as_slice())
 }
 
 /// Whether each output is driven.

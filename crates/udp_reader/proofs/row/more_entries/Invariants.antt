@@ -1,6 +1,6 @@
 use Rattle.std.proofs.Common.{◌≡◌, ◌-◌}
 use Rattle.grammar_rules.specs.Reading.{repeat, read}
-use Rattle.udp_tables.specs.VerilogPrimitives.{begins_next_entry, next_entry, more_entries}
+use Rattle.udp_tables.specs.VerilogPrimitives.{begins_next_entry, next_entry}
 use Rattle.udp_reader.proofs.row.more_entries.Given as goal
 
 abbrev pub invariant-loop-turn : goal.invariant-loop-turn

@@ -1,4 +1,4 @@
-use Rattle.std.proofs.Common.{◌≡◌, ◌-◌, [], codes}
+use Rattle.std.proofs.Common.{◌≡◌, ◌-◌, codes}
 use Rattle.grammar_rules.specs.Reading.{repeat, read}
 use Rattle.udp_tables.specs.VerilogRules.{begins}
 use Rattle.specify_blocks.specs.VerilogModules.{declared_output}

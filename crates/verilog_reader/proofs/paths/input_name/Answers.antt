@@ -1,7 +1,5 @@
 use Rattle.std.proofs.Common.{ℕ, List, Option, ap, ◌∙◌}
-use Rattle.std.specs.List.{position}
-use Rattle.std.specs.Str.{bytes_eq}
-use Rattle.specify_blocks.specs.Nets.{is_input_port, is_output_port, is_value}
+use Rattle.specify_blocks.specs.Nets.{is_input_port}
 use Rattle.specify_blocks.specs.VerilogBlocks.{kept, port_of, an_input}
 use Rattle.verilog_reader.proofs.paths.input_name.Goals as goal
 

@@ -1,0 +1,27 @@
+-- Primitives that are found by their names.
+use Rattle.std.specs.Prelude.{◌≡◌, ℕ, List, [], ◌∷◌, ◌++◌, length, slice_get, Option, Some, None}
+use Rattle.std.specs.Option.{option_and_then}
+use Rattle.bool_functions.specs.NameList.{number_of, Adds}
+use Rattle.udp_tables.specs.declared.table.Udp.{Udp}
+use Rattle.specify_blocks.specs.VerilogModules.{primitive_number}
+use Rattle.verilog_reader.specs.declared.primitive_names.PrimitiveNames.{PrimitiveNames}
+
+-- the number that stands for a name
+abbrev pub place_by : PrimitiveNames → List ℕ → Option ℕ
+place_by found name = option_and_then (slice_get found.places) (number_of found.names name)
+
+-- the numbers with that of a name, where it was new
+abbrev pub places_with : Option ℕ → List ℕ → ℕ → List ℕ
+places_with (Some i) places number = places ++ number ∷ []
+places_with None places number = places
+
+-- a name is added with its number where it is new, and all stays where it is not
+pub record AddsPlace (old : PrimitiveNames) (name : List ℕ) (number : ℕ) (new : PrimitiveNames) : Type 0 where
+  pub found : Option ℕ
+  pub names : Adds old.names name found new.names
+  pub places : new.places ≡ places_with found old.places number
+
+-- each name stands for the number of the first of these primitives that has it
+pub record FindsFirst (found : PrimitiveNames) (udps : List Udp) : Type 0 where
+  pub same_length : length found.places ≡ length found.names
+  pub first : (name : List ℕ) → place_by found name ≡ primitive_number udps name

@@ -6,3 +6,4 @@ pub mod NamedNets
 pub mod Begun
 pub mod Spelled
 pub mod TextLemmas
+pub mod WellRead

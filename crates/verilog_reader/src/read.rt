@@ -4,6 +4,7 @@ ghost use Rattle.std.specs.Prelude.{◌≡◌, length, IfOk, IfErr, Ok};
 ghost use Rattle.grammar_rules.specs.Reading.{read};
 ghost use Rattle.udp_tables.specs.VerilogRules.{fault_at};
 ghost use Rattle.specify_blocks.specs.VerilogText.{verilog_text, place_from, refusal_fault};
+ghost use Rattle.specify_blocks.specs.WellFormed.{AreWellFormed};
 ghost use Rattle.verilog_tokens.specs.Spans.{tokens_of};
 ghost use Rattle.token_spans.specs.Spans.{spelled};
 ghost use Rattle.verilog_reader.specs.File.{IsFaultOf};
@@ -67,12 +68,9 @@ fn refusal_fault_of(
     }
 }
 
-/// The modules of a Verilog text. (IEEE 1364-2005, clauses 3, 8, 12, 14 and 15; the subset is this project's.)
-///
-/// The fault is the first: the place where no token begins, the first token with which no text goes on or that breaks a rule, or the
-/// end of the text. Its offset counts bytes from 0.
+/// The modules of a Verilog text, or its first fault.
 #[tactic(auto, unfolding(specify_blocks::specs::VerilogText::verilog_text), using(crate::proofs::Spelled::spelled))]
-pub fn read_models(alloc: Global, text: &[u8]) -> Result<Vec<VModule>, ModelFault>
+fn models_of(alloc: Global, text: &[u8]) -> Result<Vec<VModule>, ModelFault>
     ensures modules { IfOk result (λ found. verilog_text text.now ≡ Ok found.items) }
     ensures fault { IfErr result (λ e. IsFaultOf text.now e) }
 {
@@ -90,4 +88,17 @@ pub fn read_models(alloc: Global, text: &[u8]) -> Result<Vec<VModule>, ModelFaul
             text, &tokens, fault, refusal, &cursor,
         )),
     }
+}
+
+/// The modules of a Verilog text. (IEEE 1364-2005, clauses 3, 8, 12, 14 and 15; the subset is this project's.)
+///
+/// The fault is the first: the place where no token begins, the first token with which no text goes on or that breaks a rule, or the
+/// end of the text. Its offset counts bytes from 0. Modules that are read are well formed: each is sound, and no name stands twice
+/// where it must not.
+pub fn read_models(alloc: Global, text: &[u8]) -> Result<Vec<VModule>, ModelFault>
+    ensures modules { IfOk result (λ found. verilog_text text.now ≡ Ok found.items) }
+    ensures well_formed { IfOk result (λ found. AreWellFormed found.items) }
+    ensures fault { IfErr result (λ e. IsFaultOf text.now e) }
+{
+    models_of(alloc, text)
 }

@@ -1,0 +1,7 @@
+pub mod Joined
+pub mod Names
+pub mod Tables
+pub mod Declarations
+pub mod Statements
+pub mod Outputs
+pub mod Entity

@@ -1,0 +1,185 @@
+//! An entity with its ports, and the beginning of its process. (IEEE 1076-1993, 1.1, 1.2 and 9.2.)
+ghost use Rattle.std.specs.Prelude.{◌≡◌};
+ghost use Rattle.vhdl_writer.specs.Declarations.{direction_text, port_text, some_ports_text, ports_text, header_text, is_input, first_input, signal_start, signal_text, signals_end, process_text};
+
+use crate::names::apart;
+use crate::parts::{Bytes, Each, ItemText, Part, parts};
+use text_io::{Desk, Failed, Line, OutSlot};
+use udp_tables::VPort;
+use vital_models::VEntity;
+
+/// The direction of a port.
+fn direction_text(port: &VPort) -> &'static [u8]
+    ensures { result.now ≡ direction_text port.now }
+{
+    if port.input {
+        b" : in std_ulogic"
+    } else {
+        b" : out std_ulogic"
+    }
+}
+
+/// Ports in the list of ports.
+#[derive(Drop)]
+struct ListedPorts;
+
+impl ItemText<VPort> for ListedPorts {
+    ghost text = { λ _ n port. port_text n port };
+
+    #[tactic(auto, unfolding(crate::specs::Declarations::port_text))]
+    fn put<D: Desk>(
+        &self,
+        number: usize,
+        item: &VPort,
+        line: &mut Line,
+        desk: &mut D,
+        slot: OutSlot,
+    ) -> Result<(), Failed> {
+        parts!(
+            Bytes(apart(b"; ", number)),
+            Bytes(item.name.as_slice()),
+            Bytes(direction_text(item))
+        )
+        .put(line, desk, slot)
+    }
+}
+
+/// The list of some ports.
+#[derive(Drop)]
+struct SomePorts<'a>(&'a [VPort]);
+
+impl Part for SomePorts<'_> {
+    ghost text = { λ m. some_ports_text m.0.now };
+
+    #[tactic(auto, unfolding(crate::specs::Declarations::some_ports_text))]
+    fn put<D: Desk>(&self, line: &mut Line, desk: &mut D, slot: OutSlot) -> Result<(), Failed> {
+        let ports = Each {
+            text: ListedPorts,
+            items: self.0,
+        };
+        parts!(Bytes(b"  port ("), ports, Bytes(b");\n")).put(line, desk, slot)
+    }
+}
+
+/// The list of ports, where there are ports.
+#[derive(Drop)]
+struct Ports<'a>(&'a [VPort]);
+
+impl Part for Ports<'_> {
+    ghost text = { λ m. ports_text m.0.now };
+
+    fn put<D: Desk>(&self, line: &mut Line, desk: &mut D, slot: OutSlot) -> Result<(), Failed> {
+        if self.0.is_empty() {
+            line.put(desk, slot, b"")
+        } else {
+            SomePorts(self.0).put(line, desk, slot)
+        }
+    }
+}
+
+/// The packages that an entity uses, and its header.
+#[derive(Drop)]
+pub(crate) struct Header<'a>(pub(crate) &'a VEntity);
+
+impl Part for Header<'_> {
+    ghost text = { λ m. header_text m.0.now };
+
+    #[tactic(auto, unfolding(crate::specs::Declarations::header_text))]
+    fn put<D: Desk>(&self, line: &mut Line, desk: &mut D, slot: OutSlot) -> Result<(), Failed> {
+        let name = self.0.name.as_slice();
+        parts!(
+            Bytes(
+                b"library IEEE;\nuse IEEE.std_logic_1164.all;\nuse IEEE.VITAL_Timing.all;\nuse IEEE.VITAL_Primitives.all;\nentity "
+            ),
+            Bytes(name),
+            Bytes(b" is\n"),
+            Ports(self.0.ports.as_slice()),
+            Bytes(b"end "),
+            Bytes(name),
+            Bytes(b";\narchitecture vital of "),
+            Bytes(name),
+            Bytes(b" is\n")
+        )
+        .put(line, desk, slot)
+    }
+}
+
+/// Whether a port is an input.
+fn is_input(port: &VPort) -> bool
+    ensures { result ≡ is_input port.now }
+{
+    port.input
+}
+
+/// Where, from 0, the first input stands, if there is one.
+pub(crate) fn first_input(ports: &[VPort]) -> Option<usize>
+    ensures { result ≡ first_input ports.now }
+{
+    ports.iter().position(is_input)
+}
+
+/// What stands before the input with this number, from 1, in the list of signals.
+fn signal_start(first: Option<usize>, number: usize) -> &'static [u8]
+    ensures { result.now ≡ signal_start first number }
+{
+    match first {
+        Some(place) if place as u128 + 1 == number as u128 => b" (",
+        _ => b", ",
+    }
+}
+
+/// Inputs among ports, in the list of signals, where the first one stands at this place.
+#[derive(Drop)]
+struct Signals(Option<usize>);
+
+impl ItemText<VPort> for Signals {
+    ghost text = { λ m n port. signal_text m.0 n port };
+
+    #[tactic(auto, unfolding(crate::specs::Declarations::signal_text))]
+    fn put<D: Desk>(
+        &self,
+        number: usize,
+        item: &VPort,
+        line: &mut Line,
+        desk: &mut D,
+        slot: OutSlot,
+    ) -> Result<(), Failed> {
+        if item.input {
+            parts!(
+                Bytes(signal_start(self.0, number)),
+                Bytes(item.name.as_slice())
+            )
+            .put(line, desk, slot)
+        } else {
+            line.put(desk, slot, b"")
+        }
+    }
+}
+
+/// The end of the list of signals, where there is one.
+fn signals_end(first: Option<usize>) -> &'static [u8]
+    ensures { result.now ≡ signals_end first }
+{
+    if first.is_some() { b")\n" } else { b"\n" }
+}
+
+/// The beginning of the process, with the signals to which it responds.
+#[derive(Drop)]
+pub(crate) struct Process<'a>(pub(crate) &'a VEntity);
+
+impl Part for Process<'_> {
+    ghost text = { λ m. process_text m.0.now };
+
+    #[tactic(auto, unfolding(crate::specs::Declarations::process_text))]
+    fn put<D: Desk>(&self, line: &mut Line, desk: &mut D, slot: OutSlot) -> Result<(), Failed> {
+        let items = self.0.ports.as_slice();
+        let first = first_input(items);
+        let text = Signals(first);
+        parts!(
+            Bytes(b"begin\n  process"),
+            Each { text, items },
+            Bytes(signals_end(first))
+        )
+        .put(line, desk, slot)
+    }
+}

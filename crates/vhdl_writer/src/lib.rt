@@ -1,0 +1,15 @@
+//! The VHDL text of entities, by IEEE 1076-1993 and IEEE 1076.4-2000.
+#![tactic(auto)]
+
+mod checks;
+mod declarations;
+mod entity;
+mod names;
+mod outputs;
+mod parts;
+mod states;
+mod symbols;
+mod tables;
+mod variables;
+
+pub use entity::write_entity;

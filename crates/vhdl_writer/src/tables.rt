@@ -1,0 +1,283 @@
+//! The constants of an architecture: its tables. (IEEE 1076.4-2000, VitalTruthTableType and VitalStateTableType.)
+ghost use Rattle.std.specs.Prelude.{◌≡◌, count_by, take};
+ghost use Rattle.vhdl_writer.specs.Tables.{row_start, state_row_text, truth_row_text, truth_rows_text, state_rows_text, state_constant_text, condition_constant_text, is_looked_up, table_number, output_table_text, output_constant_text, constants_text};
+
+use crate::parts::{Bytes, Decimal, Each, ItemText, Part, parts};
+use crate::symbols::{LevelsApart, SymbolsApart, level_text, next_text, value_text};
+use text_io::{Desk, Failed, Line, OutSlot};
+use vital_models::{OutValue, TruthRow, TruthTable, VEntity, VOutput, VState, VStateRow, VTruth};
+
+/// What stands before the symbols of the row with this number, from 1, of so many rows.
+fn row_start(count: usize, number: usize) -> &'static [u8]
+    ensures { result.now ≡ row_start count number }
+{
+    if count == 1 {
+        b"\n    0 => ("
+    } else if number == 1 {
+        b"\n    ("
+    } else {
+        b",\n    ("
+    }
+}
+
+/// Rows of the table of a state, of so many.
+#[derive(Drop)]
+struct StateRows(usize);
+
+impl ItemText<VStateRow> for StateRows {
+    ghost text = { λ m n row. state_row_text m.0 n row };
+
+    #[tactic(auto, unfolding(crate::specs::Tables::state_row_text))]
+    fn put<D: Desk>(
+        &self,
+        number: usize,
+        item: &VStateRow,
+        line: &mut Line,
+        desk: &mut D,
+        slot: OutSlot,
+    ) -> Result<(), Failed> {
+        let symbols = Each {
+            text: SymbolsApart,
+            items: item.inputs.as_slice(),
+        };
+        parts!(
+            Bytes(row_start(self.0, number)),
+            symbols,
+            Bytes(level_text(item.state)),
+            Bytes(b", "),
+            Bytes(next_text(item.result)),
+            Bytes(b")")
+        )
+        .put(line, desk, slot)
+    }
+}
+
+/// Rows of a truth table, of so many.
+#[derive(Drop)]
+struct TruthRows(usize);
+
+impl ItemText<TruthRow> for TruthRows {
+    ghost text = { λ m n row. truth_row_text m.0 n row };
+
+    #[tactic(auto, unfolding(crate::specs::Tables::truth_row_text))]
+    fn put<D: Desk>(
+        &self,
+        number: usize,
+        item: &TruthRow,
+        line: &mut Line,
+        desk: &mut D,
+        slot: OutSlot,
+    ) -> Result<(), Failed> {
+        let levels = Each {
+            text: LevelsApart,
+            items: item.inputs.as_slice(),
+        };
+        parts!(
+            Bytes(row_start(self.0, number)),
+            levels,
+            Bytes(value_text(item.result)),
+            Bytes(b")")
+        )
+        .put(line, desk, slot)
+    }
+}
+
+/// All rows of a truth table.
+#[derive(Drop)]
+struct Truth<'a>(&'a TruthTable);
+
+impl Part for Truth<'_> {
+    ghost text = { λ m. truth_rows_text m.0.now };
+
+    #[tactic(auto, unfolding(crate::specs::Tables::truth_rows_text))]
+    fn put<D: Desk>(&self, line: &mut Line, desk: &mut D, slot: OutSlot) -> Result<(), Failed> {
+        let items = self.0.rows.as_slice();
+        let text = TruthRows(items.len());
+        Each { text, items }.put(line, desk, slot)
+    }
+}
+
+/// All rows of the table of a state.
+#[derive(Drop)]
+struct States<'a>(&'a VState);
+
+impl Part for States<'_> {
+    ghost text = { λ m. state_rows_text m.0.now };
+
+    #[tactic(auto, unfolding(crate::specs::Tables::state_rows_text))]
+    fn put<D: Desk>(&self, line: &mut Line, desk: &mut D, slot: OutSlot) -> Result<(), Failed> {
+        let items = self.0.table.rows.as_slice();
+        let text = StateRows(items.len());
+        Each { text, items }.put(line, desk, slot)
+    }
+}
+
+/// Constants of the tables of states.
+#[derive(Drop)]
+struct StateConstants;
+
+impl ItemText<VState> for StateConstants {
+    ghost text = { λ _ n state. state_constant_text n state };
+
+    #[tactic(auto, unfolding(crate::specs::Tables::state_constant_text))]
+    fn put<D: Desk>(
+        &self,
+        number: usize,
+        item: &VState,
+        line: &mut Line,
+        desk: &mut D,
+        slot: OutSlot,
+    ) -> Result<(), Failed> {
+        parts!(
+            Bytes(b"  constant k_"),
+            Decimal(number as u128),
+            Bytes(b" : VitalStateTableType := ("),
+            States(item),
+            Bytes(b");\n")
+        )
+        .put(line, desk, slot)
+    }
+}
+
+/// Constants of the tables of conditions.
+#[derive(Drop)]
+struct ConditionConstants;
+
+impl ItemText<VTruth> for ConditionConstants {
+    ghost text = { λ _ n truth. condition_constant_text n truth };
+
+    #[tactic(auto, unfolding(crate::specs::Tables::condition_constant_text))]
+    fn put<D: Desk>(
+        &self,
+        number: usize,
+        item: &VTruth,
+        line: &mut Line,
+        desk: &mut D,
+        slot: OutSlot,
+    ) -> Result<(), Failed> {
+        parts!(
+            Bytes(b"  constant c_"),
+            Decimal(number as u128),
+            Bytes(b" : VitalTruthTableType := ("),
+            Truth(&item.table),
+            Bytes(b");\n")
+        )
+        .put(line, desk, slot)
+    }
+}
+
+/// Whether an output has a table.
+#[tactic(auto, unfolding(crate::specs::Tables::is_looked_up))]
+fn is_looked_up(output: &VOutput) -> bool
+    ensures { result ≡ is_looked_up output.now }
+{
+    match output.value {
+        OutValue::Constant(_) => false,
+        OutValue::Table { .. } => true,
+    }
+}
+
+/// How many of these outputs have a table.
+fn tables_in(outputs: &[VOutput]) -> usize
+    ensures { result ≡ count_by is_looked_up outputs.now }
+{
+    let mut found = 0;
+    for output in outputs {
+        if is_looked_up(output) {
+            found += 1;
+        }
+    }
+    found
+}
+
+/// How many of the first `count` outputs have a table.
+#[tactic(auto, using(std::proofs::lemmas::List::take_min))]
+fn tables_before(outputs: &[VOutput], count: usize) -> usize
+    ensures { result ≡ count_by is_looked_up (take count outputs.now) }
+{
+    tables_in(&outputs[..count.min(outputs.len())])
+}
+
+/// The number of the table of the output with this number, from 1.
+pub(crate) fn table_number(entity: &VEntity, number: usize) -> u128
+    ensures { result ≡ table_number entity.now number }
+{
+    let before = tables_before(entity.outputs.as_slice(), number.saturating_sub(1));
+    entity.states.len() as u128 + (before as u128 + 1)
+}
+
+/// The constant of a table of the output with this number.
+#[derive(Drop)]
+struct OutputTable<'a> {
+    entity: &'a VEntity,
+    number: usize,
+    table: &'a TruthTable,
+}
+
+impl Part for OutputTable<'_> {
+    ghost text = { λ m. output_table_text m.entity.now m.number m.table.now };
+
+    #[tactic(auto, unfolding(crate::specs::Tables::output_table_text))]
+    fn put<D: Desk>(&self, line: &mut Line, desk: &mut D, slot: OutSlot) -> Result<(), Failed> {
+        parts!(
+            Bytes(b"  constant k_"),
+            Decimal(table_number(self.entity, self.number)),
+            Bytes(b" : VitalTruthTableType := ("),
+            Truth(self.table),
+            Bytes(b");\n")
+        )
+        .put(line, desk, slot)
+    }
+}
+
+/// Constants of the tables of outputs, of those that have one.
+#[derive(Drop)]
+struct OutputConstants<'a>(&'a VEntity);
+
+impl ItemText<VOutput> for OutputConstants<'_> {
+    ghost text = { λ m n output. output_constant_text m.0.now n output };
+
+    fn put<D: Desk>(
+        &self,
+        number: usize,
+        item: &VOutput,
+        line: &mut Line,
+        desk: &mut D,
+        slot: OutSlot,
+    ) -> Result<(), Failed> {
+        match &item.value {
+            OutValue::Constant(_) => line.put(desk, slot, b""),
+            OutValue::Table { table, .. } => OutputTable {
+                entity: self.0,
+                number,
+                table,
+            }
+            .put(line, desk, slot),
+        }
+    }
+}
+
+/// The constants of an entity.
+#[derive(Drop)]
+pub(crate) struct Constants<'a>(pub(crate) &'a VEntity);
+
+impl Part for Constants<'_> {
+    ghost text = { λ m. constants_text m.0.now };
+
+    #[tactic(auto, unfolding(crate::specs::Tables::constants_text))]
+    fn put<D: Desk>(&self, line: &mut Line, desk: &mut D, slot: OutSlot) -> Result<(), Failed> {
+        let states = Each {
+            text: StateConstants,
+            items: self.0.states.as_slice(),
+        };
+        let conditions = Each {
+            text: ConditionConstants,
+            items: self.0.conditions.as_slice(),
+        };
+        let outputs = Each {
+            text: OutputConstants(self.0),
+            items: self.0.outputs.as_slice(),
+        };
+        parts!(states, conditions, outputs).put(line, desk, slot)
+    }
+}

@@ -1,4 +1,4 @@
-//! Liberty texts whose cells are read, run or refused, with answers that were worked out by hand; no product code.
+//! Liberty texts whose cells are read or refused, with answers that were worked out by hand; no product code.
 #![tactic(auto)]
 
 #[cfg(test)]
@@ -7,7 +7,5 @@ mod liberty;
 mod libraries;
 #[cfg(test)]
 mod limits;
-#[cfg(test)]
-mod read_traces;
 #[cfg(test)]
 mod refusals;

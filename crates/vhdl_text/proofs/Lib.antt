@@ -1,1 +1,2 @@
+pub mod VhdlAnswers
 mod VhdlExamples

@@ -2,6 +2,8 @@
 //! IEEE 1076.4-2000.) The definitions stand in `specs/`; here are the parts of an entity of which they speak while it is read.
 #![tactic(auto)]
 
+mod laws;
 mod scope;
 
+pub use laws::vhdl_text_has_one_answer;
 pub use scope::{Assigned, Columns, Scope, Tables, Variables};

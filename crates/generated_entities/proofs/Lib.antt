@@ -1,0 +1,9 @@
+pub mod ListLemmas
+pub mod Tables
+pub mod PortNumbers
+pub mod LookedUp
+pub mod ArcOrder
+pub mod Names
+pub mod PortNames
+pub mod Conditions
+pub mod Entities

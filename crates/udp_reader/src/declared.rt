@@ -12,7 +12,7 @@ use sqlite_items::Items;
 use std::alloc::Global;
 
 /// The list of one name.
-pub(crate) fn one_name(alloc: Global, name: &[u8]) -> Result<Names, Stop>
+pub fn one_name(alloc: Global, name: &[u8]) -> Result<Names, Stop>
     ensures named { IfOk result (λ names. names ≡ name.now ∷ []) }
     ensures memory { IfErr result (λ stop. stop ≡ Stop.Memory) }
 {

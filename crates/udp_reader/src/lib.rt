@@ -6,6 +6,6 @@ mod language;
 mod primitives;
 mod row;
 
-pub use declared::declare;
+pub use declared::{declare, one_name};
 pub use language::Verilog;
 pub use primitives::primitive;

@@ -7,3 +7,4 @@ pub mod Begun
 pub mod Spelled
 pub mod TextLemmas
 pub mod WellRead
+pub mod SameNames

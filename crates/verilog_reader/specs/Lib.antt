@@ -3,3 +3,4 @@ pub mod Begun
 pub mod File
 pub mod TextLaws
 pub mod PrimitiveNames
+pub mod SameNames

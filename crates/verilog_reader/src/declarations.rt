@@ -1,18 +1,20 @@
 //! The declarations of a module, by recursive descent. (IEEE 1364-2005, 12.1 and 12.3, and A.1 to A.3.)
 
-ghost use Rattle.std.specs.Prelude.{◌≡◌, ◌++◌, IfOk};
+ghost use Rattle.std.specs.Prelude.{◌≡◌, IfOk};
 ghost use Rattle.grammar_rules.specs.Reading.{read};
-ghost use Rattle.udp_tables.specs.VerilogRules.{new_name, known};
+ghost use Rattle.udp_tables.specs.VerilogRules.{known};
 ghost use Rattle.specify_blocks.specs.VerilogModules as spec;
 ghost use Rattle.rule_readers.specs.Reading.{Reads, ReadsAs};
 ghost use Rattle.verilog_reader.specs.Headers.{inputs_of};
 
-use crate::ports::{has_port, is_declared, output_place, port_place};
+use crate::ports::{output_place, port_place};
+use crate::wires::{module_notifier, module_wires};
+use bool_functions::Names;
 use rule_readers::{Cursor, Refusal, Stop};
 use specify_blocks::VModule;
 use sqlite_items::Items;
 use std::alloc::Global;
-use udp_reader::Verilog;
+use udp_reader::{Verilog, declare, one_name};
 use udp_tables::{Udp, VPort};
 use verilog_tokens::is_name;
 
@@ -23,39 +25,32 @@ pub struct Inputs {
     pub behind: usize,
 }
 
-/// The name of a port, behind others.
-fn new_port_name(
-    cursor: &mut Cursor<'_, Verilog>,
-    alloc: Global,
-    ports: &[VPort],
-) -> Result<Items<u8>, Stop>
-    ensures { Reads (read (new_name (spec.port_names ports.now)) cursor.old) result cursor.new }
-{
-    let taken = has_port(ports, cursor.bytes());
-    cursor.fresh_name(alloc, taken)
-}
-
-/// One more port of a header.
+/// One more port of a header, whose ports so far have these names.
 #[tactic(auto, unfolding(specify_blocks::specs::VerilogModules::next_port))]
 fn next_port(
     cursor: &mut Cursor<'_, Verilog>,
     alloc: Global,
+    names: &mut Names,
     mut ports: Items<VPort>,
 ) -> Result<Items<VPort>, Stop>
-    ensures { Reads (read (spec.next_port ports) cursor.old) result cursor.new }
+    requires { names.old ≡ spec.port_names ports }
+    ensures reads { Reads (read (spec.next_port ports) cursor.old) result cursor.new }
+    ensures named { IfOk result (λ more. names.new ≡ spec.port_names more) }
 {
-    let name = new_port_name(cursor, alloc, ports.as_slice())?;
+    let name = declare(cursor, alloc, names)?;
     ports.push(VPort { name, input: false })?;
     Ok(ports)
 }
 
-/// The ports of a header behind these.
+/// The ports of a header behind these, which have these names.
 #[tactic(auto, unfolding(specify_blocks::specs::VerilogModules::more_ports), using(rule_readers::proofs::Repeats::turn, udp_reader::proofs::Words::choose_begun, udp_reader::proofs::Words::choose_other))]
 fn more_ports(
     cursor: &mut Cursor<'_, Verilog>,
     alloc: Global,
+    mut names: Names,
     mut ports: Items<VPort>,
 ) -> Result<Items<VPort>, Stop>
+    requires { names ≡ spec.port_names ports }
     ensures { Reads (read (spec.more_ports ports) cursor.old) result cursor.new }
 {
     for _turn in 0..cursor.left() {
@@ -63,7 +58,7 @@ fn more_ports(
             break;
         }
         cursor.skip();
-        ports = next_port(cursor, alloc, ports)?;
+        ports = next_port(cursor, alloc, &mut names, ports)?;
     }
     Ok(ports)
 }
@@ -81,8 +76,9 @@ fn some_ports(cursor: &mut Cursor<'_, Verilog>, alloc: Global) -> Result<Items<V
         name: Items::from_slice(alloc, cursor.bytes())?,
         input: false,
     })?;
+    let names = one_name(alloc, cursor.bytes())?;
     cursor.skip();
-    more_ports(cursor, alloc, ports)
+    more_ports(cursor, alloc, names, ports)
 }
 
 /// The header of a module, behind its name.
@@ -194,87 +190,6 @@ fn module_outputs(cursor: &mut Cursor<'_, Verilog>, ports: &[VPort]) -> Result<(
         from = module_output(cursor, ports, from)?;
     }
     cursor.go_on_where(output_place(ports, from).is_none())
-}
-
-/// A name that is declared here, behind those of ports and of wires.
-fn new_net_name(
-    cursor: &mut Cursor<'_, Verilog>,
-    alloc: Global,
-    ports: &[VPort],
-    wires: &[Items<u8>],
-) -> Result<Items<u8>, Stop>
-    ensures { Reads (read (new_name (spec.port_names ports.now ++ wires.now)) cursor.old) result cursor.new }
-{
-    let taken = is_declared(ports, wires, cursor.bytes());
-    cursor.fresh_name(alloc, taken)
-}
-
-/// One more declared wire, behind its word.
-#[tactic(auto, unfolding(specify_blocks::specs::VerilogModules::declared_wire))]
-fn module_wire(
-    cursor: &mut Cursor<'_, Verilog>,
-    alloc: Global,
-    ports: &[VPort],
-    mut wires: Items<Items<u8>>,
-) -> Result<Items<Items<u8>>, Stop>
-    ensures { Reads (read (spec.declared_wire ports.now wires) cursor.old) result cursor.new }
-{
-    let name = new_net_name(cursor, alloc, ports, wires.as_slice())?;
-    cursor.expect(b";")?;
-    wires.push(name)?;
-    Ok(wires)
-}
-
-/// All declared wires.
-#[tactic(auto, unfolding(specify_blocks::specs::VerilogModules::declared_wires), using(rule_readers::proofs::Repeats::turn, udp_reader::proofs::Words::choose_begun, udp_reader::proofs::Words::choose_other))]
-fn module_wires(
-    cursor: &mut Cursor<'_, Verilog>,
-    alloc: Global,
-    ports: &[VPort],
-) -> Result<Items<Items<u8>>, Stop>
-    ensures { Reads (read (spec.declared_wires ports.now) cursor.old) result cursor.new }
-{
-    let mut wires = Items::new(alloc);
-    for _turn in 0..cursor.left() {
-        if !cursor.is_next(b"wire") {
-            break;
-        }
-        cursor.skip();
-        wires = module_wire(cursor, alloc, ports, wires)?;
-    }
-    Ok(wires)
-}
-
-/// The name of the register, behind its word.
-#[tactic(auto, unfolding(specify_blocks::specs::VerilogModules::declared_notifier))]
-fn declared_notifier(
-    cursor: &mut Cursor<'_, Verilog>,
-    alloc: Global,
-    ports: &[VPort],
-    wires: &[Items<u8>],
-) -> Result<Option<Items<u8>>, Stop>
-    ensures { Reads (read (spec.declared_notifier ports.now wires.now) cursor.old) result cursor.new }
-{
-    let name = new_net_name(cursor, alloc, ports, wires)?;
-    cursor.expect(b";")?;
-    Ok(Some(name))
-}
-
-/// The register of the checks, if there is one.
-#[tactic(auto, unfolding(specify_blocks::specs::VerilogModules::notifier), using(udp_reader::proofs::Words::choose_begun, udp_reader::proofs::Words::choose_other))]
-fn module_notifier(
-    cursor: &mut Cursor<'_, Verilog>,
-    alloc: Global,
-    ports: &[VPort],
-    wires: &[Items<u8>],
-) -> Result<Option<Items<u8>>, Stop>
-    ensures { Reads (read (spec.notifier ports.now wires.now) cursor.old) result cursor.new }
-{
-    if !cursor.is_next(b"reg") {
-        return Ok(None);
-    }
-    cursor.skip();
-    declared_notifier(cursor, alloc, ports, wires)
 }
 
 /// The declarations of a module behind its name, where it has these primitives: the module without instances.

@@ -13,6 +13,7 @@ mod ports;
 mod primitive_names;
 mod read;
 mod terminals;
+mod wires;
 
 pub use laws::{added_separators_change_no_module, fault_is_at_first_token, text_has_one_answer};
 pub use read::read_models;

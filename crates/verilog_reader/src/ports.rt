@@ -11,7 +11,7 @@ use udp_reader::Verilog;
 use udp_tables::VPort;
 
 /// Whether a name is one of a port.
-pub fn has_port(ports: &[VPort], name: &[u8]) -> bool
+fn has_port(ports: &[VPort], name: &[u8]) -> bool
     ensures { result ≡ is_among (port_names ports.now) name.now }
 {
     for port in ports {

@@ -1,8 +1,0 @@
-use Rattle.std.proofs.Common.{◌∙◌, ap}
-use Rattle.udp_tables.specs.VerilogRules.{is_among}
-use Rattle.specify_blocks.specs.VerilogModules.{port_names}
-use Rattle.verilog_reader.proofs.declarations.new_port_name.Goals as goal
-
-pub returns : goal.returns
-returns c =
-    c.fresh_name.ensures (port_names c.args.ports.now) (c.has_port-taken.ensures ∙ ap (is_among (port_names c.args.ports.now)) c.bytes.ensures)

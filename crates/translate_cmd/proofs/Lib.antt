@@ -1,9 +1,12 @@
 pub mod Bounds
+pub mod PlanLemmas
 pub mod RunsLemmas
 pub mod AskedLemmas
 pub mod CellLemmas
 pub mod ItemTexts
 pub mod ModelsLemmas
 pub mod TranslateLemmas
+pub mod SectionLemmas
+pub mod ReplayLemmas
 pub mod ItemsLemmas
 pub mod CompleteLemmas

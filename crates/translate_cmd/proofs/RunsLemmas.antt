@@ -21,7 +21,7 @@ use Rattle.translate_cmd.proofs.ModelsLemmas.{no_model_owed}
 unread_runs : (old new : DeskState) (result : Status) → RunsUnread (files_of (reading old.words)) (outcome old.words) old new result → Runs old new result
 unread_runs old new result r = record {
   run = r.0;
-  models = λ folder _. subst (λ n. HoldsModels (bytes_at old.words folder 1) n r.0.text) (sym (ap (λ taken. taken Library) r.1)) (no_model_owed _ r.0.text);
+  models = λ _ folder _. subst (λ n. HoldsModels (bytes_at old.words folder 1) n r.0.text) (sym (ap (λ taken. taken Library) r.1)) (no_model_owed _ r.0.text);
 }
 
 -- the primitive was written to the report

@@ -1,19 +1,15 @@
 -- Translating a library: binding its files, and what stands on the desk at each exit.
-use Rattle.std.proofs.Common.{◌≡◌, ℕ, Bool, true, false, List, [], ◌∷◌, ◌++◌, take, Option, Some, None, Result, Ok, Err, IsTrue, IsErr, IfOk, IfSome, OnOk, OnErr, codes, if◌then◌else◌, refl, sym, ap, subst, ◌∙◌}
+use Rattle.std.proofs.Common.{◌≡◌, ℕ, List, [], ◌∷◌, ◌++◌, take, Option, Some, None, Result, Ok, Err, IsTrue, IsErr, IfOk, IfSome, OnOk, OnErr, refl, sym, ap, subst, ◌∙◌}
 use Rattle.std.proofs.lemmas.List.{append-nil}
 use Rattle.std.specs.Option.{option_map}
-use Rattle.std.specs.Str.{bytes_eq}
 use Rattle.text_io.specs.declared.outside.Failed.{Failed}
 use Rattle.text_io.specs.declared.slots.InSlot.{InSlot}
 use Rattle.text_io.specs.declared.slots.InSlot.TheVariants.{Library}
 use Rattle.text_io.specs.declared.slots.OutSlot.TheVariants.{VerilogText, VitalText, Report, Faults}
-use Rattle.text_io.specs.declared.slots.Slot.{Slot}
 use Rattle.text_io.specs.declared.slots.Slot.TheVariants.{Input, Output}
-use Rattle.text_io.specs.Plan.{plan, are_file_words}
 use Rattle.text_io.specs.Desk.{DeskState, Folder, is_bound, opened, created, took, wrote, IsFileAt, IsPrefix, WritesText}
 use Rattle.text_io.proofs.Wrote.{wrote-nil}
 use Rattle.text_io.proofs.Took.{took-zero}
-use Rattle.udp_tables.specs.declared.table.Udp.{Udp}
 use Rattle.verilog_writer.specs.Model.{prelude_text}
 use Rattle.command_outcomes.specs.declared.status.Status.{Status}
 use Rattle.command_outcomes.specs.declared.status.Status.TheVariants.{Outside}
@@ -24,7 +20,7 @@ use Rattle.cell_cursor.specs.Ends.{items_within}
 use Rattle.translate_cmd.specs.declared.items.Ending.{Ending}
 use Rattle.translate_cmd.specs.declared.asked.Command.TheVariants as command
 use Rattle.command_outcomes.specs.Status.{is_decided}
-use Rattle.translate_cmd.specs.Reading.{reading, translate_reading, udp_reading, udp_command, asked_primitive}
+use Rattle.translate_cmd.specs.Reading.{reading}
 use Rattle.command_outcomes.specs.Written.{Written, nothing_written, in_verilog, in_report, joined, IsPart, wrote_all}
 use Rattle.translate_cmd.specs.Cells.{no_progress, progress_after, items_written}
 use Rattle.command_outcomes.specs.Outcome.{IsPartOf, IsAllOf}
@@ -58,43 +54,6 @@ IfOk-err (Err y) P e = tt
 OnOk-err : {T E : Type 0} (r : Result T E) (P : Type 0) → IsErr r → OnOk r P
 OnOk-err (Ok x) P e = absurd (cc)
 OnOk-err (Err y) P e = tt
-
--- The words of a command.
-
-printed : (udp : Option Udp) → udp_command udp ≡ command.Translate → ⊥
-printed None e = cc
-printed (Some udp) e = cc
-
-not_udp : (words : List (List ℕ)) → udp_reading words ≡ command.Translate → ⊥
-not_udp [] e = cc
-not_udp (name ∷ []) e = cc
-not_udp (name ∷ (text ∷ [])) e = printed (asked_primitive name text) e
-not_udp (name ∷ (text ∷ (more ∷ others))) e = cc
-
-abbrev files_planned : List (Slot × ℕ)
-files_planned = (Input Library, 1) ∷ (Output VerilogText, 2) ∷ (Output VitalText, 3) ∷ []
-
-planned_three : (first a b c : List ℕ) (are : Bool) → bytes_eq first (codes "translate") ≡ true → are_file_words (a ∷ b ∷ c ∷ []) ≡ are
-    → (if are then command.Translate else command.Usage) ≡ command.Translate → plan (first ∷ (a ∷ b ∷ c ∷ [])) ≡ files_planned
-planned_three first a b c true t w e = rw (t, w) refl
-planned_three first a b c false t w e = cc
-
-planned_by : (first : List ℕ) (files : List (List ℕ)) (prints translates : Bool) → bytes_eq first (codes "translate") ≡ translates
-    → (if prints then udp_reading files else if translates then translate_reading files else command.Usage) ≡ command.Translate
-    → plan (first ∷ files) ≡ files_planned
-planned_by first files true translates t e = absurd (not_udp files e)
-planned_by first files false false t e = cc
-planned_by first [] false true t e = cc
-planned_by first (a ∷ []) false true t e = cc
-planned_by first (a ∷ (b ∷ [])) false true t e = cc
-planned_by first (a ∷ (b ∷ (c ∷ []))) false true t e = planned_three first a b c (are_file_words (a ∷ b ∷ c ∷ [])) t refl e
-planned_by first (a ∷ (b ∷ (c ∷ (d ∷ others)))) false true t e = cc
-
--- the files that words bind which ask for a translation
-pub planned_files : (words : List (List ℕ)) → reading words ≡ command.Translate
-    → plan words ≡ (Input Library, 1) ∷ (Output VerilogText, 2) ∷ (Output VitalText, 3) ∷ []
-planned_files [] e = cc
-planned_files (first ∷ files) e = planned_by first files (bytes_eq first (codes "udp")) (bytes_eq first (codes "translate")) refl e
 
 -- Binding.
 
@@ -182,7 +141,7 @@ unbound_runs old new r e b =
       all_bound = λ d. absurd cc;
       whole = λ d. absurd cc;
     } in
-    record { run = run; models = λ folder _. no_model_owed _ nothing_written }
+    record { run = run; models = λ _ folder _. no_model_owed _ nothing_written }
 
 -- all were bound, and the library was translated or not
 pub translated_runs : (old now new : DeskState) (bytes : InSlot → List ℕ) (result : Status) (taken : ℕ) (text : Written) (faults : List ℕ)
@@ -210,7 +169,7 @@ translated_runs old now new bytes result taken text faults e h f state part mode
       all_bound = λ d folder tells. ap (take 3) asked ∙ ap (λ o. take o.binds (files_of (reading old.words))) (asks_outcome old folder e);
       whole = λ d folder tells. subst (IsAllOf result text faults) (asks_outcome old folder e) (told (λ all. IsAllOf result text faults (translate_outcome all)) old now folder bytes h f (known folder tells) (whole d));
     } in
-    record { run = run; models = λ folder tells. told (λ all. HoldsModels all taken text) old now folder bytes h f (known folder tells) models }
+    record { run = run; models = λ _ folder tells. told (λ all. HoldsModels all taken text) old now folder bytes h f tells models }
 
 -- Exits of the translation of a library that is bound.
 

@@ -1,7 +1,12 @@
 -- When a command does all that it was asked for. This project's promise.
-use Rattle.std.specs.Prelude.{◌≡◌, ◌≤◌, ◌⊎◌, ℕ, List, length, true}
+use Rattle.std.specs.Prelude.{◌≡◌, ◌≤◌, ◌⊎◌, ℕ, List, length, true, Ok}
 use Rattle.liberty_groups.specs.declared.read.End.TheVariants.{Whole}
 use Rattle.liberty_groups.specs.Answer.{end_of_bytes}
+use Rattle.specify_blocks.specs.declared.model.VModule.{VModule}
+use Rattle.specify_blocks.specs.VerilogText.{verilog_text}
+use Rattle.stimulus.specs.declared.sections.Section.{Section}
+use Rattle.stimulus.specs.PortEntries.{listed}
+use Rattle.stimulus.specs.Stimulus.{stimulus_of}
 use Rattle.text_io.specs.declared.slots.InSlot.{InSlot}
 use Rattle.text_io.specs.Desk.{DeskState, Folder}
 use Rattle.command_outcomes.specs.declared.status.Status.{Status}
@@ -11,6 +16,8 @@ use Rattle.translate_cmd.specs.declared.asked.Command.TheVariants as command
 use Rattle.translate_cmd.specs.Reading.{reading}
 use Rattle.command_outcomes.specs.Written.{wrote_all}
 use Rattle.command_outcomes.specs.Binding.{bound_state, AreNamed, took_all, Tells, bytes_at}
+use Rattle.verilog_replay.specs.ModulePorts.{modules_named}
+use Rattle.verilog_replay.specs.Outcome.{verilog_limit, stimulus_limit}
 use Rattle.translate_cmd.specs.Library.{library_limit}
 use Rattle.translate_cmd.specs.Outcome.{files_of, outcome}
 
@@ -19,15 +26,25 @@ pub record IsWholeLibrary (bytes : List ℕ) : Type 0 where
   pub within : length bytes ≤ library_limit
   pub whole : end_of_bytes bytes true ≡ Whole
 
--- The command can be done with these words and files: a primitive can always be printed, and a whole library be translated.
--- Words without a reading ask for nothing.
+-- a Verilog file and a stimulus over its modules, both within their limits and neither refused
+pub record CanBeReplayed (verilog stimulus : List ℕ) : Type 0 where
+  pub verilog_within : length verilog ≤ verilog_limit
+  pub modules : List VModule
+  pub text : verilog_text verilog ≡ Ok modules
+  pub stimulus_within : length stimulus ≤ stimulus_limit
+  pub sections : List Section
+  pub lines : stimulus_of (listed (modules_named modules)) stimulus ≡ Ok sections
+
+-- The command can be done with these words and files: a primitive can always be printed, a whole library be translated, and a
+-- Verilog file be replayed that is not refused, under a stimulus that is not. Words without a reading ask for nothing.
 abbrev pub CanBeDone : Command → List (List ℕ) → Folder → Type 0
 CanBeDone (command.Udp udp) words folder = Unit {0}
 CanBeDone command.Translate words folder = IsWholeLibrary (bytes_at words folder 1)
+CanBeDone command.ReplayVerilog words folder = CanBeReplayed (bytes_at words folder 1) (bytes_at words folder 2)
 CanBeDone command.Usage words folder = ⊥
 
 -- All was done: the files of the command were bound, all that the outcome appends was appended, and nothing was told as a
--- fault. Cells may have been refused.
+-- fault. Cells of a library may have been refused.
 pub record IsAllDone (old new : DeskState) (folder : Folder) (result : Status) : Type 0 where
   pub good : (result ≡ status.Done) ⊎ (result ≡ status.Cells)
   pub same_status : result ≡ (outcome old.words folder).status

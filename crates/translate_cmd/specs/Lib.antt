@@ -5,5 +5,6 @@ pub mod Models
 pub mod Library
 pub mod Outcome
 pub mod Runs
+pub mod Replay
 pub mod Reached
 pub mod Complete

@@ -9,6 +9,7 @@ use Rattle.command_outcomes.specs.declared.status.Status.TheVariants.{Done, Usag
 use Rattle.command_outcomes.specs.Written.{nothing_written, in_report}
 use Rattle.command_outcomes.specs.Binding.{Files, bytes_at}
 use Rattle.command_outcomes.specs.Outcome.{Outcome}
+use Rattle.verilog_replay.specs.Outcome.{replay_files, replay_of}
 use Rattle.translate_cmd.specs.declared.asked.Command.{Command}
 use Rattle.translate_cmd.specs.declared.asked.Command.TheVariants as command
 use Rattle.translate_cmd.specs.Reading.{reading}
@@ -21,6 +22,7 @@ translate_files = (Input Library, 1) ∷ (Output VerilogText, 2) ∷ (Output Vit
 -- the files that a command names
 abbrev pub files_of : Command → Files
 files_of command.Translate = translate_files
+files_of command.ReplayVerilog = replay_files
 files_of (command.Udp udp) = []
 files_of command.Usage = []
 
@@ -28,6 +30,7 @@ files_of command.Usage = []
 abbrev pub outcome_of : Command → List (List ℕ) → Folder → Outcome
 outcome_of (command.Udp udp) words folder = record { status = Done; binds = 0; text = in_report (primitive_text udp); faults = [] }
 outcome_of command.Translate words folder = translate_outcome (bytes_at words folder 1)
+outcome_of command.ReplayVerilog words folder = replay_of words folder
 outcome_of command.Usage words folder = record { status = Usage; binds = 0; text = nothing_written; faults = codes "lib2sim: usage\n" }
 
 -- what words come to, with these files

@@ -43,10 +43,21 @@ translate_reading (library ∷ (verilog ∷ (vital ∷ []))) =
     if are_file_words (library ∷ verilog ∷ vital ∷ []) then command.Translate else command.Usage
 translate_reading (library ∷ (verilog ∷ (vital ∷ (more ∷ others)))) = command.Usage
 
+-- what the words after `replay-verilog` ask for: those of a Verilog file and of a stimulus, neither empty and not equal
+abbrev pub replay_reading : List (List ℕ) → Command
+replay_reading [] = command.Usage
+replay_reading (verilog ∷ []) = command.Usage
+replay_reading (verilog ∷ (stimulus ∷ [])) = if are_file_words (verilog ∷ stimulus ∷ []) then command.ReplayVerilog else command.Usage
+replay_reading (verilog ∷ (stimulus ∷ (more ∷ others))) = command.Usage
+
+-- what the words of a command with files ask for, behind its name
+unfoldable pub file_reading : List ℕ → List (List ℕ) → Command
+file_reading name words =
+    if bytes_eq name (codes "translate") then translate_reading words
+    else if bytes_eq name (codes "replay-verilog") then replay_reading words
+    else command.Usage
+
 -- what words ask for; usage where they have no reading
 abbrev pub reading : List (List ℕ) → Command
 reading [] = command.Usage
-reading (first ∷ words) =
-    if bytes_eq first (codes "udp") then udp_reading words
-    else if bytes_eq first (codes "translate") then translate_reading words
-    else command.Usage
+reading (first ∷ words) = if bytes_eq first (codes "udp") then udp_reading words else file_reading first words

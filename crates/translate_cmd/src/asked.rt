@@ -3,7 +3,7 @@
 ghost use Rattle.std.specs.Prelude.{◌≡◌, ◌≤◌, [], ◌∷◌, drop, Ok, IfOk};
 ghost use Rattle.bool_functions.specs.Tree.{name_bound};
 ghost use Rattle.text_io.specs.Plan.{are_file_words};
-ghost use Rattle.translate_cmd.specs.Reading.{asked_primitive, primitive_read, udp_reading, translate_reading, reading};
+ghost use Rattle.translate_cmd.specs.Reading.{asked_primitive, primitive_read, udp_reading, translate_reading, replay_reading, file_reading, reading};
 
 use bool_functions::{Function, FunctionFault, read_free};
 use std::alloc::Global;
@@ -18,6 +18,8 @@ pub(crate) enum Command {
     Udp(Udp),
     /// The models of the cells of a library, to be written.
     Translate,
+    /// The traces of a Verilog file's modules under a stimulus, to be printed.
+    ReplayVerilog,
     /// Nothing: the words have no reading.
     Usage,
 }
@@ -35,10 +37,22 @@ pub(crate) fn asked<D: Desk>(alloc: Global, desk: &D) -> Result<Command, Memory>
     };
     if first == "udp" {
         asked_udp(alloc, desk)
-    } else if first == "translate" {
-        Ok(asked_translate(desk))
     } else {
-        Ok(Command::Usage)
+        Ok(asked_files(desk, first))
+    }
+}
+
+/// What the words of a command with files ask for, of which this is the name.
+#[tactic(auto, unfolding(crate::specs::Reading::file_reading))]
+fn asked_files<D: Desk>(desk: &D, name: &str) -> Command
+    ensures { result ≡ file_reading name.now (drop 1 (D.state desk.now).words) }
+{
+    if name == "translate" {
+        asked_translate(desk)
+    } else if name == "replay-verilog" {
+        asked_replay(desk)
+    } else {
+        Command::Usage
     }
 }
 
@@ -60,6 +74,30 @@ fn asked_translate<D: Desk>(desk: &D) -> Command
     } else {
         Command::Usage
     }
+}
+
+/// What the words after `replay-verilog` ask for.
+fn asked_replay<D: Desk>(desk: &D) -> Command
+    ensures { result ≡ replay_reading (drop 1 (D.state desk.now).words) }
+{
+    let Some(verilog) = desk.word(1) else {
+        return Command::Usage;
+    };
+    let Some(stimulus) = desk.word(2) else {
+        return Command::Usage;
+    };
+    if desk.word(3).is_none() && are_two_file_words(verilog, stimulus) {
+        Command::ReplayVerilog
+    } else {
+        Command::Usage
+    }
+}
+
+/// Whether two words can name files side by side: neither is empty, and they are not equal as texts.
+fn are_two_file_words(first: &str, second: &str) -> bool
+    ensures { result ≡ are_file_words (first.now ∷ second.now ∷ []) }
+{
+    !first.is_empty() && first != second && !second.is_empty()
 }
 
 /// Whether three words can name files side by side: none is empty, and no two are equal as texts.

@@ -10,6 +10,7 @@ ghost use Rattle.translate_cmd.specs.Runs.{Runs};
 ghost use Rattle.translate_cmd.specs.Complete.{Completes};
 
 use crate::asked::{Command, Memory, asked};
+use crate::replay::replay;
 use crate::translate::translate;
 use command_outcomes::Status;
 use std::alloc::Global;
@@ -20,7 +21,8 @@ use verilog_writer::write_udp;
 const USAGE: &[u8] = b"lib2sim: usage\n";
 
 /// Runs the command that the desk's words ask for: `udp` prints a primitive, `translate` writes the models of a library's
-/// cells and a report of them, and words without a reading are `Usage`.
+/// cells and a report of them, `replay-verilog` prints the traces of a Verilog file's modules under a stimulus, and words
+/// without a reading are `Usage`.
 ///
 /// It ends with the status of the outcome of the words and the desk's files, and all that the outcome appends was appended,
 /// or with one of two others: `Outside`, only where a call on the desk failed in this call, and `Memory`, where there was
@@ -30,8 +32,9 @@ const USAGE: &[u8] = b"lib2sim: usage\n";
 /// However `translate` ends, these two among the ways, all is there that is written for the cells whose closing braces lie
 /// more than 65,536 bytes before the end of the bytes that it read: the whole models of the accepted ones, and their lines.
 ///
-/// Where no call failed, words of `udp` with a reading come to `Done` or `Memory`, and a whole library of at most 67,108,864
-/// bytes, its cells refused or not, to `Done`, `Cells` or `Memory`.
+/// Where no call failed, words of `udp` with a reading come to `Done` or `Memory`, a whole library of at most 67,108,864
+/// bytes, its cells refused or not, to `Done`, `Cells` or `Memory`, and a Verilog file of at most as many bytes and a stimulus of
+/// at most 16,777,216, neither refused, to `Done` or `Memory`.
 ///
 /// Nothing is bound but what the words name. Of a command that reads files all this is said where the desk tells its folder
 /// and what is left of its files.
@@ -57,6 +60,7 @@ fn carry_out<D: Desk>(alloc: Global, desk: &mut D) -> Status
     match asked(alloc, desk) {
         Ok(Command::Udp(udp)) => ended(write_udp(desk, OutSlot::Report, &udp), Status::Done),
         Ok(Command::Translate) => translate(alloc, desk),
+        Ok(Command::ReplayVerilog) => replay(alloc, desk),
         Ok(Command::Usage) => ended(write_whole(desk, OutSlot::Faults, USAGE), Status::Usage),
         Err(Memory) => Status::Memory,
     }

@@ -13,7 +13,11 @@ mod far_reading_tests;
 mod items;
 #[cfg(test)]
 mod library_desk;
+mod module_sections;
 mod progress;
+mod replay;
+#[cfg(test)]
+mod replay_tests;
 mod stop;
 #[cfg(test)]
 mod tests;

@@ -1,8 +1,11 @@
-use Rattle.translate_cmd.proofs.TranslateLemmas.{planned_files, bound_all, file_all, library_bound, verilog_bound, unbound_runs, translated_runs}
+use Rattle.std.proofs.Common.{refl}
+use Rattle.translate_cmd.specs.declared.asked.Command.TheVariants as command
+use Rattle.translate_cmd.proofs.PlanLemmas.{planned_files}
+use Rattle.translate_cmd.proofs.TranslateLemmas.{bound_all, file_all, library_bound, verilog_bound, unbound_runs, translated_runs}
 use Rattle.translate_cmd.proofs.translate.translate.Goals as goal
 
 pub bind_files-requires : goal.bind_files-requires
-bind_files-requires g c = planned_files (g.D.Desk.state c.args.desk.now).words c.requires
+bind_files-requires g c = planned_files (g.D.Desk.state c.args.desk.now).words command.Translate c.requires refl
 
 pub returns-in-Err-clause-writes : goal.returns-in-Err-clause-writes
 returns-in-Err-clause-writes g c = unbound_runs _ _ _ c.requires c.in-Err.ensures.binds

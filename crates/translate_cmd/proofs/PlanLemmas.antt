@@ -1,0 +1,76 @@
+-- The files that words bind which ask for a command with files.
+use Rattle.std.proofs.Common.{◌≡◌, ℕ, Bool, true, false, List, [], ◌∷◌, Option, Some, None, codes, if◌then◌else◌, refl, sym, ap, subst, ◌∙◌}
+use Rattle.std.proofs.lemmas.Slice.Eq.{bytes_eq-Decides}
+use Rattle.std.specs.Str.{bytes_eq}
+use Rattle.text_io.specs.Plan.{plan, are_file_words}
+use Rattle.udp_tables.specs.declared.table.Udp.{Udp}
+use Rattle.translate_cmd.specs.declared.asked.Command.{Command}
+use Rattle.translate_cmd.specs.declared.asked.Command.TheVariants as command
+use Rattle.translate_cmd.specs.Reading.{reading, udp_reading, udp_command, asked_primitive, translate_reading, replay_reading, file_reading}
+use Rattle.translate_cmd.specs.Outcome.{files_of}
+
+-- the command has files
+abbrev pub has_files : Command → Bool
+has_files command.Translate = true
+has_files command.ReplayVerilog = true
+has_files (command.Udp udp) = false
+has_files command.Usage = false
+
+printed : (udp : Option Udp) → has_files (udp_command udp) ≡ true → ⊥
+printed None e = cc
+printed (Some udp) e = cc
+
+not_udp : (words : List (List ℕ)) → has_files (udp_reading words) ≡ true → ⊥
+not_udp [] e = cc
+not_udp (name ∷ []) e = cc
+not_udp (name ∷ (text ∷ [])) e = printed (asked_primitive name text) e
+not_udp (name ∷ (text ∷ (more ∷ others))) e = cc
+
+not_usage : {A : Type 0} (asked : Command) → command.Usage ≡ asked → has_files asked ≡ true → A
+not_usage asked e h = absurd (let same : false ≡ true = ap has_files e ∙ h in cc)
+
+three_planned : (first a b c : List ℕ) (asked : Command) (are : Bool) → bytes_eq first (codes "translate") ≡ true → are_file_words (a ∷ b ∷ c ∷ []) ≡ are
+    → (if are then command.Translate else command.Usage) ≡ asked → has_files asked ≡ true → plan (first ∷ (a ∷ b ∷ c ∷ [])) ≡ files_of asked
+three_planned first a b c asked true t w e h = rw (t, w) (ap files_of e)
+three_planned first a b c asked false t w e h = not_usage asked e h
+
+two_planned : (a b : List ℕ) (asked : Command) (are : Bool) → are_file_words (a ∷ b ∷ []) ≡ are
+    → (if are then command.ReplayVerilog else command.Usage) ≡ asked → has_files asked ≡ true → plan (codes "replay-verilog" ∷ (a ∷ b ∷ [])) ≡ files_of asked
+two_planned a b asked true w e h = rw w (ap files_of e)
+two_planned a b asked false w e h = not_usage asked e h
+
+translate_planned : (first : List ℕ) (files : List (List ℕ)) (asked : Command) → bytes_eq first (codes "translate") ≡ true
+    → translate_reading files ≡ asked → has_files asked ≡ true → plan (first ∷ files) ≡ files_of asked
+translate_planned first [] asked t e h = not_usage asked e h
+translate_planned first (a ∷ []) asked t e h = not_usage asked e h
+translate_planned first (a ∷ (b ∷ [])) asked t e h = not_usage asked e h
+translate_planned first (a ∷ (b ∷ (c ∷ []))) asked t e h = three_planned first a b c asked (are_file_words (a ∷ b ∷ c ∷ [])) t refl e h
+translate_planned first (a ∷ (b ∷ (c ∷ (d ∷ others)))) asked t e h = not_usage asked e h
+
+replay_planned : (files : List (List ℕ)) (asked : Command)
+    → replay_reading files ≡ asked → has_files asked ≡ true → plan (codes "replay-verilog" ∷ files) ≡ files_of asked
+replay_planned [] asked e h = not_usage asked e h
+replay_planned (a ∷ []) asked e h = not_usage asked e h
+replay_planned (a ∷ (b ∷ [])) asked e h = two_planned a b asked (are_file_words (a ∷ b ∷ [])) refl e h
+replay_planned (a ∷ (b ∷ (c ∷ others))) asked e h = not_usage asked e h
+
+named_planned : (first : List ℕ) (files : List (List ℕ)) (asked : Command) (translates replays : Bool)
+    → bytes_eq first (codes "translate") ≡ translates → bytes_eq first (codes "replay-verilog") ≡ replays
+    → (if translates then translate_reading files else if replays then replay_reading files else command.Usage) ≡ asked
+    → has_files asked ≡ true → plan (first ∷ files) ≡ files_of asked
+named_planned first files asked true replays t r e h = translate_planned first files asked t e h
+named_planned first files asked false true t r e h =
+    let same : first ≡ codes "replay-verilog" = (bytes_eq-Decides first (codes "replay-verilog")).0 r in
+    subst (λ word. plan (word ∷ files) ≡ files_of asked) (sym same) (replay_planned files asked e h)
+named_planned first files asked false false t r e h = not_usage asked e h
+
+planned_by : (first : List ℕ) (files : List (List ℕ)) (asked : Command) (prints : Bool)
+    → (if prints then udp_reading files else file_reading first files) ≡ asked → has_files asked ≡ true → plan (first ∷ files) ≡ files_of asked
+unfolding file_reading
+planned_by first files asked true e h = absurd (not_udp files (ap has_files e ∙ h))
+planned_by first files asked false e h = named_planned first files asked (bytes_eq first (codes "translate")) (bytes_eq first (codes "replay-verilog")) refl refl e h
+
+-- they are those of the command
+pub planned_files : (words : List (List ℕ)) (asked : Command) → reading words ≡ asked → has_files asked ≡ true → plan words ≡ files_of asked
+planned_files [] asked e h = not_usage asked e h
+planned_files (first ∷ files) asked e h = planned_by first files asked (bytes_eq first (codes "udp")) e h

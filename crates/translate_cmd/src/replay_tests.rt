@@ -1,0 +1,71 @@
+//! Runs of `replay-verilog`.
+use crate::three_cells::TWO_MODULES;
+use crate::{Status, run};
+use std::alloc::Global;
+use std::test::Fail;
+use text_io::{MemoryDesk, NamedFile, OutSlot};
+
+/// Replays these bytes of a Verilog file under these of a stimulus.
+fn replayed(alloc: Global, verilog: &str, stimulus: &str) -> Result<(Status, MemoryDesk), Fail> {
+    let mut words = Vec::new(alloc);
+    for word in ["replay-verilog", "in.v", "in.stim"] {
+        words.push(String::from_str(alloc, word)?)?;
+    }
+    let mut folder = Vec::new(alloc);
+    for (name, text) in [("in.v", verilog), ("in.stim", stimulus)] {
+        folder.push(NamedFile {
+            name: String::from_str(alloc, name)?,
+            bytes: Vec::from_slice(alloc, text.as_bytes())?,
+        })?;
+    }
+    let mut desk = MemoryDesk::new(alloc, words, folder, Vec::new(alloc), 10000)?;
+    let status = run(alloc, &mut desk);
+    Ok((status, desk))
+}
+
+#[test]
+fn sections_are_printed_in_the_order_of_the_stimulus(rt: HostRuntime) -> Result<(), Fail> {
+    let alloc = rt.alloc();
+    let stimulus = "cell INV\ncell BUF\n5 A 1\n9 A x\ncell INV\n5 A 1\n";
+    let report = "cell INV
+V start : Y=x
+cell BUF
+V start : Y=x
+V 5 A 1 : Y=1@0
+V 9 A x : Y=x@0
+cell INV
+V start : Y=x
+V 5 A 1 : Y=0@0
+";
+    let (status, desk) = replayed(alloc, TWO_MODULES, stimulus)?;
+    assert_eq!(rt; status, Status::Done);
+    assert_eq!(rt; desk.written(OutSlot::Report), report.as_bytes());
+    assert_eq!(rt; desk.written(OutSlot::Faults), b"".as_slice());
+    Ok(())
+}
+
+#[test]
+fn the_first_fault_of_the_files_is_told(rt: HostRuntime) -> Result<(), Fail> {
+    let alloc = rt.alloc();
+    for (verilog, stimulus, wanted, line) in [
+        ("", "cell", Status::Model, "verilog refused at 0: syntax\n"),
+        (
+            TWO_MODULES,
+            "cell INV\n5 A 1\n5 A 0\n",
+            Status::Stimulus,
+            "stimulus line 3: time\n",
+        ),
+        (
+            TWO_MODULES,
+            "cell TB\n",
+            Status::Stimulus,
+            "stimulus line 1: unknown cell\n",
+        ),
+    ] {
+        let (status, desk) = replayed(alloc, verilog, stimulus)?;
+        assert_eq!(rt; status, wanted);
+        assert_eq!(rt; desk.written(OutSlot::Report), b"".as_slice());
+        assert_eq!(rt; desk.written(OutSlot::Faults), line.as_bytes());
+    }
+    Ok(())
+}

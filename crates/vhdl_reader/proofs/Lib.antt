@@ -1,0 +1,3 @@
+pub mod NextWords
+pub mod NextConstant
+pub mod NextVariable

@@ -1,0 +1,67 @@
+//! The declarations of an entity and of its architecture. (IEEE 1076-1993, 1.1 and 1.2.)
+
+ghost use Rattle.std.specs.Prelude.{◌≡◌};
+ghost use Rattle.grammar_rules.specs.Reading.{read};
+ghost use Rattle.rule_readers.specs.Reading.{Reads};
+ghost use Rattle.vhdl_text.specs.VhdlDeclarations as spec;
+
+use crate::constants::constants;
+use crate::header::{architecture_header, entity_header};
+use crate::language::Vhdl;
+use crate::process::{input_names, sensitivity};
+use crate::symbols::state_width;
+use crate::variables::variables;
+use crate::words::expect_all;
+use rule_readers::{Cursor, Stop};
+use sqlite_items::Items;
+use std::alloc::Global;
+use udp_tables::VPort;
+use vhdl_text::{Scope, Tables};
+
+/// How many outputs there are.
+pub fn output_count(ports: &[VPort]) -> usize
+    ensures { result ≡ spec.output_count ports.now }
+{
+    let mut count = 0;
+    for port in ports {
+        if !port.input {
+            count += 1;
+        }
+    }
+    count
+}
+
+/// How many columns the table of the state with this number has.
+pub fn width_at(tables: &Tables, state: usize) -> usize
+    ensures { result ≡ spec.width_at tables.now state }
+{
+    match tables.states.get(state) {
+        Some(table) => state_width(table.rows.as_slice()),
+        None => 0,
+    }
+}
+
+/// The declarations behind the name of an entity, up to the `begin` before the statements.
+#[tactic(auto, unfolding(vhdl_text::specs::VhdlDeclarations::scope_of))]
+pub fn scope_of(
+    cursor: &mut Cursor<'_, Vhdl>,
+    alloc: Global,
+    name: Items<u8>,
+) -> Result<Scope, Stop>
+    ensures { Reads (read (spec.scope_of name) cursor.old) result cursor.new }
+{
+    let ports = entity_header(cursor, alloc, name.as_slice())?;
+    architecture_header(cursor, name.as_slice())?;
+    let tables = constants(cursor, alloc)?;
+    expect_all(cursor, &[b"begin", b"process"])?;
+    let inputs = input_names(alloc, ports.as_slice())?;
+    sensitivity(cursor, inputs.as_slice())?;
+    let variables = variables(cursor, alloc, ports.as_slice(), &tables)?;
+    cursor.expect(b"begin")?;
+    Ok(Scope {
+        name,
+        ports,
+        tables,
+        variables,
+    })
+}

@@ -1,0 +1,369 @@
+//! The variables of a process. (IEEE 1076-1993, 4.3.1.3; IEEE 1076.4-2000, the types of the data of checks and of delays.)
+
+ghost use Rattle.std.specs.Prelude.{◌≡◌, ◌+◌, ◌<◌, length, IfOk, Some, [], ◌∷◌, codes};
+ghost use Rattle.std.specs.Option.{option_map};
+ghost use Rattle.grammar_rules.specs.Rule.{Gives, Many, Then, Token};
+ghost use Rattle.grammar_rules.specs.Reading.{read};
+ghost use Rattle.rule_readers.specs.declared.refusal.Refusal.TheVariants.{Syntax};
+ghost use Rattle.rule_readers.specs.Reading.{Reads, ReadsAs};
+ghost use Rattle.rule_readers.specs.Words.{valued};
+ghost use Rattle.vhdl_text.specs.VhdlRules as rules;
+ghost use Rattle.vhdl_text.specs.VhdlDeclarations as spec;
+ghost use Rattle.vhdl_reader.specs.Kinds.{variable_kind};
+ghost use Rattle.vhdl_reader.specs.declared.variables.VariableOf.TheVariants as kind;
+
+use crate::language::Vhdl;
+use crate::scope::{output_count, width_at};
+use crate::words::{expect_all, is_numbered, numbered, this_number};
+use rule_readers::{Cursor, Refusal, Stop};
+use sqlite_items::Items;
+use std::alloc::{AllocError, Global};
+use udp_tables::VPort;
+use vhdl_text::{Tables, Variables};
+use vhdl_tokens::{is_name, is_same};
+
+/// What a variable is of.
+#[derive(Clone, Copy, Debug, PartialEq, Eq)]
+pub enum VariableOf {
+    /// A check.
+    Check,
+    /// The violation.
+    Violation,
+    /// A state.
+    State,
+    /// An output.
+    Output,
+    /// The delays of an output.
+    Glitch,
+}
+
+/// Whether no variable of a state or of an output stands yet.
+fn is_before_states(variables: &Variables) -> bool
+    ensures { result ≡ spec.is_before_states variables.now }
+{
+    variables.states == 0 && variables.glitches.len() == 0
+}
+
+/// Whether variables of checks stand, and the one of the violation is next.
+fn awaits_violation(variables: &Variables) -> bool
+    ensures { result ≡ spec.awaits_violation variables.now }
+{
+    variables.periods.len() > 0 && !variables.violation
+}
+
+/// Whether the last of these is false.
+fn is_last_false(flags: &[bool]) -> bool
+    ensures { result ≡ spec.is_last_false flags.now }
+{
+    match flags.split_last() {
+        Some((last, _)) => !*last,
+        None => false,
+    }
+}
+
+/// The variable of a state or of an output that a name declares behind these. An `Err` comes only where memory is wanting.
+fn state_or_output(
+    alloc: Global,
+    ports: &[VPort],
+    tables: &Tables,
+    variables: &Variables,
+    token: &[u8],
+) -> Result<Option<VariableOf>, AllocError>
+    ensures value { IfOk result (λ found. option_map variable_kind found ≡ spec.state_or_output ports.now tables.now variables.now token.now) }
+    ensures within { IfOk result (λ found. found ≡ Some kind.State → variables.now.states < length tables.now.states) }
+{
+    if variables.states < tables.states.as_slice().len() {
+        if is_numbered(alloc, token, b"s_", variables.states + 1)? {
+            return Ok(Some(VariableOf::State));
+        }
+        return Ok(None);
+    }
+    let outputs = variables.glitches.as_slice().len();
+    if outputs < output_count(ports) && is_numbered(alloc, token, b"z_", outputs + 1)? {
+        return Ok(Some(VariableOf::Output));
+    }
+    if is_last_false(variables.glitches.as_slice()) && is_numbered(alloc, token, b"g_", outputs)? {
+        return Ok(Some(VariableOf::Glitch));
+    }
+    Ok(None)
+}
+
+/// The variable that a name declares behind these. An `Err` comes only where memory is wanting.
+fn variable_of(
+    alloc: Global,
+    ports: &[VPort],
+    tables: &Tables,
+    variables: &Variables,
+    token: &[u8],
+) -> Result<Option<VariableOf>, AllocError>
+    ensures value { IfOk result (λ found. option_map variable_kind found ≡ spec.variable_of ports.now tables.now variables.now token.now) }
+    ensures within { IfOk result (λ found. found ≡ Some kind.State → variables.now.states < length tables.now.states) }
+{
+    if is_before_states(variables) && !variables.violation {
+        let number = variables.periods.as_slice().len() + 1;
+        if is_numbered(alloc, token, b"x_", number)? {
+            return Ok(Some(VariableOf::Check));
+        }
+    }
+    if awaits_violation(variables) {
+        return Ok(None);
+    }
+    state_or_output(alloc, ports, tables, variables, token)
+}
+
+/// The name of the next variable.
+#[tactic(auto, using(crate::proofs::NextVariable::violation, crate::proofs::NextVariable::other, crate::proofs::NextVariable::some, crate::proofs::NextVariable::none))]
+fn variable_name(
+    cursor: &mut Cursor<'_, Vhdl>,
+    alloc: Global,
+    ports: &[VPort],
+    tables: &Tables,
+    variables: &Variables,
+) -> Result<VariableOf, Stop>
+    ensures value { ReadsAs variable_kind (read (Token (spec.variable_by ports.now tables.now variables.now) Syntax) cursor.old) result cursor.new }
+    ensures within { IfOk result (λ of. of ≡ kind.State → variables.now.states < length tables.now.states) }
+{
+    if awaits_violation(variables) && cursor.is_next(b"viol") {
+        cursor.skip();
+        return Ok(VariableOf::Violation);
+    }
+    if !is_name(cursor.bytes()) {
+        return Err(Stop::Refused(Refusal::Syntax));
+    }
+    let Some(of) = variable_of(alloc, ports, tables, variables, cursor.bytes())? else {
+        return Err(Stop::Refused(Refusal::Undefined));
+    };
+    cursor.skip();
+    Ok(of)
+}
+
+/// Whether a type is of the data of a pulse or of a period, or else of those of other checks.
+fn is_period_type(token: &[u8]) -> Option<bool>
+    ensures { result ≡ spec.is_period_type token.now }
+{
+    if is_same(token, b"VitalTimingDataType") {
+        Some(false)
+    } else if is_same(token, b"VitalPeriodDataType") {
+        Some(true)
+    } else {
+        None
+    }
+}
+
+/// The type of the data of a check.
+#[tactic(auto, using(rule_readers::proofs::Values::valued_some, rule_readers::proofs::Values::valued_none))]
+fn period_type(cursor: &mut Cursor<'_, Vhdl>) -> Result<bool, Stop>
+    ensures { Reads (read (valued spec.is_period_type) cursor.old) result cursor.new }
+{
+    let Some(is_period) = is_period_type(cursor.bytes()) else {
+        return Err(Stop::Refused(Refusal::Syntax));
+    };
+    cursor.skip();
+    Ok(is_period)
+}
+
+/// The first data of a check of this type, and the end of its declaration.
+fn initialised(
+    cursor: &mut Cursor<'_, Vhdl>,
+    mut variables: Variables,
+    is_period: bool,
+) -> Result<Variables, Stop>
+    ensures { Reads (read (Then (rules.expect_all (codes ":=" ∷ spec.first_data is_period ∷ codes ";" ∷ [])) (λ _. Gives (spec.with_check variables is_period))) cursor.old) result cursor.new }
+{
+    if is_period {
+        expect_all(cursor, &[b":=", b"VitalPeriodDataInit", b";"])?;
+        variables.periods.push(true)?;
+        return Ok(variables);
+    }
+    expect_all(cursor, &[b":=", b"VitalTimingDataInit", b";"])?;
+    variables.periods.push(false)?;
+    Ok(variables)
+}
+
+/// The name of the data of the next check.
+fn data_name(
+    cursor: &mut Cursor<'_, Vhdl>,
+    alloc: Global,
+    variables: &Variables,
+) -> Result<(), Stop>
+    ensures { Reads (read (rules.this_name (Some (rules.numbered (codes "d_") (length variables.now.periods + 1)))) cursor.old) result cursor.new }
+{
+    let number = variables.periods.as_slice().len() + 1;
+    numbered(cursor, alloc, true, b"d_", number)
+}
+
+/// The variables of a check, behind the name of the first of them.
+#[tactic(auto, unfolding(vhdl_text::specs::VhdlDeclarations::check_variables))]
+fn check_variables(
+    cursor: &mut Cursor<'_, Vhdl>,
+    alloc: Global,
+    variables: Variables,
+) -> Result<Variables, Stop>
+    ensures { Reads (read (spec.check_variables variables) cursor.old) result cursor.new }
+{
+    expect_all(cursor, &[b":", b"X01", b":=", b"'0'", b";", b"variable"])?;
+    data_name(cursor, alloc, &variables)?;
+    cursor.expect(b":")?;
+    let is_period = period_type(cursor)?;
+    initialised(cursor, variables, is_period)
+}
+
+/// The variable of the violation, behind its name.
+#[tactic(auto, unfolding(vhdl_text::specs::VhdlDeclarations::violation_variable))]
+fn violation_variable(
+    cursor: &mut Cursor<'_, Vhdl>,
+    mut variables: Variables,
+) -> Result<Variables, Stop>
+    ensures { Reads (read (spec.violation_variable variables) cursor.old) result cursor.new }
+{
+    expect_all(cursor, &[b":", b"X01", b":=", b"'0'", b";"])?;
+    variables.violation = true;
+    Ok(variables)
+}
+
+/// The variables of a state, behind the name of the first of them.
+#[tactic(auto, unfolding(vhdl_text::specs::VhdlDeclarations::state_variables))]
+fn state_variables(
+    cursor: &mut Cursor<'_, Vhdl>,
+    alloc: Global,
+    tables: &Tables,
+    mut variables: Variables,
+) -> Result<Variables, Stop>
+    requires { variables.states < length tables.now.states }
+    ensures { Reads (read (spec.state_variables tables.now variables) cursor.old) result cursor.new }
+{
+    let _bound = tables.states.as_slice().len();
+    expect_all(
+        cursor,
+        &[b":", b"std_logic", b":=", b"'X'", b";", b"variable"],
+    )?;
+    numbered(cursor, alloc, true, b"p_", variables.states + 1)?;
+    expect_all(cursor, &[b":", b"std_logic_vector", b"("])?;
+    this_number(cursor, 1)?;
+    cursor.expect(b"to")?;
+    this_number(cursor, width_at(tables, variables.states))?;
+    expect_all(
+        cursor,
+        &[b")", b":=", b"(", b"others", b"=>", b"'X'", b")", b";"],
+    )?;
+    variables.states += 1;
+    Ok(variables)
+}
+
+/// The variable of an output, behind its name.
+#[tactic(auto, unfolding(vhdl_text::specs::VhdlDeclarations::output_variable))]
+fn output_variable(
+    cursor: &mut Cursor<'_, Vhdl>,
+    mut variables: Variables,
+) -> Result<Variables, Stop>
+    ensures { Reads (read (spec.output_variable variables) cursor.old) result cursor.new }
+{
+    expect_all(cursor, &[b":", b"std_logic", b":=", b"'X'", b";"])?;
+    variables.glitches.push(false)?;
+    Ok(variables)
+}
+
+/// These with true as the last.
+#[tactic(auto, using(crate::proofs::NextVariable::last_true_append))]
+fn last_true(mut flags: Items<bool>) -> Result<Items<bool>, AllocError>
+    ensures { IfOk result (λ changed. changed ≡ spec.last_true flags) }
+{
+    match flags.pop() {
+        Some(_) => {
+            flags.push(true)?;
+            Ok(flags)
+        }
+        None => Ok(flags),
+    }
+}
+
+/// The variable of the delays of an output, behind its name.
+#[tactic(auto, unfolding(vhdl_text::specs::VhdlDeclarations::glitch_variable))]
+fn glitch_variable(cursor: &mut Cursor<'_, Vhdl>, variables: Variables) -> Result<Variables, Stop>
+    ensures { Reads (read (spec.glitch_variable variables) cursor.old) result cursor.new }
+{
+    expect_all(cursor, &[b":", b"VitalGlitchDataType", b";"])?;
+    let Variables {
+        periods,
+        violation,
+        states,
+        glitches,
+    } = variables;
+    Ok(Variables {
+        periods,
+        violation,
+        states,
+        glitches: last_true(glitches)?,
+    })
+}
+
+/// One more variable, behind its word.
+#[tactic(auto, unfolding(vhdl_text::specs::VhdlDeclarations::variable))]
+fn variable(
+    cursor: &mut Cursor<'_, Vhdl>,
+    alloc: Global,
+    ports: &[VPort],
+    tables: &Tables,
+    variables: Variables,
+) -> Result<Variables, Stop>
+    ensures { Reads (read (spec.variable ports.now tables.now variables) cursor.old) result cursor.new }
+{
+    match variable_name(cursor, alloc, ports, tables, &variables)? {
+        VariableOf::Check => check_variables(cursor, alloc, variables),
+        VariableOf::Violation => violation_variable(cursor, variables),
+        VariableOf::State => state_variables(cursor, alloc, tables, variables),
+        VariableOf::Output => output_variable(cursor, variables),
+        VariableOf::Glitch => glitch_variable(cursor, variables),
+    }
+}
+
+/// Whether the variables of all checks, states and outputs stand.
+fn are_declared(ports: &[VPort], tables: &Tables, variables: &Variables) -> bool
+    ensures { result ≡ spec.are_declared ports.now tables.now variables.now }
+{
+    !awaits_violation(variables)
+        && variables.states == tables.states.len()
+        && variables.glitches.len() == output_count(ports)
+}
+
+/// The variables behind these.
+#[tactic(auto, using(rule_readers::proofs::Repeats::turn, crate::proofs::NextWords::choose_begun, crate::proofs::NextWords::choose_other))]
+fn more_variables(
+    cursor: &mut Cursor<'_, Vhdl>,
+    alloc: Global,
+    ports: &[VPort],
+    tables: &Tables,
+    mut variables: Variables,
+) -> Result<Variables, Stop>
+    ensures { Reads (read (Many (λ _. rules.begins (codes "variable")) (λ v _. spec.variable ports.now tables.now v) variables) cursor.old) result cursor.new }
+{
+    for _turn in 0..cursor.left() {
+        if !cursor.is_next(b"variable") {
+            break;
+        }
+        cursor.skip();
+        variables = variable(cursor, alloc, ports, tables, variables)?;
+    }
+    Ok(variables)
+}
+
+/// All variables.
+#[tactic(auto, unfolding(vhdl_text::specs::VhdlDeclarations::variables))]
+pub fn variables(
+    cursor: &mut Cursor<'_, Vhdl>,
+    alloc: Global,
+    ports: &[VPort],
+    tables: &Tables,
+) -> Result<Variables, Stop>
+    ensures { Reads (read (spec.variables ports.now tables.now) cursor.old) result cursor.new }
+{
+    let none = Variables {
+        periods: Items::new(alloc),
+        violation: false,
+        states: 0,
+        glitches: Items::new(alloc),
+    };
+    let all = more_variables(cursor, alloc, ports, tables, none)?;
+    cursor.go_on_where(are_declared(ports, tables, &all))?;
+    Ok(all)
+}

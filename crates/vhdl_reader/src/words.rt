@@ -1,0 +1,78 @@
+//! Words, numbers and times at the next token.
+
+ghost use Rattle.std.specs.Prelude.{◌≡◌, map, IfOk};
+ghost use Rattle.vhdl_tokens.specs.Spelling.{is_same};
+ghost use Rattle.grammar_rules.specs.Reading.{read};
+ghost use Rattle.vhdl_text.specs.VhdlRules as spec;
+ghost use Rattle.rule_readers.specs.Reading.{Reads};
+
+use crate::language::Vhdl;
+use rule_readers::{Cursor, Refusal, Stop};
+use std::alloc::{AllocError, Global};
+use vhdl_names::numbered_name;
+use vhdl_tokens::{is_same, number_of};
+
+/// Tokens that must stand next, one behind the other.
+#[tactic(auto, using(crate::proofs::NextWords::expect_next, crate::proofs::NextWords::expect_other))]
+pub fn expect_all(cursor: &mut Cursor<'_, Vhdl>, texts: &[&[u8]]) -> Result<(), Stop>
+    ensures { Reads (read (spec.expect_all (map (λ text. text.now) texts.now)) cursor.old) result cursor.new }
+{
+    for text in texts {
+        if !cursor.is_next(text) {
+            return Err(Stop::Refused(Refusal::Syntax));
+        }
+        cursor.skip();
+    }
+    Ok(())
+}
+
+/// Whether a token is this number, by its value.
+pub fn is_number_token(number: usize, token: &[u8]) -> bool
+    ensures { result ≡ spec.is_number_token number token.now }
+{
+    match number_of(token) {
+        Some(found) => found == number as u64,
+        None => false,
+    }
+}
+
+/// This number.
+pub fn this_number(cursor: &mut Cursor<'_, Vhdl>, number: usize) -> Result<(), Stop>
+    ensures { Reads (read (spec.this_number number) cursor.old) result cursor.new }
+{
+    if !is_number_token(number, cursor.bytes()) {
+        return Err(Stop::Refused(Refusal::Syntax));
+    }
+    cursor.skip();
+    Ok(())
+}
+
+/// The name with this number, where it is the next one.
+pub fn numbered(
+    cursor: &mut Cursor<'_, Vhdl>,
+    alloc: Global,
+    is_next: bool,
+    word: &[u8],
+    number: usize,
+) -> Result<(), Stop>
+    ensures { Reads (read (spec.this_name (spec.numbered_where is_next word.now number)) cursor.old) result cursor.new }
+{
+    if !is_next {
+        return Err(Stop::Refused(cursor.no_name()));
+    }
+    let name = numbered_name(alloc, word, number)?;
+    cursor.this_name(name.as_slice())
+}
+
+/// Whether a token is the name with this number. An `Err` comes only where memory is wanting.
+pub fn is_numbered(
+    alloc: Global,
+    token: &[u8],
+    word: &[u8],
+    number: usize,
+) -> Result<bool, AllocError>
+    ensures { IfOk result (λ same. same ≡ is_same token.now (spec.numbered word.now number)) }
+{
+    let name = numbered_name(alloc, word, number)?;
+    Ok(is_same(token, name.as_slice()))
+}

@@ -7,3 +7,4 @@ pub mod Names
 pub mod PortNames
 pub mod Conditions
 pub mod Entities
+pub mod EntityLists

@@ -4,4 +4,6 @@
 
 mod laws;
 
-pub use laws::entity_is_well_formed;
+pub use laws::{
+    accepted_entities_are_well_formed, entities_are_well_formed, entity_is_well_formed,
+};

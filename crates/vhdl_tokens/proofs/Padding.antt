@@ -10,10 +10,10 @@ use Rattle.vhdl_tokens.proofs.Alike as alike
 use Rattle.vhdl_tokens.proofs.Stays.{token_stays}
 
 -- the tokens found, and whether there is a fault behind them
-abbrev Found : Type 0
+abbrev pub Found : Type 0
 Found = List (List ℕ) × Bool
 
-abbrev word_before : List ℕ → Found → Found
+abbrev pub word_before : List ℕ → Found → Found
 word_before w (ws, f) = (w ∷ ws, f)
 
 spelled_after : (t : Token) (r : List Token × Option ℕ) → spelled (after t r) ≡ word_before t.bytes (spelled r)
@@ -29,7 +29,7 @@ any_front t at z bytes f g zero (suc m) same =
 any_front t at z bytes f g (suc n) m same = same t n
 
 -- the tokens are the same at any offset
-any_offset : (t : Bool) (at z n : ℕ) (s : List ℕ) → spelled (scan t at n s) ≡ spelled (scan t z n s)
+pub any_offset : (t : Bool) (at z n : ℕ) (s : List ℕ) → spelled (scan t at n s) ≡ spelled (scan t z n s)
 any_offset t at z n [] = refl
 any_offset t at z (suc n) (b ∷ s) = any_offset t (at + 1) (z + 1) n s
 any_offset t at z zero (b ∷ s) =
@@ -51,7 +51,7 @@ front_is : (w r : List ℕ) → take (length w) (w ++ r) ≡ w
 front_is [] r = refl
 front_is (c ∷ w) r = ap (λ (s : List ℕ). c ∷ s) (front_is w r)
 
-over_token : (t : Bool) (at z b : ℕ) (w r : List ℕ) → separator_length (b ∷ w ++ r) ≡ 0 → token_length t (b ∷ w ++ r) ≡ suc (length w) →
+pub over_token : (t : Bool) (at z b : ℕ) (w r : List ℕ) → separator_length (b ∷ w ++ r) ≡ 0 → token_length t (b ∷ w ++ r) ≡ suc (length w) →
     spelled (scan t at 0 (b ∷ w ++ r)) ≡ word_before (b ∷ w) (spelled (scan (is_name (b ∷ w)) z 0 r))
 over_token t at z b w r e f =
     ap (λ n. spelled (at_front t at (b ∷ w ++ r) (λ o k. scan o (at + 1) k (w ++ r)) n (token_length t (b ∷ w ++ r)))) e

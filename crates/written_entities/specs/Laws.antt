@@ -1,0 +1,49 @@
+-- What is written reads back: the tables of an architecture's constants. (IEEE 1076.4-2000, the VITAL table types and symbols; IEEE
+-- 1076-1993, 7.3.2, aggregates; the layout is this project's.)
+use Rattle.std.specs.Prelude.{◌≡◌, ℕ, ◌≤◌, List, [], ◌++◌, length, None, codes}
+use Rattle.grammar_rules.specs.Rule.{Takes}
+use Rattle.vital_models.specs.declared.table.TruthTable.{TruthTable}
+use Rattle.vital_models.specs.declared.table.VStateTable.{VStateTable}
+use Rattle.vital_models.specs.declared.model.VState.{VState}
+use Rattle.vital_models.specs.Sound.{IsTruthTable, IsStateTable, columns_of}
+use Rattle.vhdl_text.specs.VhdlTables.{truth_table, state_table}
+use Rattle.vhdl_text.specs.VhdlText.{text_tokens, lexical_place}
+use Rattle.vhdl_text.specs.WellFormed.{IsWrittenState}
+use Rattle.vhdl_writer.specs.Tables.{truth_rows_text, state_rows_text}
+
+-- the aggregates that constants are given
+unfoldable pub truth_table_text : TruthTable → List ℕ
+truth_table_text table = codes "(" ++ (truth_rows_text table ++ codes ")")
+
+unfoldable pub state_table_text : VState → List ℕ
+state_table_text state = codes "(" ++ (state_rows_text state ++ codes ")")
+
+-- The bytes are the text of this truth table alone: they are tokens, without a lexical fault, that the grammar of truth tables takes.
+pub record IsTruthTableText (bytes : List ℕ) (table : TruthTable) : Type 0 where
+  pub lexes : lexical_place bytes ≡ None
+  pub takes : Takes truth_table (text_tokens bytes) table []
+
+-- the same, of the table of a state
+pub record IsStateTableText (bytes : List ℕ) (table : VStateTable) : Type 0 where
+  pub lexes : lexical_place bytes ≡ None
+  pub takes : Takes state_table (text_tokens bytes) table []
+
+-- The text of a truth table reads as this table, and as no other.
+pub record TruthTableReadBack (table : TruthTable) : Type 0 where
+  pub text : IsTruthTableText (truth_table_text table) table
+  pub only : (other : TruthTable) → IsTruthTableText (truth_table_text table) other → other ≡ table
+
+-- The text of the table of a state reads as this table, and as no other.
+pub record StateTableReadBack (state : VState) : Type 0 where
+  pub text : IsStateTableText (state_table_text state) state.table
+  pub only : (other : VStateTable) → IsStateTableText (state_table_text state) other → other ≡ state.table
+
+-- a truth table of rows that are equally long reads back from what is written of it
+abbrev pub WrittenTruthTablesReadBack : Type 0
+WrittenTruthTablesReadBack =
+    (columns : ℕ) (table : TruthTable) → 1 ≤ columns → 1 ≤ length table.rows → IsTruthTable columns table → TruthTableReadBack table
+
+-- the table of a state that a text can tell reads back from what is written of it
+abbrev pub WrittenStateTablesReadBack : Type 0
+WrittenStateTablesReadBack =
+    (state : VState) → IsWrittenState state → IsStateTable (columns_of state) state.table → StateTableReadBack state

@@ -13,3 +13,6 @@ mod tables;
 mod variables;
 
 pub use entity::write_entity;
+
+#[cfg(test)]
+mod tests;

@@ -8,8 +8,6 @@ mod laws;
 mod name_list;
 mod reader;
 mod symbol;
-#[cfg(test)]
-mod tests;
 mod texts;
 mod tokens;
 mod tree;

@@ -230,6 +230,3 @@ pub fn one_reading(bytes: &[u8], whole: bool)
 pub fn faults_are_first(bytes: &[u8])
     ensures { FaultsAreFirst bytes.now }
 {}
-
-#[cfg(test)]
-mod tests;

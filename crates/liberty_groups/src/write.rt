@@ -133,6 +133,3 @@ pub fn writing_reads_back()
 pub fn writable_parts()
     ensures { WritableParts }
 {}
-
-#[cfg(test)]
-mod tests;

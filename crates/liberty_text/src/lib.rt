@@ -18,6 +18,3 @@ pub use scanner::{Mode, Scanner, scan, tokens};
 pub use text::{one_value, quotes_read_back, text_value};
 pub use time::{Unit, picoseconds};
 pub use token::{Memory, Scan, Stop, TextFault, Token, TokenKind};
-
-#[cfg(test)]
-mod tests;

@@ -15,6 +15,3 @@ pub use laws::tables_read_are_rectangular;
 pub use read::read_table;
 pub use symbols::{CurrentSymbol, InSymbol, NextSymbol};
 pub use table::{StateTable, TableRow};
-
-#[cfg(test)]
-mod tests;

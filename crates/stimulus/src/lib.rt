@@ -10,8 +10,6 @@ mod lines;
 mod ports;
 mod read;
 mod sections;
-#[cfg(test)]
-mod tests;
 mod times;
 mod trace;
 mod written;

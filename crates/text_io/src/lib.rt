@@ -17,8 +17,6 @@ mod sink;
 mod sinks;
 mod slots;
 mod sure;
-#[cfg(test)]
-mod tests;
 mod writing;
 
 pub use host::FileDesk;

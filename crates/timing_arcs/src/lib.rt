@@ -24,6 +24,3 @@ pub use laws::{
 };
 pub use pin_timing::read_timing;
 pub use subject::{PinTiming, Room, Subject};
-
-#[cfg(test)]
-mod tests;

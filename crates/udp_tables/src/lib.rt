@@ -30,6 +30,3 @@ pub use models::{ModelFault, VPort};
 pub use ports::{event_of, is_port, port_number};
 pub use sequential::udp_next;
 pub use table::{Entry, Level, Next, Udp, UdpRow};
-
-#[cfg(test)]
-mod tests;

@@ -17,6 +17,3 @@ mod wires;
 
 pub use laws::{added_separators_change_no_module, fault_is_at_first_token, text_has_one_answer};
 pub use read::read_models;
-
-#[cfg(test)]
-mod text_tests;

@@ -14,6 +14,3 @@ pub use laws::{added_separators_change_no_token, tokens_cover, tokens_stand_in_o
 pub use numbers::{is_number, number_of};
 pub use scanner::scan;
 pub use words::{is_name, is_verilog_word};
-
-#[cfg(test)]
-mod tests;

@@ -22,6 +22,3 @@ pub use model::{HCheck, HGate, HPath, OutValue, VEntity, VOutput, VState, VTruth
 pub use names::entity_name;
 pub use ports::vital_ports;
 pub use table::{Trits, TruthRow, TruthTable, VNext, VStateRow, VStateTable, VSymbol};
-
-#[cfg(test)]
-mod tests;

@@ -1,6 +1,6 @@
 //! A few texts from outside: examples of the Liberty format and its corner cases.
 
-use crate::{
+use liberty_text::{
     Fixed, NumberFault, Stop, TextFault, Token, TokenKind, Unit, fixed, picoseconds, scan,
     text_value, tokens,
 };

@@ -3,8 +3,9 @@
 ghost use Rattle.std.specs.Prelude.{IfOk, IsTrue};
 ghost use Rattle.liberty_groups.specs.Writing.{is_writable};
 
-use super::*;
+use liberty_groups::{Group, Item, Memory, Value, write_group};
 use sqlite_items::Items;
+use std::alloc::Global;
 use std::test::Fail;
 
 /// A cell with one attribute, and a quote in its name.

@@ -1,40 +1,35 @@
 //! Examples from outside: texts with the trees and the faults that Liberty's syntax gives them.
-use crate::faults::FunctionFault;
-use crate::name_list::Names;
-use crate::texts::{MAX_LEN, read_free, read_function};
-use crate::tree::{Function, Node};
-use std::alloc::Global;
+use bool_functions::{Function, FunctionFault, MAX_LEN, Names, Node, read_free, read_function};
 use std::test::Fail;
 
-/// A tree with all its brackets, and names by their numbers.
-fn shown(alloc: Global, node: &Node) -> Result<String, Fail> {
-    Ok(match node {
-        Node::Zero => format!(in alloc; "0")?,
-        Node::One => format!(in alloc; "1")?,
-        Node::Name(i) => format!(in alloc; "n{i}")?,
-        Node::Not(part) => format!(in alloc; "!{}", shown(alloc, part.get())?)?,
-        Node::Xor(left, right) => {
-            format!(in alloc;
-                "({}^{})",
-                shown(alloc, left.get())?,
-                shown(alloc, right.get())?
-            )?
+/// Adds two trees with an operator between them, in brackets.
+fn show_pair(text: &mut String, left: &Node, operator: char, right: &Node) -> Result<(), Fail> {
+    text.push('(')?;
+    show(text, left)?;
+    text.push(operator)?;
+    show(text, right)?;
+    text.push(')')?;
+    Ok(())
+}
+
+/// Adds a tree with all its brackets, and names by their numbers, which have one digit.
+fn show(text: &mut String, node: &Node) -> Result<(), Fail> {
+    match node {
+        Node::Zero => text.push('0')?,
+        Node::One => text.push('1')?,
+        Node::Name(number) => {
+            text.push('n')?;
+            text.push(char::from_digit(*number as u32, 10).unwrap_or('?'))?;
         }
-        Node::And(left, right) => {
-            format!(in alloc;
-                "({}*{})",
-                shown(alloc, left.get())?,
-                shown(alloc, right.get())?
-            )?
+        Node::Not(part) => {
+            text.push('!')?;
+            show(text, part.get())?;
         }
-        Node::Or(left, right) => {
-            format!(in alloc;
-                "({}+{})",
-                shown(alloc, left.get())?,
-                shown(alloc, right.get())?
-            )?
-        }
-    })
+        Node::Xor(left, right) => show_pair(text, left.get(), '^', right.get())?,
+        Node::And(left, right) => show_pair(text, left.get(), '*', right.get())?,
+        Node::Or(left, right) => show_pair(text, left.get(), '+', right.get())?,
+    }
+    Ok(())
 }
 
 #[test]
@@ -54,7 +49,9 @@ fn reads_trees(rt: HostRuntime) -> Result<(), Fail> {
         ("0", "0"),
     ] {
         let (function, _names) = read_free(alloc, text.as_bytes())?;
-        assert_eq!(rt; shown(alloc, function.node())?.as_str(), want, "at {text}");
+        let mut shown = String::new(alloc);
+        show(&mut shown, function.node())?;
+        assert_eq!(rt; shown.as_str(), want, "at {text}");
     }
     Ok(())
 }

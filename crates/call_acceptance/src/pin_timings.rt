@@ -1,5 +1,4 @@
 //! Timing as it stands in libraries. The expected numbers are worked out by hand from the texts.
-use super::*;
 use bool_functions::Names;
 use cell_machine::{Arc, Check, CheckKind, Direction, Edge, Event, Pin};
 use liberty_groups::{Group, Item, read_library};
@@ -7,6 +6,7 @@ use liberty_text::Unit;
 use sqlite_items::Items;
 use std::alloc::Global;
 use std::test::Fail;
+use timing_arcs::{PinTiming, Room, Subject, read_timing};
 
 /// The pins CK, SE and D are inputs, Q is an output. These are the numbers of some.
 const CLOCK: usize = 0;

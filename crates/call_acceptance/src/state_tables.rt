@@ -1,5 +1,5 @@
 //! Tables as they stand in libraries.
-use super::*;
+use statetables::{TableFault, read_table};
 use std::alloc::Global;
 use std::test::Fail;
 

@@ -1,7 +1,7 @@
 //! Texts from outside: corner cases of the tokens of Verilog's subset.
 
-use crate::scan;
 use std::test::Fail;
+use verilog_tokens::scan;
 
 /// Whether the tokens of a text, with a blank behind each, are these bytes, and its lexical fault is at this offset.
 fn has_tokens(

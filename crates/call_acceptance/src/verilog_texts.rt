@@ -1,9 +1,9 @@
 //! Whole texts from outside: the modules of a flip-flop's text, and the faults of others.
 
-use crate::read_models;
 use specify_blocks::VModule;
 use std::test::Fail;
 use udp_tables::ModelFault;
+use verilog_reader::read_models;
 
 /// Its rows are in plain form, one for each prime; those that are written today are in compact form.
 const FLIP_FLOP: &[u8] = b"`timescale 1ps/1ps

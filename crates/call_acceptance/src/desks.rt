@@ -7,13 +7,13 @@ ghost use Rattle.text_io.specs.declared.slots.Slot.TheVariants.{Input, Output};
 ghost use Rattle.text_io.specs.Plan.{plan};
 ghost use Rattle.text_io.specs.Desk.{is_bound};
 
-use crate::{
-    Desk, Failed, FileDesk, InSlot, MemoryDesk, NamedFile, OutSlot, ReadFault, read_all,
-    write_whole,
-};
 use std::alloc::{AllocError, Global};
 use std::fs;
 use std::test::Fail;
+use text_io::{
+    Desk, Failed, FileDesk, InSlot, MemoryDesk, NamedFile, OutSlot, ReadFault, read_all,
+    write_whole,
+};
 
 /// The words of a translation of a library that has no end, to an output that has no room.
 fn words(alloc: Global) -> Result<Vec<String>, AllocError>
@@ -40,7 +40,7 @@ fn words_of_one_file(alloc: Global) -> Result<Vec<String>, AllocError>
 }
 
 /// Binds the library and the first output.
-#[tactic(auto, unfolding(crate::specs::Desk::opened, crate::specs::Desk::created))]
+#[tactic(auto, unfolding(text_io::specs::Desk::opened, text_io::specs::Desk::created))]
 fn bind<D: Desk>(desk: &mut D) -> Result<(), Failed>
     requires { plan (D.state desk.old).words ≡ (Input Library, 1) ∷ (Output VerilogText, 2) ∷ (Output VitalText, 3) ∷ [] }
     ensures library { OnOk result (IsTrue (is_bound (D.state desk.new) (Input Library))) }
@@ -52,7 +52,7 @@ fn bind<D: Desk>(desk: &mut D) -> Result<(), Failed>
 
 /// Reads the first four bytes of the library, and writes them to an output that has no room. Answers them, whether more
 /// bytes came, and whether the writing failed.
-#[tactic(auto, unfolding(crate::specs::Desk::took))]
+#[tactic(auto, unfolding(text_io::specs::Desk::took))]
 fn copy<D: Desk>(alloc: Global, desk: &mut D) -> Result<(Vec<u8>, bool, bool), ReadFault>
     requires library { IsTrue (is_bound (D.state desk.old) (Input Library)) }
     requires text { IsTrue (is_bound (D.state desk.old) (Output VerilogText)) }

@@ -4,11 +4,6 @@ ghost use Rattle.bool_functions.specs.declared.tree.Node.TheVariants as tree;
 ghost use Rattle.cell_machine.specs.declared.groups.Both.TheVariants as both;
 ghost use Rattle.cell_machine.specs.declared.groups.GroupKind.TheVariants as kind;
 
-use crate::generation::vital_model;
-use crate::model::OutValue;
-use crate::names::entity_name;
-use crate::ports::vital_ports;
-use crate::table::{Trits, TruthRow, VNext, VStateRow, VSymbol};
 use bool_functions::{Function, Names};
 use cell_machine::{
     Arc, Both, Cell, Check, CheckKind, Clocked, Direction, Edge, Event, GroupKind, OutputPin, Pin,
@@ -18,6 +13,9 @@ use sqlite_items::Items;
 use std::alloc::{AllocError, Global};
 use std::test::Fail;
 use trit_cubes::Trit;
+use vital_models::{
+    OutValue, Trits, TruthRow, VNext, VStateRow, VSymbol, entity_name, vital_model, vital_ports,
+};
 
 /// A list of one item.
 fn one<T: Drop>(alloc: Global, item: T) -> Result<Items<T>, AllocError>

@@ -1,9 +1,11 @@
 //! Stimuli over small cells, and the line of a simulator.
-use super::*;
 use bool_functions::Names;
 use cell_machine::{CellSim, Change};
 use std::alloc::Global;
 use std::test::Fail;
+use stimulus::{
+    Catalog, Cause, PortCatalog, Ports, Standing, StimulusFault, read_stimulus, trace_line,
+};
 use trit_cubes::Trit;
 
 fn names(alloc: Global, list: &[&[u8]]) -> Result<Names, bool_functions::Memory> {

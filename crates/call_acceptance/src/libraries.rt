@@ -1,7 +1,7 @@
 //! Libraries cut at every length, and single faults.
 
-use super::*;
-use crate::Expected;
+use liberty_groups::{End, Expected, LibraryFault, Memory, read_library};
+use std::alloc::Global;
 use std::test::Fail;
 
 const THREE_CELLS: &[u8] = b"library (L) {

@@ -1,9 +1,8 @@
 //! The rows of functions whose tables are written out by hand.
-use crate::generation::function_udp;
-use crate::table::{Entry, Level, Next, Udp, UdpRow};
 use bool_functions::read_free;
 use std::alloc::Global;
 use std::test::Fail;
+use udp_tables::{Entry, Level, Next, Udp, UdpRow, function_udp};
 
 /// The rows as they are written, with a comma after each.
 fn shown(alloc: Global, rows: &[UdpRow]) -> Result<String, Fail> {

@@ -1,8 +1,8 @@
 //! A desk over one library, and what is left on it once the library was translated.
-use crate::{Status, run};
 use std::alloc::Global;
 use std::test::Fail;
 use text_io::{MemoryDesk, NamedFile};
+use translate_cmd::{Status, run};
 
 /// Translates these bytes on a desk at which the calls with these numbers fail, and a call moves at most `piece` bytes.
 pub(crate) fn translated(

@@ -1,10 +1,10 @@
 //! Calls on the desk that fail, each in turn: what was written then is the front of what is written without.
-use crate::Status;
 use crate::library_desk::translated;
 use crate::three_cells::{THREE_CELLS, THREE_LINES, TWO_MODULES};
 use std::alloc::Global;
 use std::test::Fail;
 use text_io::{MemoryDesk, OutSlot};
+use translate_cmd::Status;
 
 /// Whether the library of three cells was translated up to some byte of each output.
 fn has_fronts(desk: &MemoryDesk) -> bool {

@@ -1,9 +1,9 @@
 //! Runs of `udp` and of words without a reading.
 
-use crate::{Status, run, run_sure};
 use std::alloc::{AllocError, Global};
 use std::test::Fail;
 use text_io::{MemoryDesk, OutSlot, SureDesk};
+use translate_cmd::{Status, run, run_sure};
 
 const AND: &str = "primitive AND2 (q, i1, i2);
   output q;

@@ -1,9 +1,9 @@
 //! Runs of `replay-verilog`.
 use crate::three_cells::TWO_MODULES;
-use crate::{Status, run};
 use std::alloc::Global;
 use std::test::Fail;
 use text_io::{MemoryDesk, NamedFile, OutSlot};
+use translate_cmd::{Status, run};
 
 /// Replays these bytes of a Verilog file under these of a stimulus.
 fn replayed(alloc: Global, verilog: &str, stimulus: &str) -> Result<(Status, MemoryDesk), Fail> {

@@ -2,33 +2,28 @@
 use bool_functions::{Function, FunctionFault, MAX_LEN, Names, Node, read_free, read_function};
 use std::test::Fail;
 
-/// Adds two trees with an operator between them, in brackets.
-fn show_pair(text: &mut String, left: &Node, operator: char, right: &Node) -> Result<(), Fail> {
-    text.push('(')?;
-    show(text, left)?;
-    text.push(operator)?;
-    show(text, right)?;
-    text.push(')')?;
-    Ok(())
-}
-
 /// Adds a tree with all its brackets, and names by their numbers, which have one digit.
 fn show(text: &mut String, node: &Node) -> Result<(), Fail> {
-    match node {
-        Node::Zero => text.push('0')?,
-        Node::One => text.push('1')?,
+    let (left, operator, right) = match node {
+        Node::Zero => return Ok(text.push('0')?),
+        Node::One => return Ok(text.push('1')?),
         Node::Name(number) => {
             text.push('n')?;
-            text.push(char::from_digit(*number as u32, 10).unwrap_or('?'))?;
+            return Ok(text.push(char::from_digit(*number as u32, 10).unwrap_or('?'))?);
         }
         Node::Not(part) => {
             text.push('!')?;
-            show(text, part.get())?;
+            return show(text, part.get());
         }
-        Node::Xor(left, right) => show_pair(text, left.get(), '^', right.get())?,
-        Node::And(left, right) => show_pair(text, left.get(), '*', right.get())?,
-        Node::Or(left, right) => show_pair(text, left.get(), '+', right.get())?,
-    }
+        Node::Xor(left, right) => (left, '^', right),
+        Node::And(left, right) => (left, '*', right),
+        Node::Or(left, right) => (left, '+', right),
+    };
+    text.push('(')?;
+    show(text, left.get())?;
+    text.push(operator)?;
+    show(text, right.get())?;
+    text.push(')')?;
     Ok(())
 }
 

@@ -2,14 +2,24 @@
 use bool_functions::{Function, FunctionFault, MAX_LEN, Names, Node, read_free, read_function};
 use std::test::Fail;
 
-/// Adds a tree with all its brackets, and names by their numbers, which have one digit.
+/// The digit of a name's number; the texts here have at most three names.
+fn digit(number: usize) -> char {
+    match number {
+        0 => '0',
+        1 => '1',
+        2 => '2',
+        _ => '?',
+    }
+}
+
+/// Adds a tree with all its brackets, and names by their numbers.
 fn show(text: &mut String, node: &Node) -> Result<(), Fail> {
     let (left, operator, right) = match node {
         Node::Zero => return Ok(text.push('0')?),
         Node::One => return Ok(text.push('1')?),
         Node::Name(number) => {
             text.push('n')?;
-            return Ok(text.push(char::from_digit(*number as u32, 10).unwrap_or('?'))?);
+            return Ok(text.push(digit(*number))?);
         }
         Node::Not(part) => {
             text.push('!')?;

@@ -9,9 +9,6 @@ use Rattle.cell_machine.specs.declared.groups.GroupKind.TheVariants as kind
 use Rattle.cell_machine.specs.declared.groups.StateGroup.{StateGroup}
 use Rattle.cell_machine.specs.declared.outputs.Source.{Source}
 use Rattle.cell_machine.specs.declared.outputs.OutputPin.{OutputPin}
-use Rattle.cell_machine.specs.declared.checks.Check.{Check}
-use Rattle.cell_machine.specs.declared.checks.CheckKind.{CheckKind}
-use Rattle.cell_machine.specs.declared.checks.Event.{Event}
 
 -- a renamed tree, by its top
 renamed_Name : (to : List ℕ) (i : ℕ) → renamed_by to (node.Name i) ≡ node.Name (slice_index to i)
@@ -58,15 +55,6 @@ an_output pin support f = record { pin = pin; function = f; support = support }
 -- An output whose function equals another.
 pub output_of : {pin : ℕ} {support : List Source} {f g : Node} → f ≡ g → an_output pin support f ≡ an_output pin support g
 output_of {pin} {support} same i = an_output pin support (same i)
-
-abbrev a_check : CheckKind → Event → Event → ℕ → Node → Check
-a_check kind first second limit f = record { kind = kind; first = first; second = second; limit = limit; condition = Some f }
-
--- A check whose condition equals another.
-pub check_of :
-    (kind : CheckKind) (first second : Event) (limit : ℕ) {f g : Node}
-    → f ≡ g → a_check kind first second limit f ≡ a_check kind first second limit g
-check_of kind first second limit same i = a_check kind first second limit (same i)
 
 abbrev a_clocked : ℕ → List ℕ → Node → Node → StateGroup
 a_clocked clock support next clear =

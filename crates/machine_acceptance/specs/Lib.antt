@@ -1,1 +1,1 @@
-pub mod LineText
+pub mod TraceRows

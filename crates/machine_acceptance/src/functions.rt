@@ -1,15 +1,11 @@
 //! Cells without a state.
-use crate::lines::{has_first_line, has_trace};
+use crate::lines::has_trace;
 use crate::parts::{function, one, output, pins};
+use crate::rows::EQUAL_DATA;
 use cell_machine::{Cell, Direction, Source};
 use sqlite_items::Items;
 use std::alloc::Global;
 use std::test::Fail;
-use trit_cubes::Trit::One;
-
-const A: usize = 0;
-
-const B: usize = 2;
 
 /// A cell with no input, whose output is always 1.
 pub fn tied(alloc: Global) -> Result<Cell, Fail> {
@@ -61,15 +57,11 @@ pub fn multiplexer(alloc: Global) -> Result<Cell, Fail> {
 #[test]
 fn a_tied_output_is_known_at_the_start(rt: HostRuntime) -> Result<(), Fail> {
     let cell = tied(rt.alloc())?;
-    has_first_line(rt.alloc(), &cell, "1 ")
+    has_trace(rt.alloc(), &cell, "L start : Y=1\n", &[])
 }
 
 #[test]
 fn equal_data_need_no_selection(rt: HostRuntime) -> Result<(), Fail> {
     let cell = multiplexer(rt.alloc())?;
-    has_trace(
-        rt.alloc(),
-        &cell,
-        &[(10, A, One, "x "), (20, B, One, "1@0 ")],
-    )
+    has_trace(rt.alloc(), &cell, "L start : Y=x\n", &EQUAL_DATA)
 }

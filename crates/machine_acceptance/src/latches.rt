@@ -1,15 +1,11 @@
 //! Cells with a latch.
 use crate::lines::has_trace;
 use crate::parts::{latch, one, pins, shows};
+use crate::rows::NARROW_PULSE;
 use cell_machine::{Both, Cell, Check, CheckKind, Direction, Edge, Event, Source};
 use sqlite_items::Items;
 use std::alloc::{AllocError, Global};
 use std::test::Fail;
-use trit_cubes::Trit::{One, Zero};
-
-const EN: usize = 0;
-
-const D: usize = 1;
 
 /// A latch whose enable stays 1 for at least 100.
 pub fn wide(alloc: Global) -> Result<Cell, AllocError> {
@@ -52,14 +48,5 @@ pub fn wide(alloc: Global) -> Result<Cell, AllocError> {
 #[test]
 fn a_narrow_pulse_is_reported(rt: HostRuntime) -> Result<(), Fail> {
     let cell = wide(rt.alloc())?;
-    has_trace(
-        rt.alloc(),
-        &cell,
-        &[
-            (10, D, One, "x "),
-            (200, EN, Zero, "x "),
-            (400, EN, One, "1@0 "),
-            (450, EN, Zero, "x@0 !1 "),
-        ],
-    )
+    has_trace(rt.alloc(), &cell, "L start : Q=x\n", &NARROW_PULSE)
 }

@@ -10,9 +10,8 @@ mod latches;
 mod lines;
 #[cfg(test)]
 mod parts;
+pub mod rows;
 #[cfg(test)]
 mod tables;
-#[cfg(test)]
-mod timing_checks;
 
-pub use lines::{has_first_line, has_trace};
+pub use lines::{Row, has_trace};

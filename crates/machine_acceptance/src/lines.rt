@@ -1,81 +1,84 @@
-//! The lines of a trace as text, and cells that are wanted to show given ones.
-ghost use Rattle.std.specs.Prelude.{◌≡◌, ◌++◌, ◌+◌, ◌<◌, ◌^◌, List, [], IfOk, string_bytes};
-ghost use Rattle.trit_cubes.specs.declared.trits.Trit.{Trit};
-ghost use Rattle.cell_machine.specs.declared.changes.Change.{Change};
+//! Cells that are wanted to show given lines.
+ghost use Rattle.std.specs.Prelude.{◌≡◌, ◌<◌, ◌++◌, ◌∷◌, List, [], None, length, IfOk, IfSome, OnOk};
+ghost use Rattle.std.specs.Option.{option_copied};
+ghost use Rattle.cell_machine.specs.declared.changes.Change.{Change as ChangeOf};
 ghost use Rattle.cell_machine.specs.CellData.{data_of};
 ghost use Rattle.cell_machine.specs.CellTrace.{cell_machine_of};
-ghost use Rattle.machine_acceptance.specs.LineText.{value_text, output_text, report_text, line_text, HasTrace};
+ghost use Rattle.stimulus.specs.TraceLine.{line_text};
+ghost use Rattle.machine_acceptance.specs.TraceRows.{input_names, output_names, HasTrace};
 
-use cell_machine::{Cell, CellSim, LibertySim};
-use std::alloc::{AllocError, Global};
+use bool_functions::Names;
+use cell_machine::{Cell, CellSim, Change, Direction, LibertySim, Pin};
+use std::alloc::Global;
 use std::test::Fail;
+use stimulus::trace_line;
 use trit_cubes::Trit;
 
-/// The text of a value.
-fn value_text(value: Trit) -> &'static str
-    ensures { result.now ≡ value_text value }
+/// A row of a trace: the time of a change in picoseconds, the number of the input from 0, its new value, and the line that
+/// follows, as it is printed.
+pub type Row = (u64, usize, Trit, &'static str);
+
+/// The names of a cell's ports.
+#[derive(Drop)]
+struct PortNames {
+    inputs: Names,
+    outputs: Names,
+}
+
+/// Adds a name, which is wanted to be new.
+fn add_new(names: &mut Names, name: &[u8]) -> Result<(), Fail>
+    ensures { OnOk result (names.new ≡ names.old ++ name.now ∷ []) }
 {
-    match value {
-        Trit::Zero => "0",
-        Trit::One => "1",
-        Trit::Unknown => "x",
+    match names.add(name)? {
+        Some(_) => Ok(()),
+        None => Err("two ports of one name".into()),
     }
 }
 
-/// Adds an output: its value, and `@` and its delay where it changed.
-fn push_output(
-    alloc: Global,
-    text: &mut String,
-    value: Trit,
-    delay: Option<u64>,
-) -> Result<(), AllocError>
-    ensures { IfOk result (λ _. string_bytes text.new ≡ string_bytes text.old ++ output_text value delay) }
+/// The names of the inputs and of the outputs among these pins.
+fn port_names(alloc: Global, pins: &[Pin]) -> Result<PortNames, Fail>
+    ensures inputs { IfOk result (λ names. names.inputs ≡ input_names pins.now) }
+    ensures outputs { IfOk result (λ names. names.outputs ≡ output_names pins.now) }
 {
-    let value = value_text(value);
-    let added = match delay {
-        Some(delay) => format!(in alloc; "{value}@{delay} ")?,
-        None => format!(in alloc; "{value} ")?,
-    };
-    text.push_str(added.as_str())
+    let mut inputs = Names::new(alloc);
+    let mut outputs = Names::new(alloc);
+    for pin in pins {
+        match pin.direction {
+            Direction::Input => add_new(&mut inputs, pin.name.as_slice())?,
+            Direction::Output => add_new(&mut outputs, pin.name.as_slice())?,
+            Direction::Internal => {}
+        }
+    }
+    Ok(PortNames { inputs, outputs })
 }
 
-/// Adds `!` and the number from 1 of a check that reported.
-fn push_report(
-    alloc: Global,
-    text: &mut String,
-    check: usize,
-    reported: bool,
-) -> Result<(), AllocError>
-    requires { check + 1 < 2 ^ 64 }
-    ensures { IfOk result (λ _. string_bytes text.new ≡ string_bytes text.old ++ report_text check reported) }
+/// Wants as many names as a simulator has inputs and outputs.
+fn names_ports<S: CellSim>(names: &PortNames, sim: &S) -> Result<(), Fail>
+    ensures inputs { OnOk result (length names.now.inputs ≡ (S.machine sim.now).inputs) }
+    ensures outputs { OnOk result (length names.now.outputs ≡ (S.machine sim.now).outputs) }
 {
-    if reported {
-        text.push_str(format!(in alloc; "!{} ", check + 1)?.as_str())?;
+    if names.inputs.len() != sim.inputs() || names.outputs.len() != sim.outputs() {
+        return Err("other ports".into());
     }
     Ok(())
 }
 
-/// The last line of a simulator.
-fn line<S: CellSim>(alloc: Global, sim: &S) -> Result<String, AllocError>
-    ensures { (h : List Change) → S.stands sim.now h → IfOk result (λ t. string_bytes t ≡ line_text (S.machine sim.now) h) }
+/// Wants the line behind a change, or at the start, to be printed so.
+fn has_line<S: CellSim>(
+    alloc: Global,
+    names: &PortNames,
+    sim: &S,
+    change: Option<&Change>,
+    want: &str,
+) -> Result<(), Fail>
+    requires inputs { length names.now.inputs ≡ (S.machine sim.now).inputs }
+    requires outputs { length names.now.outputs ≡ (S.machine sim.now).outputs }
+    requires pin { IfSome change (λ change. change.now.pin < (S.machine sim.now).inputs) }
+    ensures { (h : List ChangeOf) → S.stands sim.now h → IfOk result (λ _. line_text 76 (option_copied change.entry) names.now.inputs names.now.outputs ((S.machine sim.now).line h) ≡ want.now) }
 {
-    let mut text = String::new(alloc);
-    for place in 0..sim.outputs() {
-        push_output(alloc, &mut text, sim.output(place), sim.delay(place))?;
-    }
-    for check in 0..sim.checks() {
-        push_report(alloc, &mut text, check, sim.reported(check))?;
-    }
-    Ok(text)
-}
-
-/// Wants the last line to have this text, where a failure names the time of its change.
-fn has_line<S: CellSim>(alloc: Global, sim: &S, at: u64, want: &str) -> Result<(), Fail>
-    ensures { (h : List Change) → S.stands sim.now h → IfOk result (λ _. line_text (S.machine sim.now) h ≡ want.now) }
-{
-    let found = line(alloc, sim)?;
-    if found.as_str() != want {
-        return Err(Fail::new(format_args!("{found}at {at}, not {want}")));
+    let found = trace_line(alloc, b'L', change, &names.inputs, &names.outputs, sim)?;
+    if found.as_slice() != want.as_bytes() {
+        return Err(Fail::new(format_args!("not {want}")));
     }
     Ok(())
 }
@@ -83,40 +86,41 @@ fn has_line<S: CellSim>(alloc: Global, sim: &S, at: u64, want: &str) -> Result<(
 /// Takes the changes in turn, and wants the line of each.
 fn drive<S: CellSim>(
     alloc: Global,
+    names: &PortNames,
     sim: &mut S,
-    rows: &[(u64, usize, Trit, &str)],
+    rows: &[Row],
 ) -> Result<(), Fail>
-    requires { S.stands sim.old [] }
-    ensures { IfOk result (λ _. HasTrace (S.machine sim.old) [] rows.now) }
+    requires stands { S.stands sim.old [] }
+    requires inputs { length names.now.inputs ≡ (S.machine sim.old).inputs }
+    requires outputs { length names.now.outputs ≡ (S.machine sim.old).outputs }
+    ensures { IfOk result (λ _. HasTrace names.now.inputs names.now.outputs (S.machine sim.old) [] rows.now) }
 {
     let mut next = 0;
     for (at, pin, to, want) in rows {
         if *at < next || *at >= 1_000_000 || *pin >= sim.inputs() {
             return Err(Fail::new(format_args!("no change at {at}")));
         }
+        let change = Change {
+            at: *at,
+            pin: *pin,
+            to: *to,
+        };
         sim.step(*at, *pin, *to);
         next = *at + 1;
-        has_line(alloc, sim, *at, want)?;
+        has_line(alloc, names, sim, Some(&change), want)?;
     }
     Ok(())
 }
 
-/// Wants a cell to show this line before any change. A line is the values of the outputs, each with a space behind it.
-pub fn has_first_line(alloc: Global, cell: &Cell, want: &str) -> Result<(), Fail>
-    ensures { IfOk result (λ _. line_text (cell_machine_of (data_of cell.now)) [] ≡ want.now) }
+/// Wants a cell to show these lines, as they are printed with the tag `L`: the first before any change, and one behind the
+/// change of each row. The times of the changes rise and are below 1,000,000.
+pub fn has_trace(alloc: Global, cell: &Cell, start: &str, rows: &[Row]) -> Result<(), Fail>
+    ensures start { IfOk result (λ _. line_text 76 None (input_names cell.now.pins) (output_names cell.now.pins) ((cell_machine_of (data_of cell.now)).line []) ≡ start.now) }
+    ensures rows { IfOk result (λ _. HasTrace (input_names cell.now.pins) (output_names cell.now.pins) (cell_machine_of (data_of cell.now)) [] rows.now) }
 {
-    let sim = LibertySim::start(alloc, cell)?;
-    has_line(alloc, &sim, 0, want)
-}
-
-/// Wants a cell to show these lines: each row has the time of a change in picoseconds, later than the one before and below
-/// 1,000,000, the number of the input from 0, its new value, and the line that follows.
-///
-/// A line is the values of the outputs in order, each with `@` and its delay in picoseconds where it changed, and then `!`
-/// and the number from 1 of each check that reports, all with a space behind them.
-pub fn has_trace(alloc: Global, cell: &Cell, rows: &[(u64, usize, Trit, &str)]) -> Result<(), Fail>
-    ensures { IfOk result (λ _. HasTrace (cell_machine_of (data_of cell.now)) [] rows.now) }
-{
+    let names = port_names(alloc, cell.pins.as_slice())?;
     let mut sim = LibertySim::start(alloc, cell)?;
-    drive(alloc, &mut sim, rows)
+    names_ports(&names, &sim)?;
+    has_line(alloc, &names, &sim, None, start)?;
+    drive(alloc, &names, &mut sim, rows)
 }

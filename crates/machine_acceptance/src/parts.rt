@@ -9,13 +9,10 @@ ghost use Rattle.statetables.specs.declared.table.StateTable.{StateTable};
 ghost use Rattle.statetables.specs.Reading.{table_of};
 ghost use Rattle.cell_machine.specs.declared.groups.Both.TheVariants as both;
 ghost use Rattle.cell_machine.specs.declared.groups.GroupKind.TheVariants as kind;
-ghost use Rattle.cell_machine.specs.declared.checks.CheckKind.TheVariants as check_kind;
-ghost use Rattle.cell_machine.specs.declared.checks.Edge.TheVariants as edge;
 
 use bool_functions::{Function, FunctionFault, read_free};
 use cell_machine::{
-    Arc, Both, Check, CheckKind, Clocked, Direction, Edge, Event, Gated, GroupKind, OutputPin, Pin,
-    Source, StateGroup,
+    Both, Clocked, Direction, Gated, GroupKind, OutputPin, Pin, Source, StateGroup,
 };
 use sqlite_items::Items;
 use statetables::{TableFault, read_table};
@@ -27,16 +24,6 @@ pub fn one<T: Drop>(alloc: Global, item: T) -> Result<Items<T>, AllocError>
 {
     let mut items = Items::new(alloc);
     items.push(item)?;
-    Ok(items)
-}
-
-/// A list of two items.
-pub fn two<T: Drop>(alloc: Global, first: T, second: T) -> Result<Items<T>, AllocError>
-    ensures { IfOk result (λ l. l ≡ first ∷ second ∷ []) }
-{
-    let mut items = Items::new(alloc);
-    items.push(first)?;
-    items.push(second)?;
     Ok(items)
 }
 
@@ -186,36 +173,4 @@ pub fn node(alloc: Global, text: &[u8], pins: &[usize]) -> Result<StateGroup, Ta
         },
         support: Items::from_slice(alloc, pins)?,
     })
-}
-
-/// A setup time of the pin `input` before each rise of the pin `clock`, in picoseconds.
-pub fn setup(input: usize, clock: usize, limit: u64, condition: Option<Function>) -> Check
-    ensures { result ≡ record { kind = check_kind.Setup; first = record { pin = input; edge = edge.Any }; second = record { pin = clock; edge = edge.Rise }; limit = limit; condition = condition } }
-{
-    Check {
-        kind: CheckKind::Setup,
-        first: Event {
-            pin: input,
-            edge: Edge::Any,
-        },
-        second: Event {
-            pin: clock,
-            edge: Edge::Rise,
-        },
-        limit,
-        condition,
-    }
-}
-
-/// The delays in picoseconds of the rises and of the falls of the pin `to` from the pin `from`.
-pub fn delays(from: usize, to: usize, rise: u64, fall: u64) -> Arc
-    ensures { result ≡ record { from = from; to = to; rise = rise; fall = fall; condition = None } }
-{
-    Arc {
-        from,
-        to,
-        rise,
-        fall,
-        condition: None,
-    }
 }

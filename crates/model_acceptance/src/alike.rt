@@ -3,13 +3,13 @@ ghost use Rattle.std.specs.Prelude.{[], IfOk};
 ghost use Rattle.specify_blocks.specs.Sound.{IsSound as IsSoundModule};
 ghost use Rattle.vital_models.specs.Sound.{IsSound as IsSoundEntity};
 
-use crate::changes::{Row, are_proper, changes_of};
+use crate::changes::{are_proper, changes_of};
 use bool_functions::Names;
 use cell_machine::{Cell, CellSim, Change, LibertySim};
 use cell_reader::{ReadCell, read_cell};
 use liberty_groups::read_library;
 use liberty_text::Unit;
-use machine_acceptance::{has_first_line, has_trace};
+use machine_acceptance::{Row, has_trace};
 use section_runs::first_difference;
 use specify_blocks::{VModule, verilog_model};
 use std::alloc::Global;
@@ -117,12 +117,11 @@ fn models_as_cell(alloc: Global, cell: &Cell, changes: &[Change]) -> Result<(), 
     module_as_entity(alloc, &model, &entity, changes)
 }
 
-/// Wants the first cell of a library in picoseconds to show this line before any change and then the lines of these rows, and
-/// its module and its entity to show the same as it and as each other.
+/// Wants the first cell of a library in picoseconds to show this line before any change and then the lines of these rows, as
+/// they are printed, and its module and its entity to show the same as it and as each other.
 pub fn run_alike(alloc: Global, library: &str, start: &str, rows: &[Row]) -> Result<(), Fail> {
     let read = first_cell(alloc, library)?;
-    has_first_line(alloc, &read.cell, start)?;
-    has_trace(alloc, &read.cell, rows)?;
+    has_trace(alloc, &read.cell, start, rows)?;
     let changes = changes_of(alloc, rows)?;
     models_as_cell(alloc, &read.cell, &changes)
 }

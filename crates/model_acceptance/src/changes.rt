@@ -3,12 +3,8 @@ ghost use Rattle.std.specs.Prelude.{[], IsTrue};
 ghost use Rattle.cell_machine.specs.History.{IsProperFrom};
 
 use cell_machine::Change;
+use machine_acceptance::Row;
 use std::alloc::{AllocError, Global};
-use trit_cubes::Trit;
-
-/// A row of a trace: the time of a change in picoseconds, the number of the input, its new value, and the line of the cell
-/// that follows.
-pub type Row<'a> = (u64, usize, Trit, &'a str);
 
 /// The changes of these rows.
 pub fn changes_of(alloc: Global, rows: &[Row]) -> Result<Vec<Change>, AllocError> {

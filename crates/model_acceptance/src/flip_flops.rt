@@ -1,5 +1,6 @@
 //! Flip-flops and their models: what they take at an edge, their clears and presets.
 use crate::alike::run_alike;
+use machine_acceptance::rows::{DATA_AT_A_RISE, EQUAL_SCAN_DATA};
 use std::test::Fail;
 use trit_cubes::Trit::{One, Unknown, Zero};
 
@@ -11,21 +12,7 @@ const PLAIN: &str = "library (L) { cell (DFF) {
 
 #[test]
 fn a_flip_flop_takes_its_data_at_a_rise(rt: HostRuntime) -> Result<(), Fail> {
-    run_alike(
-        rt.alloc(),
-        PLAIN,
-        "x ",
-        &[
-            (10, 1, One, "x "),
-            (20, 0, Zero, "x "),
-            (30, 0, One, "1@0 "),
-            (40, 0, Zero, "1 "),
-            (50, 0, Unknown, "1 "),
-            (60, 0, Zero, "1 "),
-            (70, 1, Zero, "1 "),
-            (80, 0, Unknown, "x@0 "),
-        ],
-    )
+    run_alike(rt.alloc(), PLAIN, "L start : Q=x\n", &DATA_AT_A_RISE)
 }
 
 /// A flip-flop with a clear, C.
@@ -40,17 +27,17 @@ fn a_clear_may_be_on(rt: HostRuntime) -> Result<(), Fail> {
     run_alike(
         rt.alloc(),
         CLEARED,
-        "x ",
+        "L start : Q=x\n",
         &[
-            (10, 0, One, "x "),
-            (20, 2, One, "0@0 "),
-            (30, 2, Zero, "0 "),
-            (40, 2, Unknown, "0 "),
-            (50, 2, Zero, "0 "),
-            (60, 1, One, "0 "),
-            (70, 0, Zero, "0 "),
-            (80, 0, One, "1@0 "),
-            (90, 2, Unknown, "x@0 "),
+            (10, 0, One, "L 10 CK 1 : Q=x\n"),
+            (20, 2, One, "L 20 C 1 : Q=0@0\n"),
+            (30, 2, Zero, "L 30 C 0 : Q=0\n"),
+            (40, 2, Unknown, "L 40 C x : Q=0\n"),
+            (50, 2, Zero, "L 50 C 0 : Q=0\n"),
+            (60, 1, One, "L 60 D 1 : Q=0\n"),
+            (70, 0, Zero, "L 70 CK 0 : Q=0\n"),
+            (80, 0, One, "L 80 CK 1 : Q=1@0\n"),
+            (90, 2, Unknown, "L 90 C x : Q=x@0\n"),
         ],
     )
 }
@@ -75,19 +62,19 @@ fn clear_and_preset_are_both_on(rt: HostRuntime) -> Result<(), Fail> {
     run_alike(
         rt.alloc(),
         CLEARED_AND_PRESET,
-        "x x ",
+        "L start : Q=x QN=x\n",
         &[
-            (10, 2, One, "0@0 x "),
-            (20, 3, One, "0 0@0 "),
-            (30, 2, Zero, "1@0 0 "),
-            (40, 3, Zero, "1 0 "),
-            (50, 0, Zero, "1 0 "),
-            (60, 4, Zero, "1 0 "),
-            (100, 1, Zero, "1 0 "),
-            (150, 0, One, "0@120 1@0 "),
-            (200, 0, Zero, "0 1 "),
-            (210, 1, One, "0 1 "),
-            (259, 0, One, "x@100 x@0 !1 "),
+            (10, 2, One, "L 10 C 1 : Q=0@0 QN=x\n"),
+            (20, 3, One, "L 20 P 1 : Q=0 QN=0@0\n"),
+            (30, 2, Zero, "L 30 C 0 : Q=1@0 QN=0\n"),
+            (40, 3, Zero, "L 40 P 0 : Q=1 QN=0\n"),
+            (50, 0, Zero, "L 50 CK 0 : Q=1 QN=0\n"),
+            (60, 4, Zero, "L 60 SE 0 : Q=1 QN=0\n"),
+            (100, 1, Zero, "L 100 D 0 : Q=1 QN=0\n"),
+            (150, 0, One, "L 150 CK 1 : Q=0@120 QN=1@0\n"),
+            (200, 0, Zero, "L 200 CK 0 : Q=0 QN=1\n"),
+            (210, 1, One, "L 210 D 1 : Q=0 QN=1\n"),
+            (259, 0, One, "L 259 CK 1 : Q=x@100 QN=x@0 !1\n"),
         ],
     )
 }
@@ -104,14 +91,7 @@ fn equal_scan_data_need_no_enable(rt: HostRuntime) -> Result<(), Fail> {
     run_alike(
         rt.alloc(),
         SCAN_CLEARED,
-        "x ",
-        &[
-            (10, 4, One, "x "),
-            (20, 0, One, "x "),
-            (30, 1, One, "x "),
-            (40, 3, Zero, "x "),
-            (50, 3, One, "1@0 "),
-            (60, 4, Zero, "0@0 "),
-        ],
+        "L start : Q=x\n",
+        &EQUAL_SCAN_DATA,
     )
 }

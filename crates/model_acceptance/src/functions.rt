@@ -1,7 +1,7 @@
 //! Cells without a state and their models.
 use crate::alike::run_alike;
+use machine_acceptance::rows::EQUAL_DATA;
 use std::test::Fail;
-use trit_cubes::Trit::One;
 
 /// A cell with no input, whose output is always 1.
 const TIED: &str =
@@ -9,7 +9,7 @@ const TIED: &str =
 
 #[test]
 fn a_tied_output_is_known_at_the_start(rt: HostRuntime) -> Result<(), Fail> {
-    run_alike(rt.alloc(), TIED, "1 ", &[])
+    run_alike(rt.alloc(), TIED, "L start : Y=1\n", &[])
 }
 
 /// A multiplexer, which shows B while S is 1 and A while S is 0.
@@ -20,10 +20,5 @@ const MULTIPLEXER: &str = "library (L) { cell (MUX2) {
 
 #[test]
 fn equal_data_need_no_selection(rt: HostRuntime) -> Result<(), Fail> {
-    run_alike(
-        rt.alloc(),
-        MULTIPLEXER,
-        "x ",
-        &[(10, 0, One, "x "), (20, 2, One, "1@0 ")],
-    )
+    run_alike(rt.alloc(), MULTIPLEXER, "L start : Y=x\n", &EQUAL_DATA)
 }

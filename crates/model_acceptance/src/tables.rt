@@ -1,5 +1,6 @@
 //! Cells with a state table and their models.
 use crate::alike::run_alike;
+use machine_acceptance::rows::{KEPT_ENABLE, TURNS_AT_A_RISE};
 use std::test::Fail;
 use trit_cubes::Trit::{One, Unknown, Zero};
 
@@ -14,20 +15,7 @@ const CLOCK_GATE: &str = "library (L) { cell (GATE) {
 
 #[test]
 fn a_clock_gate_keeps_its_enable_while_the_clock_is_high(rt: HostRuntime) -> Result<(), Fail> {
-    run_alike(
-        rt.alloc(),
-        CLOCK_GATE,
-        "x ",
-        &[
-            (10, 0, Zero, "0@0 "),
-            (20, 2, Zero, "0 "),
-            (30, 1, One, "0 "),
-            (40, 0, One, "1@0 "),
-            (50, 1, Zero, "1 "),
-            (60, 0, Zero, "0@0 "),
-            (70, 0, One, "0 "),
-        ],
-    )
+    run_alike(rt.alloc(), CLOCK_GATE, "L start : GCK=x\n", &KEPT_ENABLE)
 }
 
 /// The same without the row that keeps the node while CK is 1.
@@ -44,12 +32,12 @@ fn a_node_without_a_row_is_unknown(rt: HostRuntime) -> Result<(), Fail> {
     run_alike(
         rt.alloc(),
         FORGETFUL_GATE,
-        "x ",
+        "L start : GCK=x\n",
         &[
-            (10, 0, Zero, "0@0 "),
-            (20, 2, Zero, "0 "),
-            (30, 1, One, "0 "),
-            (40, 0, One, "x@0 "),
+            (10, 0, Zero, "L 10 CK 0 : GCK=0@0\n"),
+            (20, 2, Zero, "L 20 SE 0 : GCK=0\n"),
+            (30, 1, One, "L 30 E 1 : GCK=0\n"),
+            (40, 0, One, "L 40 CK 1 : GCK=x@0\n"),
         ],
     )
 }
@@ -69,19 +57,19 @@ fn a_clock_gate_with_a_period(rt: HostRuntime) -> Result<(), Fail> {
     run_alike(
         rt.alloc(),
         PERIODIC_GATE,
-        "x ",
+        "L start : GCK=x\n",
         &[
-            (10, 0, Zero, "0@0 "),
-            (20, 2, Zero, "0 "),
-            (30, 1, One, "0 "),
-            (40, 0, One, "1@0 "),
-            (50, 1, Zero, "1 "),
-            (110, 0, Zero, "0@0 "),
-            (120, 1, Unknown, "0 "),
-            (139, 0, One, "x@0 !1 "),
-            (150, 1, Zero, "x "),
-            (240, 0, Zero, "0@0 "),
-            (250, 0, One, "0 "),
+            (10, 0, Zero, "L 10 CK 0 : GCK=0@0\n"),
+            (20, 2, Zero, "L 20 SE 0 : GCK=0\n"),
+            (30, 1, One, "L 30 E 1 : GCK=0\n"),
+            (40, 0, One, "L 40 CK 1 : GCK=1@0\n"),
+            (50, 1, Zero, "L 50 E 0 : GCK=1\n"),
+            (110, 0, Zero, "L 110 CK 0 : GCK=0@0\n"),
+            (120, 1, Unknown, "L 120 E x : GCK=0\n"),
+            (139, 0, One, "L 139 CK 1 : GCK=x@0 !1\n"),
+            (150, 1, Zero, "L 150 E 0 : GCK=x\n"),
+            (240, 0, Zero, "L 240 CK 0 : GCK=0@0\n"),
+            (250, 0, One, "L 250 CK 1 : GCK=0\n"),
         ],
     )
 }
@@ -95,17 +83,5 @@ const TOGGLE: &str = "library (L) { cell (TOGGLE) {
 
 #[test]
 fn a_toggle_turns_at_each_rise(rt: HostRuntime) -> Result<(), Fail> {
-    run_alike(
-        rt.alloc(),
-        TOGGLE,
-        "x ",
-        &[
-            (10, 1, One, "0@0 "),
-            (20, 0, Zero, "0 "),
-            (30, 1, Zero, "0 "),
-            (40, 0, One, "1@0 "),
-            (50, 0, Zero, "1 "),
-            (60, 0, One, "0@0 "),
-        ],
-    )
+    run_alike(rt.alloc(), TOGGLE, "L start : Q=x\n", &TURNS_AT_A_RISE)
 }

@@ -17,12 +17,20 @@ const TIMED: &str = "library (L) { cell (DFFT) {
 
 #[test]
 fn a_setup_time_ends_before_its_limit(rt: HostRuntime) -> Result<(), Fail> {
-    for (at, want) in [(149, "x !1 "), (150, "1@100 "), (151, "1@100 ")] {
+    for (at, want) in [
+        (149, "L 149 CK 1 : Q=x !1\n"),
+        (150, "L 150 CK 1 : Q=1@100\n"),
+        (151, "L 151 CK 1 : Q=1@100\n"),
+    ] {
         run_alike(
             rt.alloc(),
             TIMED,
-            "x ",
-            &[(10, 0, Zero, "x "), (100, 1, One, "x "), (at, 0, One, want)],
+            "L start : Q=x\n",
+            &[
+                (10, 0, Zero, "L 10 CK 0 : Q=x\n"),
+                (100, 1, One, "L 100 D 1 : Q=x\n"),
+                (at, 0, One, want),
+            ],
         )?;
     }
     Ok(())
@@ -33,14 +41,14 @@ fn a_report_leaves_the_state_unknown(rt: HostRuntime) -> Result<(), Fail> {
     run_alike(
         rt.alloc(),
         TIMED,
-        "x ",
+        "L start : Q=x\n",
         &[
-            (10, 1, One, "x "),
-            (20, 0, Zero, "x "),
-            (100, 0, One, "1@100 "),
-            (110, 1, Zero, "1 "),
-            (130, 0, Zero, "1 "),
-            (150, 0, One, "x@120 !1 "),
+            (10, 1, One, "L 10 D 1 : Q=x\n"),
+            (20, 0, Zero, "L 20 CK 0 : Q=x\n"),
+            (100, 0, One, "L 100 CK 1 : Q=1@100\n"),
+            (110, 1, Zero, "L 110 D 0 : Q=1\n"),
+            (130, 0, Zero, "L 130 CK 0 : Q=1\n"),
+            (150, 0, One, "L 150 CK 1 : Q=x@120 !1\n"),
         ],
     )
 }
@@ -63,11 +71,11 @@ fn an_unknown_condition_checks_nothing(rt: HostRuntime) -> Result<(), Fail> {
     run_alike(
         rt.alloc(),
         SCANNED,
-        "x ",
+        "L start : Q=x\n",
         &[
-            (10, 0, Zero, "x "),
-            (100, 1, One, "x "),
-            (149, 0, One, "1@100 "),
+            (10, 0, Zero, "L 10 CK 0 : Q=x\n"),
+            (100, 1, One, "L 100 D 1 : Q=x\n"),
+            (149, 0, One, "L 149 CK 1 : Q=1@100\n"),
         ],
     )
 }
@@ -88,12 +96,12 @@ fn a_clear_forces_the_state(rt: HostRuntime) -> Result<(), Fail> {
     run_alike(
         rt.alloc(),
         CLEARED,
-        "x ",
+        "L start : Q=x\n",
         &[
-            (10, 2, One, "0@0 "),
-            (20, 0, Zero, "0 "),
-            (100, 1, One, "0 "),
-            (120, 0, One, "0 !1 "),
+            (10, 2, One, "L 10 C 1 : Q=0@0\n"),
+            (20, 0, Zero, "L 20 CK 0 : Q=0\n"),
+            (100, 1, One, "L 100 D 1 : Q=0\n"),
+            (120, 0, One, "L 120 CK 1 : Q=0 !1\n"),
         ],
     )
 }
@@ -116,18 +124,18 @@ fn a_report_reaches_each_state(rt: HostRuntime) -> Result<(), Fail> {
     run_alike(
         rt.alloc(),
         PAIR,
-        "x x ",
+        "L start : QA=x QB=x\n",
         &[
-            (10, 1, One, "x x "),
-            (20, 0, Zero, "x x "),
-            (30, 0, One, "1@0 x "),
-            (40, 3, One, "1 x "),
-            (50, 2, Zero, "1 x "),
-            (200, 2, One, "1 1@0 "),
-            (210, 1, Zero, "1 1 "),
-            (220, 2, Zero, "1 1 "),
-            (300, 3, Zero, "1 1 "),
-            (320, 2, One, "x@0 x@0 !1 "),
+            (10, 1, One, "L 10 DA 1 : QA=x QB=x\n"),
+            (20, 0, Zero, "L 20 CA 0 : QA=x QB=x\n"),
+            (30, 0, One, "L 30 CA 1 : QA=1@0 QB=x\n"),
+            (40, 3, One, "L 40 DB 1 : QA=1 QB=x\n"),
+            (50, 2, Zero, "L 50 CB 0 : QA=1 QB=x\n"),
+            (200, 2, One, "L 200 CB 1 : QA=1 QB=1@0\n"),
+            (210, 1, Zero, "L 210 DA 0 : QA=1 QB=1\n"),
+            (220, 2, Zero, "L 220 CB 0 : QA=1 QB=1\n"),
+            (300, 3, Zero, "L 300 DB 0 : QA=1 QB=1\n"),
+            (320, 2, One, "L 320 CB 1 : QA=x@0 QB=x@0 !1\n"),
         ],
     )
 }
@@ -145,15 +153,15 @@ fn a_period_is_between_equal_edges(rt: HostRuntime) -> Result<(), Fail> {
     run_alike(
         rt.alloc(),
         PERIODIC,
-        "x ",
+        "L start : Q=x\n",
         &[
-            (5, 1, One, "x "),
-            (10, 0, Zero, "x "),
-            (20, 0, One, "1@0 "),
-            (60, 0, Zero, "x@0 !1 "),
-            (130, 0, One, "1@0 "),
-            (150, 0, Zero, "x@0 !1 "),
-            (230, 0, One, "1@0 "),
+            (5, 1, One, "L 5 D 1 : Q=x\n"),
+            (10, 0, Zero, "L 10 CK 0 : Q=x\n"),
+            (20, 0, One, "L 20 CK 1 : Q=1@0\n"),
+            (60, 0, Zero, "L 60 CK 0 : Q=x@0 !1\n"),
+            (130, 0, One, "L 130 CK 1 : Q=1@0\n"),
+            (150, 0, Zero, "L 150 CK 0 : Q=x@0 !1\n"),
+            (230, 0, One, "L 230 CK 1 : Q=1@0\n"),
         ],
     )
 }

@@ -1,7 +1,7 @@
 use Rattle.std.proofs.Common.{◌≡◌, List, [], drop}
 use Rattle.cell_machine.specs.declared.changes.Change.{Change}
 use Rattle.cell_machine.specs.History.{ComesAfter}
-use Rattle.machine_acceptance.specs.LineText.{HasTrace}
+use Rattle.machine_acceptance.specs.TraceRows.{HasTrace}
 use Rattle.machine_acceptance.proofs.lines.drive.Given as goal
 
 -- the rest of the rows is a trace from here only where all of them are one from the start
@@ -11,4 +11,5 @@ invariant-loop-at g l =
     × (g.S.CellSim.stands l.sim h
     × (ComesAfter l.next h
     × ((g.S.CellSim.machine l.sim ≡ g.S.CellSim.machine l.initial.sim)
-    × (HasTrace (g.S.CellSim.machine l.sim) h (drop l.at-index l.rows) → HasTrace (g.S.CellSim.machine l.initial.sim) [] l.rows))))
+    × (HasTrace l.names.inputs l.names.outputs (g.S.CellSim.machine l.sim) h (drop l.at-index l.rows)
+    → HasTrace l.names.inputs l.names.outputs (g.S.CellSim.machine l.initial.sim) [] l.rows))))

@@ -18,9 +18,9 @@ mod state_tables;
 #[cfg(test)]
 mod stimuli;
 #[cfg(test)]
-mod verilog_texts;
+mod verilog_scans;
 #[cfg(test)]
-mod verilog_tokens;
+mod verilog_texts;
 #[cfg(test)]
 mod vital_tables;
 #[cfg(test)]

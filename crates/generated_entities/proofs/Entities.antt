@@ -45,6 +45,7 @@ use Rattle.generated_entities.proofs.PortNumbers.{apart_pins, apart_sources}
 use Rattle.generated_entities.proofs.Names.{IsGivenName, entity_named}
 use Rattle.generated_entities.proofs.PortNames.{ports_are_named}
 use Rattle.generated_entities.proofs.Conditions.{looked_up_in_order}
+use Rattle.generated_entities.proofs.Counts.{few_parts, few_paths}
 
 -- a time of at most 15 digits
 short : (n : ℕ) → IsTrue (nat_le n longest_time) → IsNumber n
@@ -96,6 +97,7 @@ module _ (cell : CellData) (h : Rules cell) where
       record {
         rows = states_have_rows (has_violation cell) (length (support_at cell g)) (step_at cell g);
         columns = by (has_violation cell);
+        width = few (has_violation cell);
         edges = rows_have_one_edge (has_violation cell) (length (support_at cell g)) (step_at cell g);
         apart = apart_pins cell.pins (support_at cell g) facts.0 facts.1;
       }
@@ -115,6 +117,17 @@ module _ (cell : CellData) (h : Rules cell) where
       by : (b : Bool) → 1 ≤ (if b then length (ports_at cell.pins (support_at cell g)) + 1 else length (ports_at cell.pins (support_at cell g)))
       by true = omega arith
       by false = some
+
+      most : length (ports_at cell.pins (support_at cell g)) ≤ 8
+      most =
+          let within_eight = (group_support cell h g within).most in
+          let long : length (ports_at cell.pins (support_at cell g)) ≡ length (support_at cell g)
+          = length-map (support_at cell g) (port_number cell.pins) in
+          omega (arith, within_eight, long)
+
+      few : (b : Bool) → IsNumber (if b then length (ports_at cell.pins (support_at cell g)) + 1 else length (ports_at cell.pins (support_at cell g)))
+      few true = omega (arith, most)
+      few false = omega (arith, most)
 
   states_written : All IsWrittenState (states_of cell)
   states_written =
@@ -188,6 +201,7 @@ module _ (cell : CellData) (h : Rules cell) where
             let ends = λ (arc : Arc). nat_eq arc.to output.pin in
             let r = among-map (path_of cell) path (filter ends cell.arcs) k in
             subst IsWrittenPath r.1 (path_written r.0 (among-filter ends r.0 cell.arcs r.2).0));
+        few = few_paths cell h output.pin;
       }
 
   outputs_written : All IsWrittenOutput (map (output_of cell) cell.outputs)
@@ -216,6 +230,7 @@ module _ (cell : CellData) (h : Rules cell) where
         in_order = looked_up_in_order cell h name;
         outputs = outputs_written;
         limits = limits_short;
+        few = few_parts cell h name;
       }
 
 pub entity-well-formed : EntityIsWellFormed

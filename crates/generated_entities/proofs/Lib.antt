@@ -6,5 +6,6 @@ pub mod ArcOrder
 pub mod Names
 pub mod PortNames
 pub mod Conditions
+pub mod Counts
 pub mod Entities
 pub mod EntityLists

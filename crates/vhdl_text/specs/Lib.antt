@@ -6,3 +6,4 @@ pub mod VhdlChecks
 pub mod VhdlOutputs
 pub mod VhdlText
 pub mod WellFormed
+pub mod Laws

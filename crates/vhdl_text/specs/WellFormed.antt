@@ -49,10 +49,16 @@ AreApart names = IsDistinct str_eq_ignore_ascii_case names
 abbrev pub HasOneEdge : VStateRow → Type 0
 HasOneEdge row = count_by is_edge row.inputs ≤ 1
 
--- A state that a text can tell: its table has a row and a column, and no input stands twice among its columns.
+-- a number of at most 15 digits
+abbrev pub IsNumber : ℕ → Type 0
+IsNumber n = n < 10 ^ 15
+
+-- A state that a text can tell: its table has a row and a column, and no input stands twice among its columns. How many columns there
+-- are is a number of the text, the bound of the variable of the columns before.
 pub record IsWrittenState (state : VState) : Type 0 where
   pub rows : 1 ≤ length state.table.rows
   pub columns : 1 ≤ columns_of state
+  pub width : IsNumber (columns_of state)
   pub edges : All HasOneEdge state.table.rows
   pub apart : IsDistinct nat_eq state.inputs
 
@@ -73,10 +79,6 @@ abbrev pub IsWrittenValue : OutValue → Type 0
 IsWrittenValue (value.Constant one) = ⊤
 IsWrittenValue (value.Table table sources) = IsWrittenLookup table sources
 
--- a number of at most 15 digits
-abbrev pub IsNumber : ℕ → Type 0
-IsNumber n = n < 10 ^ 15
-
 -- a path that counts where conditions are 0 names one
 abbrev pub names_condition : HGate → Bool
 names_condition gate.Always = true
@@ -89,9 +91,11 @@ pub record IsWrittenPath (path : HPath) : Type 0 where
   pub fall : IsNumber path.fall
   pub gated : IsTrue (names_condition path.gate)
 
+-- An output that a text can tell. The place of each path, from 0, is a number of the text.
 pub record IsWrittenOutput (output : VOutput) : Type 0 where
   pub valued : IsWrittenValue output.value
   pub paths : All IsWrittenPath output.paths
+  pub few : length output.paths ≤ 10 ^ 15
 
 -- the conditions of a check, of a path, and of an entity in the order of its text
 abbrev pub conditions_of_check : HCheck → List ℕ
@@ -122,7 +126,12 @@ looks_up_in_order all seen (i ∷ is) =
     if nat_lt i seen then looks_up_in_order all seen is
     else (if nat_eq i seen then looks_up_in_order all (seen + 1) is else false)
 
--- An entity that a text can tell.
+-- how many ports, states, conditions and checks there are
+abbrev pub part_count : VEntity → ℕ
+part_count e = length e.ports + length e.states + (length e.conditions + length e.checks)
+
+-- An entity that a text can tell. The names of its parts end in their numbers, so how many parts there are is such a number as well
+-- (this project's limit; IEEE 1076-1993, 13.3, bounds no name).
 pub record IsWellFormedEntity (e : VEntity) : Type 0 where
   pub name : IsEntityName e.name
   pub ports : All IsPortName (port_names e.ports)
@@ -133,6 +142,7 @@ pub record IsWellFormedEntity (e : VEntity) : Type 0 where
   pub in_order : IsTrue (looks_up_in_order (length e.conditions) 0 (looked_up e))
   pub outputs : All IsWrittenOutput e.outputs
   pub limits : All (λ (k : HCheck). IsNumber k.limit) e.checks
+  pub few : IsNumber (part_count e)
 
 -- A list of entities that a text can have: each is well formed, and no two share a name.
 pub record AreWellFormed (es : List VEntity) : Type 0 where

@@ -5,5 +5,5 @@
 mod laws;
 mod scope;
 
-pub use laws::vhdl_text_has_one_answer;
+pub use laws::{texts_are_well_formed, vhdl_text_has_one_answer};
 pub use scope::{Assigned, Columns, Scope, Tables, Variables};

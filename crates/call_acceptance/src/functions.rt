@@ -1,62 +1,25 @@
 //! Examples from outside: texts with the trees and the faults that Liberty's syntax gives them.
-use bool_functions::{Function, FunctionFault, MAX_LEN, Names, Node, read_free, read_function};
+use bool_functions::{Function, FunctionFault, MAX_LEN, Names, read_free, read_function};
 use std::test::Fail;
 
-/// The digit of a name's number; the texts here have at most three names.
-fn digit(number: usize) -> char {
-    match number {
-        0 => '0',
-        1 => '1',
-        2 => '2',
-        _ => '?',
-    }
-}
-
-/// Adds a tree with all its brackets, and names by their numbers.
-fn show(text: &mut String, node: &Node) -> Result<(), Fail> {
-    let (left, operator, right) = match node {
-        Node::Zero => return Ok(text.push('0')?),
-        Node::One => return Ok(text.push('1')?),
-        Node::Name(number) => {
-            text.push('n')?;
-            return Ok(text.push(digit(*number))?);
-        }
-        Node::Not(part) => {
-            text.push('!')?;
-            return show(text, part.get());
-        }
-        Node::Xor(left, right) => (left, '^', right),
-        Node::And(left, right) => (left, '*', right),
-        Node::Or(left, right) => (left, '+', right),
-    };
-    text.push('(')?;
-    show(text, left.get())?;
-    text.push(operator)?;
-    show(text, right.get())?;
-    text.push(')')?;
-    Ok(())
-}
-
 #[test]
-fn reads_trees(rt: HostRuntime) -> Result<(), Fail> {
+fn reads_as_with_all_brackets(rt: HostRuntime) -> Result<(), Fail> {
     let alloc = rt.alloc();
-    for (text, want) in [
-        ("A*B", "(n0*n1)"),
-        ("A B'", "(n0*!n1)"),
-        ("A&B|C", "((n0*n1)+n2)"),
-        ("A+B*C", "(n0+(n1*n2))"),
-        ("A+B+A", "((n0+n1)+n0)"),
-        ("!(A+B)^C", "(!(n0+n1)^n2)"),
-        ("A ^ B C", "((n0^n1)*n2)"),
-        ("A B^C", "(n0*(n1^n2))"),
-        ("!A'", "!!n0"),
-        ("\t1\n( b_0)", "(1*n0)"),
-        ("0", "0"),
+    for (text, bracketed) in [
+        ("A*B", "(A*B)"),
+        ("A B'", "(A*(!B))"),
+        ("A&B|C", "((A*B)+C)"),
+        ("A+B*C", "(A+(B*C))"),
+        ("A+B+A", "((A+B)+A)"),
+        ("!(A+B)^C", "((!(A+B))^C)"),
+        ("A ^ B C", "((A^B)*C)"),
+        ("A B^C", "(A*(B^C))"),
+        ("!A'", "(!(!A))"),
+        ("\t1\n( b_0)", "(1*b_0)"),
     ] {
         let (function, _names) = read_free(alloc, text.as_bytes())?;
-        let mut shown = String::new(alloc);
-        show(&mut shown, function.node())?;
-        assert_eq!(rt; shown.as_str(), want, "at {text}");
+        let (wanted, _names) = read_free(alloc, bracketed.as_bytes())?;
+        assert!(rt; function.same(&wanted), "at {text}");
     }
     Ok(())
 }

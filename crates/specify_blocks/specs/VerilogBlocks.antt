@@ -61,7 +61,7 @@ if_gate m = do
   _ ← expect (codes "(")
   r.Gives (gate.If w)
 
--- "(" behind "ifnone" (14.2.4.3)
+-- "(" behind "ifnone" (14.2.4.4)
 unfoldable pub ifnone_gate : Grammar Gate
 ifnone_gate = do
   _ ← expect (codes "(")

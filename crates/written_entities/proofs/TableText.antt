@@ -24,7 +24,7 @@ use Rattle.written_entities.proofs.TableTokens.{opened, closed, truth_row_front,
 use Rattle.written_entities.proofs.TableReading.{truth_table_read, state_table_read}
 
 -- the tokens of a text that is spelled by itself
-all_found : {text : List ℕ} (f : List (List ℕ) → List (List ℕ)) → Spells Anything false text f false → found false text ≡ (f [], false)
+pub all_found : {text : List ℕ} (f : List (List ℕ) → List (List ℕ)) → Spells Anything false text f false → found false text ≡ (f [], false)
 all_found {text = text} f h = ap (found false) (sym (append-nil text)) ∙ h.is [] tt
 
 -- a grammar takes one value

@@ -1,0 +1,436 @@
+-- The lines of outputs in a written entity: their tokens and their reading.
+use Rattle.std.proofs.Common.{◌≡◌, ℕ, zero, suc, ◌+◌, ◌-◌, ◌<◌, ◌≤◌, ◌^◌, Bool, true, false, not, ◌&&◌, nat_eq, nat_lt, if◌then◌else◌, IsTrue, List, [], ◌∷◌, ◌++◌, length, map, flat_map, All, Option, Some, slice_get, refl, sym, ap, ◌∙◌, arith, subst, codes, decimal, append_assoc}
+use Rattle.std.specs.Option.{option_map, option_map_or, option_and_then}
+use Rattle.std.specs.Str.{str_eq_ignore_ascii_case}
+use Rattle.std.proofs.lemmas.Bool.Decides.{nat_tests}
+use Rattle.std.proofs.lemmas.List.{length-map, map-append, append-nil}
+use Rattle.std.proofs.lemmas.Option.{slice_get-map}
+use Rattle.grammar_rules.specs.Rule.{Verdict, Fits, Stops}
+use Rattle.grammar_rules.specs.Rule as r
+use Rattle.rule_readers.specs.declared.refusal.Refusal.{Refusal}
+use Rattle.udp_tables.specs.declared.models.VPort.{VPort}
+use Rattle.vital_models.specs.declared.model.VOutput.{VOutput}
+use Rattle.vital_models.specs.declared.model.HGate.{HGate}
+use Rattle.vital_models.specs.declared.model.HGate.TheVariants as gate
+use Rattle.vital_models.specs.declared.model.HPath.{HPath}
+use Rattle.vital_models.specs.declared.model.VEntity.{VEntity}
+use Rattle.vital_models.specs.Sound.{output_ports_from, IsPath, IsOutput}
+use Rattle.vhdl_names.specs.Words.{is_reserved, is_used, vhdl_words, used_words}
+use Rattle.vhdl_tokens.specs.Tokens.{is_name}
+use Rattle.vhdl_tokens.specs.Spelling.{is_same}
+use Rattle.vhdl_text.specs.VhdlRules.{this_number}
+use Rattle.vhdl_text.specs.VhdlDeclarations.{name_of_port, output_count}
+use Rattle.vhdl_text.specs.VhdlNames.{Uses}
+use Rattle.vhdl_text.specs.VhdlOutputs.{next_zero, all_zero, not_zero, equals_zero, gate_of_conditions, always, gate_of, delays, next_path, paths, output_name, has_glitch, Lines, is_text_of, text_by, path_call_start, path_call, assignment, is_unpathed, begins_line, line_by, output_lines}
+use Rattle.vhdl_text.specs.WellFormed.{IsNumber, IsPortName, IsWrittenPath, IsWrittenOutput, IsWellFormedEntity, names_condition, conditions_of_check, conditions_of_gate, conditions_of_path, conditions_of_output}
+use Rattle.vhdl_writer.specs.Joined.{numbered_texts, apart_text}
+use Rattle.vhdl_writer.specs.Names.{port_at, condition_text}
+use Rattle.vhdl_writer.specs.Outputs.{not_zero_text, zero_text, all_zero_text, gate_text, path_text, paths_text, direct_text, output_line}
+use Rattle.written_modules.proofs.Spelling.{Front, Anything}
+use Rattle.written_modules.proofs.Derivations.{Reads, from_same, to_same, gives, token, in_turn, chosen, passed, no_turn, turn, turns}
+use Rattle.written_modules.proofs.PrimitiveReading.{get_at, goes_on}
+use Rattle.written_entities.specs.Laws.{IsAssignable, AreAssignable}
+use Rattle.written_entities.proofs.Spelling.{Spells, joins, behind, literal}
+use Rattle.written_entities.proofs.Words.{Ends, IsNamed, word, name, number, of_glitch, of_output, part_named, below_word, port_named}
+use Rattle.written_entities.proofs.NameReading.{same_name, same_self, expected, two_expected, three_expected, six_expected, so_named, time_read, this_number_read}
+use Rattle.written_entities.proofs.Counting.{counted, counted_anywhere, apart_front, apart_spelled, over}
+use Rattle.written_entities.proofs.Elements.{comma, closed}
+use Rattle.written_entities.proofs.Parts.{if_true, if_false, some_items, part_behind, fact_at, place_below, output_number}
+use Rattle.written_entities.proofs.PortLookUps.{port_is, port_at_is, input_named, input_read}
+use Rattle.written_entities.proofs.VariableReading.{has_paths, so_many_outputs}
+use Rattle.written_entities.proofs.LookUpOrder.{seen_after, behind_look_ups, seen_behind, seen_with_item, looks_at}
+use Rattle.written_entities.proofs.ConditionReading.{scope, uses_of, Looks, condition_front, condition_read, condition_spelled, looks_below}
+use Rattle.written_entities.proofs.CheckReading.{anywhere, part_read}
+use Rattle.written_entities.proofs.QuotedNames.{quoted, quoted_behind, quoted_is}
+
+-- Tokens.
+
+abbrev zero_front : VEntity → ℕ → ℕ → Front
+zero_front e n i s = codes "VitalTruthTable" ∷ condition_front e i (codes "=" ∷ codes "'0'" ∷ s)
+
+abbrev gate_front : VEntity → HGate → Front
+gate_front e gate.Always s = codes "true" ∷ s
+gate_front e (gate.NotZero i) s = codes "VitalTruthTable" ∷ condition_front e i (codes "/=" ∷ codes "'0'" ∷ s)
+gate_front e (gate.AllZero is) s = apart_front (λ q. codes "and" ∷ q) (zero_front e) is s
+
+abbrev path_front : VEntity → ℕ → HPath → Front
+path_front e n path s =
+    decimal (n - 1) ∷ codes "=>" ∷ codes "(" ∷ port_at e path.from ∷ codes "'" ∷ codes "last_event" ∷ codes "," ∷ codes "(" ∷ decimal path.rise ∷ codes "ps" ∷ codes "," ∷ decimal path.fall ∷ codes "ps"
+    ∷ codes ")" ∷ codes "," ∷ gate_front e path.gate (codes ")" ∷ s)
+
+abbrev call_front : VEntity → ℕ → ℕ → List HPath → Front
+call_front e n p all s =
+    codes "(" ∷ codes "OutSignal" ∷ codes "=>" ∷ port_at e p ∷ codes "," ∷ codes "GlitchData" ∷ codes "=>" ∷ (103 ∷ 95 ∷ decimal n) ∷ codes "," ∷ codes "OutSignalName" ∷ codes "=>" ∷ quoted (port_at e p)
+    ∷ codes "," ∷ codes "OutTemp" ∷ codes "=>" ∷ (122 ∷ 95 ∷ decimal n) ∷ codes "," ∷ codes "Paths" ∷ codes "=>" ∷ codes "(" ∷ apart_front (λ q. codes "," ∷ q) (path_front e) all
+    (codes ")" ∷ codes "," ∷ codes "Mode" ∷ codes "=>" ∷ codes "VitalTransport" ∷ codes ")" ∷ codes ";" ∷ s)
+
+abbrev line_by_paths : VEntity → ℕ → ℕ → List HPath → Front
+line_by_paths e n p [] s = port_at e p ∷ codes "<=" ∷ (122 ∷ 95 ∷ decimal n) ∷ codes ";" ∷ s
+line_by_paths e n p (path ∷ all) s = codes "VitalPathDelay01" ∷ call_front e n p (path ∷ all) s
+
+abbrev pub line_front : VEntity → ℕ → VOutput → Front
+line_front e n output s = line_by_paths e n output.port output.paths s
+
+unequal_zero : {t : Bool} → Spells Anything t (codes " /= '0'") (λ s. codes "/=" ∷ codes "'0'" ∷ s) false
+unequal_zero = literal 7 (λ r. refl)
+
+is_zero : {t : Bool} → Spells Anything t (codes " = '0'") (λ s. codes "=" ∷ codes "'0'" ∷ s) false
+is_zero = literal 6 (λ r. refl)
+
+and_word : {t : Bool} → Spells Anything t (codes " and ") (λ s. codes "and" ∷ s) false
+unfolding is_reserved is_used vhdl_words used_words
+and_word = literal 5 (λ r. refl)
+
+path_start : {t : Bool} → Spells Anything t (codes " => (") (λ s. codes "=>" ∷ codes "(" ∷ s) false
+path_start = literal 5 (λ r. refl)
+
+event_word : Spells Anything true (codes "'last_event, (") (λ s. codes "'" ∷ codes "last_event" ∷ codes "," ∷ codes "(" ∷ s) false
+event_word = literal 14 (λ r. refl)
+
+rise_end : {t : Bool} → Spells Anything t (codes " ps, ") (λ s. codes "ps" ∷ codes "," ∷ s) false
+rise_end = literal 5 (λ r. refl)
+
+fall_end : {t : Bool} → Spells Anything t (codes " ps), ") (λ s. codes "ps" ∷ codes ")" ∷ codes "," ∷ s) false
+fall_end = literal 6 (λ r. refl)
+
+path_call_word : {t : Bool} → Spells Anything t (codes "    VitalPathDelay01 (OutSignal => ") (λ s. codes "VitalPathDelay01" ∷ codes "(" ∷ codes "OutSignal" ∷ codes "=>" ∷ s) false
+path_call_word = literal 35 (λ r. refl)
+
+glitch_word : {t : Bool} → Spells Anything t (codes ", GlitchData => ") (λ s. codes "," ∷ codes "GlitchData" ∷ codes "=>" ∷ s) false
+glitch_word = literal 16 (λ r. refl)
+
+signal_name_word : {t : Bool} → Spells Anything t (codes ", OutSignalName => ") (λ s. codes "," ∷ codes "OutSignalName" ∷ codes "=>" ∷ s) false
+signal_name_word = literal 19 (λ r. refl)
+
+value_word : {t : Bool} → Spells Anything t (codes ", OutTemp => ") (λ s. codes "," ∷ codes "OutTemp" ∷ codes "=>" ∷ s) false
+value_word = literal 13 (λ r. refl)
+
+paths_word : {t : Bool} → Spells Anything t (codes ", Paths => (") (λ s. codes "," ∷ codes "Paths" ∷ codes "=>" ∷ codes "(" ∷ s) false
+paths_word = literal 12 (λ r. refl)
+
+paths_end : {t : Bool} → Spells Anything t (codes "), Mode => VitalTransport);\n") (λ s. codes ")" ∷ codes "," ∷ codes "Mode" ∷ codes "=>" ∷ codes "VitalTransport" ∷ codes ")" ∷ codes ";" ∷ s) false
+paths_end = literal 28 (λ r. refl)
+
+indented : Spells Anything false (codes "    ") (λ s. s) false
+indented = literal 4 (λ r. refl)
+
+takes : {t : Bool} → Spells Anything t (codes " <= ") (λ s. codes "<=" ∷ s) false
+takes = literal 4 (λ r. refl)
+
+line_end : {t : Bool} → Spells Anything t (codes ";\n") (λ s. codes ";" ∷ s) false
+line_end = literal 2 (λ r. refl)
+
+true_word : {t : Bool} → Spells Ends t (codes "true") (λ s. codes "true" ∷ s) false
+unfolding is_reserved is_used vhdl_words used_words
+true_word = word (codes "true") refl
+
+-- Gates.
+
+all_below : (e : VEntity) (seen : ℕ) (is others : List ℕ) → Looks e seen (is ++ others) → (before : List ℕ) (i : ℕ) (after : List ℕ) → before ++ i ∷ after ≡ is → i < length e.conditions
+all_below e seen is others h before i after same =
+    let split : is ++ others ≡ before ++ (i ∷ (after ++ others)) = ap (λ (l : List ℕ). l ++ others) (sym same) ∙ append_assoc before (i ∷ after) others in
+    looks_below e (seen_after seen before) i (after ++ others) (behind_look_ups (length e.conditions) seen before (i ∷ (after ++ others)) (subst (Looks e seen) split h))
+
+zero_text_is : (e : VEntity) (n i : ℕ) → zero_text e n i ≡ apart_text (codes " and ") n ++ (condition_text e i ++ codes " = '0'")
+unfolding zero_text
+zero_text_is e n i = refl
+
+zeros_spelled : (e : VEntity) → IsWellFormedEntity e → (is : List ℕ) → nat_lt 0 (length is) ≡ true → ((before : List ℕ) (i : ℕ) (after : List ℕ) → before ++ i ∷ after ≡ is → i < length e.conditions)
+    → Spells Anything false (all_zero_text e is) (apart_front (λ q. codes "and" ∷ q) (zero_front e) is) false
+unfolding all_zero_text
+zeros_spelled e w [] some h = absurd (cc some)
+zeros_spelled e w (i ∷ is) some h =
+    apart_spelled (codes " and ") (λ q. codes "and" ∷ q) (zero_text e) (λ n j. condition_text e j ++ codes " = '0'") (zero_front e) (zero_text_is e) and_word (λ r. tt) i is
+    (λ before j after same. behind (condition_spelled e w j (h before j after same)) is_zero)
+
+gate_spelled : (e : VEntity) → IsWellFormedEntity e → (seen : ℕ) (g : HGate) (others : List ℕ) → Looks e seen (conditions_of_gate g ++ others) → IsTrue (names_condition g) → Spells Ends false (gate_text e g) (gate_front e g) false
+unfolding not_zero_text
+gate_spelled e w seen gate.Always others h some = true_word
+gate_spelled e w seen (gate.NotZero i) others h some = anywhere (behind (condition_spelled e w i (looks_below e seen i others h)) unequal_zero)
+gate_spelled e w seen (gate.AllZero is) others h some = anywhere (zeros_spelled e w is some (all_below e seen is others h))
+
+zero_step : (e : VEntity) → IsWellFormedEntity e → (seen : ℕ) (is others : List ℕ) → Looks e seen (is ++ others) → (before : List ℕ) (i : ℕ) (after : List ℕ) (q : List (List ℕ)) → before ++ i ∷ after ≡ is
+    → Reads (next_zero (scope e) (before, uses_of e (seen_after seen before))) (zero_front e 0 i q) (before ++ i ∷ [], uses_of e (seen_after seen (before ++ i ∷ []))) q
+unfolding next_zero
+zero_step e w seen is others h before i after q same =
+    let split : is ++ others ≡ before ++ (i ∷ (after ++ others)) = ap (λ (l : List ℕ). l ++ others) (sym same) ∙ append_assoc before (i ∷ after) others in
+    let looks : Looks e (seen_after seen before) (i ∷ (after ++ others)) = behind_look_ups (length e.conditions) seen before (i ∷ (after ++ others)) (subst (Looks e seen) split h) in
+    in_turn expected (in_turn (condition_read e w (seen_after seen before) i (after ++ others) looks) (in_turn two_expected
+    (to_same (ap (λ (n : ℕ). (before ++ i ∷ [], uses_of e n)) (sym (seen_behind seen before (i ∷ [])))) gives)))
+
+zeros_read : (e : VEntity) → IsWellFormedEntity e → (seen i : ℕ) (is others : List ℕ) (s : List (List ℕ)) → Looks e seen (i ∷ (is ++ others))
+    → Reads (gate_of (scope e) (uses_of e seen)) (apart_front (λ q. codes "and" ∷ q) (zero_front e) (i ∷ is) (codes ")" ∷ s)) (gate.AllZero (i ∷ is), uses_of e (seen_after seen (i ∷ is))) (codes ")" ∷ s)
+unfolding gate_of gate_of_conditions equals_zero all_zero
+zeros_read e w seen i is others s h =
+    chosen refl (in_turn (condition_read e w seen i (is ++ others) h) (passed refl (in_turn expected (in_turn expected
+    (in_turn (over (λ (l : List ℕ). (l, uses_of e (seen_after seen l))) (λ n j q. codes "and" ∷ zero_front e n j q) (i ∷ []) is
+    (λ before j after q same rest. turns (turn refl (zero_step e w seen (i ∷ is) others h before j after q same)) rest) (codes ")" ∷ s) (no_turn refl)) gives)))))
+
+gate_read : (e : VEntity) → IsWellFormedEntity e → (seen : ℕ) (g : HGate) (others : List ℕ) (s : List (List ℕ)) → Looks e seen (conditions_of_gate g ++ others) → IsTrue (names_condition g)
+    → Reads (gate_of (scope e) (uses_of e seen)) (gate_front e g (codes ")" ∷ s)) (g, uses_of e (seen_after seen (conditions_of_gate g))) (codes ")" ∷ s)
+unfolding gate_of gate_of_conditions not_zero always
+gate_read e w seen gate.Always others s h some = passed refl (in_turn expected gives)
+gate_read e w seen (gate.NotZero i) others s h some = chosen refl (in_turn (condition_read e w seen i others h) (chosen refl (in_turn expected gives)))
+gate_read e w seen (gate.AllZero []) others s h some = absurd (cc some)
+gate_read e w seen (gate.AllZero (i ∷ is)) others s h some = zeros_read e w seen i is others s h
+
+-- Paths.
+
+-- what holds of an output's paths, of which the look-ups are in order
+record ArePaths (e : VEntity) (seen : ℕ) (all : List HPath) (others : List ℕ) : Type 0 where
+  formed : IsWellFormedEntity e
+  sound : All (IsPath e) all
+  written : All IsWrittenPath all
+  few : length all ≤ 10 ^ 15
+  looks : Looks e seen (flat_map conditions_of_path all ++ others)
+
+path_looks : (e : VEntity) (seen : ℕ) (all : List HPath) (others : List ℕ) → ArePaths e seen all others → (before : List HPath) (path : HPath) (after : List HPath) → before ++ path ∷ after ≡ all
+    → Looks e (seen_after seen (flat_map conditions_of_path before)) (conditions_of_gate path.gate ++ (flat_map conditions_of_path after ++ others))
+path_looks e seen all others h before path after same =
+    looks_at conditions_of_path (length e.conditions) seen before path after others (subst (λ (l : List HPath). Looks e seen (flat_map conditions_of_path l ++ others)) (sym same) h.looks)
+
+index_fits : {A : Type 0} (before : List A) (x : A) (after all : List A) → before ++ x ∷ after ≡ all → length all ≤ 10 ^ 15 → IsNumber (length before)
+index_fits before x after all same few = omega (arith, place_below before x after all same, few)
+
+index_is : (n : ℕ) → n + 1 - 1 ≡ n
+index_is n = omega arith
+
+path_text_is : (e : VEntity) (n : ℕ) (path : HPath) → path_text e n path
+    ≡ apart_text (codes ", ") n ++ (decimal (n - 1) ++ (codes " => (" ++ (port_at e path.from ++ (codes "'last_event, (" ++ (decimal path.rise ++ (codes " ps, " ++ (decimal path.fall ++ (codes " ps), " ++ (gate_text e path.gate ++ codes ")")))))))))
+unfolding path_text
+path_text_is e n path = refl
+
+path_spelled : (e : VEntity) (seen : ℕ) (all : List HPath) (others : List ℕ) → ArePaths e seen all others → (before : List HPath) (path : HPath) (after : List HPath) → before ++ path ∷ after ≡ all
+    → Spells Anything false (decimal (length before + 1 - 1) ++ (codes " => (" ++ (port_at e path.from ++ (codes "'last_event, (" ++ (decimal path.rise ++ (codes " ps, " ++ (decimal path.fall ++ (codes " ps), " ++ (gate_text e path.gate ++ codes ")")))))))))
+    (path_front e (length before + 1) path) false
+path_spelled e seen all others h before path after same =
+    let sound : IsPath e path = fact_at (IsPath e) all h.sound before path after same in
+    let written : IsWrittenPath path = fact_at IsWrittenPath all h.written before path after same in
+    let index : IsNumber (length before + 1 - 1) = subst IsNumber (sym (index_is (length before))) (index_fits before path after all same h.few) in
+    joins (number (length before + 1 - 1) index) (λ r q. refl) (behind path_start (joins (name (port_at e path.from) (input_named e h.formed path.from sound.starts)) (λ r q. refl)
+    (behind event_word (joins (number path.rise written.rise) (λ r q. refl) (behind rise_end (joins (number path.fall written.fall) (λ r q. refl) (behind fall_end
+    (joins (gate_spelled e h.formed (seen_after seen (flat_map conditions_of_path before)) path.gate (flat_map conditions_of_path after ++ others) (path_looks e seen all others h before path after same) written.gated)
+    (λ r q. refl) closed))))))))
+
+paths_spelled : (e : VEntity) (seen : ℕ) (path : HPath) (all : List HPath) (others : List ℕ) → ArePaths e seen (path ∷ all) others
+    → Spells Anything false (numbered_texts (path_text e) 1 (path ∷ all)) (apart_front (λ q. codes "," ∷ q) (path_front e) (path ∷ all)) false
+paths_spelled e seen path all others h =
+    apart_spelled (codes ", ") (λ q. codes "," ∷ q) (path_text e)
+    (λ n x. decimal (n - 1) ++ (codes " => (" ++ (port_at e x.from ++ (codes "'last_event, (" ++ (decimal x.rise ++ (codes " ps, " ++ (decimal x.fall ++ (codes " ps), " ++ (gate_text e x.gate ++ codes ")")))))))))
+    (path_front e) (path_text_is e) comma (λ r. tt) path all (path_spelled e seen (path ∷ all) others h)
+
+delays_read : (rise fall : ℕ) {s : List (List ℕ)} → IsNumber rise → IsNumber fall
+    → Reads delays (codes "(" ∷ decimal rise ∷ codes "ps" ∷ codes "," ∷ decimal fall ∷ codes "ps" ∷ codes ")" ∷ codes "," ∷ s) (rise, fall) s
+unfolding delays
+delays_read rise fall h k = in_turn expected (in_turn (time_read rise h) (in_turn expected (in_turn (time_read fall k) (in_turn two_expected gives))))
+
+path_read : (e : VEntity) (seen : ℕ) (all : List HPath) (others : List ℕ) → ArePaths e seen all others → (before : List HPath) (path : HPath) (after : List HPath) (s : List (List ℕ)) → before ++ path ∷ after ≡ all
+    → Reads (next_path (scope e) (before, uses_of e (seen_after seen (flat_map conditions_of_path before)))) (path_front e (length before + 1) path s)
+    (before ++ path ∷ [], uses_of e (seen_after seen (flat_map conditions_of_path (before ++ path ∷ [])))) s
+unfolding next_path
+path_read e seen all others h before path after s same =
+    let sound : IsPath e path = fact_at (IsPath e) all h.sound before path after same in
+    let written : IsWrittenPath path = fact_at IsWrittenPath all h.written before path after same in
+    let here : ℕ = seen_after seen (flat_map conditions_of_path before) in
+    let tail : List (List ℕ) = codes "=>" ∷ codes "(" ∷ port_at e path.from ∷ codes "'" ∷ codes "last_event" ∷ codes "," ∷ codes "(" ∷ decimal path.rise ∷ codes "ps" ∷ codes "," ∷ decimal path.fall ∷ codes "ps"
+    ∷ codes ")" ∷ codes "," ∷ gate_front e path.gate (codes ")" ∷ s) in
+    let index : Reads (this_number (length before)) (decimal (length before + 1 - 1) ∷ tail) tt tail =
+    from_same (ap (λ (n : ℕ). decimal n ∷ tail) (index_is (length before))) (this_number_read (length before) (index_fits before path after all same h.few)) in
+    in_turn index (in_turn two_expected (in_turn (input_read e h.formed path.from sound.starts) (in_turn three_expected (in_turn (delays_read path.rise path.fall written.rise written.fall)
+    (in_turn (gate_read e h.formed here path.gate (flat_map conditions_of_path after ++ others) s (path_looks e seen all others h before path after same) written.gated)
+    (in_turn expected (to_same (ap (λ (n : ℕ). (before ++ path ∷ [], uses_of e n)) (seen_with_item conditions_of_path seen before path)) gives)))))))
+
+paths_read : (e : VEntity) (seen : ℕ) (path : HPath) (all : List HPath) (others : List ℕ) (s : List (List ℕ)) → ArePaths e seen (path ∷ all) others
+    → Reads (paths (scope e) (uses_of e seen)) (codes "(" ∷ apart_front (λ q. codes "," ∷ q) (path_front e) (path ∷ all) (codes ")" ∷ s)) (path ∷ all, uses_of e (seen_after seen (flat_map conditions_of_path (path ∷ all)))) s
+unfolding paths
+paths_read e seen path all others s h =
+    in_turn expected (in_turn (path_read e seen (path ∷ all) others h [] path all (counted (λ n y q. codes "," ∷ path_front e n y q) 2 all (codes ")" ∷ s)) refl)
+    (in_turn (over (λ (l : List HPath). (l, uses_of e (seen_after seen (flat_map conditions_of_path l)))) (λ n y q. codes "," ∷ path_front e n y q) (path ∷ []) all
+    (λ before x after q same rest. turns (turn refl (path_read e seen (path ∷ all) others h before x after q same)) rest) (codes ")" ∷ s) (no_turn refl)) (in_turn expected gives)))
+
+-- Outputs.
+
+-- a port that is an output, between others
+port_from : (k : ℕ) (ports : List VPort) (o p : ℕ) → slice_get (output_ports_from k ports) o ≡ Some p → (i : ℕ) × (p ≡ k + i) × (port : VPort) × (slice_get ports i ≡ Some port)
+port_from k [] o p h = absurd cc
+port_from k (port ∷ ports) o p h = by port.input h (λ n g. port_from (k + 1) ports n p g)
+  where
+    moved : (i : ℕ) × (p ≡ k + 1 + i) × (q : VPort) × (slice_get ports i ≡ Some q) → (i : ℕ) × (p ≡ k + i) × (q : VPort) × (slice_get (port ∷ ports) i ≡ Some q)
+    moved (i, e, q, g) = (suc i, omega (arith, e), q, g)
+
+    here : (o : ℕ) → slice_get (k ∷ output_ports_from (k + 1) ports) o ≡ Some p → ((n : ℕ) → slice_get (output_ports_from (k + 1) ports) n ≡ Some p → (i : ℕ) × (p ≡ k + 1 + i) × (q : VPort) × (slice_get ports i ≡ Some q))
+        → (i : ℕ) × (p ≡ k + i) × (q : VPort) × (slice_get (port ∷ ports) i ≡ Some q)
+    here zero g rest = let same : k ≡ p = cc in (0, omega (arith, same), port, refl)
+    here (suc n) g rest = moved (rest n g)
+
+    by : (b : Bool) → slice_get (if b then output_ports_from (k + 1) ports else k ∷ output_ports_from (k + 1) ports) o ≡ Some p
+        → ((n : ℕ) → slice_get (output_ports_from (k + 1) ports) n ≡ Some p → (i : ℕ) × (p ≡ k + 1 + i) × (q : VPort) × (slice_get ports i ≡ Some q))
+        → (i : ℕ) × (p ≡ k + i) × (q : VPort) × (slice_get (port ∷ ports) i ≡ Some q)
+    by true g rest = moved (rest o g)
+    by false g rest = here o g rest
+
+-- An output at its place: its port, by name.
+record IsOutputAt (e : VEntity) (o : ℕ) (output : VOutput) : Type 0 where
+  port : VPort
+  known : slice_get e.ports output.port ≡ Some port
+  named : output_name (scope e) o ≡ Some (port_at e output.port)
+  pathed : has_glitch (scope e) o ≡ has_paths output
+
+output_at : (e : VEntity) → IsWellFormedEntity e → (before : List VOutput) (output : VOutput) (after : List VOutput) → before ++ output ∷ after ≡ e.outputs → IsOutputAt e (length before) output
+output_at e w before output after same =
+    let there : slice_get e.outputs (length before) ≡ Some output = ap (λ (l : List VOutput). slice_get l (length before)) (sym same) ∙ get_at before output after in
+    let its_port : slice_get (output_ports_from 0 e.ports) (length before) ≡ Some output.port =
+    ap (λ (l : List ℕ). slice_get l (length before)) (sym w.sound.driven) ∙ slice_get-map (λ (x : VOutput). x.port) e.outputs (length before) ∙ ap (option_map (λ (x : VOutput). x.port)) there in
+    let found = port_from 0 e.ports (length before) output.port its_port in
+    let place : found.0 ≡ output.port = omega (arith, found.1) in
+    let known : slice_get e.ports output.port ≡ Some found.2 = subst (λ (i : ℕ). slice_get e.ports i ≡ Some found.2) place found.3 in
+    record {
+      port = found.2;
+      known = known;
+      named = ap (λ (p : Option ℕ). option_and_then (λ q. option_map name_of_port (slice_get e.ports q)) p) its_port ∙ ap (option_map name_of_port) known
+          ∙ ap (λ (x : List ℕ). Some x) (sym (port_at_is e output.port found.2 known));
+      pathed = ap (λ (b : Option Bool). option_map_or (λ (c : Bool). c) b false) (slice_get-map has_paths e.outputs (length before) ∙ ap (option_map has_paths) there);
+    }
+
+port_named_at : (e : VEntity) → IsWellFormedEntity e → (o : ℕ) (output : VOutput) → IsOutputAt e o output → IsNamed (port_at e output.port)
+port_named_at e w o output h = port_named (port_at e output.port) (subst IsPortName (sym (port_at_is e output.port h.port h.known)) (port_is e w output.port h.port h.known))
+
+-- how many conditions have been looked up before the lines of outputs
+abbrev pub seen_by_checks : VEntity → ℕ
+seen_by_checks e = seen_after 0 (flat_map conditions_of_check e.checks)
+
+abbrev pub seen_before : VEntity → List VOutput → ℕ
+seen_before e before = seen_after (seen_by_checks e) (flat_map conditions_of_output before)
+
+pub lines_look : (e : VEntity) → IsWellFormedEntity e → Looks e (seen_by_checks e) (flat_map conditions_of_output e.outputs ++ [])
+lines_look e w =
+    subst (λ (l : List ℕ). Looks e (seen_by_checks e) l) (sym (append-nil (flat_map conditions_of_output e.outputs)))
+    (behind_look_ups (length e.conditions) 0 (flat_map conditions_of_check e.checks) (flat_map conditions_of_output e.outputs) w.in_order)
+
+its_paths : (e : VEntity) → IsWellFormedEntity e → (before : List VOutput) (output : VOutput) (after : List VOutput) → before ++ output ∷ after ≡ e.outputs
+    → ArePaths e (seen_before e before) output.paths (flat_map conditions_of_output after ++ [])
+its_paths e w before output after same =
+    let written : IsWrittenOutput output = fact_at IsWrittenOutput e.outputs w.outputs before output after same in
+    record {
+      formed = w;
+      sound = (fact_at (IsOutput e) e.outputs w.sound.outputs before output after same).paths;
+      written = written.paths;
+      few = written.few;
+      looks = looks_at conditions_of_output (length e.conditions) (seen_by_checks e) before output after []
+          (subst (λ (l : List VOutput). Looks e (seen_by_checks e) (flat_map conditions_of_output l ++ [])) (sym same) (lines_look e w));
+    }
+
+call_spelled : (e : VEntity) (n : ℕ) (output : VOutput) (seen : ℕ) (path : HPath) (all : List HPath) (others : List ℕ) → output.paths ≡ path ∷ all → IsNumber n → IsNamed (port_at e output.port) → ArePaths e seen (path ∷ all) others
+    → Spells Anything false (paths_text e n output) (λ s. codes "VitalPathDelay01" ∷ call_front e n output.port (path ∷ all) s) false
+unfolding paths_text
+call_spelled e n output seen path all others same m x h =
+    let p : List ℕ = port_at e output.port in
+    let list : Spells Anything false (numbered_texts (path_text e) 1 output.paths) (apart_front (λ q. codes "," ∷ q) (path_front e) (path ∷ all)) false =
+    subst (λ (l : List HPath). Spells Anything false (numbered_texts (path_text e) 1 l) (apart_front (λ q. codes "," ∷ q) (path_front e) (path ∷ all)) false) (sym same) (paths_spelled e seen path all others h) in
+    behind path_call_word (joins (name p x) (λ r q. refl) (part_behind 103 n of_glitch m glitch_word (λ r q. refl) (quoted_behind p x signal_name_word
+    (part_behind 122 n of_output m value_word (λ r q. refl) (behind paths_word (behind list paths_end))))))
+
+direct_spelled : (e : VEntity) (n : ℕ) (output : VOutput) → IsNumber n → IsNamed (port_at e output.port) → Spells Anything false (direct_text e n output) (line_by_paths e n output.port []) false
+unfolding direct_text
+direct_spelled e n output m x = behind indented (joins (name (port_at e output.port) x) (λ r q. refl) (part_behind 122 n of_output m takes (λ r q. refl) line_end))
+
+line_by_spelled : (e : VEntity) (n : ℕ) (output : VOutput) (seen : ℕ) (all : List HPath) (others : List ℕ) → output.paths ≡ all → IsNumber n → IsNamed (port_at e output.port) → ArePaths e seen all others
+    → Spells Anything false (if nat_lt 0 (length all) then paths_text e n output else direct_text e n output) (line_by_paths e n output.port all) false
+line_by_spelled e n output seen [] others same m x h = direct_spelled e n output m x
+line_by_spelled e n output seen (path ∷ all) others same m x h =
+    subst (λ (b : Bool). Spells Anything false (if b then paths_text e n output else direct_text e n output) (line_by_paths e n output.port (path ∷ all)) false) (sym (some_items (length all)))
+    (call_spelled e n output seen path all others same m x h)
+
+pub lines_spelled : (e : VEntity) → IsWellFormedEntity e → Spells Anything false (numbered_texts (output_line e) 1 e.outputs) (counted (line_front e) 1 e.outputs) false
+lines_spelled e w =
+    counted_anywhere (output_line e) (line_front e) e.outputs
+    (λ before output after same. line_by_spelled e (length before + 1) output (seen_before e before) output.paths (flat_map conditions_of_output after ++ []) refl
+    (output_number e w (length before + 1) (place_below before output after e.outputs same)) (port_named_at e w (length before) output (output_at e w before output after same)) (its_paths e w before output after same))
+
+-- Reading of lines.
+
+abbrev pub paths_of : VOutput → List HPath
+paths_of output = output.paths
+
+-- the lines so far
+abbrev pub lines_up_to : VEntity → List VOutput → Lines
+lines_up_to e before = (map paths_of before, uses_of e (seen_before e before))
+
+and_yes : (a b : Bool) → a ≡ true → b ≡ true → (a && b) ≡ true
+and_yes a b e f = rw (e, f) refl
+
+text_read : (e : VEntity) (o : ℕ) (x : List ℕ) {s : List (List ℕ)} → output_name (scope e) o ≡ Some x → Reads (r.Token (text_by (output_name (scope e) o)) Rattle.rule_readers.specs.declared.refusal.Refusal.TheVariants.Syntax) (quoted x ∷ s) tt s
+text_read e o x h =
+    token (if_true (is_text_of (output_name (scope e) o) (quoted x)) _ _ (ap (λ (n : Option (List ℕ)). is_text_of n (quoted x)) h ∙ quoted_is x))
+
+start_read : (e : VEntity) → IsWellFormedEntity e → (o : ℕ) (output : VOutput) (s : List (List ℕ)) → IsOutputAt e o output → IsNumber (o + 1) → has_paths output ≡ true
+    → Reads (path_call_start (scope e) o) (codes "(" ∷ codes "OutSignal" ∷ codes "=>" ∷ port_at e output.port ∷ codes "," ∷ codes "GlitchData" ∷ codes "=>" ∷ (103 ∷ 95 ∷ decimal (o + 1)) ∷ codes "," ∷ codes "OutSignalName"
+    ∷ codes "=>" ∷ quoted (port_at e output.port) ∷ codes "," ∷ codes "OutTemp" ∷ codes "=>" ∷ (122 ∷ 95 ∷ decimal (o + 1)) ∷ codes "," ∷ s) tt s
+unfolding path_call_start
+start_read e w o output s h m some =
+    in_turn three_expected (in_turn (so_named (output_name (scope e) o) (port_named_at e w o output h) h.named) (in_turn three_expected
+    (in_turn (part_read (has_glitch (scope e) o) 103 (o + 1) of_glitch m (h.pathed ∙ some)) (in_turn three_expected (in_turn (text_read e o (port_at e output.port) h.named)
+    (in_turn three_expected (in_turn (so_named (Some (122 ∷ 95 ∷ decimal (o + 1))) (part_named 122 (o + 1) of_output (below_word (o + 1) m)) refl) expected)))))))
+
+call_read : (e : VEntity) → IsWellFormedEntity e → (done : List (List HPath)) (o seen : ℕ) (output : VOutput) (path : HPath) (all : List HPath) (others : List ℕ) (s : List (List ℕ)) → length done ≡ o
+    → IsOutputAt e o output → IsNumber (o + 1) → output.paths ≡ path ∷ all → ArePaths e seen (path ∷ all) others
+    → Reads (path_call (scope e) (done, uses_of e seen)) (call_front e (o + 1) output.port (path ∷ all) s) (done ++ (path ∷ all) ∷ [], uses_of e (seen_after seen (flat_map conditions_of_path (path ∷ all)))) s
+unfolding path_call
+call_read e w done o seen output path all others s place h m same paths =
+    let some : has_paths output ≡ true = ap (λ (l : List HPath). nat_lt 0 (length l)) same ∙ some_items (length all) in
+    let tail : List (List ℕ) = codes "Paths" ∷ codes "=>" ∷ codes "(" ∷ apart_front (λ q. codes "," ∷ q) (path_front e) (path ∷ all)
+    (codes ")" ∷ codes "," ∷ codes "Mode" ∷ codes "=>" ∷ codes "VitalTransport" ∷ codes ")" ∷ codes ";" ∷ s) in
+    in_turn (subst (λ (n : ℕ). Reads (path_call_start (scope e) n) (codes "(" ∷ codes "OutSignal" ∷ codes "=>" ∷ port_at e output.port ∷ codes "," ∷ codes "GlitchData" ∷ codes "=>" ∷ (103 ∷ 95 ∷ decimal (o + 1)) ∷ codes ","
+    ∷ codes "OutSignalName" ∷ codes "=>" ∷ quoted (port_at e output.port) ∷ codes "," ∷ codes "OutTemp" ∷ codes "=>" ∷ (122 ∷ 95 ∷ decimal (o + 1)) ∷ codes "," ∷ tail) tt tail) (sym place) (start_read e w o output tail h m some))
+    (in_turn two_expected (in_turn (paths_read e seen path all others (codes "," ∷ codes "Mode" ∷ codes "=>" ∷ codes "VitalTransport" ∷ codes ")" ∷ codes ";" ∷ s) paths) (in_turn six_expected gives)))
+
+assignment_read : (done : List (List HPath)) (uses : Uses) (o : ℕ) {s : List (List ℕ)} → length done ≡ o → IsNumber (o + 1)
+    → Reads (assignment (done, uses)) (codes "<=" ∷ (122 ∷ 95 ∷ decimal (o + 1)) ∷ codes ";" ∷ s) (done ++ [] ∷ [], uses) s
+unfolding assignment
+assignment_read done uses o place m =
+    in_turn expected (in_turn (so_named (Some (122 ∷ 95 ∷ decimal (length done + 1))) (part_named 122 (o + 1) of_output (below_word (o + 1) m)) (ap (λ (n : ℕ). Some (122 ∷ 95 ∷ decimal (n + 1))) place)) (in_turn expected gives))
+
+direct_begins : (e : VEntity) → IsWellFormedEntity e → (lines : Lines) (o : ℕ) (output : VOutput) → length lines.0 ≡ o → IsOutputAt e o output → has_paths output ≡ false
+    → str_eq_ignore_ascii_case (port_at e output.port) (codes "VitalPathDelay01") ≡ false → begins_line (scope e) lines (port_at e output.port) ≡ Some (Fits false)
+direct_begins e w lines o output place h none other =
+    let x : List ℕ = port_at e output.port in
+    let n : IsNamed x = port_named_at e w o output h in
+    let its : is_unpathed (scope e) o x ≡ true =
+    and_yes (not (has_glitch (scope e) o)) (option_map_or (λ y. is_same x y) (output_name (scope e) o) false) (ap not (h.pathed ∙ none))
+    (ap (λ (y : Option (List ℕ)). option_map_or (λ z. is_same x z) y false) h.named ∙ same_self x) in
+    if_false (is_same x (codes "VitalPathDelay01")) _ _ (same_name x (codes "VitalPathDelay01") n ∙ other)
+    ∙ if_true (is_name x) _ _ n.named
+    ∙ ap (λ (v : Verdict Bool Refusal). Some v) (if_true (is_unpathed (scope e) (length lines.0) x) _ _ (ap (λ (k : ℕ). is_unpathed (scope e) k x) place ∙ its))
+
+abbrev AllLines : VEntity → Lines → List (List ℕ) → Lines → List (List ℕ) → Type 0
+AllLines e lines s end left = Reads (r.Many (begins_line (scope e)) (line_by (scope e)) lines) s end left
+
+line_turn : (e : VEntity) → IsWellFormedEntity e → (done : List (List HPath)) (o seen : ℕ) (output : VOutput) (all : List HPath) (others : List ℕ) {end : Lines} {left : List (List ℕ)} (q : List (List ℕ)) → length done ≡ o
+    → IsOutputAt e o output → IsNumber (o + 1) → IsAssignable e output → output.paths ≡ all → ArePaths e seen all others
+    → AllLines e (done ++ all ∷ [], uses_of e (seen_after seen (flat_map conditions_of_path all))) q end left
+    → AllLines e (done, uses_of e seen) (line_by_paths e (o + 1) output.port all q) end left
+line_turn e w done o seen output [] others q place h m free same paths rest =
+    let none : has_paths output ≡ false = ap (λ (l : List HPath). nat_lt 0 (length l)) same in
+    turns (turn (direct_begins e w (done, uses_of e seen) o output place h none (free (ap length same))) (assignment_read done (uses_of e seen) o place m)) rest
+line_turn e w done o seen output (path ∷ all) others q place h m free same paths rest =
+    turns (turn refl (call_read e w done o seen output path all others q place h m same paths)) rest
+
+lines_with : (e : VEntity) (before : List VOutput) (output : VOutput)
+    → ◌≡◌ {A = Lines} (lines_up_to e (before ++ output ∷ [])) (map paths_of before ++ output.paths ∷ [], uses_of e (seen_after (seen_before e before) (flat_map conditions_of_path output.paths)))
+lines_with e before output =
+    ap (λ (l : List (List HPath)). (l, uses_of e (seen_before e (before ++ output ∷ [])))) (map-append paths_of before (output ∷ []))
+    ∙ ap (λ (n : ℕ). (map paths_of before ++ output.paths ∷ [], uses_of e n)) (sym (seen_with_item conditions_of_output (seen_by_checks e) before output))
+
+equal : (m n : ℕ) → m ≡ n → nat_eq m n ≡ true
+equal m n h = grind (arith, nat_tests, h)
+
+pub lines_read : (e : VEntity) → IsWellFormedEntity e → AreAssignable e → (s : List (List ℕ)) → Stops (begins_line (scope e) (lines_up_to e e.outputs)) s
+    → Reads (output_lines (scope e) (uses_of e (seen_by_checks e))) (counted (line_front e) 1 e.outputs s) (lines_up_to e e.outputs) s
+unfolding output_lines
+lines_read e w free s stop =
+    in_turn (over (lines_up_to e) (line_front e) [] e.outputs
+    (λ before output after q same rest.
+    line_turn e w (map paths_of before) (length before) (seen_before e before) output output.paths (flat_map conditions_of_output after ++ []) q (length-map before paths_of)
+    (output_at e w before output after same) (output_number e w (length before + 1) (place_below before output after e.outputs same)) (fact_at (IsAssignable e) e.outputs free before output after same) refl
+    (its_paths e w before output after same) (subst (λ (l : Lines). AllLines e l q (lines_up_to e e.outputs) s) (lines_with e before output) rest)) s (no_turn stop))
+    (in_turn (goes_on (nat_eq (length (map paths_of e.outputs)) (output_count e.ports)) s (equal (length (map paths_of e.outputs)) (output_count e.ports) (length-map e.outputs paths_of ∙ so_many_outputs e w))) gives)

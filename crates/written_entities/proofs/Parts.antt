@@ -1,0 +1,72 @@
+-- The numbers of an entity's parts, and pieces of text that end within the name of a part.
+use Rattle.std.proofs.Common.{◌≡◌, ℕ, suc, ◌+◌, ◌≤◌, Bool, true, false, nat_lt, if◌then◌else◌, List, [], ◌∷◌, ◌++◌, length, All, refl, sym, ap, arith, subst, decimal, length-append}
+use Rattle.std.specs.List.{AllByRecursion}
+use Rattle.std.proofs.lemmas.Bool.Decides.{nat_tests}
+use Rattle.std.proofs.lemmas.List.{length-map}
+use Rattle.std.proofs.lemmas.List.Elements.{recursion_from_All}
+use Rattle.udp_tables.specs.declared.models.VPort.{VPort}
+use Rattle.vital_models.specs.declared.model.VOutput.{VOutput}
+use Rattle.vital_models.specs.declared.model.VEntity.{VEntity}
+use Rattle.vital_models.specs.Sound.{output_ports_from}
+use Rattle.vhdl_text.specs.WellFormed.{IsNumber, IsWellFormedEntity}
+use Rattle.written_modules.proofs.Spelling.{Front, Anything}
+use Rattle.written_modules.proofs.NameReading.{at_place}
+use Rattle.written_entities.proofs.Spelling.{Spells, joins, behind}
+use Rattle.written_entities.proofs.Words.{Ends, IsLetter, part, below_word}
+
+pub if_true : {A : Type 0} (b : Bool) (x y : A) → b ≡ true → (if b then x else y) ≡ x
+if_true b x y e = rw e refl
+
+pub if_false : {A : Type 0} (b : Bool) (x y : A) → b ≡ false → (if b then x else y) ≡ y
+if_false b x y e = rw e refl
+
+-- a list with an item has some
+pub some_items : (n : ℕ) → nat_lt 0 (suc n) ≡ true
+some_items n = grind (arith, nat_tests)
+
+-- text that is written where a test holds
+pub shown : {P : List ℕ → Type 0} {t u : Bool} {text : List ℕ} {f : Front} (b : Bool) → b ≡ true → Spells P t text f u → Spells P t (if b then text else []) f u
+shown b e h = rw e h
+
+pub if_either : {A : Type 0} (b : Bool) {x : A} → (if b then x else x) ≡ x
+if_either true = refl
+if_either false = refl
+
+-- text that ends within the name of a part, its number, and what follows
+pub part_behind : {Q : List ℕ → Type 0} {t u v : Bool} {front rest : List ℕ} {f g : Front} (b n : ℕ) → IsLetter b → IsNumber n → Spells Anything t front f u
+    → ((r : List ℕ) → Q r → Ends (rest ++ r)) → Spells Q true rest g v → Spells Q t (front ++ (b ∷ 95 ∷ decimal n ++ rest)) (λ s. f ((b ∷ 95 ∷ decimal n) ∷ g s)) v
+part_behind b n l h i k j = behind i (joins (part b n l (below_word n h)) k j)
+
+pub fact_at : {A : Type 0} (P : A → Type 0) (all : List A) → All P all → (before : List A) (x : A) (after : List A) → before ++ x ∷ after ≡ all → P x
+fact_at P all h before x after same = at_place P before x after (subst (AllByRecursion P) (sym same) (recursion_from_All P all h))
+
+-- how many items stand before one of a list
+pub place_below : {A : Type 0} (before : List A) (x : A) (after all : List A) → before ++ x ∷ after ≡ all → length before + 1 ≤ length all
+place_below before x after all same = omega (arith, length-append before (x ∷ after), ap length same)
+
+few_ports : (k : ℕ) (ports : List VPort) → length (output_ports_from k ports) ≤ length ports
+few_ports k [] = omega arith
+few_ports k (port ∷ ports) = by port.input (few_ports (k + 1) ports)
+  where
+    by : (b : Bool) → length (output_ports_from (k + 1) ports) ≤ length ports → length (if b then output_ports_from (k + 1) ports else k ∷ output_ports_from (k + 1) ports) ≤ suc (length ports)
+    by true h = omega (arith, h)
+    by false h = omega (arith, h)
+
+pub few_outputs : (e : VEntity) → IsWellFormedEntity e → length e.outputs ≤ length e.ports
+few_outputs e w =
+    omega (arith, few_ports 0 e.ports, ap length w.sound.driven, length-map e.outputs (λ (output : VOutput). output.port))
+
+pub output_number : (e : VEntity) → IsWellFormedEntity e → (n : ℕ) → n ≤ length e.outputs → IsNumber n
+output_number e w n h = omega (arith, h, few_outputs e w, w.few)
+
+pub state_number : (e : VEntity) → IsWellFormedEntity e → (n : ℕ) → n ≤ length e.states → IsNumber n
+state_number e w n h = omega (arith, h, w.few)
+
+pub condition_number : (e : VEntity) → IsWellFormedEntity e → (n : ℕ) → n ≤ length e.conditions → IsNumber n
+condition_number e w n h = omega (arith, h, w.few)
+
+pub check_number : (e : VEntity) → IsWellFormedEntity e → (n : ℕ) → n ≤ length e.checks → IsNumber n
+check_number e w n h = omega (arith, h, w.few)
+
+pub table_number_is : (e : VEntity) → IsWellFormedEntity e → (n : ℕ) → n ≤ length e.states + length e.outputs → IsNumber n
+table_number_is e w n h = omega (arith, h, few_outputs e w, w.few)

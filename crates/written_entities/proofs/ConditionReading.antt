@@ -30,10 +30,11 @@ use Rattle.written_entities.proofs.Spelling.{Spells, behind, literal}
 use Rattle.written_entities.proofs.Words.{of_condition, part_named, below_word, unnumbered}
 use Rattle.written_entities.proofs.NameReading.{expected, three_expected, four_expected, expected_where, known_as, place_found}
 use Rattle.written_entities.proofs.Elements.{names_front, names_spelled, closed, elements_read}
-use Rattle.written_entities.proofs.Parts.{if_true, part_behind, condition_number}
-use Rattle.written_entities.proofs.PortLookUps.{input_named, input_found}
+use Rattle.written_entities.proofs.Parts.{part_behind, condition_number}
+use Rattle.written_entities.proofs.PortLookUps.{input_named, input_found, kept_one}
 use Rattle.written_entities.proofs.VariableReading.{all_tables, variables_of}
 use Rattle.written_entities.proofs.LookUpOrder.{seen_with, next_look_up, no_more, at_front, take_next, known_item}
+use Rattle.written_entities.proofs.Tests.{if_true, equal, equal_self, numbers_turned}
 
 -- the declarations of a written entity
 abbrev pub scope : VEntity → Scope
@@ -91,9 +92,6 @@ new_item E turned (y ∷ before) x after h =
     let other : E x y ≡ false = turned x y ∙ at_place (λ z. E y z ≡ false) before x after h.0 in
     rw other (new_item E turned before x after h.1)
 
-numbers_turned : (m n : ℕ) → nat_eq m n ≡ nat_eq n m
-numbers_turned m n = grind (arith, nat_tests)
-
 pub new_input : (inputs : List ℕ) → IsDistinct nat_eq inputs → (before : List ℕ) (p : ℕ) (after : List ℕ) → before ++ p ∷ after ≡ inputs → list_any (nat_eq p) before ≡ false
 new_input inputs apart before p after same = new_item nat_eq numbers_turned before p after (subst (IsDistinct nat_eq) (sym same) apart)
 
@@ -107,9 +105,6 @@ listed_read : (e : VEntity) → IsWellFormedEntity e → (before : List ℕ) (p 
     → Reads (listed_input e.ports before) (port_at e p ∷ s) (before ++ p ∷ []) s
 unfolding listed_input
 listed_read e w before p fed new = in_turn (token (if_true (is_name (port_at e p)) _ _ (input_named e w p fed).named ∙ input_fits e w before p fed new)) gives
-
-equal : (a b : ℕ) → a ≡ b → nat_eq a b ≡ true
-equal a b e = grind (arith, nat_tests)
 
 pub list_end_read : (width n : ℕ) {s : List (List ℕ)} → n ≡ width → Reads (Rattle.vhdl_text.specs.VhdlNames.list_end width n) (codes ")" ∷ s) tt s
 list_end_read width n e = expected_where (nat_eq n width) Width (equal n width e)
@@ -160,18 +155,10 @@ first_read e w i truth s h =
     (λ before p after q same. listed_read e w before p (input_at e truth.inputs h.sound.fed before p after same) (new_input truth.inputs h.written.apart before p after same)) s)
     (in_turn (list_end_read (condition_width (scope e) i) (length truth.inputs) (sym (width_is e w i truth h))) gives)
 
--- The same list again.
-
-equal_self : (n : ℕ) → nat_eq n n ≡ true
-equal_self n = grind (arith, nat_tests)
-
 stands : (inputs before : List ℕ) (p : ℕ) (after : List ℕ) → before ++ p ∷ after ≡ inputs → stands_at inputs (length before) p ≡ true
 stands inputs before p after same =
     let here : slice_get inputs (length before) ≡ Some p = ap (λ (l : List ℕ). slice_get l (length before)) (sym same) ∙ get_at before p after in
     ap (λ (o : Option ℕ). option_map_or (nat_eq p) o false) here ∙ equal_self p
-
-kept_one : (test : ℕ → Bool) (n : ℕ) → test n ≡ true → kept test (Some n) ≡ Some n
-kept_one test n h = rw h refl
 
 same_read : (e : VEntity) → IsWellFormedEntity e → (inputs : List ℕ) → IsTrue (list_all (is_input_port e.ports) inputs) → (before : List ℕ) (p : ℕ) (after : List ℕ) (q : List (List ℕ)) → before ++ p ∷ after ≡ inputs
     → Reads (same_input e.ports inputs (length before)) (port_at e p ∷ q) (length (before ++ p ∷ [])) q

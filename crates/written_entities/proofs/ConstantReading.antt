@@ -34,7 +34,9 @@ use Rattle.written_entities.proofs.TableTokens.{truth_row_front, state_row_front
 use Rattle.written_entities.proofs.TableReading.{truth_table_read, state_table_read}
 use Rattle.written_entities.proofs.NameReading.{same_self, expected, known_as}
 use Rattle.written_entities.proofs.Counting.{counted, counted_anywhere, over}
-use Rattle.written_entities.proofs.Parts.{if_true, if_either, part_behind, fact_at, place_below, state_number, condition_number, table_number_is}
+use Rattle.written_entities.proofs.Parts.{part_behind, fact_at, place_below, state_number, condition_number, table_number_is}
+use Rattle.written_entities.proofs.Tests.{if_true, if_either}
+use Rattle.written_entities.proofs.Elements.{call_end}
 
 -- Tokens.
 
@@ -69,22 +71,19 @@ state_type = literal 27 (λ r. refl)
 truth_type : {t : Bool} → Spells Anything t (codes " : VitalTruthTableType := (") (λ s. codes ":" ∷ codes "VitalTruthTableType" ∷ codes ":=" ∷ codes "(" ∷ s) false
 truth_type = literal 27 (λ r. refl)
 
-table_end : {t : Bool} → Spells Anything t (codes ");\n") (λ s. codes ")" ∷ codes ";" ∷ s) false
-table_end = literal 3 (λ r. refl)
-
 state_constant_spelled : (n : ℕ) (state : VState) → IsNumber n → Spells Anything false (state_constant_text n state) (state_constant_front n state) false
 unfolding state_constant_text state_rows_text
-state_constant_spelled n state h = part_behind 107 n of_table h constant_word (λ r q. refl) (behind state_type (behind (state_rows state.table.rows) table_end))
+state_constant_spelled n state h = part_behind 107 n of_table h constant_word (λ r q. refl) (behind state_type (behind (state_rows state.table.rows) call_end))
 
 condition_constant_spelled : (n : ℕ) (truth : VTruth) → IsNumber n → Spells Anything false (condition_constant_text n truth) (condition_constant_front n truth) false
 unfolding condition_constant_text truth_rows_text
-condition_constant_spelled n truth h = part_behind 99 n of_condition h constant_word (λ r q. refl) (behind truth_type (behind (truth_rows truth.table.rows) table_end))
+condition_constant_spelled n truth h = part_behind 99 n of_condition h constant_word (λ r q. refl) (behind truth_type (behind (truth_rows truth.table.rows) call_end))
 
 output_constant_spelled : (e : VEntity) (n : ℕ) (v : OutValue) → IsNumber (table_number e n) → Spells Anything false (value_constant_text e n v) (value_constant_front e n v) false
 unfolding output_table_text truth_rows_text
 output_constant_spelled e n (value.Constant one) h = nothing
 output_constant_spelled e n (value.Table table sources) h =
-    part_behind 107 (table_number e n) of_table h constant_word (λ r q. refl) (behind truth_type (behind (truth_rows table.rows) table_end))
+    part_behind 107 (table_number e n) of_table h constant_word (λ r q. refl) (behind truth_type (behind (truth_rows table.rows) call_end))
 
 -- The tables of outputs.
 

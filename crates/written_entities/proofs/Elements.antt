@@ -1,7 +1,6 @@
 -- The elements of a list of names in a call: their tokens and their reading.
-use Rattle.std.proofs.Common.{◌≡◌, ℕ, suc, ◌+◌, ◌≤◌, Bool, false, nat_eq, List, [], ◌∷◌, ◌++◌, length, None, refl, arith, codes}
+use Rattle.std.proofs.Common.{◌≡◌, ℕ, suc, ◌≤◌, Bool, false, nat_eq, List, [], ◌∷◌, ◌++◌, length, None, refl, arith, codes}
 use Rattle.std.proofs.lemmas.Bool.Decides.{nat_tests}
-use Rattle.grammar_rules.specs.Rule as r
 use Rattle.rule_readers.specs.Words.{Grammar, begins_by}
 use Rattle.vhdl_tokens.specs.Numbers.{number_of}
 use Rattle.vhdl_text.specs.VhdlRules.{is_number_token, elements, only_element, several_elements, more_elements}
@@ -25,6 +24,15 @@ comma = literal 2 (λ r. refl)
 
 pub closed : {t : Bool} → Spells Anything t (codes ")") (λ s. codes ")" ∷ s) false
 closed = literal 1 (λ r. refl)
+
+pub call_end : {t : Bool} → Spells Anything t (codes ");\n") (λ s. codes ")" ∷ codes ";" ∷ s) false
+call_end = literal 3 (λ r. refl)
+
+pub line_end : {t : Bool} → Spells Anything t (codes ";\n") (λ s. codes ";" ∷ s) false
+line_end = literal 2 (λ r. refl)
+
+pub indented : Spells Anything false (codes "    ") (λ s. s) false
+indented = literal 4 (λ r. refl)
 
 only_start : {t : Bool} → Spells Anything t (codes "(0 => ") (λ s. codes "(" ∷ codes "0" ∷ codes "=>" ∷ s) false
 only_start = literal 6 (λ r. refl)

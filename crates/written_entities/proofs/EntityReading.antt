@@ -1,7 +1,6 @@
 -- A written entity is read from the tokens of its text.
-use Rattle.std.proofs.Common.{◌≡◌, ℕ, ◌+◌, ◌≤◌, Bool, true, false, cond, nat_eq, List, [], ◌∷◌, ◌++◌, length, map, take, filter, flat_map, Option, Some, None, refl, sym, ap, ◌∙◌, arith, subst, codes}
+use Rattle.std.proofs.Common.{◌≡◌, ℕ, ◌+◌, ◌≤◌, Bool, true, false, cond, List, [], ◌∷◌, ◌++◌, length, map, take, filter, flat_map, Option, Some, None, refl, sym, ap, ◌∙◌, arith, subst, codes}
 use Rattle.std.specs.List.{position_from}
-use Rattle.std.proofs.lemmas.Bool.Decides.{nat_tests}
 use Rattle.std.proofs.lemmas.List.{length-map}
 use Rattle.std.proofs.lemmas.Iterator.Adapters.{position_from-zero}
 use Rattle.std.proofs.Math.Seq.{take-length}
@@ -38,13 +37,17 @@ use Rattle.written_entities.proofs.Counting.{counted}
 use Rattle.written_entities.proofs.HeaderReading.{package_front, entity_front, architecture_front, header_spelled, packages_read, entity_header_read, architecture_header_read}
 use Rattle.written_entities.proofs.ConstantReading.{constants_front, value_tables, output_tables, constants_spelled, constants_read}
 use Rattle.written_entities.proofs.SignalReading.{signals_front, process_spelled, sensitivity_read}
-use Rattle.written_entities.proofs.VariableReading.{all_tables, variables_front, variables_spelled, variables_read}
+use Rattle.written_entities.proofs.VariableReading.{all_tables, variables_read}
 use Rattle.written_entities.proofs.LookUpOrder.{behind_look_ups, all_seen}
 use Rattle.written_entities.proofs.ConditionReading.{scope, inputs_of_truth, uses_of, so_many}
-use Rattle.written_entities.proofs.CheckReading.{check_front, checks_spelled, checks_read, violation_by, violation_front, violation_spelled, violation_read}
+use Rattle.written_entities.proofs.CheckReading.{checks_read}
 use Rattle.written_entities.proofs.StateReading.{state_front, columns_for, states_spelled, states_read}
 use Rattle.written_entities.proofs.ValueReading.{value_front, assigned_by, assigned_of, values_spelled, values_read}
 use Rattle.written_entities.proofs.OutputReading.{line_front, paths_of, lines_up_to, seen_by_checks, seen_before, lines_look, lines_spelled, lines_read}
+use Rattle.written_entities.proofs.Tests.{equal}
+use Rattle.written_entities.proofs.ViolationReading.{violation_by, violation_front, violation_spelled, violation_read}
+use Rattle.written_entities.proofs.CheckTokens.{check_front, checks_spelled}
+use Rattle.written_entities.proofs.VariableTokens.{variables_front, variables_spelled}
 
 -- Tokens.
 
@@ -129,9 +132,6 @@ ends_lines e [] s = refl
 all_looked_up : (e : VEntity) → IsWellFormedEntity e → seen_before e e.outputs ≡ length e.conditions
 all_looked_up e w =
     all_seen (length e.conditions) (seen_before e e.outputs) (behind_look_ups (length e.conditions) (seen_by_checks e) (flat_map conditions_of_output e.outputs) [] (lines_look e w))
-
-equal : (m n : ℕ) → m ≡ n → nat_eq m n ≡ true
-equal m n h = grind (arith, nat_tests, h)
 
 looked_up : (e : VEntity) → IsWellFormedEntity e → are_looked_up (scope e) (uses_of e (seen_before e e.outputs)) ≡ true
 looked_up e w =

@@ -22,7 +22,9 @@ use Rattle.written_entities.proofs.Spelling.{Spells, joins, behind, nothing, lit
 use Rattle.written_entities.proofs.Words.{Ends, IsNamed, word, name, entity_named, port_named}
 use Rattle.written_entities.proofs.NameReading.{expected, two_expected, three_expected, seven_expected, so_named, is_new}
 use Rattle.written_entities.proofs.Counting.{counted, apart_front, apart_spelled, over}
-use Rattle.written_entities.proofs.Parts.{some_items, shown}
+use Rattle.written_entities.proofs.Parts.{shown}
+use Rattle.written_entities.proofs.Tests.{some_items}
+use Rattle.written_entities.proofs.Elements.{call_end}
 
 -- Tokens.
 
@@ -69,9 +71,6 @@ architecture_word = literal 24 (λ r. refl)
 ports_word : {t : Bool} → Spells Anything t (codes "  port (") (λ s. codes "port" ∷ codes "(" ∷ s) false
 ports_word = literal 8 (λ r. refl)
 
-ports_end : {t : Bool} → Spells Anything t (codes ");\n") (λ s. codes ")" ∷ codes ";" ∷ s) false
-ports_end = literal 3 (λ r. refl)
-
 semicolon : {t : Bool} → Spells Anything t (codes "; ") (λ s. codes ";" ∷ s) false
 semicolon = literal 2 (λ r. refl)
 
@@ -112,7 +111,7 @@ ports_spelled [] h = nothing
 ports_spelled (port ∷ ports) h =
     shown (nat_lt 0 (length (port ∷ ports))) (some_items (length ports))
     (behind ports_word (joins (apart_spelled (codes "; ") (λ q. codes ";" ∷ q) port_text (λ n x. x.name ++ direction_text x) port_front port_text_is semicolon (λ r. refl) port ports
-    (λ before x after same. port_spelled (length before + 1) x (h before x after same))) (λ r q. refl) ports_end))
+    (λ before x after same. port_spelled (length before + 1) x (h before x after same))) (λ r q. refl) call_end))
 
 port_at_place : (e : VEntity) → IsWellFormedEntity e → (before : List VPort) (port : VPort) (after : List VPort) → before ++ port ∷ after ≡ e.ports → IsPortName port.name
 port_at_place e w before port after same =

@@ -1,5 +1,6 @@
 pub mod Spelling
 pub mod Words
+pub mod Tests
 pub mod TableTokens
 pub mod RowReading
 pub mod TableReading
@@ -12,13 +13,19 @@ pub mod PortLookUps
 pub mod HeaderReading
 pub mod ConstantReading
 pub mod SignalReading
+pub mod VariableTokens
 pub mod VariableReading
 pub mod LookUpOrder
 pub mod ConditionReading
+pub mod CheckFacts
+pub mod CheckTokens
+pub mod CheckParts
 pub mod CheckReading
+pub mod ViolationReading
 pub mod StateReading
 pub mod ValueReading
 pub mod QuotedNames
+pub mod PathReading
 pub mod OutputReading
 pub mod EntityReading
 pub mod EntityFile

@@ -15,12 +15,13 @@ use Rattle.vhdl_names.specs.Words.{is_vhdl_word, is_reserved, is_used, vhdl_word
 use Rattle.vhdl_names.specs.Kept.{is_plain}
 use Rattle.vhdl_tokens.specs.Tokens.{is_name_byte}
 use Rattle.vhdl_tokens.specs.Spelling.{is_character, is_same}
-use Rattle.vhdl_text.specs.VhdlRules.{expect, expect_all, expect_where, is_among, new_name, known, this_name, place_among, this_number, a_number, a_time}
+use Rattle.vhdl_text.specs.VhdlRules.{expect, expect_all, expect_where, is_among, new_name, known, this_name, place_among, this_number, a_number, a_time, numbered_where}
 use Rattle.vhdl_text.specs.WellFormed.{AreApart, IsNumber}
 use Rattle.written_modules.proofs.Derivations.{Reads, gives, token, in_turn}
 use Rattle.written_modules.proofs.NameReading.{same_bytes, at_place}
 use Rattle.written_modules.proofs.PortReading.{found_behind}
-use Rattle.written_entities.proofs.Words.{IsNamed, IsLetter, all_digits, number_is}
+use Rattle.written_entities.proofs.Words.{IsNamed, IsLetter, all_digits, number_is, part_named, below_word}
+use Rattle.written_entities.proofs.Tests.{equal_self, and_no, if_true}
 
 -- The same.
 
@@ -123,10 +124,6 @@ place_found b (suc n) i l h k = elim (cases_Bool (nat_eq i n)) [
 plain_other : (c : ℕ) → is_ascii_alphanumeric c ≡ true → nat_eq 95 (to_ascii_lowercase c) ≡ false
 plain_other c h = grind (arith, nat_tests)
 
-and_no : (a b : Bool) → b ≡ false → (a && b) ≡ false
-and_no true b e = e
-and_no false b e = refl
-
 -- a name without `_` is none of a numbered part
 pub unlike_plain : (b : ℕ) (ds x : List ℕ) → IsLetter b → is_plain x ≡ true → is_same (b ∷ 95 ∷ ds) x ≡ false
 unlike_plain b ds x l h = same_letters b (95 ∷ ds) x l.letter ∙ by x h
@@ -187,9 +184,6 @@ pub time_read : (n : ℕ) {s : List (List ℕ)} → IsNumber n → Reads a_time 
 unfolding a_time
 time_read n h = in_turn (number_read n h) (in_turn expected gives)
 
-equal_self : (n : ℕ) → nat_eq n n ≡ true
-equal_self n = grind (arith, nat_tests)
-
 pub this_number_read : (n : ℕ) {s : List (List ℕ)} → IsNumber n → Reads (this_number n) (decimal n ∷ s) tt s
 this_number_read n h = token (rw (number_is n h, equal_self n) refl)
 
@@ -208,3 +202,11 @@ pub first_place : {A : Type 0} (test : A → Bool) (before : List A) (x : A) (af
 first_place test before x after none here =
     let place : 0 + length before ≡ length before = omega arith in
     position_from-zero test (before ++ x ∷ after) ∙ found_behind test 0 before x after none here ∙ ap (λ (n : ℕ). Some n) place
+
+-- Reading.
+
+named_if : (b : Bool) (letter n : ℕ) → b ≡ true → numbered_where b (letter ∷ 95 ∷ []) n ≡ Some (letter ∷ 95 ∷ decimal n)
+named_if b letter n e = if_true b _ _ e
+
+pub part_read : (b : Bool) (letter n : ℕ) {s : List (List ℕ)} → IsLetter letter → IsNumber n → b ≡ true → Reads (this_name (numbered_where b (letter ∷ 95 ∷ []) n)) ((letter ∷ 95 ∷ decimal n) ∷ s) tt s
+part_read b letter n l h e = so_named (numbered_where b (letter ∷ 95 ∷ []) n) (part_named letter n l (below_word n h)) (named_if b letter n e)

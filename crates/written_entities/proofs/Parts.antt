@@ -1,7 +1,6 @@
 -- The numbers of an entity's parts, and pieces of text that end within the name of a part.
-use Rattle.std.proofs.Common.{◌≡◌, ℕ, suc, ◌+◌, ◌≤◌, Bool, true, false, nat_lt, if◌then◌else◌, List, [], ◌∷◌, ◌++◌, length, All, refl, sym, ap, arith, subst, decimal, length-append}
+use Rattle.std.proofs.Common.{◌≡◌, ℕ, suc, ◌+◌, ◌≤◌, Bool, true, false, if◌then◌else◌, List, [], ◌∷◌, ◌++◌, length, All, sym, ap, arith, subst, decimal, length-append}
 use Rattle.std.specs.List.{AllByRecursion}
-use Rattle.std.proofs.lemmas.Bool.Decides.{nat_tests}
 use Rattle.std.proofs.lemmas.List.{length-map}
 use Rattle.std.proofs.lemmas.List.Elements.{recursion_from_All}
 use Rattle.udp_tables.specs.declared.models.VPort.{VPort}
@@ -14,23 +13,9 @@ use Rattle.written_modules.proofs.NameReading.{at_place}
 use Rattle.written_entities.proofs.Spelling.{Spells, joins, behind}
 use Rattle.written_entities.proofs.Words.{Ends, IsLetter, part, below_word}
 
-pub if_true : {A : Type 0} (b : Bool) (x y : A) → b ≡ true → (if b then x else y) ≡ x
-if_true b x y e = rw e refl
-
-pub if_false : {A : Type 0} (b : Bool) (x y : A) → b ≡ false → (if b then x else y) ≡ y
-if_false b x y e = rw e refl
-
--- a list with an item has some
-pub some_items : (n : ℕ) → nat_lt 0 (suc n) ≡ true
-some_items n = grind (arith, nat_tests)
-
 -- text that is written where a test holds
 pub shown : {P : List ℕ → Type 0} {t u : Bool} {text : List ℕ} {f : Front} (b : Bool) → b ≡ true → Spells P t text f u → Spells P t (if b then text else []) f u
 shown b e h = rw e h
-
-pub if_either : {A : Type 0} (b : Bool) {x : A} → (if b then x else x) ≡ x
-if_either true = refl
-if_either false = refl
 
 -- text that ends within the name of a part, its number, and what follows
 pub part_behind : {Q : List ℕ → Type 0} {t u v : Bool} {front rest : List ℕ} {f g : Front} (b n : ℕ) → IsLetter b → IsNumber n → Spells Anything t front f u

@@ -62,7 +62,7 @@ input_is e w p h =
 pub input_named : (e : VEntity) → IsWellFormedEntity e → (p : ℕ) → IsTrue (is_input_port e.ports p) → IsNamed (port_at e p)
 input_named e w p h = port_named (port_at e p) (input_is e w p h)
 
-kept_one : (test : ℕ → Bool) (n : ℕ) → test n ≡ true → kept test (Some n) ≡ Some n
+pub kept_one : (test : ℕ → Bool) (n : ℕ) → test n ≡ true → kept test (Some n) ≡ Some n
 kept_one test n h = rw h refl
 
 pub input_found : (e : VEntity) → IsWellFormedEntity e → (p : ℕ) → IsTrue (is_input_port e.ports p) → input_of e.ports (port_at e p) ≡ Some p

@@ -19,6 +19,7 @@ use Rattle.written_entities.proofs.Spelling.{Spells, joins, behind, nothing, lit
 use Rattle.written_entities.proofs.Words.{Ends, IsNamed, word, name, port_named}
 use Rattle.written_entities.proofs.NameReading.{expected, so_named}
 use Rattle.written_entities.proofs.Elements.{comma}
+use Rattle.written_entities.proofs.Tests.{equal_self}
 
 -- Tokens.
 
@@ -112,9 +113,6 @@ signal_read names h before x after q same =
     let here : slice_get names (length before) ≡ Some x = ap (λ (l : List (List ℕ)). slice_get l (length before)) (sym same) ∙ get_at before x after in
     let n : IsNamed x = port_named x (at_place IsPortName before x after (subst (AllByRecursion IsPortName) (sym same) h)) in
     to_same (one_longer before x) (in_turn (so_named (slice_get names (length before)) n here) gives)
-
-equal_self : (n : ℕ) → nat_eq n n ≡ true
-equal_self n = grind (arith, nat_tests)
 
 names_read : (names : List (List ℕ)) → AllByRecursion IsPortName names → (s : List (List ℕ)) → Reads (sensitivity names) (signals_front names s) tt s
 unfolding listed_names

@@ -40,3 +40,6 @@ numbered_spelled text f least h n [] m = nothing
 numbered_spelled text f least h n (x ∷ xs) m =
     let next : least ≤ n + 1 = omega (arith, m) in
     behind (h n x m) (numbered_spelled text f least h (n + 1) xs next)
+
+pub anywhere : {P : List ℕ → Type 0} {t u : Bool} {text : List ℕ} {f : Front} → Spells Anything t text f u → Spells P t text f u
+anywhere h = record { is = λ r p. h.is r tt }

@@ -4,11 +4,9 @@ use Rattle.std.specs.List.{IsDistinct, list_all}
 use Rattle.std.proofs.lemmas.Bool.Decides.{nat_tests}
 use Rattle.std.proofs.lemmas.List.{length-map, map-append}
 use Rattle.grammar_rules.specs.Rule.{Stops}
-use Rattle.grammar_rules.specs.Rule as r
 use Rattle.vital_models.specs.declared.model.VState.{VState}
 use Rattle.vital_models.specs.declared.model.VEntity.{VEntity}
 use Rattle.vital_models.specs.Sound.{is_input_port, IsState}
-use Rattle.vital_models.specs.Sound as sound
 use Rattle.vhdl_names.specs.Words.{is_vhdl_word, is_reserved, is_used, vhdl_words, used_words}
 use Rattle.vhdl_tokens.specs.Tokens.{is_name}
 use Rattle.vhdl_tokens.specs.Spelling.{is_same}
@@ -26,14 +24,14 @@ use Rattle.written_modules.proofs.Derivations.{Reads, to_same, gives, token, in_
 use Rattle.written_modules.proofs.PrimitiveReading.{goes_on}
 use Rattle.written_entities.proofs.Spelling.{Spells, joins, behind, literal}
 use Rattle.written_entities.proofs.Words.{Ends, IsNamed, word, name, of_table, of_state, of_columns, unnumbered}
-use Rattle.written_entities.proofs.NameReading.{two_expected, three_expected, four_expected, expected, unlike_word}
+use Rattle.written_entities.proofs.NameReading.{two_expected, three_expected, four_expected, expected, unlike_word, part_read}
 use Rattle.written_entities.proofs.Counting.{counted, counted_spelled, counted_anywhere, begins_at, over}
-use Rattle.written_entities.proofs.Elements.{names_front, comma, closed, elements_read}
-use Rattle.written_entities.proofs.Parts.{if_true, if_false, part_behind, fact_at, place_below, state_number}
+use Rattle.written_entities.proofs.Elements.{names_front, comma, closed, elements_read, call_end}
+use Rattle.written_entities.proofs.Parts.{part_behind, fact_at, place_below, state_number}
 use Rattle.written_entities.proofs.PortLookUps.{input_named}
-use Rattle.written_entities.proofs.VariableReading.{all_tables, width_is, and_no}
+use Rattle.written_entities.proofs.VariableReading.{all_tables, width_is}
 use Rattle.written_entities.proofs.ConditionReading.{scope, data_word, input_at, inputs_spelled, new_input, input_fits, list_end_read}
-use Rattle.written_entities.proofs.CheckReading.{part_read}
+use Rattle.written_entities.proofs.Tests.{if_true, if_false, less, equal, and_yes, and_no}
 
 -- Tokens.
 
@@ -64,9 +62,6 @@ previous_word = literal 20 (λ r. refl)
 
 table_word : {t : Bool} → Spells Anything t (codes ", StateTable => ") (λ s. codes "," ∷ codes "StateTable" ∷ codes "=>" ∷ s) false
 table_word = literal 16 (λ r. refl)
-
-call_end : {t : Bool} → Spells Anything t (codes ");\n") (λ s. codes ")" ∷ codes ";" ∷ s) false
-call_end = literal 3 (λ r. refl)
 
 only_start : {t : Bool} → Spells Anything t (codes "(0 => ") (λ s. codes "(" ∷ codes "0" ∷ codes "=>" ∷ s) false
 only_start = literal 6 (λ r. refl)
@@ -142,14 +137,6 @@ states_spelled e w =
     (λ before state after same. state_spelled e (length before + 1) state (state_number e w (length before + 1) (place_below before state after e.states same)) (its_columns e w before state after same)
     (has_inputs e w before state after same))
 
--- Reading.
-
-less : (m n : ℕ) → m < n → nat_lt m n ≡ true
-less m n h = grind (arith, nat_tests, h)
-
-equal : (m n : ℕ) → m ≡ n → nat_eq m n ≡ true
-equal m n h = grind (arith, nat_tests, h)
-
 a_word : is_vhdl_word (codes "viol") ≡ true
 unfolding is_reserved is_used vhdl_words used_words
 a_word = refl
@@ -165,11 +152,8 @@ input_column e inputs h b before p after same =
     token (if_false (takes_violation (scope e) columns && is_same (port_at e p) (codes "viol")) _ _ (and_no (takes_violation (scope e) columns) (is_same (port_at e p) (codes "viol")) (unlike_word (port_at e p) (codes "viol") n a_word))
     ∙ if_true (is_name (port_at e p)) _ _ n.named ∙ ap (behind_input columns) (input_fits e h.formed before p input (new_input inputs h.apart before p after same)))
 
-and_yes : (a b : Bool) → a ≡ true → b ≡ true → (a && b) ≡ true
-and_yes a b e f = rw (e, f) refl
-
 some_checks : (e : VEntity) → nat_lt 0 (length e.checks) ≡ true → nat_lt 0 (length (scope e).variables.periods) ≡ true
-some_checks e h = ap (nat_lt 0) (length-map e.checks Rattle.written_entities.proofs.VariableReading.is_period_check) ∙ h
+some_checks e h = ap (nat_lt 0) (length-map e.checks Rattle.written_entities.proofs.VariableTokens.is_period_check) ∙ h
 
 violation_column : (e : VEntity) {s : List (List ℕ)} → nat_lt 0 (length e.checks) ≡ true → Reads (next_column (scope e) no_columns) (codes "viol" ∷ s) violated_columns s
 unfolding next_column

@@ -21,7 +21,6 @@ use Rattle.vital_models.specs.declared.model.VState.{VState}
 use Rattle.vital_models.specs.declared.model.VEntity.{VEntity}
 use Rattle.vital_models.specs.Sound.{feeds, IsValue, IsOutput, is_input_port}
 use Rattle.rule_readers.specs.declared.refusal.Refusal.{Refusal}
-use Rattle.rule_readers.specs.Words.{valued}
 use Rattle.vhdl_tokens.specs.Tokens.{is_name}
 use Rattle.vhdl_tokens.specs.Spelling.{is_same}
 use Rattle.vhdl_text.specs.declared.scope.Assigned.{Assigned}
@@ -43,12 +42,13 @@ use Rattle.written_entities.proofs.Spelling.{Spells, behind, literal}
 use Rattle.written_entities.proofs.Words.{IsNamed, of_table, of_state, of_output, part_named, below_word, unnumbered}
 use Rattle.written_entities.proofs.NameReading.{same_self, expected, three_expected, four_expected, so_named, place_found, unlike_plain}
 use Rattle.written_entities.proofs.Counting.{counted, counted_anywhere, over}
-use Rattle.written_entities.proofs.Elements.{names_front, names_spelled, closed, elements_read}
-use Rattle.written_entities.proofs.Parts.{if_true, part_behind, fact_at, place_below, output_number, state_number}
+use Rattle.written_entities.proofs.Elements.{names_front, names_spelled, closed, elements_read, line_end, indented}
+use Rattle.written_entities.proofs.Parts.{part_behind, fact_at, place_below, output_number, state_number}
 use Rattle.written_entities.proofs.PortLookUps.{input_named, input_found}
 use Rattle.written_entities.proofs.ConstantReading.{output_tables, its_number, its_number_fits}
 use Rattle.written_entities.proofs.VariableReading.{all_tables, so_many_outputs}
 use Rattle.written_entities.proofs.ConditionReading.{scope, lookup_word, data_word, passes_at, new_item, listed_fits, list_end_read, truth_wide}
+use Rattle.written_entities.proofs.Tests.{if_true, less, no_less, equal, numbers_turned, and_yes}
 
 -- Tokens.
 
@@ -65,9 +65,6 @@ assigned_front e n (value.Table table sources) s =
 abbrev pub value_front : VEntity → ℕ → VOutput → Front
 value_front e n output s = (122 ∷ 95 ∷ decimal n) ∷ codes ":=" ∷ assigned_front e n output.value (codes ";" ∷ s)
 
-indented : Spells Anything false (codes "    ") (λ s. s) false
-indented = literal 4 (λ r. refl)
-
 becomes : {t : Bool} → Spells Anything t (codes " := ") (λ s. codes ":=" ∷ s) false
 becomes = literal 4 (λ r. refl)
 
@@ -76,9 +73,6 @@ one_bit = literal 3 (λ r. refl)
 
 zero_bit : Spells Anything false (codes "'0'") (λ s. codes "'0'" ∷ s) false
 zero_bit = literal 3 (λ r. refl)
-
-line_end : {t : Bool} → Spells Anything t (codes ";\n") (λ s. codes ";" ∷ s) false
-line_end = literal 2 (λ r. refl)
 
 -- Sources.
 
@@ -146,9 +140,6 @@ source_found e w (source.State g) h =
     ap (source_or_state (scope e) (115 ∷ 95 ∷ decimal (g + 1))) (no_input e w g)
     ∙ ap (option_map source.State) (place_found 115 (length (all_tables e).states) g of_state (omega (arith, less, all)) few)
 
-numbers_turned : (m n : ℕ) → nat_eq m n ≡ nat_eq n m
-numbers_turned m n = grind (arith, nat_tests)
-
 sources_turned : (x y : Source) → same_source x y ≡ same_source y x
 sources_turned (source.Pin p) (source.Pin q) = numbers_turned p q
 sources_turned (source.Pin p) (source.State g) = refl
@@ -196,15 +187,6 @@ so_many_lookups (output ∷ outputs) =
       so_many_lookups outputs,
       length-append (Rattle.written_entities.proofs.ConstantReading.value_tables output.value) (output_tables outputs),
     )
-
-less : (m n : ℕ) → m < n → nat_lt m n ≡ true
-less m n h = grind (arith, nat_tests, h)
-
-equal : (m n : ℕ) → m ≡ n → nat_eq m n ≡ true
-equal m n h = grind (arith, nat_tests, h)
-
-and_yes : (a b : Bool) → a ≡ true → b ≡ true → (a && b) ≡ true
-and_yes a b e f = rw (e, f) refl
 
 bit_read : (one : Bool) {s : List (List ℕ)} → Reads a_constant (bit_word one ∷ s) (assigned.Constant one) s
 unfolding a_constant
@@ -280,9 +262,6 @@ value_read e w before output after s same =
 goes_unnamed : (b : Bool) (s : List (List ℕ)) → b ≡ true → Reads (go_on_unnamed b) s tt s
 goes_unnamed true s e = gives
 goes_unnamed false s e = absurd cc
-
-no_less : (m n : ℕ) → m ≡ n → nat_lt m n ≡ false
-no_less m n h = grind (arith, nat_tests, h)
 
 no_value : (e : VEntity) → IsWellFormedEntity e → (s : List (List ℕ)) → Stops (begins_value (scope e) (map assigned_of e.outputs)) s
 no_value e w [] = tt

@@ -271,3 +271,7 @@ unnumbered (b ∷ w) n = rw (digit_no b (and_parts (is_ascii_alphabetic b) (list
   where
     digit_no : (b : ℕ) → is_ascii_alphabetic b ≡ true → is_ascii_digit b ≡ false
     digit_no b e = grind (arith, nat_tests)
+
+pub true_word : {t : Bool} → Spells Ends t (codes "true") (λ s. codes "true" ∷ s) false
+unfolding is_reserved is_used vhdl_words used_words
+true_word = word (codes "true") refl

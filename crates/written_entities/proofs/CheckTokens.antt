@@ -1,0 +1,332 @@
+-- The tokens of the calls of timing checks in a written entity.
+use Rattle.std.proofs.Common.{◌≡◌, ℕ, ◌+◌, ◌<◌, Bool, false, List, ◌∷◌, ◌++◌, length, Option, Some, None, refl, sym, subst, codes, decimal}
+use Rattle.cell_machine.specs.declared.checks.CheckKind.{CheckKind}
+use Rattle.cell_machine.specs.declared.checks.CheckKind.TheVariants as check_kind
+use Rattle.cell_machine.specs.declared.checks.Edge.{Edge}
+use Rattle.cell_machine.specs.declared.checks.Edge.TheVariants as edge
+use Rattle.vital_models.specs.declared.model.HCheck.{HCheck}
+use Rattle.vital_models.specs.declared.model.VEntity.{VEntity}
+use Rattle.vhdl_text.specs.VhdlChecks.{checks}
+use Rattle.vhdl_text.specs.VhdlChecks as grammar
+use Rattle.vhdl_text.specs.WellFormed.{IsWellFormedEntity}
+use Rattle.vhdl_writer.specs.Joined.{numbered_texts}
+use Rattle.vhdl_writer.specs.Names.{port_at}
+use Rattle.vhdl_writer.specs.Statements.{one_text, enabled_text, test_at, reference_at, transition_text, high_word, low_word, setup_hold_text, recovery_word, active_text, recovery_removal_text, width_word, pulse_word, period_pulse_text, kind_text, check_text}
+use Rattle.written_modules.proofs.Spelling.{Front, Anything}
+use Rattle.written_entities.proofs.Spelling.{Spells, joins, behind, literal, anywhere}
+use Rattle.written_entities.proofs.Words.{Ends, word, name, number, of_report, of_data, true_word}
+use Rattle.written_entities.proofs.Counting.{counted, counted_anywhere}
+use Rattle.written_entities.proofs.Parts.{part_behind}
+use Rattle.written_entities.proofs.PortLookUps.{input_named}
+use Rattle.written_entities.proofs.ConditionReading.{condition_front, condition_spelled}
+use Rattle.written_entities.proofs.Elements.{call_end}
+use Rattle.written_entities.proofs.CheckFacts.{IsWrittenCheck, test_pin, reference_pin, written_check}
+
+-- Tokens.
+
+abbrev enabled_front : VEntity → Option ℕ → Front
+enabled_front e None s = codes "true" ∷ s
+enabled_front e (Some i) s = codes "VitalTruthTable" ∷ condition_front e i (codes "=" ∷ codes "'1'" ∷ s)
+
+abbrev pub edge_word : Edge → List ℕ
+edge_word edge.Any = codes "'R'"
+edge_word edge.Rise = codes "'R'"
+edge_word edge.Fall = codes "'F'"
+
+abbrev pub transition_front : Edge → Front
+transition_front g s = codes "," ∷ codes "RefTransition" ∷ codes "=>" ∷ edge_word g ∷ codes ")" ∷ codes ";" ∷ s
+
+abbrev pub high_token : CheckKind → List ℕ
+high_token check_kind.Hold = codes "HoldHigh"
+high_token check_kind.Setup = codes "SetupHigh"
+high_token check_kind.Recovery = codes "SetupHigh"
+high_token check_kind.Removal = codes "SetupHigh"
+high_token check_kind.Width = codes "SetupHigh"
+high_token check_kind.Period = codes "SetupHigh"
+
+abbrev pub tested_front : List ℕ → VEntity → ℕ → ℕ → Front
+tested_front word e n p s =
+    codes "(" ∷ codes "Violation" ∷ codes "=>" ∷ (120 ∷ 95 ∷ decimal n) ∷ codes "," ∷ word ∷ codes "=>" ∷ (100 ∷ 95 ∷ decimal n) ∷ codes "," ∷ codes "TestSignal" ∷ codes "=>" ∷ port_at e p ∷ codes "," ∷ s
+
+abbrev pub referred_front : VEntity → ℕ → Front
+referred_front e p s = codes "RefSignal" ∷ codes "=>" ∷ port_at e p ∷ codes "," ∷ s
+
+abbrev pub limits_front : CheckKind → ℕ → Front
+limits_front kind limit s =
+    codes "=>" ∷ decimal limit ∷ codes "ps" ∷ codes "," ∷ grammar.low_word kind ∷ codes "=>" ∷ decimal limit ∷ codes "ps" ∷ codes "," ∷ s
+
+abbrev pub enabled_behind : VEntity → Option ℕ → Front
+enabled_behind e when s = codes "CheckEnabled" ∷ codes "=>" ∷ enabled_front e when s
+
+abbrev pub setup_hold_front : VEntity → ℕ → HCheck → Front
+setup_hold_front e n k s =
+    tested_front (codes "TimingData") e n (test_at k k.kind).pin (referred_front e (reference_at k k.kind).pin (high_token k.kind ∷ limits_front k.kind k.limit
+    (enabled_behind e k.condition (transition_front (reference_at k k.kind).edge s))))
+
+abbrev pub recovery_token : CheckKind → List ℕ
+recovery_token check_kind.Removal = codes "Removal"
+recovery_token check_kind.Setup = codes "Recovery"
+recovery_token check_kind.Hold = codes "Recovery"
+recovery_token check_kind.Recovery = codes "Recovery"
+recovery_token check_kind.Width = codes "Recovery"
+recovery_token check_kind.Period = codes "Recovery"
+
+abbrev pub active_token : Edge → List ℕ
+active_token edge.Any = codes "true"
+active_token edge.Rise = codes "true"
+active_token edge.Fall = codes "false"
+
+abbrev pub limit_front : ℕ → Front
+limit_front limit s = codes "=>" ∷ decimal limit ∷ codes "ps" ∷ codes "," ∷ s
+
+abbrev pub recovery_removal_front : VEntity → ℕ → HCheck → Front
+recovery_removal_front e n k s =
+    tested_front (codes "TimingData") e n (test_at k k.kind).pin (referred_front e (reference_at k k.kind).pin (recovery_token k.kind ∷ limit_front k.limit
+    (codes "ActiveLow" ∷ codes "=>" ∷ active_token (test_at k k.kind).edge ∷ codes "," ∷ enabled_behind e k.condition (transition_front (reference_at k k.kind).edge s))))
+
+abbrev pub width_token : Edge → List ℕ
+width_token edge.Any = codes "PulseWidthHigh"
+width_token edge.Rise = codes "PulseWidthHigh"
+width_token edge.Fall = codes "PulseWidthLow"
+
+abbrev pub pulse_token : HCheck → CheckKind → List ℕ
+pulse_token k check_kind.Period = codes "Period"
+pulse_token k check_kind.Setup = width_token k.first.edge
+pulse_token k check_kind.Hold = width_token k.first.edge
+pulse_token k check_kind.Recovery = width_token k.first.edge
+pulse_token k check_kind.Removal = width_token k.first.edge
+pulse_token k check_kind.Width = width_token k.first.edge
+
+abbrev pub period_pulse_front : VEntity → ℕ → HCheck → Front
+period_pulse_front e n k s =
+    tested_front (codes "PeriodData") e n k.first.pin (pulse_token k k.kind ∷ limit_front k.limit (enabled_behind e k.condition (codes ")" ∷ codes ";" ∷ s)))
+
+-- the word of a check's procedure, and what stands behind it
+abbrev pub check_word : CheckKind → List ℕ
+check_word check_kind.Setup = codes "VitalSetupHoldCheck"
+check_word check_kind.Hold = codes "VitalSetupHoldCheck"
+check_word check_kind.Recovery = codes "VitalRecoveryRemovalCheck"
+check_word check_kind.Removal = codes "VitalRecoveryRemovalCheck"
+check_word check_kind.Width = codes "VitalPeriodPulseCheck"
+check_word check_kind.Period = codes "VitalPeriodPulseCheck"
+
+abbrev pub check_more : VEntity → ℕ → HCheck → CheckKind → Front
+check_more e n k check_kind.Setup s = setup_hold_front e n k s
+check_more e n k check_kind.Hold s = setup_hold_front e n k s
+check_more e n k check_kind.Recovery s = recovery_removal_front e n k s
+check_more e n k check_kind.Removal s = recovery_removal_front e n k s
+check_more e n k check_kind.Width s = period_pulse_front e n k s
+check_more e n k check_kind.Period s = period_pulse_front e n k s
+
+abbrev pub check_front : VEntity → ℕ → HCheck → Front
+check_front e n k s = check_word k.kind ∷ check_more e n k k.kind s
+
+setup_hold_word : {t : Bool} → Spells Anything t (codes "    VitalSetupHoldCheck (Violation => ") (λ s. codes "VitalSetupHoldCheck" ∷ codes "(" ∷ codes "Violation" ∷ codes "=>" ∷ s) false
+setup_hold_word = literal 38 (λ r. refl)
+
+recovery_removal_word : {t : Bool} → Spells Anything t (codes "    VitalRecoveryRemovalCheck (Violation => ") (λ s. codes "VitalRecoveryRemovalCheck" ∷ codes "(" ∷ codes "Violation" ∷ codes "=>" ∷ s) false
+recovery_removal_word = literal 44 (λ r. refl)
+
+period_pulse_word : {t : Bool} → Spells Anything t (codes "    VitalPeriodPulseCheck (Violation => ") (λ s. codes "VitalPeriodPulseCheck" ∷ codes "(" ∷ codes "Violation" ∷ codes "=>" ∷ s) false
+period_pulse_word = literal 40 (λ r. refl)
+
+timing_word : {t : Bool} → Spells Anything t (codes ", TimingData => ") (λ s. codes "," ∷ codes "TimingData" ∷ codes "=>" ∷ s) false
+timing_word = literal 16 (λ r. refl)
+
+period_word : {t : Bool} → Spells Anything t (codes ", PeriodData => ") (λ s. codes "," ∷ codes "PeriodData" ∷ codes "=>" ∷ s) false
+period_word = literal 16 (λ r. refl)
+
+test_word : {t : Bool} → Spells Anything t (codes ", TestSignal => ") (λ s. codes "," ∷ codes "TestSignal" ∷ codes "=>" ∷ s) false
+test_word = literal 16 (λ r. refl)
+
+reference_word : {t : Bool} → Spells Anything t (codes ", RefSignal => ") (λ s. codes "," ∷ codes "RefSignal" ∷ codes "=>" ∷ s) false
+reference_word = literal 15 (λ r. refl)
+
+setup_high : {t : Bool} → Spells Anything t (codes ", SetupHigh => ") (λ s. codes "," ∷ codes "SetupHigh" ∷ codes "=>" ∷ s) false
+setup_high = literal 15 (λ r. refl)
+
+hold_high : {t : Bool} → Spells Anything t (codes ", HoldHigh => ") (λ s. codes "," ∷ codes "HoldHigh" ∷ codes "=>" ∷ s) false
+hold_high = literal 14 (λ r. refl)
+
+setup_low : {t : Bool} → Spells Anything t (codes " ps, SetupLow => ") (λ s. codes "ps" ∷ codes "," ∷ codes "SetupLow" ∷ codes "=>" ∷ s) false
+setup_low = literal 17 (λ r. refl)
+
+hold_low : {t : Bool} → Spells Anything t (codes " ps, HoldLow => ") (λ s. codes "ps" ∷ codes "," ∷ codes "HoldLow" ∷ codes "=>" ∷ s) false
+hold_low = literal 16 (λ r. refl)
+
+enabled_word : {t : Bool} → Spells Anything t (codes " ps, CheckEnabled => ") (λ s. codes "ps" ∷ codes "," ∷ codes "CheckEnabled" ∷ codes "=>" ∷ s) false
+enabled_word = literal 21 (λ r. refl)
+
+rise_transition : {t : Bool} → Spells Anything t (codes ", RefTransition => 'R');\n") (λ s. codes "," ∷ codes "RefTransition" ∷ codes "=>" ∷ codes "'R'" ∷ codes ")" ∷ codes ";" ∷ s) false
+rise_transition = literal 25 (λ r. refl)
+
+fall_transition : {t : Bool} → Spells Anything t (codes ", RefTransition => 'F');\n") (λ s. codes "," ∷ codes "RefTransition" ∷ codes "=>" ∷ codes "'F'" ∷ codes ")" ∷ codes ";" ∷ s) false
+fall_transition = literal 25 (λ r. refl)
+
+recovery_limit : {t : Bool} → Spells Anything t (codes ", Recovery => ") (λ s. codes "," ∷ codes "Recovery" ∷ codes "=>" ∷ s) false
+recovery_limit = literal 14 (λ r. refl)
+
+removal_limit : {t : Bool} → Spells Anything t (codes ", Removal => ") (λ s. codes "," ∷ codes "Removal" ∷ codes "=>" ∷ s) false
+removal_limit = literal 13 (λ r. refl)
+
+active_word : {t : Bool} → Spells Anything t (codes " ps, ActiveLow => true, CheckEnabled => ") (λ s. codes "ps" ∷ codes "," ∷ codes "ActiveLow" ∷ codes "=>" ∷ codes "true" ∷ codes "," ∷ codes "CheckEnabled" ∷ codes "=>" ∷ s) false
+active_word = literal 40 (λ r. refl)
+
+inactive_word : {t : Bool} → Spells Anything t (codes " ps, ActiveLow => false, CheckEnabled => ") (λ s. codes "ps" ∷ codes "," ∷ codes "ActiveLow" ∷ codes "=>" ∷ codes "false" ∷ codes "," ∷ codes "CheckEnabled" ∷ codes "=>" ∷ s) false
+inactive_word = literal 41 (λ r. refl)
+
+high_pulse : {t : Bool} → Spells Anything t (codes ", PulseWidthHigh => ") (λ s. codes "," ∷ codes "PulseWidthHigh" ∷ codes "=>" ∷ s) false
+high_pulse = literal 20 (λ r. refl)
+
+low_pulse : {t : Bool} → Spells Anything t (codes ", PulseWidthLow => ") (λ s. codes "," ∷ codes "PulseWidthLow" ∷ codes "=>" ∷ s) false
+low_pulse = literal 19 (λ r. refl)
+
+period_limit : {t : Bool} → Spells Anything t (codes ", Period => ") (λ s. codes "," ∷ codes "Period" ∷ codes "=>" ∷ s) false
+period_limit = literal 12 (λ r. refl)
+
+is_one : {t : Bool} → Spells Anything t (codes " = '1'") (λ s. codes "=" ∷ codes "'1'" ∷ s) false
+is_one = literal 6 (λ r. refl)
+
+enabled_spelled : (e : VEntity) → IsWellFormedEntity e → (when : Option ℕ) → ((i : ℕ) → when ≡ Some i → i < length e.conditions) → Spells Ends false (enabled_text e when) (enabled_front e when) false
+unfolding one_text
+enabled_spelled e w None h = true_word
+enabled_spelled e w (Some i) h = anywhere (behind (condition_spelled e w i (h i refl)) is_one)
+
+transition_spelled : {t : Bool} (g : Edge) → Spells Anything t (transition_text g) (transition_front g) false
+transition_spelled edge.Any = rise_transition
+transition_spelled edge.Rise = rise_transition
+transition_spelled edge.Fall = fall_transition
+
+transition_begins : (g : Edge) (r : List ℕ) → Ends (transition_text g ++ r)
+transition_begins edge.Any r = refl
+transition_begins edge.Rise r = refl
+transition_begins edge.Fall r = refl
+
+high_spelled : {t : Bool} (kind : CheckKind) → Spells Anything t (high_word kind) (λ s. codes "," ∷ high_token kind ∷ codes "=>" ∷ s) false
+high_spelled check_kind.Hold = hold_high
+high_spelled check_kind.Setup = setup_high
+high_spelled check_kind.Recovery = setup_high
+high_spelled check_kind.Removal = setup_high
+high_spelled check_kind.Width = setup_high
+high_spelled check_kind.Period = setup_high
+
+high_begins : (kind : CheckKind) (r : List ℕ) → Ends (high_word kind ++ r)
+high_begins check_kind.Hold r = refl
+high_begins check_kind.Setup r = refl
+high_begins check_kind.Recovery r = refl
+high_begins check_kind.Removal r = refl
+high_begins check_kind.Width r = refl
+high_begins check_kind.Period r = refl
+
+low_spelled : {t : Bool} (kind : CheckKind) → Spells Anything t (low_word kind) (λ s. codes "ps" ∷ codes "," ∷ grammar.low_word kind ∷ codes "=>" ∷ s) false
+low_spelled check_kind.Hold = hold_low
+low_spelled check_kind.Setup = setup_low
+low_spelled check_kind.Recovery = setup_low
+low_spelled check_kind.Removal = setup_low
+low_spelled check_kind.Width = setup_low
+low_spelled check_kind.Period = setup_low
+
+low_begins : (kind : CheckKind) (r : List ℕ) → Ends (low_word kind ++ r)
+low_begins check_kind.Hold r = refl
+low_begins check_kind.Setup r = refl
+low_begins check_kind.Recovery r = refl
+low_begins check_kind.Removal r = refl
+low_begins check_kind.Width r = refl
+low_begins check_kind.Period r = refl
+
+behind_begins : (P : List ℕ → Type 0) (a b : List ℕ) → ((r : List ℕ) → P (a ++ r)) → (r : List ℕ) → P ((a ++ b) ++ r)
+behind_begins P a b h r = subst P (sym (Rattle.std.proofs.Common.append_assoc a b r)) (h (b ++ r))
+
+setup_hold_spelled : (e : VEntity) (n : ℕ) (k : HCheck) → IsWrittenCheck e n k → Spells Anything false (setup_hold_text e n k) (λ s. codes "VitalSetupHoldCheck" ∷ setup_hold_front e n k s) false
+unfolding setup_hold_text
+setup_hold_spelled e n k h =
+    part_behind 120 n of_report h.number setup_hold_word (λ r q. refl) (part_behind 100 n of_data h.number timing_word (λ r q. refl)
+    (behind test_word (joins (name (port_at e (test_at k k.kind).pin) (input_named e h.formed (test_at k k.kind).pin (test_pin e n k h k.kind))) (λ r q. refl)
+    (behind reference_word (joins (name (port_at e (reference_at k k.kind).pin) (input_named e h.formed (reference_at k k.kind).pin (reference_pin e n k h k.kind))) (λ r q. behind_begins Ends (high_word k.kind) _ (high_begins k.kind) r)
+    (behind (high_spelled k.kind) (joins (number k.limit h.limit) (λ r q. behind_begins Ends (low_word k.kind) _ (low_begins k.kind) r)
+    (behind (low_spelled k.kind) (joins (number k.limit h.limit) (λ r q. refl)
+    (behind enabled_word (joins (enabled_spelled e h.formed k.condition h.condition) (λ r q. transition_begins (reference_at k k.kind).edge r) (transition_spelled (reference_at k k.kind).edge))))))))))))
+
+recovery_spelled : {t : Bool} (kind : CheckKind) → Spells Anything t (recovery_word kind) (λ s. codes "," ∷ recovery_token kind ∷ codes "=>" ∷ s) false
+recovery_spelled check_kind.Removal = removal_limit
+recovery_spelled check_kind.Setup = recovery_limit
+recovery_spelled check_kind.Hold = recovery_limit
+recovery_spelled check_kind.Recovery = recovery_limit
+recovery_spelled check_kind.Width = recovery_limit
+recovery_spelled check_kind.Period = recovery_limit
+
+recovery_begins : (kind : CheckKind) (r : List ℕ) → Ends (recovery_word kind ++ r)
+recovery_begins check_kind.Removal r = refl
+recovery_begins check_kind.Setup r = refl
+recovery_begins check_kind.Hold r = refl
+recovery_begins check_kind.Recovery r = refl
+recovery_begins check_kind.Width r = refl
+recovery_begins check_kind.Period r = refl
+
+active_spelled : {t : Bool} (g : Edge) → Spells Anything t (active_text g) (λ s. codes "ps" ∷ codes "," ∷ codes "ActiveLow" ∷ codes "=>" ∷ active_token g ∷ codes "," ∷ codes "CheckEnabled" ∷ codes "=>" ∷ s) false
+active_spelled edge.Any = active_word
+active_spelled edge.Rise = active_word
+active_spelled edge.Fall = inactive_word
+
+active_begins : (g : Edge) (r : List ℕ) → Ends (active_text g ++ r)
+active_begins edge.Any r = refl
+active_begins edge.Rise r = refl
+active_begins edge.Fall r = refl
+
+recovery_removal_spelled : (e : VEntity) (n : ℕ) (k : HCheck) → IsWrittenCheck e n k → Spells Anything false (recovery_removal_text e n k) (λ s. codes "VitalRecoveryRemovalCheck" ∷ recovery_removal_front e n k s) false
+unfolding recovery_removal_text
+recovery_removal_spelled e n k h =
+    part_behind 120 n of_report h.number recovery_removal_word (λ r q. refl) (part_behind 100 n of_data h.number timing_word (λ r q. refl)
+    (behind test_word (joins (name (port_at e (test_at k k.kind).pin) (input_named e h.formed (test_at k k.kind).pin (test_pin e n k h k.kind))) (λ r q. refl)
+    (behind reference_word (joins (name (port_at e (reference_at k k.kind).pin) (input_named e h.formed (reference_at k k.kind).pin (reference_pin e n k h k.kind))) (λ r q. behind_begins Ends (recovery_word k.kind) _ (recovery_begins k.kind) r)
+    (behind (recovery_spelled k.kind) (joins (number k.limit h.limit) (λ r q. behind_begins Ends (active_text (test_at k k.kind).edge) _ (active_begins (test_at k k.kind).edge) r)
+    (behind (active_spelled (test_at k k.kind).edge) (joins (enabled_spelled e h.formed k.condition h.condition) (λ r q. transition_begins (reference_at k k.kind).edge r) (transition_spelled (reference_at k k.kind).edge))))))))))
+
+width_spelled : {t : Bool} (g : Edge) → Spells Anything t (width_word g) (λ s. codes "," ∷ width_token g ∷ codes "=>" ∷ s) false
+width_spelled edge.Any = high_pulse
+width_spelled edge.Rise = high_pulse
+width_spelled edge.Fall = low_pulse
+
+width_begins : (g : Edge) (r : List ℕ) → Ends (width_word g ++ r)
+width_begins edge.Any r = refl
+width_begins edge.Rise r = refl
+width_begins edge.Fall r = refl
+
+pulse_spelled : {t : Bool} (k : HCheck) (kind : CheckKind) → Spells Anything t (pulse_word k kind) (λ s. codes "," ∷ pulse_token k kind ∷ codes "=>" ∷ s) false
+pulse_spelled k check_kind.Period = period_limit
+pulse_spelled k check_kind.Setup = width_spelled k.first.edge
+pulse_spelled k check_kind.Hold = width_spelled k.first.edge
+pulse_spelled k check_kind.Recovery = width_spelled k.first.edge
+pulse_spelled k check_kind.Removal = width_spelled k.first.edge
+pulse_spelled k check_kind.Width = width_spelled k.first.edge
+
+pulse_begins : (k : HCheck) (kind : CheckKind) (r : List ℕ) → Ends (pulse_word k kind ++ r)
+pulse_begins k check_kind.Period r = refl
+pulse_begins k check_kind.Setup r = width_begins k.first.edge r
+pulse_begins k check_kind.Hold r = width_begins k.first.edge r
+pulse_begins k check_kind.Recovery r = width_begins k.first.edge r
+pulse_begins k check_kind.Removal r = width_begins k.first.edge r
+pulse_begins k check_kind.Width r = width_begins k.first.edge r
+
+period_pulse_spelled : (e : VEntity) (n : ℕ) (k : HCheck) → IsWrittenCheck e n k → Spells Anything false (period_pulse_text e n k) (λ s. codes "VitalPeriodPulseCheck" ∷ period_pulse_front e n k s) false
+unfolding period_pulse_text
+period_pulse_spelled e n k h =
+    part_behind 120 n of_report h.number period_pulse_word (λ r q. refl) (part_behind 100 n of_data h.number period_word (λ r q. refl)
+    (behind test_word (joins (name (port_at e k.first.pin) (input_named e h.formed k.first.pin h.sound.first)) (λ r q. behind_begins Ends (pulse_word k k.kind) _ (pulse_begins k k.kind) r)
+    (behind (pulse_spelled k k.kind) (joins (number k.limit h.limit) (λ r q. refl)
+    (behind enabled_word (joins (enabled_spelled e h.formed k.condition h.condition) (λ r q. refl) call_end)))))))
+
+kind_spelled : (e : VEntity) (n : ℕ) (k : HCheck) (kind : CheckKind) → IsWrittenCheck e n k → Spells Anything false (kind_text e n k kind) (λ s. check_word kind ∷ check_more e n k kind s) false
+kind_spelled e n k check_kind.Setup h = setup_hold_spelled e n k h
+kind_spelled e n k check_kind.Hold h = setup_hold_spelled e n k h
+kind_spelled e n k check_kind.Recovery h = recovery_removal_spelled e n k h
+kind_spelled e n k check_kind.Removal h = recovery_removal_spelled e n k h
+kind_spelled e n k check_kind.Width h = period_pulse_spelled e n k h
+kind_spelled e n k check_kind.Period h = period_pulse_spelled e n k h
+
+check_spelled : (e : VEntity) (n : ℕ) (k : HCheck) → IsWrittenCheck e n k → Spells Anything false (check_text e n k) (check_front e n k) false
+unfolding check_text
+check_spelled e n k h = kind_spelled e n k k.kind h
+
+pub checks_spelled : (e : VEntity) → IsWellFormedEntity e → Spells Anything false (numbered_texts (check_text e) 1 e.checks) (counted (check_front e) 1 e.checks) false
+checks_spelled e w = counted_anywhere (check_text e) (check_front e) e.checks (λ before k after same. check_spelled e (length before + 1) k (written_check e w before k after same))

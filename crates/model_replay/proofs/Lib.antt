@@ -1,0 +1,8 @@
+mod Catalogs
+mod Sections
+mod DeskSteps
+mod FileLemmas
+mod ReplayOutcomes
+pub mod SectionTexts
+pub mod ReplayRuns
+pub mod Completes

@@ -1,0 +1,46 @@
+//! Replaying a file of models: its files are read, and then its sections are run and printed.
+ghost use Rattle.std.specs.Prelude.{◌≡◌, ◌≤◌, IsTrue};
+ghost use Rattle.text_io.specs.Desk.{Rose};
+ghost use Rattle.text_io.specs.Plan.{plan};
+ghost use Rattle.command_outcomes.specs.Status.{is_unfailed};
+ghost use Rattle.command_outcomes.specs.Runs.{RunsAs};
+ghost use Rattle.model_replay.specs.Outcome.{replay_files, replay_of};
+ghost use Rattle.model_replay.specs.Endings.{printed_status};
+
+use crate::language::ModelLanguage;
+use crate::printing::write_sections;
+use crate::reading::read_replay;
+use command_outcomes::Status;
+use section_runs::RunFault;
+use std::alloc::Global;
+use text_io::Desk;
+
+/// Prints the traces of the models of the file that the words name, section by section of the stimulus that they name.
+/// Nothing is printed before both files are read.
+///
+/// It ends with the status of the outcome, and all that the outcome appends was appended, or with `Outside`, only where a call
+/// on the desk failed in this call, or with `Memory`, where there was none.
+pub fn replay_models<D: Desk, L: ModelLanguage>(alloc: Global, desk: &mut D) -> Status
+    requires { plan (D.state desk.old).words ≡ replay_files L.language.format }
+    ensures writes { RunsAs (replay_files L.language.format) (replay_of L.language (D.state desk.old).words) (D.state desk.old) (D.state desk.new) result }
+    ensures usage { result ≡ Status.Usage → ⊥ }
+    ensures outside { result ≡ Status.Outside → Rose (D.faults desk.old) (D.faults desk.new) }
+    ensures later { D.faults desk.old ≤ D.faults desk.new }
+    ensures kept { IsTrue (is_unfailed result) → D.faults desk.new ≡ D.faults desk.old }
+{
+    match read_replay::<D, L>(alloc, desk) {
+        Ok(replay) => ended(write_sections::<D, L>(alloc, desk, &replay)),
+        Err(ending) => ending.status(),
+    }
+}
+
+/// The status of a run whose sections were printed so.
+fn ended(printed: Result<(), RunFault>) -> Status
+    ensures { result ≡ printed_status printed }
+{
+    match printed {
+        Ok(()) => Status::Done,
+        Err(RunFault::Failed) => Status::Outside,
+        Err(RunFault::Memory) => Status::Memory,
+    }
+}

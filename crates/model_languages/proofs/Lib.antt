@@ -1,0 +1,4 @@
+mod NewNames
+mod PortCounts
+pub mod VerilogModels
+pub mod VitalEntities

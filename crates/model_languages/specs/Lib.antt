@@ -1,0 +1,3 @@
+pub mod Verilog
+pub mod Vital
+pub mod Laws

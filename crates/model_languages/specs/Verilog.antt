@@ -1,0 +1,18 @@
+-- Verilog as a language of models; what runs of a module is as in IEEE 1364-2005, clauses 8, 14 and 15.
+use Rattle.specify_blocks.specs.declared.model.VModule.{VModule}
+use Rattle.specify_blocks.specs.VerilogText.{verilog_text}
+use Rattle.specify_blocks.specs.WellFormed.{IsWellFormedModule}
+use Rattle.model_traces.specs.ModuleTrace.{module_machine}
+use Rattle.model_replay.specs.declared.format.ModelFormat.TheVariants.{Verilog}
+use Rattle.model_replay.specs.Languages.{Language}
+
+abbrev pub verilog : Language VModule
+verilog =
+    record {
+      format = Verilog;
+      text = verilog_text;
+      name = λ (m : VModule). m.name;
+      ports = λ (m : VModule). m.ports;
+      machine = module_machine;
+      is_well_formed = IsWellFormedModule;
+    }

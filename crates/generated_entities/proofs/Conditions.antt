@@ -19,7 +19,7 @@ use Rattle.vital_models.specs.declared.model.HCheck.{HCheck}
 use Rattle.vital_models.specs.Generated.{condition_of, place_of, all_zero, gate_by, path_of, output_of, check_of, entity_of}
 use Rattle.vital_models.proofs.ConditionFacts.{all-among}
 use Rattle.vhdl_text.specs.WellFormed.{conditions_of_check, conditions_of_gate, conditions_of_path, conditions_of_output, looked_up, looks_up_in_order}
-use Rattle.generated_modules.proofs.CellParts.{Rules, arcs_hold}
+use Rattle.library_cells.proofs.CellParts.{Rules, arcs_hold}
 use Rattle.generated_entities.proofs.ListLemmas.{flat_flat, flat_map_map}
 use Rattle.generated_entities.proofs.LookedUp.{in_order}
 use Rattle.generated_entities.proofs.ArcOrder.{ends_at, by_ends, arcs_by_ends}

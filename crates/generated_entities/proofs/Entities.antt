@@ -36,8 +36,8 @@ use Rattle.vital_models.proofs.ConditionFacts.{all-among, condition-over}
 use Rattle.vital_models.proofs.Soundness.{entity_is_sound}
 use Rattle.vhdl_text.specs.VhdlDeclarations.{port_names}
 use Rattle.vhdl_text.specs.WellFormed.{IsPortName, IsWrittenState, IsWrittenTruth, IsWrittenLookup, IsWrittenValue, IsNumber, names_condition, IsWrittenPath, IsWrittenOutput, IsWellFormedEntity}
-use Rattle.generated_modules.proofs.CellParts.{Rules, few_pins, group_support, outputs_hold, checks_hold, arcs_hold}
-use Rattle.generated_modules.proofs.Conditions.{has_places, conditions_placed}
+use Rattle.library_cells.proofs.CellParts.{Rules, few_pins, group_support, outputs_hold, checks_hold, arcs_hold}
+use Rattle.library_cells.proofs.Conditions.{has_places, conditions_placed}
 use Rattle.generated_entities.specs.Laws.{EntityIsWellFormed}
 use Rattle.generated_entities.proofs.ListLemmas.{all_from}
 use Rattle.generated_entities.proofs.Tables.{rows_have_one_edge, states_have_rows, truths_have_rows}

@@ -16,11 +16,10 @@ use Rattle.vhdl_names.specs.Kept.{lowered}
 use Rattle.vital_models.specs.Kept.{is_kept_entity_name, entity_name}
 use Rattle.vhdl_text.specs.VhdlText.{entity_names}
 use Rattle.vhdl_text.specs.WellFormed.{IsWellFormedEntity, AreApart}
-use Rattle.generated_modules.specs.Cells.{IsNumberedCell, numbers_of_cells}
-use Rattle.generated_modules.proofs.AcceptedCells.{accepted-of-one-library}
-use Rattle.generated_modules.proofs.NameLists.{each_among, at_among}
+use Rattle.library_cells.specs.Cells.{IsNumberedCell, numbers_of_cells}
+use Rattle.library_cells.proofs.NameLists.{each_among, at_among}
 use Rattle.generated_entities.specs.Library.{entity_behind, entities_behind}
-use Rattle.generated_entities.specs.Laws.{EntitiesAreWellFormed, AcceptedEntitiesAreWellFormed}
+use Rattle.generated_entities.specs.Laws.{EntitiesAreWellFormed}
 use Rattle.generated_entities.proofs.Names.{unlike_lower, no_cell, cells_apart, kept}
 use Rattle.generated_entities.proofs.Entities.{entity-well-formed}
 
@@ -115,6 +114,3 @@ all_well_formed given (cell ∷ cells) h =
 
 pub entities-well-formed : EntitiesAreWellFormed
 entities-well-formed cells h = record { entities = all_well_formed [] cells h.numbered; apart = entities_apart [] cells h.numbered h.numbers }
-
-pub accepted-well-formed : AcceptedEntitiesAreWellFormed
-accepted-well-formed cells h = entities-well-formed cells (accepted-of-one-library cells h)

@@ -15,7 +15,7 @@ use Rattle.vhdl_names.specs.Kept.{goes_on, is_identifier, is_number, begins, is_
 use Rattle.vhdl_tokens.specs.Tokens.{is_name_byte}
 use Rattle.vital_models.specs.Kept.{is_kept_entity_name, entity_name}
 use Rattle.vhdl_text.specs.WellFormed.{is_spelled_as_name, IsEntityName, IsPortName}
-use Rattle.generated_modules.proofs.NumberedNames.{decimal_digits}
+use Rattle.library_cells.proofs.NumberedNames.{decimal_digits}
 
 -- numbers in names
 pub decimal_number : (n : ℕ) → n < 2 ^ 64 → IsTrue (is_number (decimal n))

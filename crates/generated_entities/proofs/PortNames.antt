@@ -13,7 +13,7 @@ use Rattle.vital_models.specs.Kept.{is_taken, is_kept_port_name, port_name}
 use Rattle.vital_models.specs.Ports.{port_after, ports_after, ports_of}
 use Rattle.vhdl_text.specs.VhdlDeclarations.{port_names}
 use Rattle.vhdl_text.specs.WellFormed.{IsPortName, AreApart}
-use Rattle.generated_modules.proofs.NameLists.{none_passes}
+use Rattle.library_cells.proofs.NameLists.{none_passes}
 use Rattle.generated_entities.proofs.ListLemmas.{push_apart}
 use Rattle.generated_entities.proofs.Names.{pin_number, no_pin, pins_apart, IsGivenName, free}
 

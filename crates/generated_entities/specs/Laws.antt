@@ -2,8 +2,7 @@
 use Rattle.std.specs.Prelude.{ℕ, List, []}
 use Rattle.cell_machine.specs.CellData.{CellData}
 use Rattle.vhdl_text.specs.WellFormed.{IsWellFormedEntity, AreWellFormed}
-use Rattle.generated_modules.specs.Accepted.{AreAccepted}
-use Rattle.generated_modules.specs.Cells.{IsNumberedCell, AreCellsOfOneLibrary}
+use Rattle.library_cells.specs.Cells.{IsNumberedCell, AreCellsOfOneLibrary}
 use Rattle.generated_entities.specs.Library.{entity_behind, entities_of}
 
 -- the entity of data that keep the rules of cells is well formed, where its name is given behind these
@@ -13,7 +12,3 @@ EntityIsWellFormed = (cell : CellData) (given : List (List ℕ)) → IsNumberedC
 -- the entities of the cells of one library are well formed together
 abbrev pub EntitiesAreWellFormed : Type 0
 EntitiesAreWellFormed = (cells : List CellData) → AreCellsOfOneLibrary cells → AreWellFormed (entities_of cells)
-
--- so are those of the accepted cells of a library
-abbrev pub AcceptedEntitiesAreWellFormed : Type 0
-AcceptedEntitiesAreWellFormed = (cells : List CellData) → AreAccepted 1 [] cells → AreWellFormed (entities_of cells)

@@ -1,6 +1,6 @@
 //! Theorems on the definitions, for the proofs of other crates. The functions do nothing.
 
-ghost use Rattle.generated_entities.specs.Laws.{EntityIsWellFormed, EntitiesAreWellFormed, AcceptedEntitiesAreWellFormed};
+ghost use Rattle.generated_entities.specs.Laws.{EntityIsWellFormed, EntitiesAreWellFormed};
 
 /// The entity that is generated for a cell, with the name that `entity_name` gives it behind any others, is well formed: it is
 /// sound, its names are identifiers and no words, of which none stands twice whatever the case of its letters, its tables have rows
@@ -13,9 +13,4 @@ pub fn entity_is_well_formed()
 /// formed: each entity is, and no two share a name, whatever the case of its letters.
 pub fn entities_are_well_formed()
     ensures { EntitiesAreWellFormed }
-{}
-
-/// The list of the entities of the cells of a library that are accepted is well formed.
-pub fn accepted_entities_are_well_formed()
-    ensures { AcceptedEntitiesAreWellFormed }
 {}

@@ -4,6 +4,4 @@
 
 mod laws;
 
-pub use laws::{
-    accepted_entities_are_well_formed, entities_are_well_formed, entity_is_well_formed,
-};
+pub use laws::{entities_are_well_formed, entity_is_well_formed};

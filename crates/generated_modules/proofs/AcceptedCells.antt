@@ -19,9 +19,9 @@ use Rattle.cell_reader.specs.CellTexts.{subject_of}
 use Rattle.cell_reader.proofs.Accepted.{accepted_meets_none, accepted_cells_are_sound}
 use Rattle.specify_blocks.proofs.ReadNames.{bytes_equivalence}
 use Rattle.generated_modules.specs.Accepted.{IsAccepted, AreAccepted}
-use Rattle.generated_modules.specs.Cells.{IsNumberedCell, names_of_cells, numbers_of_cells, AreCellsOfOneLibrary}
+use Rattle.library_cells.specs.Cells.{IsNumberedCell, names_of_cells, numbers_of_cells, AreCellsOfOneLibrary}
 use Rattle.generated_modules.specs.Laws.{AcceptedAreOfOneLibrary, AcceptedModulesAreWellFormed}
-use Rattle.generated_modules.proofs.NameLists.{unlike, each_among}
+use Rattle.library_cells.proofs.NameLists.{unlike, each_among}
 use Rattle.generated_modules.proofs.ModuleLists.{modules-well-formed}
 
 -- the name of a cell that is not refused is none of those before it

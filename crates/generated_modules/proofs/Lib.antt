@@ -1,11 +1,7 @@
-pub mod NameLists
-pub mod NumberedNames
 pub mod GivenNames
 pub mod InnerNames
 pub mod PrimitiveNames
 pub mod Primitives
-pub mod Conditions
-pub mod CellParts
 pub mod Modules
 pub mod ModuleLists
 pub mod AcceptedCells

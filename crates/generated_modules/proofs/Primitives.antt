@@ -20,8 +20,8 @@ use Rattle.udp_tables.proofs.CellLaws.{groups_are_sequential-lem}
 use Rattle.specify_blocks.specs.Names.{numbered}
 use Rattle.specify_blocks.specs.WellFormed.{IsName, HasNoState, IsWellFormedUdp}
 use Rattle.specify_blocks.proofs.ReadNames.{AreNames}
-use Rattle.generated_modules.proofs.NameLists.{cons_name}
-use Rattle.generated_modules.proofs.NumberedNames.{input_stem, numbered_names, numbered_form}
+use Rattle.library_cells.proofs.NameLists.{cons_name}
+use Rattle.library_cells.proofs.NumberedNames.{input_stem, numbered_names, numbered_form}
 
 -- ports
 

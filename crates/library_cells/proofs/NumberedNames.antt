@@ -18,7 +18,7 @@ use Rattle.verilog_tokens.specs.Kept.{is_name_byte, is_identifier}
 use Rattle.specify_blocks.specs.Names.{numbered}
 use Rattle.specify_blocks.specs.WellFormed.{IsName}
 use Rattle.specify_blocks.proofs.ReadNames.{AreNames, no_names, push_name}
-use Rattle.generated_modules.proofs.NameLists.{unlike}
+use Rattle.library_cells.proofs.NameLists.{unlike}
 
 -- the digits of a number
 

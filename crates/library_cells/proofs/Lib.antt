@@ -1,0 +1,4 @@
+pub mod NameLists
+pub mod NumberedNames
+pub mod Conditions
+pub mod CellParts

@@ -13,8 +13,8 @@ use Rattle.vital_models.specs.declared.model.VEntity.{VEntity}
 use Rattle.rule_readers.specs.Words.{valued}
 use Rattle.vhdl_text.specs.VhdlChecks.{Checks, has_data, tested, referred, enabling_condition, always_enabled, enabled, reference_edge, transition, equal_to, same_number, both_limits, one_limit}
 use Rattle.vhdl_text.specs.WellFormed.{IsNumber, IsWellFormedEntity, conditions_of_check}
-use Rattle.written_modules.proofs.Derivations.{Reads, gives, token, in_turn, chosen, passed}
-use Rattle.written_modules.proofs.PrimitiveReading.{get_at}
+use Rattle.grammar_phrases.proofs.Derivations.{Reads, gives, token, in_turn, chosen, passed}
+use Rattle.grammar_phrases.proofs.Places.{get_at}
 use Rattle.written_entities.proofs.Words.{word, of_report, of_data, number_is}
 use Rattle.written_entities.proofs.NameReading.{expected, two_expected, three_expected, time_read, part_read}
 use Rattle.written_entities.proofs.Parts.{place_below, check_number}

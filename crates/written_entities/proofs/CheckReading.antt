@@ -16,8 +16,7 @@ use Rattle.rule_readers.specs.Words.{valued, begins_as}
 use Rattle.vhdl_text.specs.VhdlChecks.{procedure_of, Checks, setup_or_hold, check_with, setup_hold, recovery_or_removal, control_edge, active_low, recovery_removal, Pulse, pulse_of, pulse_check, period_pulse, check, checks}
 use Rattle.vhdl_text.specs.WellFormed.{IsWellFormedEntity, conditions_of_check}
 use Rattle.vhdl_writer.specs.Statements.{test_at, reference_at}
-use Rattle.written_modules.proofs.Derivations.{Reads, to_same, gives, token, in_turn, no_turn, turn, turns}
-use Rattle.written_modules.proofs.PrimitiveReading.{goes_on}
+use Rattle.grammar_phrases.proofs.Derivations.{Reads, to_same, gives, token, in_turn, no_turn, turn, turns, goes_on}
 use Rattle.written_entities.proofs.NameReading.{expected, two_expected}
 use Rattle.written_entities.proofs.Counting.{counted, over}
 use Rattle.written_entities.proofs.LookUpOrder.{seen_after}

@@ -21,11 +21,9 @@ use Rattle.vhdl_text.specs.VhdlNames.{kept, input_of, listed_by, input_by, liste
 use Rattle.vhdl_text.specs.WellFormed.{IsWrittenTruth, IsWellFormedEntity, looks_up_in_order}
 use Rattle.vhdl_writer.specs.Joined.{apart_text}
 use Rattle.vhdl_writer.specs.Names.{port_at, inputs_at, input_text, inputs_text, condition_text}
-use Rattle.written_modules.proofs.Spelling.{Front, Anything}
-use Rattle.written_modules.proofs.Derivations.{Reads, from_same, to_same, gives, token, in_turn}
-use Rattle.written_modules.proofs.NameReading.{at_place}
-use Rattle.written_modules.proofs.NetReading.{all_at}
-use Rattle.written_modules.proofs.PrimitiveReading.{get_at, one_longer, goes_on}
+use Rattle.grammar_phrases.proofs.Fronts.{Front, Anything}
+use Rattle.grammar_phrases.proofs.Derivations.{Reads, from_same, to_same, gives, token, in_turn, goes_on}
+use Rattle.grammar_phrases.proofs.Places.{at_place, all_at, get_at, one_longer}
 use Rattle.written_entities.proofs.Spelling.{Spells, behind, literal}
 use Rattle.written_entities.proofs.Words.{of_condition, part_named, below_word, unnumbered}
 use Rattle.written_entities.proofs.NameReading.{expected, three_expected, four_expected, expected_where, known_as, place_found}

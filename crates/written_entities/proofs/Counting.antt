@@ -7,9 +7,9 @@ use Rattle.grammar_rules.specs.Rule as r
 use Rattle.rule_readers.specs.declared.refusal.Refusal.{Refusal}
 use Rattle.rule_readers.specs.Words.{Grammar}
 use Rattle.vhdl_writer.specs.Joined.{numbered_texts, apart_text}
-use Rattle.written_modules.proofs.Spelling.{Front, Anything}
-use Rattle.written_modules.proofs.Derivations.{Reads}
-use Rattle.written_modules.proofs.PrimitiveReading.{one_longer}
+use Rattle.grammar_phrases.proofs.Fronts.{Front, Anything}
+use Rattle.grammar_phrases.proofs.Derivations.{Reads}
+use Rattle.grammar_phrases.proofs.Places.{one_longer}
 use Rattle.written_entities.proofs.Spelling.{Spells, joins, behind, nothing}
 
 -- the tokens of items that are numbered from this number on

@@ -6,8 +6,8 @@ use Rattle.vhdl_tokens.specs.Numbers.{number_of}
 use Rattle.vhdl_text.specs.VhdlRules.{is_number_token, elements, only_element, several_elements, more_elements}
 use Rattle.vhdl_writer.specs.Joined.{numbered_texts, apart_text}
 use Rattle.vhdl_writer.specs.Names.{list_start}
-use Rattle.written_modules.proofs.Spelling.{Front, Anything}
-use Rattle.written_modules.proofs.Derivations.{Reads, in_turn, chosen, passed, no_turn, turn, turns}
+use Rattle.grammar_phrases.proofs.Fronts.{Front, Anything}
+use Rattle.grammar_phrases.proofs.Derivations.{Reads, in_turn, chosen, passed, no_turn, turn, turns}
 use Rattle.written_entities.proofs.Spelling.{Spells, joins, behind, literal}
 use Rattle.written_entities.proofs.Words.{Ends, IsNamed, name}
 use Rattle.written_entities.proofs.Counting.{counted, apart_spelled, over}

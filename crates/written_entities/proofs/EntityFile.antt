@@ -10,9 +10,9 @@ use Rattle.vhdl_text.specs.VhdlText.{entity_names, next_entity, file, lexical_pl
 use Rattle.vhdl_text.specs.WellFormed.{AreApart, IsWellFormedEntity, AreWellFormed}
 use Rattle.vhdl_text.proofs.VhdlAnswers.{is_answer}
 use Rattle.vhdl_writer.specs.Entity.{entity_text}
-use Rattle.written_modules.proofs.Spelling.{Anything, each}
-use Rattle.written_modules.proofs.Derivations.{Reads, gives, in_turn, turn, through}
-use Rattle.written_modules.proofs.PrimitiveText.{none_if}
+use Rattle.grammar_phrases.proofs.Fronts.{Anything, each}
+use Rattle.grammar_phrases.proofs.Derivations.{Reads, gives, in_turn, turn, through}
+use Rattle.grammar_phrases.proofs.Places.{none_if}
 use Rattle.written_entities.specs.Laws.{entities_text, EntitiesReadBack, AreAssignable}
 use Rattle.written_entities.proofs.Spelling.{Spells, behind, nothing, found}
 use Rattle.written_entities.proofs.Words.{entity_named}

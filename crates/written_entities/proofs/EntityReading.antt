@@ -27,8 +27,8 @@ use Rattle.vhdl_text.specs.VhdlText.{states_with, conditions_with, values_with, 
 use Rattle.vhdl_text.specs.WellFormed.{IsWellFormedEntity, conditions_of_output}
 use Rattle.vhdl_writer.specs.Declarations.{is_input, first_input}
 use Rattle.vhdl_writer.specs.Entity.{end_text, statements_text, entity_text}
-use Rattle.written_modules.proofs.Spelling.{Front, Anything}
-use Rattle.written_modules.proofs.Derivations.{Reads, to_same, gives, in_turn}
+use Rattle.grammar_phrases.proofs.Fronts.{Front, Anything}
+use Rattle.grammar_phrases.proofs.Derivations.{Reads, to_same, gives, in_turn}
 use Rattle.written_entities.specs.Laws.{AreAssignable}
 use Rattle.written_entities.proofs.Spelling.{Spells, behind, literal}
 use Rattle.written_entities.proofs.Words.{entity_named}

@@ -15,9 +15,9 @@ use Rattle.vhdl_text.specs.VhdlRules.{is_among}
 use Rattle.vhdl_text.specs.VhdlDeclarations.{packages, name_of_port, port_names, has_underscore, is_input_word, next_port, port_list, ports_of, entity_header, architecture_header}
 use Rattle.vhdl_text.specs.WellFormed.{IsPortName, AreApart, IsWellFormedEntity}
 use Rattle.vhdl_writer.specs.Declarations.{direction_text, port_text, some_ports_text, ports_text, header_text}
-use Rattle.written_modules.proofs.Spelling.{Front, Anything}
-use Rattle.written_modules.proofs.Derivations.{Reads, gives, token, in_turn, chosen, passed, no_turn, turn, turns}
-use Rattle.written_modules.proofs.NameReading.{at_place}
+use Rattle.grammar_phrases.proofs.Fronts.{Front, Anything}
+use Rattle.grammar_phrases.proofs.Derivations.{Reads, gives, token, in_turn, chosen, passed, no_turn, turn, turns}
+use Rattle.grammar_phrases.proofs.Places.{at_place}
 use Rattle.written_entities.proofs.Spelling.{Spells, joins, behind, nothing, literal}
 use Rattle.written_entities.proofs.Words.{Ends, IsNamed, word, name, entity_named, port_named}
 use Rattle.written_entities.proofs.NameReading.{expected, two_expected, three_expected, seven_expected, so_named, is_new}

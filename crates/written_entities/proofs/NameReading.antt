@@ -17,9 +17,8 @@ use Rattle.vhdl_tokens.specs.Tokens.{is_name_byte}
 use Rattle.vhdl_tokens.specs.Spelling.{is_character, is_same}
 use Rattle.vhdl_text.specs.VhdlRules.{expect, expect_all, expect_where, is_among, new_name, known, this_name, place_among, this_number, a_number, a_time, numbered_where}
 use Rattle.vhdl_text.specs.WellFormed.{AreApart, IsNumber}
-use Rattle.written_modules.proofs.Derivations.{Reads, gives, token, in_turn}
-use Rattle.written_modules.proofs.NameReading.{same_bytes, at_place}
-use Rattle.written_modules.proofs.PortReading.{found_behind}
+use Rattle.grammar_phrases.proofs.Derivations.{Reads, gives, token, in_turn}
+use Rattle.grammar_phrases.proofs.Places.{same_bytes, at_place, found_behind}
 use Rattle.written_entities.proofs.Words.{IsNamed, IsLetter, all_digits, number_is, part_named, below_word}
 use Rattle.written_entities.proofs.Tests.{equal_self, and_no, if_true}
 

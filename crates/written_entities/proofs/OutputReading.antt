@@ -21,9 +21,9 @@ use Rattle.vhdl_text.specs.WellFormed.{IsNumber, IsPortName, IsWrittenOutput, Is
 use Rattle.vhdl_writer.specs.Joined.{numbered_texts}
 use Rattle.vhdl_writer.specs.Names.{port_at}
 use Rattle.vhdl_writer.specs.Outputs.{path_text, paths_text, direct_text, output_line}
-use Rattle.written_modules.proofs.Spelling.{Front, Anything}
-use Rattle.written_modules.proofs.Derivations.{Reads, gives, token, in_turn, no_turn, turn, turns}
-use Rattle.written_modules.proofs.PrimitiveReading.{get_at, goes_on}
+use Rattle.grammar_phrases.proofs.Fronts.{Front, Anything}
+use Rattle.grammar_phrases.proofs.Derivations.{Reads, gives, token, in_turn, no_turn, turn, turns, goes_on}
+use Rattle.grammar_phrases.proofs.Places.{get_at}
 use Rattle.written_entities.specs.Laws.{IsAssignable, AreAssignable}
 use Rattle.written_entities.proofs.Spelling.{Spells, joins, behind, literal}
 use Rattle.written_entities.proofs.Words.{IsNamed, name, of_glitch, of_output, part_named, below_word, port_named}

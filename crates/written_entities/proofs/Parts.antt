@@ -8,8 +8,8 @@ use Rattle.vital_models.specs.declared.model.VOutput.{VOutput}
 use Rattle.vital_models.specs.declared.model.VEntity.{VEntity}
 use Rattle.vital_models.specs.Sound.{output_ports_from}
 use Rattle.vhdl_text.specs.WellFormed.{IsNumber, IsWellFormedEntity}
-use Rattle.written_modules.proofs.Spelling.{Front, Anything}
-use Rattle.written_modules.proofs.NameReading.{at_place}
+use Rattle.grammar_phrases.proofs.Fronts.{Front, Anything}
+use Rattle.grammar_phrases.proofs.Places.{at_place}
 use Rattle.written_entities.proofs.Spelling.{Spells, joins, behind}
 use Rattle.written_entities.proofs.Words.{Ends, IsLetter, part, below_word}
 

@@ -14,8 +14,8 @@ use Rattle.vhdl_text.specs.VhdlDeclarations.{name_of_port, port_names}
 use Rattle.vhdl_text.specs.VhdlNames.{kept, port_of, input_of, an_input}
 use Rattle.vhdl_text.specs.WellFormed.{IsPortName, AreApart, IsWellFormedEntity}
 use Rattle.vhdl_writer.specs.Names.{port_at}
-use Rattle.written_modules.proofs.Derivations.{Reads}
-use Rattle.written_modules.proofs.NetReading.{item_at, all_at}
+use Rattle.grammar_phrases.proofs.Derivations.{Reads}
+use Rattle.grammar_phrases.proofs.Places.{item_at, all_at}
 use Rattle.written_entities.proofs.Words.{IsNamed, port_named}
 use Rattle.written_entities.proofs.NameReading.{same_self, known_as, is_new, first_place}
 

@@ -20,7 +20,7 @@ use Rattle.vital_models.specs.Kept.{is_taken, is_kept_port_name, port_name}
 use Rattle.vital_models.specs.Ports.{is_port, port_after, ports_after}
 use Rattle.vital_models.specs.Generated.{entity_of}
 use Rattle.vhdl_writer.specs.Names.{port_at}
-use Rattle.written_modules.proofs.NetReading.{all_at}
+use Rattle.grammar_phrases.proofs.Places.{all_at}
 use Rattle.written_entities.specs.Laws.{IsAssignable, AreAssignable}
 
 -- another name than that of the procedure

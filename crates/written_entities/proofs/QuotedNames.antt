@@ -8,7 +8,7 @@ use Rattle.std.proofs.Math.Seq.{take-append_seam}
 use Rattle.vhdl_tokens.specs.Tokens.{is_name_byte, later, string_rest, token_length}
 use Rattle.vhdl_tokens.specs.Spelling.{text_of, is_quoted}
 use Rattle.vhdl_tokens.proofs.Padding.{over_token}
-use Rattle.written_modules.proofs.Spelling.{Front, Anything}
+use Rattle.grammar_phrases.proofs.Fronts.{Front, Anything}
 use Rattle.written_entities.proofs.Spelling.{Spells, behind}
 use Rattle.written_entities.proofs.Words.{IsNamed}
 use Rattle.written_entities.proofs.NameReading.{same_case}

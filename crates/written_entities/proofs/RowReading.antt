@@ -25,9 +25,9 @@ use Rattle.vhdl_tokens.specs.Spelling.{is_same}
 use Rattle.vhdl_text.specs.VhdlRules.{expect, begins}
 use Rattle.vhdl_text.specs.VhdlTables.{level_of, symbol_of, is_edge, next_by, next_symbol, symbols, state_in, next_in, state_row_with, state_row_of, row_end, is_as_long_as_state_rows, state_row, next_level, levels, value_of, truth_row_with, truth_row_of, is_as_long_as_truth_rows, truth_row}
 use Rattle.vhdl_writer.specs.Tables.{level_text, symbol_text, next_text, value_text}
-use Rattle.written_modules.proofs.Spelling.{each}
-use Rattle.written_modules.proofs.Derivations.{Reads, from_same, to_same, gives, token, in_turn, turn, turns, no_turn}
-use Rattle.written_modules.proofs.PrimitiveReading.{get_at}
+use Rattle.grammar_phrases.proofs.Fronts.{each}
+use Rattle.grammar_phrases.proofs.Derivations.{Reads, from_same, to_same, gives, token, in_turn, turn, turns, no_turn}
+use Rattle.grammar_phrases.proofs.Places.{get_at}
 use Rattle.written_entities.proofs.TableTokens.{level_front, symbol_front, truth_row_front, state_row_front}
 
 -- a token that must stand here

@@ -11,10 +11,9 @@ use Rattle.vhdl_text.specs.VhdlDeclarations.{port_names, input_names, listed_nam
 use Rattle.vhdl_text.specs.WellFormed.{IsPortName, IsWellFormedEntity}
 use Rattle.vhdl_writer.specs.Joined.{numbered_texts}
 use Rattle.vhdl_writer.specs.Declarations.{is_input, first_input, signal_start, signal_text, signals_end, process_text}
-use Rattle.written_modules.proofs.Spelling.{Front, Anything, each}
-use Rattle.written_modules.proofs.Derivations.{Reads, to_same, gives, in_turn, turn, through}
-use Rattle.written_modules.proofs.NameReading.{at_place}
-use Rattle.written_modules.proofs.PrimitiveReading.{get_at, one_longer, goes_on}
+use Rattle.grammar_phrases.proofs.Fronts.{Front, Anything, each}
+use Rattle.grammar_phrases.proofs.Derivations.{Reads, to_same, gives, in_turn, turn, through, goes_on}
+use Rattle.grammar_phrases.proofs.Places.{at_place, get_at, one_longer}
 use Rattle.written_entities.proofs.Spelling.{Spells, joins, behind, nothing, literal}
 use Rattle.written_entities.proofs.Words.{Ends, IsNamed, word, name, port_named}
 use Rattle.written_entities.proofs.NameReading.{expected, so_named}

@@ -4,7 +4,7 @@ use Rattle.vhdl_tokens.specs.Tokens.{scan}
 use Rattle.vhdl_tokens.specs.Separators.{spelled}
 use Rattle.vhdl_tokens.proofs.Padding.{Found, any_offset}
 use Rattle.vhdl_writer.specs.Joined.{numbered_texts}
-use Rattle.written_modules.proofs.Spelling.{Front, in_front, Anything, each}
+use Rattle.grammar_phrases.proofs.Fronts.{Front, in_front, Anything, each}
 
 -- the tokens of bytes, behind a name or not
 abbrev pub found : Bool → List ℕ → Found

@@ -10,9 +10,9 @@ use Rattle.vital_models.specs.declared.table.VStateTable.{VStateTable}
 use Rattle.vhdl_text.specs.VhdlRules.{elements, only_element, several_elements, more_elements}
 use Rattle.vhdl_text.specs.VhdlTables.{is_as_long_as_state_rows, state_row, state_table, is_as_long_as_truth_rows, truth_row, truth_table}
 use Rattle.vhdl_text.specs.WellFormed.{HasOneEdge}
-use Rattle.written_modules.proofs.Spelling.{Front, each}
-use Rattle.written_modules.proofs.Derivations.{Reads, gives, in_turn, chosen, passed, turn, through}
-use Rattle.written_modules.proofs.NameReading.{at_place}
+use Rattle.grammar_phrases.proofs.Fronts.{Front, each}
+use Rattle.grammar_phrases.proofs.Derivations.{Reads, gives, in_turn, chosen, passed, turn, through}
+use Rattle.grammar_phrases.proofs.Places.{at_place}
 use Rattle.written_entities.proofs.TableTokens.{truth_row_front, state_row_front, rows_front}
 use Rattle.written_entities.proofs.RowReading.{expected, truth_row_read, state_row_read}
 

@@ -16,8 +16,8 @@ use Rattle.vhdl_text.specs.VhdlTables.{truth_table, state_table}
 use Rattle.vhdl_text.specs.VhdlText.{text_tokens, lexical_place}
 use Rattle.vhdl_text.specs.WellFormed.{HasOneEdge, IsWrittenState}
 use Rattle.vhdl_writer.specs.Tables.{truth_rows_text, state_rows_text}
-use Rattle.written_modules.proofs.Spelling.{Anything}
-use Rattle.written_modules.proofs.PrimitiveText.{none_if}
+use Rattle.grammar_phrases.proofs.Fronts.{Anything}
+use Rattle.grammar_phrases.proofs.Places.{none_if}
 use Rattle.written_entities.specs.Laws.{truth_table_text, state_table_text, IsTruthTableText, IsStateTableText, TruthTableReadBack, StateTableReadBack}
 use Rattle.written_entities.proofs.Spelling.{Spells, behind, found}
 use Rattle.written_entities.proofs.TableTokens.{opened, closed, truth_row_front, state_row_front, rows_front, truth_rows, state_rows}

@@ -25,8 +25,8 @@ use Rattle.vhdl_text.specs.VhdlRules.{begins, this_number}
 use Rattle.vhdl_text.specs.VhdlTables.{state_width}
 use Rattle.vhdl_text.specs.VhdlDeclarations.{last_true, is_last_false, VariableOf, Check, Violation, State, Output, Glitch, is_before_states, awaits_violation, output_count, variable_of, variable_by, is_period_type, first_data, check_variables, violation_variable, width_at, state_variables, output_variable, glitch_variable, variable, are_declared, variables}
 use Rattle.vhdl_text.specs.WellFormed.{IsNumber, IsWrittenState, IsWellFormedEntity}
-use Rattle.written_modules.proofs.Derivations.{Reads, to_same, gives, token, in_turn, no_turn, turn, turns}
-use Rattle.written_modules.proofs.PrimitiveReading.{get_at, one_longer, goes_on}
+use Rattle.grammar_phrases.proofs.Derivations.{Reads, to_same, gives, token, in_turn, no_turn, turn, turns, goes_on}
+use Rattle.grammar_phrases.proofs.Places.{get_at, one_longer}
 use Rattle.written_entities.proofs.Words.{IsNamed, of_state, of_columns, of_report, of_data, of_output, of_glitch, number, part_named, below_word}
 use Rattle.written_entities.proofs.NameReading.{same_self, expected, three_expected, five_expected, six_expected, eight_expected, so_named, this_number_read}
 use Rattle.written_entities.proofs.Counting.{counted, over}

@@ -8,9 +8,9 @@ use Rattle.vhdl_text.specs.VhdlChecks.{checks, next_report, any_report, violatio
 use Rattle.vhdl_text.specs.WellFormed.{IsWellFormedEntity}
 use Rattle.vhdl_writer.specs.Joined.{apart_text}
 use Rattle.vhdl_writer.specs.Statements.{report_text, reports_text, violation_text}
-use Rattle.written_modules.proofs.Spelling.{Front, Anything}
-use Rattle.written_modules.proofs.Derivations.{Reads, to_same, gives, in_turn, no_turn, turn, turns}
-use Rattle.written_modules.proofs.PrimitiveReading.{one_longer, goes_on}
+use Rattle.grammar_phrases.proofs.Fronts.{Front, Anything}
+use Rattle.grammar_phrases.proofs.Derivations.{Reads, to_same, gives, in_turn, no_turn, turn, turns, goes_on}
+use Rattle.grammar_phrases.proofs.Places.{one_longer}
 use Rattle.written_entities.proofs.Spelling.{Spells, joins, behind, nothing, literal}
 use Rattle.written_entities.proofs.Words.{Ends, of_report, part, below_word}
 use Rattle.written_entities.proofs.NameReading.{expected, two_expected, part_read}

@@ -23,8 +23,9 @@ use Rattle.rule_readers.specs.Words.{begins_as}
 use Rattle.verilog_writer.specs.Nets.{port_at, wire_at, notifier_in}
 use Rattle.written_modules.proofs.Words.{number_is, unlike_word}
 use Rattle.written_modules.proofs.TimingTokens.{IsNamedCondition, IsNamedCheck, edge_tokens, event_tokens, condition_tokens, end_tokens, ordered_tokens, turned_tokens, width_tokens, period_tokens, check_word, check_more, check_tokens}
-use Rattle.written_modules.proofs.Derivations.{Reads, to_same, gives, token, in_turn, chosen, passed, Turn, turn}
-use Rattle.written_modules.proofs.NameReading.{expected, so_named, at_place}
+use Rattle.grammar_phrases.proofs.Derivations.{Reads, to_same, gives, token, in_turn, chosen, passed, Turn, turn}
+use Rattle.written_modules.proofs.NameReading.{expected, so_named}
+use Rattle.grammar_phrases.proofs.Places.{at_place}
 use Rattle.written_modules.proofs.RowReading.{same_number as equal_numbers}
 use Rattle.written_modules.proofs.NetReading.{IsKnown, named_net, input_known, register_known}
 use Rattle.written_modules.proofs.InstanceReading.{IsWritten}

@@ -8,11 +8,12 @@ use Rattle.udp_tables.specs.VerilogRules.{begins}
 use Rattle.specify_blocks.specs.VerilogModules.{port_names, declared_wire, declared_wires, declared_notifier, notifier, declarations}
 use Rattle.specify_blocks.specs.declared.model.VModule.{VModule}
 use Rattle.specify_blocks.specs.WellFormed.{IsName, AreApart, register_names}
-use Rattle.written_modules.proofs.Spelling.{Front, each}
+use Rattle.grammar_phrases.proofs.Fronts.{Front, each}
 use Rattle.written_modules.proofs.PrimitiveTokens.{declared}
 use Rattle.written_modules.proofs.ModuleTokens.{IsNamedPort, IsNamed, listed, declared_where, output_tokens, register_tokens, declaration_tokens}
-use Rattle.written_modules.proofs.Derivations.{Reads, gives, in_turn, chosen, passed, Turn, turn, through}
-use Rattle.written_modules.proofs.NameReading.{expected, newly_named, at_place, is_new}
+use Rattle.grammar_phrases.proofs.Derivations.{Reads, gives, in_turn, chosen, passed, Turn, turn, through}
+use Rattle.written_modules.proofs.NameReading.{expected, newly_named, is_new}
+use Rattle.grammar_phrases.proofs.Places.{at_place}
 use Rattle.written_modules.proofs.PortReading.{ArePorts, header_read, inputs_read, outputs_read}
 
 -- Other tokens than a word.

@@ -14,12 +14,13 @@ use Rattle.specify_blocks.proofs.VerilogAnswers.{is_answer}
 use Rattle.rule_readers.specs.Words.{begins_by}
 use Rattle.verilog_writer.specs.Model.{prelude_text, module_text}
 use Rattle.written_modules.specs.Laws.{modules_text, ReadBack}
-use Rattle.written_modules.proofs.Spelling.{Front, found, Spells, Anything, behind, each, each_spelled, literal}
+use Rattle.written_modules.proofs.Spelling.{found, Spells, behind, each_spelled, literal}
+use Rattle.grammar_phrases.proofs.Fronts.{Front, Anything, each}
 use Rattle.written_modules.proofs.PrimitiveTokens.{primitive_tokens, primitive_spelled}
 use Rattle.written_modules.proofs.PrimitiveReading.{primitive_read}
-use Rattle.written_modules.proofs.Derivations.{Reads, to_same, gives, in_turn, Turn, turn, through}
-use Rattle.written_modules.proofs.NameReading.{expected, at_place, is_new}
-use Rattle.written_modules.proofs.PrimitiveText.{none_if}
+use Rattle.grammar_phrases.proofs.Derivations.{Reads, to_same, gives, in_turn, Turn, turn, through}
+use Rattle.written_modules.proofs.NameReading.{expected, is_new}
+use Rattle.grammar_phrases.proofs.Places.{at_place, none_if}
 use Rattle.written_modules.proofs.NetReading.{apart_tail}
 use Rattle.written_modules.proofs.ModuleReading.{module_more, module_tokens, module_spelled, module_read}
 

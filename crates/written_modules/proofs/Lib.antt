@@ -1,6 +1,5 @@
 pub mod Spelling
 pub mod Words
-pub mod Derivations
 pub mod PrimitiveTokens
 pub mod NameReading
 pub mod RowReading

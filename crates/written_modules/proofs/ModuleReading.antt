@@ -23,15 +23,17 @@ use Rattle.specify_blocks.specs.WellFormed.{IsName, AreApart, IsWellFormedUdp, I
 use Rattle.rule_readers.specs.declared.refusal.Refusal.TheVariants.{Undriven}
 use Rattle.verilog_writer.specs.Timing.{has_block}
 use Rattle.verilog_writer.specs.Model.{module_only_text}
-use Rattle.written_modules.proofs.Spelling.{Front, Spells, Anything, behind, each, each_spelled, literal}
+use Rattle.written_modules.proofs.Spelling.{Spells, behind, each_spelled, literal}
+use Rattle.grammar_phrases.proofs.Fronts.{Front, Anything, each}
 use Rattle.written_modules.proofs.Words.{unlike_word}
-use Rattle.written_modules.proofs.Derivations.{Reads, gives, in_turn}
+use Rattle.grammar_phrases.proofs.Derivations.{Reads, gives, in_turn}
 use Rattle.written_modules.proofs.NameReading.{expected_where, newly_named}
-use Rattle.written_modules.proofs.PrimitiveReading.{get_at, one_longer, both}
+use Rattle.written_modules.proofs.PrimitiveReading.{both}
+use Rattle.grammar_phrases.proofs.Places.{get_at, one_longer, all_at}
 use Rattle.written_modules.proofs.ModuleTokens.{IsNamedPort, IsNamed, IsNamedNet, AreNamed, listed, declaration_tokens, instance_tokens, header_spelled, declarations_spelled, instance_spelled}
 use Rattle.written_modules.proofs.TimingTokens.{block_by, block_tokens, block_spelled}
 use Rattle.written_modules.proofs.DeclarationReading.{AreDeclared, Other, EndsDeclarations, declarations_read}
-use Rattle.written_modules.proofs.NetReading.{all_at, named_net, driven_known, DrivesNet}
+use Rattle.written_modules.proofs.NetReading.{named_net, driven_known, DrivesNet}
 use Rattle.written_modules.proofs.InstanceReading.{IsWritten, drives_by, drives_net, feeding_known, primitive_name, instances_read}
 use Rattle.written_modules.proofs.PathReading.{path_named}
 use Rattle.written_modules.proofs.CheckReading.{HasNumber, check_named}

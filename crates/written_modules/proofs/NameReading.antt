@@ -6,11 +6,9 @@ use Rattle.rule_readers.specs.declared.refusal.Refusal.{Refusal}
 use Rattle.udp_tables.specs.VerilogRules.{expect, expect_where, any_name, is_among, new_name, known, this_name}
 use Rattle.specify_blocks.specs.WellFormed.{IsName, AreApart}
 use Rattle.specify_blocks.proofs.ReadNames.{bytes_equivalence}
-use Rattle.written_modules.proofs.Derivations.{Reads, token}
+use Rattle.grammar_phrases.proofs.Places.{at_place, same_bytes}
+use Rattle.grammar_phrases.proofs.Derivations.{Reads, token}
 use Rattle.written_modules.proofs.Words.{name_is}
-
-pub same_bytes : (x : List ℕ) → bytes_eq x x ≡ true
-same_bytes x = bytes_equivalence.refl x
 
 pub expected : {text : List ℕ} {s : List (List ℕ)} → Reads (expect text) (text ∷ s) tt s
 expected {text = text} = token (rw (same_bytes text) refl)
@@ -31,10 +29,6 @@ pub so_named : (name : Option (List ℕ)) {x : List ℕ} {s : List (List ℕ)} �
 so_named name {x = x} n e = token (rw (name_is x n, e, same_bytes x) refl)
 
 -- Names of which none stands twice.
-
-pub at_place : {A : Type 0} (P : A → Type 0) (before : List A) (x : A) (after : List A) → AllByRecursion P (before ++ x ∷ after) → P x
-at_place P [] x after h = h.0
-at_place P (y ∷ before) x after h = at_place P before x after h.1
 
 -- a name among others is none of those before it
 pub is_new : (before : List (List ℕ)) (x : List ℕ) (after : List (List ℕ)) → AreApart (before ++ x ∷ after) → is_among before x ≡ false

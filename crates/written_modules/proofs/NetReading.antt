@@ -18,31 +18,10 @@ use Rattle.specify_blocks.specs.Nets.{same_net, is_input_port, is_output_port, i
 use Rattle.specify_blocks.specs.VerilogModules.{port_name, port_names, net_by, net_of}
 use Rattle.specify_blocks.specs.WellFormed.{IsName, AreApart, register_names}
 use Rattle.verilog_writer.specs.Nets.{notifier_in, net_at}
-use Rattle.written_modules.proofs.NameReading.{same_bytes, at_place, is_new}
-use Rattle.written_modules.proofs.PortReading.{found_behind}
+use Rattle.written_modules.proofs.NameReading.{is_new}
+use Rattle.grammar_phrases.proofs.Places.{same_bytes, found_behind, item_at, all_at}
 use Rattle.written_modules.proofs.ModuleTokens.{IsNamedPort, IsNamed}
 use Rattle.written_modules.proofs.DeclarationReading.{AreDeclared}
-
--- Items by their numbers.
-
--- the item with a number, between others
-pub record IsAt {A : Type 0} (xs : List A) (i : ℕ) (x : A) : Type 0 where
-  pub before : List A
-  pub after : List A
-  pub split : xs ≡ before ++ x ∷ after
-  pub place : length before ≡ i
-
-pub item_at : {A : Type 0} (xs : List A) (i : ℕ) (x : A) → slice_get xs i ≡ Some x → IsAt xs i x
-item_at [] i x e = absurd cc
-item_at (y ∷ xs) zero x e =
-    let same : y ≡ x = cc in
-    record { before = []; after = xs; split = ap (λ z. z ∷ xs) same; place = refl }
-item_at (y ∷ xs) (suc i) x e =
-    let at = item_at xs i x e in
-    record { before = y ∷ at.before; after = at.after; split = ap (λ l. y ∷ l) at.split; place = ap (λ n. suc n) at.place }
-
-pub all_at : {A : Type 0} (P : A → Type 0) (xs : List A) (i : ℕ) (x : A) → AllByRecursion P xs → slice_get xs i ≡ Some x → P x
-all_at P xs i x all e = let at = item_at xs i x e in at_place P at.before x at.after (subst (AllByRecursion P) at.split all)
 
 among_names : {A : Type 0} (name : A → List ℕ) (x : List ℕ) (ys : List A) → list_any (λ y. bytes_eq x (name y)) ys ≡ is_among (map name ys) x
 among_names name x [] = refl

@@ -19,8 +19,9 @@ use Rattle.rule_readers.specs.Words.{begins_by, allowed_by}
 use Rattle.verilog_writer.specs.Nets.{port_at, wire_at}
 use Rattle.written_modules.proofs.Words.{number_is}
 use Rattle.written_modules.proofs.TimingTokens.{IsNamedGate, IsNamedPath, gate_start, gate_more, delay_tokens, path_tokens}
-use Rattle.written_modules.proofs.Derivations.{Reads, gives, token, in_turn, Turn, turn}
-use Rattle.written_modules.proofs.NameReading.{expected, known_as, at_place}
+use Rattle.grammar_phrases.proofs.Derivations.{Reads, gives, token, in_turn, Turn, turn}
+use Rattle.written_modules.proofs.NameReading.{expected, known_as}
+use Rattle.grammar_phrases.proofs.Places.{at_place}
 use Rattle.written_modules.proofs.NetReading.{position_is, IsKnown, named_net, wire_position, input_known, output_known, value_known}
 use Rattle.written_modules.proofs.InstanceReading.{so_far, IsWritten, all_drive}
 

@@ -11,13 +11,13 @@ use Rattle.udp_tables.specs.declared.models.VPort.{VPort}
 use Rattle.udp_tables.specs.VerilogRules.{begins, is_among, place_from}
 use Rattle.specify_blocks.specs.VerilogModules.{port_name, port_names, plain_port, input_port, next_port, more_ports, some_ports, header, Inputs, with_input, input_at, declared_input, declared_inputs, output_place, name_at, place_behind, declared_output, declared_outputs}
 use Rattle.specify_blocks.specs.WellFormed.{IsName, AreApart}
-use Rattle.written_modules.proofs.Spelling.{each}
+use Rattle.grammar_phrases.proofs.Fronts.{each}
 use Rattle.written_modules.proofs.Words.{name_is}
-use Rattle.written_modules.proofs.PrimitiveReading.{get_at, one_longer, goes_on}
+use Rattle.grammar_phrases.proofs.Derivations.{goes_on, Reads, from_same, gives, in_turn, chosen, passed, no_turn, Turn, turn, turns, through}
+use Rattle.grammar_phrases.proofs.Places.{get_at, one_longer, at_place, same_bytes, found_behind}
 use Rattle.written_modules.proofs.ModuleTokens.{IsNamedPort, listed, input_tokens, output_tokens}
 use Rattle.written_modules.proofs.ModuleTokens as tokens
-use Rattle.written_modules.proofs.Derivations.{Reads, from_same, gives, in_turn, chosen, passed, no_turn, Turn, turn, turns, through}
-use Rattle.written_modules.proofs.NameReading.{expected, newly_named, known_as, so_named, same_bytes, at_place, is_new}
+use Rattle.written_modules.proofs.NameReading.{expected, newly_named, known_as, so_named, is_new}
 
 -- ports of which no name stands twice, before other names
 pub record ArePorts (ports : List VPort) (others : List (List ℕ)) : Type 0 where
@@ -67,18 +67,6 @@ unfolding header
 header_read ports others s h = in_turn expected (in_turn (ports_read ports others (codes ";" ∷ s) h) (in_turn expected (in_turn expected gives)))
 
 -- The place of a name.
-
-pub found_behind : {A : Type 0} (test : A → Bool) (i : ℕ) (before : List A) (x : A) (after : List A) → list_any test before ≡ false → test x ≡ true
-    → position_from test i (before ++ x ∷ after) ≡ Some (i + length before)
-found_behind test i [] x after none here = let same : i ≡ i + 0 = omega arith in rw here (ap (λ (n : ℕ). Some n) same)
-found_behind test i (y ∷ before) x after none here = by (λ h. found_behind test (i + 1) before x after h here) (test y) refl none
-  where
-    by : (list_any test before ≡ false → position_from test (i + 1) (before ++ x ∷ after) ≡ Some (i + 1 + length before)) → (t : Bool) → test y ≡ t → (t || list_any test before) ≡ false
-        → cond (test y) (Some i) (position_from test (i + 1) (before ++ x ∷ after)) ≡ Some (i + length (y ∷ before))
-    by rest true e h = absurd cc
-    by rest false e h =
-        let next : i + 1 + length before ≡ i + length (y ∷ before) = omega arith in
-        rw e (rest h ∙ ap (λ (n : ℕ). Some n) next)
 
 found_from : {A : Type 0} (test : A → Bool) (i k : ℕ) (before : List A) (x : A) (after : List A) → k ≤ length before → list_any test before ≡ false → test x ≡ true
     → position_from test (i + k) (drop k (before ++ x ∷ after)) ≡ Some (i + length before)

@@ -9,14 +9,14 @@ use Rattle.udp_tables.specs.Primitive.{is_level}
 use Rattle.udp_tables.specs.Sequential.{changes_in}
 use Rattle.udp_tables.specs.VerilogRules.{begins, is_among}
 use Rattle.rule_readers.specs.declared.refusal.Refusal.TheVariants.{Width}
-use Rattle.rule_readers.specs.Words.{go_on_where}
 use Rattle.udp_tables.specs.VerilogPrimitives.{Header, most_inputs, most_inputs_with_state, next_input, more_inputs, header, declared_output, declared_state, register, declared_input, declared_inputs, begins_row, next_row, table, primitive}
 use Rattle.specify_blocks.specs.Sound.{IsTable}
 use Rattle.specify_blocks.specs.WellFormed.{IsName, AreApart, HasNoState, HasNoStates, IsWellFormedUdp, most_inputs_of}
-use Rattle.written_modules.proofs.Spelling.{Front, each}
+use Rattle.grammar_phrases.proofs.Fronts.{Front, each}
 use Rattle.written_modules.proofs.PrimitiveTokens.{next_name, declared, output_tokens, row_tokens}
-use Rattle.written_modules.proofs.Derivations.{Reads, from_same, gives, token, in_turn, chosen, passed, Turn, turn, through}
-use Rattle.written_modules.proofs.NameReading.{expected, expected_where, any_named, newly_named, so_named, at_place, is_new}
+use Rattle.grammar_phrases.proofs.Derivations.{Reads, from_same, gives, token, in_turn, chosen, passed, Turn, turn, through, goes_on}
+use Rattle.written_modules.proofs.NameReading.{expected, expected_where, any_named, newly_named, so_named, is_new}
+use Rattle.grammar_phrases.proofs.Places.{at_place, get_at, one_longer}
 use Rattle.written_modules.proofs.RowReading.{IsRow, row_begun, same_number}
 
 -- Headers.
@@ -77,13 +77,6 @@ unfolding register_tokens
 with_output true output s = refl
 with_output false output s = refl
 
-pub get_at : {A : Type 0} (before : List A) (x : A) (after : List A) → slice_get (before ++ x ∷ after) (length before) ≡ Some x
-get_at [] x after = refl
-get_at (y ∷ before) x after = get_at before x after
-
-pub one_longer : {A : Type 0} (before : List A) (x : A) → length before + 1 ≡ length (before ++ x ∷ [])
-one_longer before x = sym (length-append before (x ∷ []))
-
 declaration_turn : (inputs : List (List ℕ)) → AllByRecursion IsName inputs → (before : List (List ℕ)) (x : List ℕ) (after s : List (List ℕ)) → before ++ x ∷ after ≡ inputs
     → Turn (λ _. begins (codes "input")) (λ n _. declared_input inputs n) (length before) (declared (codes "input") x s) (length (before ++ x ∷ [])) s
 unfolding declared_input
@@ -92,10 +85,6 @@ declaration_turn inputs names before x after s same =
     let n : IsName x = at_place IsName before x after (subst (AllByRecursion IsName) (sym same) names) in
     subst (λ (k : ℕ). Turn (λ _. begins (codes "input")) (λ n _. declared_input inputs n) (length before) (declared (codes "input") x s) k s) (one_longer before x)
     (turn refl (in_turn (so_named (slice_get inputs (length before)) n here) (in_turn expected gives)))
-
-pub goes_on : (b : Bool) (s : List (List ℕ)) → b ≡ true → Reads (go_on_where b) s tt s
-goes_on true s e = gives
-goes_on false s e = absurd cc
 
 declarations_read : (inputs s : List (List ℕ)) → AllByRecursion IsName inputs → Reads (declared_inputs inputs) (each (declared (codes "input")) inputs (codes "table" ∷ s)) tt (codes "table" ∷ s)
 unfolding declared_inputs

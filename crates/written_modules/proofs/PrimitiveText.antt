@@ -14,10 +14,7 @@ use Rattle.written_modules.specs.Laws.{IsPrimitiveText, PrimitiveReadBack}
 use Rattle.written_modules.proofs.Spelling.{found}
 use Rattle.written_modules.proofs.PrimitiveTokens.{primitive_tokens, primitive_spelled}
 use Rattle.written_modules.proofs.PrimitiveReading.{udp_more, primitive_read}
-
-pub none_if : (o : Option ℕ) → is_some o ≡ false → o ≡ None
-none_if None h = refl
-none_if (Some at) h = absurd cc
+use Rattle.grammar_phrases.proofs.Places.{none_if}
 
 text_found : (udp : Udp) → IsWellFormedUdp udp → found false (primitive_text udp) ≡ (primitive_tokens udp [], false)
 text_found udp w = ap (found false) (sym (append-nil (primitive_text udp))) ∙ (primitive_spelled udp w).is [] tt

@@ -4,13 +4,7 @@ use Rattle.std.specs.List.{AllByRecursion}
 use Rattle.verilog_tokens.specs.Tokens.{is_blank, is_mark, scan}
 use Rattle.verilog_tokens.specs.Separators.{spelled}
 use Rattle.verilog_tokens.proofs.Padding.{Found, any_offset}
-
--- tokens in front of others
-abbrev pub Front : Type 0
-Front = List (List ℕ) → List (List ℕ)
-
-abbrev pub in_front : Front → Found → Found
-in_front f found = (f found.0, found.1)
+use Rattle.grammar_phrases.proofs.Fronts.{Front, in_front, Anything, each, each_begins}
 
 -- the tokens of bytes, in a table or outside
 abbrev pub found : Bool → List ℕ → Found
@@ -19,10 +13,6 @@ found t text = spelled (scan t 0 0 text)
 -- Before bytes that pass a test the text is these tokens. The flags say whether a table is open before and after it.
 pub record Spells (P : List ℕ → Type 0) (t : Bool) (text : List ℕ) (f : Front) (u : Bool) : Type 0 where
   pub is : (r : List ℕ) → P r → found t (text ++ r) ≡ in_front f (found u r)
-
--- any bytes
-abbrev pub Anything : List ℕ → Type 0
-Anything r = Unit {0}
 
 -- a blank or a mark follows, or nothing
 abbrev pub Ends : List ℕ → Type 0
@@ -43,15 +33,6 @@ behind h i = joins h (λ r q. tt) i
 -- no text
 pub nothing : {P : List ℕ → Type 0} {t : Bool} → Spells P t [] (λ s. s) t
 nothing = record { is = λ r p. refl }
-
--- the tokens of each
-abbrev pub each : {A : Type 0} → (A → Front) → List A → Front
-each f [] s = s
-each f (x ∷ xs) s = f x (each f xs s)
-
-pub each_begins : {A : Type 0} (P : List ℕ → Type 0) (text : A → List ℕ) → ((x : A) (r : List ℕ) → P r → P (text x ++ r)) → (xs : List A) (r : List ℕ) → P r → P (flat_map text xs ++ r)
-each_begins P text h [] r p = p
-each_begins P text h (x ∷ xs) r p = subst P (sym (append_assoc (text x) (flat_map text xs) r)) (h x (flat_map text xs ++ r) (each_begins P text h xs r p))
 
 -- texts one behind the other
 pub each_spelled : {A : Type 0} {P : List ℕ → Type 0} {t : Bool} {text : A → List ℕ} {f : A → Front} (Q : A → Type 0) → ((x : A) → Q x → Spells P t (text x) (f x) t)

@@ -1,11 +1,11 @@
 -- What a rule takes, put together from what its parts take.
-use Rattle.std.proofs.Common.{◌≡◌, ℕ, zero, suc, List, [], ◌∷◌, ◌++◌, inl, inr, Option, Some, refl, sym, ◌∙◌, subst, append_assoc}
+use Rattle.std.proofs.Common.{◌≡◌, ℕ, zero, suc, Bool, true, false, List, [], ◌∷◌, ◌++◌, inl, inr, Option, Some, refl, sym, ◌∙◌, subst, append_assoc}
 use Rattle.std.proofs.lemmas.List.{append-nil}
 use Rattle.grammar_rules.specs.Rule.{Verdict, Fits, Takes, Stops}
 use Rattle.grammar_rules.specs.Rule as r
 use Rattle.rule_readers.specs.declared.refusal.Refusal.{Refusal}
-use Rattle.rule_readers.specs.Words.{Grammar}
-use Rattle.written_modules.proofs.Spelling.{Front, each}
+use Rattle.rule_readers.specs.Words.{Grammar, go_on_where}
+use Rattle.grammar_phrases.proofs.Fronts.{Front, each}
 
 -- the rule takes a phrase with this value from the tokens, and leaves the others
 pub record Reads {A : Type 0} (p : Grammar A) (s : List (List ℕ)) (a : A) (left : List (List ℕ)) : Type 0 where
@@ -73,3 +73,8 @@ through {f = f} {g = g} state tokens done (x ∷ todo) step s stop =
     let rest : Reads (r.Many f g (state (done ++ x ∷ []))) (each tokens todo s) (state ((done ++ x ∷ []) ++ todo)) s =
     through state tokens (done ++ x ∷ []) todo (λ before y after q e. step before y after q (e ∙ same)) s (subst (λ (d : List _). Stops (f (state d)) s) (sym same) stop) in
     turns (step done x todo (each tokens todo s) refl) (subst (λ (d : List _). Reads (r.Many f g (state (done ++ x ∷ []))) (each tokens todo s) (state d) s) same rest)
+
+-- a count that passes its test
+pub goes_on : (b : Bool) (s : List (List ℕ)) → b ≡ true → Reads (go_on_where b) s tt s
+goes_on true s e = gives
+goes_on false s e = absurd cc

@@ -1,6 +1,6 @@
 //! Calls on the desk that fail, each in turn: what was written then is the front of what is written without.
 use crate::library_desk::translated;
-use crate::three_cells::{THREE_CELLS, THREE_LINES, TWO_MODULES};
+use crate::three_cells::{THREE_CELLS, THREE_LINES, TWO_ENTITIES, TWO_MODULES};
 use std::alloc::Global;
 use std::test::Fail;
 use text_io::{MemoryDesk, OutSlot};
@@ -11,7 +11,9 @@ fn has_fronts(desk: &MemoryDesk) -> bool {
     TWO_MODULES
         .as_bytes()
         .starts_with(desk.written(OutSlot::VerilogText))
-        && desk.written(OutSlot::VitalText).is_empty()
+        && TWO_ENTITIES
+            .as_bytes()
+            .starts_with(desk.written(OutSlot::VitalText))
         && THREE_LINES
             .as_bytes()
             .starts_with(desk.written(OutSlot::Report))
@@ -44,7 +46,12 @@ fn each_call_that_fails_leaves_a_front(rt: HostRuntime) -> Result<(), Fail> {
 fn a_file_that_cannot_be_made_ends_the_run(rt: HostRuntime) -> Result<(), Fail> {
     let (status, desk) = translated(rt.alloc(), THREE_CELLS.as_bytes(), &[2], usize::MAX)?;
     assert_eq!(rt; status.code(), 7);
-    for slot in [OutSlot::VerilogText, OutSlot::Report, OutSlot::Faults] {
+    for slot in [
+        OutSlot::VerilogText,
+        OutSlot::VitalText,
+        OutSlot::Report,
+        OutSlot::Faults,
+    ] {
         assert_eq!(rt; desk.written(slot), b"".as_slice());
     }
     Ok(())

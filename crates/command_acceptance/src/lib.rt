@@ -4,6 +4,8 @@
 #[cfg(test)]
 mod cut_libraries;
 #[cfg(test)]
+mod entity_texts;
+#[cfg(test)]
 mod failing_calls;
 #[cfg(test)]
 mod far_reading;

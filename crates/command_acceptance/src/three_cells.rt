@@ -59,6 +59,69 @@ module BUF (A, Y);
 endmodule
 ";
 
+/// The VHDL file with the first cell.
+pub(crate) const ONE_ENTITY: &str = "library IEEE;
+use IEEE.std_logic_1164.all;
+use IEEE.VITAL_Timing.all;
+use IEEE.VITAL_Primitives.all;
+entity INV is
+  port (A : in std_ulogic; Y : out std_ulogic);
+end INV;
+architecture vital of INV is
+  constant k_1 : VitalTruthTableType := (
+    ('0', '1'),
+    ('1', '0'));
+begin
+  process (A)
+    variable z_1 : std_logic := 'X';
+  begin
+    z_1 := VitalTruthTable (TruthTable => k_1, DataIn => (0 => A));
+    Y <= z_1;
+  end process;
+end vital;
+";
+
+/// The VHDL file with the first and the third cell.
+pub(crate) const TWO_ENTITIES: &str = "library IEEE;
+use IEEE.std_logic_1164.all;
+use IEEE.VITAL_Timing.all;
+use IEEE.VITAL_Primitives.all;
+entity INV is
+  port (A : in std_ulogic; Y : out std_ulogic);
+end INV;
+architecture vital of INV is
+  constant k_1 : VitalTruthTableType := (
+    ('0', '1'),
+    ('1', '0'));
+begin
+  process (A)
+    variable z_1 : std_logic := 'X';
+  begin
+    z_1 := VitalTruthTable (TruthTable => k_1, DataIn => (0 => A));
+    Y <= z_1;
+  end process;
+end vital;
+library IEEE;
+use IEEE.std_logic_1164.all;
+use IEEE.VITAL_Timing.all;
+use IEEE.VITAL_Primitives.all;
+entity BUF is
+  port (A : in std_ulogic; Y : out std_ulogic);
+end BUF;
+architecture vital of BUF is
+  constant k_1 : VitalTruthTableType := (
+    ('1', '1'),
+    ('0', '0'));
+begin
+  process (A)
+    variable z_1 : std_logic := 'X';
+  begin
+    z_1 := VitalTruthTable (TruthTable => k_1, DataIn => (0 => A));
+    Y <= z_1;
+  end process;
+end vital;
+";
+
 /// The report.
 pub(crate) const THREE_LINES: &str = "cell 1 INV ok
 cell 2 TB refused 2 three_state at 182

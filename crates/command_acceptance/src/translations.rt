@@ -1,6 +1,7 @@
 //! Libraries that are translated, from bytes to bytes.
+use crate::entity_texts::{FLIP_FLOP_ENTITY, LONE_TIE_ENTITY, PORTS_ENTITY, TIE_ENTITY};
 use crate::library_desk::translated;
-use crate::three_cells::{NO_MODULE, THREE_CELLS, THREE_LINES, TWO_MODULES};
+use crate::three_cells::{NO_MODULE, THREE_CELLS, THREE_LINES, TWO_ENTITIES, TWO_MODULES};
 use std::test::Fail;
 use text_io::OutSlot;
 use translate_cmd::Status;
@@ -171,36 +172,76 @@ module TIE (A, Y);
 endmodule
 ";
 
+/// An output alone.
+const LONE_TIE: &str =
+    "library (L) { cell (TIE) { pin (Y) { direction : output; function : \"1\"; } } }";
+
+const LONE_TIE_MODULE: &str = "`timescale 1ps/1ps
+module TIE (Y);
+  output Y;
+  buf (Y, 1'b1);
+endmodule
+";
+
+/// A library, and all that translating it comes to.
+struct Translation {
+    library: &'static str,
+    status: Status,
+    verilog: &'static str,
+    vital: &'static str,
+    report: &'static str,
+}
+
+const TRANSLATIONS: [Translation; 5] = [
+    Translation {
+        library: THREE_CELLS,
+        status: Status::Cells,
+        verilog: TWO_MODULES,
+        vital: TWO_ENTITIES,
+        report: THREE_LINES,
+    },
+    Translation {
+        library: FLIP_FLOP,
+        status: Status::Done,
+        verilog: FLIP_FLOP_MODULE,
+        vital: FLIP_FLOP_ENTITY,
+        report: "cell 1 DFFT ok\naccepted 1 refused 0\n",
+    },
+    Translation {
+        library: PORTS,
+        status: Status::Done,
+        verilog: PORTS_MODULE,
+        vital: PORTS_ENTITY,
+        report: "cell 1 P ok\naccepted 1 refused 0\n",
+    },
+    Translation {
+        library: WITHOUT_SEMICOLONS,
+        status: Status::Done,
+        verilog: TIE_MODULE,
+        vital: TIE_ENTITY,
+        report: "cell 1 TIE ok\naccepted 1 refused 0\n",
+    },
+    Translation {
+        library: LONE_TIE,
+        status: Status::Done,
+        verilog: LONE_TIE_MODULE,
+        vital: LONE_TIE_ENTITY,
+        report: "cell 1 TIE ok\naccepted 1 refused 0\n",
+    },
+];
+
 #[test]
 fn libraries_are_translated(rt: HostRuntime) -> Result<(), Fail> {
     let alloc = rt.alloc();
-    let one_line = "accepted 1 refused 0\n";
-    for (library, status, verilog, cell_lines, last_line) in [
-        (THREE_CELLS, Status::Cells, TWO_MODULES, THREE_LINES, ""),
-        (
-            FLIP_FLOP,
-            Status::Done,
-            FLIP_FLOP_MODULE,
-            "cell 1 DFFT ok\n",
-            one_line,
-        ),
-        (PORTS, Status::Done, PORTS_MODULE, "cell 1 P ok\n", one_line),
-        (
-            WITHOUT_SEMICOLONS,
-            Status::Done,
-            TIE_MODULE,
-            "cell 1 TIE ok\n",
-            one_line,
-        ),
-    ] {
-        let (reached, desk) = translated(alloc, library.as_bytes(), &[], usize::MAX)?;
-        assert_eq!(rt; reached, status);
-        assert_eq!(rt; desk.written(OutSlot::VerilogText), verilog.as_bytes());
-        assert_eq!(rt; desk.written(OutSlot::VitalText), b"".as_slice());
-        let report = desk.written(OutSlot::Report);
-        assert_eq!(rt; report.len(), cell_lines.len() + last_line.len());
-        assert!(rt; report.starts_with(cell_lines.as_bytes()));
-        assert!(rt; report.ends_with(last_line.as_bytes()));
+    for wanted in TRANSLATIONS.iter() {
+        let (status, desk) = translated(alloc, wanted.library.as_bytes(), &[], usize::MAX)?;
+        assert_eq!(rt; status, wanted.status);
+        assert_eq!(rt;
+            desk.written(OutSlot::VerilogText),
+            wanted.verilog.as_bytes()
+        );
+        assert_eq!(rt; desk.written(OutSlot::VitalText), wanted.vital.as_bytes());
+        assert_eq!(rt; desk.written(OutSlot::Report), wanted.report.as_bytes());
         assert_eq!(rt; desk.written(OutSlot::Faults), b"".as_slice());
     }
     Ok(())
@@ -224,6 +265,7 @@ fn refused_libraries_are_told(rt: HostRuntime) -> Result<(), Fail> {
         let (status, desk) = translated(alloc, library.as_bytes(), &[], usize::MAX)?;
         assert_eq!(rt; status, Status::Library);
         assert_eq!(rt; desk.written(OutSlot::VerilogText), NO_MODULE.as_bytes());
+        assert_eq!(rt; desk.written(OutSlot::VitalText), b"".as_slice());
         assert_eq!(rt; desk.written(OutSlot::Report), b"".as_slice());
         assert_eq!(rt; desk.written(OutSlot::Faults), line.as_bytes());
     }

@@ -1,5 +1,5 @@
 -- Handling the items of a library one after another.
-use Rattle.std.proofs.Common.{◌≡◌, ℕ, ◌+◌, ◌≤◌, Bool, true, false, List, [], ◌∷◌, ◌++◌, reverse, take, drop, length, Option, Some, None, Result, Ok, Err, IsErr, IfOk, IfSome, is_none, ◌⊎◌, inl, inr, refl, sym, ap, subst, ◌∙◌, append_assoc, length-append, length-drop, arith}
+use Rattle.std.proofs.Common.{◌≡◌, ℕ, ◌+◌, ◌≤◌, Bool, true, false, List, [], ◌∷◌, ◌++◌, reverse, take, drop, length, Option, Some, None, Result, Ok, Err, IsErr, IfOk, IfSome, ◌⊎◌, inl, inr, refl, sym, ap, subst, ◌∙◌, append_assoc, length-append, length-drop, arith}
 use Rattle.std.proofs.lemmas.List.{append-nil, take-append-drop, drop_all}
 use Rattle.std.proofs.Math.Seq.{take-add}
 use Rattle.std.specs.Option.{option_map}
@@ -22,7 +22,7 @@ use Rattle.translate_cmd.specs.declared.progress.Progress.{Progress}
 use Rattle.translate_cmd.specs.declared.items.Ending.{Ending}
 use Rattle.translate_cmd.specs.declared.items.Ending.TheVariants as ending
 use Rattle.command_outcomes.specs.Written.{Written, nothing_written, joined, IsPart, wrote_all, Writes}
-use Rattle.translate_cmd.specs.Cells.{next_refusal, item_written, after_cell, after_item, progress_after, items_written}
+use Rattle.translate_cmd.specs.Cells.{next_refusal, entity_by, item_written, after_cell, after_item, progress_after, items_written}
 use Rattle.cell_parts.specs.Groups.{cell_name}
 use Rattle.translate_cmd.specs.Models.{HoldsCells}
 use Rattle.translate_cmd.specs.Library.{ending_by, IsHandled, Handles}
@@ -79,12 +79,12 @@ at_end_written c now next text e h = λ ended. rw (left_written now next text e)
 -- The loop.
 
 -- how many cells are counted
-cell_counted : (p : Progress) (name : List ℕ) (accepted : Bool) → (after_cell p name accepted).accepted + (after_cell p name accepted).refused ≤ p.accepted + p.refused + 1
-cell_counted p name true = omega arith
-cell_counted p name false = omega arith
+cell_counted : (p : Progress) (name : List ℕ) (entity : Option (List ℕ)) → (after_cell p name entity).accepted + (after_cell p name entity).refused ≤ p.accepted + p.refused + 1
+cell_counted p name (Some entity) = omega arith
+cell_counted p name None = omega arith
 
 item_counted : (p : Progress) (x : LibraryItem) → (after_item p x).accepted + (after_item p x).refused ≤ p.accepted + p.refused + 1
-item_counted p (item.Cell group) = cell_counted p (cell_name group) (is_none (next_refusal p group))
+item_counted p (item.Cell group) = cell_counted p (cell_name group) (entity_by p group (next_refusal p group))
 item_counted p (item.Unit line) = omega arith
 item_counted p (item.LeftOut at) = omega arith
 

@@ -3,6 +3,7 @@ pub mod PlanLemmas
 pub mod RunsLemmas
 pub mod AskedLemmas
 pub mod CellLemmas
+pub mod VitalTexts
 pub mod ItemTexts
 pub mod ModelsLemmas
 pub mod TranslateLemmas

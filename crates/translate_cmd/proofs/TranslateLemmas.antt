@@ -98,6 +98,11 @@ pub verilog_bound : (old now : DeskState) (bytes : InSlot → List ℕ) → now 
 unfolding opened created
 verilog_bound old now bytes e = rw e refl
 
+-- and the file for VHDL text
+pub vital_bound : (old now : DeskState) (bytes : InSlot → List ℕ) → now ≡ bound_state old translate_files bytes → IsTrue (is_bound now (Output VitalText))
+unfolding opened created
+vital_bound old now bytes e = rw e refl
+
 left_bound : (old : DeskState) (bytes : InSlot → List ℕ) → (bound_state old translate_files bytes).left Library ≡ option_map (λ _. bytes Library) (old.left Library)
 unfolding opened created
 left_bound old bytes = refl

@@ -55,8 +55,8 @@ status_at ending.Whole p = if nat_eq p.refused 0 then status.Done else status.Ce
 status_at (ending.Fault fault) p = status.Library
 status_at ending.TooLong p = status.TooLong
 
--- what translating a library with these items and this end comes to: its three files are bound; the prelude, then what is
--- written for each item, in order, then the last line
+-- what translating a library with these items and this end comes to: its three files are bound; the Verilog prelude, then
+-- what is written for each item, in order, then the last line. The VHDL file has no prelude: each entity's text stands by itself
 unfoldable pub outcome_at : List LibraryItem → Ending → Outcome
 outcome_at items ending = record {
   status = status_at ending (progress_after no_progress items);

@@ -11,7 +11,7 @@ use Rattle.translate_cmd.specs.Models.{HoldsModels}
 use Rattle.translate_cmd.specs.Outcome.{translate_files, files_of, outcome}
 
 -- After the run the desk is as a run of the command leaves it that the words ask for, with its files and its outcome. Where
--- they ask for a translation, whatever the status, the whole models are there of the accepted cells whose closing braces lie
+-- they ask for a translation, whatever the status, both whole models are there of the accepted cells whose closing braces lie
 -- more than 65,536 bytes before the end of the bytes that were read of the library.
 pub record Runs (old new : DeskState) (result : Status) : Type 0 where
   pub run : RunsAs (files_of (reading old.words)) (outcome old.words) old new result

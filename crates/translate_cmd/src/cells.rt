@@ -1,14 +1,14 @@
-//! One cell of a library: its model and its lines.
-ghost use Rattle.std.specs.Prelude.{◌≡◌, ◌+◌, ◌<◌, ◌^◌, IsTrue, IfOk, OnOk, is_none};
+//! One cell of a library: its models and its lines.
+ghost use Rattle.std.specs.Prelude.{◌≡◌, ◌+◌, ◌<◌, ◌^◌, IsTrue, IfOk, OnOk};
 ghost use Rattle.text_io.specs.declared.slots.Slot.TheVariants.{Output};
-ghost use Rattle.text_io.specs.declared.slots.OutSlot.TheVariants.{VerilogText, Report};
+ghost use Rattle.text_io.specs.declared.slots.OutSlot.TheVariants.{VerilogText, VitalText, Report};
 ghost use Rattle.text_io.specs.Desk.{is_bound, HasCause, WritesText};
 ghost use Rattle.cell_parts.specs.Groups.{cell_name};
 ghost use Rattle.cell_machine.specs.CellData.{data_of};
 ghost use Rattle.cell_cursor.specs.declared.item.LibraryItem.TheVariants as item;
 ghost use Rattle.command_outcomes.specs.Written.{Writes, in_verilog};
 ghost use Rattle.translate_cmd.specs.Stops.{StopsWithCause};
-ghost use Rattle.translate_cmd.specs.Cells.{next_refusal, model_text, accepted_lines, accepted_written, written_by, item_written, after_item};
+ghost use Rattle.translate_cmd.specs.Cells.{next_refusal, model_text, vital_text, in_vital, models_written, accepted_lines, accepted_written, entity_by, written_by, item_written, after_item};
 
 use crate::progress::Progress;
 use crate::stop::Stop;
@@ -17,9 +17,12 @@ use cell_reader::{CellFault, ReadCell, read_cell};
 use liberty_groups::Group;
 use library_report::{write_accepted_cell, write_left_out_groups, write_refused_cell};
 use specify_blocks::verilog_model;
+use sqlite_items::Items;
 use std::alloc::Global;
 use text_io::{Desk, Failed};
 use verilog_writer::write_model;
+use vhdl_writer::write_entity;
+use vital_models::{entity_name, vital_model};
 
 /// The name of a cell: the first argument of its group, and empty where there is none.
 fn name_of(group: &Group) -> &[u8]
@@ -42,6 +45,34 @@ fn write_verilog<D: Desk>(alloc: Global, desk: &mut D, cell: &Cell) -> Result<()
     Ok(())
 }
 
+/// Writes the VHDL model of a cell: the entity with this name.
+fn write_vital<D: Desk>(alloc: Global, desk: &mut D, cell: &Cell, entity: &[u8]) -> Result<(), Stop>
+    requires { IsTrue (is_bound (D.state desk.old) (Output VitalText)) }
+    ensures text { Writes (D.state desk.old) (D.state desk.new) (in_vital (vital_text entity.now (data_of cell.now))) result }
+    ensures cause { StopsWithCause (D.faults desk.old) (D.faults desk.new) result }
+{
+    let model = vital_model(alloc, cell, entity)?;
+    write_entity(desk, &model)?;
+    Ok(())
+}
+
+/// Writes both models of a cell, the Verilog model and then the entity with this name.
+#[tactic(auto, unfolding(crate::specs::Cells::models_written))]
+fn write_models<D: Desk>(
+    alloc: Global,
+    desk: &mut D,
+    cell: &Cell,
+    entity: &[u8],
+) -> Result<(), Stop>
+    requires verilog { IsTrue (is_bound (D.state desk.old) (Output VerilogText)) }
+    requires vital { IsTrue (is_bound (D.state desk.old) (Output VitalText)) }
+    ensures text { Writes (D.state desk.old) (D.state desk.new) (models_written entity.now (data_of cell.now)) result }
+    ensures cause { StopsWithCause (D.faults desk.old) (D.faults desk.new) result }
+{
+    write_verilog(alloc, desk, cell)?;
+    write_vital(alloc, desk, cell, entity)
+}
+
 /// Writes the report lines of an accepted cell.
 #[tactic(auto, unfolding(crate::specs::Cells::accepted_lines))]
 fn write_lines<D: Desk>(desk: &mut D, read: &ReadCell) -> Result<(), Failed>
@@ -58,40 +89,48 @@ fn write_lines<D: Desk>(desk: &mut D, read: &ReadCell) -> Result<(), Failed>
     )
 }
 
-/// Writes the model of an accepted cell, and its report lines.
+/// Writes the models of an accepted cell, whose entity has this name, and its report lines.
 #[tactic(auto, unfolding(crate::specs::Cells::accepted_written))]
-fn write_accepted<D: Desk>(alloc: Global, desk: &mut D, read: &ReadCell) -> Result<(), Stop>
-    requires { IsTrue (is_bound (D.state desk.old) (Output VerilogText)) }
-    ensures text { Writes (D.state desk.old) (D.state desk.new) (accepted_written (data_of read.now.cell) read.now.left_out) result }
+fn write_accepted<D: Desk>(
+    alloc: Global,
+    desk: &mut D,
+    read: &ReadCell,
+    entity: &[u8],
+) -> Result<(), Stop>
+    requires verilog { IsTrue (is_bound (D.state desk.old) (Output VerilogText)) }
+    requires vital { IsTrue (is_bound (D.state desk.old) (Output VitalText)) }
+    ensures text { Writes (D.state desk.old) (D.state desk.new) (accepted_written entity.now (data_of read.now.cell) read.now.left_out) result }
     ensures cause { StopsWithCause (D.faults desk.old) (D.faults desk.new) result }
 {
-    write_verilog(alloc, desk, &read.cell)?;
+    write_models(alloc, desk, &read.cell, entity)?;
     write_lines(desk, read)?;
     Ok(())
 }
 
-/// Writes what becomes of the next cell, and answers whether it was accepted.
+/// Writes what becomes of the next cell, and answers the name of its entity where it was accepted.
 fn write_cell<D: Desk>(
     alloc: Global,
     desk: &mut D,
     progress: &Progress,
     group: &Group,
-) -> Result<bool, Stop>
-    requires bound { IsTrue (is_bound (D.state desk.old) (Output VerilogText)) }
+) -> Result<Option<Items<u8>>, Stop>
+    requires verilog { IsTrue (is_bound (D.state desk.old) (Output VerilogText)) }
+    requires vital { IsTrue (is_bound (D.state desk.old) (Output VitalText)) }
     requires room { progress.now.accepted + progress.now.refused + 1 < 2 ^ 64 }
     ensures text { Writes (D.state desk.old) (D.state desk.new) (written_by progress.now group.now (next_refusal progress.now group.now)) result }
-    ensures accepted { IfOk result (λ accepted. accepted ≡ is_none (next_refusal progress.now group.now)) }
+    ensures entity { IfOk result (λ entity. entity ≡ entity_by progress.now group.now (next_refusal progress.now group.now)) }
     ensures cause { StopsWithCause (D.faults desk.old) (D.faults desk.new) result }
 {
     let number = progress.next_number();
     match read_cell(alloc, group, number, progress.unit, &progress.names) {
         Ok(read) => {
-            write_accepted(alloc, desk, &read)?;
-            Ok(true)
+            let entity = entity_name(alloc, &read.cell, &progress.entities)?;
+            write_accepted(alloc, desk, &read, entity.as_slice())?;
+            Ok(Some(entity))
         }
         Err(CellFault::Refused(refusal)) => {
             write_refused_cell(desk, number, name_of(group), &refusal)?;
-            Ok(false)
+            Ok(None)
         }
         Err(CellFault::Memory) => Err(Stop::Memory),
     }
@@ -104,13 +143,16 @@ pub(crate) fn handle_cell<D: Desk>(
     progress: &mut Progress,
     group: &Group,
 ) -> Result<(), Stop>
-    requires bound { IsTrue (is_bound (D.state desk.old) (Output VerilogText)) }
+    requires verilog { IsTrue (is_bound (D.state desk.old) (Output VerilogText)) }
+    requires vital { IsTrue (is_bound (D.state desk.old) (Output VitalText)) }
     requires room { progress.old.accepted + progress.old.refused + 1 < 2 ^ 64 }
     ensures text { Writes (D.state desk.old) (D.state desk.new) (item_written progress.old (item.Cell group.now)) result }
     ensures progress { OnOk result (progress.new ≡ after_item progress.old (item.Cell group.now)) }
     ensures cause { StopsWithCause (D.faults desk.old) (D.faults desk.new) result }
 {
-    let accepted = write_cell(alloc, desk, progress, group)?;
-    progress.count_cell(name_of(group), accepted)?;
+    match write_cell(alloc, desk, progress, group)? {
+        Some(entity) => progress.count_accepted(alloc, name_of(group), entity.as_slice())?,
+        None => progress.count_refused(name_of(group))?,
+    }
     Ok(())
 }

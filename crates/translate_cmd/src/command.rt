@@ -20,9 +20,9 @@ use verilog_writer::write_udp;
 /// The line that tells of words without a reading.
 const USAGE: &[u8] = b"lib2sim: usage\n";
 
-/// Runs the command that the desk's words ask for: `udp` prints a primitive, `translate` writes the models of a library's
-/// cells and a report of them, `replay-verilog` prints the traces of a Verilog file's modules under a stimulus, and words
-/// without a reading are `Usage`.
+/// Runs the command that the desk's words ask for: `udp` prints a primitive, `translate` writes the Verilog and VHDL models
+/// of a library's cells and a report of them, `replay-verilog` prints the traces of a Verilog file's modules under a
+/// stimulus, and words without a reading are `Usage`.
 ///
 /// It ends with the status of the outcome of the words and the desk's files, and all that the outcome appends was appended,
 /// or with one of two others: `Outside`, only where a call on the desk failed in this call, and `Memory`, where there was
@@ -30,7 +30,7 @@ const USAGE: &[u8] = b"lib2sim: usage\n";
 /// but `Outside` no call failed: the count of faults is as it was.
 ///
 /// However `translate` ends, these two among the ways, all is there that is written for the cells whose closing braces lie
-/// more than 65,536 bytes before the end of the bytes that it read: the whole models of the accepted ones, and their lines.
+/// more than 65,536 bytes before the end of the bytes that it read: both whole models of the accepted ones, and their lines.
 ///
 /// Where no call failed, words of `udp` with a reading come to `Done` or `Memory`, a whole library of at most 67,108,864
 /// bytes, its cells refused or not, to `Done`, `Cells` or `Memory`, and a Verilog file of at most as many bytes and a stimulus of

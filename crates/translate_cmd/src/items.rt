@@ -2,7 +2,7 @@
 ghost use Rattle.std.specs.Prelude.{◌≡◌, ◌+◌, ◌<◌, ◌≤◌, ◌^◌, ◌⊎◌, true, false, IsTrue, IfErr, OnOk};
 ghost use Rattle.text_io.specs.declared.slots.Slot.TheVariants.{Input, Output};
 ghost use Rattle.text_io.specs.declared.slots.InSlot.TheVariants.{Library};
-ghost use Rattle.text_io.specs.declared.slots.OutSlot.TheVariants.{VerilogText};
+ghost use Rattle.text_io.specs.declared.slots.OutSlot.TheVariants.{VerilogText, VitalText};
 ghost use Rattle.text_io.specs.Desk.{is_bound, Rose};
 ghost use Rattle.cell_cursor.specs.Stands.{is_going, is_failed};
 ghost use Rattle.command_outcomes.specs.Written.{Writes};
@@ -45,7 +45,8 @@ fn handle_item<D: Desk>(
     progress: &mut Progress,
     item: &LibraryItem,
 ) -> Result<(), Stop>
-    requires bound { IsTrue (is_bound (D.state desk.old) (Output VerilogText)) }
+    requires verilog { IsTrue (is_bound (D.state desk.old) (Output VerilogText)) }
+    requires vital { IsTrue (is_bound (D.state desk.old) (Output VitalText)) }
     requires room { progress.old.accepted + progress.old.refused + 1 < 2 ^ 64 }
     ensures text { Writes (D.state desk.old) (D.state desk.new) (item_written progress.old item.now) result }
     ensures progress { OnOk result (progress.new ≡ after_item progress.old item.now) }
@@ -97,6 +98,7 @@ pub(crate) fn handle_items<D: Desk>(
 ) -> Result<Ending, Stop>
     requires library { IsTrue (is_bound (D.state desk.old) (Input Library)) }
     requires verilog { IsTrue (is_bound (D.state desk.old) (Output VerilogText)) }
+    requires vital { IsTrue (is_bound (D.state desk.old) (Output VitalText)) }
     requires fresh { progress.old.accepted + progress.old.refused ≡ 0 }
     ensures text { Handles limit (D.state desk.old) (D.state desk.new) progress.old progress.new result }
     ensures cause { StopsWithCause (D.faults desk.old) (D.faults desk.new) result }

@@ -1,9 +1,10 @@
 //! How far the items of a library are handled.
-ghost use Rattle.std.specs.Prelude.{◌≡◌, ◌+◌, ◌<◌, ◌^◌, OnOk};
+ghost use Rattle.std.specs.Prelude.{◌≡◌, ◌+◌, ◌<◌, ◌^◌, IfErr, OnOk, Some, None};
 ghost use Rattle.translate_cmd.specs.declared.items.Ending.TheVariants as ending;
 ghost use Rattle.translate_cmd.specs.Library.{status_at};
-ghost use Rattle.translate_cmd.specs.Cells.{unit_of, no_progress, next_number, after_cell};
+ghost use Rattle.translate_cmd.specs.Cells.{unit_of, no_progress, next_number, names_with, after_cell};
 
+use crate::stop::Stop;
 use bool_functions::{Memory, Names};
 use command_outcomes::Status;
 use liberty_text::Unit;
@@ -16,6 +17,8 @@ pub(crate) struct Progress {
     pub unit: Option<Unit>,
     /// The names of the cells so far, each once.
     pub names: Names,
+    /// The names of the entities so far, in lower case, each once.
+    pub entities: Names,
     /// How many cells were accepted.
     pub accepted: usize,
     /// How many cells were refused.
@@ -47,6 +50,7 @@ impl Progress {
         Progress {
             unit: Some(Unit::Ns1),
             names: Names::new(alloc),
+            entities: Names::new(alloc),
             accepted: 0,
             refused: 0,
         }
@@ -71,17 +75,34 @@ impl Progress {
         }
     }
 
-    /// Counts a cell, which was accepted or refused.
-    pub fn count_cell(&mut self, name: &[u8], accepted: bool) -> Result<(), Memory>
+    /// Counts a cell that was refused. `Memory` comes only where memory is wanting.
+    pub fn count_refused(&mut self, name: &[u8]) -> Result<(), Memory>
         requires { self.old.accepted + self.old.refused + 1 < 2 ^ 64 }
-        ensures { OnOk result (self.new ≡ after_cell self.old name.now accepted) }
+        ensures { OnOk result (self.new ≡ after_cell self.old name.now None) }
     {
-        self.names.add(name)?;
-        if accepted {
-            self.accepted += 1;
-        } else {
-            self.refused += 1;
-        }
+        add_name(&mut self.names, name)?;
+        self.refused += 1;
         Ok(())
     }
+
+    /// Counts a cell that was accepted, and whose entity has this name. It stops only where memory is wanting.
+    pub fn count_accepted(&mut self, alloc: Global, name: &[u8], entity: &[u8]) -> Result<(), Stop>
+        requires { self.old.accepted + self.old.refused + 1 < 2 ^ 64 }
+        ensures counted { OnOk result (self.new ≡ after_cell self.old name.now (Some entity.now)) }
+        ensures memory { IfErr result (λ stop. stop ≡ Stop.Memory) }
+    {
+        let lowered = entity.to_ascii_lowercase(alloc)?;
+        add_name(&mut self.names, name)?;
+        add_name(&mut self.entities, &lowered)?;
+        self.accepted += 1;
+        Ok(())
+    }
+}
+
+/// Adds a name to those so far, unless it is there. `Memory` comes only where memory is wanting.
+fn add_name(names: &mut Names, name: &[u8]) -> Result<(), Memory>
+    ensures { OnOk result (names.new ≡ names_with names.old name.now) }
+{
+    names.add(name)?;
+    Ok(())
 }

@@ -38,6 +38,14 @@ impl From<specify_blocks::Memory> for Stop {
     }
 }
 
+impl From<vital_models::Memory> for Stop {
+    ghost from_gives = { λ _ made. made ≡ NoMemory };
+
+    fn from(_error: vital_models::Memory) -> Stop {
+        Stop::Memory
+    }
+}
+
 impl From<bool_functions::Memory> for Stop {
     ghost from_gives = { λ _ made. made ≡ NoMemory };
 

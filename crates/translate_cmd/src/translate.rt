@@ -26,7 +26,7 @@ use verilog_writer::write_prelude;
 /// The most bytes that a library may have.
 const LIMIT: usize = 67_108_864;
 
-/// Writes the models of the cells of the library that the words name, and its report.
+/// Writes the Verilog and VHDL models of the cells of the library that the words name, and its report.
 pub(crate) fn translate<D: Desk>(alloc: Global, desk: &mut D) -> Status
     requires { reading (D.state desk.old).words ≡ command.Translate }
     ensures writes { Runs (D.state desk.old) (D.state desk.new) result }
@@ -61,6 +61,7 @@ fn bind_files<D: Desk>(desk: &mut D) -> Result<(), Failed>
 fn translate_bound<D: Desk>(alloc: Global, desk: &mut D) -> Result<Status, Stop>
     requires library { IsTrue (is_bound (D.state desk.old) (Input Library)) }
     requires verilog { IsTrue (is_bound (D.state desk.old) (Output VerilogText)) }
+    requires vital { IsTrue (is_bound (D.state desk.old) (Output VitalText)) }
     ensures text { Translates (D.state desk.old) (D.state desk.new) result }
     ensures cause { StopsWithCause (D.faults desk.old) (D.faults desk.new) result }
     ensures usage { IfOk result (λ status. status ≡ Status.Usage → ⊥) }

@@ -1,5 +1,5 @@
 -- The cells that translating a library accepts are accepted cells of one library.
-use Rattle.std.proofs.Common.{◌≡◌, ℕ, ◌+◌, ◌^◌, ◌<◌, ◌≤◌, Bool, true, false, List, [], ◌∷◌, ◌++◌, length, take, length-take, refl, sym, ap, subst, arith, Contains, Option, Some, None, is_none, is_some, inl, inr, if◌then◌else◌}
+use Rattle.std.proofs.Common.{◌≡◌, ℕ, ◌+◌, ◌^◌, ◌<◌, ◌≤◌, Bool, true, false, List, [], ◌∷◌, ◌++◌, length, take, length-take, refl, sym, ap, subst, arith, Contains, Option, Some, None, is_some, inl, inr, if◌then◌else◌}
 use Rattle.std.specs.List.{list_any}
 use Rattle.std.specs.Str.{bytes_eq}
 use Rattle.std.proofs.lemmas.List.Elements.{Contains-append_left, Contains-append_right}
@@ -17,7 +17,7 @@ use Rattle.cell_cursor.specs.Ends.{items_within}
 use Rattle.cell_cursor.proofs.Ascending.{items_few}
 use Rattle.generated_modules.specs.Accepted.{IsAccepted, AreAccepted}
 use Rattle.generated_modules.proofs.AcceptedCells.{accepted-well-formed}
-use Rattle.translate_cmd.specs.Cells.{no_progress, next_number, names_with, next_refusal, next_data, after_cell}
+use Rattle.translate_cmd.specs.Cells.{no_progress, next_number, names_with, next_refusal, next_data, next_entity, entity_by, after_cell}
 use Rattle.translate_cmd.specs.Library.{library_limit}
 use Rattle.translated_modules.specs.Modules.{Progress, cells_by, accepted_cells}
 use Rattle.translated_modules.specs.Laws.{LibrariesAreWellFormed}
@@ -75,18 +75,18 @@ Follow items =
 cell_accepted :
     (p : Progress) (group : Group) (items : List LibraryItem) (from : ℕ) (names : List (List ℕ)) → Follow items → from ≤ next_number p
     → next_number p + (length items + 1) < 2 ^ 64 → AreAmong names p.names → (o : Option Refusal) → next_refusal p group ≡ o
-    → AreAccepted from names (cells_by p group o ++ accepted_cells (after_cell p (cell_name group) (is_none o)) items)
+    → AreAccepted from names (cells_by p group o ++ accepted_cells (after_cell p (cell_name group) (entity_by p group o)) items)
 cell_accepted p group items from names follow low room h None e =
     let number = its_number p group in
     let name = its_name p group in (
       omega (arith, number, low),
       omega (arith, number, room),
       accepted p group names h e,
-      follow (after_cell p (cell_name group) true) ((next_data p group).number + 1) ((next_data p group).name ∷ names) (omega (arith, number)) (omega (arith, room))
+      follow (after_cell p (cell_name group) (Some (next_entity p group))) ((next_data p group).number + 1) ((next_data p group).name ∷ names) (omega (arith, number)) (omega (arith, room))
           (subst (λ x. AreAmong (x ∷ names) (names_with p.names (cell_name group))) (sym name) (one_more names p.names (cell_name group) h)),
     )
 cell_accepted p group items from names follow low room h (Some refusal) e =
-    follow (after_cell p (cell_name group) false) from names (omega (arith, low)) (omega (arith, room))
+    follow (after_cell p (cell_name group) None) from names (omega (arith, low)) (omega (arith, room))
     (λ x m. names_keep p.names (cell_name group) x (h x m))
 
 all_accepted : (items : List LibraryItem) → Follow items

@@ -1,5 +1,5 @@
 -- The Verilog of a library is that of the modules of its accepted cells.
-use Rattle.std.proofs.Common.{◌≡◌, ℕ, true, List, [], ◌∷◌, ◌++◌, map, refl, ap, ◌∙◌, Option, Some, None, is_none}
+use Rattle.std.proofs.Common.{◌≡◌, ℕ, List, [], ◌∷◌, ◌++◌, map, refl, ap, ◌∙◌, Option, Some, None}
 use Rattle.std.specs.List.{flat_map}
 use Rattle.std.proofs.lemmas.List.{append-nil}
 use Rattle.liberty_groups.specs.declared.tree.Group.{Group}
@@ -11,7 +11,7 @@ use Rattle.cell_cursor.specs.declared.item.LibraryItem.TheVariants as item
 use Rattle.cell_cursor.specs.Ends.{items_within}
 use Rattle.specify_blocks.specs.Generated.{module_of}
 use Rattle.verilog_writer.specs.Model.{prelude_text, module_text}
-use Rattle.translate_cmd.specs.Cells.{no_progress, next_refusal, next_data, next_left_out, accepted_written, model_text, written_by, after_cell, after_item, items_written}
+use Rattle.translate_cmd.specs.Cells.{no_progress, next_refusal, next_data, next_left_out, next_entity, models_written, accepted_written, model_text, entity_by, written_by, after_cell, after_item, items_written}
 use Rattle.translate_cmd.specs.Library.{library_limit, outcome_at}
 use Rattle.translated_modules.specs.Modules.{Progress, cells_by, accepted_cells}
 use Rattle.translated_modules.specs.Laws.{VerilogIsOfModules}
@@ -20,17 +20,20 @@ use Rattle.translated_modules.specs.Laws.{VerilogIsOfModules}
 abbrev texts : List CellData → List ℕ
 texts cells = flat_map module_text (map module_of cells)
 
-accepted_verilog : (p : Progress) (group : Group) → (accepted_written (next_data p group) (next_left_out p group)).verilog ≡ module_text (module_of (next_data p group))
-unfolding accepted_written model_text
-accepted_verilog p group = append-nil (module_text (module_of (next_data p group)))
+accepted_verilog :
+    (p : Progress) (group : Group)
+    → (accepted_written (next_entity p group) (next_data p group) (next_left_out p group)).verilog ≡ module_text (module_of (next_data p group))
+unfolding accepted_written models_written model_text
+accepted_verilog p group =
+    let text = module_text (module_of (next_data p group)) in append-nil (text ++ []) ∙ append-nil text
 
 cell_verilog :
     (p : Progress) (group : Group) (items : List LibraryItem)
     → ((q : Progress) → (items_written q items).verilog ≡ texts (accepted_cells q items)) → (o : Option Refusal)
-    → (written_by p group o).verilog ++ (items_written (after_cell p (cell_name group) (is_none o)) items).verilog
-    ≡ texts (cells_by p group o ++ accepted_cells (after_cell p (cell_name group) (is_none o)) items)
+    → (written_by p group o).verilog ++ (items_written (after_cell p (cell_name group) (entity_by p group o)) items).verilog
+    ≡ texts (cells_by p group o ++ accepted_cells (after_cell p (cell_name group) (entity_by p group o)) items)
 cell_verilog p group items h None =
-    ap (λ l. l ++ (items_written (after_cell p (cell_name group) true) items).verilog) (accepted_verilog p group)
+    ap (λ l. l ++ (items_written (after_cell p (cell_name group) (Some (next_entity p group))) items).verilog) (accepted_verilog p group)
     ∙ ap (λ l. module_text (module_of (next_data p group)) ++ l) (h _)
 cell_verilog p group items h (Some refusal) = h _
 

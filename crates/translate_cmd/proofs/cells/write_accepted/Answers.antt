@@ -2,19 +2,19 @@ use Rattle.translate_cmd.specs.Cells.{accepted_written}
 use Rattle.command_outcomes.proofs.WrittenLaws.{all_stops, all_goes_on, report_stops, report_whole, wrote_on}
 use Rattle.translate_cmd.proofs.cells.write_accepted.Goals as goal
 
-pub returns-in_err-write_verilog-clause-text : goal.returns-in_err-write_verilog-clause-text
+pub returns-in_err-write_models-clause-text : goal.returns-in_err-write_models-clause-text
 unfolding accepted_written
-returns-in_err-write_verilog-clause-text g c =
-    all_stops _ _ _ _ _ _ c.in_err-write_verilog.ensures.text c.from_residual.ensures.0
+returns-in_err-write_models-clause-text g c =
+    all_stops _ _ _ _ _ _ c.in_err-write_models.ensures.text c.from_residual.ensures.0
 
 pub returns-in_err-write_lines-clause-text : goal.returns-in_err-write_lines-clause-text
 unfolding accepted_written
 returns-in_err-write_lines-clause-text g c =
-    all_goes_on _ _ _ _ _ _ c.in_ok-write_verilog.ensures.text.whole (report_stops _ _ _ _ _ c.in_err-write_lines.ensures.text c.from_residual-in_err-write_lines.ensures.0)
+    all_goes_on _ _ _ _ _ _ c.in_ok-write_models.ensures.text.whole (report_stops _ _ _ _ _ c.in_err-write_lines.ensures.text c.from_residual-in_err-write_lines.ensures.0)
 
 pub returns-clause-text : goal.returns-clause-text
 unfolding accepted_written
 returns-clause-text g c = record {
-  whole = wrote_on _ _ _ _ _ c.in_ok-write_verilog.ensures.text.whole (report_whole _ _ _ c.in_ok-write_lines.ensures.text.whole);
+  whole = wrote_on _ _ _ _ _ c.in_ok-write_models.ensures.text.whole (report_whole _ _ _ c.in_ok-write_lines.ensures.text.whole);
   part = tt;
 }

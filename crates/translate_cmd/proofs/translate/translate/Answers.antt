@@ -1,7 +1,7 @@
 use Rattle.std.proofs.Common.{refl}
 use Rattle.translate_cmd.specs.declared.asked.Command.TheVariants as command
 use Rattle.translate_cmd.proofs.PlanLemmas.{planned_files}
-use Rattle.translate_cmd.proofs.TranslateLemmas.{bound_all, file_all, library_bound, verilog_bound, unbound_runs, translated_runs}
+use Rattle.translate_cmd.proofs.TranslateLemmas.{bound_all, file_all, library_bound, verilog_bound, vital_bound, unbound_runs, translated_runs}
 use Rattle.translate_cmd.proofs.translate.translate.Goals as goal
 
 pub bind_files-requires : goal.bind_files-requires
@@ -17,6 +17,10 @@ translate_bound-requires-clause-library g c =
 pub translate_bound-requires-clause-verilog : goal.translate_bound-requires-clause-verilog
 translate_bound-requires-clause-verilog g c =
     verilog_bound _ _ c.in-Ok.ensures.binds.bytes (bound_all _ _ _ c.in-Ok.ensures.binds)
+
+pub translate_bound-requires-clause-vital : goal.translate_bound-requires-clause-vital
+translate_bound-requires-clause-vital g c =
+    vital_bound _ _ c.in-Ok.ensures.binds.bytes (bound_all _ _ _ c.in-Ok.ensures.binds)
 
 pub returns-in-Ok-translate_bound-clause-writes : goal.returns-in-Ok-translate_bound-clause-writes
 returns-in-Ok-translate_bound-clause-writes g c =

@@ -1,5 +1,5 @@
 use Rattle.text_io.specs.declared.slots.InSlot.TheVariants.{Library}
-use Rattle.text_io.specs.declared.slots.OutSlot.TheVariants.{VerilogText}
+use Rattle.text_io.specs.declared.slots.OutSlot.TheVariants.{VerilogText, VitalText}
 use Rattle.text_io.specs.declared.slots.Slot.TheVariants.{Input, Output}
 use Rattle.text_io.proofs.Wrote.{still_bound}
 use Rattle.translate_cmd.proofs.TranslateLemmas.{prelude_stops, items_stop, finish_stops, finished}
@@ -25,3 +25,6 @@ handle_items-requires-clause-library g c = still_bound _ _ _ _ (Input Library) c
 
 pub handle_items-requires-clause-verilog : goal.handle_items-requires-clause-verilog
 handle_items-requires-clause-verilog g c = still_bound _ _ _ _ (Output VerilogText) c.in_ok-write_prelude.ensures.text.whole c.requires.verilog
+
+pub handle_items-requires-clause-vital : goal.handle_items-requires-clause-vital
+handle_items-requires-clause-vital g c = still_bound _ _ _ _ (Output VitalText) c.in_ok-write_prelude.ensures.text.whole c.requires.vital

@@ -4,18 +4,18 @@ use Rattle.specify_blocks.specs.VerilogText.{IsVerilogText, verilog_text}
 use Rattle.written_modules.specs.Laws.{modules_text}
 use Rattle.written_modules.proofs.FileReading.{read_back}
 use Rattle.translate_cmd.specs.Library.{translate_outcome}
-use Rattle.translated_modules.specs.Modules.{modules_of}
-use Rattle.translated_modules.specs.Laws.{LibrariesReadBack}
-use Rattle.translated_modules.proofs.AcceptedCells.{libraries-well-formed}
-use Rattle.translated_modules.proofs.ModuleTexts.{verilog-of-modules}
+use Rattle.translated_models.specs.Models.{modules_in}
+use Rattle.translated_models.specs.Laws.{LibrariesReadBack}
+use Rattle.translated_models.proofs.AcceptedCells.{modules-well-formed}
+use Rattle.translated_models.proofs.ModuleTexts.{verilog-of-modules}
 
-written : (bytes : List ℕ) → (translate_outcome bytes).text.verilog ≡ modules_text (modules_of bytes)
+written : (bytes : List ℕ) → (translate_outcome bytes).text.verilog ≡ modules_text (modules_in bytes)
 unfolding modules_text
 written bytes = verilog-of-modules bytes
 
 pub libraries-read-back : LibrariesReadBack
 libraries-read-back bytes =
-    let back = read_back (modules_of bytes) (libraries-well-formed bytes) in
+    let back = read_back (modules_in bytes) (modules-well-formed bytes) in
     record {
       answer = ap verilog_text (written bytes) ∙ back.answer;
       only = λ others h. back.only others (subst (λ (text : List ℕ). IsVerilogText text others) (written bytes) h);

@@ -1,4 +1,5 @@
--- The cells that translating a library accepts are accepted cells of one library.
+-- The cells that translating a library accepts are accepted cells of one library, so that their modules are well formed, and their
+-- entities.
 use Rattle.std.proofs.Common.{◌≡◌, ℕ, ◌+◌, ◌^◌, ◌<◌, ◌≤◌, Bool, true, false, List, [], ◌∷◌, ◌++◌, length, take, length-take, refl, sym, ap, subst, arith, Contains, Option, Some, None, is_some, inl, inr, if◌then◌else◌}
 use Rattle.std.specs.List.{list_any}
 use Rattle.std.specs.Str.{bytes_eq}
@@ -17,10 +18,11 @@ use Rattle.cell_cursor.specs.Ends.{items_within}
 use Rattle.cell_cursor.proofs.Ascending.{items_few}
 use Rattle.generated_modules.specs.Accepted.{IsAccepted, AreAccepted}
 use Rattle.generated_modules.proofs.AcceptedCells.{accepted-well-formed}
+use Rattle.generated_entities.proofs.EntityLists as entity_lists
 use Rattle.translate_cmd.specs.Cells.{no_progress, next_number, names_with, next_refusal, next_data, next_entity, entity_by, after_cell}
 use Rattle.translate_cmd.specs.Library.{library_limit}
-use Rattle.translated_modules.specs.Modules.{Progress, cells_by, accepted_cells}
-use Rattle.translated_modules.specs.Laws.{LibrariesAreWellFormed}
+use Rattle.translated_models.specs.Models.{Progress, cells_by, accepted_cells, cells_in}
+use Rattle.translated_models.specs.Laws.{ModulesAreWellFormed, EntitiesAreWellFormed}
 
 -- each of these names is among others
 abbrev AreAmong : List (List ℕ) → List (List ℕ) → Type 0
@@ -107,8 +109,14 @@ few_items bytes =
 no_names : AreAmong [] []
 no_names name m = m
 
-pub libraries-well-formed : LibrariesAreWellFormed
-libraries-well-formed bytes =
+library_accepted : (bytes : List ℕ) → AreAccepted 1 [] (cells_in bytes)
+library_accepted bytes =
     let items : List LibraryItem = items_within library_limit bytes in
     let few : length items ≤ 67108864 = few_items bytes in
-    accepted-well-formed (accepted_cells no_progress items) (all_accepted items no_progress 1 [] (omega arith) (omega (arith, few)) no_names)
+    all_accepted items no_progress 1 [] (omega arith) (omega (arith, few)) no_names
+
+pub modules-well-formed : ModulesAreWellFormed
+modules-well-formed bytes = accepted-well-formed (cells_in bytes) (library_accepted bytes)
+
+pub entities-well-formed : EntitiesAreWellFormed
+entities-well-formed bytes = entity_lists.accepted-well-formed (cells_in bytes) (library_accepted bytes)

@@ -1,4 +1,4 @@
--- The cells of a library that translating it accepts, and their modules. This project's rules.
+-- The cells of a library that translating it accepts, their modules and their entities. This project's rules.
 use Rattle.std.specs.Prelude.{ℕ, List, [], ◌∷◌, ◌++◌, map, Option, Some, None}
 use Rattle.liberty_groups.specs.declared.tree.Group.{Group}
 use Rattle.cell_machine.specs.CellData.{CellData}
@@ -8,6 +8,8 @@ use Rattle.cell_cursor.specs.declared.item.LibraryItem.TheVariants as item
 use Rattle.cell_cursor.specs.Ends.{items_within}
 use Rattle.specify_blocks.specs.declared.model.VModule.{VModule}
 use Rattle.specify_blocks.specs.Generated.{module_of}
+use Rattle.vital_models.specs.declared.model.VEntity.{VEntity}
+use Rattle.generated_entities.specs.Library.{entities_of}
 use Rattle.translate_cmd.specs.Cells.{no_progress, next_refusal, next_data, after_item}
 use Rattle.translate_cmd.specs.Library.{library_limit}
 
@@ -34,6 +36,14 @@ abbrev pub accepted_cells : Progress → List LibraryItem → List CellData
 accepted_cells p [] = []
 accepted_cells p (one ∷ items) = item_cells p one ++ accepted_cells (after_item p one) items
 
--- the modules of the accepted cells of a library
-abbrev pub modules_of : List ℕ → List VModule
-modules_of bytes = map module_of (accepted_cells no_progress (items_within library_limit bytes))
+-- the accepted cells of a library
+abbrev pub cells_in : List ℕ → List CellData
+cells_in bytes = accepted_cells no_progress (items_within library_limit bytes)
+
+-- their modules
+abbrev pub modules_in : List ℕ → List VModule
+modules_in bytes = map module_of (cells_in bytes)
+
+-- their entities, each named behind those before it
+abbrev pub entities_in : List ℕ → List VEntity
+entities_in bytes = entities_of (cells_in bytes)

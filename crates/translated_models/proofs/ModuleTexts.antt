@@ -13,8 +13,8 @@ use Rattle.specify_blocks.specs.Generated.{module_of}
 use Rattle.verilog_writer.specs.Model.{prelude_text, module_text}
 use Rattle.translate_cmd.specs.Cells.{no_progress, next_refusal, next_data, next_left_out, next_entity, models_written, accepted_written, model_text, entity_by, written_by, after_cell, after_item, items_written}
 use Rattle.translate_cmd.specs.Library.{library_limit, outcome_at}
-use Rattle.translated_modules.specs.Modules.{Progress, cells_by, accepted_cells}
-use Rattle.translated_modules.specs.Laws.{VerilogIsOfModules}
+use Rattle.translated_models.specs.Models.{Progress, cells_by, accepted_cells}
+use Rattle.translated_models.specs.Laws.{VerilogIsOfModules}
 
 -- the texts of the modules of cells
 abbrev texts : List CellData → List ℕ

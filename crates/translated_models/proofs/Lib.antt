@@ -1,3 +1,5 @@
 pub mod AcceptedCells
 pub mod ModuleTexts
+pub mod EntityNames
+pub mod EntityTexts
 pub mod ReadBack

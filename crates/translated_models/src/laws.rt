@@ -1,16 +1,27 @@
 //! Theorems on the definitions. The functions do nothing.
 
-ghost use Rattle.translated_modules.specs.Laws.{LibrariesAreWellFormed, VerilogIsOfModules, LibrariesReadBack};
+ghost use Rattle.translated_models.specs.Laws.{ModulesAreWellFormed, EntitiesAreWellFormed, VerilogIsOfModules, VitalIsOfEntities, LibrariesReadBack};
 
 /// For every library the list of the modules of its accepted cells is well formed: each is sound, its names are identifiers and
 /// no words, and no two of all their primitives and modules share a name.
-pub fn libraries_are_well_formed()
-    ensures { LibrariesAreWellFormed }
+pub fn modules_are_well_formed()
+    ensures { ModulesAreWellFormed }
+{}
+
+/// For every library the list of the entities of its accepted cells is well formed: each is sound, its names are identifiers and
+/// no words, and no two entities share a name, whatever the case of its letters.
+pub fn entities_are_well_formed()
+    ensures { EntitiesAreWellFormed }
 {}
 
 /// The Verilog that translating a library comes to is the first line of a file and the texts of these modules, in order.
 pub fn verilog_is_of_modules()
     ensures { VerilogIsOfModules }
+{}
+
+/// The VHDL that translating a library comes to is the texts of these entities, in order.
+pub fn vital_is_of_entities()
+    ensures { VitalIsOfEntities }
 {}
 
 /// The Verilog that translating a library comes to reads as these modules, and as no others: for the reader of Verilog text it is

@@ -1,0 +1,36 @@
+-- Laws of what `translate` writes.
+use Rattle.std.specs.Prelude.{◌≡◌, ℕ, List, ◌++◌, Ok}
+use Rattle.std.specs.List.{flat_map}
+use Rattle.specify_blocks.specs.declared.model.VModule.{VModule}
+use Rattle.specify_blocks.specs.VerilogText.{IsVerilogText, verilog_text}
+use Rattle.specify_blocks.specs.WellFormed as verilog
+use Rattle.vhdl_text.specs.WellFormed as vhdl
+use Rattle.verilog_writer.specs.Model.{prelude_text, module_text}
+use Rattle.vhdl_writer.specs.Entity.{entity_text}
+use Rattle.translate_cmd.specs.Library.{translate_outcome}
+use Rattle.translated_models.specs.Models.{modules_in, entities_in}
+
+-- the modules of the accepted cells of every library are well formed together
+abbrev pub ModulesAreWellFormed : Type 0
+ModulesAreWellFormed = (bytes : List ℕ) → verilog.AreWellFormed (modules_in bytes)
+
+-- so are their entities
+abbrev pub EntitiesAreWellFormed : Type 0
+EntitiesAreWellFormed = (bytes : List ℕ) → vhdl.AreWellFormed (entities_in bytes)
+
+-- the Verilog of a library is the first line and the texts of these modules
+abbrev pub VerilogIsOfModules : Type 0
+VerilogIsOfModules = (bytes : List ℕ) → (translate_outcome bytes).text.verilog ≡ prelude_text ++ flat_map module_text (modules_in bytes)
+
+-- the VHDL of a library is the texts of these entities
+abbrev pub VitalIsOfEntities : Type 0
+VitalIsOfEntities = (bytes : List ℕ) → (translate_outcome bytes).text.vital ≡ flat_map entity_text (entities_in bytes)
+
+-- a text reads as these modules, and as no others
+pub record ReadsAs (text : List ℕ) (ms : List VModule) : Type 0 where
+  pub answer : verilog_text text ≡ Ok ms
+  pub only : (others : List VModule) → IsVerilogText text others → others ≡ ms
+
+-- the Verilog of every library reads as the modules of its accepted cells
+abbrev pub LibrariesReadBack : Type 0
+LibrariesReadBack = (bytes : List ℕ) → ReadsAs (translate_outcome bytes).text.verilog (modules_in bytes)

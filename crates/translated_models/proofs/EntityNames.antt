@@ -44,7 +44,7 @@ same_with known x name e = by (list_any (bytes_eq name) known) (bytes_eq name x)
     by : (a b : Bool) → list_any (bytes_eq name) known ≡ a → bytes_eq name x ≡ b → (a || (b || false)) ≡ a
     by true b h k = refl
     by false false h k = refl
-    by false true h k = sym h ∙ subst (λ y. list_any (bytes_eq y) known ≡ true) (sym ((bytes_eq-Decides name x).0 k)) e
+    by false true h k = sym (subst (λ y. list_any (bytes_eq y) known ≡ true) (sym ((bytes_eq-Decides name x).0 k)) e) ∙ h
 
 -- one more name, which the second list is given once
 pub alike_with : (given known : List (List ℕ)) (x : List ℕ) → AreAlike given known → AreAlike (given ++ x ∷ []) (names_with known x)

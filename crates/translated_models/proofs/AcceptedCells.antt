@@ -17,7 +17,7 @@ use Rattle.cell_cursor.specs.declared.item.LibraryItem.TheVariants as item
 use Rattle.cell_cursor.specs.Ends.{items_within}
 use Rattle.cell_cursor.proofs.Ascending.{items_few}
 use Rattle.generated_modules.specs.Accepted.{IsAccepted, AreAccepted}
-use Rattle.generated_modules.proofs.AcceptedCells.{accepted-well-formed}
+use Rattle.generated_modules.proofs.AcceptedCells.{accepted-of-one-library, accepted-well-formed}
 use Rattle.generated_entities.proofs.EntityLists as entity_lists
 use Rattle.translate_cmd.specs.Cells.{no_progress, next_number, names_with, next_refusal, next_data, next_entity, entity_by, after_cell}
 use Rattle.translate_cmd.specs.Library.{library_limit}
@@ -119,4 +119,4 @@ pub modules-well-formed : ModulesAreWellFormed
 modules-well-formed bytes = accepted-well-formed (cells_in bytes) (library_accepted bytes)
 
 pub entities-well-formed : EntitiesAreWellFormed
-entities-well-formed bytes = entity_lists.accepted-well-formed (cells_in bytes) (library_accepted bytes)
+entities-well-formed bytes = entity_lists.entities-well-formed (cells_in bytes) (accepted-of-one-library (cells_in bytes) (library_accepted bytes))

@@ -4,6 +4,8 @@ use Rattle.std.specs.List.{flat_map}
 use Rattle.specify_blocks.specs.declared.model.VModule.{VModule}
 use Rattle.specify_blocks.specs.VerilogText.{IsVerilogText, verilog_text}
 use Rattle.specify_blocks.specs.WellFormed as verilog
+use Rattle.vital_models.specs.declared.model.VEntity.{VEntity}
+use Rattle.vhdl_text.specs.VhdlText.{IsVhdlText, vhdl_text}
 use Rattle.vhdl_text.specs.WellFormed as vhdl
 use Rattle.verilog_writer.specs.Model.{prelude_text, module_text}
 use Rattle.vhdl_writer.specs.Entity.{entity_text}
@@ -27,10 +29,20 @@ abbrev pub VitalIsOfEntities : Type 0
 VitalIsOfEntities = (bytes : List ℕ) → (translate_outcome bytes).text.vital ≡ flat_map entity_text (entities_in bytes)
 
 -- a text reads as these modules, and as no others
-pub record ReadsAs (text : List ℕ) (ms : List VModule) : Type 0 where
+pub record ReadsAsModules (text : List ℕ) (ms : List VModule) : Type 0 where
   pub answer : verilog_text text ≡ Ok ms
   pub only : (others : List VModule) → IsVerilogText text others → others ≡ ms
 
--- the Verilog of every library reads as the modules of its accepted cells
+-- a text reads as these entities, and as no others
+pub record ReadsAsEntities (text : List ℕ) (es : List VEntity) : Type 0 where
+  pub answer : vhdl_text text ≡ Ok es
+  pub only : (others : List VEntity) → IsVhdlText text others → others ≡ es
+
+-- the texts of a library read as the modules and the entities of its accepted cells
+pub record ReadsBack (bytes : List ℕ) : Type 0 where
+  pub verilog : ReadsAsModules (translate_outcome bytes).text.verilog (modules_in bytes)
+  pub vital : ReadsAsEntities (translate_outcome bytes).text.vital (entities_in bytes)
+
+-- so those of every library do
 abbrev pub LibrariesReadBack : Type 0
-LibrariesReadBack = (bytes : List ℕ) → ReadsAs (translate_outcome bytes).text.verilog (modules_in bytes)
+LibrariesReadBack = (bytes : List ℕ) → ReadsBack bytes

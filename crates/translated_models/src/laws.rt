@@ -24,8 +24,9 @@ pub fn vital_is_of_entities()
     ensures { VitalIsOfEntities }
 {}
 
-/// The Verilog that translating a library comes to reads as these modules, and as no others: for the reader of Verilog text it is
-/// their text, whatever the library is. (IEEE 1364-2005, A.1.)
+/// The Verilog that translating a library comes to reads as these modules, and as no others, and the VHDL as these entities, and as
+/// no others: for a reader of Verilog text and one of VHDL text it is their text, whatever the library is. (IEEE 1364-2005, A.1;
+/// IEEE 1076-1993, 1.1 and 1.2.)
 pub fn libraries_read_back()
     ensures { LibrariesReadBack }
 {}

@@ -1,5 +1,5 @@
 //! The texts that `translate` writes for a library are those of a list of modules that a Verilog text can tell, and of a list of
-//! entities that a VHDL text can tell, and the Verilog reads back as its modules.
+//! entities that a VHDL text can tell, and they read back as these.
 #![tactic(auto)]
 
 mod laws;

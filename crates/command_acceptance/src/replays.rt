@@ -1,18 +1,23 @@
-//! Runs of `replay-verilog`.
+//! Runs of `replay-verilog` and `replay-vital`.
 use crate::three_cells::TWO_MODULES;
 use std::alloc::Global;
 use std::test::Fail;
 use text_io::{MemoryDesk, NamedFile, OutSlot};
 use translate_cmd::{Status, run};
 
-/// Replays these bytes of a Verilog file under these of a stimulus.
-fn replayed(alloc: Global, verilog: &str, stimulus: &str) -> Result<(Status, MemoryDesk), Fail> {
+/// Runs this command on these bytes of a file of models and these of a stimulus.
+fn replayed(
+    alloc: Global,
+    command: &str,
+    models: &str,
+    stimulus: &str,
+) -> Result<(Status, MemoryDesk), Fail> {
     let mut words = Vec::new(alloc);
-    for word in ["replay-verilog", "in.v", "in.stim"] {
+    for word in [command, "in.models", "in.stim"] {
         words.push(String::from_str(alloc, word)?)?;
     }
     let mut folder = Vec::new(alloc);
-    for (name, text) in [("in.v", verilog), ("in.stim", stimulus)] {
+    for (name, text) in [("in.models", models), ("in.stim", stimulus)] {
         folder.push(NamedFile {
             name: String::from_str(alloc, name)?,
             bytes: Vec::from_slice(alloc, text.as_bytes())?,
@@ -37,7 +42,7 @@ cell INV
 V start : Y=x
 V 5 A 1 : Y=0@0
 ";
-    let (status, desk) = replayed(alloc, TWO_MODULES, stimulus)?;
+    let (status, desk) = replayed(alloc, "replay-verilog", TWO_MODULES, stimulus)?;
     assert_eq!(rt; status, Status::Done);
     assert_eq!(rt; desk.written(OutSlot::Report), report.as_bytes());
     assert_eq!(rt; desk.written(OutSlot::Faults), b"".as_slice());
@@ -47,22 +52,37 @@ V 5 A 1 : Y=0@0
 #[test]
 fn the_first_fault_of_the_files_is_told(rt: HostRuntime) -> Result<(), Fail> {
     let alloc = rt.alloc();
-    for (verilog, stimulus, wanted, line) in [
-        ("", "cell", Status::Model, "verilog refused at 0: syntax\n"),
+    for (command, models, stimulus, wanted, line) in [
         (
+            "replay-verilog",
+            "",
+            "cell",
+            Status::Model,
+            "verilog refused at 0: syntax\n",
+        ),
+        (
+            "replay-verilog",
             TWO_MODULES,
             "cell INV\n5 A 1\n5 A 0\n",
             Status::Stimulus,
             "stimulus line 3: time\n",
         ),
         (
+            "replay-verilog",
             TWO_MODULES,
             "cell TB\n",
             Status::Stimulus,
             "stimulus line 1: unknown cell\n",
         ),
+        (
+            "replay-vital",
+            "",
+            "cell DFF",
+            Status::Stimulus,
+            "stimulus line 1: unknown cell\n",
+        ),
     ] {
-        let (status, desk) = replayed(alloc, verilog, stimulus)?;
+        let (status, desk) = replayed(alloc, command, models, stimulus)?;
         assert_eq!(rt; status, wanted);
         assert_eq!(rt; desk.written(OutSlot::Report), b"".as_slice());
         assert_eq!(rt; desk.written(OutSlot::Faults), line.as_bytes());

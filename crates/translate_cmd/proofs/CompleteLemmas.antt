@@ -1,5 +1,5 @@
 -- A run on which no call failed did all that it was asked for.
-use Rattle.std.proofs.Common.{◌≡◌, ◌≤◌, ℕ, Bool, true, false, List, [], take, length, nat_le, nat_lt, ◌⊎◌, inl, inr, if◌then◌else◌, IsTrue, refl, ap, subst, ◌∙◌, arith}
+use Rattle.std.proofs.Common.{◌≡◌, ◌≤◌, ℕ, Bool, true, false, List, [], take, length, nat_le, ◌⊎◌, inl, inr, if◌then◌else◌, IsTrue, refl, sym, ap, subst, ◌∙◌, arith}
 use Rattle.std.proofs.lemmas.List.{take_all}
 use Rattle.std.proofs.lemmas.Bool.Decides.{nat_tests}
 use Rattle.text_io.specs.declared.slots.OutSlot.TheVariants.{Faults}
@@ -21,8 +21,14 @@ use Rattle.command_outcomes.specs.Binding.{Files, bound_state, AreNamed, took_al
 use Rattle.translate_cmd.specs.Library.{library_limit, ending_of, outcome_at}
 use Rattle.translate_cmd.specs.Outcome.{files_of, outcome_of, outcome}
 use Rattle.translate_cmd.specs.Runs.{Runs}
-use Rattle.translate_cmd.specs.Complete.{IsWholeLibrary, CanBeReplayed, CanBeDone, IsAllDone, Completes}
-use Rattle.verilog_replay.specs.Outcome.{replay_files, verilog_limit, stimulus_limit, replay_outcome}
+use Rattle.translate_cmd.specs.Complete.{IsWholeLibrary, CanBeDone, IsAllDone, Completes}
+use Rattle.model_replay.specs.declared.format.ModelFormat.TheVariants as format
+use Rattle.model_replay.specs.Languages.{Language}
+use Rattle.model_replay.specs.Outcome.{replay_files, replay_outcome}
+use Rattle.model_replay.specs.Complete.{CanBeReplayed}
+use Rattle.model_replay.proofs.Completes.{replayed_whole}
+use Rattle.model_languages.specs.Verilog.{verilog}
+use Rattle.model_languages.specs.Vital.{vital}
 
 -- how a status came about
 decided_or : (s : Status) → (s ≡ status.Outside) ⊎ ((s ≡ status.Memory) ⊎ IsTrue (is_decided s))
@@ -61,19 +67,14 @@ whole_is_good : (items : List LibraryItem) (end : Ending) → end ≡ ending.Who
 unfolding outcome_at
 whole_is_good items end e = rw e (record { status = done_or_cells _ _ refl; faults = refl })
 
-fits_not_over : (n limit : ℕ) → n ≤ limit → nat_lt limit n ≡ false
-fits_not_over n limit h = grind (arith, nat_tests, h)
-
 -- then its outcome is good, and all its files are bound
 record IsGoodOf (files : Files) (o : Outcome) : Type 0 where
   good : IsGood o
   binds : take o.binds files ≡ files
 
-replay_is_good : (verilog stimulus : List ℕ) → CanBeReplayed verilog stimulus → IsGoodOf replay_files (replay_outcome verilog stimulus)
-replay_is_good verilog stimulus can =
-    let short = fits_not_over (length verilog) verilog_limit can.verilog_within in
-    let brief = fits_not_over (length stimulus) stimulus_limit can.stimulus_within in
-    rw (short, can.text, brief, can.lines) (record { good = record { status = inl refl; faults = refl }; binds = refl })
+replay_is_good : {M : Type 0} (l : Language M) (text stimulus : List ℕ) → CanBeReplayed l text stimulus → IsGoodOf (replay_files l.format) (replay_outcome l text stimulus)
+replay_is_good l text stimulus can =
+    subst (IsGoodOf (replay_files l.format)) (sym (replayed_whole l text stimulus can)) (record { good = record { status = inl refl; faults = refl }; binds = refl })
 
 can_is_good : (asked : Command) (words : List (List ℕ)) (folder : Folder) → CanBeDone asked words folder → IsGoodOf (files_of asked) (outcome_of asked words folder)
 unfolding outcome_at
@@ -81,7 +82,8 @@ can_is_good (command.Udp udp) words folder can = record { good = record { status
 can_is_good command.Translate words folder can =
     let bytes = bytes_at words folder 1 in
     record { good = whole_is_good (items_within library_limit bytes) (ending_of library_limit bytes) (ends_whole bytes can); binds = refl }
-can_is_good command.ReplayVerilog words folder can = replay_is_good (bytes_at words folder 1) (bytes_at words folder 2) can
+can_is_good (command.Replay format.Verilog) words folder can = replay_is_good verilog (bytes_at words folder 1) (bytes_at words folder 2) can
+can_is_good (command.Replay format.Vital) words folder can = replay_is_good vital (bytes_at words folder 1) (bytes_at words folder 2) can
 can_is_good command.Usage words folder can = absurd can
 
 -- a state behind some that was appended is the same where what was appended is

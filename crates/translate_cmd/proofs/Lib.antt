@@ -7,7 +7,7 @@ pub mod VitalTexts
 pub mod ItemTexts
 pub mod ModelsLemmas
 pub mod TranslateLemmas
-pub mod SectionLemmas
 pub mod ReplayLemmas
+pub mod LanguageLemmas
 pub mod ItemsLemmas
 pub mod CompleteLemmas

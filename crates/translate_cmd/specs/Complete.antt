@@ -1,12 +1,7 @@
 -- When a command does all that it was asked for. This project's promise.
-use Rattle.std.specs.Prelude.{◌≡◌, ◌≤◌, ◌⊎◌, ℕ, List, length, true, Ok}
+use Rattle.std.specs.Prelude.{◌≡◌, ◌≤◌, ◌⊎◌, ℕ, List, length, true}
 use Rattle.liberty_groups.specs.declared.read.End.TheVariants.{Whole}
 use Rattle.liberty_groups.specs.Answer.{end_of_bytes}
-use Rattle.specify_blocks.specs.declared.model.VModule.{VModule}
-use Rattle.specify_blocks.specs.VerilogText.{verilog_text}
-use Rattle.stimulus.specs.declared.sections.Section.{Section}
-use Rattle.stimulus.specs.PortEntries.{listed}
-use Rattle.stimulus.specs.Stimulus.{stimulus_of}
 use Rattle.text_io.specs.declared.slots.InSlot.{InSlot}
 use Rattle.text_io.specs.Desk.{DeskState, Folder}
 use Rattle.command_outcomes.specs.declared.status.Status.{Status}
@@ -16,8 +11,11 @@ use Rattle.translate_cmd.specs.declared.asked.Command.TheVariants as command
 use Rattle.translate_cmd.specs.Reading.{reading}
 use Rattle.command_outcomes.specs.Written.{wrote_all}
 use Rattle.command_outcomes.specs.Binding.{bound_state, AreNamed, took_all, Tells, bytes_at}
-use Rattle.verilog_replay.specs.ModulePorts.{modules_named}
-use Rattle.verilog_replay.specs.Outcome.{verilog_limit, stimulus_limit}
+use Rattle.model_replay.specs.declared.format.ModelFormat.{ModelFormat}
+use Rattle.model_replay.specs.declared.format.ModelFormat.TheVariants as format
+use Rattle.model_replay.specs.Complete.{CanBeReplayed}
+use Rattle.model_languages.specs.Verilog.{verilog}
+use Rattle.model_languages.specs.Vital.{vital}
 use Rattle.translate_cmd.specs.Library.{library_limit}
 use Rattle.translate_cmd.specs.Outcome.{files_of, outcome}
 
@@ -26,21 +24,17 @@ pub record IsWholeLibrary (bytes : List ℕ) : Type 0 where
   pub within : length bytes ≤ library_limit
   pub whole : end_of_bytes bytes true ≡ Whole
 
--- a Verilog file and a stimulus over its modules, both within their limits and neither refused
-pub record CanBeReplayed (verilog stimulus : List ℕ) : Type 0 where
-  pub verilog_within : length verilog ≤ verilog_limit
-  pub modules : List VModule
-  pub text : verilog_text verilog ≡ Ok modules
-  pub stimulus_within : length stimulus ≤ stimulus_limit
-  pub sections : List Section
-  pub lines : stimulus_of (listed (modules_named modules)) stimulus ≡ Ok sections
+-- a file of models of this format and a stimulus that can be replayed
+abbrev pub CanBeReplayedAs : ModelFormat → List ℕ → List ℕ → Type 0
+CanBeReplayedAs format.Verilog text stimulus = CanBeReplayed verilog text stimulus
+CanBeReplayedAs format.Vital text stimulus = CanBeReplayed vital text stimulus
 
 -- The command can be done with these words and files: a primitive can always be printed, a whole library be translated, and a
--- Verilog file be replayed that is not refused, under a stimulus that is not. Words without a reading ask for nothing.
+-- Verilog or VHDL file be replayed that is not refused, under a stimulus that is not. Words without a reading ask for nothing.
 abbrev pub CanBeDone : Command → List (List ℕ) → Folder → Type 0
 CanBeDone (command.Udp udp) words folder = Unit {0}
 CanBeDone command.Translate words folder = IsWholeLibrary (bytes_at words folder 1)
-CanBeDone command.ReplayVerilog words folder = CanBeReplayed (bytes_at words folder 1) (bytes_at words folder 2)
+CanBeDone (command.Replay f) words folder = CanBeReplayedAs f (bytes_at words folder 1) (bytes_at words folder 2)
 CanBeDone command.Usage words folder = ⊥
 
 -- All was done: the files of the command were bound, all that the outcome appends was appended, and nothing was told as a

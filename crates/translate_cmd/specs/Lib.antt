@@ -5,6 +5,5 @@ pub mod Models
 pub mod Library
 pub mod Outcome
 pub mod Runs
-pub mod Replay
 pub mod Reached
 pub mod Complete

@@ -9,7 +9,11 @@ use Rattle.command_outcomes.specs.declared.status.Status.TheVariants.{Done, Usag
 use Rattle.command_outcomes.specs.Written.{nothing_written, in_report}
 use Rattle.command_outcomes.specs.Binding.{Files, bytes_at}
 use Rattle.command_outcomes.specs.Outcome.{Outcome}
-use Rattle.verilog_replay.specs.Outcome.{replay_files, replay_of}
+use Rattle.model_replay.specs.declared.format.ModelFormat.{ModelFormat}
+use Rattle.model_replay.specs.declared.format.ModelFormat.TheVariants as format
+use Rattle.model_replay.specs.Outcome.{replay_files, replay_of}
+use Rattle.model_languages.specs.Verilog.{verilog}
+use Rattle.model_languages.specs.Vital.{vital}
 use Rattle.translate_cmd.specs.declared.asked.Command.{Command}
 use Rattle.translate_cmd.specs.declared.asked.Command.TheVariants as command
 use Rattle.translate_cmd.specs.Reading.{reading}
@@ -22,15 +26,20 @@ translate_files = (Input Library, 1) ∷ (Output VerilogText, 2) ∷ (Output Vit
 -- the files that a command names
 abbrev pub files_of : Command → Files
 files_of command.Translate = translate_files
-files_of command.ReplayVerilog = replay_files
+files_of (command.Replay f) = replay_files f
 files_of (command.Udp udp) = []
 files_of command.Usage = []
+
+-- what the replay of a file of models of this format comes to
+abbrev pub replay_outcome_of : ModelFormat → List (List ℕ) → Folder → Outcome
+replay_outcome_of format.Verilog words folder = replay_of verilog words folder
+replay_outcome_of format.Vital words folder = replay_of vital words folder
 
 -- what a command comes to with these words and files; words without a reading are usage
 abbrev pub outcome_of : Command → List (List ℕ) → Folder → Outcome
 outcome_of (command.Udp udp) words folder = record { status = Done; binds = 0; text = in_report (primitive_text udp); faults = [] }
 outcome_of command.Translate words folder = translate_outcome (bytes_at words folder 1)
-outcome_of command.ReplayVerilog words folder = replay_of words folder
+outcome_of (command.Replay f) words folder = replay_outcome_of f words folder
 outcome_of command.Usage words folder = record { status = Usage; binds = 0; text = nothing_written; faults = codes "lib2sim: usage\n" }
 
 -- what words come to, with these files

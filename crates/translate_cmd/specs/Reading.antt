@@ -8,6 +8,8 @@ use Rattle.text_io.specs.Plan.{are_file_words}
 use Rattle.udp_tables.specs.declared.table.Udp.{Udp}
 use Rattle.udp_tables.specs.Generated.{function_primitive}
 use Rattle.verilog_tokens.specs.Kept.{is_kept_cell_name}
+use Rattle.model_replay.specs.declared.format.ModelFormat.{ModelFormat}
+use Rattle.model_replay.specs.declared.format.ModelFormat.TheVariants as format
 use Rattle.translate_cmd.specs.declared.asked.Command.{Command}
 use Rattle.translate_cmd.specs.declared.asked.Command.TheVariants as command
 
@@ -43,18 +45,20 @@ translate_reading (library ∷ (verilog ∷ (vital ∷ []))) =
     if are_file_words (library ∷ verilog ∷ vital ∷ []) then command.Translate else command.Usage
 translate_reading (library ∷ (verilog ∷ (vital ∷ (more ∷ others)))) = command.Usage
 
--- what the words after `replay-verilog` ask for: those of a Verilog file and of a stimulus, neither empty and not equal
-abbrev pub replay_reading : List (List ℕ) → Command
-replay_reading [] = command.Usage
-replay_reading (verilog ∷ []) = command.Usage
-replay_reading (verilog ∷ (stimulus ∷ [])) = if are_file_words (verilog ∷ stimulus ∷ []) then command.ReplayVerilog else command.Usage
-replay_reading (verilog ∷ (stimulus ∷ (more ∷ others))) = command.Usage
+-- What the words after `replay-verilog` or `replay-vital` ask for: those of a file of models, of the command's format, and of a
+-- stimulus, neither empty and not equal.
+abbrev pub replay_reading : ModelFormat → List (List ℕ) → Command
+replay_reading f [] = command.Usage
+replay_reading f (models ∷ []) = command.Usage
+replay_reading f (models ∷ (stimulus ∷ [])) = if are_file_words (models ∷ stimulus ∷ []) then command.Replay f else command.Usage
+replay_reading f (models ∷ (stimulus ∷ (more ∷ others))) = command.Usage
 
 -- what the words of a command with files ask for, behind its name
 unfoldable pub file_reading : List ℕ → List (List ℕ) → Command
 file_reading name words =
     if bytes_eq name (codes "translate") then translate_reading words
-    else if bytes_eq name (codes "replay-verilog") then replay_reading words
+    else if bytes_eq name (codes "replay-verilog") then replay_reading format.Verilog words
+    else if bytes_eq name (codes "replay-vital") then replay_reading format.Vital words
     else command.Usage
 
 -- what words ask for; usage where they have no reading

@@ -6,6 +6,7 @@ ghost use Rattle.text_io.specs.Plan.{are_file_words};
 ghost use Rattle.translate_cmd.specs.Reading.{asked_primitive, primitive_read, udp_reading, translate_reading, replay_reading, file_reading, reading};
 
 use bool_functions::{Function, FunctionFault, read_free};
+use model_replay::ModelFormat;
 use std::alloc::Global;
 use text_io::Desk;
 use udp_tables::{Udp, function_udp};
@@ -18,8 +19,8 @@ pub(crate) enum Command {
     Udp(Udp),
     /// The models of the cells of a library, to be written.
     Translate,
-    /// The traces of a Verilog file's modules under a stimulus, to be printed.
-    ReplayVerilog,
+    /// The traces of the models of a file of this format under a stimulus, to be printed.
+    Replay(ModelFormat),
     /// Nothing: the words have no reading.
     Usage,
 }
@@ -50,7 +51,9 @@ fn asked_files<D: Desk>(desk: &D, name: &str) -> Command
     if name == "translate" {
         asked_translate(desk)
     } else if name == "replay-verilog" {
-        asked_replay(desk)
+        asked_replay(desk, ModelFormat::Verilog)
+    } else if name == "replay-vital" {
+        asked_replay(desk, ModelFormat::Vital)
     } else {
         Command::Usage
     }
@@ -76,18 +79,18 @@ fn asked_translate<D: Desk>(desk: &D) -> Command
     }
 }
 
-/// What the words after `replay-verilog` ask for.
-fn asked_replay<D: Desk>(desk: &D) -> Command
-    ensures { result ≡ replay_reading (drop 1 (D.state desk.now).words) }
+/// What the words after `replay-verilog` or `replay-vital` ask for, by the format of the models.
+fn asked_replay<D: Desk>(desk: &D, format: ModelFormat) -> Command
+    ensures { result ≡ replay_reading format (drop 1 (D.state desk.now).words) }
 {
-    let Some(verilog) = desk.word(1) else {
+    let Some(models) = desk.word(1) else {
         return Command::Usage;
     };
     let Some(stimulus) = desk.word(2) else {
         return Command::Usage;
     };
-    if desk.word(3).is_none() && are_two_file_words(verilog, stimulus) {
-        Command::ReplayVerilog
+    if desk.word(3).is_none() && are_two_file_words(models, stimulus) {
+        Command::Replay(format)
     } else {
         Command::Usage
     }

@@ -22,7 +22,7 @@ const USAGE: &[u8] = b"lib2sim: usage\n";
 
 /// Runs the command that the desk's words ask for: `udp` prints a primitive, `translate` writes the Verilog and VHDL models
 /// of a library's cells and a report of them, `replay-verilog` prints the traces of a Verilog file's modules under a
-/// stimulus, and words without a reading are `Usage`.
+/// stimulus, `replay-vital` those of a VHDL file's entities, and words without a reading are `Usage`.
 ///
 /// It ends with the status of the outcome of the words and the desk's files, and all that the outcome appends was appended,
 /// or with one of two others: `Outside`, only where a call on the desk failed in this call, and `Memory`, where there was
@@ -33,8 +33,8 @@ const USAGE: &[u8] = b"lib2sim: usage\n";
 /// more than 65,536 bytes before the end of the bytes that it read: both whole models of the accepted ones, and their lines.
 ///
 /// Where no call failed, words of `udp` with a reading come to `Done` or `Memory`, a whole library of at most 67,108,864
-/// bytes, its cells refused or not, to `Done`, `Cells` or `Memory`, and a Verilog file of at most as many bytes and a stimulus of
-/// at most 16,777,216, neither refused, to `Done` or `Memory`.
+/// bytes, its cells refused or not, to `Done`, `Cells` or `Memory`, and a Verilog or VHDL file of at most as many bytes and a
+/// stimulus of at most 16,777,216, neither refused, to `Done` or `Memory`.
 ///
 /// Nothing is bound but what the words name. Of a command that reads files all this is said where the desk tells its folder
 /// and what is left of its files.
@@ -60,7 +60,7 @@ fn carry_out<D: Desk>(alloc: Global, desk: &mut D) -> Status
     match asked(alloc, desk) {
         Ok(Command::Udp(udp)) => ended(write_udp(desk, OutSlot::Report, &udp), Status::Done),
         Ok(Command::Translate) => translate(alloc, desk),
-        Ok(Command::ReplayVerilog) => replay(alloc, desk),
+        Ok(Command::Replay(format)) => replay(alloc, desk, format),
         Ok(Command::Usage) => ended(write_whole(desk, OutSlot::Faults, USAGE), Status::Usage),
         Err(Memory) => Status::Memory,
     }

@@ -5,11 +5,12 @@ mod asked;
 mod cells;
 mod command;
 mod items;
-mod module_sections;
 mod progress;
 mod replay;
 mod stop;
 mod translate;
+mod verilog;
+mod vital;
 
 pub use command::{run, run_sure};
 pub use command_outcomes::Status;

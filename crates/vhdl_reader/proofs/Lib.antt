@@ -1,3 +1,12 @@
 pub mod NextWords
 pub mod NextConstant
 pub mod NextVariable
+pub mod NextPlaces
+pub mod NextLimits
+pub mod NextChecks
+pub mod NextColumn
+pub mod NextValue
+pub mod NextLine
+pub mod Reversed
+pub mod Spelled
+pub mod WellRead

@@ -12,7 +12,7 @@ use Rattle.vhdl_text.specs.declared.scope.Tables.{Tables}
 use Rattle.vhdl_text.specs.declared.scope.Variables.{Variables}
 use Rattle.vhdl_text.specs.VhdlDeclarations.{VariableOf, awaits_violation, variable_of, variable_by, last_true, is_last_false}
 use Rattle.vhdl_text.specs.VhdlDeclarations as declarations
-use Rattle.vhdl_reader.specs.declared.variables.VariableOf.{VariableOf as Kind}
+use Rattle.vhdl_reader.specs.declared.variable_names.VariableOf.{VariableOf as Kind}
 use Rattle.vhdl_reader.specs.Kinds.{variable_kind}
 
 module _ (ports : List VPort) (tables : Tables) (v : Variables) where

@@ -3,8 +3,8 @@ use Rattle.vhdl_text.specs.VhdlTables.{ConstantOf}
 use Rattle.vhdl_text.specs.VhdlTables as tables
 use Rattle.vhdl_text.specs.VhdlDeclarations.{VariableOf}
 use Rattle.vhdl_text.specs.VhdlDeclarations as declarations
-use Rattle.vhdl_reader.specs.declared.variables.VariableOf.{VariableOf as Variable}
-use Rattle.vhdl_reader.specs.declared.variables.VariableOf.TheVariants as variable
+use Rattle.vhdl_reader.specs.declared.variable_names.VariableOf.{VariableOf as Variable}
+use Rattle.vhdl_reader.specs.declared.variable_names.VariableOf.TheVariants as variable
 use Rattle.vhdl_reader.specs.declared.constants.ConstantOf.{ConstantOf as Kind}
 use Rattle.vhdl_reader.specs.declared.constants.ConstantOf.TheVariants as kind
 

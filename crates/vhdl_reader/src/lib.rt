@@ -1,17 +1,31 @@
-//! Entities read from VHDL text, by recursive descent: so far their declarations, with the tables of their architectures.
+//! Entities read from VHDL text, by recursive descent. (IEEE 1076-1993; IEEE 1076.4-2000.)
 #![tactic(auto)]
 
+mod checks;
+mod columns;
+mod conditions;
 mod constants;
+mod entity;
 mod header;
+mod joined;
 mod language;
+mod limits;
+mod lines;
+mod names;
+mod outputs;
+mod paths;
 mod process;
+mod pulses;
+mod read;
 mod scope;
+mod sources;
+mod state_calls;
 mod state_rows;
 mod symbols;
 mod truth_rows;
+mod values;
+mod variable_names;
 mod variables;
 mod words;
 
-pub use header::packages;
-pub use language::Vhdl;
-pub use scope::scope_of;
+pub use read::read_entities;

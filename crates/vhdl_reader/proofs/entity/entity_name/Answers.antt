@@ -1,0 +1,9 @@
+use Rattle.std.proofs.Common.{ap, ◌∙◌}
+use Rattle.vhdl_text.specs.VhdlRules.{is_among}
+use Rattle.vhdl_text.specs.VhdlText.{entity_names}
+use Rattle.vhdl_reader.proofs.entity.entity_name.Goals as goal
+
+pub returns : goal.returns
+returns c =
+    c.fresh_name.ensures (entity_names c.args.entities.now)
+    (c.is_entity_name-taken.ensures ∙ ap (is_among (entity_names c.args.entities.now)) c.bytes.ensures)

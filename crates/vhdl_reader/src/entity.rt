@@ -1,0 +1,159 @@
+//! Entities of a text, by recursive descent. (IEEE 1076-1993, 1.1 and 1.2; IEEE 1076.4-2000.)
+
+ghost use Rattle.std.specs.Prelude.{◌≡◌, codes};
+ghost use Rattle.grammar_rules.specs.Rule.{Many};
+ghost use Rattle.grammar_rules.specs.Reading.{read};
+ghost use Rattle.rule_readers.specs.Reading.{Reads, ReadsAs};
+ghost use Rattle.vhdl_text.specs.VhdlRules as rules;
+ghost use Rattle.vhdl_text.specs.VhdlText as spec;
+ghost use Rattle.vhdl_reader.specs.File.{entities_of};
+
+use crate::checks::{Checks, all_checks};
+use crate::header::packages;
+use crate::joined::entity_with;
+use crate::language::Vhdl;
+use crate::lines::output_lines;
+use crate::process::input_names;
+use crate::scope::scope_of;
+use crate::state_calls::{state_calls, violation};
+use crate::values::values_of;
+use crate::words::expect_all;
+use rule_readers::{Cursor, Refusal, Stop};
+use sqlite_items::Items;
+use std::alloc::Global;
+use vhdl_text::Scope;
+use vhdl_tokens::is_same;
+use vital_models::VEntity;
+
+/// The wait at the end of a process in which these names are its sensitivity list, if there are none. (IEEE 1076-1993, 8.1.)
+fn last_wait(cursor: &mut Cursor<'_, Vhdl>, names: &[Items<u8>]) -> Result<(), Stop>
+    ensures { Reads (read (spec.last_wait names.now) cursor.old) result cursor.new }
+{
+    match names {
+        [] => expect_all(cursor, &[b"wait", b";"]),
+        _ => Ok(()),
+    }
+}
+
+/// Whether each condition was looked up.
+fn are_looked_up(scope: &Scope, uses: &[Items<usize>]) -> bool
+    ensures { result ≡ spec.are_looked_up scope.now uses.now }
+{
+    uses.len() == scope.tables.conditions.len()
+}
+
+/// The end of an entity, behind all look-ups of conditions.
+#[tactic(auto, unfolding(vhdl_text::specs::VhdlText::entity_end))]
+fn entity_end(
+    cursor: &mut Cursor<'_, Vhdl>,
+    alloc: Global,
+    scope: &Scope,
+    uses: &[Items<usize>],
+) -> Result<(), Stop>
+    ensures { Reads (read (spec.entity_end scope.now uses.now) cursor.old) result cursor.new }
+{
+    let inputs = input_names(alloc, scope.ports.as_slice())?;
+    last_wait(cursor, inputs.as_slice())?;
+    cursor.expect_where(are_looked_up(scope, uses), Refusal::Undriven, b"end")?;
+    expect_all(cursor, &[b"process", b";", b"end", b"vital", b";"])
+}
+
+/// The statements behind these declarations: an entity.
+#[tactic(auto, unfolding(vhdl_text::specs::VhdlText::statements))]
+fn statements(cursor: &mut Cursor<'_, Vhdl>, alloc: Global, scope: Scope) -> Result<VEntity, Stop>
+    ensures { Reads (read (spec.statements scope) cursor.old) result cursor.new }
+{
+    let Checks { checks, uses } = all_checks(cursor, alloc, &scope)?;
+    violation(cursor, alloc, &scope)?;
+    let columns = state_calls(cursor, alloc, &scope)?;
+    let values = values_of(cursor, alloc, &scope)?;
+    let lines = output_lines(cursor, alloc, &scope, uses)?;
+    entity_end(cursor, alloc, &scope, lines.1.as_slice())?;
+    let entity = entity_with(alloc, scope, checks, columns, values, lines)?;
+    Ok(entity)
+}
+
+/// Whether a name is that of one of these entities.
+fn is_entity_name(entities: &[VEntity], name: &[u8]) -> bool
+    ensures { result ≡ rules.is_among (spec.entity_names entities.now) name.now }
+{
+    for entity in entities {
+        if is_same(name, entity.name.as_slice()) {
+            return true;
+        }
+    }
+    false
+}
+
+/// The name of an entity, where these entities stand before it.
+fn entity_name(
+    cursor: &mut Cursor<'_, Vhdl>,
+    alloc: Global,
+    entities: &[VEntity],
+) -> Result<Items<u8>, Stop>
+    ensures { Reads (read (rules.new_name (spec.entity_names entities.now)) cursor.old) result cursor.new }
+{
+    let taken = is_entity_name(entities, cursor.bytes());
+    cursor.fresh_name(alloc, taken)
+}
+
+/// An entity behind its first word, where these entities stand before it.
+#[tactic(auto, unfolding(vhdl_text::specs::VhdlText::entity))]
+fn entity(
+    cursor: &mut Cursor<'_, Vhdl>,
+    alloc: Global,
+    entities: &[VEntity],
+) -> Result<VEntity, Stop>
+    ensures { Reads (read (spec.entity (spec.entity_names entities.now)) cursor.old) result cursor.new }
+{
+    packages(cursor)?;
+    cursor.expect(b"entity")?;
+    let name = entity_name(cursor, alloc, entities)?;
+    let scope = scope_of(cursor, alloc, name)?;
+    statements(cursor, alloc, scope)
+}
+
+/// One more entity, behind its first word.
+#[tactic(auto, unfolding(vhdl_text::specs::VhdlText::next_entity))]
+fn next_entity(
+    cursor: &mut Cursor<'_, Vhdl>,
+    alloc: Global,
+    mut entities: Vec<VEntity>,
+) -> Result<Vec<VEntity>, Stop>
+    ensures { ReadsAs entities_of (read (spec.next_entity entities.items) cursor.old) result cursor.new }
+{
+    let more = entity(cursor, alloc, &entities)?;
+    entities.push(more)?;
+    Ok(entities)
+}
+
+/// The entities behind these.
+#[tactic(auto, using(rule_readers::proofs::Repeats::turn, crate::proofs::NextWords::choose_begun, crate::proofs::NextWords::choose_other))]
+fn more_entities(
+    cursor: &mut Cursor<'_, Vhdl>,
+    alloc: Global,
+    mut entities: Vec<VEntity>,
+) -> Result<Vec<VEntity>, Stop>
+    ensures { ReadsAs entities_of (read (Many (λ _. rules.begins (codes "library")) (λ found _. spec.next_entity found) entities.items) cursor.old) result cursor.new }
+{
+    for _turn in 0..cursor.left() {
+        if !cursor.is_next(b"library") {
+            break;
+        }
+        cursor.skip();
+        entities = next_entity(cursor, alloc, entities)?;
+    }
+    Ok(entities)
+}
+
+/// All entities of a text, and nothing behind them.
+#[tactic(auto, unfolding(vhdl_text::specs::VhdlText::file))]
+pub fn file(cursor: &mut Cursor<'_, Vhdl>, alloc: Global) -> Result<Vec<VEntity>, Stop>
+    ensures { ReadsAs entities_of (read spec.file cursor.old) result cursor.new }
+{
+    let entities = more_entities(cursor, alloc, Vec::new(alloc))?;
+    if cursor.left() > 0 {
+        return Err(Stop::Refused(Refusal::Syntax));
+    }
+    Ok(entities)
+}

@@ -1,0 +1,162 @@
+//! The inputs that statements name, and lists of them. (IEEE 1076-1993, 6.2 and 7.3.2.)
+
+ghost use Rattle.std.specs.Prelude.{◌≡◌, ℕ, nat_eq, List, [], codes};
+ghost use Rattle.std.specs.List.{list_any};
+ghost use Rattle.grammar_rules.specs.Rule.{Many};
+ghost use Rattle.grammar_rules.specs.Reading.{read};
+ghost use Rattle.rule_readers.specs.Reading.{Reads};
+ghost use Rattle.vital_models.specs.Sound as sound;
+ghost use Rattle.vhdl_text.specs.VhdlRules as rules;
+ghost use Rattle.vhdl_text.specs.VhdlNames as spec;
+
+use crate::language::Vhdl;
+use crate::words::{is_number_token, known_number};
+use rule_readers::{Cursor, Refusal, Stop};
+use sqlite_items::Items;
+use std::alloc::Global;
+use udp_tables::VPort;
+use vhdl_tokens::{is_name, is_same};
+
+/// The number of the port with this name.
+fn port_of(ports: &[VPort], name: &[u8]) -> Option<usize>
+    ensures { result ≡ spec.port_of ports.now name.now }
+{
+    ports
+        .iter()
+        .position(|port| is_same(name, port.name.as_slice()))
+}
+
+/// Whether this is the number of an input.
+fn is_input_port(ports: &[VPort], port: usize) -> bool
+    ensures { result ≡ sound.is_input_port ports.now port }
+{
+    match ports.get(port) {
+        Some(port) => port.input,
+        None => false,
+    }
+}
+
+/// The number of the input with this name.
+pub fn input_of(ports: &[VPort], name: &[u8]) -> Option<usize>
+    ensures { result ≡ spec.input_of ports.now name.now }
+{
+    match port_of(ports, name) {
+        Some(port) if is_input_port(ports, port) => Some(port),
+        _ => None,
+    }
+}
+
+/// The name of an input.
+#[tactic(auto, unfolding(vhdl_text::specs::VhdlNames::an_input))]
+pub fn an_input(cursor: &mut Cursor<'_, Vhdl>, ports: &[VPort]) -> Result<usize, Stop>
+    ensures { Reads (read (spec.an_input ports.now) cursor.old) result cursor.new }
+{
+    let found = input_of(ports, cursor.bytes());
+    known_number(cursor, found)
+}
+
+/// Whether a number is one of these.
+pub fn is_listed(numbers: &[usize], number: usize) -> bool
+    ensures { result ≡ list_any (nat_eq number) numbers.now }
+{
+    for other in numbers {
+        if number == *other {
+            return true;
+        }
+    }
+    false
+}
+
+/// The name of an input behind these in a list.
+#[tactic(auto, using(crate::proofs::NextWords::named_fits, crate::proofs::NextWords::named_foul, crate::proofs::NextWords::named_misfit, crate::proofs::NextWords::named_other))]
+fn listed_name(
+    cursor: &mut Cursor<'_, Vhdl>,
+    ports: &[VPort],
+    inputs: &[usize],
+) -> Result<usize, Stop>
+    ensures { Reads (read (rules.named (spec.input_by ports.now inputs.now)) cursor.old) result cursor.new }
+{
+    if !is_name(cursor.bytes()) {
+        return Err(Stop::Refused(Refusal::Syntax));
+    }
+    let Some(port) = input_of(ports, cursor.bytes()) else {
+        return Err(Stop::Refused(Refusal::Undefined));
+    };
+    if is_listed(inputs, port) {
+        return Err(Stop::Refused(Refusal::Twice));
+    }
+    cursor.skip();
+    Ok(port)
+}
+
+/// One more input of a list.
+#[tactic(auto, unfolding(vhdl_text::specs::VhdlNames::listed_input))]
+fn listed_input(
+    cursor: &mut Cursor<'_, Vhdl>,
+    ports: &[VPort],
+    mut inputs: Items<usize>,
+) -> Result<Items<usize>, Stop>
+    ensures { Reads (read (spec.listed_input ports.now inputs) cursor.old) result cursor.new }
+{
+    let port = listed_name(cursor, ports, inputs.as_slice())?;
+    inputs.push(port)?;
+    Ok(inputs)
+}
+
+/// The inputs of a list behind these.
+#[tactic(auto, using(rule_readers::proofs::Repeats::turn, crate::proofs::NextWords::choose_begun, crate::proofs::NextWords::choose_other))]
+fn more_inputs(
+    cursor: &mut Cursor<'_, Vhdl>,
+    ports: &[VPort],
+    mut inputs: Items<usize>,
+) -> Result<Items<usize>, Stop>
+    ensures { Reads (read (Many (λ _. rules.begins (codes ",")) (λ found _. spec.listed_input ports.now found) inputs) cursor.old) result cursor.new }
+{
+    for _turn in 0..cursor.left() {
+        if !cursor.is_next(b",") {
+            break;
+        }
+        cursor.skip();
+        inputs = listed_input(cursor, ports, inputs)?;
+    }
+    Ok(inputs)
+}
+
+/// A list of two inputs or more.
+#[tactic(auto, unfolding(vhdl_text::specs::VhdlRules::several_elements, vhdl_text::specs::VhdlRules::more_elements))]
+fn several_inputs(
+    cursor: &mut Cursor<'_, Vhdl>,
+    alloc: Global,
+    ports: &[VPort],
+) -> Result<Items<usize>, Stop>
+    ensures { Reads (read (rules.several_elements (spec.listed_input ports.now) []) cursor.old) result cursor.new }
+{
+    let first = listed_input(cursor, ports, Items::new(alloc))?;
+    cursor.expect(b",")?;
+    let second = listed_input(cursor, ports, first)?;
+    more_inputs(cursor, ports, second)
+}
+
+/// A list of inputs.
+#[tactic(auto, unfolding(vhdl_text::specs::VhdlRules::elements, vhdl_text::specs::VhdlRules::only_element), using(rule_readers::proofs::Choices::choose_by, rule_readers::proofs::Choices::choose_not_by))]
+pub fn inputs(
+    cursor: &mut Cursor<'_, Vhdl>,
+    alloc: Global,
+    ports: &[VPort],
+) -> Result<Items<usize>, Stop>
+    ensures { Reads (read (rules.elements (spec.listed_input ports.now) []) cursor.old) result cursor.new }
+{
+    if !is_number_token(0, cursor.bytes()) {
+        return several_inputs(cursor, alloc, ports);
+    }
+    cursor.skip();
+    cursor.expect(b"=>")?;
+    listed_input(cursor, ports, Items::new(alloc))
+}
+
+/// The end of a list of so many names, which has to have another number of them.
+pub fn list_end(cursor: &mut Cursor<'_, Vhdl>, width: usize, count: usize) -> Result<(), Stop>
+    ensures { Reads (read (spec.list_end width count) cursor.old) result cursor.new }
+{
+    cursor.expect_where(count == width, Refusal::Width, b")")
+}

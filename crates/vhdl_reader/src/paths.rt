@@ -96,8 +96,17 @@ fn gate_of_conditions(
     all_zero(cursor, alloc, scope, (number, more))
 }
 
+/// The word of a path that counts always, and the lists.
+#[tactic(auto, unfolding(vhdl_text::specs::VhdlOutputs::always))]
+fn always(cursor: &mut Cursor<'_, Vhdl>, uses: Uses) -> Result<(HGate, Uses), Stop>
+    ensures { Reads (read (spec.always uses) cursor.old) result cursor.new }
+{
+    cursor.expect(b"true")?;
+    Ok((HGate::Always, uses))
+}
+
 /// When a path counts, and the lists.
-#[tactic(auto, unfolding(vhdl_text::specs::VhdlOutputs::gate_of, vhdl_text::specs::VhdlOutputs::always), using(crate::proofs::NextWords::choose_begun, crate::proofs::NextWords::choose_other))]
+#[tactic(auto, unfolding(vhdl_text::specs::VhdlOutputs::gate_of), using(crate::proofs::NextWords::choose_begun, crate::proofs::NextWords::choose_other))]
 fn gate_of(
     cursor: &mut Cursor<'_, Vhdl>,
     alloc: Global,
@@ -106,12 +115,11 @@ fn gate_of(
 ) -> Result<(HGate, Uses), Stop>
     ensures { Reads (read (spec.gate_of scope.now uses) cursor.old) result cursor.new }
 {
-    if cursor.is_next(b"VitalTruthTable") {
-        cursor.skip();
-        return gate_of_conditions(cursor, alloc, scope, uses);
+    if !cursor.is_next(b"VitalTruthTable") {
+        return always(cursor, uses);
     }
-    cursor.expect(b"true")?;
-    Ok((HGate::Always, uses))
+    cursor.skip();
+    gate_of_conditions(cursor, alloc, scope, uses)
 }
 
 /// The delays of a rise and of a fall.

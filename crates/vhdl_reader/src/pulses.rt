@@ -29,20 +29,27 @@ pub struct Pulse {
 fn pulse_of(token: &[u8]) -> Option<Pulse>
     ensures { option_map pulse_as result ≡ spec.pulse_of token.now }
 {
-    let (kind, first, second) = if is_same(token, b"PulseWidthHigh") {
-        (CheckKind::Width, Edge::Rise, Edge::Fall)
+    if is_same(token, b"PulseWidthHigh") {
+        Some(Pulse {
+            kind: CheckKind::Width,
+            first: Edge::Rise,
+            second: Edge::Fall,
+        })
     } else if is_same(token, b"PulseWidthLow") {
-        (CheckKind::Width, Edge::Fall, Edge::Rise)
+        Some(Pulse {
+            kind: CheckKind::Width,
+            first: Edge::Fall,
+            second: Edge::Rise,
+        })
     } else if is_same(token, b"Period") {
-        (CheckKind::Period, Edge::Any, Edge::Any)
+        Some(Pulse {
+            kind: CheckKind::Period,
+            first: Edge::Any,
+            second: Edge::Any,
+        })
     } else {
-        return None;
-    };
-    Some(Pulse {
-        kind,
-        first,
-        second,
-    })
+        None
+    }
 }
 
 /// What is checked of one signal, by the word that stands next.

@@ -7,6 +7,7 @@ pub mod NextChecks
 pub mod NextColumn
 pub mod NextValue
 pub mod NextLine
+pub mod NextGate
 pub mod Reversed
 pub mod Spelled
 pub mod WellRead

@@ -106,7 +106,7 @@ fn always(cursor: &mut Cursor<'_, Vhdl>, uses: Uses) -> Result<(HGate, Uses), St
 }
 
 /// When a path counts, and the lists.
-#[tactic(auto, unfolding(vhdl_text::specs::VhdlOutputs::gate_of), using(crate::proofs::NextWords::choose_begun, crate::proofs::NextWords::choose_other))]
+#[tactic(auto, using(crate::proofs::NextGate::gated, crate::proofs::NextGate::ungated))]
 fn gate_of(
     cursor: &mut Cursor<'_, Vhdl>,
     alloc: Global,

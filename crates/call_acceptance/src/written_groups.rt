@@ -1,0 +1,48 @@
+//! A cell as it is written.
+
+ghost use Rattle.std.specs.Prelude.{IfOk, IsTrue};
+ghost use Rattle.liberty_groups.specs.Writing.{is_writable};
+
+use liberty_groups::{Group, Item, Memory, Value, write_group};
+use sqlite_items::Items;
+use std::alloc::Global;
+use std::test::Fail;
+
+/// A cell with one attribute, and a quote in its name.
+fn cell(alloc: Global) -> Result<Group, Memory>
+    ensures { IfOk result (λ group. IsTrue (is_writable 32 group)) }
+{
+    let mut value = Items::new(alloc);
+    value.push(Value {
+        bytes: Items::from_slice(alloc, b"1.5")?,
+        quoted: false,
+    })?;
+    let mut items = Items::new(alloc);
+    items.push(Item::Simple {
+        name: Items::from_slice(alloc, b"area")?,
+        value,
+        at: 0,
+    })?;
+    let mut arguments = Items::new(alloc);
+    arguments.push(Value {
+        bytes: Items::from_slice(alloc, b"A\"B")?,
+        quoted: true,
+    })?;
+    Ok(Group {
+        name: Items::from_slice(alloc, b"cell")?,
+        arguments,
+        items,
+        at: 0,
+    })
+}
+
+#[test]
+fn a_cell(rt: HostRuntime) -> Result<(), Fail> {
+    let group = cell(rt.alloc())?;
+    let text = write_group(rt.alloc(), &group)?;
+    assert_eq!(rt;
+        text.as_slice(),
+        b"cell (\"A\\\"B\") {\narea : \"1.5\";\n}\n".as_slice()
+    );
+    Ok(())
+}

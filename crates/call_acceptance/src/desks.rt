@@ -68,7 +68,7 @@ fn real_files_are_read_and_written(rt: HostRuntime) -> Result<(), Fail> {
     let mut desk = FileDesk::new(rt.clone()?, words(alloc)?);
     bind(&mut desk)?;
     let (bytes, more, failed) = copy(alloc, &mut desk)?;
-    assert_eq!(rt; bytes.as_slice(), [0, 0, 0, 0].as_slice());
+    assert!(rt; bytes.as_slice() == [0, 0, 0, 0].as_slice());
     assert!(rt; more);
     assert!(rt; failed);
     Ok(())
@@ -83,28 +83,37 @@ fn a_file_that_is_read_is_not_emptied(rt: HostRuntime) -> Result<(), Fail> {
     let kept = fs::read_to_string(&rt, "one.lib")?;
     fs::remove_file(&rt, "one.lib")?;
     assert!(rt; failed);
-    assert_eq!(rt; kept.as_str(), "library");
+    assert!(rt; kept.as_str() == "library");
     Ok(())
+}
+
+/// A file in memory, by the name of the library.
+fn named_file(alloc: Global, bytes: &[u8]) -> Result<NamedFile, AllocError> {
+    Ok(NamedFile {
+        name: String::from_str(alloc, "/dev/zero")?,
+        bytes: Vec::from_slice(alloc, bytes)?,
+    })
+}
+
+/// Two files of one name.
+fn folder(alloc: Global) -> Result<Vec<NamedFile>, AllocError> {
+    let mut folder = Vec::new(alloc);
+    folder.push(named_file(alloc, b"abcdef")?)?;
+    folder.push(named_file(alloc, b"ghijkl")?)?;
+    Ok(folder)
 }
 
 #[test]
 fn files_in_memory_are_read_and_written_in_pieces(rt: HostRuntime) -> Result<(), Fail> {
     let alloc = rt.alloc();
-    let mut folder = Vec::new(alloc);
-    for bytes in [b"abcdef", b"ghijkl"] {
-        let name = String::from_str(alloc, "/dev/zero")?;
-        folder.push(NamedFile {
-            name,
-            bytes: Vec::from_slice(alloc, bytes)?,
-        })?;
-    }
+    let folder = folder(alloc)?;
     let mut desk = MemoryDesk::in_pieces(alloc, words(alloc)?, folder, Vec::new(alloc), 3, 2)?;
     bind(&mut desk)?;
     let (bytes, more, failed) = copy(alloc, &mut desk)?;
-    assert_eq!(rt; bytes.as_slice(), b"abcd".as_slice());
+    assert!(rt; bytes.as_slice() == b"abcd".as_slice());
     assert!(rt; more);
     assert!(rt; failed);
-    assert_eq!(rt; desk.written(OutSlot::VerilogText), b"abc".as_slice());
-    assert_eq!(rt; desk.faults(), 1);
+    assert!(rt; desk.written(OutSlot::VerilogText) == b"abc".as_slice());
+    assert!(rt; desk.faults() == 1);
     Ok(())
 }

@@ -4,7 +4,7 @@ use liberty_text::{
     Fixed, NumberFault, Stop, TextFault, Token, TokenKind, Unit, fixed, picoseconds, scan,
     text_value, tokens,
 };
-use std::test::Fail;
+use std::alloc::Global;
 
 fn token(kind: TokenKind, at: usize, end: usize, line_before: bool) -> Token {
     Token {
@@ -15,41 +15,64 @@ fn token(kind: TokenKind, at: usize, end: usize, line_before: bool) -> Token {
     }
 }
 
+/// Whether a text has these tokens, and no fault.
+fn has_tokens(alloc: Global, text: &[u8], wanted: &[Token]) -> bool {
+    match tokens(alloc, text) {
+        Ok(found) => found.as_slice() == wanted,
+        Err(_) => false,
+    }
+}
+
 #[test]
-fn tokens_of_a_statement(rt: HostRuntime) -> Result<(), Fail> {
-    let found = tokens(rt.alloc(), b"a/*\n*/ : \"x\\\n\" ;")?;
-    let expected = [
+fn tokens_of_a_statement(rt: HostRuntime) {
+    let wanted = [
         token(TokenKind::Word, 0, 1, false),
         token(TokenKind::Colon, 7, 8, true),
         token(TokenKind::Text, 9, 14, false),
         token(TokenKind::Semicolon, 15, 16, false),
     ];
-    assert_eq!(rt; found.as_slice(), expected.as_slice());
-    Ok(())
+    assert!(rt; has_tokens(rt.alloc(), b"a/*\n*/ : \"x\\\n\" ;", &wanted));
+}
+
+/// Whether the scan of a text finds these tokens and stops so.
+fn scans_to(alloc: Global, text: &[u8], wanted: &[Token], stop: Stop) -> bool {
+    match scan(alloc, text) {
+        Ok(found) => found.tokens.as_slice() == wanted && found.stop == stop,
+        Err(_) => false,
+    }
 }
 
 #[test]
-fn a_comment_that_its_own_slash_does_not_close(rt: HostRuntime) -> Result<(), Fail> {
-    let found = scan(rt.alloc(), b"//*/")?;
-    assert_eq!(rt;
-        found.tokens.as_slice(),
-        [token(TokenKind::Word, 0, 1, false)].as_slice()
-    );
-    assert_eq!(rt; found.stop, Stop::OpenComment(1));
-    Ok(())
+fn a_comment_that_its_own_slash_does_not_close(rt: HostRuntime) {
+    let word = token(TokenKind::Word, 0, 1, false);
+    assert!(rt; scans_to(rt.alloc(), b"//*/", &[word], Stop::OpenComment(1)));
+}
+
+/// Whether a text of Liberty's begins at this offset of a library and does not close.
+fn has_open_text(alloc: Global, text: &[u8], at: usize) -> bool {
+    match tokens(alloc, text) {
+        Err(TextFault::OpenText(found)) => found == at,
+        _ => false,
+    }
 }
 
 #[test]
 fn a_text_that_does_not_close(rt: HostRuntime) {
-    let found = tokens(rt.alloc(), b"library (L) { cell (A) { area : \"1");
-    assert!(rt; matches!(&found, Err(TextFault::OpenText(32))));
+    let text = b"library (L) { cell (A) { area : \"1";
+    assert!(rt; has_open_text(rt.alloc(), text, 32));
+}
+
+/// Whether the value of a text, written between its quotes, is this.
+fn has_value(alloc: Global, text: &[u8], value: &[u8]) -> bool {
+    match text_value(alloc, text) {
+        Ok(found) => found.as_slice() == value,
+        Err(_) => false,
+    }
 }
 
 #[test]
-fn the_value_of_a_text(rt: HostRuntime) -> Result<(), Fail> {
-    let value = text_value(rt.alloc(), b"a \\ \n\\\"b\\c\nd")?;
-    assert_eq!(rt; value.as_slice(), b"a \"b\\c d".as_slice());
-    Ok(())
+fn the_value_of_a_text(rt: HostRuntime) {
+    assert!(rt; has_value(rt.alloc(), b"a \\ \n\\\"b\\c\nd", b"a \"b\\c d"));
 }
 
 fn is_time(text: &[u8], unit: Unit, time: Option<u64>) -> bool {
@@ -69,17 +92,24 @@ fn numbers_as_times(rt: HostRuntime) {
     assert!(rt; is_time(b"1e15", Unit::Ps1, None));
 }
 
+/// Whether a text is read as this number, or has this fault.
+fn is_read_as(text: &[u8], wanted: Result<Fixed, NumberFault>) -> bool {
+    fixed(text) == wanted
+}
+
 #[test]
 fn numbers_out_of_bounds(rt: HostRuntime) {
-    assert_eq!(rt; fixed(b"1e"), Err(NumberFault::NotNumber));
-    assert_eq!(rt;
-        fixed(b"00.1234567890123456789e99"),
-        Err(NumberFault::TooManyDigits)
+    assert!(rt; is_read_as(b"1e", Err(NumberFault::NotNumber)));
+    assert!(rt;
+        is_read_as(
+            b"00.1234567890123456789e99",
+            Err(NumberFault::TooManyDigits)
+        )
     );
-    assert_eq!(rt; fixed(b"0e-31"), Err(NumberFault::TooLarge));
+    assert!(rt; is_read_as(b"0e-31", Err(NumberFault::TooLarge)));
     let number = Fixed {
         mantissa: -10,
         exponent: -31,
     };
-    assert_eq!(rt; fixed(b"-1.0e-30"), Ok(number));
+    assert!(rt; is_read_as(b"-1.0e-30", Ok(number)));
 }

@@ -1,11 +1,10 @@
 //! Timing as it stands in libraries. The expected numbers are worked out by hand from the texts.
-use bool_functions::Names;
+use bool_functions::{Memory, Names};
 use cell_machine::{Arc, Check, CheckKind, Direction, Edge, Event, Pin};
 use liberty_groups::{Group, Item, read_library};
 use liberty_text::Unit;
 use sqlite_items::Items;
 use std::alloc::Global;
-use std::test::Fail;
 use timing_arcs::{PinTiming, Room, Subject, read_timing};
 
 /// The pins CK, SE and D are inputs, Q is an output. These are the numbers of some.
@@ -15,13 +14,14 @@ const DATA: usize = 2;
 
 const OUTPUT: usize = 3;
 
+/// Adds a pin, and its name.
 fn add_pin(
     alloc: Global,
     names: &mut Names,
     pins: &mut Items<Pin>,
     name: &[u8],
     direction: Direction,
-) -> Result<(), Fail> {
+) -> Result<(), Memory> {
     names.add(name)?;
     pins.push(Pin {
         name: Items::from_slice(alloc, name)?,
@@ -30,7 +30,7 @@ fn add_pin(
     Ok(())
 }
 
-fn subject(alloc: Global, place: usize) -> Result<Subject, Fail> {
+fn subject(alloc: Global, place: usize) -> Result<Subject, Memory> {
     let mut names = Names::new(alloc);
     let mut pins = Items::new(alloc);
     add_pin(alloc, &mut names, &mut pins, b"CK", Direction::Input)?;
@@ -53,23 +53,20 @@ fn pin_group(cell: &Group) -> Option<&Group> {
     }
 }
 
-fn read(alloc: Global, text: &[u8], place: usize) -> Result<PinTiming, Fail> {
-    let reading = read_library(alloc, text, true)?;
-    let subject = subject(alloc, place)?;
-    let pin = reading
-        .cells
-        .get(0)
-        .and_then(|cell| pin_group(cell))
-        .ok_or("no pin")?;
-    if subject.place >= subject.pins.len() {
-        return Err("no such pin".into());
+/// The timing of the pin of a library, which is the one of this number.
+fn read(alloc: Global, text: &[u8], place: usize) -> Option<PinTiming> {
+    let reading = read_library(alloc, text, true).ok()?;
+    let pin = pin_group(reading.cells.get(0)?)?;
+    let subject = subject(alloc, place).ok()?;
+    if place >= subject.pins.len() {
+        return None;
     }
     let room = Room {
         checks: 3,
         arcs: 4,
         left_out: true,
     };
-    Ok(read_timing(alloc, pin, &subject, room)?)
+    read_timing(alloc, pin, &subject, room).ok()
 }
 
 type Shape = (CheckKind, Event, Event, u64);
@@ -82,42 +79,66 @@ fn event(pin: usize, edge: Edge) -> Event {
     Event { pin, edge }
 }
 
-#[test]
-fn scan_flip_flop_data(rt: HostRuntime) -> Result<(), Fail> {
-    let text = b"library (L) { cell (SDFFR) { pin (D) { direction : input;
+/// Whether a timing was read that has this check alone, and no group of it is left out.
+fn has_one_check(timing: Option<PinTiming>, wanted: Shape) -> bool {
+    let Some(timing) = timing else {
+        return false;
+    };
+    match timing.checks.as_slice() {
+        [check] => shape(check) == wanted && timing.left_out.len() == 0,
+        _ => false,
+    }
+}
+
+const SCAN_DATA: &[u8] = b"library (L) { cell (SDFFR) { pin (D) { direction : input;
         timing () { related_pin : \"CK\"; timing_type : setup_rising;
             rise_constraint (t) { values (\"0.05, 0.0612\", \"0.031, 0.04\"); }
             fall_constraint (t) { values (\"0.02, 0.03\"); } }
         timing () { related_pin : \"CK\"; timing_type : hold_rising;
             rise_constraint (t) { values (\"-0.012, -0.02\"); }
             fall_constraint (t) { values (\"-0.03\"); } } } } }";
-    let timing = read(rt.alloc(), text, DATA)?;
+
+#[test]
+fn scan_flip_flop_data(rt: HostRuntime) {
     let setup = (
         CheckKind::Setup,
         event(DATA, Edge::Any),
         event(CLOCK, Edge::Rise),
         62,
     );
-    assert_eq!(rt; timing.checks.len(), 1);
-    assert_eq!(rt; timing.checks.get(0).map(|check| shape(check)), Some(setup));
-    assert_eq!(rt; timing.left_out.len(), 0);
-    Ok(())
+    assert!(rt; has_one_check(read(rt.alloc(), SCAN_DATA, DATA), setup));
 }
 
-/// An arc without its condition, and whether it has one.
-fn delays(arc: &Arc) -> (usize, usize, u64, u64, bool) {
-    (
-        arc.from,
-        arc.to,
-        arc.rise,
-        arc.fall,
-        arc.condition.is_some(),
-    )
+/// Whether an arc from the clock to the output has these delays, and a condition or none.
+fn is_arc(arc: &Arc, rise: u64, fall: u64, is_conditional: bool) -> bool {
+    arc.from == CLOCK
+        && arc.to == OUTPUT
+        && arc.rise == rise
+        && arc.fall == fall
+        && arc.condition.is_some() == is_conditional
 }
 
-#[test]
-fn scan_flip_flop_output(rt: HostRuntime) -> Result<(), Fail> {
-    let text = b"library (L) { cell (SDFFR) { pin (Q) { direction : output;
+/// Whether these are the three arcs of the scan flip-flop's output.
+fn are_output_arcs(arcs: &[Arc]) -> bool {
+    match arcs {
+        [first, second, third] => {
+            is_arc(first, 111, 99, true)
+                && is_arc(second, 109, 99, true)
+                && is_arc(third, 111, 99, false)
+        }
+        _ => false,
+    }
+}
+
+/// Whether a timing was read that has these arcs, and the group behind the fourth item is left out.
+fn has_output_arcs(timing: Option<PinTiming>) -> bool {
+    let Some(timing) = timing else {
+        return false;
+    };
+    are_output_arcs(timing.arcs.as_slice()) && timing.left_out.as_slice() == [4].as_slice()
+}
+
+const SCAN_OUTPUT: &[u8] = b"library (L) { cell (SDFFR) { pin (Q) { direction : output;
         timing () { related_pin : \"CK\"; timing_type : rising_edge; when : \"SE\";
             cell_rise (t) { values (\"0.09, 0.1105\"); } cell_fall (t) { values (\"0.0981\"); } }
         timing () { related_pin : \"CK\"; timing_type : rising_edge; when : \"!SE\";
@@ -126,18 +147,10 @@ fn scan_flip_flop_output(rt: HostRuntime) -> Result<(), Fail> {
             cell_rise (t) { values (\"0.1105\"); } }
         timing () { related_pin : \"CK Q\"; timing_type : falling_edge;
             cell_rise (t) { values (\"0.01\"); } cell_fall (t) { values (\"0.0990\"); } } } } }";
-    let timing = read(rt.alloc(), text, OUTPUT)?;
-    assert_eq!(rt; timing.arcs.len(), 3);
-    let arcs = [
-        (CLOCK, OUTPUT, 111, 99, true),
-        (CLOCK, OUTPUT, 109, 99, true),
-        (CLOCK, OUTPUT, 111, 99, false),
-    ];
-    for (place, arc) in arcs.iter().enumerate() {
-        assert_eq!(rt; timing.arcs.get(place).map(|arc| delays(arc)), Some(*arc));
-    }
-    assert_eq!(rt; timing.left_out.as_slice(), [4].as_slice());
-    Ok(())
+
+#[test]
+fn scan_flip_flop_output(rt: HostRuntime) {
+    assert!(rt; has_output_arcs(read(rt.alloc(), SCAN_OUTPUT, OUTPUT)));
 }
 
 /// A check under D, or of both ends of a pulse: its kind, the edge of the pin, the edge of the related pin, the limit.
@@ -153,62 +166,68 @@ fn edges(check: &Check) -> Edges {
 }
 
 /// The timing of a group of this type under D, with 10 and 20 picoseconds.
-fn timing_of_type(alloc: Global, timing_type: &str) -> Result<PinTiming, Fail> {
+fn timing_of_type(alloc: Global, timing_type: &str) -> Option<PinTiming> {
     let text = format!(in alloc;
         "library (L) {{ cell (C) {{ pin (D) {{ timing () {{ related_pin : CK; timing_type : {timing_type};
         rise_constraint (t) {{ values (\"0.01\"); }} fall_constraint (t) {{ values (\"0.02\"); }} }} }} }} }}"
-    )?;
+    )
+    .ok()?;
     read(alloc, text.as_bytes(), DATA)
 }
 
-/// The first check and the second one of such a group, which is not left out.
-fn checks_of_type(
-    alloc: Global,
-    timing_type: &str,
-) -> Result<(Option<Edges>, Option<Edges>), Fail> {
-    let timing = timing_of_type(alloc, timing_type)?;
-    if timing.left_out.len() > 0 {
-        Err("the group is left out")?;
+/// Whether the checks of a timing are these, and no group is left out.
+fn has_checks(timing: &PinTiming, first: Edges, second: Option<Edges>) -> bool {
+    timing.left_out.len() == 0
+        && timing.checks.get(0).map(|check| edges(check)) == Some(first)
+        && timing.checks.get(1).map(|check| edges(check)) == second
+}
+
+/// Whether a group of this type is one check.
+fn is_one_check(alloc: Global, timing_type: &str, check: Edges) -> bool {
+    match timing_of_type(alloc, timing_type) {
+        Some(timing) => has_checks(&timing, check, None),
+        None => false,
     }
-    let first = timing.checks.get(0).map(|check| edges(check));
-    let second = timing.checks.get(1).map(|check| edges(check));
-    Ok((first, second))
 }
 
 #[test]
-fn setup_hold_and_period_are_one_check(rt: HostRuntime) -> Result<(), Fail> {
+fn setup_hold_and_period_are_one_check(rt: HostRuntime) {
     use CheckKind::{Hold, Period, Setup};
     use Edge::{Any, Fall, Rise};
-    let types = [
-        ("setup_rising", (Setup, Any, Rise, 20)),
-        ("setup_falling", (Setup, Any, Fall, 20)),
-        ("hold_rising", (Hold, Any, Rise, 20)),
-        ("hold_falling", (Hold, Any, Fall, 20)),
-        ("minimum_period", (Period, Any, Any, 20)),
-    ];
-    for (timing_type, check) in types {
-        let (first, second) = checks_of_type(rt.alloc(), timing_type)?;
-        assert_eq!(rt; first, Some(check));
-        assert_eq!(rt; second, None);
+    let alloc = rt.alloc();
+    assert!(rt; is_one_check(alloc, "setup_rising", (Setup, Any, Rise, 20)));
+    assert!(rt; is_one_check(alloc, "setup_falling", (Setup, Any, Fall, 20)));
+    assert!(rt; is_one_check(alloc, "hold_rising", (Hold, Any, Rise, 20)));
+    assert!(rt; is_one_check(alloc, "hold_falling", (Hold, Any, Fall, 20)));
+    assert!(rt; is_one_check(alloc, "minimum_period", (Period, Any, Any, 20)));
+}
+
+/// Whether a group of this type is a check of each edge, beside these edges of the related pin.
+fn is_a_check_of_each_edge(
+    alloc: Global,
+    timing_type: &str,
+    kind: CheckKind,
+    beside_rise: Edge,
+    beside_fall: Edge,
+) -> bool {
+    match timing_of_type(alloc, timing_type) {
+        Some(timing) => {
+            let rise = (kind, Edge::Rise, beside_rise, 10);
+            let fall = (kind, Edge::Fall, beside_fall, 20);
+            has_checks(&timing, rise, Some(fall))
+        }
+        None => false,
     }
-    Ok(())
 }
 
 #[test]
-fn recovery_removal_and_width_are_a_check_of_each_edge(rt: HostRuntime) -> Result<(), Fail> {
+fn recovery_removal_and_width_are_a_check_of_each_edge(rt: HostRuntime) {
     use CheckKind::{Recovery, Removal, Width};
     use Edge::{Fall, Rise};
-    let types = [
-        ("recovery_rising", Recovery, Rise, Rise),
-        ("recovery_falling", Recovery, Fall, Fall),
-        ("removal_rising", Removal, Rise, Rise),
-        ("removal_falling", Removal, Fall, Fall),
-        ("min_pulse_width", Width, Fall, Rise),
-    ];
-    for (timing_type, kind, beside_rise, beside_fall) in types {
-        let (first, second) = checks_of_type(rt.alloc(), timing_type)?;
-        assert_eq!(rt; first, Some((kind, Rise, beside_rise, 10)));
-        assert_eq!(rt; second, Some((kind, Fall, beside_fall, 20)));
-    }
-    Ok(())
+    let alloc = rt.alloc();
+    assert!(rt; is_a_check_of_each_edge(alloc, "recovery_rising", Recovery, Rise, Rise));
+    assert!(rt; is_a_check_of_each_edge(alloc, "recovery_falling", Recovery, Fall, Fall));
+    assert!(rt; is_a_check_of_each_edge(alloc, "removal_rising", Removal, Rise, Rise));
+    assert!(rt; is_a_check_of_each_edge(alloc, "removal_falling", Removal, Fall, Fall));
+    assert!(rt; is_a_check_of_each_edge(alloc, "min_pulse_width", Width, Fall, Rise));
 }

@@ -1,26 +1,35 @@
 //! Stimuli over small cells, and the line of a simulator.
+ghost use Rattle.std.specs.Prelude.{◌<◌, IfSome};
+
 use bool_functions::Names;
 use cell_machine::{CellSim, Change};
 use std::alloc::Global;
 use std::test::Fail;
 use stimulus::{
-    Catalog, Cause, PortCatalog, Ports, Standing, StimulusFault, read_stimulus, trace_line,
+    Catalog, Cause, PortCatalog, Ports, Section, Standing, StimulusFault, read_stimulus, trace_line,
 };
 use trit_cubes::Trit;
 
-fn names(alloc: Global, list: &[&[u8]]) -> Result<Names, bool_functions::Memory> {
+/// A list of one name.
+fn one(alloc: Global, name: &[u8]) -> Result<Names, bool_functions::Memory> {
     let mut names = Names::new(alloc);
-    for name in list {
-        names.add(name)?;
-    }
+    names.add(name)?;
+    Ok(names)
+}
+
+/// A list of two names.
+fn two(alloc: Global, first: &[u8], second: &[u8]) -> Result<Names, bool_functions::Memory> {
+    let mut names = Names::new(alloc);
+    names.add(first)?;
+    names.add(second)?;
     Ok(names)
 }
 
 fn ports(alloc: Global, standing: Standing) -> Result<Ports, bool_functions::Memory> {
     Ok(Ports {
         standing,
-        inputs: names(alloc, &[b"D", b"CK"])?,
-        outputs: names(alloc, &[b"Q"])?,
+        inputs: two(alloc, b"D", b"CK")?,
+        outputs: one(alloc, b"Q")?,
     })
 }
 
@@ -34,48 +43,68 @@ fn catalog(alloc: Global) -> Result<PortCatalog, Fail> {
     Ok(catalog)
 }
 
+/// Whether a section is of the first cell and has so many changes.
+fn is_of_first(section: &Section, changes: usize) -> bool {
+    section.cell == 0 && section.changes.len() == changes
+}
+
+/// Whether a text has two sections of the first cell, the first with two changes and the second with this one.
+fn has_sections(alloc: Global, text: &[u8], catalog: &PortCatalog, change: Change) -> bool {
+    let Ok(sections) = read_stimulus(alloc, text, catalog) else {
+        return false;
+    };
+    match sections.as_slice() {
+        [first, second] => {
+            is_of_first(first, 2)
+                && is_of_first(second, 1)
+                && second.changes.as_slice() == [change].as_slice()
+        }
+        _ => false,
+    }
+}
+
 #[test]
 fn sections_are_read(rt: HostRuntime) -> Result<(), Fail> {
     let alloc = rt.alloc();
     let catalog = catalog(alloc)?;
-    assert_eq!(rt; catalog.len(), 3);
+    assert!(rt; catalog.len() == 3);
     let text = b"# two sections\r\ncell DFF\n10 D 1\n20 CK 0\r\n\ncell DFF\n5 CK X";
-    let sections = read_stimulus(alloc, text, &catalog)?;
-    assert_eq!(rt; sections.len(), 2);
-    assert_eq!(rt; sections[0].cell, 0);
-    assert_eq!(rt; sections[0].changes.len(), 2);
-    assert_eq!(rt;
-        sections[1].changes.as_slice(),
-        [Change {
-            at: 5,
-            pin: 1,
-            to: Trit::Unknown
-        }]
-        .as_slice()
-    );
+    let last = Change {
+        at: 5,
+        pin: 1,
+        to: Trit::Unknown,
+    };
+    assert!(rt; has_sections(alloc, text, &catalog, last));
     Ok(())
+}
+
+/// Whether the first bad line of a text is this, for this cause.
+fn is_refused(
+    alloc: Global,
+    text: &[u8],
+    catalog: &PortCatalog,
+    line: usize,
+    cause: Cause,
+) -> bool {
+    match read_stimulus(alloc, text, catalog) {
+        Ok(_) => false,
+        Err(fault) => fault == StimulusFault::Line { line, cause },
+    }
 }
 
 #[test]
 fn first_bad_lines(rt: HostRuntime) -> Result<(), Fail> {
     let alloc = rt.alloc();
     let catalog = catalog(alloc)?;
-    let texts: [(&[u8], usize, Cause); 7] = [
-        (b"cell DFF\n5 D 1\n5 D 0\n", 3, Cause::Time),
-        (b"\xff", 1, Cause::Form),
-        (b"\ncell TB", 2, Cause::RefusedCell(1)),
-        (b"cell OR", 1, Cause::VitalPorts(2)),
-        (b"cell DFF\n417 D 0\n# c\n437 CK1\r", 4, Cause::Form),
-        (b"cell DFF\n4 Q 2", 2, Cause::OutputPin),
-        (b"cell _x", 1, Cause::UnknownCell),
-    ];
-    for (text, line, cause) in texts {
-        assert_eq!(rt;
-            read_stimulus(alloc, text, &catalog).err(),
-            Some(StimulusFault::Line { line, cause })
-        );
-    }
-    assert_eq!(rt; Cause::UnknownPin.word(), b"unknown pin".as_slice());
+    assert!(rt; is_refused(alloc, b"cell DFF\n5 D 1\n5 D 0\n", &catalog, 3, Cause::Time));
+    assert!(rt; is_refused(alloc, b"\xff", &catalog, 1, Cause::Form));
+    assert!(rt; is_refused(alloc, b"\ncell TB", &catalog, 2, Cause::RefusedCell(1)));
+    assert!(rt; is_refused(alloc, b"cell OR", &catalog, 1, Cause::VitalPorts(2)));
+    let no_blank = b"cell DFF\n417 D 0\n# c\n437 CK1\r";
+    assert!(rt; is_refused(alloc, no_blank, &catalog, 4, Cause::Form));
+    assert!(rt; is_refused(alloc, b"cell DFF\n4 Q 2", &catalog, 2, Cause::OutputPin));
+    assert!(rt; is_refused(alloc, b"cell _x", &catalog, 1, Cause::UnknownCell));
+    assert!(rt; Cause::UnknownPin.word() == b"unknown pin".as_slice());
     Ok(())
 }
 
@@ -124,24 +153,35 @@ impl CellSim for Still {
     }
 }
 
+/// Whether the line of that simulator is printed so.
+fn shows(alloc: Global, tag: u8, change: Option<&Change>, wanted: &[u8]) -> Result<bool, Fail>
+    requires { IfSome change (λ change. change.now.pin < 1) }
+{
+    let inputs = one(alloc, b"CK")?;
+    let outputs = two(alloc, b"Q", b"QN")?;
+    if inputs.len() != 1 || outputs.len() != 2 {
+        return Err("other ports".into());
+    }
+    let shown = trace_line(alloc, tag, change, &inputs, &outputs, &Still)?;
+    Ok(shown.as_slice() == wanted)
+}
+
 #[test]
 fn lines_are_shown(rt: HostRuntime) -> Result<(), Fail> {
     let alloc = rt.alloc();
-    let inputs = names(alloc, &[b"CK"])?;
-    let outputs = names(alloc, &[b"Q", b"QN"])?;
-    assert_eq!(rt; inputs.len(), 1);
-    assert_eq!(rt; outputs.len(), 2);
     let change = Change {
         at: 150,
         pin: 0,
         to: Trit::Unknown,
     };
-    let shown = trace_line(alloc, b'V', Some(&change), &inputs, &outputs, &Still)?;
-    assert_eq!(rt;
-        shown.as_slice(),
-        b"V 150 CK x : Q=0 QN=x@120 !2\n".as_slice()
+    assert!(rt;
+        shows(
+            alloc,
+            b'V',
+            Some(&change),
+            b"V 150 CK x : Q=0 QN=x@120 !2\n"
+        )?
     );
-    let start = trace_line(alloc, b'L', None, &inputs, &outputs, &Still)?;
-    assert_eq!(rt; start.as_slice(), b"L start : Q=0 QN=x@120 !2\n".as_slice());
+    assert!(rt; shows(alloc, b'L', None, b"L start : Q=0 QN=x@120 !2\n")?);
     Ok(())
 }

@@ -1,7 +1,7 @@
 //! Whole texts from outside: the modules of a flip-flop's text, and the faults of others.
 
 use specify_blocks::VModule;
-use std::test::Fail;
+use std::alloc::Global;
 use udp_tables::ModelFault;
 use verilog_reader::read_models;
 
@@ -70,19 +70,20 @@ fn rows_of_first(module: &VModule) -> usize {
     }
 }
 
+/// Whether a text has one module, with the name, the parts and the rows of the flip-flop's.
+fn is_flip_flop(alloc: Global, text: &[u8]) -> bool {
+    let Ok(modules) = read_models(alloc, text) else {
+        return false;
+    };
+    match modules.as_slice() {
+        [one] => is_made_of(one, b"DFFT", [3, 2, 2, 1, 1]) && rows_of_first(one) == 11,
+        _ => false,
+    }
+}
+
 #[test]
-fn the_text_of_a_flip_flop(rt: HostRuntime) -> Result<(), Fail> {
-    let read = read_models(rt.alloc(), FLIP_FLOP);
-    assert!(rt;
-        match read {
-            Ok(modules) => match modules.as_slice() {
-                [one] => is_made_of(one, b"DFFT", [3, 2, 2, 1, 1]) && rows_of_first(one) == 11,
-                _ => false,
-            },
-            Err(_) => false,
-        }
-    );
-    Ok(())
+fn the_text_of_a_flip_flop(rt: HostRuntime) {
+    assert!(rt; is_flip_flop(rt.alloc(), FLIP_FLOP));
 }
 
 /// Two changes in a row of a primitive, the second at offset 88.
@@ -90,22 +91,40 @@ const TWO_CHANGES: &[u8] = b"`timescale 1ps/1ps
 primitive p (q, a, b); output q; reg q; input a; input b;
 table (01) (01) : ? : 1; endtable endprimitive";
 
+/// Whether a text is refused for a second change in a row, at this offset.
+fn has_two_changes(alloc: Global, text: &[u8], at: usize) -> bool {
+    match read_models(alloc, text) {
+        Err(ModelFault::TwoEdges(found)) => found == at,
+        _ => false,
+    }
+}
+
+/// Whether a text is refused at this offset, where no text goes on so.
+fn is_misspelled(alloc: Global, text: &[u8], at: usize) -> bool {
+    match read_models(alloc, text) {
+        Err(ModelFault::Syntax(found)) => found == at,
+        _ => false,
+    }
+}
+
+/// Whether a text is refused at this offset, where no token begins.
+fn has_no_token(alloc: Global, text: &[u8], at: usize) -> bool {
+    match read_models(alloc, text) {
+        Err(ModelFault::Lexical(found)) => found == at,
+        _ => false,
+    }
+}
+
+/// Whether a text is read.
+fn is_read(alloc: Global, text: &[u8]) -> bool {
+    read_models(alloc, text).is_ok()
+}
+
 #[test]
-fn the_first_fault_of_a_text(rt: HostRuntime) -> Result<(), Fail> {
+fn the_first_fault_of_a_text(rt: HostRuntime) {
     let alloc = rt.alloc();
-    assert!(rt;
-        matches!(
-            read_models(alloc, TWO_CHANGES),
-            Err(ModelFault::TwoEdges(88))
-        )
-    );
-    assert!(rt; matches!(read_models(alloc, b""), Err(ModelFault::Syntax(0))));
-    assert!(rt; matches!(read_models(alloc, b"`timescale 1ps/1ps\n"), Ok(_)));
-    assert!(rt;
-        matches!(
-            read_models(alloc, b"`timescale 1ps/1ps\n/* open"),
-            Err(ModelFault::Lexical(19))
-        )
-    );
-    Ok(())
+    assert!(rt; has_two_changes(alloc, TWO_CHANGES, 88));
+    assert!(rt; is_misspelled(alloc, b"", 0));
+    assert!(rt; is_read(alloc, b"`timescale 1ps/1ps\n"));
+    assert!(rt; has_no_token(alloc, b"`timescale 1ps/1ps\n/* open", 19));
 }

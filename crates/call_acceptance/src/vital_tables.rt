@@ -14,7 +14,8 @@ use std::alloc::{AllocError, Global};
 use std::test::Fail;
 use trit_cubes::Trit;
 use vital_models::{
-    OutValue, Trits, TruthRow, VNext, VStateRow, VSymbol, entity_name, vital_model, vital_ports,
+    Memory, OutValue, Trits, TruthRow, VEntity, VNext, VStateRow, VSymbol, entity_name,
+    vital_model, vital_ports,
 };
 
 /// A list of one item.
@@ -161,31 +162,65 @@ fn value(shown: Trit) -> char {
     }
 }
 
-/// The rows of a state table as they are written, with a space after each.
-fn state_text(alloc: Global, rows: &[VStateRow]) -> Result<String, Fail> {
-    let mut text = String::new(alloc);
-    for row in rows {
-        for shown in row.inputs.as_slice() {
-            text.push(symbol(*shown))?;
-        }
-        text.push(level(row.state))?;
-        text.push(result(row.result))?;
-        text.push(' ')?;
+/// Adds a row of a state table as it is written, and a space.
+fn push_state_row(text: &mut String, row: &VStateRow) -> Result<(), AllocError> {
+    for shown in row.inputs.as_slice() {
+        text.push(symbol(*shown))?;
     }
-    Ok(text)
+    text.push(level(row.state))?;
+    text.push(result(row.result))?;
+    text.push(' ')
 }
 
-/// The rows of a truth table, likewise.
-fn truth_text(alloc: Global, rows: &[TruthRow]) -> Result<String, Fail> {
+/// Whether the rows of a state table, as they are written, are this text.
+fn are_states(alloc: Global, rows: &[VStateRow], wanted: &str) -> Result<bool, AllocError> {
     let mut text = String::new(alloc);
     for row in rows {
-        for shown in row.inputs.as_slice() {
-            text.push(level(*shown))?;
-        }
-        text.push(value(row.result))?;
-        text.push(' ')?;
+        push_state_row(&mut text, row)?;
     }
-    Ok(text)
+    Ok(text.as_str() == wanted)
+}
+
+/// Adds a row of a truth table as it is written, and a space.
+fn push_truth_row(text: &mut String, row: &TruthRow) -> Result<(), AllocError> {
+    for shown in row.inputs.as_slice() {
+        text.push(level(*shown))?;
+    }
+    text.push(value(row.result))?;
+    text.push(' ')
+}
+
+/// Whether the rows of a truth table, likewise, are this text.
+fn are_truths(alloc: Global, rows: &[TruthRow], wanted: &str) -> Result<bool, AllocError> {
+    let mut text = String::new(alloc);
+    for row in rows {
+        push_truth_row(&mut text, row)?;
+    }
+    Ok(text.as_str() == wanted)
+}
+
+/// Whether an entity has one state, with a table of these rows.
+fn has_states(alloc: Global, entity: &VEntity, wanted: &str) -> Result<bool, AllocError> {
+    match entity.states.as_slice() {
+        [state] => are_states(alloc, state.table.rows.as_slice(), wanted),
+        _ => Ok(false),
+    }
+}
+
+/// Whether the value of an output is a table of these rows.
+fn has_truths(alloc: Global, output: &OutValue, wanted: &str) -> Result<bool, AllocError> {
+    match output {
+        OutValue::Table { table, .. } => are_truths(alloc, table.rows.as_slice(), wanted),
+        OutValue::Constant(_) => Ok(false),
+    }
+}
+
+/// Whether an entity has one output, with one path and a table of these rows.
+fn has_output(alloc: Global, entity: &VEntity, wanted: &str) -> Result<bool, AllocError> {
+    match entity.outputs.as_slice() {
+        [output] if output.paths.len() == 1 => has_truths(alloc, &output.value, wanted),
+        _ => Ok(false),
+    }
 }
 
 #[test]
@@ -193,30 +228,29 @@ fn a_flip_flop_has_the_written_tables(rt: HostRuntime) -> Result<(), Fail> {
     let alloc = rt.alloc();
     let cell = flip_flop(alloc)?;
     let name = entity_name(alloc, &cell, &Names::new(alloc))?;
-    assert_eq!(rt; name.as_slice(), b"DFFT".as_slice());
+    assert!(rt; name.as_slice() == b"DFFT".as_slice());
     let entity = vital_model(alloc, &cell, name.as_slice())?;
-    assert_eq!(rt; entity.states.len(), 1);
-    for state in entity.states.as_slice() {
-        assert_eq!(rt;
-            state_text(alloc, state.table.rows.as_slice())?.as_str(),
-            "0SS-S X---X -/1-1 -n--S -N--S -*111 -/0-0 -*000 --*-S ----X "
-        );
-    }
-    assert_eq!(rt; entity.outputs.len(), 1);
-    for output in entity.outputs.as_slice() {
-        assert_eq!(rt; output.paths.len(), 1);
-        match &output.value {
-            OutValue::Table { table, .. } => {
-                assert_eq!(rt;
-                    truth_text(alloc, table.rows.as_slice())?.as_str(),
-                    "11 00 "
-                );
-            }
-            OutValue::Constant(_) => Err("a constant")?,
-        }
-    }
-    assert_eq!(rt; entity.checks.len(), 1);
+    let states = "0SS-S X---X -/1-1 -n--S -N--S -*111 -/0-0 -*000 --*-S ----X ";
+    assert!(rt; has_states(alloc, &entity, states)?);
+    assert!(rt; has_output(alloc, &entity, "11 00 ")?);
+    assert!(rt; entity.checks.len() == 1);
     Ok(())
+}
+
+/// Whether the ports of an entity with these pins have these names.
+fn have_names(alloc: Global, pins: &[Pin], names: [&[u8]; 4]) -> Result<bool, Memory> {
+    let ports = vital_ports(alloc, pins, b"E")?;
+    match ports.as_slice() {
+        [one, two, three, four] => Ok(
+            [
+                one.name.as_slice(),
+                two.name.as_slice(),
+                three.name.as_slice(),
+                four.name.as_slice(),
+            ] == names,
+        ),
+        _ => Ok(false),
+    }
 }
 
 #[test]
@@ -229,14 +263,7 @@ fn ports_are_kept_whatever_their_case(rt: HostRuntime) -> Result<(), Fail> {
         ("D_1", Direction::Output),
     ];
     let pins = pins(alloc, &listed)?;
-    let ports = vital_ports(alloc, pins.as_slice(), b"E")?;
-    let mut text = String::new(alloc);
-    for port in ports.as_slice() {
-        for byte in port.name.as_slice() {
-            text.push(char::from(*byte))?;
-        }
-        text.push(' ')?;
-    }
-    assert_eq!(rt; text.as_str(), "a pin2 pin3 pin4 ");
+    let names: [&[u8]; 4] = [b"a", b"pin2", b"pin3", b"pin4"];
+    assert!(rt; have_names(alloc, pins.as_slice(), names)?);
     Ok(())
 }

@@ -1,4 +1,5 @@
-//! Examples from outside for the public calls of single crates, with answers that were worked out by hand; no product code.
+//! Examples from outside for the public calls of the crates of texts, tokens and tables, with answers that were worked out
+//! by hand; no product code.
 #![tactic(auto)]
 
 #[cfg(test)]
@@ -10,18 +11,8 @@ mod liberty_tokens;
 #[cfg(test)]
 mod libraries;
 #[cfg(test)]
-mod pin_timings;
-#[cfg(test)]
-mod primitives;
-#[cfg(test)]
 mod state_tables;
 #[cfg(test)]
-mod stimuli;
-#[cfg(test)]
 mod verilog_scans;
-#[cfg(test)]
-mod verilog_texts;
-#[cfg(test)]
-mod vital_tables;
 #[cfg(test)]
 mod written_groups;

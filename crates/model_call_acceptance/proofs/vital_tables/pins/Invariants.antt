@@ -1,7 +1,7 @@
 use Rattle.std.proofs.Common.{◌≡◌, ◌++◌, List, map, drop, ℕ, Bor}
 use Rattle.cell_machine.specs.declared.pins.Direction.{Direction}
 use Rattle.cell_machine.specs.declared.pins.Pin.{Pin}
-use Rattle.call_acceptance.proofs.vital_tables.pins.Given as goal
+use Rattle.model_call_acceptance.proofs.vital_tables.pins.Given as goal
 
 -- a pin of its name and direction
 abbrev pin_of : Bor (List ℕ) × Direction → Pin

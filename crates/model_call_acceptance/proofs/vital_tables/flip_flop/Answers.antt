@@ -7,7 +7,7 @@ use Rattle.cell_machine.specs.declared.outputs.OutputPin.{OutputPin}
 use Rattle.cell_machine.specs.declared.checks.Check.{Check}
 use Rattle.cell_machine.specs.declared.arcs.Arc.{Arc}
 use Rattle.cell_machine.specs.CellRules.{is_cell}
-use Rattle.call_acceptance.proofs.vital_tables.flip_flop.Goals as goal
+use Rattle.model_call_acceptance.proofs.vital_tables.flip_flop.Goals as goal
 
 -- the rules hold of parts that equal parts of which they hold
 sound :

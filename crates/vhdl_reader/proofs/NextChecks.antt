@@ -1,5 +1,5 @@
 -- The next check, by its words.
-use Rattle.std.proofs.Common.{◌≡◌, ℕ, zero, suc, List, [], ◌∷◌, Option, Some, None, Ok, Err, refl, sym}
+use Rattle.std.proofs.Common.{◌≡◌, ℕ, zero, suc, List, Some, None, Ok, Err, refl, sym}
 use Rattle.std.specs.Option.{option_map}
 use Rattle.grammar_rules.specs.Reading.{Outcome, choose, read}
 use Rattle.rule_readers.specs.declared.refusal.Refusal.{Refusal}

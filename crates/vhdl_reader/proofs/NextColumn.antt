@@ -1,5 +1,5 @@
 -- The next column of a state's table.
-use Rattle.std.proofs.Common.{◌≡◌, ℕ, ◌&&◌, Bool, true, false, nat_eq, List, [], ◌∷◌, Option, Some, None, Ok, Err, refl, codes}
+use Rattle.std.proofs.Common.{◌≡◌, ℕ, ◌&&◌, true, false, nat_eq, List, [], ◌∷◌, Some, None, Ok, Err, refl, codes}
 use Rattle.std.specs.List.{list_any}
 use Rattle.grammar_rules.specs.Rule.{Token}
 use Rattle.grammar_rules.specs.Reading.{read}

@@ -1,5 +1,5 @@
 -- The second of two limits, at the next token.
-use Rattle.std.proofs.Common.{◌≡◌, ℕ, Bool, true, false, List, [], ◌∷◌, Option, Some, None, Ok, Err, refl, eq-eqb, eqb-true, ◌==◌}
+use Rattle.std.proofs.Common.{◌≡◌, ℕ, Bool, true, false, List, [], ◌∷◌, Some, None, Ok, Err, refl, eq-eqb, eqb-true, ◌==◌}
 use Rattle.grammar_rules.specs.Reading.{read}
 use Rattle.rule_readers.specs.declared.refusal.Refusal.TheVariants.{Syntax, Unequal}
 use Rattle.rule_readers.specs.Next.{next_bytes, rest}

@@ -1,5 +1,5 @@
 -- Lists that are taken from their end.
-use Rattle.std.proofs.Common.{◌≡◌, List, [], ◌∷◌, ◌++◌, reverse, refl}
+use Rattle.std.proofs.Common.{◌≡◌, List, [], ◌∷◌, ◌++◌, reverse}
 use Rattle.std.proofs.lemmas.List.{reverse-append, reverse-reverse}
 
 pub reverse_last : {A : Type 0} (xs : List A) (x : A) → reverse (xs ++ x ∷ []) ≡ x ∷ reverse xs

@@ -1,0 +1,234 @@
+-- Cells that may be given changes, and the models that stand for them.
+use Rattle.std.proofs.Common.{◌≡◌, ℕ, zero, suc, Bool, true, false, if◌then◌else◌, List, [], ◌∷◌, length, map, position, bytes_eq, Option, Some, None, refl, sym, ap, subst, ◌∙◌, arith}
+use Rattle.std.specs.Prelude.{slice_get, slice_index_or, All}
+use Rattle.std.specs.Option.{option_map}
+use Rattle.std.proofs.lemmas.List.{length-map}
+use Rattle.std.proofs.lemmas.Option.{slice_get-map}
+use Rattle.cell_machine.specs.declared.cells.Cell.{Cell}
+use Rattle.cell_machine.specs.CellData.{data_of}
+use Rattle.cell_machine.specs.CellTrace.{cell_machine_of}
+use Rattle.cell_machine.proofs.RuleLemmas.{rules_of}
+use Rattle.udp_tables.specs.declared.models.VPort.{VPort}
+use Rattle.specify_blocks.specs.declared.model.VModule.{VModule}
+use Rattle.specify_blocks.specs.Ports as in_verilog
+use Rattle.specify_blocks.specs.Names.{module_name}
+use Rattle.specify_blocks.specs.Sound as modules_of
+use Rattle.vhdl_names.specs.Kept.{lowered}
+use Rattle.vital_models.specs.declared.model.VEntity.{VEntity}
+use Rattle.vital_models.specs.Ports as in_vital
+use Rattle.vital_models.specs.Sound as entities_of
+use Rattle.vital_models.proofs.Soundness.{entity_is_sound}
+use Rattle.model_traces.specs.ModuleTrace.{module_machine}
+use Rattle.model_traces.specs.EntityTrace.{entity_machine}
+use Rattle.bool_functions.specs.NameList.{number_of}
+use Rattle.stimulus.specs.declared.catalog.CellFound.TheVariants as cells
+use Rattle.stimulus.specs.declared.ports.Ports.{Ports}
+use Rattle.stimulus.specs.declared.ports.Standing.{Standing}
+use Rattle.stimulus.specs.declared.ports.Standing.TheVariants as standing
+use Rattle.stimulus.specs.declared.sections.Section.{Section}
+use Rattle.stimulus.specs.Catalog.{cell_answer, cell_found}
+use Rattle.stimulus.specs.PortEntries.{NamedCells, listed, entry_of_cell}
+use Rattle.stimulus.specs.Laws.{IsSectionOf}
+use Rattle.stimulus.proofs.Properness.{sections_proper}
+use Rattle.stimulus.proofs.Entries.{no_cell, some_cell, inputs_below}
+use Rattle.simulation_catalog.specs.declared.kept.LibraryCell.{LibraryCell}
+use Rattle.simulation_catalog.specs.declared.kept.LibraryCell.TheVariants.{Accepted, Refused}
+use Rattle.simulation_catalog.specs.declared.numbers.ModelNumbers.{ModelNumbers}
+use Rattle.simulation_catalog.specs.declared.same_ports.Spelling.{Spelling}
+use Rattle.simulation_catalog.specs.declared.same_ports.Spelling.TheVariants.{Exact, AnyCase}
+use Rattle.simulation_catalog.specs.LibraryCells.{name_of, cell_names}
+use Rattle.simulation_catalog.specs.SamePorts.{same_ports}
+use Rattle.simulation_catalog.specs.NamedModels.{NamedModels, named_models, module_ports, entity_ports, has_ports, with_ports, verilog_number, vital_number}
+use Rattle.simulation_catalog.specs.Standings.{standing_by, numbers_by}
+use Rattle.simulation_catalog.specs.Catalog.{standing_in, ports_in, numbers_in, cells_named}
+use Rattle.simulation_catalog.specs.Comparisons.{beside, beside_numbers, beside_models}
+use Rattle.simulation_catalog.specs.Sections.{CanBeCompared, SectionsCanBeCompared}
+use Rattle.simulation_catalog.proofs.PortCounts.{have_ports}
+
+-- What a catalog answers.
+
+answered : (number : ℕ) (how : Standing) (cell : ℕ) → cell_answer (Some (entry_of_cell number how)) ≡ cells.Cell cell → (number ≡ cell) × (how ≡ standing.Ready)
+answered number standing.Ready cell e = let same : number ≡ cell = cc in (same, refl)
+answered number standing.Refused cell e = absurd cc
+answered number standing.VerilogPorts cell e = absurd cc
+answered number standing.VitalPorts cell e = absurd cc
+
+ready_at : (ports : List Ports) (at cell : ℕ) → cell_answer (option_map (λ (one : Ports). entry_of_cell at one.standing) (slice_get ports at)) ≡ cells.Cell cell
+    → (one : Ports) × ((slice_get ports cell ≡ Some one) × (one.standing ≡ standing.Ready))
+ready_at ports at cell e = by (slice_get ports at) refl e
+  where
+    by : (found : Option Ports) → slice_get ports at ≡ found → cell_answer (option_map (λ (one : Ports). entry_of_cell at one.standing) found) ≡ cells.Cell cell
+        → (one : Ports) × ((slice_get ports cell ≡ Some one) × (one.standing ≡ standing.Ready))
+    by None f g = absurd cc
+    by (Some one) f g = let same = answered at one.standing cell g in (one, (subst (λ n. slice_get ports n ≡ Some one) same.0 f, same.1))
+
+-- the ports of a cell that the catalog answers as one that may be given changes
+pub ready_cell : (named : NamedCells) (name : List ℕ) (cell : ℕ) → length named.names ≡ length named.cells → cell_found (listed named) name ≡ cells.Cell cell
+    → (one : Ports) × ((slice_get named.cells cell ≡ Some one) × (one.standing ≡ standing.Ready))
+ready_cell named name cell l e = by (position (bytes_eq name) named.names) refl
+  where
+    by : (found : Option ℕ) → position (bytes_eq name) named.names ≡ found → (one : Ports) × ((slice_get named.cells cell ≡ Some one) × (one.standing ≡ standing.Ready))
+    by None f = absurd (let none = ap cell_answer (no_cell name named.names named.cells f) in cc)
+    by (Some at) f = ready_at named.cells at cell (sym (ap cell_answer (some_cell name named.names named.cells at l f)) ∙ e)
+
+-- The models of a cell.
+
+-- an image in a list is that of a thing of the list
+image_at : {X Y : Type 0} (f : X → Y) (xs : List X) (i : ℕ) (y : Y) → slice_get (map f xs) i ≡ Some y → (x : X) × ((slice_get xs i ≡ Some x) × (f x ≡ y))
+image_at f [] i y e = absurd cc
+image_at f (x ∷ xs) zero y e = let same : f x ≡ y = cc in (x, (refl, same))
+image_at f (x ∷ xs) (suc i) y e = image_at f xs i y e
+
+-- both numbers are there
+pub record AreFound (verilog vital : Option ℕ) : Type 0 where
+  pub module_number : ℕ
+  pub entity_number : ℕ
+  pub module_is : verilog ≡ Some module_number
+  pub entity_is : vital ≡ Some entity_number
+
+both_found : (verilog vital : Option ℕ) → standing_by verilog vital ≡ standing.Ready → AreFound verilog vital
+both_found None vital e = absurd cc
+both_found (Some m) None e = absurd cc
+both_found (Some m) (Some n) e = record { module_number = m; entity_number = n; module_is = refl; entity_is = refl }
+
+-- a number that counts is that of a model with the ports
+fits : (spelling : Spelling) (ports : List VPort) (ports_at : ℕ → Option (List VPort)) (found : Option ℕ) (number : ℕ)
+    → with_ports spelling ports ports_at found ≡ Some number → has_ports spelling ports (ports_at number) ≡ true
+fits spelling ports ports_at None number e = absurd cc
+fits spelling ports ports_at (Some k) number e = by (has_ports spelling ports (ports_at k)) refl e
+  where
+    by : (b : Bool) → has_ports spelling ports (ports_at k) ≡ b → (if b then Some k else None) ≡ Some number → has_ports spelling ports (ports_at number) ≡ true
+    by true f g = let same : k ≡ number = cc in subst (λ n. has_ports spelling ports (ports_at n) ≡ true) same f
+    by false f g = absurd cc
+
+fitting_module : (ports : List VPort) (modules : List VModule) (number : ℕ) → has_ports Exact ports (module_ports modules number) ≡ true
+    → (m : VModule) × ((slice_get modules number ≡ Some m) × (same_ports Exact ports m.ports ≡ true))
+fitting_module ports modules number e = by (slice_get modules number) refl e
+  where
+    by : (found : Option VModule) → slice_get modules number ≡ found → has_ports Exact ports (option_map (λ (m : VModule). m.ports) found) ≡ true
+        → (m : VModule) × ((slice_get modules number ≡ Some m) × (same_ports Exact ports m.ports ≡ true))
+    by None f g = absurd cc
+    by (Some m) f g = (m, (f, g))
+
+fitting_entity : (ports : List VPort) (entities : List VEntity) (number : ℕ) → has_ports AnyCase ports (entity_ports entities number) ≡ true
+    → (m : VEntity) × ((slice_get entities number ≡ Some m) × (same_ports AnyCase ports m.ports ≡ true))
+fitting_entity ports entities number e = by (slice_get entities number) refl e
+  where
+    by : (found : Option VEntity) → slice_get entities number ≡ found → has_ports AnyCase ports (option_map (λ (m : VEntity). m.ports) found) ≡ true
+        → (m : VEntity) × ((slice_get entities number ≡ Some m) × (same_ports AnyCase ports m.ports ≡ true))
+    by None f g = absurd cc
+    by (Some m) f g = (m, (f, g))
+
+-- the models of a cell that may be given changes
+pub record HasModels (modules : List VModule) (entities : List VEntity) (cell : Cell) (entity : List ℕ) : Type 0 where
+  pub numbers : ModelNumbers
+  pub verilog : VModule
+  pub vital : VEntity
+  pub are : numbers_in (named_models modules entities) (Accepted cell entity) ≡ Some numbers
+  pub is_module : slice_get modules numbers.verilog ≡ Some verilog
+  pub is_entity : slice_get entities numbers.vital ≡ Some vital
+  pub module_ports : same_ports Exact (in_verilog.ports_of cell.pins) verilog.ports ≡ true
+  pub entity_ports : same_ports AnyCase (in_vital.ports_of entity cell.pins) vital.ports ≡ true
+
+has_models : (modules : List VModule) (entities : List VEntity) (cell : Cell) (entity : List ℕ)
+    → standing_in (named_models modules entities) entity (data_of cell) ≡ standing.Ready → HasModels modules entities cell entity
+unfolding verilog_number vital_number
+has_models modules entities cell entity e =
+    let models = named_models modules entities in
+    let found = both_found (verilog_number models (data_of cell)) (vital_number models entity (data_of cell)) e in
+    let (m, (m_is, m_ports)) =
+    fitting_module (in_verilog.ports_of cell.pins) modules found.module_number
+    (fits Exact (in_verilog.ports_of cell.pins) (module_ports modules) (number_of models.module_names (module_name cell.number cell.name)) found.module_number found.module_is) in
+    let (n, (n_is, n_ports)) =
+    fitting_entity (in_vital.ports_of entity cell.pins) entities found.entity_number
+    (fits AnyCase (in_vital.ports_of entity cell.pins) (entity_ports entities) (number_of models.entity_names (lowered entity)) found.entity_number found.entity_is) in
+    record {
+      numbers = record { verilog = found.module_number; vital = found.entity_number };
+      verilog = m;
+      vital = n;
+      are = λ i. numbers_by (found.module_is i) (found.entity_is i);
+      is_module = m_is;
+      is_entity = n_is;
+      module_ports = m_ports;
+      entity_ports = n_ports;
+    }
+
+all_at : {X : Type 0} (P : X → Type 0) (xs : List X) (i : ℕ) (x : X) → All P xs → slice_get xs i ≡ Some x → P x
+all_at P [] i x all e = absurd cc
+all_at P (y ∷ xs) zero x all e = let same : y ≡ x = cc in subst P same (all 0 y (omega arith))
+all_at P (y ∷ xs) (suc i) x all e = all_at P xs i x (λ k d h. all (suc k) d (omega (arith, h))) e
+
+pub compared_as : (models : NamedModels) (cell : Cell) (entity : List ℕ) (numbers : ModelNumbers) (m : VModule) (n : VEntity) (found : Option LibraryCell)
+    → found ≡ Some (Accepted cell entity) → numbers_in models (Accepted cell entity) ≡ Some numbers
+    → slice_get models.modules numbers.verilog ≡ Some m → slice_get models.entities numbers.vital ≡ Some n
+    → beside_models models found
+    ≡ Some (record {
+      name = cell.name;
+      ports = ports_in models (Accepted cell entity);
+      liberty = cell_machine_of (data_of cell);
+      verilog = module_machine m;
+      vital = entity_machine n;
+    })
+compared_as models cell entity numbers m n found e f g h =
+    ap (beside_models models) e ∙ ap (beside_numbers models cell (ports_in models (Accepted cell entity))) f
+    ∙ (λ i. beside cell (ports_in models (Accepted cell entity)) (g i) (h i))
+
+-- a section on an accepted cell that may be given changes
+accepted_section : (all : List LibraryCell) (modules : List VModule) (entities : List VEntity) (section : Section) (cell : Cell) (entity : List ℕ)
+    → All modules_of.IsSound modules → All entities_of.IsSound entities
+    → slice_get all section.cell ≡ Some (Accepted cell entity) → standing_in (named_models modules entities) entity (data_of cell) ≡ standing.Ready
+    → IsSectionOf (listed (cells_named all modules entities)) section → CanBeCompared all modules entities section
+accepted_section all modules entities section cell entity sound_modules sound_entities there ready s =
+    let models = named_models modules entities in
+    let h = has_models modules entities cell entity ready in
+    let sound = all_at modules_of.IsSound modules h.numbers.verilog h.verilog sound_modules h.is_module in
+    let sound_too = all_at entities_of.IsSound entities h.numbers.vital h.vital sound_entities h.is_entity in
+    let ports_there : slice_get (map (ports_in models) all) section.cell ≡ Some (ports_in models (Accepted cell entity)) =
+    slice_get-map (ports_in models) all section.cell ∙ ap (option_map (ports_in models)) there in
+    let models_there : slice_get (map (numbers_in models) all) section.cell ≡ Some (Some h.numbers) =
+    slice_get-map (numbers_in models) all section.cell ∙ ap (option_map (numbers_in models)) there ∙ ap Some h.are in
+    let generated = entity_is_sound (data_of cell) entity (rules_of cell.name cell.pins cell.groups cell.outputs cell.checks cell.arcs cell.sound) in
+    let below = inputs_below (cells_named all modules entities) section.cell (ports_in models (Accepted cell entity)) ports_there in
+    record {
+      cell = cell;
+      entity_name = entity;
+      ports = ports_in models (Accepted cell entity);
+      numbers = h.numbers;
+      verilog = h.verilog;
+      vital = h.vital;
+      is_accepted = there;
+      has_ports = ports_there;
+      has_models = models_there;
+      is_module = h.is_module;
+      is_entity = h.is_entity;
+      is_compared = compared_as models cell entity h.numbers h.verilog h.vital (slice_get all section.cell) there h.are h.is_module h.is_entity;
+      sound_module = sound;
+      sound_entity = sound_too;
+      have_ports = have_ports (standing_in models entity (data_of cell)) cell entity h.verilog h.vital h.module_ports h.entity_ports generated sound_too;
+      proper = s.proper (length (ports_in models (Accepted cell entity)).inputs) below;
+    }
+
+-- a section on a cell that may be given changes
+ready_section : (all : List LibraryCell) (modules : List VModule) (entities : List VEntity) (section : Section) (c : LibraryCell)
+    → All modules_of.IsSound modules → All entities_of.IsSound entities
+    → slice_get all section.cell ≡ Some c → (ports_in (named_models modules entities) c).standing ≡ standing.Ready
+    → IsSectionOf (listed (cells_named all modules entities)) section → CanBeCompared all modules entities section
+ready_section all modules entities section (Accepted cell entity) sound_modules sound_entities there ready s =
+    accepted_section all modules entities section cell entity sound_modules sound_entities there ready s
+ready_section all modules entities section (Refused name refusal) sound_modules sound_entities there ready s = absurd cc
+
+can_be_compared : (all : List LibraryCell) (modules : List VModule) (entities : List VEntity) (section : Section)
+    → All modules_of.IsSound modules → All entities_of.IsSound entities
+    → IsSectionOf (listed (cells_named all modules entities)) section → CanBeCompared all modules entities section
+can_be_compared all modules entities section sound_modules sound_entities s =
+    let models = named_models modules entities in
+    let same_length : length (cell_names all) ≡ length (map (ports_in models) all) = length-map all name_of ∙ sym (length-map all (ports_in models)) in
+    let (one, (there, ready)) = ready_cell (cells_named all modules entities) s.named.0 section.cell same_length s.named.1 in
+    let (c, (c_there, c_is)) = image_at (ports_in models) all section.cell one there in
+    ready_section all modules entities section c sound_modules sound_entities c_there (ap (λ (p : Ports). p.standing) c_is ∙ ready) s
+
+pub sections_can_be_compared : SectionsCanBeCompared
+sections_can_be_compared all modules entities bytes sections sound_modules sound_entities e =
+    λ k d below.
+    can_be_compared all modules entities (slice_index_or sections k d) sound_modules sound_entities
+    (sections_proper (listed (cells_named all modules entities)) bytes sections e k d below)

@@ -1,0 +1,68 @@
+-- How a simulation ends whose stimulus has a bad line: the status, and the line that tells it. (This project's rules and formats.)
+use Rattle.std.specs.Prelude.{ℕ, List, [], ◌++◌, codes, decimal, Option, Some, None, slice_get, if◌then◌else◌}
+use Rattle.std.specs.Option.{option_map_or}
+use Rattle.cell_machine.specs.CellRules.{is_name}
+use Rattle.cell_reader.specs.declared.refusal.Refusal.{Refusal}
+use Rattle.cell_reader.specs.ReasonWords.{number_of_reason, word_of_reason}
+use Rattle.stimulus.specs.declared.faults.Cause.{Cause}
+use Rattle.stimulus.specs.declared.faults.Cause.TheVariants as cause
+use Rattle.stimulus.specs.CauseWords.{word_of_cause}
+use Rattle.command_outcomes.specs.declared.status.Status.{Status}
+use Rattle.command_outcomes.specs.declared.status.Status.TheVariants as status
+use Rattle.simulation_catalog.specs.declared.kept.LibraryCell.{LibraryCell}
+use Rattle.simulation_catalog.specs.declared.kept.LibraryCell.TheVariants.{Accepted, Refused}
+use Rattle.simulation_catalog.specs.LibraryCells.{name_of}
+
+-- a name as a line shows it: one that no cell may bear, for its length or a byte of it, is a question mark
+unfoldable pub shown_name : List ℕ → List ℕ
+shown_name name = if is_name name then name else codes "?"
+
+-- the front of a line on a cell that is refused: its name
+unfoldable pub refused_name_text : List ℕ → List ℕ
+refused_name_text name = codes "cell " ++ shown_name name
+
+-- the end of such a line: the reason's number and word, and the offset of the statement or group that meets it
+unfoldable pub refused_reason_text : Refusal → List ℕ
+refused_reason_text refusal =
+    codes " refused " ++ (decimal (number_of_reason refusal.reason) ++ (codes " " ++ (word_of_reason refusal.reason ++ (codes " at "
+    ++ (decimal refusal.at ++ codes "\n")))))
+
+-- a cell that is refused
+unfoldable pub refused_cell_line : List ℕ → Refusal → List ℕ
+refused_cell_line name refusal = refused_name_text name ++ refused_reason_text refusal
+
+-- a cell whose module is absent or has other ports
+unfoldable pub verilog_ports_line : List ℕ → List ℕ
+verilog_ports_line name = codes "verilog ports: " ++ (name ++ codes "\n")
+
+-- a cell whose entity is absent or has other ports
+unfoldable pub vital_ports_line : List ℕ → List ℕ
+vital_ports_line name = codes "vital ports: " ++ (name ++ codes "\n")
+
+-- a line of a stimulus that is bad by itself: its number, from 1, and the cause
+unfoldable pub bad_line : ℕ → Cause → List ℕ
+bad_line line why = codes "stimulus line " ++ (decimal line ++ (codes ": " ++ (word_of_cause why ++ codes "\n")))
+
+-- the name of the cell with this number
+abbrev pub name_at : List LibraryCell → ℕ → List ℕ
+name_at cells number = option_map_or name_of (slice_get cells number) []
+
+-- the line on the refused cell with this number
+abbrev pub refused_line_by : Option LibraryCell → List ℕ
+refused_line_by None = []
+refused_line_by (Some (Accepted cell entity)) = []
+refused_line_by (Some (Refused name refusal)) = refused_cell_line name refusal
+
+-- the line on the first bad line of a stimulus, which has this number and cause
+abbrev pub cause_line : List LibraryCell → ℕ → Cause → List ℕ
+cause_line cells line (cause.RefusedCell number) = refused_line_by (slice_get cells number)
+cause_line cells line (cause.VerilogPorts number) = verilog_ports_line (name_at cells number)
+cause_line cells line (cause.VitalPorts number) = vital_ports_line (name_at cells number)
+cause_line cells line why = bad_line line why
+
+-- the status of a run whose first bad line has this cause
+abbrev pub cause_status : Cause → Status
+cause_status (cause.RefusedCell number) = status.Cells
+cause_status (cause.VerilogPorts number) = status.Model
+cause_status (cause.VitalPorts number) = status.Model
+cause_status why = status.Stimulus

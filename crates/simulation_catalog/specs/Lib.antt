@@ -1,0 +1,11 @@
+pub mod LibraryCells
+pub mod PinNames
+pub mod SamePorts
+pub mod NamedModels
+pub mod Standings
+pub mod Catalog
+pub mod Comparisons
+pub mod Sections
+pub mod FaultLines
+pub mod Ends
+pub mod Generated

@@ -1,0 +1,25 @@
+-- The ports of a cell by the names of its pins. Inputs are numbered among the input pins and outputs among the output pins, in their
+-- order, as the cell's machine numbers them.
+use Rattle.std.specs.Prelude.{ℕ, Bool, not, ◌||◌, List, [], ◌∷◌, if◌then◌else◌}
+use Rattle.cell_machine.specs.declared.pins.Pin.{Pin}
+use Rattle.cell_machine.specs.declared.pins.Direction.{Direction}
+use Rattle.cell_machine.specs.declared.pins.Direction.TheVariants.{Input, Output, Internal}
+use Rattle.cell_machine.specs.CellRules.{is_input, is_output}
+use Rattle.stimulus.specs.declared.ports.Ports.{Ports}
+use Rattle.stimulus.specs.declared.ports.Standing.{Standing}
+
+-- two directions are the same
+abbrev pub same_direction : Direction → Direction → Bool
+same_direction Input other = is_input other
+same_direction Output other = is_output other
+same_direction Internal other = not (is_input other || is_output other)
+
+-- the names of the pins with this direction
+abbrev pub pin_names : Direction → List Pin → List (List ℕ)
+pin_names direction [] = []
+pin_names direction (pin ∷ pins) =
+    if same_direction direction pin.direction then pin.name ∷ pin_names direction pins else pin_names direction pins
+
+-- the ports of a cell that stands so
+abbrev pub named_ports : Standing → List Pin → Ports
+named_ports standing pins = record { standing = standing; inputs = pin_names Input pins; outputs = pin_names Output pins }

@@ -1,0 +1,169 @@
+//! How a simulation ends whose stimulus has a bad line.
+ghost use Rattle.std.specs.Prelude.{◌≡◌};
+ghost use Rattle.std.specs.Option.{option_copied};
+ghost use Rattle.text_io.specs.declared.slots.OutSlot.TheVariants.{Faults};
+ghost use Rattle.text_io.specs.Desk.{HasCause, WritesText};
+ghost use Rattle.simulation_catalog.specs.FaultLines.{shown_name as shown_name_of, refused_name_text, refused_reason_text, refused_cell_line, verilog_ports_line, vital_ports_line, bad_line, name_at as name_at_of, refused_line_by, cause_line, cause_status as cause_status_of};
+
+use crate::kept::LibraryCell;
+use cell_parts::declarations::is_name;
+use cell_reader::Refusal;
+use command_outcomes::Status;
+use itoa::Buffer;
+use stimulus::Cause;
+use text_io::{Desk, Failed, OutSlot, write_pieces};
+
+/// The status of a run whose stimulus has a first bad line with this cause.
+pub fn cause_status(cause: Cause) -> Status
+    ensures { result ≡ cause_status_of cause }
+{
+    match cause {
+        Cause::RefusedCell(_) => Status::Cells,
+        Cause::VerilogPorts(_) | Cause::VitalPorts(_) => Status::Model,
+        Cause::Form
+        | Cause::UnknownCell
+        | Cause::Count
+        | Cause::UnknownPin
+        | Cause::OutputPin
+        | Cause::Value
+        | Cause::Time => Status::Stimulus,
+    }
+}
+
+/// Tells the first bad line of a stimulus over the catalog of these cells, with the line's number, from 1, and its cause: of a cell
+/// that may not be given changes its name, and why it is refused or which of its models is not there; else the line and the cause.
+/// After `Failed`, which comes only where a write failed, a prefix of the line was appended.
+pub fn write_cause<D: Desk>(
+    desk: &mut D,
+    cells: &[LibraryCell],
+    line: usize,
+    cause: Cause,
+) -> Result<(), Failed>
+    ensures text { WritesText (D.state desk.old) (D.state desk.new) Faults (cause_line cells.now line cause) result }
+    ensures cause { HasCause (D.faults desk.old) (D.faults desk.new) result }
+{
+    match cause {
+        Cause::RefusedCell(number) => write_refused(desk, cells.get(number)),
+        Cause::VerilogPorts(number) => write_verilog_ports(desk, name_at(cells, number)),
+        Cause::VitalPorts(number) => write_vital_ports(desk, name_at(cells, number)),
+        Cause::Form
+        | Cause::UnknownCell
+        | Cause::Count
+        | Cause::UnknownPin
+        | Cause::OutputPin
+        | Cause::Value
+        | Cause::Time => write_bad_line(desk, line, cause),
+    }
+}
+
+/// The name of the cell with this number, empty where there is none.
+fn name_at(cells: &[LibraryCell], number: usize) -> &[u8]
+    ensures { result.now ≡ name_at_of cells.now number }
+{
+    match cells.get(number) {
+        Some(cell) => cell.name(),
+        None => b"",
+    }
+}
+
+/// The name as a line shows it.
+#[tactic(auto, unfolding(crate::specs::FaultLines::shown_name))]
+fn shown_name(name: &[u8]) -> &[u8]
+    ensures { result.now ≡ shown_name_of name.now }
+{
+    if is_name(name) { name } else { b"?" }
+}
+
+/// Tells why a cell is refused; nothing of one that is not.
+#[tactic(auto, using(text_io::proofs::Wrote::desk_laws))]
+fn write_refused<D: Desk>(desk: &mut D, cell: Option<&LibraryCell>) -> Result<(), Failed>
+    ensures text { WritesText (D.state desk.old) (D.state desk.new) Faults (refused_line_by (option_copied cell.entry)) result }
+    ensures cause { HasCause (D.faults desk.old) (D.faults desk.new) result }
+{
+    match cell {
+        Some(LibraryCell::Refused { name, refusal }) => {
+            write_refusal(desk, name.as_slice(), refusal)
+        }
+        Some(LibraryCell::Accepted { .. }) | None => Ok(()),
+    }
+}
+
+/// Tells why the cell with this name is refused, and where.
+#[tactic(auto, unfolding(text_io::specs::Desk::wrote))]
+fn write_refusal<D: Desk>(desk: &mut D, name: &[u8], refusal: &Refusal) -> Result<(), Failed>
+    ensures text { WritesText (D.state desk.old) (D.state desk.new) Faults (refused_cell_line name.now refusal.now) result }
+    ensures cause { HasCause (D.faults desk.old) (D.faults desk.new) result }
+{
+    write_refused_name(desk, name)?;
+    write_refused_reason(desk, refusal)
+}
+
+/// Tells the name of a cell that is refused.
+#[tactic(auto, unfolding(crate::specs::FaultLines::refused_name_text))]
+fn write_refused_name<D: Desk>(desk: &mut D, name: &[u8]) -> Result<(), Failed>
+    ensures text { WritesText (D.state desk.old) (D.state desk.new) Faults (refused_name_text name.now) result }
+    ensures cause { HasCause (D.faults desk.old) (D.faults desk.new) result }
+{
+    write_pieces(desk, OutSlot::Faults, &[b"cell ", shown_name(name)])
+}
+
+/// Tells why a cell is refused, and where.
+#[tactic(auto, unfolding(crate::specs::FaultLines::refused_reason_text))]
+fn write_refused_reason<D: Desk>(desk: &mut D, refusal: &Refusal) -> Result<(), Failed>
+    ensures text { WritesText (D.state desk.old) (D.state desk.new) Faults (refused_reason_text refusal.now) result }
+    ensures cause { HasCause (D.faults desk.old) (D.faults desk.new) result }
+{
+    let mut reason = Buffer::new();
+    let mut offset = Buffer::new();
+    write_pieces(
+        desk,
+        OutSlot::Faults,
+        &[
+            b" refused ",
+            reason.format(refusal.reason.number()).as_bytes(),
+            b" ",
+            refusal.reason.word(),
+            b" at ",
+            offset.format(refusal.at).as_bytes(),
+            b"\n",
+        ],
+    )
+}
+
+/// Tells that the module of the cell with this name is absent or has other ports.
+#[tactic(auto, unfolding(crate::specs::FaultLines::verilog_ports_line))]
+fn write_verilog_ports<D: Desk>(desk: &mut D, name: &[u8]) -> Result<(), Failed>
+    ensures text { WritesText (D.state desk.old) (D.state desk.new) Faults (verilog_ports_line name.now) result }
+    ensures cause { HasCause (D.faults desk.old) (D.faults desk.new) result }
+{
+    write_pieces(desk, OutSlot::Faults, &[b"verilog ports: ", name, b"\n"])
+}
+
+/// Tells that the entity of the cell with this name is absent or has other ports.
+#[tactic(auto, unfolding(crate::specs::FaultLines::vital_ports_line))]
+fn write_vital_ports<D: Desk>(desk: &mut D, name: &[u8]) -> Result<(), Failed>
+    ensures text { WritesText (D.state desk.old) (D.state desk.new) Faults (vital_ports_line name.now) result }
+    ensures cause { HasCause (D.faults desk.old) (D.faults desk.new) result }
+{
+    write_pieces(desk, OutSlot::Faults, &[b"vital ports: ", name, b"\n"])
+}
+
+/// Tells the number and the cause of a bad line.
+#[tactic(auto, unfolding(crate::specs::FaultLines::bad_line))]
+fn write_bad_line<D: Desk>(desk: &mut D, line: usize, cause: Cause) -> Result<(), Failed>
+    ensures text { WritesText (D.state desk.old) (D.state desk.new) Faults (bad_line line cause) result }
+    ensures cause { HasCause (D.faults desk.old) (D.faults desk.new) result }
+{
+    let mut number = Buffer::new();
+    write_pieces(
+        desk,
+        OutSlot::Faults,
+        &[
+            b"stimulus line ",
+            number.format(line).as_bytes(),
+            b": ",
+            cause.word(),
+            b"\n",
+        ],
+    )
+}

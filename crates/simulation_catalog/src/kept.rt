@@ -1,0 +1,38 @@
+//! The cells of a library.
+ghost use Rattle.std.specs.Prelude.{◌≡◌};
+ghost use Rattle.simulation_catalog.specs.LibraryCells.{name_of};
+
+use cell_machine::Cell;
+use cell_reader::Refusal;
+use sqlite_items::Items;
+
+/// A cell of a library, as it is kept for a simulation.
+#[derive(Debug, Drop)]
+pub enum LibraryCell {
+    /// A cell that is accepted.
+    Accepted {
+        /// The cell.
+        cell: Cell,
+        /// The name of its VITAL entity, in bytes.
+        entity: Items<u8>,
+    },
+    /// A cell that is refused.
+    Refused {
+        /// Its name, in bytes.
+        name: Items<u8>,
+        /// Why it is refused.
+        refusal: Refusal,
+    },
+}
+
+impl LibraryCell {
+    /// The name of the cell.
+    pub fn name(&self) -> &[u8]
+        ensures { result.now ≡ name_of self.now }
+    {
+        match self {
+            LibraryCell::Accepted { cell, .. } => cell.name.as_slice(),
+            LibraryCell::Refused { name, .. } => name.as_slice(),
+        }
+    }
+}

@@ -1,0 +1,132 @@
+//! The models of two files, looked up by their names.
+ghost use Rattle.std.specs.Prelude.{◌≡◌, IfOk};
+ghost use Rattle.bool_functions.specs.NameList.{AreDistinct};
+ghost use Rattle.cell_machine.specs.CellData.{data_of};
+ghost use Rattle.specify_blocks.specs.Names.{module_name as module_name_of};
+ghost use Rattle.simulation_catalog.specs.NamedModels.{module_names as module_names_of, lowered_names as lowered_names_of, shown, has_ports, module_ports, entity_ports, verilog_number as verilog_number_of, vital_number as vital_number_of};
+ghost use Rattle.simulation_catalog.specs.declared.same_ports.Spelling.TheVariants as spelling;
+
+use crate::faults::Memory;
+use crate::numbers::Found;
+use crate::same_ports::Spelling;
+use bool_functions::Names;
+use cell_machine::Cell;
+use specify_blocks::{VModule, verilog_ports};
+use sqlite_items::Items;
+use std::alloc::Global;
+use udp_tables::VPort;
+use verilog_tokens::is_kept_cell_name;
+use vhdl_names::numbered_name;
+use vital_models::{VEntity, vital_ports};
+
+/// The modules of a Verilog file and the entities of a VHDL file, with their names.
+#[derive(Drop)]
+pub(crate) struct ModelFiles<'a> {
+    /// The modules, in the order of their file.
+    pub modules: &'a [VModule],
+    /// Their names, in this order.
+    pub module_names: Names,
+    /// The entities, in the order of their file.
+    pub entities: &'a [VEntity],
+    /// Their names in lower case, in this order.
+    pub entity_names: Names,
+}
+
+impl<'a> ModelFiles<'a> {
+    /// The numbers of the models that are found for a cell whose entity has this name.
+    pub(crate) fn found(&self, alloc: Global, cell: &Cell, entity: &[u8]) -> Result<Found, Memory>
+        ensures verilog { IfOk result (λ found. found.verilog ≡ verilog_number_of (shown self.now) (data_of cell.now)) }
+        ensures vital { IfOk result (λ found. found.vital ≡ vital_number_of (shown self.now) entity.now (data_of cell.now)) }
+    {
+        Ok(Found {
+            verilog: self.verilog_number(alloc, cell)?,
+            vital: self.vital_number(alloc, cell, entity)?,
+        })
+    }
+
+    /// The number of the module of a cell, where it is there with the cell's ports.
+    #[tactic(auto, unfolding(crate::specs::NamedModels::verilog_number))]
+    fn verilog_number(&self, alloc: Global, cell: &Cell) -> Result<Option<usize>, Memory>
+        ensures { IfOk result (λ number. number ≡ verilog_number_of (shown self.now) (data_of cell.now)) }
+    {
+        let name = module_name(alloc, cell)?;
+        let ports = verilog_ports(alloc, cell.pins.as_slice())?;
+        match self.module_names.number(name.as_slice()) {
+            None => Ok(None),
+            Some(number) => Ok(self.module_has(number, ports.as_slice()).then_some(number)),
+        }
+    }
+
+    /// The number of the entity with this name, where it is there with the ports of the cell.
+    #[tactic(auto, unfolding(crate::specs::NamedModels::vital_number))]
+    fn vital_number(
+        &self,
+        alloc: Global,
+        cell: &Cell,
+        entity: &[u8],
+    ) -> Result<Option<usize>, Memory>
+        ensures { IfOk result (λ number. number ≡ vital_number_of (shown self.now) entity.now (data_of cell.now)) }
+    {
+        let name = entity.to_ascii_lowercase(alloc)?;
+        let ports = vital_ports(alloc, cell.pins.as_slice(), entity)?;
+        match self.entity_names.number(&name) {
+            None => Ok(None),
+            Some(number) => Ok(self.entity_has(number, ports.as_slice()).then_some(number)),
+        }
+    }
+
+    /// Whether the module with this number has these ports.
+    fn module_has(&self, number: usize, ports: &[VPort]) -> bool
+        ensures { result ≡ has_ports spelling.Exact ports.now (module_ports self.now.modules.now number) }
+    {
+        match self.modules.get(number) {
+            Some(model) => Spelling::Exact.same_ports(ports, model.ports.as_slice()),
+            None => false,
+        }
+    }
+
+    /// Whether the entity with this number has these ports.
+    fn entity_has(&self, number: usize, ports: &[VPort]) -> bool
+        ensures { result ≡ has_ports spelling.AnyCase ports.now (entity_ports self.now.entities.now number) }
+    {
+        match self.entities.get(number) {
+            Some(entity) => Spelling::AnyCase.same_ports(ports, entity.ports.as_slice()),
+            None => false,
+        }
+    }
+}
+
+/// The name of the module of a cell: the cell's, or `cell` and its number where Verilog does not keep that.
+fn module_name(alloc: Global, cell: &Cell) -> Result<Items<u8>, Memory>
+    ensures { IfOk result (λ name. name ≡ module_name_of cell.now.number cell.now.name) }
+{
+    let name = cell.name.as_slice();
+    if is_kept_cell_name(name) {
+        Ok(Items::from_slice(alloc, name)?)
+    } else {
+        Ok(numbered_name(alloc, b"cell", cell.number)?)
+    }
+}
+
+/// The names of modules, in their order, where no two have one name.
+pub(crate) fn module_names(alloc: Global, modules: &[VModule]) -> Result<Names, Memory>
+    ensures { IfOk result (λ names. AreDistinct (module_names_of modules.now) → names ≡ module_names_of modules.now) }
+{
+    let mut names = Names::new(alloc);
+    for model in modules {
+        names.add(model.name.as_slice())?;
+    }
+    Ok(names)
+}
+
+/// The names of entities in lower case, in their order, where no two have one name, whatever the case of its letters.
+pub(crate) fn lowered_names(alloc: Global, entities: &[VEntity]) -> Result<Names, Memory>
+    ensures { IfOk result (λ names. AreDistinct (lowered_names_of entities.now) → names ≡ lowered_names_of entities.now) }
+{
+    let mut names = Names::new(alloc);
+    for entity in entities {
+        let name = entity.name.as_slice().to_ascii_lowercase(alloc)?;
+        names.add(&name)?;
+    }
+    Ok(names)
+}

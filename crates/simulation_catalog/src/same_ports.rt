@@ -1,0 +1,56 @@
+//! Ports that a file has and those that it should have.
+ghost use Rattle.std.specs.Prelude.{◌≡◌, ◌<◌, length};
+ghost use Rattle.simulation_catalog.specs.SamePorts.{same_name, same_port, same_ports, agree};
+
+use udp_tables::VPort;
+use vhdl_names::is_same;
+
+/// When two names are the same.
+#[derive(Clone, Copy, Debug, PartialEq, Eq)]
+pub(crate) enum Spelling {
+    /// Where they are byte for byte, as in Verilog.
+    Exact,
+    /// Where they are whatever the case of their letters, as in VHDL.
+    AnyCase,
+}
+
+impl Spelling {
+    /// Whether two names are the same.
+    fn same_name(self, one: &[u8], other: &[u8]) -> bool
+        ensures { result ≡ same_name self one.now other.now }
+    {
+        match self {
+            Spelling::Exact => one == other,
+            Spelling::AnyCase => is_same(one, other),
+        }
+    }
+
+    /// Whether two ports have the same name and direction.
+    fn same_port(self, one: &VPort, other: &VPort) -> bool
+        ensures { result ≡ same_port self one.now other.now }
+    {
+        self.same_name(one.name.as_slice(), other.name.as_slice()) && agree(one.input, other.input)
+    }
+
+    /// Whether two lists of ports are the same, in order.
+    pub(crate) fn same_ports(self, ports: &[VPort], others: &[VPort]) -> bool
+        ensures { result ≡ same_ports self ports.now others.now }
+    {
+        if ports.len() != others.len() {
+            return false;
+        }
+        for i in 0..ports.len() {
+            if !self.same_port(&ports[i], &others[i]) {
+                return false;
+            }
+        }
+        true
+    }
+}
+
+/// Whether two facts are the same.
+fn agree(one: bool, other: bool) -> bool
+    ensures { result ≡ agree one other }
+{
+    one == other
+}

@@ -58,7 +58,7 @@ fn read(alloc: Global, text: &[u8], place: usize) -> Option<PinTiming> {
     let reading = read_library(alloc, text, true).ok()?;
     let pin = pin_group(reading.cells.get(0)?)?;
     let subject = subject(alloc, place).ok()?;
-    if place >= subject.pins.len() {
+    if subject.place >= subject.pins.len() {
         return None;
     }
     let room = Room {

@@ -73,7 +73,7 @@ pub nat_equivalence : IsEquivalence nat_eq
 nat_equivalence = record { refl = λ x. eq-eqb x x refl; symm = λ x y. grind (arith, nat_tests); congr = λ x y z e. ap (λ t. nat_eq t z) (eqb-true x y e) }
 
 -- a name is no character literal
-same_name : (x y : List ℕ) → IsTrue (is_name x) → is_same x y ≡ str_eq_ignore_ascii_case x y
+pub same_name : (x y : List ℕ) → IsTrue (is_name x) → is_same x y ≡ str_eq_ignore_ascii_case x y
 same_name [] y e = absurd cc
 same_name (b ∷ bs) y e = by (b == 39) refl
   where

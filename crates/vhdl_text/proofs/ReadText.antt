@@ -104,6 +104,7 @@ well_formed e h few = record {
   conditions = h.conditions;
   in_order = h.in_order;
   outputs = h.outputs;
+  assignable = h.assignable;
   limits = h.limits;
   few = few;
 }

@@ -1,13 +1,15 @@
 -- When a list of entities is one of a VHDL text of this project's subset. (IEEE 1076-1993, 13.3, identifiers, 10.3, declarations that
 -- are apart; IEEE 1076.4-2000, tables; the limits are this project's.)
-use Rattle.std.specs.Prelude.{ℕ, ◌+◌, ◌<◌, ◌≤◌, ◌^◌, Bool, true, false, not, ◌&&◌, nat_eq, nat_lt, if◌then◌else◌, IsTrue, All, ⊤, List, [], ◌∷◌, ◌++◌, length, count_by, Option, Some, None}
+use Rattle.std.specs.Prelude.{◌≡◌, ℕ, ◌+◌, ◌<◌, ◌≤◌, ◌^◌, Bool, true, false, not, ◌&&◌, nat_eq, nat_lt, if◌then◌else◌, IsTrue, All, ⊤, List, [], ◌∷◌, ◌++◌, length, count_by, codes, slice_get, Option, Some, None}
 use Rattle.std.specs.List.{IsDistinct, list_all, flat_map}
 use Rattle.std.specs.Char.{is_ascii_alphabetic}
+use Rattle.std.specs.Option.{option_map_or}
 use Rattle.std.specs.Str.{str_eq_ignore_ascii_case}
 use Rattle.cell_machine.specs.declared.outputs.Source.{Source}
 use Rattle.vhdl_names.specs.Kept.{is_plain}
 use Rattle.vhdl_names.specs.Words.{is_vhdl_word}
 use Rattle.vhdl_tokens.specs.Tokens.{is_name_byte}
+use Rattle.udp_tables.specs.declared.models.VPort.{VPort}
 use Rattle.vital_models.specs.declared.table.TruthTable.{TruthTable}
 use Rattle.vital_models.specs.declared.table.VStateRow.{VStateRow}
 use Rattle.vital_models.specs.declared.model.VState.{VState}
@@ -126,6 +128,16 @@ looks_up_in_order all seen (i ∷ is) =
     if nat_lt i seen then looks_up_in_order all seen is
     else (if nat_eq i seen then looks_up_in_order all (seen + 1) is else false)
 
+-- the port with this number has the name of the procedure of path delays, whatever the case of its letters
+abbrev pub names_procedure : List VPort → ℕ → Bool
+names_procedure ports p =
+    option_map_or (λ (port : VPort). str_eq_ignore_ascii_case port.name (codes "VitalPathDelay01")) (slice_get ports p) false
+
+-- An output without paths is assigned by its name, where the name of the procedure of path delays begins a call of it. So such an output
+-- has another name.
+abbrev pub IsAssignable : VEntity → VOutput → Type 0
+IsAssignable e output = length output.paths ≡ 0 → names_procedure e.ports output.port ≡ false
+
 -- how many ports, states, conditions and checks there are
 abbrev pub part_count : VEntity → ℕ
 part_count e = length e.ports + length e.states + (length e.conditions + length e.checks)
@@ -141,6 +153,7 @@ pub record IsWellFormedEntity (e : VEntity) : Type 0 where
   pub conditions : All IsWrittenTruth e.conditions
   pub in_order : IsTrue (looks_up_in_order (length e.conditions) 0 (looked_up e))
   pub outputs : All IsWrittenOutput e.outputs
+  pub assignable : All (IsAssignable e) e.outputs
   pub limits : All (λ (k : HCheck). IsNumber k.limit) e.checks
   pub few : IsNumber (part_count e)
 

@@ -46,6 +46,7 @@ use Rattle.generated_entities.proofs.Names.{IsGivenName, entity_named}
 use Rattle.generated_entities.proofs.PortNames.{ports_are_named}
 use Rattle.generated_entities.proofs.Conditions.{looked_up_in_order}
 use Rattle.generated_entities.proofs.Counts.{few_parts, few_paths}
+use Rattle.generated_entities.proofs.AssignedNames.{generated_assignable}
 
 -- a time of at most 15 digits
 short : (n : ℕ) → IsTrue (nat_le n longest_time) → IsNumber n
@@ -229,6 +230,7 @@ module _ (cell : CellData) (h : Rules cell) where
         conditions = conditions_written;
         in_order = looked_up_in_order cell h name;
         outputs = outputs_written;
+        assignable = generated_assignable cell name;
         limits = limits_short;
         few = few_parts cell h name;
       }

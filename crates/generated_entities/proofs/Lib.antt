@@ -7,5 +7,6 @@ pub mod Names
 pub mod PortNames
 pub mod Conditions
 pub mod Counts
+pub mod AssignedNames
 pub mod Entities
 pub mod EntityLists

@@ -1,5 +1,5 @@
 -- Laws of the entities that are generated for cells.
-use Rattle.std.specs.Prelude.{ℕ, List, []}
+use Rattle.std.specs.Prelude.{ℕ, List}
 use Rattle.cell_machine.specs.CellData.{CellData}
 use Rattle.vhdl_text.specs.WellFormed.{IsWellFormedEntity, AreWellFormed}
 use Rattle.library_cells.specs.Cells.{IsNumberedCell, AreCellsOfOneLibrary}

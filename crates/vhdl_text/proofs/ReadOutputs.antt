@@ -276,9 +276,11 @@ AreNamed scope o (line ∷ lines) = (length line ≡ 0 → is_named_so scope o �
 named-push : (scope : Scope) (o : ℕ) (lines : List (List HPath)) (line : List HPath) → AreNamed scope o lines → (length line ≡ 0 → is_named_so scope (o + length lines) ≡ false)
     → AreNamed scope o (lines ++ line ∷ [])
 named-push scope o [] line h k = (λ e. let same : o + 0 ≡ o = omega arith in subst (λ (n : ℕ). is_named_so scope n ≡ false) same (k e), tt)
-named-push scope o (first ∷ lines) line h k =
-    (h.0, named-push scope (o + 1) lines line h.1
-    (λ e. let same : o + length (first ∷ lines) ≡ o + 1 + length lines = omega arith in subst (λ (n : ℕ). is_named_so scope n ≡ false) same (k e)))
+named-push scope o (first ∷ lines) line h k = (
+  h.0,
+  named-push scope (o + 1) lines line h.1
+      (λ e. let same : o + length (first ∷ lines) ≡ o + 1 + length lines = omega arith in subst (λ (n : ℕ). is_named_so scope n ≡ false) same (k e)),
+)
 
 -- the name of an output that is assigned is not that of the procedure
 other_name : (x name : List ℕ) → IsTrue (is_name x) → is_same x (codes "VitalPathDelay01") ≡ false → is_same x name ≡ true

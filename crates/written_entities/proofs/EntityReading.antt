@@ -29,7 +29,6 @@ use Rattle.vhdl_writer.specs.Declarations.{is_input, first_input}
 use Rattle.vhdl_writer.specs.Entity.{end_text, statements_text, entity_text}
 use Rattle.grammar_phrases.proofs.Fronts.{Front, Anything}
 use Rattle.grammar_phrases.proofs.Derivations.{Reads, to_same, gives, in_turn}
-use Rattle.written_entities.specs.Laws.{AreAssignable}
 use Rattle.written_entities.proofs.Spelling.{Spells, behind, literal}
 use Rattle.written_entities.proofs.Words.{entity_named}
 use Rattle.written_entities.proofs.NameReading.{expected, two_expected, five_expected, expected_where, newly_named}
@@ -192,15 +191,15 @@ whole e w =
 
 -- Reading.
 
-statements_read : (e : VEntity) → IsWellFormedEntity e → AreAssignable e → (s : List (List ℕ)) → Reads (statements (scope e)) (statements_front e s) e s
+statements_read : (e : VEntity) → IsWellFormedEntity e → (s : List (List ℕ)) → Reads (statements (scope e)) (statements_front e s) e s
 unfolding statements
-statements_read e w free s =
+statements_read e w s =
     let lines : List (List ℕ) = lines_front e s in
     let values : List (List ℕ) = counted (value_front e) 1 e.outputs lines in
     let states : List (List ℕ) = counted (state_front e) 1 e.states values in
     in_turn (checks_read e w (violation_front e states) (ends_checks e e.checks e.states e.outputs (input_names e.ports) s))
     (in_turn (violation_read e w states) (in_turn (states_read e w values (ends_states e e.outputs (input_names e.ports) s)) (in_turn (values_read e w lines)
-    (in_turn (lines_read e w free (end_front (input_names e.ports) s) (ends_lines e (input_names e.ports) s)) (in_turn (end_read e w s) (to_same (whole e w) gives))))))
+    (in_turn (lines_read e w (end_front (input_names e.ports) s) (ends_lines e (input_names e.ports) s)) (in_turn (end_read e w s) (to_same (whole e w) gives))))))
 
 scope_read : (e : VEntity) → IsWellFormedEntity e → (s : List (List ℕ))
     → Reads (scope_of e.name) (entity_front e (architecture_front e (constants_front e (codes "begin" ∷ codes "process" ∷ signals_front (input_names e.ports) (variables_front e (codes "begin" ∷ s)))))) (scope e) s
@@ -212,7 +211,7 @@ scope_read e w s =
     (in_turn (constants_read e w (codes "process" ∷ signals)) (in_turn two_expected (in_turn (sensitivity_read e w variables) (in_turn (variables_read e w s) (in_turn expected gives))))))
 
 -- an entity is read from its tokens behind the first
-pub entity_read : (names : List (List ℕ)) (e : VEntity) → IsWellFormedEntity e → AreAssignable e → is_among names e.name ≡ false → (s : List (List ℕ)) → Reads (entity names) (entity_more e s) e s
+pub entity_read : (names : List (List ℕ)) (e : VEntity) → IsWellFormedEntity e → is_among names e.name ≡ false → (s : List (List ℕ)) → Reads (entity names) (entity_more e s) e s
 unfolding entity
-entity_read names e w free new s =
-    in_turn packages_read (in_turn expected (in_turn (newly_named names (entity_named e.name w.name) new) (in_turn (scope_read e w (statements_front e s)) (statements_read e w free s))))
+entity_read names e w new s =
+    in_turn packages_read (in_turn expected (in_turn (newly_named names (entity_named e.name w.name) new) (in_turn (scope_read e w (statements_front e s)) (statements_read e w s))))

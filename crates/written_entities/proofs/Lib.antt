@@ -26,7 +26,7 @@ pub mod StateReading
 pub mod ValueReading
 pub mod QuotedNames
 pub mod PathReading
+pub mod Assigned
 pub mod OutputReading
 pub mod EntityReading
 pub mod EntityFile
-pub mod PortNames

@@ -17,14 +17,14 @@ use Rattle.vhdl_tokens.specs.Spelling.{is_same}
 use Rattle.vhdl_text.specs.VhdlDeclarations.{name_of_port, output_count}
 use Rattle.vhdl_text.specs.VhdlNames.{Uses}
 use Rattle.vhdl_text.specs.VhdlOutputs.{paths, output_name, has_glitch, Lines, is_text_of, text_by, path_call_start, path_call, assignment, is_unpathed, begins_line, line_by, output_lines}
-use Rattle.vhdl_text.specs.WellFormed.{IsNumber, IsPortName, IsWrittenOutput, IsWellFormedEntity, conditions_of_check, conditions_of_path, conditions_of_output}
+use Rattle.vhdl_text.specs.WellFormed.{IsAssignable, IsNumber, IsPortName, IsWrittenOutput, IsWellFormedEntity, conditions_of_check, conditions_of_path, conditions_of_output}
 use Rattle.vhdl_writer.specs.Joined.{numbered_texts}
 use Rattle.vhdl_writer.specs.Names.{port_at}
 use Rattle.vhdl_writer.specs.Outputs.{path_text, paths_text, direct_text, output_line}
 use Rattle.grammar_phrases.proofs.Fronts.{Front, Anything}
 use Rattle.grammar_phrases.proofs.Derivations.{Reads, gives, token, in_turn, no_turn, turn, turns, goes_on}
 use Rattle.grammar_phrases.proofs.Places.{get_at}
-use Rattle.written_entities.specs.Laws.{IsAssignable, AreAssignable}
+use Rattle.written_entities.proofs.Assigned.{IsAssigned, assigned}
 use Rattle.written_entities.proofs.Spelling.{Spells, joins, behind, literal}
 use Rattle.written_entities.proofs.Words.{IsNamed, name, of_glitch, of_output, part_named, below_word, port_named}
 use Rattle.written_entities.proofs.NameReading.{same_name, same_self, expected, two_expected, three_expected, six_expected, so_named, part_read}
@@ -228,7 +228,7 @@ abbrev AllLines : VEntity → Lines → List (List ℕ) → Lines → List (List
 AllLines e lines s end left = Reads (r.Many (begins_line (scope e)) (line_by (scope e)) lines) s end left
 
 line_turn : (e : VEntity) → IsWellFormedEntity e → (done : List (List HPath)) (o seen : ℕ) (output : VOutput) (all : List HPath) (others : List ℕ) {end : Lines} {left : List (List ℕ)} (q : List (List ℕ)) → length done ≡ o
-    → IsOutputAt e o output → IsNumber (o + 1) → IsAssignable e output → output.paths ≡ all → ArePaths e seen all others
+    → IsOutputAt e o output → IsNumber (o + 1) → IsAssigned e output → output.paths ≡ all → ArePaths e seen all others
     → AllLines e (done ++ all ∷ [], uses_of e (seen_after seen (flat_map conditions_of_path all))) q end left
     → AllLines e (done, uses_of e seen) (line_by_paths e (o + 1) output.port all q) end left
 line_turn e w done o seen output [] others q place h m free same paths rest =
@@ -243,13 +243,13 @@ lines_with e before output =
     ap (λ (l : List (List HPath)). (l, uses_of e (seen_before e (before ++ output ∷ [])))) (map-append paths_of before (output ∷ []))
     ∙ ap (λ (n : ℕ). (map paths_of before ++ output.paths ∷ [], uses_of e n)) (sym (seen_with_item conditions_of_output (seen_by_checks e) before output))
 
-pub lines_read : (e : VEntity) → IsWellFormedEntity e → AreAssignable e → (s : List (List ℕ)) → Stops (begins_line (scope e) (lines_up_to e e.outputs)) s
+pub lines_read : (e : VEntity) → IsWellFormedEntity e → (s : List (List ℕ)) → Stops (begins_line (scope e) (lines_up_to e e.outputs)) s
     → Reads (output_lines (scope e) (uses_of e (seen_by_checks e))) (counted (line_front e) 1 e.outputs s) (lines_up_to e e.outputs) s
 unfolding output_lines
-lines_read e w free s stop =
+lines_read e w s stop =
     in_turn (over (lines_up_to e) (line_front e) [] e.outputs
     (λ before output after q same rest.
     line_turn e w (map paths_of before) (length before) (seen_before e before) output output.paths (flat_map conditions_of_output after ++ []) q (length-map before paths_of)
-    (output_at e w before output after same) (output_number e w (length before + 1) (place_below before output after e.outputs same)) (fact_at (IsAssignable e) e.outputs free before output after same) refl
+    (output_at e w before output after same) (output_number e w (length before + 1) (place_below before output after e.outputs same)) (assigned e output (fact_at (IsAssignable e) e.outputs w.assignable before output after same)) refl
     (its_paths e w before output after same) (subst (λ (l : Lines). AllLines e l q (lines_up_to e e.outputs) s) (lines_with e before output) rest)) s (no_turn stop))
     (in_turn (goes_on (nat_eq (length (map paths_of e.outputs)) (output_count e.ports)) s (equal (length (map paths_of e.outputs)) (output_count e.ports) (length-map e.outputs paths_of ∙ so_many_outputs e w))) gives)

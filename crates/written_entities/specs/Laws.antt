@@ -1,22 +1,17 @@
 -- What is written reads back: the tables of an architecture's constants, and whole entities. (IEEE 1076.4-2000, the VITAL table types and symbols; IEEE
 -- 1076-1993, 7.3.2, aggregates; the layout is this project's.)
-use Rattle.std.specs.Prelude.{◌≡◌, ℕ, ◌≤◌, false, All, List, [], ◌++◌, length, None, Ok, codes}
+use Rattle.std.specs.Prelude.{◌≡◌, ℕ, ◌≤◌, List, [], ◌++◌, length, None, Ok, codes}
 use Rattle.std.specs.List.{flat_map}
-use Rattle.std.specs.Str.{str_eq_ignore_ascii_case}
 use Rattle.grammar_rules.specs.Rule.{Takes}
-use Rattle.cell_machine.specs.CellData.{CellData}
 use Rattle.vital_models.specs.declared.table.TruthTable.{TruthTable}
 use Rattle.vital_models.specs.declared.table.VStateTable.{VStateTable}
 use Rattle.vital_models.specs.declared.model.VState.{VState}
-use Rattle.vital_models.specs.declared.model.VOutput.{VOutput}
 use Rattle.vital_models.specs.declared.model.VEntity.{VEntity}
 use Rattle.vital_models.specs.Sound.{IsTruthTable, IsStateTable, columns_of}
-use Rattle.vital_models.specs.Generated.{entity_of}
 use Rattle.vhdl_text.specs.VhdlTables.{truth_table, state_table}
 use Rattle.vhdl_text.specs.VhdlText.{text_tokens, lexical_place, IsVhdlText, vhdl_text}
 use Rattle.vhdl_text.specs.WellFormed.{IsWrittenState, AreWellFormed}
 use Rattle.vhdl_writer.specs.Tables.{truth_rows_text, state_rows_text}
-use Rattle.vhdl_writer.specs.Names.{port_at}
 use Rattle.vhdl_writer.specs.Entity.{entity_text}
 
 -- the aggregates that constants are given
@@ -65,19 +60,6 @@ pub record EntitiesReadBack (es : List VEntity) : Type 0 where
   pub answer : vhdl_text (entities_text es) ≡ Ok es
   pub only : (others : List VEntity) → IsVhdlText (entities_text es) others → others ≡ es
 
--- An output without paths is assigned by its name, where the name of the procedure of path delays would begin a call of it. So such an
--- output has another name.
-abbrev pub IsAssignable : VEntity → VOutput → Type 0
-IsAssignable e output =
-    length output.paths ≡ 0 → str_eq_ignore_ascii_case (port_at e output.port) (codes "VitalPathDelay01") ≡ false
-
-abbrev pub AreAssignable : VEntity → Type 0
-AreAssignable e = All (IsAssignable e) e.outputs
-
 -- entities that are well formed read back from what is written of them
 abbrev pub WrittenEntitiesReadBack : Type 0
-WrittenEntitiesReadBack = (es : List VEntity) → AreWellFormed es → All AreAssignable es → EntitiesReadBack es
-
--- the entities that are generated for cells keep this: no name of theirs begins as those of the VITAL packages
-abbrev pub GeneratedEntitiesAreAssignable : Type 0
-GeneratedEntitiesAreAssignable = (cell : CellData) (name : List ℕ) → AreAssignable (entity_of cell name)
+WrittenEntitiesReadBack = (es : List VEntity) → AreWellFormed es → EntitiesReadBack es

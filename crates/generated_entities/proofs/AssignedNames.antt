@@ -1,5 +1,5 @@
--- No port of a generated entity has the name of the procedure of path delays.
-use Rattle.std.proofs.Common.{◌≡◌, ℕ, zero, suc, ◌+◌, Bool, true, false, not, ◌&&◌, ◌==◌, if◌then◌else◌, List, [], ◌∷◌, ◌++◌, length, take, Option, Some, None, slice_get, refl, sym, ap, ◌∙◌, codes, decimal}
+-- No port of a generated entity has the name of the procedure of path delays, so its outputs can be assigned by their names.
+use Rattle.std.proofs.Common.{◌≡◌, All, ℕ, zero, suc, ◌+◌, Bool, true, false, not, ◌&&◌, ◌==◌, if◌then◌else◌, List, [], ◌∷◌, ◌++◌, length, take, Option, Some, None, slice_get, refl, sym, ap, ◌∙◌, codes, decimal}
 use lib.Pointwise.{pointwise}
 use Rattle.std.specs.List.{AllByRecursion}
 use Rattle.std.specs.Option.{option_map_or}
@@ -19,9 +19,8 @@ use Rattle.vital_models.specs.declared.model.VEntity.{VEntity}
 use Rattle.vital_models.specs.Kept.{is_taken, is_kept_port_name, port_name}
 use Rattle.vital_models.specs.Ports.{is_port, port_after, ports_after}
 use Rattle.vital_models.specs.Generated.{entity_of}
-use Rattle.vhdl_writer.specs.Names.{port_at}
 use Rattle.grammar_phrases.proofs.Places.{all_at}
-use Rattle.written_entities.specs.Laws.{IsAssignable, AreAssignable}
+use Rattle.vhdl_text.specs.WellFormed.{names_procedure, IsAssignable}
 
 -- another name than that of the procedure
 abbrev IsOther : List ℕ → Type 0
@@ -83,10 +82,10 @@ others_after entity ports (pin ∷ pins) h =
     by true more same = more
     by false more same = same
 
-other_at : (e : VEntity) → AllByRecursion IsOtherPort e.ports → (p : ℕ) → IsOther (port_at e p)
+other_at : (e : VEntity) → AllByRecursion IsOtherPort e.ports → (p : ℕ) → names_procedure e.ports p ≡ false
 other_at e h p = by (slice_get e.ports p) refl
   where
-    by : (o : Option VPort) → slice_get e.ports p ≡ o → IsOther (option_map_or (λ (port : VPort). port.name) o [])
+    by : (o : Option VPort) → slice_get e.ports p ≡ o → option_map_or (λ (port : VPort). str_eq_ignore_ascii_case port.name (codes "VitalPathDelay01")) o false ≡ false
     by None g = refl
     by (Some port) g = all_at IsOtherPort e.ports p port h g
 
@@ -95,7 +94,7 @@ all_assignable e h [] = tt
 all_assignable e h (output ∷ outputs) = ((λ none. other_at e h output.port), all_assignable e h outputs)
 
 -- a generated entity assigns its outputs by their names
-pub generated_assignable : (cell : CellData) (name : List ℕ) → AreAssignable (entity_of cell name)
+pub generated_assignable : (cell : CellData) (name : List ℕ) → All (IsAssignable (entity_of cell name)) (entity_of cell name).outputs
 generated_assignable cell name =
     let e : VEntity = entity_of cell name in
     All-from_recursion (IsAssignable e) e.outputs (all_assignable e (others_after name [] cell.pins tt) e.outputs)

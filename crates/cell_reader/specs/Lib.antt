@@ -5,3 +5,4 @@ pub mod CellTexts
 pub mod Parts
 pub mod ReasonWords
 pub mod Laws
+pub mod LibraryCells

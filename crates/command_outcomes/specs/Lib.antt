@@ -3,3 +3,4 @@ pub mod Written
 pub mod Binding
 pub mod Outcome
 pub mod Runs
+pub mod FileSteps

@@ -28,3 +28,4 @@ pub use reading::{Replay, read_replay};
 pub use refused::Refused;
 pub use run::replay_models;
 pub use stimulus_file::read_sections;
+pub use whole_file::take_file;

@@ -12,7 +12,7 @@ use text_io::{Desk, InSlot, Taken, read_all};
 
 /// Binds the file that the word at this place names, and reads its first `limit` bytes and sees whether more come. It ends
 /// with `Outside` only where a call failed, and with `Memory` where there was none; nothing is appended.
-pub(crate) fn take_file<D: Desk>(
+pub fn take_file<D: Desk>(
     alloc: Global,
     desk: &mut D,
     slot: InSlot,

@@ -1,4 +1,3 @@
-pub mod LibraryCells
 pub mod PinNames
 pub mod SamePorts
 pub mod NamedModels

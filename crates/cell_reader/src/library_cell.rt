@@ -1,12 +1,12 @@
-//! The cells of a library.
+//! What is kept of a cell of a library.
 ghost use Rattle.std.specs.Prelude.{◌≡◌};
-ghost use Rattle.simulation_catalog.specs.LibraryCells.{name_of};
+ghost use Rattle.cell_reader.specs.LibraryCells.{name_of, described};
 
+use crate::refusal::Refusal;
 use cell_machine::Cell;
-use cell_reader::Refusal;
 use sqlite_items::Items;
 
-/// A cell of a library, as it is kept for a simulation.
+/// A cell of a library, with what its models need beside its group, or why it has none.
 #[derive(Debug, Drop)]
 pub enum LibraryCell {
     /// A cell that is accepted.
@@ -28,7 +28,7 @@ pub enum LibraryCell {
 impl LibraryCell {
     /// The name of the cell.
     pub fn name(&self) -> &[u8]
-        ensures { result.now ≡ name_of self.now }
+        ensures { result.now ≡ name_of (described self.now) }
     {
         match self {
             LibraryCell::Accepted { cell, .. } => cell.name.as_slice(),

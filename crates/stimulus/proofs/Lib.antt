@@ -5,3 +5,4 @@ pub mod Steps
 pub mod TraceTexts
 pub mod Entries
 pub mod Properness
+pub mod BadLines

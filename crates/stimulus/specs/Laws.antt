@@ -1,8 +1,11 @@
 -- Laws of what is read, for the crates above.
-use Rattle.std.specs.Prelude.{◌≡◌, ℕ, ◌<◌, List, [], length, slice_get, All, Some, Ok}
+use Rattle.std.specs.Prelude.{◌≡◌, ℕ, ◌<◌, List, [], length, slice_get, All, Some, Ok, Err}
 use Rattle.cell_machine.specs.History.{IsProperFrom}
 use Rattle.stimulus.specs.declared.catalog.CellFound.TheVariants as cells
 use Rattle.stimulus.specs.declared.catalog.PinFound.TheVariants as pins
+use Rattle.stimulus.specs.declared.faults.Cause.{Cause}
+use Rattle.stimulus.specs.declared.faults.Cause.TheVariants as cause
+use Rattle.stimulus.specs.declared.faults.StimulusFault.TheVariants as fault
 use Rattle.stimulus.specs.declared.ports.Ports.{Ports}
 use Rattle.stimulus.specs.declared.sections.Section.{Section}
 use Rattle.stimulus.specs.Catalog.{Listing, cell_found, pin_found}
@@ -26,3 +29,15 @@ SectionsAreProper = (listing : Listing) (bytes : List ℕ) (sections : List Sect
 -- what a catalog of ports names as an input is one of its cell
 abbrev pub PortsAreInputs : Type 0
 PortsAreInputs = (named : NamedCells) (cell : ℕ) (ports : Ports) → slice_get named.cells cell ≡ Some ports → HasInputs (listed named) cell (length ports.inputs)
+
+-- where a cause names a cell by its number, the listing answered it to some name, as one that may not be given changes for this cause
+abbrev pub NamesAnAnswer : Listing → Cause → Type 0
+NamesAnAnswer listing (cause.RefusedCell number) = (name : List ℕ) × (cell_found listing name ≡ cells.Refused number)
+NamesAnAnswer listing (cause.VerilogPorts number) = (name : List ℕ) × (cell_found listing name ≡ cells.VerilogPorts number)
+NamesAnAnswer listing (cause.VitalPorts number) = (name : List ℕ) × (cell_found listing name ≡ cells.VitalPorts number)
+NamesAnAnswer listing why = Unit {0}
+
+-- a cell that the cause of a stimulus's first bad line names is such
+abbrev pub CausesNameAnswers : Type 0
+CausesNameAnswers =
+    (listing : Listing) (bytes : List ℕ) (line : ℕ) (why : Cause) → stimulus_of listing bytes ≡ Err (fault.Line line why) → NamesAnAnswer listing why

@@ -1,5 +1,5 @@
 //! Laws of the definitions, for the crates above.
-ghost use Rattle.stimulus.specs.Laws.{SectionsAreProper, PortsAreInputs};
+ghost use Rattle.stimulus.specs.Laws.{SectionsAreProper, PortsAreInputs, CausesNameAnswers};
 
 /// The law that each section of a stimulus that is read is of a cell that the catalog names, with changes of the cell's
 /// inputs at times that rise strictly. So what `read_stimulus` answers meets what the simulators require.
@@ -10,4 +10,10 @@ pub fn sections_are_proper()
 /// The law that each input that a `PortCatalog` finds has a number below the number of its cell's inputs.
 pub fn ports_are_inputs()
     ensures { PortsAreInputs }
+{}
+
+/// The law that a cell which the cause of a stimulus's first bad line names is one that the catalog answered to some name as
+/// refused, or as one whose module or entity is not there, as the cause says.
+pub fn causes_name_answers()
+    ensures { CausesNameAnswers }
 {}

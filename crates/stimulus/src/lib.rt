@@ -17,7 +17,7 @@ mod written;
 pub use catalog::{Catalog, CellFound, PinFound};
 pub use faults::{Cause, Memory, StimulusFault};
 pub use judged::MAX_CHANGES;
-pub use laws::{ports_are_inputs, sections_are_proper};
+pub use laws::{causes_name_answers, ports_are_inputs, sections_are_proper};
 pub use ports::{PortCatalog, Ports, Standing};
 pub use read::read_stimulus;
 pub use sections::Section;

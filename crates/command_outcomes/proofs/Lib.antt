@@ -1,3 +1,6 @@
 pub mod WrittenLaws
 pub mod BindingLaws
 pub mod RunsLaws
+pub mod SlotLaws
+pub mod FileLaws
+pub mod FilesReadLaws

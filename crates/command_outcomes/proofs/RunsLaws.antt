@@ -9,7 +9,7 @@ use Rattle.text_io.proofs.Wrote.{wrote-nil}
 use Rattle.command_outcomes.specs.declared.status.Status.{Status}
 use Rattle.command_outcomes.specs.declared.status.Status.TheVariants.{Outside, Memory}
 use Rattle.command_outcomes.specs.Status.{is_decided}
-use Rattle.command_outcomes.specs.Written.{Written, nothing_written, in_report, IsPart, wrote_all}
+use Rattle.command_outcomes.specs.Written.{Written, nothing_written, in_report, wrote_all}
 use Rattle.command_outcomes.specs.Binding.{Files, took_all}
 use Rattle.command_outcomes.specs.Outcome.{Outcome, IsPartOf, IsAllOf}
 use Rattle.command_outcomes.specs.Runs.{RunsAs}

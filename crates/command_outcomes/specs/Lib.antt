@@ -4,3 +4,4 @@ pub mod Binding
 pub mod Outcome
 pub mod Runs
 pub mod FileSteps
+pub mod FilesRead

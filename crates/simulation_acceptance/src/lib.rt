@@ -1,0 +1,11 @@
+//! Whole runs of `simulate` over desks in memory, with the bytes that they have to leave; no product code.
+#![tactic(auto)]
+
+#[cfg(test)]
+mod four_files;
+#[cfg(test)]
+mod libraries;
+#[cfg(test)]
+mod refused_files;
+#[cfg(test)]
+mod traces;

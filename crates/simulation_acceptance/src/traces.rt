@@ -1,0 +1,187 @@
+//! Sections that are run on a cell, its module and its entity.
+use crate::four_files::{simulated, simulated_beside_its_own, translated};
+use crate::libraries::{
+    CLOCK_GATE, FLIP_FLOP, GUARDED_FLIP_FLOP, INVERTER, LATCH, OTHER_FLIP_FLOP, TIMED_FLIP_FLOP,
+};
+use std::alloc::Global;
+use std::test::Fail;
+use text_io::OutSlot;
+use translate_cmd::Status;
+
+/// A section on which all three agree: the cell, the lines of the stimulus, and what each of the three shows at the start and
+/// behind each of them.
+struct Section {
+    library: &'static str,
+    cell: &'static str,
+    start: &'static str,
+    lines: &'static [(&'static str, &'static str)],
+}
+
+const SECTIONS: [Section; 7] = [
+    Section {
+        library: INVERTER,
+        cell: "MUX2",
+        start: "Y=x",
+        lines: &[("10 A 1", "Y=x"), ("20 B 1", "Y=1@0")],
+    },
+    Section {
+        library: FLIP_FLOP,
+        cell: "DFF",
+        start: "Q=x",
+        lines: &[
+            ("10 D 1", "Q=x"),
+            ("20 CK 0", "Q=x"),
+            ("30 CK 1", "Q=1@0"),
+            ("40 CK 0", "Q=1"),
+            ("50 CK x", "Q=1"),
+            ("60 CK 0", "Q=1"),
+            ("70 D 0", "Q=1"),
+            ("80 CK x", "Q=x@0"),
+        ],
+    },
+    Section {
+        library: LATCH,
+        cell: "LAT",
+        start: "Q=x",
+        lines: &[
+            ("10 D 1", "Q=x"),
+            ("200 EN 0", "Q=x"),
+            ("400 EN 1", "Q=1@0"),
+            ("450 EN 0", "Q=x@0 !1"),
+        ],
+    },
+    Section {
+        library: TIMED_FLIP_FLOP,
+        cell: "DFFT",
+        start: "Q=x",
+        lines: &[
+            ("10 CK 0", "Q=x"),
+            ("100 D 1", "Q=x"),
+            ("149 CK 1", "Q=x !1"),
+        ],
+    },
+    Section {
+        library: TIMED_FLIP_FLOP,
+        cell: "DFFT",
+        start: "Q=x",
+        lines: &[
+            ("10 CK 0", "Q=x"),
+            ("100 D 1", "Q=x"),
+            ("150 CK 1", "Q=1@100"),
+        ],
+    },
+    Section {
+        library: GUARDED_FLIP_FLOP,
+        cell: "DFFT",
+        start: "Q=x",
+        lines: &[
+            ("10 CK 0", "Q=x"),
+            ("100 D 1", "Q=x"),
+            ("149 CK 1", "Q=1@100"),
+        ],
+    },
+    Section {
+        library: CLOCK_GATE,
+        cell: "GATE",
+        start: "GCK=x",
+        lines: &[
+            ("10 CK 0", "GCK=0@0"),
+            ("20 SE 0", "GCK=0"),
+            ("30 E 1", "GCK=0"),
+            ("40 CK 1", "GCK=1@0"),
+            ("50 E 0", "GCK=1"),
+            ("60 CK 0", "GCK=0@0"),
+            ("70 CK 1", "GCK=0"),
+        ],
+    },
+];
+
+/// The stimulus of a section.
+fn stimulus_of(alloc: Global, section: &Section) -> Result<String, Fail> {
+    let mut text = String::from_str(alloc, "cell ")?;
+    text.push_str(section.cell)?;
+    text.push_str("\n")?;
+    for (change, _) in section.lines {
+        text.push_str(change)?;
+        text.push_str("\n")?;
+    }
+    Ok(text)
+}
+
+/// Adds what each of the three shows.
+fn push_three(text: &mut String, change: &str, shown: &str) -> Result<(), Fail> {
+    for tag in ["L ", "V ", "H "] {
+        for part in [tag, change, " : ", shown, "\n"] {
+            text.push_str(part)?;
+        }
+    }
+    Ok(())
+}
+
+/// The report of a section.
+fn report_of(alloc: Global, section: &Section) -> Result<String, Fail> {
+    let mut text = String::from_str(alloc, "cell ")?;
+    text.push_str(section.cell)?;
+    text.push_str("\n")?;
+    push_three(&mut text, "start", section.start)?;
+    for (change, shown) in section.lines {
+        push_three(&mut text, change, shown)?;
+    }
+    text.push_str("equal\n")?;
+    Ok(text)
+}
+
+#[test]
+fn a_cell_and_its_models_show_the_same(rt: HostRuntime) -> Result<(), Fail> {
+    let alloc = rt.alloc();
+    for section in SECTIONS.iter() {
+        let stimulus = stimulus_of(alloc, section)?;
+        let report = report_of(alloc, section)?;
+        let left = simulated_beside_its_own(alloc, section.library, stimulus.as_str())?;
+        assert!(rt; left.is(Status::Done, report.as_bytes(), ""));
+    }
+    Ok(())
+}
+
+#[test]
+fn a_section_without_changes_shows_the_start(rt: HostRuntime) -> Result<(), Fail> {
+    let alloc = rt.alloc();
+    let report = b"cell INV\nL start : Y=x\nV start : Y=x\nH start : Y=x\nequal\n";
+    let left = simulated_beside_its_own(alloc, INVERTER, "cell INV")?;
+    assert!(rt; left.is(Status::Done, report, ""));
+    let left = simulated_beside_its_own(alloc, INVERTER, "")?;
+    assert!(rt; left.is(Status::Done, b"", ""));
+    Ok(())
+}
+
+#[test]
+fn the_first_difference_is_told(rt: HostRuntime) -> Result<(), Fail> {
+    let alloc = rt.alloc();
+    let stimulus = "cell DFF\n10 D 1\n20 CK 0\n30 CK 1\n";
+    let report = b"cell DFF
+L start : Q=x
+V start : Q=x
+H start : Q=x
+L 10 D 1 : Q=x
+V 10 D 1 : Q=x
+H 10 D 1 : Q=x
+L 20 CK 0 : Q=x
+V 20 CK 0 : Q=x
+H 20 CK 0 : Q=x
+L 30 CK 1 : Q=1@0
+V 30 CK 1 : Q=0@0
+H 30 CK 1 : Q=1@0
+differs at change 3
+";
+    let models = translated(alloc, FLIP_FLOP)?;
+    let vital = models.desk.written(OutSlot::VitalText);
+    let left = simulated(
+        alloc,
+        FLIP_FLOP,
+        OTHER_FLIP_FLOP.as_bytes(),
+        vital,
+        stimulus,
+    )?;
+    assert!(rt; left.is(Status::Differ, report, ""));
+    Ok(())
+}

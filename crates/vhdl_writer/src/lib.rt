@@ -13,6 +13,3 @@ mod tables;
 mod variables;
 
 pub use entity::write_entity;
-
-#[cfg(test)]
-mod tests;

@@ -27,7 +27,7 @@ all_modules P (m ∷ ms) h =
     let own = all_back P (udp_names m.udps) (m.name ∷ flat_map outer_names ms) (subst (AllByRecursion P) (own_name_last m (flat_map outer_names ms)) h) in
     (own.0, all_modules P ms own.1)
 
-modules_apart : (ms : List VModule) → AreApart (flat_map outer_names ms) → AreApart (model_names verilog ms)
+pub modules_apart : (ms : List VModule) → AreApart (flat_map outer_names ms) → AreApart (model_names verilog ms)
 unfolding IsDistinct
 modules_apart [] h = tt
 modules_apart (m ∷ ms) h =

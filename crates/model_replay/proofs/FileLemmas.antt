@@ -120,6 +120,7 @@ file_read answer same old new slot place limit taken value t e = record {
   state = t.state;
   more = taken.more;
   text = taken.bytes.items;
+  within = t.within;
   read = e;
   told = answer_told answer same old new slot place limit taken (Ok value) t e;
 }
@@ -136,7 +137,7 @@ nothing_of_nothing : (part rest : List ℕ) → part ++ rest ≡ [] → part ≡
 nothing_of_nothing [] rest e = refl
 nothing_of_nothing (x ∷ part) rest e = absurd cc
 
-IfSome-map : {X : Type 0} (o : Option X) (P Q : Type 0) → (P → Q) → IfSome o (λ _. P) → IfSome o (λ _. Q)
+pub IfSome-map : {X : Type 0} (o : Option X) (P Q : Type 0) → (P → Q) → IfSome o (λ _. P) → IfSome o (λ _. Q)
 IfSome-map None P Q f h = tt
 IfSome-map (Some x) P Q f h = f h
 

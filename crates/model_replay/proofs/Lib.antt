@@ -1,7 +1,7 @@
 mod Catalogs
 mod Sections
 mod DeskSteps
-mod FileLemmas
+pub mod FileLemmas
 mod ReplayOutcomes
 pub mod SectionTexts
 pub mod ReplayRuns

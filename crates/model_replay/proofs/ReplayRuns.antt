@@ -220,7 +220,7 @@ stimulus_refused l old now new models catalog end v named by_catalog =
 
 -- Both files were read.
 
-of_models : {M : Type 0} (l : Language M) (more : Bool) (text : List ℕ) (models : List M) → models_answer l more text ≡ Ok models → l.text text ≡ Ok models
+pub of_models : {M : Type 0} (l : Language M) (more : Bool) (text : List ℕ) (models : List M) → models_answer l more text ≡ Ok models → l.text text ≡ Ok models
 of_models l true text models e = absurd cc
 of_models {M = M} l false text models e = by_text (l.text text) e
   where

@@ -79,7 +79,7 @@ section_written l s t models section model ports changes r found given w =
     subst (λ x. WritesTrace s t x r) text w
 
 -- a fault within the text of an item
-part_of_item : {X S T : Type 0} (f : X → List ℕ) (xs : List X) (i : ℕ) (x : X) (s now new : DeskState) (y : RunFault) (r : Result T RunFault)
+pub part_of_item : {X S T : Type 0} (f : X → List ℕ) (xs : List X) (i : ℕ) (x : X) (s now new : DeskState) (y : RunFault) (r : Result T RunFault)
     → i < length xs → x ≡ get_or xs i x → now ≡ wrote s Report (flat_map f (take i xs)) → WritesTrace {T = S} now new (f x) (Err y) → IsErr r
     → WritesTrace s new (flat_map f xs) r
 part_of_item f xs i x s now new y (Ok z) h is before item e = absurd cc

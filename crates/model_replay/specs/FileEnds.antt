@@ -49,8 +49,8 @@ pub record TellsRefused (old new : DeskState) (refused : Refused) (end : Ending)
   pub state : new ≡ wrote old Faults line
   pub whole : IsTrue (is_decided (status_of end)) → (end ≡ ending_of refused) × (line ≡ line_of refused)
 
--- The file that a word names was bound and read as this, and nothing else changed. Where the desk tells what is left of the slot
--- it is what the file's bytes are read as, within the limit.
+-- The file that a word names was bound and read as this, from no more bytes than the limit, and nothing else changed. Where the desk
+-- tells what is left of the slot it is what the file's bytes are read as, within the limit.
 pub record FileIsRead {T : Type 0} (answer : Answer T) (limit : ℕ) (old new : DeskState) (slot : InSlot) (place : ℕ) (value : T) : Type 0 where
   pub bytes : List ℕ
   pub count : ℕ
@@ -58,6 +58,7 @@ pub record FileIsRead {T : Type 0} (answer : Answer T) (limit : ℕ) (old new : 
   pub state : new ≡ took (opened old slot bytes) slot count
   pub more : Bool
   pub text : List ℕ
+  pub within : length text ≤ limit
   pub read : answer more text ≡ Ok value
   pub told : IfSome (old.left slot) (λ _. answer_within answer limit bytes ≡ Ok value)
 

@@ -9,8 +9,8 @@ use Rattle.cell_cursor.specs.Ends.{items_within, end_within}
 use Rattle.cell_cursor.specs.declared.item.LibraryItem.{LibraryItem}
 use Rattle.command_outcomes.specs.declared.status.Status.{Status}
 use Rattle.command_outcomes.specs.declared.status.Status.TheVariants as status
-use Rattle.translate_cmd.specs.declared.items.Ending.{Ending}
-use Rattle.translate_cmd.specs.declared.items.Ending.TheVariants as ending
+use Rattle.library_items.specs.declared.ending.Ending.{Ending}
+use Rattle.library_items.specs.declared.ending.Ending.TheVariants as ending
 use Rattle.translate_cmd.specs.declared.asked.Command.{Command}
 use Rattle.translate_cmd.specs.declared.asked.Command.TheVariants as command
 use Rattle.command_outcomes.specs.Status.{is_decided}
@@ -18,7 +18,8 @@ use Rattle.translate_cmd.specs.Reading.{reading}
 use Rattle.command_outcomes.specs.Written.{Written, wrote_all}
 use Rattle.command_outcomes.specs.Outcome.{Outcome}
 use Rattle.command_outcomes.specs.Binding.{Files, bound_state, AreNamed, took_all, Tells, bytes_at}
-use Rattle.translate_cmd.specs.Library.{library_limit, ending_of, outcome_at}
+use Rattle.library_items.specs.Endings.{library_limit, ending_of}
+use Rattle.translate_cmd.specs.Library.{outcome_at}
 use Rattle.translate_cmd.specs.Outcome.{files_of, outcome_of, outcome}
 use Rattle.translate_cmd.specs.Runs.{Runs}
 use Rattle.translate_cmd.specs.Complete.{IsWholeLibrary, CanBeDone, IsAllDone, Completes}

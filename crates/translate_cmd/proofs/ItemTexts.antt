@@ -2,9 +2,10 @@
 use Rattle.std.proofs.Common.{◌≡◌, List, [], ◌∷◌, ◌++◌, refl, sym, ap, ◌∙◌, append_assoc}
 use Rattle.std.proofs.lemmas.List.{append-nil}
 use Rattle.cell_cursor.specs.declared.item.LibraryItem.{LibraryItem}
-use Rattle.translate_cmd.specs.declared.progress.Progress.{Progress}
+use Rattle.library_items.specs.declared.progress.Progress.{Progress}
 use Rattle.command_outcomes.specs.Written.{Written, nothing_written, joined, IsPart}
-use Rattle.translate_cmd.specs.Cells.{item_written, after_item, progress_after, items_written}
+use Rattle.library_items.specs.Progress.{after_item, progress_after}
+use Rattle.translate_cmd.specs.Cells.{item_written, items_written}
 use Rattle.command_outcomes.proofs.WrittenLaws.{IsPart-front}
 
 joined-nothing : (a : Written) → joined a nothing_written ≡ a
@@ -24,10 +25,6 @@ items_written-append p [] ys = refl
 items_written-append p (x ∷ xs) ys =
     ap (joined (item_written p x)) (items_written-append (after_item p x) xs ys) ∙ sym (joined_assoc (item_written p x) _ _)
 
-progress_after-append : (p : Progress) (xs ys : List LibraryItem) → progress_after p (xs ++ ys) ≡ progress_after (progress_after p xs) ys
-progress_after-append p [] ys = refl
-progress_after-append p (x ∷ xs) ys = progress_after-append (after_item p x) xs ys
-
 -- one item more
 pub items_written-more : (p q : Progress) (xs : List LibraryItem) (x : LibraryItem) → q ≡ progress_after p xs
     → joined (items_written p xs) (item_written q x) ≡ items_written p (xs ++ x ∷ [])
@@ -35,10 +32,6 @@ items_written-more p q xs x e =
     ap (λ r. joined (items_written p xs) (item_written r x)) e
     ∙ ap (joined (items_written p xs)) (sym (joined-nothing (item_written (progress_after p xs) x)))
     ∙ sym (items_written-append p xs (x ∷ []))
-
-pub progress_after-more : (p q r : Progress) (xs : List LibraryItem) (x : LibraryItem) → q ≡ progress_after p xs → r ≡ after_item q x
-    → r ≡ progress_after p (xs ++ x ∷ [])
-progress_after-more p q r xs x e f = f ∙ ap (λ s. after_item s x) e ∙ sym (progress_after-append p xs (x ∷ []))
 
 -- what is written for the first items is a part of what is written for all
 pub first_part : (p : Progress) (text : Written) (xs others all : List LibraryItem) → xs ++ others ≡ all → IsPart text (items_written p xs)

@@ -7,6 +7,7 @@ pub mod VitalTexts
 pub mod ItemTexts
 pub mod ModelsLemmas
 pub mod TranslateLemmas
+pub mod LibraryFileLemmas
 pub mod ReplayLemmas
 pub mod LanguageLemmas
 pub mod ItemsLemmas

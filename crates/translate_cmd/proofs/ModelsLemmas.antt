@@ -5,9 +5,10 @@ use Rattle.text_io.specs.Desk.{IsPrefix}
 use Rattle.verilog_writer.specs.Model.{prelude_text}
 use Rattle.cell_cursor.specs.declared.item.LibraryItem.{LibraryItem}
 use Rattle.cell_cursor.specs.Given.{closed_items, most_beyond, HasGiven}
-use Rattle.translate_cmd.specs.declared.progress.Progress.{Progress}
+use Rattle.library_items.specs.declared.progress.Progress.{Progress}
 use Rattle.command_outcomes.specs.Written.{Written, in_verilog, joined, IsPart}
-use Rattle.translate_cmd.specs.Cells.{no_progress, items_written}
+use Rattle.library_items.specs.Progress.{no_progress}
+use Rattle.translate_cmd.specs.Cells.{items_written}
 use Rattle.translate_cmd.specs.Models.{HoldsCells, HoldsModels}
 use Rattle.command_outcomes.proofs.WrittenLaws.{IsPart-all, IsPart-after, IsPart-front}
 use Rattle.translate_cmd.proofs.ItemTexts.{first_part}

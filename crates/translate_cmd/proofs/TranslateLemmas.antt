@@ -13,21 +13,23 @@ use Rattle.text_io.proofs.Took.{took-zero}
 use Rattle.verilog_writer.specs.Model.{prelude_text}
 use Rattle.command_outcomes.specs.declared.status.Status.{Status}
 use Rattle.command_outcomes.specs.declared.status.Status.TheVariants.{Outside}
-use Rattle.translate_cmd.specs.declared.stop.Stop.{Stop}
-use Rattle.translate_cmd.specs.declared.progress.Progress.{Progress}
+use Rattle.library_items.specs.declared.stop.Stop.{Stop}
+use Rattle.library_items.specs.declared.progress.Progress.{Progress}
 use Rattle.cell_cursor.specs.declared.item.LibraryItem.{LibraryItem}
 use Rattle.cell_cursor.specs.Ends.{items_within}
-use Rattle.translate_cmd.specs.declared.items.Ending.{Ending}
+use Rattle.library_items.specs.declared.ending.Ending.{Ending}
 use Rattle.translate_cmd.specs.declared.asked.Command.TheVariants as command
 use Rattle.command_outcomes.specs.Status.{is_decided}
 use Rattle.translate_cmd.specs.Reading.{reading}
 use Rattle.command_outcomes.specs.Written.{Written, nothing_written, in_verilog, in_report, joined, IsPart, wrote_all}
-use Rattle.translate_cmd.specs.Cells.{no_progress, progress_after, items_written}
+use Rattle.library_items.specs.Progress.{no_progress, progress_after}
+use Rattle.translate_cmd.specs.Cells.{items_written}
 use Rattle.command_outcomes.specs.Outcome.{IsPartOf, IsAllOf}
 use Rattle.command_outcomes.specs.Binding.{Files, bound_state, AreNamed, IsFront, HasOutputs, Binds, took_all, only, Tells, bytes_at}
 use Rattle.command_outcomes.specs.Runs.{RunsAs}
 use Rattle.command_outcomes.proofs.BindingLaws.{IsFront-all, took_all-nothing, took_all-only, left_told, named_bytes}
-use Rattle.translate_cmd.specs.Library.{library_limit, last_line, fault_line, status_at, outcome_at, translate_outcome, IsHandled, Handles, IsFinished, Finishes, Translates}
+use Rattle.library_items.specs.Endings.{library_limit}
+use Rattle.translate_cmd.specs.Library.{last_line, fault_line, status_at, outcome_at, translate_outcome, IsHandled, Handles, IsFinished, Finishes, Translates}
 use Rattle.translate_cmd.specs.Outcome.{translate_files, files_of, outcome_of, outcome}
 use Rattle.translate_cmd.specs.Runs.{Runs}
 use Rattle.translate_cmd.specs.Models.{HoldsCells, HoldsModels}

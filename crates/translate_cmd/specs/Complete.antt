@@ -16,7 +16,7 @@ use Rattle.model_replay.specs.declared.format.ModelFormat.TheVariants as format
 use Rattle.model_replay.specs.Complete.{CanBeReplayed}
 use Rattle.model_languages.specs.Verilog.{verilog}
 use Rattle.model_languages.specs.Vital.{vital}
-use Rattle.translate_cmd.specs.Library.{library_limit}
+use Rattle.library_items.specs.Endings.{library_limit}
 use Rattle.translate_cmd.specs.Outcome.{files_of, outcome}
 
 -- a library within its limit, whose text is whole; its cells may be refused or not

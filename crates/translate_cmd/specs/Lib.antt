@@ -1,8 +1,8 @@
 pub mod Reading
-pub mod Stops
 pub mod Cells
 pub mod Models
 pub mod Library
+pub mod LibraryAnswers
 pub mod Outcome
 pub mod Runs
 pub mod Reached

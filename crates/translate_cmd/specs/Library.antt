@@ -1,8 +1,6 @@
 -- What translating a library comes to. This project's rules.
 use Rattle.std.specs.Prelude.{◌≡◌, ℕ, List, [], nat_eq, Result, IfOk, IfSome, if◌then◌else◌}
-use Rattle.liberty_groups.specs.declared.read.End.{End}
-use Rattle.liberty_groups.specs.declared.read.End.TheVariants as ends
-use Rattle.cell_cursor.specs.Ends.{items_within, end_within}
+use Rattle.cell_cursor.specs.Ends.{items_within}
 use Rattle.text_io.specs.declared.outside.Failed.{Failed}
 use Rattle.text_io.specs.declared.slots.InSlot.TheVariants.{Library}
 use Rattle.text_io.specs.declared.slots.OutSlot.TheVariants.{Faults}
@@ -12,30 +10,16 @@ use Rattle.library_report.specs.CellLines.{totals_line}
 use Rattle.library_report.specs.FaultLines.{library_fault_line, library_too_long_line}
 use Rattle.command_outcomes.specs.declared.status.Status.{Status}
 use Rattle.command_outcomes.specs.declared.status.Status.TheVariants as status
-use Rattle.translate_cmd.specs.declared.stop.Stop.{Stop}
-use Rattle.translate_cmd.specs.declared.progress.Progress.{Progress}
+use Rattle.library_items.specs.declared.stop.Stop.{Stop}
+use Rattle.library_items.specs.declared.progress.Progress.{Progress}
 use Rattle.cell_cursor.specs.declared.item.LibraryItem.{LibraryItem}
-use Rattle.translate_cmd.specs.declared.items.Ending.{Ending}
-use Rattle.translate_cmd.specs.declared.items.Ending.TheVariants as ending
+use Rattle.library_items.specs.declared.ending.Ending.{Ending}
+use Rattle.library_items.specs.declared.ending.Ending.TheVariants as ending
 use Rattle.command_outcomes.specs.Outcome.{Outcome, IsPartOf, IsAllOf}
 use Rattle.command_outcomes.specs.Written.{Written, in_verilog, in_report, joined, IsPart, wrote_all}
-use Rattle.translate_cmd.specs.Cells.{no_progress, progress_after, items_written}
+use Rattle.library_items.specs.Progress.{no_progress, progress_after}
+use Rattle.translate_cmd.specs.Cells.{items_written}
 use Rattle.translate_cmd.specs.Models.{HoldsCells, HoldsModels}
-
--- the most bytes that a library may have
-abbrev pub library_limit : ℕ
-library_limit = 67108864
-
--- how a library whose bytes are read so ends
-abbrev pub ending_by : End → Ending
-ending_by ends.Whole = ending.Whole
-ending_by ends.Cut = ending.TooLong
-ending_by (ends.Fault fault) = ending.Fault fault
-
--- how a library ends: as its bytes do or, where it has more than this many, as the first of them do as the front of a file;
--- it is too long where some library text begins with them
-abbrev pub ending_of : ℕ → List ℕ → Ending
-ending_of limit bytes = ending_by (end_within limit bytes)
 
 -- the line behind those of the cells, where the library was read to its end
 abbrev pub last_line : Ending → Progress → List ℕ

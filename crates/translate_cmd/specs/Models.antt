@@ -2,9 +2,10 @@
 use Rattle.std.specs.Prelude.{ℕ, ◌+◌, ◌≤◌, List, take}
 use Rattle.cell_cursor.specs.Given.{closed_items, most_beyond}
 use Rattle.verilog_writer.specs.Model.{prelude_text}
-use Rattle.translate_cmd.specs.declared.progress.Progress.{Progress}
+use Rattle.library_items.specs.declared.progress.Progress.{Progress}
 use Rattle.command_outcomes.specs.Written.{Written, in_verilog, joined, IsPart}
-use Rattle.translate_cmd.specs.Cells.{no_progress, items_written}
+use Rattle.library_items.specs.Progress.{no_progress}
+use Rattle.translate_cmd.specs.Cells.{items_written}
 
 -- So many bytes of a library were taken: of each cell whose closing brace has 65,536 bytes or more of them behind it these
 -- outputs hold all that is written for it, both models of an accepted cell whole, and the lines of the report.

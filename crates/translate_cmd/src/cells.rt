@@ -3,18 +3,18 @@ ghost use Rattle.std.specs.Prelude.{◌≡◌, ◌+◌, ◌<◌, ◌^◌, IsTrue
 ghost use Rattle.text_io.specs.declared.slots.Slot.TheVariants.{Output};
 ghost use Rattle.text_io.specs.declared.slots.OutSlot.TheVariants.{VerilogText, VitalText, Report};
 ghost use Rattle.text_io.specs.Desk.{is_bound, HasCause, WritesText};
-ghost use Rattle.cell_parts.specs.Groups.{cell_name};
 ghost use Rattle.cell_machine.specs.CellData.{data_of};
 ghost use Rattle.cell_cursor.specs.declared.item.LibraryItem.TheVariants as item;
 ghost use Rattle.command_outcomes.specs.Written.{Writes, in_verilog};
-ghost use Rattle.translate_cmd.specs.Stops.{StopsWithCause};
-ghost use Rattle.translate_cmd.specs.Cells.{next_refusal, model_text, vital_text, in_vital, models_written, accepted_lines, accepted_written, entity_by, written_by, item_written, after_item};
+ghost use Rattle.library_items.specs.Stops.{StopsWithCause};
+ghost use Rattle.library_items.specs.Progress.{next_refusal, entity_by, after_item};
+ghost use Rattle.translate_cmd.specs.Cells.{model_text, vital_text, in_vital, models_written, accepted_lines, accepted_written, written_by, item_written};
 
-use crate::progress::Progress;
-use crate::stop::Stop;
 use cell_machine::Cell;
-use cell_reader::{CellFault, ReadCell, read_cell};
+use cell_parts::groups::cell_name;
+use cell_reader::ReadCell;
 use liberty_groups::Group;
+use library_items::{NextCell, Progress, Stop, next_cell};
 use library_report::{write_accepted_cell, write_left_out_groups, write_refused_cell};
 use specify_blocks::verilog_model;
 use sqlite_items::Items;
@@ -22,17 +22,7 @@ use std::alloc::Global;
 use text_io::{Desk, Failed};
 use verilog_writer::write_model;
 use vhdl_writer::write_entity;
-use vital_models::{entity_name, vital_model};
-
-/// The name of a cell: the first argument of its group, and empty where there is none.
-fn name_of(group: &Group) -> &[u8]
-    ensures { result.now ≡ cell_name group.now }
-{
-    match group.arguments.as_slice().first() {
-        Some(value) => value.bytes.as_slice(),
-        None => &[],
-    }
-}
+use vital_models::vital_model;
 
 /// Writes the Verilog model of a cell.
 fn write_verilog<D: Desk>(alloc: Global, desk: &mut D, cell: &Cell) -> Result<(), Stop>
@@ -40,7 +30,9 @@ fn write_verilog<D: Desk>(alloc: Global, desk: &mut D, cell: &Cell) -> Result<()
     ensures text { Writes (D.state desk.old) (D.state desk.new) (in_verilog (model_text (data_of cell.now))) result }
     ensures cause { StopsWithCause (D.faults desk.old) (D.faults desk.new) result }
 {
-    let model = verilog_model(alloc, cell)?;
+    let Ok(model) = verilog_model(alloc, cell) else {
+        return Err(Stop::Memory);
+    };
     write_model(desk, &model)?;
     Ok(())
 }
@@ -121,18 +113,15 @@ fn write_cell<D: Desk>(
     ensures entity { IfOk result (λ entity. entity ≡ entity_by progress.now group.now (next_refusal progress.now group.now)) }
     ensures cause { StopsWithCause (D.faults desk.old) (D.faults desk.new) result }
 {
-    let number = progress.next_number();
-    match read_cell(alloc, group, number, progress.unit, &progress.names) {
-        Ok(read) => {
-            let entity = entity_name(alloc, &read.cell, &progress.entities)?;
+    match next_cell(alloc, progress, group)? {
+        NextCell::Accepted { read, entity } => {
             write_accepted(alloc, desk, &read, entity.as_slice())?;
             Ok(Some(entity))
         }
-        Err(CellFault::Refused(refusal)) => {
-            write_refused_cell(desk, number, name_of(group), &refusal)?;
+        NextCell::Refused(refusal) => {
+            write_refused_cell(desk, progress.next_number(), cell_name(group), &refusal)?;
             Ok(None)
         }
-        Err(CellFault::Memory) => Err(Stop::Memory),
     }
 }
 
@@ -151,8 +140,8 @@ pub(crate) fn handle_cell<D: Desk>(
     ensures cause { StopsWithCause (D.faults desk.old) (D.faults desk.new) result }
 {
     match write_cell(alloc, desk, progress, group)? {
-        Some(entity) => progress.count_accepted(alloc, name_of(group), entity.as_slice())?,
-        None => progress.count_refused(name_of(group))?,
+        Some(entity) => progress.count_accepted(alloc, cell_name(group), entity.as_slice())?,
+        None => progress.count_refused(cell_name(group))?,
     }
     Ok(())
 }

@@ -8,23 +8,22 @@ ghost use Rattle.text_io.specs.Plan.{plan};
 ghost use Rattle.translate_cmd.specs.declared.asked.Command.TheVariants as command;
 ghost use Rattle.translate_cmd.specs.Reading.{reading};
 ghost use Rattle.command_outcomes.specs.Status.{is_decided, is_unfailed};
-ghost use Rattle.translate_cmd.specs.Stops.{StopsWithCause};
+ghost use Rattle.library_items.specs.Stops.{StopsWithCause};
 ghost use Rattle.command_outcomes.specs.Binding.{Binds};
 ghost use Rattle.translate_cmd.specs.Outcome.{translate_files};
-ghost use Rattle.translate_cmd.specs.Library.{Finishes, Translates};
+ghost use Rattle.library_items.specs.declared.ending.Ending.TheVariants as ending;
+ghost use Rattle.translate_cmd.specs.Library.{status_at, Finishes, Translates};
 ghost use Rattle.translate_cmd.specs.Runs.{Runs};
 
-use crate::items::{Ending, handle_items};
-use crate::progress::Progress;
-use crate::stop::Stop;
+use crate::items::handle_items;
+use crate::library_file::LIMIT;
 use command_outcomes::Status;
+use library_items::{Ending, Progress, Stop};
 use library_report::{write_library_fault, write_library_too_long, write_totals};
 use std::alloc::Global;
 use text_io::{Desk, Failed, InSlot, OutSlot};
 use verilog_writer::write_prelude;
 
-/// The most bytes that a library may have.
-const LIMIT: usize = 67_108_864;
 
 /// Writes the Verilog and VHDL models of the cells of the library that the words name, and its report.
 pub(crate) fn translate<D: Desk>(alloc: Global, desk: &mut D) -> Status
@@ -73,6 +72,17 @@ fn translate_bound<D: Desk>(alloc: Global, desk: &mut D) -> Result<Status, Stop>
     Ok(finish(desk, &progress, ending)?)
 }
 
+/// The status where the library was read to its end.
+fn whole_status(progress: &Progress) -> Status
+    ensures { result ≡ status_at ending.Whole progress.now }
+{
+    if progress.refused == 0 {
+        Status::Done
+    } else {
+        Status::Cells
+    }
+}
+
 /// Writes what stands behind the items of a library, and answers the status at its end.
 fn finish<D: Desk>(desk: &mut D, progress: &Progress, ending: Ending) -> Result<Status, Failed>
     ensures text { Finishes (D.state desk.old) (D.state desk.new) progress.now ending result }
@@ -81,7 +91,7 @@ fn finish<D: Desk>(desk: &mut D, progress: &Progress, ending: Ending) -> Result<
     match ending {
         Ending::Whole => {
             write_totals(desk, progress.accepted, progress.refused)?;
-            Ok(progress.status())
+            Ok(whole_status(progress))
         }
         Ending::Fault(fault) => {
             write_library_fault(desk, &fault)?;

@@ -8,7 +8,7 @@ use Rattle.bool_functions.specs.NameList.{number_of}
 use Rattle.bool_functions.proofs.NameLists.{position-none, position-some}
 use Rattle.vhdl_names.specs.Kept.{is_identifier, is_free, is_numbered, lowered}
 use Rattle.vital_models.specs.Kept.{is_kept_entity_name, entity_name}
-use Rattle.translate_cmd.specs.Cells.{names_with}
+use Rattle.library_items.specs.Progress.{names_with}
 
 -- two lists hold the same names
 abbrev pub AreAlike : List (List ℕ) → List (List ℕ) → Type 0

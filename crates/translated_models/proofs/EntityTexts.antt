@@ -13,8 +13,10 @@ use Rattle.vital_models.specs.Kept.{entity_name}
 use Rattle.vital_models.specs.Generated.{entity_of}
 use Rattle.vhdl_writer.specs.Entity.{entity_text}
 use Rattle.generated_entities.specs.Library.{entities_behind}
-use Rattle.translate_cmd.specs.Cells.{no_progress, next_number, next_refusal, next_data, next_left_out, next_entity, models_written, accepted_written, vital_text, entity_by, written_by, after_cell, after_item, items_written}
-use Rattle.translate_cmd.specs.Library.{library_limit, outcome_at}
+use Rattle.library_items.specs.Progress.{no_progress, next_number, next_refusal, next_data, next_left_out, next_entity, entity_by, after_cell, after_item}
+use Rattle.translate_cmd.specs.Cells.{models_written, accepted_written, vital_text, written_by, items_written}
+use Rattle.library_items.specs.Endings.{library_limit}
+use Rattle.translate_cmd.specs.Library.{outcome_at}
 use Rattle.translated_models.specs.Models.{Progress, cells_by, accepted_cells}
 use Rattle.translated_models.specs.Laws.{VitalIsOfEntities}
 use Rattle.translated_models.proofs.EntityNames.{AreAlike, named_alike, alike_with}

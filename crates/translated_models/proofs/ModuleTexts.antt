@@ -11,8 +11,10 @@ use Rattle.cell_cursor.specs.declared.item.LibraryItem.TheVariants as item
 use Rattle.cell_cursor.specs.Ends.{items_within}
 use Rattle.specify_blocks.specs.Generated.{module_of}
 use Rattle.verilog_writer.specs.Model.{prelude_text, module_text}
-use Rattle.translate_cmd.specs.Cells.{no_progress, next_refusal, next_data, next_left_out, next_entity, models_written, accepted_written, model_text, entity_by, written_by, after_cell, after_item, items_written}
-use Rattle.translate_cmd.specs.Library.{library_limit, outcome_at}
+use Rattle.library_items.specs.Progress.{no_progress, next_refusal, next_data, next_left_out, next_entity, entity_by, after_cell, after_item}
+use Rattle.translate_cmd.specs.Cells.{models_written, accepted_written, model_text, written_by, items_written}
+use Rattle.library_items.specs.Endings.{library_limit}
+use Rattle.translate_cmd.specs.Library.{outcome_at}
 use Rattle.translated_models.specs.Models.{Progress, cells_by, accepted_cells}
 use Rattle.translated_models.specs.Laws.{VerilogIsOfModules}
 

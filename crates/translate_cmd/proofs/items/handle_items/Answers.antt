@@ -5,7 +5,8 @@ use Rattle.text_io.specs.declared.slots.Slot.TheVariants.{Input, Output}
 use Rattle.text_io.proofs.Took.{bound_still}
 use Rattle.command_outcomes.proofs.WrittenLaws.{still_bound_all}
 use Rattle.cell_cursor.specs.Stands.{is_failed}
-use Rattle.translate_cmd.proofs.ItemsLemmas.{room_kept, ends_on, failed_now, reached_start, reached_next, stops_first, stops_seeking, stops_between, stops_within, ends_so}
+use Rattle.library_items.proofs.Following.{room_kept, ends_on, failed_now}
+use Rattle.translate_cmd.proofs.ItemsLemmas.{reached_start, reached_next, stops_first, stops_seeking, stops_between, stops_within, ends_so}
 use Rattle.translate_cmd.proofs.items.handle_items.Goals as goal
 
 pub returns-in_err-cursor-clause-text : goal.returns-in_err-cursor-clause-text

@@ -1,5 +1,5 @@
 use Rattle.std.proofs.Common.{refl}
-use Rattle.translate_cmd.specs.declared.items.Ending.TheVariants as ending
+use Rattle.library_items.specs.declared.ending.Ending.TheVariants as ending
 use Rattle.translate_cmd.proofs.TranslateLemmas.{last_stops, last_told, fault_stops, fault_told}
 use Rattle.translate_cmd.proofs.translate.finish.Goals as goal
 

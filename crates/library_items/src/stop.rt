@@ -1,16 +1,19 @@
 //! Why a command stops before its end.
 ghost use Rattle.std.specs.Prelude.{◌≡◌};
-ghost use Rattle.translate_cmd.specs.declared.stop.Stop.TheVariants.{Failed as WasFault, Memory as NoMemory};
+ghost use Rattle.library_items.specs.declared.stop.Stop.TheVariants.{Failed as WasFault, Memory as NoMemory};
 
-use std::alloc::AllocError;
+use std::alloc::{AllocError, AllocFailed};
 use text_io::Failed;
+use thiserror::Error;
 
 /// Why a command stops before its end.
-#[derive(Clone, Copy, Debug, PartialEq, Eq)]
-pub(crate) enum Stop {
+#[derive(Clone, Copy, Debug, PartialEq, Eq, Error)]
+pub enum Stop {
     /// A call on the world outside failed.
+    #[error("a call failed")]
     Failed,
     /// There was no memory.
+    #[error("out of memory")]
     Memory,
 }
 
@@ -30,10 +33,10 @@ impl From<AllocError> for Stop {
     }
 }
 
-impl From<specify_blocks::Memory> for Stop {
+impl<T: Drop> From<AllocFailed<T>> for Stop {
     ghost from_gives = { λ _ made. made ≡ NoMemory };
 
-    fn from(_error: specify_blocks::Memory) -> Stop {
+    fn from(_error: AllocFailed<T>) -> Stop {
         Stop::Memory
     }
 }

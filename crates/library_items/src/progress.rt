@@ -1,18 +1,15 @@
 //! How far the items of a library are handled.
 ghost use Rattle.std.specs.Prelude.{◌≡◌, ◌+◌, ◌<◌, ◌^◌, IfErr, OnOk, Some, None};
-ghost use Rattle.translate_cmd.specs.declared.items.Ending.TheVariants as ending;
-ghost use Rattle.translate_cmd.specs.Library.{status_at};
-ghost use Rattle.translate_cmd.specs.Cells.{unit_of, no_progress, next_number, names_with, after_cell};
+ghost use Rattle.library_items.specs.Progress.{unit_of, no_progress, next_number, names_with, after_cell};
 
 use crate::stop::Stop;
 use bool_functions::{Memory, Names};
-use command_outcomes::Status;
 use liberty_text::Unit;
 use std::alloc::Global;
 
 /// What counts for the items of a library that come next.
 #[derive(Drop)]
-pub(crate) struct Progress {
+pub struct Progress {
     /// The library's unit of time, where it is a known one.
     pub unit: Option<Unit>,
     /// The names of the cells so far, each once.
@@ -26,7 +23,7 @@ pub(crate) struct Progress {
 }
 
 /// The unit of time that a text names.
-pub(crate) fn unit_of(text: &[u8]) -> Option<Unit>
+pub fn unit_of(text: &[u8]) -> Option<Unit>
     ensures { result ≡ unit_of text.now }
 {
     if text == b"1ns".as_slice() {
@@ -62,17 +59,6 @@ impl Progress {
         ensures { result ≡ next_number self.now }
     {
         self.accepted + self.refused + 1
-    }
-
-    /// The status where the library was read to its end.
-    pub fn status(&self) -> Status
-        ensures { result ≡ status_at ending.Whole self.now }
-    {
-        if self.refused == 0 {
-            Status::Done
-        } else {
-            Status::Cells
-        }
     }
 
     /// Counts a cell that was refused. `Memory` comes only where memory is wanting.

@@ -1,0 +1,181 @@
+-- The cells that are kept of the items of a library.
+use Rattle.std.proofs.Common.{◌≡◌, ℕ, Bool, true, false, List, [], ◌∷◌, ◌++◌, length, map, Option, Some, None, is_some, Result, Ok, IsErr, IfOk, IfSome, refl, sym, ap, subst, ◌∙◌, append_assoc, length-append, if◌then◌else◌}
+use Rattle.std.specs.Prelude.{Vec}
+use Rattle.std.proofs.lemmas.List.{append-nil, map-append}
+use Rattle.std.specs.List.{list_any, IsDistinct}
+use Rattle.std.proofs.lemmas.Cmp.{nat_list_eq_equiv}
+use Rattle.std.proofs.lemmas.Map.Keys.{IsDistinct-push}
+use Rattle.bool_functions.proofs.NameLists.{position-none, position-some}
+use Rattle.std.specs.Str.{bytes_eq}
+use Rattle.bool_functions.specs.NameList.{number_of, AreDistinct}
+use Rattle.text_io.specs.declared.slots.InSlot.TheVariants.{Library}
+use Rattle.text_io.specs.Desk.{DeskState, took}
+use Rattle.text_io.proofs.Took.{took-zero, took_more}
+use Rattle.liberty_groups.specs.declared.tree.Group.{Group}
+use Rattle.cell_cursor.specs.declared.item.LibraryItem.{LibraryItem}
+use Rattle.cell_cursor.specs.declared.item.LibraryItem.TheVariants as item
+use Rattle.cell_cursor.specs.declared.cursor.CellCursor.{CellCursor}
+use Rattle.cell_cursor.specs.Stands.{Stands, Moves}
+use Rattle.cell_parts.specs.Groups.{cell_name}
+use Rattle.cell_reader.specs.declared.refusal.Refusal.{Refusal}
+use Rattle.cell_reader.specs.declared.library_cell.LibraryCell.{LibraryCell}
+use Rattle.cell_reader.specs.LibraryCells.{CellEntry, all_described, name_of, cell_names}
+use Rattle.library_items.specs.declared.stop.Stop.{Stop}
+use Rattle.library_items.specs.declared.progress.Progress.{Progress}
+use Rattle.library_items.specs.declared.ending.Ending.{Ending}
+use Rattle.library_items.specs.declared.ending.Ending.TheVariants as ending
+use Rattle.library_items.specs.declared.ending.NotWhole.{NotWhole}
+use Rattle.library_items.specs.Progress.{no_progress, names_with, next_refusal, next_data, entity_by, after_cell, after_item, progress_after}
+use Rattle.library_items.specs.Endings.{ending_of}
+use Rattle.library_items.specs.Steps.{IsAtEnd, TellsEnd}
+use Rattle.library_items.specs.KeptCells.{kept_by, next_entry, item_kept, kept_cells, cells_by, library_cells_within, entries_of, ReadsCells}
+use Rattle.library_items.specs.Reached.{Follows, HasKept}
+use Rattle.library_items.proofs.Fronts.{IfSome-each, IfOk-error}
+use Rattle.library_items.proofs.Following.{follows_start, follows_next, all_given}
+use Rattle.cell_cursor.specs.Ends.{items_within}
+
+-- what is kept of some items, and then of others
+kept_cells-append : (p : Progress) (xs ys : List LibraryItem) → kept_cells p (xs ++ ys) ≡ kept_cells p xs ++ kept_cells (progress_after p xs) ys
+kept_cells-append p [] ys = refl
+kept_cells-append p (x ∷ xs) ys =
+    ap (λ cells. item_kept p x ++ cells) (kept_cells-append (after_item p x) xs ys) ∙ sym (append_assoc (item_kept p x) _ _)
+
+-- one item more
+kept_cells-more : (p q : Progress) (xs : List LibraryItem) (x : LibraryItem) → q ≡ progress_after p xs
+    → kept_cells p xs ++ item_kept q x ≡ kept_cells p (xs ++ x ∷ [])
+kept_cells-more p q xs x e =
+    ap (λ r. kept_cells p xs ++ item_kept r x) e
+    ∙ ap (λ cells. kept_cells p xs ++ cells) (sym (append-nil (item_kept (progress_after p xs) x)))
+    ∙ sym (kept_cells-append p xs (x ∷ []))
+
+-- The names of the cells that are kept are those of all cells so far, each once.
+
+names_after : (p : Progress) (name : List ℕ) (entity : Option (List ℕ)) → (after_cell p name entity).names ≡ names_with p.names name
+names_after p name (Some entity) = refl
+names_after p name None = refl
+
+its_name : (p : Progress) (group : Group) (o : Option Refusal) → name_of (kept_by p group o) ≡ cell_name group
+unfolding next_data
+its_name p group None = refl
+its_name p group (Some refusal) = refl
+
+cell_named : (p : Progress) (group : Group) (cells : List CellEntry) (b : Bool) → cell_names cells ≡ p.names
+    → cell_names (cells ++ (if b then [] else next_entry p group ∷ [])) ≡ (if b then p.names else p.names ++ cell_name group ∷ [])
+cell_named p group cells true e = ap cell_names (append-nil cells) ∙ e
+cell_named p group cells false e =
+    map-append name_of cells (next_entry p group ∷ []) ∙ ap (λ names. names ++ name_of (next_entry p group) ∷ []) e
+    ∙ ap (λ name. p.names ++ name ∷ []) (its_name p group (next_refusal p group))
+
+pub item_named : (p : Progress) (x : LibraryItem) (cells : List CellEntry) → cell_names cells ≡ p.names → cell_names (cells ++ item_kept p x) ≡ (after_item p x).names
+item_named p (item.Cell group) cells e =
+    cell_named p group cells (is_some (number_of p.names (cell_name group))) e
+    ∙ sym (names_after p (cell_name group) (entity_by p group (next_refusal p group)))
+item_named p (item.Unit line) cells e = ap cell_names (append-nil cells) ∙ e
+item_named p (item.LeftOut at) cells e = ap cell_names (append-nil cells) ∙ e
+
+-- None of them stands twice.
+
+some_there : (o : Option ℕ) → (o ≡ None → ⊥) → is_some o ≡ true
+some_there None h = absurd (h refl)
+some_there (Some n) h = refl
+
+names_apart_by : (names : List (List ℕ)) (name : List ℕ) → AreDistinct names → (b : Bool) → list_any (bytes_eq name) names ≡ b → AreDistinct (names_with names name)
+names_apart_by names name h true e =
+    let there : is_some (number_of names name) ≡ true = some_there (number_of names name) (position-some (bytes_eq name) names e) in
+    subst (λ b. AreDistinct (if b then names else names ++ name ∷ [])) (sym there) h
+names_apart_by names name h false e =
+    let absent : is_some (number_of names name) ≡ false = ap is_some (position-none (bytes_eq name) names e) in
+    subst (λ b. AreDistinct (if b then names else names ++ name ∷ [])) (sym absent) (IsDistinct-push nat_list_eq_equiv names name h e)
+
+names_apart : (names : List (List ℕ)) (name : List ℕ) → AreDistinct names → AreDistinct (names_with names name)
+names_apart names name h = names_apart_by names name h (list_any (bytes_eq name) names) refl
+
+pub item_apart : (p : Progress) (x : LibraryItem) → AreDistinct p.names → AreDistinct (after_item p x).names
+item_apart p (item.Cell group) h =
+    subst AreDistinct (sym (names_after p (cell_name group) (entity_by p group (next_refusal p group)))) (names_apart p.names (cell_name group) h)
+item_apart p (item.Unit line) h = h
+item_apart p (item.LeftOut at) h = h
+
+-- The loop.
+
+-- before the first item
+pub kept_start : (limit : ℕ) (base : DeskState) (p : Progress) (cells : List CellEntry) (c : CellCursor) → c.limit ≡ limit → Stands c [] [] → c.answer ≡ None
+    → p ≡ no_progress → cells ≡ [] → HasKept limit base base p cells c
+unfolding IsDistinct
+kept_start limit base p cells c l h e fresh none = record {
+  follows = subst (λ q. Follows limit (base.left Library) base no_progress q c) (sym fresh) (follows_start limit base no_progress c l h e);
+  state = sym (took-zero base Library);
+  kept = none;
+  names = ap cell_names none ∙ sym (ap (λ q. q.names) fresh);
+  own = rw fresh tt;
+}
+
+-- some bytes of the library more
+more_taken : (base now next : DeskState) (a b : List ℕ) → now ≡ took base Library (length a) → next ≡ took now Library (length b)
+    → next ≡ took base Library (length (a ++ b))
+more_taken base now next a b first second =
+    took_more base now next Library (length a) (length b) first second ∙ ap (took base Library) (sym (length-append a b))
+
+-- after one more item
+pub kept_next : (limit : ℕ) (base now next : DeskState) (p q : Progress) (cells more : List CellEntry) (c d : CellCursor) (x : LibraryItem)
+    → HasKept limit base now p cells c → Moves c d now next (x ∷ []) → (IsAtEnd c now → IsAtEnd d next) → more ≡ cells ++ item_kept p x → q ≡ after_item p x
+    → HasKept limit base next q more d
+kept_next limit base now next p q cells more c d x h m a w e = record {
+  follows = follows_next limit (base.left Library) now next next no_progress p q c d x h.follows m a refl e;
+  state = more_taken base now next h.follows.taken m.taken h.state m.takes.state;
+  kept = w ∙ ap (λ first. first ++ item_kept p x) h.kept ∙ kept_cells-more no_progress p h.follows.items x h.follows.progress;
+  names = ap cell_names w ∙ item_named p x cells h.names ∙ sym (ap (λ r. r.names) e);
+  own = subst (λ r. AreDistinct r.names) (sym e) (item_apart p x h.own);
+}
+
+-- a stop before anything was read
+pub reads_first : {A : Type 0} (limit : ℕ) (base : DeskState) (r : Result (Result (Vec LibraryCell A) NotWhole) Stop) → IsErr r → ReadsCells limit base base r
+reads_first limit base r e = record { taken = 0; state = sym (took-zero base Library); cells = IfOk-error r _ e }
+
+-- a stop where the next item is sought
+pub reads_seeking : {A : Type 0} (limit : ℕ) (base now next : DeskState) (p : Progress) (cells : List CellEntry) (c d : CellCursor) (given : List LibraryItem) (r : Result (Result (Vec LibraryCell A) NotWhole) Stop)
+    → HasKept limit base now p cells c → Moves c d now next given → IsErr r → ReadsCells limit base next r
+reads_seeking limit base now next p cells c d given r h m e = record {
+  taken = length (h.follows.taken ++ m.taken);
+  state = more_taken base now next h.follows.taken m.taken h.state m.takes.state;
+  cells = IfOk-error r _ e;
+}
+
+-- a stop between two items
+pub reads_between : {A : Type 0} (limit : ℕ) (base now : DeskState) (p : Progress) (cells : List CellEntry) (c : CellCursor) (r : Result (Result (Vec LibraryCell A) NotWhole) Stop)
+    → HasKept limit base now p cells c → IsErr r → ReadsCells limit base now r
+reads_between limit base now p cells c r h e = record { taken = length h.follows.taken; state = h.state; cells = IfOk-error r _ e }
+
+-- at the end
+
+entries_by : {A : Type 0} (e : Ending) (cells : Vec LibraryCell A) → entries_of (cells_by e cells) ≡ cells_by e (all_described cells.items)
+entries_by ending.Whole cells = refl
+entries_by (ending.Fault fault) cells = refl
+entries_by ending.TooLong cells = refl
+
+pub reads_all : {A : Type 0} (limit : ℕ) (base now next : DeskState) (p : Progress) (cells : Vec LibraryCell A) (c d : CellCursor) (e : Ending)
+    (answer : Result (Vec LibraryCell A) NotWhole)
+    → HasKept limit base now p (all_described cells.items) c → Moves c d now next [] → (IsAtEnd c now → IsAtEnd d next) → TellsEnd d e
+    → answer ≡ cells_by e cells → ReadsCells limit base next (Ok answer)
+reads_all limit base now next p cells c d e answer h m a t is = record {
+  taken = length (h.follows.taken ++ m.taken);
+  state = more_taken base now next h.follows.taken m.taken h.state m.takes.state;
+  cells = IfSome-each (base.left Library) (λ bytes. entries_of answer ≡ library_cells_within limit bytes) (λ bytes left.
+      let known = all_given limit (base.left Library) now next no_progress p c d e bytes h.follows m a t left in
+      ap entries_of is ∙ entries_by e cells ∙ ap (cells_by e) (h.kept ∙ ap (kept_cells no_progress) known.0)
+      ∙ ap (λ end. cells_by end (kept_cells no_progress (items_within limit bytes))) known.1);
+}
+
+own_by : {A : Type 0} (e : Ending) (cells : Vec LibraryCell A) → AreDistinct (cell_names (all_described cells.items))
+    → IfOk (cells_by e cells) (λ kept. AreDistinct (cell_names (all_described kept.items)))
+own_by ending.Whole cells h = h
+own_by (ending.Fault fault) cells h = tt
+own_by ending.TooLong cells h = tt
+
+pub reads_own : {A : Type 0} (limit : ℕ) (base now : DeskState) (p : Progress) (cells : Vec LibraryCell A) (c : CellCursor) (e : Ending)
+    (answer : Result (Vec LibraryCell A) NotWhole)
+    → HasKept limit base now p (all_described cells.items) c → answer ≡ cells_by e cells
+    → IfOk answer (λ kept. AreDistinct (cell_names (all_described kept.items)))
+reads_own limit base now p cells c e answer h is =
+    subst (λ r. IfOk r (λ kept. AreDistinct (cell_names (all_described kept.items)))) (sym is)
+    (own_by e cells (subst AreDistinct (sym h.names) h.own))

@@ -1,0 +1,4 @@
+pub mod CellLemmas
+pub mod Fronts
+pub mod Following
+pub mod KeptLemmas

@@ -5,10 +5,9 @@ use Rattle.std.specs.Option.{option_map_or}
 use Rattle.std.proofs.lemmas.Bool.Decides.{nat_tests}
 use Rattle.std.proofs.lemmas.List.{length-take, take_all}
 use Rattle.liberty_groups.specs.declared.tree.Group.{Group}
-use Rattle.timing_arcs.specs.declared.fault.TimingFault.TheVariants as fault
 use Rattle.timing_arcs.specs.declared.subject.Subject.{Subject}
 use Rattle.timing_arcs.specs.declared.subject.Room.{Room}
-use Rattle.timing_arcs.specs.Timing.{reading_answer, held, held_answer}
+use Rattle.timing_arcs.specs.Timing.{reading_answer, held_answer}
 use Rattle.cell_parts.specs.Limits.{first_past}
 use Rattle.cell_parts.proofs.PinRules.{within_limit}
 use Rattle.cell_reader.specs.PinTimings.{Answer, subject_at, answers_from, malformed_timing, unknown_timing, own_timing, number_timing, checks_in, arcs_in, check_at_in, arc_at_in, wide_in, left_out_in, left_out_from}

@@ -3,6 +3,7 @@ pub mod Accepted
 pub mod Chains
 pub mod TimingRules
 pub mod Held
+pub mod HeldSteps
 pub mod PinNames
 pub mod PartCounts
 pub mod GroupsPast

@@ -1,26 +1,61 @@
 //! The timing of the pins of a cell.
-ghost use Rattle.std.specs.Prelude.{◌≡◌, ◌<◌, ◌≤◌, IfOk, length, map};
-ghost use Rattle.cell_machine.specs.declared.pins.Pin.{Pin as PinOf};
-ghost use Rattle.timing_arcs.specs.Timing.{reading_answer, held_answer};
-ghost use Rattle.cell_reader.specs.Held.{cell_room, left_room, held_from};
+ghost use Rattle.std.specs.Prelude.{◌≡◌, [], ◌∷◌, ◌++◌, IfOk, OnOk, length, map, flat_map};
+ghost use Rattle.timing_arcs.specs.Timing.{reading_answer, held_answer, Gives};
+ghost use Rattle.cell_parts.specs.Pins.{owners_in};
+ghost use Rattle.cell_reader.specs.Held.{cell_room, left_room, next_answer, room_after, held_from, AreSharedTexts};
 
 use cell_parts::fault::Memory;
 use liberty_groups::Group;
 use std::alloc::Global;
-use timing_arcs::{PinTiming, Room, Subject, TimingFault, read_timing};
+use timing_arcs::{PinTiming, Room, Subject, TimingFault, TimingTexts, read_timing};
 
-/// What reading the timing of a pin answers, as far as there is room, want of memory aside.
-pub(crate) fn timing_answer(
+/// What the timing of a pin group says, where it has several pins: then it is read once for all of them. That of a single
+/// pin is read as it comes, and no more than one timing group of it is held.
+fn shared_texts<'a>(
+    alloc: Global,
+    subject: &Subject,
+    owner: &'a Group,
+) -> Result<Option<TimingTexts<'a>>, Memory>
+    ensures { IfOk result (AreSharedTexts subject.now owner.now) }
+{
+    if owner.arguments.len() < 2 {
+        return Ok(None);
+    }
+    match TimingTexts::read(alloc, owner, subject) {
+        Ok(texts) => Ok(Some(texts)),
+        Err(_) => Err(Memory),
+    }
+}
+
+/// The timing of a pin, from what its group says where that is read.
+fn shared_timing(
     alloc: Global,
     subject: &Subject,
     owner: &Group,
+    texts: &Option<TimingTexts<'_>>,
+    room: Room,
+) -> Result<PinTiming, TimingFault>
+    requires { AreSharedTexts subject.now owner.now texts.now }
+    ensures { Gives result (held_answer room (reading_answer subject.now owner.now)) }
+{
+    match texts {
+        Some(texts) => texts.timing(alloc, subject, room),
+        None => read_timing(alloc, owner, subject, room),
+    }
+}
+
+/// What reading the timing of a pin answers, as far as there is room, want of memory aside.
+fn timing_answer(
+    alloc: Global,
+    subject: &Subject,
+    owner: &Group,
+    texts: &Option<TimingTexts<'_>>,
     room: Room,
 ) -> Result<Result<PinTiming, TimingFault>, Memory>
-    requires place { subject.now.place < length subject.now.pins }
-    requires names { subject.now.names ≡ map (λ (pin : PinOf). pin.name) subject.now.pins }
+    requires { AreSharedTexts subject.now owner.now texts.now }
     ensures { IfOk result (λ answer. answer ≡ held_answer room (reading_answer subject.now owner.now)) }
 {
-    match read_timing(alloc, owner, subject, room) {
+    match shared_timing(alloc, subject, owner, texts, room) {
         Ok(timing) => Ok(Ok(timing)),
         Err(TimingFault::Malformed(at)) => Ok(Err(TimingFault::Malformed(at))),
         Err(TimingFault::UnknownName(at)) => Ok(Err(TimingFault::UnknownName(at))),
@@ -55,24 +90,73 @@ fn left_room(room: Room, answer: &Result<PinTiming, TimingFault>) -> Room
     }
 }
 
+/// What reading the timing of the pins so far answers.
+#[derive(Drop)]
+struct HeldAnswers {
+    answers: Vec<Result<PinTiming, TimingFault>>,
+    /// The room that they leave.
+    room: Room,
+}
+
+impl HeldAnswers {
+    /// Adds what reading the timing of the next pin answers.
+    fn add_pin(
+        &mut self,
+        alloc: Global,
+        subject: &mut Subject,
+        owner: &Group,
+        texts: &Option<TimingTexts<'_>>,
+    ) -> Result<(), Memory>
+        requires { AreSharedTexts subject.old owner.now texts.now }
+        ensures answers { OnOk result (self.new.answers.items ≡ self.old.answers.items ++ next_answer self.old.room subject.old (length self.old.answers.items) owner.now ∷ []) }
+        ensures room { OnOk result (self.new.room ≡ left_room self.old.room (next_answer self.old.room subject.old (length self.old.answers.items) owner.now)) }
+        ensures names { OnOk result (subject.new.names ≡ subject.old.names) }
+        ensures pins { OnOk result (subject.new.pins ≡ subject.old.pins) }
+        ensures unit { OnOk result (subject.new.unit ≡ subject.old.unit) }
+    {
+        subject.place = self.answers.len();
+        let answer = timing_answer(alloc, subject, owner, texts, self.room)?;
+        self.room = left_room(self.room, &answer);
+        self.answers.push(answer)?;
+        Ok(())
+    }
+
+    /// Adds what reading the timing of the next pins answers, which this group makes.
+    fn add_group(
+        &mut self,
+        alloc: Global,
+        subject: &mut Subject,
+        owner: &Group,
+    ) -> Result<(), Memory>
+        ensures answers { OnOk result (self.new.answers.items ≡ self.old.answers.items ++ held_from self.old.room subject.old (length self.old.answers.items) (owners_in owner.now)) }
+        ensures room { OnOk result (self.new.room ≡ room_after self.old.room subject.old (length self.old.answers.items) (owners_in owner.now)) }
+        ensures names { OnOk result (subject.new.names ≡ subject.old.names) }
+        ensures pins { OnOk result (subject.new.pins ≡ subject.old.pins) }
+        ensures unit { OnOk result (subject.new.unit ≡ subject.old.unit) }
+    {
+        let texts = shared_texts(alloc, subject, owner)?;
+        for _name in owner.arguments.as_slice() {
+            self.add_pin(alloc, subject, owner, &texts)?;
+        }
+        Ok(())
+    }
+}
+
 /// What reading the timing of each pin answers, in order, as far as there is room, where these are the groups that make
 /// them.
 pub(crate) fn timing_answers(
     alloc: Global,
     subject: &mut Subject,
-    owners: &[&Group],
+    groups: &[&Group],
 ) -> Result<Vec<Result<PinTiming, TimingFault>>, Memory>
-    requires count { length owners.now ≤ length subject.old.pins }
-    requires names { subject.old.names ≡ map (λ (pin : PinOf). pin.name) subject.old.pins }
-    ensures { IfOk result (λ answers. answers.items ≡ held_from (cell_room (length owners.now)) subject.old 0 (map (λ group. group.now) owners.now)) }
+    ensures { IfOk result (λ answers. answers.items ≡ held_from (cell_room (length subject.old.pins)) subject.old 0 (flat_map owners_in (map (λ group. group.now) groups.now))) }
 {
-    let mut room = cell_room(owners.len());
-    let mut answers = Vec::new(alloc);
-    for (pin, owner) in owners.iter().enumerate() {
-        subject.place = pin;
-        let answer = timing_answer(alloc, subject, owner, room)?;
-        room = left_room(room, &answer);
-        answers.push(answer)?;
+    let mut held = HeldAnswers {
+        answers: Vec::new(alloc),
+        room: cell_room(subject.pins.len()),
+    };
+    for group in groups {
+        held.add_group(alloc, subject, group)?;
     }
-    Ok(answers)
+    Ok(held.answers)
 }

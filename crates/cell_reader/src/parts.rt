@@ -58,16 +58,14 @@ fn names_of(alloc: Global, pins: &[Pin]) -> Result<Names, Memory>
     Ok(names)
 }
 
-/// What reading the timing of each pin answers, where these are the groups that make pins, and for each pin its group.
+/// What reading the timing of each pin answers, where these are the groups that make pins.
 fn answers_of(
     alloc: Global,
     unit: Option<Unit>,
     groups: &[&Group],
-    owners: &[&Group],
 ) -> Result<Vec<Result<PinTiming, TimingFault>>, Memory>
-    requires owners { map (λ group. group.now) owners.now ≡ flat_map owners_in (map (λ group. group.now) groups.now) }
-    requires distinct { IsTrue (are_distinct (pin_names (flat_map pins_in (map (λ group. group.now) groups.now)))) }
-    ensures { IfOk result (λ answers. AreHeld (subject_with unit (flat_map pins_in (map (λ group. group.now) groups.now))) (map (λ group. group.now) owners.now) answers.items) }
+    requires { IsTrue (are_distinct (pin_names (flat_map pins_in (map (λ group. group.now) groups.now)))) }
+    ensures { IfOk result (λ answers. AreHeld (subject_with unit (flat_map pins_in (map (λ group. group.now) groups.now))) (flat_map owners_in (map (λ group. group.now) groups.now)) answers.items) }
 {
     let pins = pins_of(alloc, groups)?;
     let names = names_of(alloc, pins.as_slice())?;
@@ -77,7 +75,7 @@ fn answers_of(
         place: 0,
         unit,
     };
-    let answers = timing_answers(alloc, &mut subject, owners)?;
+    let answers = timing_answers(alloc, &mut subject, groups)?;
     Ok(answers)
 }
 
@@ -104,7 +102,7 @@ pub(crate) fn read_parts<'a>(
     let vocabulary = read_vocabulary(alloc, &states, &pin_groups)?;
     let readings = state_readings(alloc, &vocabulary, pins.len(), &state_groups)?;
     let texts = pin_texts(alloc, &vocabulary, &pin_groups)?;
-    let answers = answers_of(alloc, unit, &pin_groups, &owners)?;
+    let answers = answers_of(alloc, unit, &pin_groups)?;
     Ok(Parts {
         cell,
         unit,

@@ -432,19 +432,6 @@ answer-is room subject pin =
     ∙ ap (λ answer. unless_at fault.Malformed malformed answer) (held-unless room fault.UnknownName unknown _)
     ∙ held-unless room fault.Malformed malformed _
 
--- what is found step by step is what is found of the pin
-pub found_by_steps :
-    (room : Room) (subject : Subject) (pin : Group) (f0 f1 f2 f3 f4 : Found) (items : List Item) (high low period : Option Attribute)
-    → f0 ≡ nothing_found room → items ≡ pin.items → f1 ≡ with_items subject 0 f0 items
-    → high ≡ pulse_high subject pin → f2 ≡ with_attribute subject kind.Width Rise Fall f1 high
-    → low ≡ pulse_low subject pin → f3 ≡ with_attribute subject kind.Width Fall Rise f2 low
-    → period ≡ least_period subject pin → f4 ≡ with_attribute subject kind.Period Any Any f3 period → f4 ≡ found_of room subject pin
-found_by_steps room subject pin f0 f1 f2 f3 f4 items high low period e0 ei e1 eh e2 el e3 ep e4 =
-    let d1 = e1 ∙ ap (with_items subject 0 f0) ei ∙ ap (λ f. with_items subject 0 f pin.items) e0 in
-    let d2 = e2 ∙ ap (with_attribute subject kind.Width Rise Fall f1) eh ∙ ap (λ f. with_attribute subject kind.Width Rise Fall f (pulse_high subject pin)) d1 in
-    let d3 = e3 ∙ ap (with_attribute subject kind.Width Fall Rise f2) el ∙ ap (λ f. with_attribute subject kind.Width Fall Rise f (pulse_low subject pin)) d2 in
-    e4 ∙ ap (with_attribute subject kind.Period Any Any f3) ep ∙ ap (λ f. with_attribute subject kind.Period Any Any f (least_period subject pin)) d3
-
 -- an answer gives itself
 pub gives-same : (answer wanted : Result PinTiming TimingFault) → answer ≡ wanted → Gives answer wanted
 gives-same (Ok timing) wanted e = sym e

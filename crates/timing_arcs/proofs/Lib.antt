@@ -1,9 +1,10 @@
 pub mod AllLemmas
 pub mod FoundLemmas
+pub mod FullLemmas
 pub mod LawLemmas
 pub mod Lists
 pub mod MergingLemmas
 pub mod OffsetLemmas
-pub mod RelatedLemmas
 pub mod SoundLemmas
 pub mod SumLemmas
+pub mod TextLemmas

@@ -20,5 +20,3 @@ lesser-assoc (Some x) (Some y) (Some z) = let e : min (min x y) z ≡ min x (min
 pub least-append : (xs ys : List ℕ) → least (xs ++ ys) ≡ lesser (least xs) (least ys)
 least-append [] ys = refl
 least-append (x ∷ xs) ys = ap (lesser (Some x)) (least-append xs ys) ∙ sym (lesser-assoc (Some x) (least xs) (least ys))
-
-pub ruleset least_both = (least-append)

@@ -1,5 +1,5 @@
 -- How the timing of a pin is put together, one statement after another.
-use Rattle.std.specs.Prelude.{ℕ, ◌+◌, max, ◌==◌, ◌&&◌, nat_lt, List, [], ◌∷◌, ◌++◌, length, map, fold, codes, Option, Some, None, Result, Ok, if◌then◌else◌}
+use Rattle.std.specs.Prelude.{ℕ, ◌+◌, max, ◌==◌, nat_lt, List, [], ◌∷◌, ◌++◌, length, map, fold, codes, Option, Some, None, Result, Ok, if◌then◌else◌}
 use Rattle.std.specs.List.{list_any}
 use Rattle.liberty_groups.specs.declared.tree.Item.{Item, out-Item}
 use Rattle.liberty_groups.specs.declared.tree.Group.{Group}

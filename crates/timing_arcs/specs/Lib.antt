@@ -11,5 +11,8 @@ pub mod Merging
 pub mod Timing
 pub mod Readings
 pub mod Adding
+pub mod GroupTexts
+pub mod PinLimits
+pub mod TimingTexts
 pub mod Laws
 pub mod Shown

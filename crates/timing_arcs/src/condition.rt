@@ -4,15 +4,14 @@ ghost use Rattle.std.specs.List.{list_all};
 ghost use Rattle.std.specs.Option.{option_copied};
 ghost use Rattle.bool_functions.specs.Tree.{name_bound};
 ghost use Rattle.cell_machine.specs.CellRules.{is_input_pin};
-ghost use Rattle.timing_arcs.specs.Conditions.{condition_of_tree, condition_in, condition_of, tree_of, may_hold, is_malformed, has_unknown, named_pins};
+ghost use Rattle.timing_arcs.specs.Conditions.{condition_of_tree, condition_in, tree_of, may_hold, is_malformed, has_unknown, named_pins};
+ghost use Rattle.timing_arcs.specs.GroupTexts.{told};
 
-use crate::attributes::last_attribute;
 use crate::fault::Memory;
 use crate::subject::Subject;
 use crate::timing_type::is_input_pin;
 use bool_functions::{Function, FunctionFault, bound_is_least, read_function};
 use cell_machine::Pin;
-use liberty_groups::Group;
 use sqlite_items::Items;
 use std::alloc::Global;
 
@@ -64,7 +63,11 @@ impl Condition {
 
     /// The condition that a text stands for.
     #[tactic(auto, unfolding(crate::specs::Conditions::condition_in))]
-    fn of_text(alloc: Global, subject: &Subject, text: &[u8]) -> Result<Condition, Memory>
+    pub(crate) fn of_text(
+        alloc: Global,
+        subject: &Subject,
+        text: &[u8],
+    ) -> Result<Condition, Memory>
         ensures { IfOk result (λ condition. condition ≡ condition_in subject.now text.now) }
     {
         match read_function(alloc, text, &subject.names) {
@@ -76,17 +79,16 @@ impl Condition {
         }
     }
 
-    /// The condition of a timing group.
-    #[tactic(auto, unfolding(crate::specs::Conditions::condition_of))]
-    pub(crate) fn of_group(
+    /// The condition that the text of a `when` stands for, where there is one.
+    pub(crate) fn of_told(
         alloc: Global,
         subject: &Subject,
-        group: &Group,
+        text: &Option<Items<u8>>,
     ) -> Result<Condition, Memory>
-        ensures { IfOk result (λ condition. condition ≡ condition_of subject.now group.now) }
+        ensures { IfOk result (λ condition. condition ≡ told subject.now text.now) }
     {
-        match last_attribute(group, b"when") {
-            Some(attribute) => Condition::of_text(alloc, subject, attribute.text),
+        match text {
+            Some(text) => Condition::of_text(alloc, subject, text.as_slice()),
             None => Ok(Condition::Always),
         }
     }

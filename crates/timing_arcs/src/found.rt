@@ -1,12 +1,14 @@
 //! What is found of a pin's timing, statement by statement.
-ghost use Rattle.std.specs.Prelude.{◌≡◌, ◌||◌, nat_lt, length, Ok, OnOk, IfOk};
+ghost use Rattle.std.specs.Prelude.{◌≡◌, ◌==◌, ◌&&◌, ◌||◌, not, nat_lt, length, Ok, OnOk, IfOk};
 ghost use Rattle.timing_arcs.specs.Adding.{pushed, with_check, with_own, with_left_out, with_number, nothing_found, answer_found};
+ghost use Rattle.timing_arcs.specs.GroupTexts.{is_full};
 ghost use Rattle.timing_arcs.specs.Timing.{Gives};
 
 use crate::arc_list::ArcList;
 use crate::fault::{Memory, TimingFault};
 use crate::offsets::{Offsets, lesser};
 use crate::subject::{PinTiming, Room};
+use crate::timing_type::TimingType;
 use cell_machine::{Arc, Check};
 use sqlite_items::Items;
 use std::alloc::Global;
@@ -87,6 +89,22 @@ impl Found {
     {
         self.arcs.push_within(self.room.arcs, arc)?;
         push_within(&mut self.arc_at, self.room.arcs, at)
+    }
+
+    /// Whether nothing that a group of this type makes is held any more.
+    pub(crate) fn is_full(&self, timing_type: TimingType) -> bool
+        ensures { result ≡ is_full self.now timing_type }
+    {
+        match timing_type {
+            TimingType::Delay => self.arcs.len() == 0 && !self.has_arc_room(),
+            TimingType::Setup(_)
+            | TimingType::Hold(_)
+            | TimingType::Recovery(_)
+            | TimingType::Removal(_)
+            | TimingType::Width
+            | TimingType::Period
+            | TimingType::Other => !self.has_check_room(),
+        }
     }
 
     /// Lists a left-out group at this place, if they are listed.

@@ -6,15 +6,19 @@ mod attributes;
 mod condition;
 mod fault;
 mod found;
+mod group_text;
 mod laws;
 mod making;
 mod offsets;
+mod pin_limits;
 mod pin_timing;
-mod reading;
 mod related;
 mod subject;
 mod tables;
+mod timing_texts;
 mod timing_type;
+mod under_pin;
+mod when_text;
 mod words;
 
 pub use attributes::{Attribute, inner_group, last_attribute, simple_attribute};
@@ -24,3 +28,4 @@ pub use laws::{
 };
 pub use pin_timing::read_timing;
 pub use subject::{PinTiming, Room, Subject};
+pub use timing_texts::TimingTexts;

@@ -1,19 +1,19 @@
 //! Making the checks and arcs of one timing group.
 ghost use Rattle.std.specs.Prelude.{◌≡◌, OnOk, IfOk};
-ghost use Rattle.timing_arcs.specs.Conditions.{condition_of, tree_of};
-ghost use Rattle.timing_arcs.specs.Making.{check, event, checks_with, arcs_with, rise_of, fall_of};
-ghost use Rattle.timing_arcs.specs.TimingTypes.{type_of};
-ghost use Rattle.timing_arcs.specs.Adding.{with_check, with_checks, with_arcs, with_related, with_inputs};
+ghost use Rattle.timing_arcs.specs.Conditions.{tree_of};
+ghost use Rattle.timing_arcs.specs.Making.{check, event, checks_with, arcs_with};
+ghost use Rattle.timing_arcs.specs.Adding.{with_check, with_checks, with_arcs};
+ghost use Rattle.timing_arcs.specs.GroupTexts.{told, IsTold, with_made, with_all_made};
 
 use crate::arc_list::Path;
 use crate::condition::Condition;
 use crate::fault::Memory;
 use crate::found::Found;
+use crate::group_text::GroupText;
 use crate::subject::Subject;
 use crate::timing_type::TimingType;
 use bool_functions::Function;
 use cell_machine::{Arc, Check, CheckKind, Edge, Event};
-use liberty_groups::Group;
 use std::alloc::Global;
 
 /// A check without its condition.
@@ -39,15 +39,11 @@ impl Timed {
     }
 }
 
-/// A timing group, with what is read of it.
+/// What a timing group says, under one of the cell's pins.
 #[derive(Drop)]
 pub(crate) struct Making<'a> {
     pub(crate) subject: &'a Subject,
-    pub(crate) group: &'a Group,
-    pub(crate) timing_type: TimingType,
-    pub(crate) rise: u64,
-    pub(crate) fall: u64,
-    pub(crate) condition: &'a Condition,
+    pub(crate) text: &'a GroupText,
 }
 
 /// A change of this kind of a pin.
@@ -60,15 +56,15 @@ fn event(pin: usize, edge: Edge) -> Event
 impl Making<'_> {
     /// The condition of what the group makes. Each check and arc that is held has one of its own, so it is read for each.
     fn condition(&self, alloc: Global) -> Result<Option<Function>, Memory>
-        ensures { IfOk result (λ function. function ≡ tree_of (condition_of self.now.subject.now self.now.group.now)) }
+        ensures { IfOk result (λ function. function ≡ tree_of (told self.now.subject.now self.now.text.now.when.text)) }
     {
-        let condition = Condition::of_group(alloc, self.subject, self.group)?;
+        let condition = Condition::of_told(alloc, self.subject, &self.text.when.text)?;
         Ok(condition.into_function())
     }
 
     /// Adds a check.
     fn add_check(&self, alloc: Global, timed: Timed, found: &mut Found) -> Result<(), Memory>
-        ensures { OnOk result (found.new ≡ with_check self.now.group.now.at found.old (check timed.kind timed.first timed.second timed.limit (tree_of (condition_of self.now.subject.now self.now.group.now)))) }
+        ensures { OnOk result (found.new ≡ with_check self.now.text.now.at found.old (check timed.kind timed.first timed.second timed.limit (tree_of (told self.now.subject.now self.now.text.now.when.text)))) }
     {
         if !found.has_check_room() {
             return Ok(());
@@ -80,7 +76,7 @@ impl Making<'_> {
             limit: timed.limit,
             condition: self.condition(alloc)?,
         };
-        found.add_check(self.group.at, check)
+        found.add_check(self.text.at, check)
     }
 
     /// Adds the checks of a recovery time, one for each edge of the pin.
@@ -91,20 +87,20 @@ impl Making<'_> {
         edge: Edge,
         found: &mut Found,
     ) -> Result<(), Memory>
-        ensures { OnOk result (found.new ≡ with_checks self.now.group.now.at found.old (checks_with (TimingType.Recovery edge) self.now.subject.now.place related self.now.rise self.now.fall (tree_of (condition_of self.now.subject.now self.now.group.now)))) }
+        ensures { OnOk result (found.new ≡ with_checks self.now.text.now.at found.old (checks_with (TimingType.Recovery edge) self.now.subject.now.place related self.now.text.now.rise self.now.text.now.fall (tree_of (told self.now.subject.now self.now.text.now.when.text)))) }
     {
         let own = self.subject.place;
         let rise = Timed::new(
             CheckKind::Recovery,
             event(own, Edge::Rise),
             event(related, edge),
-            self.rise,
+            self.text.rise,
         );
         let fall = Timed::new(
             CheckKind::Recovery,
             event(own, Edge::Fall),
             event(related, edge),
-            self.fall,
+            self.text.fall,
         );
         self.add_check(alloc, rise, found)?;
         self.add_check(alloc, fall, found)
@@ -118,20 +114,20 @@ impl Making<'_> {
         edge: Edge,
         found: &mut Found,
     ) -> Result<(), Memory>
-        ensures { OnOk result (found.new ≡ with_checks self.now.group.now.at found.old (checks_with (TimingType.Removal edge) self.now.subject.now.place related self.now.rise self.now.fall (tree_of (condition_of self.now.subject.now self.now.group.now)))) }
+        ensures { OnOk result (found.new ≡ with_checks self.now.text.now.at found.old (checks_with (TimingType.Removal edge) self.now.subject.now.place related self.now.text.now.rise self.now.text.now.fall (tree_of (told self.now.subject.now self.now.text.now.when.text)))) }
     {
         let own = self.subject.place;
         let rise = Timed::new(
             CheckKind::Removal,
             event(related, edge),
             event(own, Edge::Rise),
-            self.rise,
+            self.text.rise,
         );
         let fall = Timed::new(
             CheckKind::Removal,
             event(related, edge),
             event(own, Edge::Fall),
-            self.fall,
+            self.text.fall,
         );
         self.add_check(alloc, rise, found)?;
         self.add_check(alloc, fall, found)
@@ -139,20 +135,20 @@ impl Making<'_> {
 
     /// Adds the checks of a pulse width: of the high pulse, then of the low one.
     fn add_widths(&self, alloc: Global, found: &mut Found) -> Result<(), Memory>
-        ensures { OnOk result (found.new ≡ with_checks self.now.group.now.at found.old (checks_with TimingType.Width self.now.subject.now.place self.now.subject.now.place self.now.rise self.now.fall (tree_of (condition_of self.now.subject.now self.now.group.now)))) }
+        ensures { OnOk result (found.new ≡ with_checks self.now.text.now.at found.old (checks_with TimingType.Width self.now.subject.now.place self.now.subject.now.place self.now.text.now.rise self.now.text.now.fall (tree_of (told self.now.subject.now self.now.text.now.when.text)))) }
     {
         let own = self.subject.place;
         let rise = Timed::new(
             CheckKind::Width,
             event(own, Edge::Rise),
             event(own, Edge::Fall),
-            self.rise,
+            self.text.rise,
         );
         let fall = Timed::new(
             CheckKind::Width,
             event(own, Edge::Fall),
             event(own, Edge::Rise),
-            self.fall,
+            self.text.fall,
         );
         self.add_check(alloc, rise, found)?;
         self.add_check(alloc, fall, found)
@@ -160,11 +156,11 @@ impl Making<'_> {
 
     /// Adds the checks with a pin that the group is related to.
     fn add_checks(&self, alloc: Global, related: usize, found: &mut Found) -> Result<(), Memory>
-        ensures { OnOk result (found.new ≡ with_checks self.now.group.now.at found.old (checks_with self.now.timing_type self.now.subject.now.place related self.now.rise self.now.fall (tree_of (condition_of self.now.subject.now self.now.group.now)))) }
+        ensures { OnOk result (found.new ≡ with_checks self.now.text.now.at found.old (checks_with self.now.text.now.timing_type self.now.subject.now.place related self.now.text.now.rise self.now.text.now.fall (tree_of (told self.now.subject.now self.now.text.now.when.text)))) }
     {
         let own = self.subject.place;
-        let both = self.rise.max(self.fall);
-        match self.timing_type {
+        let both = self.text.rise.max(self.text.fall);
+        match self.text.timing_type {
             TimingType::Delay => Ok(()),
             TimingType::Setup(edge) => {
                 let (first, second) = (event(own, Edge::Any), event(related, edge));
@@ -199,18 +195,18 @@ impl Making<'_> {
 
     /// Adds the arc from a pin that the group is related to, if the group is one of a delay.
     fn add_arcs(&self, alloc: Global, related: usize, found: &mut Found) -> Result<(), Memory>
-        requires { self.now.condition.now ≡ condition_of self.now.subject.now self.now.group.now }
-        ensures { OnOk result (found.new ≡ with_arcs self.now.group.now.at found.old (arcs_with self.now.timing_type self.now.subject.now.place related self.now.rise self.now.fall (tree_of (condition_of self.now.subject.now self.now.group.now)))) }
+        requires { IsTold self.now.subject.now self.now.text.now }
+        ensures { OnOk result (found.new ≡ with_arcs self.now.text.now.at found.old (arcs_with self.now.text.now.timing_type self.now.subject.now.place related self.now.text.now.rise self.now.text.now.fall (tree_of (told self.now.subject.now self.now.text.now.when.text)))) }
     {
-        let TimingType::Delay = self.timing_type else {
+        let TimingType::Delay = self.text.timing_type else {
             return Ok(());
         };
         let path = Path {
             from: related,
             to: self.subject.place,
-            rise: self.rise,
-            fall: self.fall,
-            condition: self.condition.function(),
+            rise: self.text.rise,
+            fall: self.text.fall,
+            condition: self.text.when.condition.function(),
         };
         if found.arcs.join(&path) {
             return Ok(());
@@ -221,11 +217,11 @@ impl Making<'_> {
         let arc = Arc {
             from: related,
             to: self.subject.place,
-            rise: self.rise,
-            fall: self.fall,
+            rise: self.text.rise,
+            fall: self.text.fall,
             condition: self.condition(alloc)?,
         };
-        found.push_arc(self.group.at, arc)
+        found.push_arc(self.text.at, arc)
     }
 
     /// Adds what the group makes with these pins that it is related to, in order.
@@ -235,11 +231,8 @@ impl Making<'_> {
         inputs: &[usize],
         found: &mut Found,
     ) -> Result<(), Memory>
-        requires its_type { self.now.timing_type ≡ type_of self.now.group.now }
-        requires rise { self.now.rise ≡ rise_of self.now.subject.now self.now.group.now }
-        requires fall { self.now.fall ≡ fall_of self.now.subject.now self.now.group.now }
-        requires condition { self.now.condition.now ≡ condition_of self.now.subject.now self.now.group.now }
-        ensures { OnOk result (found.new ≡ with_inputs self.now.subject.now self.now.group.now found.old inputs.now) }
+        requires { IsTold self.now.subject.now self.now.text.now }
+        ensures { OnOk result (found.new ≡ with_all_made self.now.subject.now self.now.text.now found.old inputs.now) }
     {
         for related in inputs {
             self.add_checks(alloc, *related, found)?;

@@ -1,23 +1,19 @@
 //! Reading the timing of a pin.
-ghost use Rattle.std.specs.Prelude.{◌≡◌, ◌<◌, Ok, length, map, OnOk};
-ghost use Rattle.std.specs.Option.{option_map};
-ghost use Rattle.timing_arcs.specs.Adding.{with_noted, with_group, with_items, with_limit, with_attribute, nothing_found};
-ghost use Rattle.timing_arcs.specs.Shown.{shown};
-ghost use Rattle.timing_arcs.specs.Timing.{reading_answer, held_answer, limit_attribute, Gives};
+ghost use Rattle.std.specs.Prelude.{◌≡◌, OnOk};
+ghost use Rattle.timing_arcs.specs.Adding.{with_group, with_items};
+ghost use Rattle.timing_arcs.specs.Timing.{reading_answer, held_answer, Gives};
 
-use crate::attributes::{Attribute, inner_group, last_attribute};
+use crate::attributes::inner_group;
 use crate::fault::{Memory, TimingFault};
 use crate::found::Found;
-use crate::making::Making;
-use crate::reading::Reading;
+use crate::group_text::GroupText;
+use crate::pin_limits::PinLimits;
 use crate::subject::{PinTiming, Room, Subject};
-use crate::tables::time;
-use crate::timing_type::is_input_pin;
-use cell_machine::{Check, CheckKind, Edge, Event};
 use liberty_groups::{Group, Item};
 use std::alloc::Global;
 
 /// Adds what a timing group at this place among the pin's items gives.
+#[tactic(auto, using(crate::proofs::TextLemmas::group_is_told, crate::proofs::TextLemmas::with_its_text))]
 fn add_group(
     alloc: Global,
     subject: &Subject,
@@ -25,26 +21,10 @@ fn add_group(
     group: &Group,
     found: &mut Found,
 ) -> Result<(), Memory>
-    requires { subject.now.place < length subject.now.pins }
     ensures { OnOk result (found.new ≡ with_group subject.now place found.old group.now) }
 {
-    let reading = Reading::of_group(alloc, subject, group)?;
-    found.offsets = found.offsets.joined(reading.offsets);
-    if reading.is_left_out {
-        found.leave_out(place)?;
-    }
-    if !reading.is_made {
-        return Ok(());
-    }
-    let making = Making {
-        subject,
-        group,
-        timing_type: reading.timing_type,
-        rise: reading.rise,
-        fall: reading.fall,
-        condition: &reading.condition,
-    };
-    making.add_all(alloc, reading.inputs.as_slice(), found)
+    let text = GroupText::of_group(alloc, subject, place, group)?;
+    text.add(alloc, subject, found)
 }
 
 /// Adds what the timing groups among these items give.
@@ -54,7 +34,6 @@ fn add_groups(
     items: &[Item],
     found: &mut Found,
 ) -> Result<(), Memory>
-    requires { subject.now.place < length subject.now.pins }
     ensures { OnOk result (found.new ≡ with_items subject.now 0 found.old items.now) }
 {
     for (place, item) in items.iter().enumerate() {
@@ -63,50 +42,6 @@ fn add_groups(
         }
     }
     Ok(())
-}
-
-/// The attribute of this name of an input pin.
-fn limit_attribute<'a>(subject: &Subject, pin: &'a Group, name: &[u8]) -> Option<Attribute<'a>>
-    ensures { option_map shown result ≡ limit_attribute subject.now pin.now name.now }
-{
-    if !is_input_pin(subject.pins.as_slice(), subject.place) {
-        return None;
-    }
-    last_attribute(pin, name)
-}
-
-/// Adds the check of this kind between these events of the pin, with the limit that an attribute gives.
-fn add_attribute(
-    subject: &Subject,
-    kind: CheckKind,
-    first: Edge,
-    second: Edge,
-    attribute: Option<Attribute<'_>>,
-    found: &mut Found,
-) -> Result<(), Memory>
-    ensures { OnOk result (found.new ≡ with_attribute subject.now kind first second found.old (option_map shown attribute.entry)) }
-{
-    let Some(attribute) = attribute else {
-        return Ok(());
-    };
-    let Some(limit) = time(subject.unit, attribute.text) else {
-        found.note_number(attribute.at);
-        return Ok(());
-    };
-    let check = Check {
-        kind,
-        first: Event {
-            pin: subject.place,
-            edge: first,
-        },
-        second: Event {
-            pin: subject.place,
-            edge: second,
-        },
-        limit,
-        condition: None,
-    };
-    found.add_check(attribute.at, check)
 }
 
 /// Reads the timing of a pin from its group: its checks, its arcs and its left-out timing groups, as the Liberty
@@ -123,37 +58,10 @@ pub fn read_timing(
     subject: &Subject,
     room: Room,
 ) -> Result<PinTiming, TimingFault>
-    requires { subject.now.place < length subject.now.pins }
     ensures { Gives result (held_answer room (reading_answer subject.now pin.now)) }
 {
     let mut found = Found::new(alloc, room);
     add_groups(alloc, subject, pin.items.as_slice(), &mut found)?;
-    let high = limit_attribute(subject, pin, b"min_pulse_width_high");
-    add_attribute(
-        subject,
-        CheckKind::Width,
-        Edge::Rise,
-        Edge::Fall,
-        high,
-        &mut found,
-    )?;
-    let low = limit_attribute(subject, pin, b"min_pulse_width_low");
-    add_attribute(
-        subject,
-        CheckKind::Width,
-        Edge::Fall,
-        Edge::Rise,
-        low,
-        &mut found,
-    )?;
-    let period = limit_attribute(subject, pin, b"min_period");
-    add_attribute(
-        subject,
-        CheckKind::Period,
-        Edge::Any,
-        Edge::Any,
-        period,
-        &mut found,
-    )?;
+    PinLimits::of_group(subject, pin).add(subject, &mut found)?;
     found.finish()
 }

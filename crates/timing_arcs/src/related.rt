@@ -1,14 +1,14 @@
 //! The pins that a timing group is related to.
 ghost use Rattle.std.specs.Prelude.{◌≡◌, ◌++◌, ◌==◌, ◌||◌, not, length, map, IfOk, OnOk};
 ghost use Rattle.std.specs.List.{list_any, filter_map};
-ghost use Rattle.timing_arcs.specs.RelatedPins.{related_as, related_words, related_of, is_driven, is_unknown, input_of, is_space};
+ghost use Rattle.timing_arcs.specs.RelatedPins.{related_as, is_driven, is_unknown, input_of, is_space};
+ghost use Rattle.timing_arcs.specs.GroupTexts.{named_related, related_text};
 ghost use Rattle.timing_arcs.specs.Attributes.{words_between};
-ghost use Rattle.timing_arcs.specs.TimingTypes.{type_of};
 
-use crate::attributes::last_attribute;
+use crate::attributes::{last_attribute, statement_at};
 use crate::fault::Memory;
 use crate::subject::Subject;
-use crate::timing_type::{TimingType, is_input_pin};
+use crate::timing_type::is_input_pin;
 use crate::words::pin_names;
 use liberty_groups::Group;
 use sqlite_items::Items;
@@ -16,7 +16,7 @@ use std::alloc::{AllocError, Global};
 
 /// What a name in `related_pin` is in the cell.
 #[derive(Clone, Copy, Debug)]
-pub(crate) enum Related {
+enum Related {
     /// The input pin with this number.
     Input(usize),
     /// An output or internal pin.
@@ -91,21 +91,10 @@ fn related_in(alloc: Global, subject: &Subject, text: &[u8]) -> Result<Vec<Relat
     Ok(related)
 }
 
-/// What a timing group of this type is related to, in order. The related pin of a pulse width or a period is not read:
-/// it is the pin itself.
-#[tactic(auto, unfolding(crate::specs::RelatedPins::related_of))]
-pub(crate) fn related_pins(
-    alloc: Global,
-    subject: &Subject,
-    group: &Group,
-    timing_type: TimingType,
-) -> Result<Items<Related>, Memory>
-    requires { timing_type ≡ type_of group.now }
-    ensures { IfOk result (λ related. related ≡ related_of subject.now group.now) }
+/// What the names in the `related_pin` of a timing group are, in order.
+fn named_related(alloc: Global, subject: &Subject, group: &Group) -> Result<Items<Related>, Memory>
+    ensures { IfOk result (λ related. related ≡ named_related subject.now group.now) }
 {
-    if let TimingType::Width | TimingType::Period = timing_type {
-        return Ok(Items::from_slice(alloc, &[Related::Input(subject.place)])?);
-    }
     match last_attribute(group, b"related_pin") {
         Some(attribute) => Ok(Items::from_vec(related_in(alloc, subject, attribute.text)?)),
         None => Ok(Items::new(alloc)),
@@ -113,28 +102,28 @@ pub(crate) fn related_pins(
 }
 
 /// Whether one is a pin that the cell drives.
-pub(crate) fn has_driven(related: &[Related]) -> bool
+fn has_driven(related: &[Related]) -> bool
     ensures { result ≡ list_any is_driven related.now }
 {
     related.iter().any(|related| related.is_driven())
 }
 
 /// Whether one is no pin that the cell drives.
-pub(crate) fn has_undriven(related: &[Related]) -> bool
+fn has_undriven(related: &[Related]) -> bool
     ensures { result ≡ list_any (λ related. not (is_driven related)) related.now }
 {
     related.iter().any(|related| !related.is_driven())
 }
 
 /// Whether one is no pin.
-pub(crate) fn has_unknown(related: &[Related]) -> bool
+fn has_unknown(related: &[Related]) -> bool
     ensures { result ≡ list_any is_unknown related.now }
 {
     related.iter().any(|related| related.is_unknown())
 }
 
 /// The input pins among them, in order.
-pub(crate) fn inputs(alloc: Global, related: &[Related]) -> Result<Items<usize>, Memory>
+fn inputs(alloc: Global, related: &[Related]) -> Result<Items<usize>, Memory>
     ensures { IfOk result (λ inputs. inputs ≡ filter_map input_of related.now) }
 {
     let mut inputs = Items::new(alloc);
@@ -144,4 +133,43 @@ pub(crate) fn inputs(alloc: Global, related: &[Related]) -> Result<Items<usize>,
         }
     }
     Ok(inputs)
+}
+
+/// What the `related_pin` of a timing group says.
+#[derive(Debug, Drop)]
+pub(crate) struct RelatedText {
+    /// The offset of the statement.
+    pub(crate) at: Option<usize>,
+    /// Whether it has no name.
+    pub(crate) is_empty: bool,
+    /// Whether one of its names is a pin that the cell drives.
+    pub(crate) has_driven: bool,
+    /// Whether one of its names is no pin that the cell drives.
+    pub(crate) has_undriven: bool,
+    /// Whether one of its names is no pin.
+    pub(crate) has_unknown: bool,
+    /// The input pins among its names, in order.
+    pub(crate) inputs: Items<usize>,
+}
+
+impl RelatedText {
+    /// What that of a timing group says.
+    pub(crate) fn of_group(
+        alloc: Global,
+        subject: &Subject,
+        group: &Group,
+    ) -> Result<RelatedText, Memory>
+        ensures { IfOk result (λ text. text ≡ related_text subject.now group.now) }
+    {
+        let related = named_related(alloc, subject, group)?;
+        let names = related.as_slice();
+        Ok(RelatedText {
+            at: statement_at(group, b"related_pin"),
+            is_empty: names.is_empty(),
+            has_driven: has_driven(names),
+            has_undriven: has_undriven(names),
+            has_unknown: has_unknown(names),
+            inputs: inputs(alloc, names)?,
+        })
+    }
 }

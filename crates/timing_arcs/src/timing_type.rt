@@ -1,12 +1,12 @@
 //! The types of timing groups.
-ghost use Rattle.std.specs.Prelude.{◌≡◌, ◌<◌, ◌==◌, not, length, bytes_eq};
+ghost use Rattle.std.specs.Prelude.{◌≡◌, ◌==◌, not, length, bytes_eq};
 ghost use Rattle.std.specs.List.{list_any};
 ghost use Rattle.cell_machine.specs.CellRules.{is_input, is_output, is_input_pin};
 ghost use Rattle.timing_arcs.specs.Attributes.{groups_named};
-ghost use Rattle.timing_arcs.specs.TimingTypes.{delay_words, type_named, type_of, stands_under, rise_table, fall_table, has_table, is_used};
+ghost use Rattle.timing_arcs.specs.TimingTypes.{delay_words, type_named, type_of, stands_under, rise_table, fall_table, has_table};
+ghost use Rattle.timing_arcs.specs.GroupTexts.{is_of_one_pin, stands_at};
 
 use crate::attributes::{inner_group, last_attribute};
-use crate::subject::Subject;
 use cell_machine::{Direction, Edge, Pin};
 use liberty_groups::Group;
 
@@ -45,6 +45,21 @@ impl TimingType {
             | TimingType::Width
             | TimingType::Period => is_input(direction),
             TimingType::Other => false,
+        }
+    }
+
+    /// Whether a group of this type relates its pin to that pin alone, whatever its `related_pin` says.
+    pub(crate) fn is_of_one_pin(self) -> bool
+        ensures { result ≡ is_of_one_pin self }
+    {
+        match self {
+            TimingType::Width | TimingType::Period => true,
+            TimingType::Delay
+            | TimingType::Setup(_)
+            | TimingType::Hold(_)
+            | TimingType::Recovery(_)
+            | TimingType::Removal(_)
+            | TimingType::Other => false,
         }
     }
 
@@ -172,15 +187,20 @@ fn has_group(group: &Group, name: &[u8]) -> bool
     false
 }
 
-/// Whether a timing group of this type can make something under the subject's pin: it stands under pins of this
-/// direction and has a table that the type uses.
-#[tactic(auto, unfolding(crate::specs::TimingTypes::is_used))]
-pub(crate) fn is_used(subject: &Subject, group: &Group, timing_type: TimingType) -> bool
-    requires place { subject.now.place < length subject.now.pins }
-    requires its_type { timing_type ≡ type_of group.now }
-    ensures { result ≡ is_used subject.now group.now }
+/// Whether groups of this type stand under the pin with this number.
+pub(crate) fn stands_at(timing_type: TimingType, pins: &[Pin], place: usize) -> bool
+    ensures { result ≡ stands_at timing_type pins.now place }
 {
-    timing_type.stands_under(subject.pins.as_slice()[subject.place].direction)
-        && (has_group(group, timing_type.rise_table())
-            || has_group(group, timing_type.fall_table()))
+    match pins.get(place) {
+        Some(pin) => timing_type.stands_under(pin.direction),
+        None => false,
+    }
+}
+
+/// Whether a group of this type has a table that the type uses.
+pub(crate) fn has_table(group: &Group, timing_type: TimingType) -> bool
+    requires { timing_type ≡ type_of group.now }
+    ensures { result ≡ has_table group.now }
+{
+    has_group(group, timing_type.rise_table()) || has_group(group, timing_type.fall_table())
 }

@@ -1,30 +1,21 @@
-use Rattle.std.proofs.Common.{◌≡◌, ◌∙◌, List, length, map, sym, ap, subst, arith}
+use Rattle.std.proofs.Common.{◌≡◌, ◌∙◌, List, length, map, sym, ap, subst}
 use Rattle.std.specs.Prelude.{flat_map}
 use Rattle.liberty_groups.specs.declared.tree.Group.{Group}
 use Rattle.cell_machine.specs.declared.pins.Pin.{Pin}
 use Rattle.timing_arcs.specs.declared.subject.Subject.{Subject}
-use Rattle.cell_parts.specs.Pins.{pin_names, pins_in}
+use Rattle.cell_parts.specs.Pins.{pin_names, pins_in, owners_in}
 use Rattle.cell_parts.proofs.PinRules.{owners_count}
-use Rattle.cell_parts.proofs.Turns.{count_shown}
 use Rattle.cell_reader.specs.CellTexts.{subject_with}
 use Rattle.cell_reader.specs.PinTimings.{Answer}
 use Rattle.cell_reader.specs.Held.{cell_room, held_from, AreHeld}
 use Rattle.cell_reader.proofs.Held.{are_held}
 use Rattle.cell_reader.proofs.parts.answers_of.Goals as goal
 
--- each pin has its group
-pub timing_answers-requires-clause-count : goal.timing_answers-requires-clause-count
-timing_answers-requires-clause-count c =
-    let e : length c.args.owners.now ≡ length c.in_ok-pins.pins =
-    sym (count_shown (λ group. group.now) c.args.owners.now)
-    ∙ (ap length c.requires.owners
-    ∙ (owners_count (map (λ group. group.now) c.args.groups.now) ∙ sym (ap length c.in_ok-pins.ensures))) in
-    omega arith
-
 pub returns : goal.returns
 returns c =
-    let owners : List Group = map (λ group. group.now) c.args.owners.now in
-    let pins : List Pin = flat_map pins_in (map (λ group. group.now) c.args.groups.now) in
+    let groups : List Group = map (λ group. group.now) c.args.groups.now in
+    let owners : List Group = flat_map owners_in groups in
+    let pins : List Pin = flat_map pins_in groups in
     let subject : Subject = subject_with c.args.unit pins in
     let here : Subject = record { names = c.in_ok-names.names; pins = c.in_ok-pins.pins; place = 0; unit = c.args.unit } in
     let same : here ≡ subject = λ i. record {
@@ -33,8 +24,9 @@ returns c =
       place = 0;
       unit = c.args.unit;
     } in
+    let count : length c.in_ok-pins.pins ≡ length owners = ap length c.in_ok-pins.ensures ∙ sym (owners_count groups) in
     let held : c.in_ok-answers.answers.items ≡ held_from (cell_room (length owners)) subject 0 owners =
     c.in_ok-answers.ensures
-    ∙ ap (λ n. held_from (cell_room n) here 0 owners) (sym (count_shown (λ group. group.now) c.args.owners.now))
+    ∙ ap (λ n. held_from (cell_room n) here 0 owners) count
     ∙ ap (λ (s : Subject). held_from (cell_room (length owners)) s 0 owners) same in
     subst (λ (answers : List Answer). AreHeld subject owners answers) (sym held) (are_held subject owners)

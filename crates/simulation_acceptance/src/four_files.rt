@@ -22,8 +22,15 @@ impl Left {
 /// The room of an output, in bytes.
 const ROOM: usize = 20000;
 
-/// Runs a command with these words over files with these names and bytes.
-fn left(alloc: Global, words: &[&str], files: &[(&str, &[u8])]) -> Result<Left, Fail> {
+/// Runs a command with these words over files with these names and bytes, on a desk at which the calls with these numbers fail,
+/// and a call moves at most `piece` bytes.
+pub(crate) fn left(
+    alloc: Global,
+    words: &[&str],
+    files: &[(&str, &[u8])],
+    failing: &[u64],
+    piece: usize,
+) -> Result<Left, Fail> {
     let mut given = Vec::new(alloc);
     for word in words {
         given.push(String::from_str(alloc, word)?)?;
@@ -35,7 +42,8 @@ fn left(alloc: Global, words: &[&str], files: &[(&str, &[u8])]) -> Result<Left, 
             bytes: Vec::from_slice(alloc, bytes)?,
         })?;
     }
-    let mut desk = MemoryDesk::new(alloc, given, folder, Vec::new(alloc), ROOM)?;
+    let failing = Vec::from_slice(alloc, failing)?;
+    let mut desk = MemoryDesk::in_pieces(alloc, given, folder, failing, ROOM, piece.max(1))?;
     let status = run(alloc, &mut desk);
     Ok(Left { status, desk })
 }
@@ -57,6 +65,8 @@ pub(crate) fn simulated(
             ("in.vhd", vital),
             ("in.stim", stimulus.as_bytes()),
         ],
+        &[],
+        usize::MAX,
     )
 }
 
@@ -66,6 +76,8 @@ pub(crate) fn translated(alloc: Global, library: &str) -> Result<Left, Fail> {
         alloc,
         &["translate", "in.lib", "out.v", "out.vhd"],
         &[("in.lib", library.as_bytes())],
+        &[],
+        usize::MAX,
     )
 }
 

@@ -2,6 +2,8 @@
 #![tactic(auto)]
 
 #[cfg(test)]
+mod failing_calls;
+#[cfg(test)]
 mod four_files;
 #[cfg(test)]
 mod libraries;

@@ -1,68 +1,21 @@
 //! Runs that end at one of the four files. The first that is refused decides.
-use crate::four_files::{simulated, simulated_beside_its_own};
+use crate::four_files::{simulated, simulated_beside_its_own, translated};
 use crate::libraries::INVERTER;
 use std::test::Fail;
+use text_io::OutSlot;
 use translate_cmd::Status;
 
-/// An entity with the ports of the inverter in another order, and no processes.
-const OTHER_ORDER: &[u8] = b"library IEEE;
-use IEEE.std_logic_1164.all;
-use IEEE.VITAL_Timing.all;
-use IEEE.VITAL_Primitives.all;
-entity INV is
-  port (Y : out std_ulogic; A : in std_ulogic);
-end INV;
-architecture vital of INV is
-  constant k_1 : VitalTruthTableType := (
-    ('0', '1'),
-    ('1', '0'));
-begin
-  process (A)
-    variable z_1 : std_logic := 'X';
-  begin
-    z_1 := VitalTruthTable (TruthTable => k_1, DataIn => (0 => A));
-    Y <= z_1;
-  end process;
-end vital;
-";
-
-/// A module with the ports of the inverter in this order.
-const SAME_ORDER: &[u8] = b"`timescale 1ps/1ps
-primitive lib_1_1 (q, i1);
-  output q;
-  input i1;
-  table
-    0 : 1;
-    1 : 0;
-  endtable
-endprimitive
-module INV (A, Y);
-  input A;
-  output Y;
-  lib_1_1 (Y, A);
-endmodule
-";
-
-/// One with its ports in another order.
-const ANOTHER_ORDER: &[u8] = b"`timescale 1ps/1ps
-primitive lib_1_1 (q, i1);
-  output q;
-  input i1;
-  table
-    0 : 1;
-    1 : 0;
-  endtable
-endprimitive
-module INV (Y, A);
-  input A;
-  output Y;
-  lib_1_1 (Y, A);
-endmodule
+/// An inverter with its ports in another order.
+const ANOTHER_ORDER: &str = "library (L) {
+cell (INV) { pin (Y) { direction : output; function : \"!A\"; } pin (A) { direction : input; } }
+}
 ";
 
 #[test]
 fn the_first_file_that_is_refused_is_told(rt: HostRuntime) -> Result<(), Fail> {
     let alloc = rt.alloc();
+    let models = translated(alloc, INVERTER)?;
+    let verilog = models.desk.written(OutSlot::VerilogText);
     let left = simulated(alloc, "", b"", b"entity", "cell")?;
     assert!(rt;
         left.is(
@@ -73,7 +26,7 @@ fn the_first_file_that_is_refused_is_told(rt: HostRuntime) -> Result<(), Fail> {
     );
     let left = simulated(alloc, INVERTER, b"", b"entity", "cell")?;
     assert!(rt; left.is(Status::Model, b"", "verilog refused at 0: syntax\n"));
-    let left = simulated(alloc, INVERTER, SAME_ORDER, b"entity", "cell")?;
+    let left = simulated(alloc, INVERTER, verilog, b"entity", "cell")?;
     assert!(rt; left.is(Status::Model, b"", "vital refused at 0: syntax\n"));
     Ok(())
 }
@@ -81,13 +34,18 @@ fn the_first_file_that_is_refused_is_told(rt: HostRuntime) -> Result<(), Fail> {
 #[test]
 fn a_cell_without_its_models_is_told_where_it_is_named(rt: HostRuntime) -> Result<(), Fail> {
     let alloc = rt.alloc();
-    let left = simulated(alloc, INVERTER, SAME_ORDER, b"", "cell INV")?;
+    let models = translated(alloc, INVERTER)?;
+    let verilog = models.desk.written(OutSlot::VerilogText);
+    let others = translated(alloc, ANOTHER_ORDER)?;
+    let other_verilog = others.desk.written(OutSlot::VerilogText);
+    let other_vital = others.desk.written(OutSlot::VitalText);
+    let left = simulated(alloc, INVERTER, verilog, b"", "cell INV")?;
     assert!(rt; left.is(Status::Model, b"", "vital ports: INV\n"));
-    let left = simulated(alloc, INVERTER, SAME_ORDER, OTHER_ORDER, "cell INV")?;
+    let left = simulated(alloc, INVERTER, verilog, other_vital, "cell INV")?;
     assert!(rt; left.is(Status::Model, b"", "vital ports: INV\n"));
-    let left = simulated(alloc, INVERTER, ANOTHER_ORDER, b"", "cell INV")?;
+    let left = simulated(alloc, INVERTER, other_verilog, b"", "cell INV")?;
     assert!(rt; left.is(Status::Model, b"", "verilog ports: INV\n"));
-    let left = simulated(alloc, INVERTER, ANOTHER_ORDER, b"", "")?;
+    let left = simulated(alloc, INVERTER, other_verilog, b"", "")?;
     assert!(rt; left.is(Status::Done, b"", ""));
     Ok(())
 }

@@ -1,0 +1,85 @@
+//! Calls on the desk that fail, each in turn: what was written then is the front of what is written without.
+use crate::four_files::{Left, left, translated};
+use crate::libraries::INVERTER;
+use std::alloc::Global;
+use std::test::Fail;
+use text_io::OutSlot;
+use translate_cmd::Status;
+
+/// The report of the simulation.
+const REPORT: &[u8] = b"cell INV
+L start : Y=x
+V start : Y=x
+H start : Y=x
+L 5 A 1 : Y=0@0
+V 5 A 1 : Y=0@0
+H 5 A 1 : Y=0@0
+equal
+";
+
+/// The model files of the library.
+struct Models {
+    verilog: Vec<u8>,
+    vital: Vec<u8>,
+}
+
+/// What the library is translated to.
+fn models(alloc: Global) -> Result<Models, Fail> {
+    let written = translated(alloc, INVERTER)?;
+    Ok(Models {
+        verilog: Vec::from_slice(alloc, written.desk.written(OutSlot::VerilogText))?,
+        vital: Vec::from_slice(alloc, written.desk.written(OutSlot::VitalText))?,
+    })
+}
+
+/// Simulates the library beside these models on a desk where this call fails and a call moves at most `piece` bytes.
+fn failed_at(alloc: Global, models: &Models, call: u64, piece: usize) -> Result<Left, Fail> {
+    left(
+        alloc,
+        &["simulate", "in.lib", "in.v", "in.vhd", "in.stim"],
+        &[
+            ("in.lib", INVERTER.as_bytes()),
+            ("in.v", models.verilog.as_slice()),
+            ("in.vhd", models.vital.as_slice()),
+            ("in.stim", b"cell INV\n5 A 1\n"),
+        ],
+        &[call],
+        piece,
+    )
+}
+
+/// The status once no call is left that could fail.
+fn last_status(alloc: Global, models: &Models, piece: usize) -> Result<Status, Fail> {
+    for call in 1..10000 {
+        let left = failed_at(alloc, models, call, piece)?;
+        if !REPORT.starts_with(left.desk.written(OutSlot::Report)) {
+            return Err("something else was written".into());
+        }
+        if !left.desk.written(OutSlot::Faults).is_empty() {
+            return Err("a fault was told".into());
+        }
+        if left.status != Status::Outside {
+            return Ok(left.status);
+        }
+    }
+    Err("there is always one more call".into())
+}
+
+#[test]
+fn each_call_that_fails_leaves_a_front(rt: HostRuntime) -> Result<(), Fail> {
+    let models = models(rt.alloc())?;
+    for piece in [1, 7, 4096] {
+        assert_eq!(rt; last_status(rt.alloc(), &models, piece)?.code(), 0);
+    }
+    Ok(())
+}
+
+#[test]
+fn a_file_that_cannot_be_opened_ends_the_run(rt: HostRuntime) -> Result<(), Fail> {
+    let models = models(rt.alloc())?;
+    for call in [1, 2] {
+        let left = failed_at(rt.alloc(), &models, call, usize::MAX)?;
+        assert!(rt; left.is(Status::Outside, b"", ""));
+    }
+    Ok(())
+}

@@ -1,26 +1,25 @@
 -- The cells of a catalog, added one after another.
 use Rattle.std.proofs.Common.{◌≡◌, ◌<◌, ℕ, ◌+◌, true, is_some, List, [], ◌∷◌, ◌++◌, map, take, get_or, length, Option, Some, None, Result, Ok, Err, IfOk, refl, sym, ap, ◌∙◌}
 use Rattle.bool_functions.specs.NameList.{number_of, AreDistinct}
+use Rattle.cell_reader.specs.LibraryCells.{CellEntry, name_of, cell_names}
 use Rattle.specify_blocks.specs.declared.model.VModule.{VModule}
 use Rattle.vital_models.specs.declared.model.VEntity.{VEntity}
 use Rattle.stimulus.specs.declared.ports.Ports.{Ports}
 use Rattle.stimulus.specs.PortEntries.{NamedCells, AddsCell}
-use Rattle.simulation_catalog.specs.declared.kept.LibraryCell.{LibraryCell}
 use Rattle.simulation_catalog.specs.declared.numbers.ModelNumbers.{ModelNumbers}
-use Rattle.simulation_catalog.specs.LibraryCells.{name_of, cell_names}
 use Rattle.simulation_catalog.specs.NamedModels.{NamedModels, named_models, module_names, lowered_names}
 use Rattle.simulation_catalog.specs.declared.catalog.Simulated.{Simulated}
 use Rattle.simulation_catalog.specs.Catalog.{ports_in, numbers_in, simulated_in, simulated_of, HaveOwnNames}
 use Rattle.simulation_catalog.proofs.NewNames.{new_name, one_more}
 
 -- these cells stand in a catalog, each with the numbers of its models
-pub record AreListed (models : NamedModels) (catalog : NamedCells) (kept : List (Option ModelNumbers)) (some : List LibraryCell) : Type 0 where
+pub record AreListed (models : NamedModels) (catalog : NamedCells) (kept : List (Option ModelNumbers)) (some : List CellEntry) : Type 0 where
   pub names : catalog.names ≡ cell_names some
   pub cells : catalog.cells ≡ map (ports_in models) some
   pub numbers : kept ≡ map (numbers_in models) some
 
 -- the next cell is added
-pub listed_more : (models : NamedModels) (old new : NamedCells) (before after : List (Option ModelNumbers)) (cells : List LibraryCell) (i : ℕ) (cell : LibraryCell)
+pub listed_more : (models : NamedModels) (old new : NamedCells) (before after : List (Option ModelNumbers)) (cells : List CellEntry) (i : ℕ) (cell : CellEntry)
     (ports : Ports) (numbers : Option ModelNumbers) (found : Option ℕ)
     → i < length cells → cell ≡ get_or cells i cell → (AreDistinct (cell_names cells) → AreListed models old before (take i cells))
     → AddsCell old (name_of cell) ports found new → ports ≡ ports_in models cell → numbers ≡ numbers_in models cell
@@ -41,7 +40,7 @@ pub named_as : (modules : List VModule) (entities : List VEntity) (some others :
 named_as modules entities some others e f = λ i. record { modules = modules; module_names = e i; entities = entities; entity_names = f i }
 
 -- the whole catalog
-pub whole_catalog : {E : Type 0} (result : Result Simulated E) (cells : List LibraryCell) (modules : List VModule) (entities : List VEntity) (some others : List (List ℕ))
+pub whole_catalog : {E : Type 0} (result : Result Simulated E) (cells : List CellEntry) (modules : List VModule) (entities : List VEntity) (some others : List (List ℕ))
     → (AreDistinct (module_names modules) → some ≡ module_names modules) → (AreDistinct (lowered_names entities) → others ≡ lowered_names entities)
     → IfOk result (λ simulated. AreDistinct (cell_names cells) → simulated ≡ simulated_in (record { modules = modules; module_names = some; entities = entities; entity_names = others }) cells)
     → IfOk result (λ simulated. HaveOwnNames cells modules entities → simulated ≡ simulated_of cells modules entities)

@@ -8,9 +8,9 @@ use Rattle.std.proofs.lemmas.Bool.{and_from}
 use Rattle.std.proofs.lemmas.Iterator.Adapters.{position_from-zero}
 use Rattle.std.proofs.lemmas.List.Elements.{All-cons}
 use Rattle.bool_functions.specs.NameList.{number_of, AreDistinct}
-use Rattle.cell_machine.specs.declared.cells.Cell.{Cell}
-use Rattle.cell_machine.specs.CellData.{data_of}
-use Rattle.cell_machine.proofs.RuleLemmas.{cell_rules}
+use Rattle.cell_machine.specs.CellData.{CellData}
+use Rattle.cell_machine.proofs.RuleLemmas.{rules_of}
+use Rattle.cell_reader.specs.LibraryCells.{CellEntry, Accepted, Refused}
 use Rattle.udp_tables.specs.declared.models.VPort.{VPort}
 use Rattle.specify_blocks.specs.declared.model.VModule.{VModule}
 use Rattle.specify_blocks.specs.Generated.{module_of}
@@ -25,14 +25,13 @@ use Rattle.vital_models.specs.Generated.{entity_of}
 use Rattle.vital_models.specs.Ports as in_vital
 use Rattle.vital_models.specs.Sound as sound_entities
 use Rattle.vital_models.proofs.Soundness.{entity_is_sound}
-use Rattle.simulation_catalog.specs.declared.kept.LibraryCell.{LibraryCell}
-use Rattle.simulation_catalog.specs.declared.kept.LibraryCell.TheVariants.{Accepted, Refused}
 use Rattle.simulation_catalog.specs.declared.same_ports.Spelling.{Spelling}
 use Rattle.simulation_catalog.specs.declared.same_ports.Spelling.TheVariants.{Exact, AnyCase}
-use Rattle.simulation_catalog.specs.SamePorts.{same_name, agree, same_port, same_ports}
+use Rattle.section_runs.specs.Differences.{agree}
+use Rattle.simulation_catalog.specs.SamePorts.{same_name, same_port, same_ports}
 use Rattle.simulation_catalog.specs.NamedModels.{named_models, module_names, lowered_names, module_ports, entity_ports, has_ports, with_ports, verilog_number, vital_number}
 use Rattle.simulation_catalog.specs.Standings.{standing_by, numbers_by}
-use Rattle.simulation_catalog.specs.Generated.{modules_of, entities_of, AcceptedAreReady}
+use Rattle.simulation_catalog.specs.Generated.{modules_of, entities_of, KeepsRules, AcceptedAreReady}
 
 -- The number of a name of which a list has one.
 
@@ -83,16 +82,16 @@ counts spelling ports ports_at found number e there =
 
 -- The place of a cell's models.
 
-record ArePlaced (cells : List LibraryCell) (cell : Cell) (entity : List ℕ) : Type 0 where
+record ArePlaced (cells : List CellEntry) (cell : CellData) (entity : List ℕ) : Type 0 where
   pub place : ℕ
-  pub module_at : slice_get (modules_of cells) place ≡ Some (module_of (data_of cell))
-  pub entity_at : slice_get (entities_of cells) place ≡ Some (entity_of (data_of cell) entity)
+  pub module_at : slice_get (modules_of cells) place ≡ Some (module_of cell)
+  pub entity_at : slice_get (entities_of cells) place ≡ Some (entity_of cell entity)
 
-placed : (cells : List LibraryCell) (number : ℕ) (cell : Cell) (entity : List ℕ) → slice_get cells number ≡ Some (Accepted cell entity) → ArePlaced cells cell entity
+placed : (cells : List CellEntry) (number : ℕ) (cell : CellData) (entity : List ℕ) → slice_get cells number ≡ Some (Accepted cell entity) → ArePlaced cells cell entity
 placed [] number cell entity e = absurd cc
 placed (c ∷ cells) zero cell entity e =
     let same : c ≡ Accepted cell entity = cc in
-    subst (λ (one : LibraryCell). ArePlaced (one ∷ cells) cell entity) (sym same) (record { place = 0; module_at = refl; entity_at = refl })
+    subst (λ (one : CellEntry). ArePlaced (one ∷ cells) cell entity) (sym same) (record { place = 0; module_at = refl; entity_at = refl })
 placed (Accepted other name ∷ cells) (suc number) cell entity e =
     let more = placed cells number cell entity e in
     record { place = suc more.place; module_at = more.module_at; entity_at = more.entity_at }
@@ -105,13 +104,13 @@ unfolding verilog_number vital_number
 accepted_are_ready cells number cell entity own there =
     let h = placed cells number cell entity there in
     let models = named_models (modules_of cells) (entities_of cells) in
-    let module_is : verilog_number models (data_of cell) ≡ Some h.place =
+    let module_is : verilog_number models cell ≡ Some h.place =
     counts Exact (in_verilog.ports_of cell.pins) (module_ports (modules_of cells)) (number_of (module_names (modules_of cells)) (module_name cell.number cell.name)) h.place
-    (own_number (λ (m : VModule). m.name) (modules_of cells) h.place (module_of (data_of cell)) own.modules h.module_at)
+    (own_number (λ (m : VModule). m.name) (modules_of cells) h.place (module_of cell) own.modules h.module_at)
     (ap (option_map (λ (m : VModule). m.ports)) h.module_at) in
-    let entity_is : vital_number models entity (data_of cell) ≡ Some h.place =
+    let entity_is : vital_number models entity cell ≡ Some h.place =
     counts AnyCase (in_vital.ports_of entity cell.pins) (entity_ports (entities_of cells)) (number_of (lowered_names (entities_of cells)) (lowered entity)) h.place
-    (own_number (λ (e : VEntity). lowered e.name) (entities_of cells) h.place (entity_of (data_of cell) entity) own.entities h.entity_at)
+    (own_number (λ (e : VEntity). lowered e.name) (entities_of cells) h.place (entity_of cell entity) own.entities h.entity_at)
     (ap (option_map (λ (e : VEntity). e.ports)) h.entity_at) in
     record {
       numbers = record { verilog = h.place; vital = h.place };
@@ -123,14 +122,26 @@ accepted_are_ready cells number cell entity own there =
 
 -- All generated models are sound.
 
-pub modules_are_sound : (cells : List LibraryCell) → All sound_modules.IsSound (modules_of cells)
-modules_are_sound [] = λ k d below. absurd (omega (arith, below))
-modules_are_sound (Accepted cell entity ∷ cells) =
-    All-cons sound_modules.IsSound (module_of (data_of cell)) (modules_of cells) (module_is_sound (data_of cell) (cell_rules cell)) (modules_are_sound cells)
-modules_are_sound (Refused name refusal ∷ cells) = modules_are_sound cells
+-- the cells behind the first keep the rules too
+others_keep : (c : CellEntry) (cells : List CellEntry) → All KeepsRules (c ∷ cells) → All KeepsRules cells
+others_keep c cells keep = λ k d below. keep (suc k) d (omega (arith, below))
 
-pub entities_are_sound : (cells : List LibraryCell) → All sound_entities.IsSound (entities_of cells)
-entities_are_sound [] = λ k d below. absurd (omega (arith, below))
-entities_are_sound (Accepted cell entity ∷ cells) =
-    All-cons sound_entities.IsSound (entity_of (data_of cell) entity) (entities_of cells) (entity_is_sound (data_of cell) entity (cell_rules cell)) (entities_are_sound cells)
-entities_are_sound (Refused name refusal ∷ cells) = entities_are_sound cells
+-- the first cell keeps them
+first_keeps : (c : CellEntry) (cells : List CellEntry) → All KeepsRules (c ∷ cells) → KeepsRules c
+first_keeps c cells keep = keep 0 c (omega arith)
+
+pub modules_are_sound : (cells : List CellEntry) → All KeepsRules cells → All sound_modules.IsSound (modules_of cells)
+modules_are_sound [] keep = λ k d below. absurd (omega (arith, below))
+modules_are_sound (Accepted cell entity ∷ cells) keep =
+    All-cons sound_modules.IsSound (module_of cell) (modules_of cells)
+    (module_is_sound cell (rules_of cell.name cell.pins cell.groups cell.outputs cell.checks cell.arcs (first_keeps (Accepted cell entity) cells keep)))
+    (modules_are_sound cells (others_keep (Accepted cell entity) cells keep))
+modules_are_sound (Refused name refusal ∷ cells) keep = modules_are_sound cells (others_keep (Refused name refusal) cells keep)
+
+pub entities_are_sound : (cells : List CellEntry) → All KeepsRules cells → All sound_entities.IsSound (entities_of cells)
+entities_are_sound [] keep = λ k d below. absurd (omega (arith, below))
+entities_are_sound (Accepted cell entity ∷ cells) keep =
+    All-cons sound_entities.IsSound (entity_of cell entity) (entities_of cells)
+    (entity_is_sound cell entity (rules_of cell.name cell.pins cell.groups cell.outputs cell.checks cell.arcs (first_keeps (Accepted cell entity) cells keep)))
+    (entities_are_sound cells (others_keep (Accepted cell entity) cells keep))
+entities_are_sound (Refused name refusal ∷ cells) keep = entities_are_sound cells (others_keep (Refused name refusal) cells keep)

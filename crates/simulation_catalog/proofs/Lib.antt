@@ -2,7 +2,10 @@ mod NewNames
 mod PinLemmas
 mod PortLemmas
 mod CatalogLemmas
+pub mod DescribedCells
 pub mod PortCounts
 pub mod ReadyCells
 pub mod GeneratedModels
 pub mod EqualTraces
+pub mod EqualEnds
+mod FileLemmas

@@ -1,5 +1,5 @@
 -- As many names of inputs and of outputs as a cell and its models have inputs and outputs.
-use Rattle.std.proofs.Common.{◌≡◌, ℕ, suc, ◌+◌, Bool, true, false, cond, if◌then◌else◌, List, [], ◌∷◌, ◌++◌, length, refl, sym, ap, ◌∙◌, arith}
+use Rattle.std.proofs.Common.{◌≡◌, ℕ, suc, ◌+◌, Bool, true, false, cond, if◌then◌else◌, IsTrue, List, [], ◌∷◌, ◌++◌, length, refl, sym, ap, ◌∙◌, arith}
 use Rattle.std.proofs.lemmas.Bool.{and_parts}
 use Rattle.std.proofs.lemmas.List.{length-map}
 use Rattle.std.proofs.lemmas.List.Sums.{sum_by-cons}
@@ -8,8 +8,8 @@ use Rattle.cell_machine.specs.declared.pins.Pin.{Pin}
 use Rattle.cell_machine.specs.declared.pins.Direction.{Direction}
 use Rattle.cell_machine.specs.declared.pins.Direction.TheVariants.{Input, Output, Internal}
 use Rattle.cell_machine.specs.declared.outputs.OutputPin.{OutputPin}
-use Rattle.cell_machine.specs.declared.cells.Cell.{Cell}
-use Rattle.cell_machine.specs.CellData.{CellData, data_of}
+use Rattle.cell_machine.specs.CellData.{CellData}
+use Rattle.cell_machine.specs.CellRules.{is_cell}
 use Rattle.cell_machine.specs.CellTrace.{inputs_of, cell_machine_of}
 use Rattle.cell_machine.specs.Inputs.{is_input_at}
 use Rattle.udp_tables.specs.declared.models.VPort.{VPort}
@@ -31,7 +31,8 @@ use Rattle.section_runs.specs.Comparison.{HavePorts}
 use Rattle.simulation_catalog.specs.declared.same_ports.Spelling.{Spelling}
 use Rattle.simulation_catalog.specs.declared.same_ports.Spelling.TheVariants.{Exact, AnyCase}
 use Rattle.simulation_catalog.specs.PinNames.{pin_names, named_ports}
-use Rattle.simulation_catalog.specs.SamePorts.{same_name, agree, same_port, same_ports}
+use Rattle.section_runs.specs.Differences.{agree}
+use Rattle.simulation_catalog.specs.SamePorts.{same_name, same_port, same_ports}
 
 -- Ports that are the same have the same directions.
 
@@ -124,18 +125,19 @@ driven : (e : VEntity) → IsSound e → length e.outputs ≡ length (output_por
 driven e sound = sym (length-map e.outputs (λ (output : VOutput). output.port)) ∙ ap length sound.driven ∙ counted 0 e.ports
 
 -- A cell and sound models with its ports have as many inputs and outputs as it has named ports.
-pub have_ports : (standing : Standing) (cell : Cell) (entity : List ℕ) (m : VModule) (e : VEntity)
+pub have_ports : (standing : Standing) (cell : CellData) (entity : List ℕ) (m : VModule) (e : VEntity)
+    → IsTrue (is_cell cell.name cell.pins cell.groups cell.outputs cell.checks cell.arcs)
     → same_ports Exact (in_verilog.ports_of cell.pins) m.ports ≡ true → same_ports AnyCase (in_vital.ports_of entity cell.pins) e.ports ≡ true
-    → IsSound (entity_of (data_of cell) entity) → IsSound e
-    → HavePorts (named_ports standing cell.pins) (cell_machine_of (data_of cell)) (module_machine m) (entity_machine e)
-have_ports standing cell entity m e same other generated sound =
-    let fits = generated-modules (data_of cell) cell.sound in
-    let entity_fits = generated-entities (data_of cell) entity cell.sound in
-    let inputs : length (pin_names Input cell.pins) ≡ inputs_of (data_of cell) = input_pins (data_of cell) in
-    let outputs : length cell.outputs ≡ length (output_ports (in_verilog.ports_of cell.pins)) = fitting_outputs (data_of cell) (module_of (data_of cell)) cell.outputs (output_ports (in_verilog.ports_of cell.pins)) fits.outputs in
+    → IsSound (entity_of cell entity) → IsSound e
+    → HavePorts (named_ports standing cell.pins) (cell_machine_of cell) (module_machine m) (entity_machine e)
+have_ports standing cell entity m e rules same other generated sound =
+    let fits = generated-modules cell rules in
+    let entity_fits = generated-entities cell entity rules in
+    let inputs : length (pin_names Input cell.pins) ≡ inputs_of cell = input_pins cell in
+    let outputs : length cell.outputs ≡ length (output_ports (in_verilog.ports_of cell.pins)) = fitting_outputs cell (module_of cell) cell.outputs (output_ports (in_verilog.ports_of cell.pins)) fits.outputs in
     let names : length (pin_names Output cell.pins) ≡ length (output_ports (in_verilog.ports_of cell.pins)) = output_pins_from 0 1 cell.pins in
     let written : length cell.outputs ≡ length (output_ports (in_vital.ports_of entity cell.pins)) =
-    sym (length-map cell.outputs _) ∙ driven (entity_of (data_of cell) entity) generated in
+    sym (length-map cell.outputs _) ∙ driven (entity_of cell entity) generated in
     record {
       liberty_inputs = inputs;
       liberty_outputs = names ∙ sym outputs;

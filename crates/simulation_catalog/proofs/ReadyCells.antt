@@ -1,13 +1,13 @@
 -- Cells that may be given changes, and the models that stand for them.
 use Rattle.std.proofs.Common.{◌≡◌, ℕ, zero, suc, Bool, true, false, if◌then◌else◌, List, [], ◌∷◌, length, map, position, bytes_eq, Option, Some, None, refl, sym, ap, subst, ◌∙◌, arith}
-use Rattle.std.specs.Prelude.{slice_get, slice_index_or, All}
+use Rattle.std.specs.Prelude.{Ok, slice_get, slice_index_or, All}
 use Rattle.std.specs.Option.{option_map}
 use Rattle.std.proofs.lemmas.List.{length-map}
 use Rattle.std.proofs.lemmas.Option.{slice_get-map}
-use Rattle.cell_machine.specs.declared.cells.Cell.{Cell}
-use Rattle.cell_machine.specs.CellData.{data_of}
+use Rattle.cell_machine.specs.CellData.{CellData}
 use Rattle.cell_machine.specs.CellTrace.{cell_machine_of}
 use Rattle.cell_machine.proofs.RuleLemmas.{rules_of}
+use Rattle.cell_reader.specs.LibraryCells.{CellEntry, Accepted, Refused, name_of, cell_names, all_described}
 use Rattle.udp_tables.specs.declared.models.VPort.{VPort}
 use Rattle.specify_blocks.specs.declared.model.VModule.{VModule}
 use Rattle.specify_blocks.specs.Ports as in_verilog
@@ -29,20 +29,20 @@ use Rattle.stimulus.specs.declared.sections.Section.{Section}
 use Rattle.stimulus.specs.Catalog.{cell_answer, cell_found}
 use Rattle.stimulus.specs.PortEntries.{NamedCells, listed, entry_of_cell}
 use Rattle.stimulus.specs.Laws.{IsSectionOf}
+use Rattle.stimulus.specs.Stimulus.{stimulus_of}
 use Rattle.stimulus.proofs.Properness.{sections_proper}
 use Rattle.stimulus.proofs.Entries.{no_cell, some_cell, inputs_below}
-use Rattle.simulation_catalog.specs.declared.kept.LibraryCell.{LibraryCell}
-use Rattle.simulation_catalog.specs.declared.kept.LibraryCell.TheVariants.{Accepted, Refused}
 use Rattle.simulation_catalog.specs.declared.numbers.ModelNumbers.{ModelNumbers}
 use Rattle.simulation_catalog.specs.declared.same_ports.Spelling.{Spelling}
 use Rattle.simulation_catalog.specs.declared.same_ports.Spelling.TheVariants.{Exact, AnyCase}
-use Rattle.simulation_catalog.specs.LibraryCells.{name_of, cell_names}
 use Rattle.simulation_catalog.specs.SamePorts.{same_ports}
 use Rattle.simulation_catalog.specs.NamedModels.{NamedModels, named_models, module_ports, entity_ports, has_ports, with_ports, verilog_number, vital_number}
 use Rattle.simulation_catalog.specs.Standings.{standing_by, numbers_by}
 use Rattle.simulation_catalog.specs.Catalog.{standing_in, ports_in, numbers_in, cells_named}
 use Rattle.simulation_catalog.specs.Comparisons.{beside, beside_numbers, beside_models}
 use Rattle.simulation_catalog.specs.Sections.{CanBeCompared, SectionsCanBeCompared}
+use Rattle.simulation_catalog.specs.Generated.{KeepsRules}
+use Rattle.simulation_catalog.proofs.DescribedCells.{image_at, described_keep_rules}
 use Rattle.simulation_catalog.proofs.PortCounts.{have_ports}
 
 -- What a catalog answers.
@@ -72,12 +72,6 @@ ready_cell named name cell l e = by (position (bytes_eq name) named.names) refl
     by (Some at) f = ready_at named.cells at cell (sym (ap cell_answer (some_cell name named.names named.cells at l f)) ∙ e)
 
 -- The models of a cell.
-
--- an image in a list is that of a thing of the list
-image_at : {X Y : Type 0} (f : X → Y) (xs : List X) (i : ℕ) (y : Y) → slice_get (map f xs) i ≡ Some y → (x : X) × ((slice_get xs i ≡ Some x) × (f x ≡ y))
-image_at f [] i y e = absurd cc
-image_at f (x ∷ xs) zero y e = let same : f x ≡ y = cc in (x, (refl, same))
-image_at f (x ∷ xs) (suc i) y e = image_at f xs i y e
 
 -- both numbers are there
 pub record AreFound (verilog vital : Option ℕ) : Type 0 where
@@ -120,7 +114,7 @@ fitting_entity ports entities number e = by (slice_get entities number) refl e
     by (Some m) f g = (m, (f, g))
 
 -- the models of a cell that may be given changes
-pub record HasModels (modules : List VModule) (entities : List VEntity) (cell : Cell) (entity : List ℕ) : Type 0 where
+pub record HasModels (modules : List VModule) (entities : List VEntity) (cell : CellData) (entity : List ℕ) : Type 0 where
   pub numbers : ModelNumbers
   pub verilog : VModule
   pub vital : VEntity
@@ -130,12 +124,12 @@ pub record HasModels (modules : List VModule) (entities : List VEntity) (cell : 
   pub module_ports : same_ports Exact (in_verilog.ports_of cell.pins) verilog.ports ≡ true
   pub entity_ports : same_ports AnyCase (in_vital.ports_of entity cell.pins) vital.ports ≡ true
 
-has_models : (modules : List VModule) (entities : List VEntity) (cell : Cell) (entity : List ℕ)
-    → standing_in (named_models modules entities) entity (data_of cell) ≡ standing.Ready → HasModels modules entities cell entity
+has_models : (modules : List VModule) (entities : List VEntity) (cell : CellData) (entity : List ℕ)
+    → standing_in (named_models modules entities) entity cell ≡ standing.Ready → HasModels modules entities cell entity
 unfolding verilog_number vital_number
 has_models modules entities cell entity e =
     let models = named_models modules entities in
-    let found = both_found (verilog_number models (data_of cell)) (vital_number models entity (data_of cell)) e in
+    let found = both_found (verilog_number models cell) (vital_number models entity cell) e in
     let (m, (m_is, m_ports)) =
     fitting_module (in_verilog.ports_of cell.pins) modules found.module_number
     (fits Exact (in_verilog.ports_of cell.pins) (module_ports modules) (number_of models.module_names (module_name cell.number cell.name)) found.module_number found.module_is) in
@@ -153,19 +147,19 @@ has_models modules entities cell entity e =
       entity_ports = n_ports;
     }
 
-all_at : {X : Type 0} (P : X → Type 0) (xs : List X) (i : ℕ) (x : X) → All P xs → slice_get xs i ≡ Some x → P x
+pub all_at : {X : Type 0} (P : X → Type 0) (xs : List X) (i : ℕ) (x : X) → All P xs → slice_get xs i ≡ Some x → P x
 all_at P [] i x all e = absurd cc
 all_at P (y ∷ xs) zero x all e = let same : y ≡ x = cc in subst P same (all 0 y (omega arith))
 all_at P (y ∷ xs) (suc i) x all e = all_at P xs i x (λ k d h. all (suc k) d (omega (arith, h))) e
 
-pub compared_as : (models : NamedModels) (cell : Cell) (entity : List ℕ) (numbers : ModelNumbers) (m : VModule) (n : VEntity) (found : Option LibraryCell)
+pub compared_as : (models : NamedModels) (cell : CellData) (entity : List ℕ) (numbers : ModelNumbers) (m : VModule) (n : VEntity) (found : Option CellEntry)
     → found ≡ Some (Accepted cell entity) → numbers_in models (Accepted cell entity) ≡ Some numbers
     → slice_get models.modules numbers.verilog ≡ Some m → slice_get models.entities numbers.vital ≡ Some n
     → beside_models models found
     ≡ Some (record {
       name = cell.name;
       ports = ports_in models (Accepted cell entity);
-      liberty = cell_machine_of (data_of cell);
+      liberty = cell_machine_of cell;
       verilog = module_machine m;
       vital = entity_machine n;
     })
@@ -174,11 +168,11 @@ compared_as models cell entity numbers m n found e f g h =
     ∙ (λ i. beside cell (ports_in models (Accepted cell entity)) (g i) (h i))
 
 -- a section on an accepted cell that may be given changes
-accepted_section : (all : List LibraryCell) (modules : List VModule) (entities : List VEntity) (section : Section) (cell : Cell) (entity : List ℕ)
-    → All modules_of.IsSound modules → All entities_of.IsSound entities
-    → slice_get all section.cell ≡ Some (Accepted cell entity) → standing_in (named_models modules entities) entity (data_of cell) ≡ standing.Ready
+accepted_section : (all : List CellEntry) (modules : List VModule) (entities : List VEntity) (section : Section) (cell : CellData) (entity : List ℕ)
+    → All KeepsRules all → All modules_of.IsSound modules → All entities_of.IsSound entities
+    → slice_get all section.cell ≡ Some (Accepted cell entity) → standing_in (named_models modules entities) entity cell ≡ standing.Ready
     → IsSectionOf (listed (cells_named all modules entities)) section → CanBeCompared all modules entities section
-accepted_section all modules entities section cell entity sound_modules sound_entities there ready s =
+accepted_section all modules entities section cell entity keep sound_modules sound_entities there ready s =
     let models = named_models modules entities in
     let h = has_models modules entities cell entity ready in
     let sound = all_at modules_of.IsSound modules h.numbers.verilog h.verilog sound_modules h.is_module in
@@ -187,7 +181,8 @@ accepted_section all modules entities section cell entity sound_modules sound_en
     slice_get-map (ports_in models) all section.cell ∙ ap (option_map (ports_in models)) there in
     let models_there : slice_get (map (numbers_in models) all) section.cell ≡ Some (Some h.numbers) =
     slice_get-map (numbers_in models) all section.cell ∙ ap (option_map (numbers_in models)) there ∙ ap Some h.are in
-    let generated = entity_is_sound (data_of cell) entity (rules_of cell.name cell.pins cell.groups cell.outputs cell.checks cell.arcs cell.sound) in
+    let rules = all_at KeepsRules all section.cell (Accepted cell entity) keep there in
+    let generated = entity_is_sound cell entity (rules_of cell.name cell.pins cell.groups cell.outputs cell.checks cell.arcs rules) in
     let below = inputs_below (cells_named all modules entities) section.cell (ports_in models (Accepted cell entity)) ports_there in
     record {
       cell = cell;
@@ -204,31 +199,38 @@ accepted_section all modules entities section cell entity sound_modules sound_en
       is_compared = compared_as models cell entity h.numbers h.verilog h.vital (slice_get all section.cell) there h.are h.is_module h.is_entity;
       sound_module = sound;
       sound_entity = sound_too;
-      have_ports = have_ports (standing_in models entity (data_of cell)) cell entity h.verilog h.vital h.module_ports h.entity_ports generated sound_too;
+      have_ports = have_ports (standing_in models entity cell) cell entity h.verilog h.vital rules h.module_ports h.entity_ports generated sound_too;
       proper = s.proper (length (ports_in models (Accepted cell entity)).inputs) below;
     }
 
 -- a section on a cell that may be given changes
-ready_section : (all : List LibraryCell) (modules : List VModule) (entities : List VEntity) (section : Section) (c : LibraryCell)
-    → All modules_of.IsSound modules → All entities_of.IsSound entities
+ready_section : (all : List CellEntry) (modules : List VModule) (entities : List VEntity) (section : Section) (c : CellEntry)
+    → All KeepsRules all → All modules_of.IsSound modules → All entities_of.IsSound entities
     → slice_get all section.cell ≡ Some c → (ports_in (named_models modules entities) c).standing ≡ standing.Ready
     → IsSectionOf (listed (cells_named all modules entities)) section → CanBeCompared all modules entities section
-ready_section all modules entities section (Accepted cell entity) sound_modules sound_entities there ready s =
-    accepted_section all modules entities section cell entity sound_modules sound_entities there ready s
-ready_section all modules entities section (Refused name refusal) sound_modules sound_entities there ready s = absurd cc
+ready_section all modules entities section (Accepted cell entity) keep sound_modules sound_entities there ready s =
+    accepted_section all modules entities section cell entity keep sound_modules sound_entities there ready s
+ready_section all modules entities section (Refused name refusal) keep sound_modules sound_entities there ready s = absurd cc
 
-can_be_compared : (all : List LibraryCell) (modules : List VModule) (entities : List VEntity) (section : Section)
-    → All modules_of.IsSound modules → All entities_of.IsSound entities
+can_be_compared : (all : List CellEntry) (modules : List VModule) (entities : List VEntity) (section : Section)
+    → All KeepsRules all → All modules_of.IsSound modules → All entities_of.IsSound entities
     → IsSectionOf (listed (cells_named all modules entities)) section → CanBeCompared all modules entities section
-can_be_compared all modules entities section sound_modules sound_entities s =
+can_be_compared all modules entities section keep sound_modules sound_entities s =
     let models = named_models modules entities in
     let same_length : length (cell_names all) ≡ length (map (ports_in models) all) = length-map all name_of ∙ sym (length-map all (ports_in models)) in
     let (one, (there, ready)) = ready_cell (cells_named all modules entities) s.named.0 section.cell same_length s.named.1 in
     let (c, (c_there, c_is)) = image_at (ports_in models) all section.cell one there in
-    ready_section all modules entities section c sound_modules sound_entities c_there (ap (λ (p : Ports). p.standing) c_is ∙ ready) s
+    ready_section all modules entities section c keep sound_modules sound_entities c_there (ap (λ (p : Ports). p.standing) c_is ∙ ready) s
+
+-- the sections of a stimulus over cells that keep the rules
+pub sections_of_cells : (all : List CellEntry) (modules : List VModule) (entities : List VEntity) (bytes : List ℕ) (sections : List Section)
+    → All KeepsRules all → All modules_of.IsSound modules → All entities_of.IsSound entities
+    → stimulus_of (listed (cells_named all modules entities)) bytes ≡ Ok sections → All (CanBeCompared all modules entities) sections
+sections_of_cells all modules entities bytes sections keep sound_modules sound_entities e =
+    λ k d below.
+    can_be_compared all modules entities (slice_index_or sections k d) keep sound_modules sound_entities
+    (sections_proper (listed (cells_named all modules entities)) bytes sections e k d below)
 
 pub sections_can_be_compared : SectionsCanBeCompared
-sections_can_be_compared all modules entities bytes sections sound_modules sound_entities e =
-    λ k d below.
-    can_be_compared all modules entities (slice_index_or sections k d) sound_modules sound_entities
-    (sections_proper (listed (cells_named all modules entities)) bytes sections e k d below)
+sections_can_be_compared cells modules entities bytes sections sound_modules sound_entities e =
+    sections_of_cells (all_described cells) modules entities bytes sections (described_keep_rules cells) sound_modules sound_entities e

@@ -3,10 +3,10 @@
 use Rattle.std.specs.Prelude.{ℕ, Bool, false, List, [], ◌++◌, Option, Some, None, is_some, slice_get}
 use Rattle.std.specs.List.{flat_map, list_any}
 use Rattle.cell_machine.specs.declared.changes.Change.{Change}
-use Rattle.cell_machine.specs.declared.cells.Cell.{Cell}
-use Rattle.cell_machine.specs.CellData.{data_of}
+use Rattle.cell_machine.specs.CellData.{CellData}
 use Rattle.cell_machine.specs.CellTrace.{cell_machine_of}
 use Rattle.cell_machine.specs.Lines.{Machine}
+use Rattle.cell_reader.specs.LibraryCells.{CellEntry, Accepted, Refused}
 use Rattle.specify_blocks.specs.declared.model.VModule.{VModule}
 use Rattle.vital_models.specs.declared.model.VEntity.{VEntity}
 use Rattle.model_traces.specs.ModuleTrace.{module_machine}
@@ -15,8 +15,6 @@ use Rattle.stimulus.specs.declared.ports.Ports.{Ports}
 use Rattle.stimulus.specs.declared.sections.Section.{Section}
 use Rattle.section_runs.specs.TraceText.{heading_text}
 use Rattle.section_runs.specs.Comparison.{Lines, three_lines, compared_text, first_unlike, verdict_text}
-use Rattle.simulation_catalog.specs.declared.kept.LibraryCell.{LibraryCell}
-use Rattle.simulation_catalog.specs.declared.kept.LibraryCell.TheVariants.{Accepted, Refused}
 use Rattle.simulation_catalog.specs.declared.numbers.ModelNumbers.{ModelNumbers}
 use Rattle.simulation_catalog.specs.NamedModels.{NamedModels, named_models}
 use Rattle.simulation_catalog.specs.Catalog.{ports_in, numbers_in}
@@ -34,29 +32,29 @@ abbrev pub lines_of : Compared → List Change → Lines
 lines_of c = three_lines c.liberty c.verilog c.vital
 
 -- a cell with its models, where both are there
-abbrev pub beside : Cell → Ports → Option VModule → Option VEntity → Option Compared
+abbrev pub beside : CellData → Ports → Option VModule → Option VEntity → Option Compared
 beside cell ports (Some m) (Some e) =
     Some (record {
       name = cell.name;
       ports = ports;
-      liberty = cell_machine_of (data_of cell);
+      liberty = cell_machine_of cell;
       verilog = module_machine m;
       vital = entity_machine e;
     })
 beside cell ports _ _ = None
 
-abbrev pub beside_numbers : NamedModels → Cell → Ports → Option ModelNumbers → Option Compared
+abbrev pub beside_numbers : NamedModels → CellData → Ports → Option ModelNumbers → Option Compared
 beside_numbers models cell ports None = None
 beside_numbers models cell ports (Some numbers) = beside cell ports (slice_get models.modules numbers.verilog) (slice_get models.entities numbers.vital)
 
-abbrev pub beside_models : NamedModels → Option LibraryCell → Option Compared
+abbrev pub beside_models : NamedModels → Option CellEntry → Option Compared
 beside_models models None = None
 beside_models models (Some (Refused name refusal)) = None
 beside_models models (Some (Accepted cell entity)) =
     beside_numbers models cell (ports_in models (Accepted cell entity)) (numbers_in models (Accepted cell entity))
 
 -- what a section on the cell with this number is run on
-abbrev pub compared_at : List LibraryCell → List VModule → List VEntity → ℕ → Option Compared
+abbrev pub compared_at : List CellEntry → List VModule → List VEntity → ℕ → Option Compared
 compared_at cells modules entities number = beside_models (named_models modules entities) (slice_get cells number)
 
 -- a section: the cell's name, the lines of the traces on these changes, and whether they are equal
@@ -68,11 +66,11 @@ abbrev pub section_by : Option Compared → List Change → List ℕ
 section_by None changes = []
 section_by (Some c) changes = compared_section c changes
 
-abbrev pub section_text : List LibraryCell → List VModule → List VEntity → Section → List ℕ
+abbrev pub section_text : List CellEntry → List VModule → List VEntity → Section → List ℕ
 section_text cells modules entities section = section_by (compared_at cells modules entities section.cell) section.changes
 
 -- the sections of a stimulus, in order
-unfoldable pub sections_text : List LibraryCell → List VModule → List VEntity → List Section → List ℕ
+unfoldable pub sections_text : List CellEntry → List VModule → List VEntity → List Section → List ℕ
 sections_text cells modules entities sections = flat_map (section_text cells modules entities) sections
 
 -- two of the three traces of a section differ
@@ -80,9 +78,9 @@ abbrev pub differs_by : Option Compared → List Change → Bool
 differs_by None changes = false
 differs_by (Some c) changes = is_some (first_unlike changes (lines_of c))
 
-abbrev pub differs : List LibraryCell → List VModule → List VEntity → Section → Bool
+abbrev pub differs : List CellEntry → List VModule → List VEntity → Section → Bool
 differs cells modules entities section = differs_by (compared_at cells modules entities section.cell) section.changes
 
 -- some section differs
-abbrev pub any_differs : List LibraryCell → List VModule → List VEntity → List Section → Bool
+abbrev pub any_differs : List CellEntry → List VModule → List VEntity → List Section → Bool
 any_differs cells modules entities sections = list_any (differs cells modules entities) sections

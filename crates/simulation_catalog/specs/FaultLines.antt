@@ -3,15 +3,13 @@ use Rattle.std.specs.Prelude.{ℕ, List, [], ◌++◌, codes, decimal, Option, S
 use Rattle.std.specs.Option.{option_map_or}
 use Rattle.cell_machine.specs.CellRules.{is_name}
 use Rattle.cell_reader.specs.declared.refusal.Refusal.{Refusal}
+use Rattle.cell_reader.specs.LibraryCells.{CellEntry, Accepted, Refused, name_of}
 use Rattle.cell_reader.specs.ReasonWords.{number_of_reason, word_of_reason}
 use Rattle.stimulus.specs.declared.faults.Cause.{Cause}
 use Rattle.stimulus.specs.declared.faults.Cause.TheVariants as cause
-use Rattle.stimulus.specs.CauseWords.{word_of_cause}
 use Rattle.command_outcomes.specs.declared.status.Status.{Status}
 use Rattle.command_outcomes.specs.declared.status.Status.TheVariants as status
-use Rattle.simulation_catalog.specs.declared.kept.LibraryCell.{LibraryCell}
-use Rattle.simulation_catalog.specs.declared.kept.LibraryCell.TheVariants.{Accepted, Refused}
-use Rattle.simulation_catalog.specs.LibraryCells.{name_of}
+use Rattle.model_replay.specs.FaultLines.{stimulus_fault_line}
 
 -- a name as a line shows it: one that no cell may bear, for its length or a byte of it, is a question mark
 unfoldable pub shown_name : List ℕ → List ℕ
@@ -39,26 +37,23 @@ verilog_ports_line name = codes "verilog ports: " ++ (name ++ codes "\n")
 unfoldable pub vital_ports_line : List ℕ → List ℕ
 vital_ports_line name = codes "vital ports: " ++ (name ++ codes "\n")
 
--- a line of a stimulus that is bad by itself: its number, from 1, and the cause
-unfoldable pub bad_line : ℕ → Cause → List ℕ
-bad_line line why = codes "stimulus line " ++ (decimal line ++ (codes ": " ++ (word_of_cause why ++ codes "\n")))
-
 -- the name of the cell with this number
-abbrev pub name_at : List LibraryCell → ℕ → List ℕ
+abbrev pub name_at : List CellEntry → ℕ → List ℕ
 name_at cells number = option_map_or name_of (slice_get cells number) []
 
 -- the line on the refused cell with this number
-abbrev pub refused_line_by : Option LibraryCell → List ℕ
+abbrev pub refused_line_by : Option CellEntry → List ℕ
 refused_line_by None = []
 refused_line_by (Some (Accepted cell entity)) = []
 refused_line_by (Some (Refused name refusal)) = refused_cell_line name refusal
 
--- the line on the first bad line of a stimulus, which has this number and cause
-abbrev pub cause_line : List LibraryCell → ℕ → Cause → List ℕ
+-- The line on the first bad line of a stimulus, which has this number and cause: where a cell may not be given changes the line tells
+-- this cell.
+abbrev pub cause_line : List CellEntry → ℕ → Cause → List ℕ
 cause_line cells line (cause.RefusedCell number) = refused_line_by (slice_get cells number)
 cause_line cells line (cause.VerilogPorts number) = verilog_ports_line (name_at cells number)
 cause_line cells line (cause.VitalPorts number) = vital_ports_line (name_at cells number)
-cause_line cells line why = bad_line line why
+cause_line cells line why = stimulus_fault_line line why
 
 -- the status of a run whose first bad line has this cause
 abbrev pub cause_status : Cause → Status

@@ -1,9 +1,10 @@
 -- When a model has the ports that are written for a cell: as many, with their names and directions, in their order. Names of Verilog
 -- are the same where they are byte for byte (IEEE 1364-2005, 3.7), names of VHDL whatever the case of their letters (IEEE 1076-1993,
 -- 13.3.1).
-use Rattle.std.specs.Prelude.{ℕ, Bool, true, false, not, ◌&&◌, List, [], ◌∷◌}
+use Rattle.std.specs.Prelude.{ℕ, Bool, true, false, ◌&&◌, List, [], ◌∷◌}
 use Rattle.std.specs.Str.{bytes_eq, str_eq_ignore_ascii_case}
 use Rattle.udp_tables.specs.declared.models.VPort.{VPort}
+use Rattle.section_runs.specs.Differences.{agree}
 use Rattle.simulation_catalog.specs.declared.same_ports.Spelling.{Spelling}
 use Rattle.simulation_catalog.specs.declared.same_ports.Spelling.TheVariants.{Exact, AnyCase}
 
@@ -11,11 +12,6 @@ use Rattle.simulation_catalog.specs.declared.same_ports.Spelling.TheVariants.{Ex
 abbrev pub same_name : Spelling → List ℕ → List ℕ → Bool
 same_name Exact one other = bytes_eq one other
 same_name AnyCase one other = str_eq_ignore_ascii_case one other
-
--- two facts are the same
-abbrev pub agree : Bool → Bool → Bool
-agree true b = b
-agree false b = not b
 
 -- two ports have the same name and direction
 abbrev pub same_port : Spelling → VPort → VPort → Bool

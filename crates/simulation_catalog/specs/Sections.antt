@@ -1,9 +1,12 @@
 -- Sections of a stimulus that can be run on a cell, its module and its entity side by side.
 use Rattle.std.specs.Prelude.{◌≡◌, ℕ, All, List, [], length, slice_get, Some, Ok}
 use Rattle.cell_machine.specs.declared.cells.Cell.{Cell}
-use Rattle.cell_machine.specs.CellData.{data_of}
+use Rattle.cell_machine.specs.CellData.{CellData, data_of}
 use Rattle.cell_machine.specs.CellTrace.{cell_machine_of}
 use Rattle.cell_machine.specs.History.{IsProperFrom}
+use Rattle.cell_reader.specs.declared.library_cell.LibraryCell.{LibraryCell}
+use Rattle.cell_reader.specs.declared.library_cell.LibraryCell.TheVariants as kept
+use Rattle.cell_reader.specs.LibraryCells.{CellEntry, Accepted, all_described}
 use Rattle.specify_blocks.specs.declared.model.VModule.{VModule}
 use Rattle.specify_blocks.specs.Sound as modules_of
 use Rattle.vital_models.specs.declared.model.VEntity.{VEntity}
@@ -15,16 +18,14 @@ use Rattle.stimulus.specs.declared.sections.Section.{Section}
 use Rattle.stimulus.specs.PortEntries.{listed}
 use Rattle.stimulus.specs.Stimulus.{stimulus_of}
 use Rattle.section_runs.specs.Comparison.{HavePorts}
-use Rattle.simulation_catalog.specs.declared.kept.LibraryCell.{LibraryCell}
-use Rattle.simulation_catalog.specs.declared.kept.LibraryCell.TheVariants.{Accepted}
 use Rattle.simulation_catalog.specs.declared.numbers.ModelNumbers.{ModelNumbers}
 use Rattle.simulation_catalog.specs.Catalog.{cells_named, simulated_of}
 use Rattle.simulation_catalog.specs.Comparisons.{compared_at}
 
 -- A section can be run on the cell with its number and on the models that stand for this cell: both models are sound, all three have
 -- as many inputs and outputs as the cell has named ports, and the section's changes are of its inputs, at times that rise strictly.
-pub record CanBeCompared (cells : List LibraryCell) (modules : List VModule) (entities : List VEntity) (section : Section) : Type 0 where
-  pub cell : Cell
+pub record CanBeCompared (cells : List CellEntry) (modules : List VModule) (entities : List VEntity) (section : Section) : Type 0 where
+  pub cell : CellData
   pub entity_name : List ℕ
   pub ports : Ports
   pub numbers : ModelNumbers
@@ -40,19 +41,29 @@ pub record CanBeCompared (cells : List LibraryCell) (modules : List VModule) (en
       ≡ Some (record {
         name = cell.name;
         ports = ports;
-        liberty = cell_machine_of (data_of cell);
+        liberty = cell_machine_of cell;
         verilog = module_machine verilog;
         vital = entity_machine vital;
       })
   pub sound_module : modules_of.IsSound verilog
   pub sound_entity : entities_of.IsSound vital
-  pub have_ports : HavePorts ports (cell_machine_of (data_of cell)) (module_machine verilog) (entity_machine vital)
+  pub have_ports : HavePorts ports (cell_machine_of cell) (module_machine verilog) (entity_machine vital)
   pub proper : IsProperFrom (length ports.inputs) [] section.changes
 
--- The sections of a stimulus that is read over the catalog can be run so, where all models are sound.
+-- The sections of a stimulus that is read over the catalog of cells can be run so, where all models are sound.
 abbrev pub SectionsCanBeCompared : Type 0
 SectionsCanBeCompared =
     (cells : List LibraryCell) (modules : List VModule) (entities : List VEntity) (bytes : List ℕ) (sections : List Section)
     → All modules_of.IsSound modules → All entities_of.IsSound entities
-    → stimulus_of (listed (cells_named cells modules entities)) bytes ≡ Ok sections
-    → All (CanBeCompared cells modules entities) sections
+    → stimulus_of (listed (cells_named (all_described cells) modules entities)) bytes ≡ Ok sections
+    → All (CanBeCompared (all_described cells) modules entities) sections
+
+-- the cell with this number is accepted, with these data and with this name of its entity
+abbrev pub HasData : List LibraryCell → ℕ → CellData → List ℕ → Type 0
+HasData cells number content entity = (cell : Cell) × (slice_get cells number ≡ Some (kept.Accepted cell entity)) × (data_of cell ≡ content)
+
+-- The accepted cell that a list of cells is described to have at a place is the one that stands there.
+abbrev pub DescribedAreCells : Type 0
+DescribedAreCells =
+    (cells : List LibraryCell) (number : ℕ) (content : CellData) (entity : List ℕ)
+    → slice_get (all_described cells) number ≡ Some (Accepted content entity) → HasData cells number content entity

@@ -1,15 +1,16 @@
 //! How a simulation ends whose stimulus has a bad line.
-ghost use Rattle.std.specs.Prelude.{◌≡◌};
-ghost use Rattle.std.specs.Option.{option_copied};
+ghost use Rattle.std.specs.Prelude.{◌≡◌, []};
+ghost use Rattle.std.specs.Option.{option_copied, option_map, option_map_or};
 ghost use Rattle.text_io.specs.declared.slots.OutSlot.TheVariants.{Faults};
 ghost use Rattle.text_io.specs.Desk.{HasCause, WritesText};
-ghost use Rattle.simulation_catalog.specs.FaultLines.{shown_name as shown_name_of, refused_name_text, refused_reason_text, refused_cell_line, verilog_ports_line, vital_ports_line, bad_line, name_at as name_at_of, refused_line_by, cause_line, cause_status as cause_status_of};
+ghost use Rattle.cell_reader.specs.LibraryCells.{described, all_described, name_of};
+ghost use Rattle.simulation_catalog.specs.FaultLines.{shown_name as shown_name_of, refused_name_text, refused_reason_text, refused_cell_line, verilog_ports_line, vital_ports_line, refused_line_by, cause_line, cause_status as cause_status_of};
 
-use crate::kept::LibraryCell;
 use cell_parts::declarations::is_name;
-use cell_reader::Refusal;
+use cell_reader::{LibraryCell, Refusal};
 use command_outcomes::Status;
 use itoa::Buffer;
+use model_replay::write_stimulus_fault;
 use stimulus::Cause;
 use text_io::{Desk, Failed, OutSlot, write_pieces};
 
@@ -39,28 +40,28 @@ pub fn write_cause<D: Desk>(
     line: usize,
     cause: Cause,
 ) -> Result<(), Failed>
-    ensures text { WritesText (D.state desk.old) (D.state desk.new) Faults (cause_line cells.now line cause) result }
+    ensures text { WritesText (D.state desk.old) (D.state desk.new) Faults (cause_line (all_described cells.now) line cause) result }
     ensures cause { HasCause (D.faults desk.old) (D.faults desk.new) result }
 {
     match cause {
         Cause::RefusedCell(number) => write_refused(desk, cells.get(number)),
-        Cause::VerilogPorts(number) => write_verilog_ports(desk, name_at(cells, number)),
-        Cause::VitalPorts(number) => write_vital_ports(desk, name_at(cells, number)),
+        Cause::VerilogPorts(number) => write_verilog_ports(desk, name_of(cells.get(number))),
+        Cause::VitalPorts(number) => write_vital_ports(desk, name_of(cells.get(number))),
         Cause::Form
         | Cause::UnknownCell
         | Cause::Count
         | Cause::UnknownPin
         | Cause::OutputPin
         | Cause::Value
-        | Cause::Time => write_bad_line(desk, line, cause),
+        | Cause::Time => write_stimulus_fault(desk, line, cause),
     }
 }
 
-/// The name of the cell with this number, empty where there is none.
-fn name_at(cells: &[LibraryCell], number: usize) -> &[u8]
-    ensures { result.now ≡ name_at_of cells.now number }
+/// The name of a cell, empty where there is none.
+fn name_of(cell: Option<&LibraryCell>) -> &[u8]
+    ensures { result.now ≡ option_map_or name_of (option_map described (option_copied cell.entry)) [] }
 {
-    match cells.get(number) {
+    match cell {
         Some(cell) => cell.name(),
         None => b"",
     }
@@ -77,7 +78,7 @@ fn shown_name(name: &[u8]) -> &[u8]
 /// Tells why a cell is refused; nothing of one that is not.
 #[tactic(auto, using(text_io::proofs::Wrote::desk_laws))]
 fn write_refused<D: Desk>(desk: &mut D, cell: Option<&LibraryCell>) -> Result<(), Failed>
-    ensures text { WritesText (D.state desk.old) (D.state desk.new) Faults (refused_line_by (option_copied cell.entry)) result }
+    ensures text { WritesText (D.state desk.old) (D.state desk.new) Faults (refused_line_by (option_map described (option_copied cell.entry))) result }
     ensures cause { HasCause (D.faults desk.old) (D.faults desk.new) result }
 {
     match cell {
@@ -146,24 +147,4 @@ fn write_vital_ports<D: Desk>(desk: &mut D, name: &[u8]) -> Result<(), Failed>
     ensures cause { HasCause (D.faults desk.old) (D.faults desk.new) result }
 {
     write_pieces(desk, OutSlot::Faults, &[b"vital ports: ", name, b"\n"])
-}
-
-/// Tells the number and the cause of a bad line.
-#[tactic(auto, unfolding(crate::specs::FaultLines::bad_line))]
-fn write_bad_line<D: Desk>(desk: &mut D, line: usize, cause: Cause) -> Result<(), Failed>
-    ensures text { WritesText (D.state desk.old) (D.state desk.new) Faults (bad_line line cause) result }
-    ensures cause { HasCause (D.faults desk.old) (D.faults desk.new) result }
-{
-    let mut number = Buffer::new();
-    write_pieces(
-        desk,
-        OutSlot::Faults,
-        &[
-            b"stimulus line ",
-            number.format(line).as_bytes(),
-            b": ",
-            cause.word(),
-            b"\n",
-        ],
-    )
 }

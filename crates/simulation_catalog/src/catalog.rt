@@ -1,16 +1,16 @@
 //! The cells of a library as those that a stimulus may name, with the models of each.
 ghost use Rattle.std.specs.Prelude.{◌≡◌, [], IfOk};
 ghost use Rattle.bool_functions.specs.NameList.{AreDistinct};
-ghost use Rattle.simulation_catalog.specs.LibraryCells.{cell_names};
+ghost use Rattle.cell_reader.specs.LibraryCells.{described, all_described, cell_names};
 ghost use Rattle.simulation_catalog.specs.NamedModels.{shown};
 ghost use Rattle.simulation_catalog.specs.Catalog.{ports_in, numbers_in, simulated_in, simulated_of, HaveOwnNames};
 
 use crate::faults::Memory;
-use crate::kept::LibraryCell;
 use crate::model_files::{ModelFiles, lowered_names, module_names};
 use crate::numbers::ModelNumbers;
 use crate::pin_names::named_ports;
 use bool_functions::Names;
+use cell_reader::LibraryCell;
 use specify_blocks::VModule;
 use sqlite_items::Items;
 use std::alloc::Global;
@@ -37,8 +37,8 @@ struct Entry {
 
 /// The entry of a cell.
 fn entry_of(alloc: Global, files: &ModelFiles<'_>, cell: &LibraryCell) -> Result<Entry, Memory>
-    ensures ports { IfOk result (λ entry. entry.ports ≡ ports_in (shown files.now) cell.now) }
-    ensures numbers { IfOk result (λ entry. entry.numbers ≡ numbers_in (shown files.now) cell.now) }
+    ensures ports { IfOk result (λ entry. entry.ports ≡ ports_in (shown files.now) (described cell.now)) }
+    ensures numbers { IfOk result (λ entry. entry.numbers ≡ numbers_in (shown files.now) (described cell.now)) }
 {
     match cell {
         LibraryCell::Accepted { cell, entity } => {
@@ -72,7 +72,7 @@ fn simulated_in(
     files: &ModelFiles<'_>,
     cells: &[LibraryCell],
 ) -> Result<Simulated, Memory>
-    ensures { IfOk result (λ simulated. AreDistinct (cell_names cells.now) → simulated ≡ simulated_in (shown files.now) cells.now) }
+    ensures { IfOk result (λ simulated. AreDistinct (cell_names (all_described cells.now)) → simulated ≡ simulated_in (shown files.now) (all_described cells.now)) }
 {
     let mut catalog = PortCatalog::new(alloc);
     let mut models = Items::new(alloc);
@@ -98,7 +98,7 @@ pub fn simulation_catalog(
     modules: &[VModule],
     entities: &[VEntity],
 ) -> Result<Simulated, Memory>
-    ensures { IfOk result (λ simulated. HaveOwnNames cells.now modules.now entities.now → simulated ≡ simulated_of cells.now modules.now entities.now) }
+    ensures { IfOk result (λ simulated. HaveOwnNames (all_described cells.now) modules.now entities.now → simulated ≡ simulated_of (all_described cells.now) modules.now entities.now) }
 {
     let files = ModelFiles {
         modules,

@@ -1,11 +1,21 @@
 //! Laws of the definitions, for the crates above. The functions do nothing.
-ghost use Rattle.simulation_catalog.specs.Sections.{SectionsCanBeCompared};
-ghost use Rattle.simulation_catalog.specs.Generated.{AcceptedAreReady, NoSectionDiffers};
+ghost use Rattle.simulation_catalog.specs.Sections.{SectionsCanBeCompared, DescribedAreCells};
+ghost use Rattle.simulation_catalog.specs.Generated.{DescribedKeepRules, AcceptedAreReady, NoSectionDiffers, NeverModelOrDiffer};
 
 /// Each section of a stimulus that is read over the catalog is on an accepted cell with a module and an entity that stand for it, and
 /// where all models are sound these three can be run on its changes: each has as many inputs and outputs as the cell has ports.
 pub fn sections_can_be_compared()
     ensures { SectionsCanBeCompared }
+{}
+
+/// What a list of cells is described to have at a place as an accepted cell are the data of the cell that stands there.
+pub fn described_are_cells()
+    ensures { DescribedAreCells }
+{}
+
+/// What cells are described as keeps the rules of cells.
+pub fn described_keep_rules()
+    ensures { DescribedKeepRules }
 {}
 
 /// Beside the models that are generated for the accepted cells of a library, with names of which none stands twice, each accepted cell
@@ -17,4 +27,10 @@ pub fn accepted_are_ready()
 /// Beside these models no section of any stimulus differs: the traces of the cell, of its module and of its entity are equal.
 pub fn no_section_differs()
     ensures { NoSectionDiffers }
+{}
+
+/// Beside these models a run over any stimulus ends neither for want of a model nor with traces that differ, and each section of a
+/// stimulus that is read says that the traces are equal.
+pub fn never_model_or_differ()
+    ensures { NeverModelOrDiffer }
 {}

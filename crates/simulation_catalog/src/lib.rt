@@ -1,20 +1,23 @@
-//! Simulating the cells of a library beside their Verilog modules and VITAL entities: what is kept of a cell, the cells as those that a
-//! stimulus may name, and the models of each.
+//! Simulating the cells of a library beside their Verilog modules and VITAL entities: the cells as those that a stimulus may name, the
+//! models of each, the stimulus, and what a simulation comes to.
 #![tactic(auto)]
 
 mod bad_lines;
 mod catalog;
 mod faults;
-mod kept;
 mod laws;
 mod model_files;
 mod numbers;
 mod pin_names;
 mod same_ports;
+mod stimulus_file;
 
 pub use bad_lines::{cause_status, write_cause};
 pub use catalog::{Simulated, simulation_catalog};
 pub use faults::Memory;
-pub use kept::LibraryCell;
-pub use laws::{accepted_are_ready, no_section_differs, sections_can_be_compared};
+pub use laws::{
+    accepted_are_ready, described_are_cells, described_keep_rules, never_model_or_differ,
+    no_section_differs, sections_can_be_compared,
+};
 pub use numbers::ModelNumbers;
+pub use stimulus_file::read_sections;

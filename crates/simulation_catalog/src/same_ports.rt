@@ -1,6 +1,7 @@
 //! Ports that a file has and those that it should have.
 ghost use Rattle.std.specs.Prelude.{◌≡◌, ◌<◌, length};
-ghost use Rattle.simulation_catalog.specs.SamePorts.{same_name, same_port, same_ports, agree};
+ghost use Rattle.section_runs.specs.Differences.{agree};
+ghost use Rattle.simulation_catalog.specs.SamePorts.{same_name, same_port, same_ports};
 
 use udp_tables::VPort;
 use vhdl_names::is_same;

@@ -1,0 +1,5 @@
+use Rattle.simulation_catalog.proofs.EqualEnds.{never_model_or_differ}
+use Rattle.simulation_catalog.proofs.laws.never_model_or_differ.Goals as goal
+
+pub returns : goal.returns
+returns c = never_model_or_differ

@@ -1,0 +1,136 @@
+//! The values of an output of a cell beside those of its view's.
+ghost use Rattle.std.specs.Prelude.{◌≡◌, ◌<◌, ◌≤◌, length, IfSome};
+ghost use Rattle.cell_machine.specs.CellData.{data_of};
+ghost use Rattle.cell_machine.specs.CellTrace.{sources_at};
+ghost use Rattle.scan_cells.specs.Views.{view_data};
+ghost use Rattle.scan_cells.specs.Comparison.{is_on_pin as is_on_pin_of, output_in_view as output_in_view_of, output_support, output_places, cell_output, view_output, point_difference, pair_difference, output_difference as output_difference_of};
+
+use crate::answers::Difference;
+use crate::places::places_of;
+use crate::points::{SupportPoint, is_inactive, point_count};
+use crate::sources::{Sources, in_cell, pin_in_cell};
+use crate::views::View;
+use cell_machine::{Cell, OutputPin, output_at};
+use trit_cubes::Trit;
+
+/// An output of a cell and one of its view, over the places of both supports.
+#[derive(Drop)]
+pub struct OutputPair<'a> {
+    cell: &'a Cell,
+    view: &'a View,
+    output: usize,
+    view_output: usize,
+    of_view: Sources,
+    places: Sources,
+    ghost in_cell: { output < length cell.now.outputs },
+    ghost in_view: { view_output < length view.now.cell.outputs },
+    ghost is_of_view: { of_view ≡ output_support (view_data view.now) view_output },
+    ghost are_places: { places ≡ output_places (data_of cell.now) (view_data view.now) output view_output },
+    ghost few_of_view: { length of_view ≤ 10 },
+    ghost few_places: { length places ≤ 20 },
+}
+
+impl<'a> OutputPair<'a> {
+    /// The outputs with these numbers.
+    fn of(cell: &'a Cell, view: &'a View, output: usize, view_output: usize) -> OutputPair<'a>
+        requires output { output < length cell.now.outputs }
+        requires view_output { view_output < length view.now.cell.outputs }
+        ensures cell { result.cell.now ≡ cell.now }
+        ensures view { result.view.now ≡ view.now }
+        ensures output { result.output ≡ output }
+        ensures view_output { result.view_output ≡ view_output }
+    {
+        let of_cell = cell.output_pin(output).support.as_slice();
+        let of_view = in_cell(view, view.cell.output_pin(view_output).support.as_slice());
+        let places = places_of(cell, of_cell, of_view.as_slice());
+        OutputPair {
+            cell,
+            view,
+            output,
+            view_output,
+            of_view,
+            places,
+        }
+    }
+
+    /// The value of the cell's output at a point.
+    #[tactic(auto, unfolding(crate::specs::Comparison::cell_output))]
+    fn cell_output(&self, point: u32) -> Trit
+        ensures { result ≡ cell_output (data_of self.now.cell.now) (view_data self.now.view.now) self.now.output self.now.view_output point }
+    {
+        let support = self.cell.output_pin(self.output).support.as_slice();
+        let point = SupportPoint::of(self.places.as_slice(), support, point);
+        output_at(self.cell, self.output, point.as_slice())
+    }
+
+    /// The value of the view's output at a point.
+    #[tactic(auto, unfolding(crate::specs::Comparison::view_output))]
+    fn view_output(&self, point: u32) -> Trit
+        ensures { result ≡ view_output (data_of self.now.cell.now) (view_data self.now.view.now) self.now.output self.now.view_output point }
+    {
+        let support = self.of_view.as_slice();
+        let point = SupportPoint::of(self.places.as_slice(), support, point);
+        output_at(&self.view.cell, self.view_output, point.as_slice())
+    }
+
+    /// The difference of the outputs at a point; none where the scan enable is active.
+    fn point_difference(&self, point: u32) -> Option<Difference>
+        ensures { result ≡ point_difference (data_of self.now.cell.now) (view_data self.now.view.now) self.now.output self.now.view_output point }
+    {
+        if !is_inactive(self.view, self.places.as_slice(), point) {
+            return None;
+        }
+        let difference = Difference {
+            part: self.cell.groups.len() + self.output + 1,
+            before: point,
+            after: point,
+            state: false,
+            of_cell: self.cell_output(point),
+            of_view: self.view_output(point),
+        };
+        difference.found()
+    }
+
+    /// The first difference of the outputs.
+    #[tactic(auto, using(crate::proofs::Ranges::first_turn, crate::proofs::Ranges::first_end))]
+    fn difference(&self) -> Option<Difference>
+        ensures { result ≡ pair_difference (data_of self.now.cell.now) (view_data self.now.view.now) self.now.output self.now.view_output }
+    {
+        for point in 0..point_count(self.places.as_slice().len()) {
+            if let Some(difference) = self.point_difference(point) {
+                return Some(difference);
+            }
+        }
+        None
+    }
+}
+
+/// Whether an output of a view stands on the pin with this number in the cell.
+fn is_on_pin(view: &View, pin: usize, output: &OutputPin) -> bool
+    ensures { result ≡ is_on_pin_of (view_data view.now) pin output.now }
+{
+    pin_in_cell(view, output.pin) == pin
+}
+
+/// The view's output on the pin with this number in the cell.
+fn output_in_view(view: &View, pin: usize) -> Option<usize>
+    ensures is { result ≡ output_in_view_of (view_data view.now) pin }
+    ensures within { IfSome result (λ j. j < length view.now.cell.outputs) }
+{
+    let outputs = view.cell.outputs.as_slice();
+    outputs
+        .iter()
+        .position(|output| is_on_pin(view, pin, output))
+}
+
+/// The first difference of the cell's output with this number and the view's output of the same name.
+pub fn output_difference(cell: &Cell, view: &View, output: usize) -> Option<Difference>
+    requires { output < length cell.now.outputs }
+    ensures { result ≡ output_difference_of (data_of cell.now) (view_data view.now) output }
+{
+    let pin = cell.output_pin(output).pin;
+    match output_in_view(view, pin) {
+        Some(other) => OutputPair::of(cell, view, output, other).difference(),
+        None => None,
+    }
+}

@@ -1,0 +1,142 @@
+//! The test cell of a cell, and what of it is read.
+ghost use Rattle.std.specs.Prelude.{◌≡◌, IfOk, OnOk, [], ◌++◌, ◌∷◌, map, filter, codes};
+ghost use Rattle.std.specs.Option.{option_copied};
+ghost use Rattle.liberty_groups.specs.declared.tree.Item.{out-Item};
+ghost use Rattle.scan_cells.specs.TestGroup.{test_of as test_of_cell, is_time as is_time_name, is_kept, untimed as untimed_group, view_group as view_group_of, name_value as name_value_of, untimed_item};
+ghost use Rattle.cell_parts.specs.Groups.{inner_groups as inner_groups_of};
+
+use cell_parts::fault::Memory;
+use cell_parts::groups::inner_groups;
+use liberty_groups::{Group, Item, Value};
+use sqlite_items::Items;
+use std::alloc::Global;
+use timing_arcs::inner_group;
+
+/// The test cell of a cell: of several the first. (Liberty Reference Manual, `test_cell` group.)
+pub fn test_of(cell: &Group) -> Option<&Group>
+    ensures { option_copied result ≡ test_of_cell cell.now }
+{
+    for item in cell.items.as_slice() {
+        if let Some(group) = inner_group(item, b"test_cell") {
+            return Some(group);
+        }
+    }
+    None
+}
+
+/// Whether an attribute of a pin says a time.
+fn is_time(name: &[u8]) -> bool
+    ensures { result ≡ is_time_name name.now }
+{
+    name == b"min_pulse_width_high".as_slice()
+        || name == b"min_pulse_width_low".as_slice()
+        || name == b"min_period".as_slice()
+}
+
+/// A copy of some bytes.
+fn copy_bytes(alloc: Global, bytes: &[u8]) -> Result<Items<u8>, Memory>
+    ensures { IfOk result (λ copy. copy ≡ bytes.now) }
+{
+    Ok(Items::from_slice(alloc, bytes)?)
+}
+
+/// A copy of some values.
+fn copy_values(alloc: Global, values: &[Value]) -> Result<Items<Value>, Memory>
+    ensures { IfOk result (λ copy. copy ≡ values.now) }
+{
+    let mut copy = Items::new(alloc);
+    for value in values {
+        let bytes = copy_bytes(alloc, value.bytes.as_slice())?;
+        let quoted = value.quoted;
+        copy.push(Value { bytes, quoted })?;
+    }
+    Ok(copy)
+}
+
+/// Adds a copy of a statement, where it is kept.
+fn add_kept(alloc: Global, kept: &mut Items<Item>, item: &Item) -> Result<(), Memory>
+    ensures { OnOk result (kept.new ≡ kept.old ++ filter (λ item. is_kept (out-Item item)) (item.now ∷ [])) }
+{
+    match item {
+        Item::Simple { name, value, at } => {
+            if !is_time(name.as_slice()) {
+                kept.push(Item::Simple {
+                    name: copy_bytes(alloc, name.as_slice())?,
+                    value: copy_values(alloc, value.as_slice())?,
+                    at: *at,
+                })?;
+            }
+        }
+        Item::Complex {
+            name,
+            arguments,
+            at,
+        } => {
+            kept.push(Item::Complex {
+                name: copy_bytes(alloc, name.as_slice())?,
+                arguments: copy_values(alloc, arguments.as_slice())?,
+                at: *at,
+            })?;
+        }
+        Item::Inner(_) => {}
+    }
+    Ok(())
+}
+
+/// Copies of the statements that are kept.
+fn copy_kept(alloc: Global, items: &[Item]) -> Result<Items<Item>, Memory>
+    ensures { IfOk result (λ kept. kept ≡ filter (λ item. is_kept (out-Item item)) items.now) }
+{
+    let mut kept = Items::new(alloc);
+    for item in items {
+        add_kept(alloc, &mut kept, item)?;
+    }
+    Ok(kept)
+}
+
+/// A group with what is kept of its statements.
+fn untimed(alloc: Global, group: &Group) -> Result<Group, Memory>
+    ensures { IfOk result (λ kept. kept ≡ untimed_group group.now) }
+{
+    Ok(Group {
+        name: copy_bytes(alloc, group.name.as_slice())?,
+        arguments: copy_values(alloc, group.arguments.as_slice())?,
+        items: copy_kept(alloc, group.items.as_slice())?,
+        at: group.at,
+    })
+}
+
+/// The groups of a test cell, each with what is kept of it.
+fn view_items(alloc: Global, test: &Group) -> Result<Items<Item>, Memory>
+    ensures { IfOk result (λ items. items ≡ map untimed_item (inner_groups_of test.now.items)) }
+{
+    let groups = inner_groups(alloc, test)?;
+    let mut items = Items::new(alloc);
+    for group in groups.as_slice() {
+        items.push(Item::Inner(untimed(alloc, group)?))?;
+    }
+    Ok(items)
+}
+
+/// The arguments of a group with this name.
+fn name_arguments(alloc: Global, name: &[u8]) -> Result<Items<Value>, Memory>
+    ensures { IfOk result (λ arguments. arguments ≡ name_value_of name.now ∷ []) }
+{
+    let bytes = copy_bytes(alloc, name)?;
+    let quoted = true;
+    let mut arguments = Items::new(alloc);
+    arguments.push(Value { bytes, quoted })?;
+    Ok(arguments)
+}
+
+/// A test cell as the group of a cell with this name.
+pub fn view_group(alloc: Global, name: &[u8], test: &Group) -> Result<Group, Memory>
+    ensures { IfOk result (λ group. group ≡ view_group_of name.now test.now) }
+{
+    Ok(Group {
+        name: copy_bytes(alloc, b"cell")?,
+        arguments: name_arguments(alloc, name)?,
+        items: view_items(alloc, test)?,
+        at: test.at,
+    })
+}

@@ -6,7 +6,7 @@ ghost use Rattle.cell_parts.specs.Building.{supports_of_both, second_support, st
 use bool_functions::Function;
 use cell_machine::{GroupKind, Source, StateGroup};
 use cell_parts::fault::Memory;
-use cell_parts::state_readings::insert;
+use cell_parts::supports::insert;
 use sqlite_items::Items;
 use std::alloc::Global;
 

@@ -135,7 +135,7 @@ all_items limit left next taken items d e all stands at_limit at_end rest told t
 -- The steps.
 
 -- before the first item
-pub follows_start : (limit : ℕ) (base : DeskState) (p : Progress) (c : CellCursor) → c.limit ≡ limit → Stands c [] [] → c.answer ≡ None
+unfoldable pub follows_start : (limit : ℕ) (base : DeskState) (p : Progress) (c : CellCursor) → c.limit ≡ limit → Stands c [] [] → c.answer ≡ None
     → Follows limit (base.left Library) base p p c
 follows_start limit base p c l h e = record {
   taken = [];
@@ -149,7 +149,7 @@ follows_start limit base p c l h e = record {
 }
 
 -- after one more item, with which nothing more was read
-pub follows_next : (limit : ℕ) (left : Option (List ℕ)) (now next new : DeskState) (p q r : Progress) (c d : CellCursor) (x : LibraryItem)
+unfoldable pub follows_next : (limit : ℕ) (left : Option (List ℕ)) (now next new : DeskState) (p q r : Progress) (c d : CellCursor) (x : LibraryItem)
     → Follows limit left now p q c → Moves c d now next (x ∷ []) → (IsAtEnd c now → IsAtEnd d next) → new.left Library ≡ next.left Library → r ≡ after_item q x
     → Follows limit left new p r d
 follows_next limit left now next new p q r c d x h m a same e = record {

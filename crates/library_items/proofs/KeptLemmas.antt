@@ -99,16 +99,21 @@ item_apart p (item.LeftOut at) h = h
 -- The loop.
 
 -- before the first item
+kept_first : (limit : ℕ) (base : DeskState) (c : CellCursor) → c.limit ≡ limit → Stands c [] [] → c.answer ≡ None → HasKept limit base base no_progress [] c
+unfolding IsDistinct follows_start
+kept_first limit base c l h e = record {
+  follows = follows_start limit base no_progress c l h e;
+  state = sym (took-zero base Library);
+  kept = refl;
+  names = refl;
+  own = tt;
+}
+
 pub kept_start : (limit : ℕ) (base : DeskState) (p : Progress) (cells : List CellEntry) (c : CellCursor) → c.limit ≡ limit → Stands c [] [] → c.answer ≡ None
     → p ≡ no_progress → cells ≡ [] → HasKept limit base base p cells c
-unfolding IsDistinct
-kept_start limit base p cells c l h e fresh none = record {
-  follows = subst (λ q. Follows limit (base.left Library) base no_progress q c) (sym fresh) (follows_start limit base no_progress c l h e);
-  state = sym (took-zero base Library);
-  kept = none;
-  names = ap cell_names none ∙ sym (ap (λ q. q.names) fresh);
-  own = rw fresh tt;
-}
+kept_start limit base p cells c l h e fresh none =
+    subst (λ q. HasKept limit base base q cells c) (sym fresh)
+    (subst (λ (kept : List CellEntry). HasKept limit base base no_progress kept c) (sym none) (kept_first limit base c l h e))
 
 -- some bytes of the library more
 more_taken : (base now next : DeskState) (a b : List ℕ) → now ≡ took base Library (length a) → next ≡ took now Library (length b)
@@ -120,6 +125,7 @@ more_taken base now next a b first second =
 pub kept_next : (limit : ℕ) (base now next : DeskState) (p q : Progress) (cells more : List CellEntry) (c d : CellCursor) (x : LibraryItem)
     → HasKept limit base now p cells c → Moves c d now next (x ∷ []) → (IsAtEnd c now → IsAtEnd d next) → more ≡ cells ++ item_kept p x → q ≡ after_item p x
     → HasKept limit base next q more d
+unfolding follows_next
 kept_next limit base now next p q cells more c d x h m a w e = record {
   follows = follows_next limit (base.left Library) now next next no_progress p q c d x h.follows m a refl e;
   state = more_taken base now next h.follows.taken m.taken h.state m.takes.state;

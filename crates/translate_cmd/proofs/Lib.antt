@@ -12,3 +12,8 @@ pub mod ReplayLemmas
 pub mod LanguageLemmas
 pub mod ItemsLemmas
 pub mod CompleteLemmas
+pub mod AcceptedCells
+pub mod ModuleTexts
+pub mod EntityNames
+pub mod EntityTexts
+pub mod ReadBack

@@ -7,3 +7,5 @@ pub mod Outcome
 pub mod Runs
 pub mod Reached
 pub mod Complete
+pub mod TranslatedModels
+pub mod TranslatedLaws

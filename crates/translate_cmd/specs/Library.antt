@@ -18,6 +18,7 @@ use Rattle.library_items.specs.declared.ending.Ending.TheVariants as ending
 use Rattle.command_outcomes.specs.Outcome.{Outcome, IsPartOf, IsAllOf}
 use Rattle.command_outcomes.specs.Written.{Written, in_verilog, in_report, joined, IsPart, wrote_all}
 use Rattle.library_items.specs.Progress.{no_progress, progress_after}
+use Rattle.library_items.specs.Endings.{library_limit, ending_of}
 use Rattle.translate_cmd.specs.Cells.{items_written}
 use Rattle.translate_cmd.specs.Models.{HoldsCells, HoldsModels}
 

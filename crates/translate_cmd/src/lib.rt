@@ -5,6 +5,7 @@ mod asked;
 mod cells;
 mod command;
 mod items;
+mod laws;
 mod library_file;
 mod replay;
 mod translate;
@@ -13,3 +14,7 @@ mod vital;
 
 pub use command::{run, run_sure};
 pub use command_outcomes::Status;
+pub use laws::{
+    entities_are_well_formed, libraries_read_back, modules_are_well_formed, verilog_is_of_modules,
+    vital_is_of_entities,
+};

@@ -1,6 +1,6 @@
 //! Theorems on the definitions. The functions do nothing.
 
-ghost use Rattle.translated_models.specs.Laws.{ModulesAreWellFormed, EntitiesAreWellFormed, VerilogIsOfModules, VitalIsOfEntities, LibrariesReadBack};
+ghost use Rattle.translate_cmd.specs.TranslatedLaws.{ModulesAreWellFormed, EntitiesAreWellFormed, VerilogIsOfModules, VitalIsOfEntities, LibrariesReadBack};
 
 /// For every library the list of the modules of its accepted cells is well formed: each is sound, its names are identifiers and
 /// no words, and no two of all their primitives and modules share a name.

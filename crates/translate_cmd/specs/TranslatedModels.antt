@@ -10,15 +10,9 @@ use Rattle.specify_blocks.specs.declared.model.VModule.{VModule}
 use Rattle.specify_blocks.specs.Generated.{module_of}
 use Rattle.vital_models.specs.declared.model.VEntity.{VEntity}
 use Rattle.generated_entities.specs.Library.{entities_of}
+use Rattle.library_items.specs.declared.progress.Progress.{Progress}
 use Rattle.library_items.specs.Progress.{no_progress, next_refusal, next_data, after_item}
 use Rattle.library_items.specs.Endings.{library_limit}
-
--- how far the items of a library are handled: what `no_progress` is, before the first of them
-abbrev TypeOf : {A : Type 0} → A → Type 0
-TypeOf {A} a = A
-
-abbrev pub Progress : Type 0
-Progress = TypeOf no_progress
 
 -- the next cell, where nothing refuses it
 abbrev pub cells_by : Progress → Group → Option Refusal → List CellData

@@ -7,11 +7,11 @@ use Rattle.written_modules.proofs.FileReading.{read_back}
 use Rattle.written_entities.specs.Laws.{entities_text}
 use Rattle.written_entities.proofs.EntityFile.{entities_read_back}
 use Rattle.translate_cmd.specs.Library.{translate_outcome}
-use Rattle.translated_models.specs.Models.{modules_in, entities_in}
-use Rattle.translated_models.specs.Laws.{ReadsAsModules, ReadsAsEntities, LibrariesReadBack}
-use Rattle.translated_models.proofs.AcceptedCells.{modules-well-formed, entities-well-formed}
-use Rattle.translated_models.proofs.ModuleTexts.{verilog-of-modules}
-use Rattle.translated_models.proofs.EntityTexts.{vital-of-entities}
+use Rattle.translate_cmd.specs.TranslatedModels.{modules_in, entities_in}
+use Rattle.translate_cmd.specs.TranslatedLaws.{ReadsAsModules, ReadsAsEntities, LibrariesReadBack}
+use Rattle.translate_cmd.proofs.AcceptedCells.{modules-well-formed, entities-well-formed}
+use Rattle.translate_cmd.proofs.ModuleTexts.{verilog-of-modules}
+use Rattle.translate_cmd.proofs.EntityTexts.{vital-of-entities}
 
 verilog_written : (bytes : List ℕ) → (translate_outcome bytes).text.verilog ≡ modules_text (modules_in bytes)
 unfolding modules_text

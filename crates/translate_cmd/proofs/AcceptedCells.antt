@@ -19,10 +19,11 @@ use Rattle.cell_cursor.proofs.Ascending.{items_few}
 use Rattle.generated_modules.specs.Accepted.{IsAccepted, AreAccepted}
 use Rattle.generated_modules.proofs.AcceptedCells.{accepted-of-one-library, accepted-well-formed}
 use Rattle.generated_entities.proofs.EntityLists as entity_lists
+use Rattle.library_items.specs.declared.progress.Progress.{Progress}
 use Rattle.library_items.specs.Progress.{no_progress, next_number, names_with, next_refusal, next_data, next_entity, entity_by, after_cell}
 use Rattle.library_items.specs.Endings.{library_limit}
-use Rattle.translated_models.specs.Models.{Progress, cells_by, accepted_cells, cells_in}
-use Rattle.translated_models.specs.Laws.{ModulesAreWellFormed, EntitiesAreWellFormed}
+use Rattle.translate_cmd.specs.TranslatedModels.{cells_by, accepted_cells, cells_in}
+use Rattle.translate_cmd.specs.TranslatedLaws.{ModulesAreWellFormed, EntitiesAreWellFormed}
 
 -- each of these names is among others
 abbrev AreAmong : List (List ℕ) → List (List ℕ) → Type 0

@@ -1,5 +1,5 @@
 -- The VHDL of a library is that of the entities of its accepted cells.
-use Rattle.std.proofs.Common.{◌≡◌, ℕ, List, [], ◌∷◌, ◌++◌, refl, sym, ap, subst, ◌∙◌, Option, Some, None}
+use Rattle.std.proofs.Common.{◌≡◌, ℕ, List, [], ◌∷◌, ◌++◌, refl, ap, subst, ◌∙◌, Option, Some, None}
 use Rattle.std.specs.List.{flat_map}
 use Rattle.std.proofs.lemmas.List.{append-nil}
 use Rattle.liberty_groups.specs.declared.tree.Group.{Group}
@@ -9,30 +9,23 @@ use Rattle.cell_cursor.specs.declared.item.LibraryItem.{LibraryItem}
 use Rattle.cell_cursor.specs.declared.item.LibraryItem.TheVariants as item
 use Rattle.cell_cursor.specs.Ends.{items_within}
 use Rattle.vhdl_names.specs.Kept.{lowered}
-use Rattle.vital_models.specs.Kept.{entity_name}
 use Rattle.vital_models.specs.Generated.{entity_of}
 use Rattle.vhdl_writer.specs.Entity.{entity_text}
 use Rattle.generated_entities.specs.Library.{entities_behind}
-use Rattle.library_items.specs.Progress.{no_progress, next_number, next_refusal, next_data, next_left_out, next_entity, entity_by, after_cell, after_item}
+use Rattle.library_items.specs.declared.progress.Progress.{Progress}
+use Rattle.library_items.specs.Progress.{no_progress, next_refusal, next_data, next_left_out, next_entity, entity_by, after_cell, after_item}
 use Rattle.translate_cmd.specs.Cells.{models_written, accepted_written, vital_text, written_by, items_written}
 use Rattle.library_items.specs.Endings.{library_limit}
 use Rattle.translate_cmd.specs.Library.{outcome_at}
-use Rattle.translated_models.specs.Models.{Progress, cells_by, accepted_cells}
-use Rattle.translated_models.specs.Laws.{VitalIsOfEntities}
-use Rattle.translated_models.proofs.EntityNames.{AreAlike, named_alike, alike_with}
+use Rattle.translate_cmd.specs.TranslatedModels.{cells_by, accepted_cells}
+use Rattle.translate_cmd.specs.TranslatedLaws.{VitalIsOfEntities}
+use Rattle.translate_cmd.proofs.EntityNames.{AreAlike, alike_with, its_entity}
 
 accepted_vital :
     (p : Progress) (group : Group)
     → (accepted_written (next_entity p group) (next_data p group) (next_left_out p group)).vital ≡ entity_text (entity_of (next_data p group) (next_entity p group))
 unfolding accepted_written models_written vital_text
 accepted_vital p group = append-nil (entity_text (entity_of (next_data p group) (next_entity p group)))
-
--- its name, where these names are given before it
-its_entity :
-    (p : Progress) (group : Group) (given : List (List ℕ)) → AreAlike given p.entities
-    → next_entity p group ≡ entity_name (next_data p group).number given (next_data p group).name
-unfolding next_entity next_data
-its_entity p group given h = sym (named_alike (next_number p) given p.entities (cell_name group) h)
 
 -- what is written for items as VHDL is the text of their entities
 abbrev Follow : List LibraryItem → Type 0

@@ -6,9 +6,12 @@ use Rattle.std.proofs.lemmas.List.Folds.{list_any-append}
 use Rattle.std.proofs.lemmas.Slice.Eq.{bytes_eq-Decides}
 use Rattle.bool_functions.specs.NameList.{number_of}
 use Rattle.bool_functions.proofs.NameLists.{position-none, position-some}
+use Rattle.liberty_groups.specs.declared.tree.Group.{Group}
+use Rattle.cell_parts.specs.Groups.{cell_name}
 use Rattle.vhdl_names.specs.Kept.{is_identifier, is_free, is_numbered, lowered}
 use Rattle.vital_models.specs.Kept.{is_kept_entity_name, entity_name}
-use Rattle.library_items.specs.Progress.{names_with}
+use Rattle.library_items.specs.declared.progress.Progress.{Progress}
+use Rattle.library_items.specs.Progress.{next_number, names_with, next_data, next_entity}
 
 -- two lists hold the same names
 abbrev pub AreAlike : List (List ℕ) → List (List ℕ) → Type 0
@@ -19,7 +22,7 @@ some_of : (o : Option ℕ) → (o ≡ None → ⊥) → is_some o ≡ true
 some_of None h = absurd (h refl)
 some_of (Some i) h = refl
 
-held : (names : List (List ℕ)) (name : List ℕ) → is_some (number_of names name) ≡ list_any (bytes_eq name) names
+pub held : (names : List (List ℕ)) (name : List ℕ) → is_some (number_of names name) ≡ list_any (bytes_eq name) names
 held names name = by (list_any (bytes_eq name) names) refl
   where
     by : (b : Bool) → list_any (bytes_eq name) names ≡ b → is_some (number_of names name) ≡ b
@@ -55,3 +58,10 @@ alike_with given known x h name =
         → (list_any (bytes_eq name) known || (bytes_eq name x || false)) ≡ list_any (bytes_eq name) (if b then known else known ++ x ∷ [])
     by true e = same_with known x name (sym e)
     by false e = sym (list_any-append (bytes_eq name) known (x ∷ []))
+
+-- the name of the next one, where these are given before it
+pub its_entity :
+    (p : Progress) (group : Group) (given : List (List ℕ)) → AreAlike given p.entities
+    → next_entity p group ≡ entity_name (next_data p group).number given (next_data p group).name
+unfolding next_entity next_data
+its_entity p group given h = sym (named_alike (next_number p) given p.entities (cell_name group) h)

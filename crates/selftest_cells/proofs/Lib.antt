@@ -1,0 +1,5 @@
+pub mod ProperChanges
+pub mod AlteredLists
+pub mod SoundModules
+pub mod SoundEntities
+pub mod SumLemmas

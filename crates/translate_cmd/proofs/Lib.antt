@@ -17,3 +17,6 @@ pub mod ModuleTexts
 pub mod EntityNames
 pub mod EntityTexts
 pub mod ReadBack
+pub mod KeptModels
+pub mod OwnNames
+pub mod Agreement

@@ -3,9 +3,12 @@ pub mod Cells
 pub mod Models
 pub mod Library
 pub mod LibraryAnswers
+pub mod ModelAnswers
+pub mod Simulate
 pub mod Outcome
 pub mod Runs
 pub mod Reached
 pub mod Complete
 pub mod TranslatedModels
 pub mod TranslatedLaws
+pub mod Agreement

@@ -1,6 +1,7 @@
 //! Theorems on the definitions. The functions do nothing.
 
 ghost use Rattle.translate_cmd.specs.TranslatedLaws.{ModulesAreWellFormed, EntitiesAreWellFormed, VerilogIsOfModules, VitalIsOfEntities, LibrariesReadBack};
+ghost use Rattle.translate_cmd.specs.Agreement.{OwnModelsAgree};
 
 /// For every library the list of the modules of its accepted cells is well formed: each is sound, its names are identifiers and
 /// no words, and no two of all their primitives and modules share a name.
@@ -29,4 +30,11 @@ pub fn vital_is_of_entities()
 /// IEEE 1076-1993, 1.1 and 1.2.)
 pub fn libraries_read_back()
     ensures { LibrariesReadBack }
+{}
+
+/// Whatever a library and a stimulus are, simulating the library beside the Verilog and the VHDL that translating it writes ends
+/// neither for want of a model nor with traces that differ. Where it is done, its report is the sections of the stimulus over the
+/// library's cells, each of which says that the traces of the cell, of its module and of its entity are equal.
+pub fn own_models_agree()
+    ensures { OwnModelsAgree }
 {}

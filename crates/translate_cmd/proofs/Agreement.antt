@@ -1,0 +1,183 @@
+-- A library simulated beside its own models ends neither for want of a model nor with traces that differ.
+use Rattle.std.proofs.Common.{◌≡◌, ℕ, Bool, true, false, List, [], length, nat_lt, ◌⊎◌, inl, inr, refl, sym, ap, subst, ◌∙◌, Result, Ok, Err}
+use Rattle.std.specs.Prelude.{◌≢◌, IfErr}
+use Rattle.cell_cursor.specs.Ends.{items_within}
+use Rattle.cell_reader.specs.LibraryCells.{CellEntry}
+use Rattle.specify_blocks.specs.declared.model.VModule.{VModule}
+use Rattle.udp_tables.specs.declared.models.ModelFault.{ModelFault}
+use Rattle.vital_models.specs.declared.model.VEntity.{VEntity}
+use Rattle.stimulus.specs.declared.faults.Cause.{Cause}
+use Rattle.stimulus.specs.declared.faults.Cause.TheVariants as cause
+use Rattle.stimulus.specs.declared.faults.StimulusFault.{StimulusFault}
+use Rattle.stimulus.specs.declared.faults.StimulusFault.TheVariants as fault
+use Rattle.stimulus.specs.declared.sections.Section.{Section}
+use Rattle.stimulus.specs.PortEntries.{NamedCells, listed}
+use Rattle.stimulus.specs.Stimulus.{stimulus_of}
+use Rattle.command_outcomes.specs.declared.status.Status.TheVariants as status
+use Rattle.command_outcomes.specs.Written.{nothing_written, in_report}
+use Rattle.command_outcomes.specs.Outcome.{Outcome}
+use Rattle.command_outcomes.specs.FileSteps.{FileStop, outcome_by}
+use Rattle.model_replay.specs.declared.refused.Refused.TheVariants as refused
+use Rattle.model_replay.specs.Languages.{Language}
+use Rattle.model_replay.specs.Answers.{models_or, models_answer}
+use Rattle.model_replay.specs.Outcome.{model_limit, stimulus_limit}
+use Rattle.model_languages.specs.Verilog.{verilog}
+use Rattle.model_languages.specs.Vital.{vital}
+use Rattle.simulation_catalog.specs.Catalog.{cells_named}
+use Rattle.simulation_catalog.specs.Comparisons.{sections_text}
+use Rattle.simulation_catalog.specs.FaultLines.{cause_status}
+use Rattle.simulation_catalog.specs.Generated.{modules_of, entities_of, HaveOwnModels, EndsEqual}
+use Rattle.simulation_catalog.specs.StimulusFile.{sections_or, answer_where, stimulus_answer}
+use Rattle.simulation_catalog.specs.Ends.{sections_outcome}
+use Rattle.simulation_catalog.proofs.EqualEnds.{never_model_or_differ}
+use Rattle.library_items.specs.declared.ending.Ending.{Ending}
+use Rattle.library_items.specs.declared.ending.Ending.TheVariants as ending
+use Rattle.library_items.specs.declared.ending.NotWhole.TheVariants as not_whole
+use Rattle.library_items.specs.Progress.{no_progress}
+use Rattle.library_items.specs.Endings.{library_limit, ending_of}
+use Rattle.library_items.specs.KeptCells.{kept_cells, cells_by}
+use Rattle.translate_cmd.specs.Library.{translate_outcome}
+use Rattle.translate_cmd.specs.LibraryAnswers.{library_answer, answer_by, library_stop}
+use Rattle.translate_cmd.specs.ModelAnswers.{stop_of, or_stop, model_answer}
+use Rattle.translate_cmd.specs.Simulate.{behind_cells, behind_modules, behind_entities}
+use Rattle.translate_cmd.specs.TranslatedModels.{modules_in, entities_in}
+use Rattle.translate_cmd.specs.Agreement.{Agrees, OwnModelsAgree}
+use Rattle.translate_cmd.proofs.AcceptedCells.{modules-well-formed, entities-well-formed}
+use Rattle.translate_cmd.proofs.KeptModels.{kept_modules, kept_entities, kept_rules}
+use Rattle.translate_cmd.proofs.OwnNames.{modules_apart, entities_apart}
+use Rattle.translate_cmd.proofs.ReadBack.{libraries-read-back}
+
+-- the cells that are kept of a library
+abbrev cells_of : List ℕ → List CellEntry
+cells_of library = kept_cells no_progress (items_within library_limit library)
+
+modules_are : (library : List ℕ) → modules_of (cells_of library) ≡ modules_in library
+modules_are library = kept_modules (items_within library_limit library) no_progress
+
+entities_are : (library : List ℕ) → entities_of (cells_of library) ≡ entities_in library
+entities_are library = kept_entities (items_within library_limit library) no_progress [] (λ name. refl)
+
+own_models : (library : List ℕ) → HaveOwnModels (cells_of library)
+own_models library = record {
+  modules = rw (modules_are library) (modules_apart (modules_in library) (modules-well-formed library));
+  entities = rw (entities_are library) (entities_apart (entities_in library) (entities-well-formed library));
+}
+
+-- at the stimulus
+ends_equal : (library stimulus : List ℕ)
+    → EndsEqual (cells_of library) (modules_in library) (entities_in library)
+    (stimulus_answer (cells_of library) (cells_named (cells_of library) (modules_in library) (entities_in library)) stimulus)
+ends_equal library stimulus =
+    subst
+    (λ (es : List VEntity). EndsEqual (cells_of library) (modules_in library) es (stimulus_answer (cells_of library) (cells_named (cells_of library) (modules_in library) es) stimulus))
+    (entities_are library)
+    (subst
+    (λ (ms : List VModule). EndsEqual (cells_of library) ms (entities_of (cells_of library)) (stimulus_answer (cells_of library) (cells_named (cells_of library) ms (entities_of (cells_of library))) stimulus))
+    (modules_are library)
+    (never_model_or_differ (cells_of library) stimulus (kept_rules (items_within library_limit library) no_progress) (own_models library)))
+
+-- Runs that end at a file.
+
+-- a run that a file ends otherwise
+stopped : (library stimulus : List ℕ) (binds : ℕ) (stop : FileStop) → stop.status ≢ status.Model → stop.status ≢ status.Differ → stop.status ≢ status.Done
+    → Agrees library stimulus (record { status = stop.status; binds = binds; text = nothing_written; faults = stop.line })
+stopped library stimulus binds stop f g h = record { not_model = f; not_differ = g; done = λ e. absurd (h e) }
+
+-- a file of models is read as these, or is too long
+abbrev IsReadAs : {T : Type 0} → T → Result T FileStop → Type 0
+IsReadAs value answer = (answer ≡ Ok value) ⊎ ((stop : FileStop) × (answer ≡ Err stop) × (stop.status ≡ status.TooLong))
+
+read_as : {M : Type 0} (l : Language M) (text : List ℕ) (models : List M) → l.text text ≡ Ok models → IsReadAs models (model_answer l text)
+unfolding model_answer
+read_as {M = M} l text models e = by (nat_lt model_limit (length text))
+  where
+    by : (more : Bool) → IsReadAs models (or_stop (models_answer l more text))
+    by true = inr (stop_of (refused.LongModel l.format), refl, refl)
+    by false = inl (ap (λ (r : Result (List M) ModelFault). or_stop (models_or l.format r)) e)
+
+-- a run goes on behind such a file
+goes_on : {T : Type 0} (library stimulus : List ℕ) (binds : ℕ) (value : T) (answer : Result T FileStop) (more : T → Outcome)
+    → IsReadAs value answer → Agrees library stimulus (more value) → Agrees library stimulus (outcome_by binds answer more)
+goes_on library stimulus binds value answer more (inl e) h = subst (λ r. Agrees library stimulus (outcome_by binds r more)) (sym e) h
+goes_on library stimulus binds value answer more (inr (stop, e, long)) h =
+    subst (λ r. Agrees library stimulus (outcome_by binds r more)) (sym e)
+    (stopped library stimulus binds stop (λ f. let clash = sym long ∙ f in absurd cc) (λ f. let clash = sym long ∙ f in absurd cc) (λ f. let clash = sym long ∙ f in absurd cc))
+
+-- The stimulus.
+
+bad_line_undone : (why : Cause) → cause_status why ≢ status.Done
+bad_line_undone cause.Form e = absurd cc
+bad_line_undone cause.UnknownCell e = absurd cc
+bad_line_undone (cause.RefusedCell number) e = absurd cc
+bad_line_undone (cause.VerilogPorts number) e = absurd cc
+bad_line_undone (cause.VitalPorts number) e = absurd cc
+bad_line_undone cause.Count e = absurd cc
+bad_line_undone cause.UnknownPin e = absurd cc
+bad_line_undone cause.OutputPin e = absurd cc
+bad_line_undone cause.Value e = absurd cc
+bad_line_undone cause.Time e = absurd cc
+
+-- a stimulus that is not read does not end a run as done
+abbrev IsUndone : {T : Type 0} → Result T FileStop → Type 0
+IsUndone answer = IfErr answer (λ stop. stop.status ≢ status.Done)
+
+fault_undone : (cells : List CellEntry) (answer : Result (List Section) StimulusFault) → IsUndone (sections_or cells answer)
+fault_undone cells (Ok sections) = tt
+fault_undone cells (Err (fault.Line line why)) = bad_line_undone why
+fault_undone cells (Err fault.Memory) = λ e. absurd cc
+
+stimulus_undone : (cells : List CellEntry) (catalog : NamedCells) (more : Bool) (bytes : List ℕ) → IsUndone (answer_where cells catalog more bytes)
+stimulus_undone cells catalog true bytes = λ e. absurd cc
+stimulus_undone cells catalog false bytes = fault_undone cells (stimulus_of (listed catalog) bytes)
+
+by_stimulus : (library stimulus : List ℕ) → library_answer library ≡ Ok (cells_of library) → (answer : Result (List Section) FileStop)
+    → stimulus_answer (cells_of library) (cells_named (cells_of library) (modules_in library) (entities_in library)) stimulus ≡ answer
+    → IsUndone answer → EndsEqual (cells_of library) (modules_in library) (entities_in library) answer
+    → Agrees library stimulus (outcome_by 4 answer (λ sections. sections_outcome (cells_of library) (modules_in library) (entities_in library) sections))
+by_stimulus library stimulus whole (Ok sections) e undone h = record {
+  not_model = λ f. let clash = sym h.done ∙ f in absurd cc;
+  not_differ = λ f. let clash = sym h.done ∙ f in absurd cc;
+  done = λ _. record {
+    report = sections_text (cells_of library) (modules_in library) (entities_in library) sections;
+    equal = record { cells = cells_of library; are_cells = whole; sections = sections; are_sections = e; equal = h.sections; report_is = refl };
+    outcome_is = λ i. record {
+      status = h.done i;
+      binds = 4;
+      text = in_report (sections_text (cells_of library) (modules_in library) (entities_in library) sections);
+      faults = [];
+    };
+  };
+}
+by_stimulus library stimulus whole (Err stop) e undone h = stopped library stimulus 4 stop h.not_model h.not_differ undone
+
+behind_the_models : (library stimulus : List ℕ) → library_answer library ≡ Ok (cells_of library)
+    → Agrees library stimulus (behind_entities (cells_of library) (modules_in library) (entities_in library) stimulus)
+behind_the_models library stimulus whole =
+    let catalog = cells_named (cells_of library) (modules_in library) (entities_in library) in
+    by_stimulus library stimulus whole (stimulus_answer (cells_of library) catalog stimulus) refl
+    (stimulus_undone (cells_of library) catalog (nat_lt stimulus_limit (length stimulus)) stimulus) (ends_equal library stimulus)
+
+-- The library and its models.
+
+behind_the_library : (library stimulus : List ℕ) → library_answer library ≡ Ok (cells_of library)
+    → Agrees library stimulus (behind_cells (cells_of library) (translate_outcome library).text.verilog (translate_outcome library).text.vital stimulus)
+behind_the_library library stimulus whole =
+    let back = libraries-read-back library in
+    goes_on library stimulus 2 (modules_in library) (model_answer verilog (translate_outcome library).text.verilog)
+    (λ modules. behind_modules (cells_of library) modules (translate_outcome library).text.vital stimulus)
+    (read_as verilog (translate_outcome library).text.verilog (modules_in library) back.verilog.answer)
+    (goes_on library stimulus 3 (entities_in library) (model_answer vital (translate_outcome library).text.vital)
+    (λ entities. behind_entities (cells_of library) (modules_in library) entities stimulus)
+    (read_as vital (translate_outcome library).text.vital (entities_in library) back.vital.answer) (behind_the_models library stimulus whole))
+
+by_end : (library stimulus : List ℕ) (end : Ending) → ending_of library_limit library ≡ end
+    → Agrees library stimulus
+    (outcome_by 1 (answer_by (cells_by end (cells_of library)))
+    (λ cells. behind_cells cells (translate_outcome library).text.verilog (translate_outcome library).text.vital stimulus))
+by_end library stimulus ending.Whole e = behind_the_library library stimulus (ap (λ (end : Ending). answer_by (cells_by end (cells_of library))) e)
+by_end library stimulus (ending.Fault fault) e =
+    stopped library stimulus 1 (library_stop (not_whole.Fault fault)) (λ f. absurd cc) (λ f. absurd cc) (λ f. absurd cc)
+by_end library stimulus ending.TooLong e = stopped library stimulus 1 (library_stop not_whole.TooLong) (λ f. absurd cc) (λ f. absurd cc) (λ f. absurd cc)
+
+pub own_models_agree : OwnModelsAgree
+own_models_agree library stimulus = by_end library stimulus (ending_of library_limit library) refl

@@ -1,0 +1,46 @@
+-- A library simulated with the models that translating it writes: what it comes to. This project's promise.
+use Rattle.std.specs.Prelude.{◌≡◌, ◌≢◌, ℕ, List, [], Ok, All}
+use Rattle.cell_reader.specs.LibraryCells.{CellEntry}
+use Rattle.stimulus.specs.declared.sections.Section.{Section}
+use Rattle.command_outcomes.specs.declared.status.Status.TheVariants as status
+use Rattle.command_outcomes.specs.Written.{in_report}
+use Rattle.command_outcomes.specs.Outcome.{Outcome}
+use Rattle.simulation_catalog.specs.Catalog.{cells_named}
+use Rattle.simulation_catalog.specs.Comparisons.{sections_text}
+use Rattle.simulation_catalog.specs.Generated.{SaysEqual}
+use Rattle.simulation_catalog.specs.StimulusFile.{stimulus_answer}
+use Rattle.translate_cmd.specs.Library.{translate_outcome}
+use Rattle.translate_cmd.specs.LibraryAnswers.{library_answer}
+use Rattle.translate_cmd.specs.Simulate.{simulate_outcome}
+use Rattle.translate_cmd.specs.TranslatedModels.{modules_in, entities_in}
+
+-- what simulating a library beside its own models comes to: the Verilog and the VHDL that translating it writes
+abbrev pub own_simulation : List ℕ → List ℕ → Outcome
+own_simulation library stimulus =
+    simulate_outcome library (translate_outcome library).text.verilog (translate_outcome library).text.vital stimulus
+
+-- This is the report of a simulation in which all traces are equal: the sections of the stimulus over the cells of the library beside
+-- its own models, in order, of which each says that its three traces are equal.
+pub record SaysAllEqual (library stimulus report : List ℕ) : Type 0 where
+  pub cells : List CellEntry
+  pub are_cells : library_answer library ≡ Ok cells
+  pub sections : List Section
+  pub are_sections : stimulus_answer cells (cells_named cells (modules_in library) (entities_in library)) stimulus ≡ Ok sections
+  pub equal : All (SaysEqual cells (modules_in library) (entities_in library)) sections
+  pub report_is : report ≡ sections_text cells (modules_in library) (entities_in library) sections
+
+-- a run that is done, with nothing but such a report
+pub record ReportsAllEqual (library stimulus : List ℕ) (outcome : Outcome) : Type 0 where
+  pub report : List ℕ
+  pub equal : SaysAllEqual library stimulus report
+  pub outcome_is : outcome ≡ record { status = status.Done; binds = 4; text = in_report report; faults = [] }
+
+-- A run that ends neither for want of a model nor with traces that differ; where it is done, it reports that all are equal.
+pub record Agrees (library stimulus : List ℕ) (outcome : Outcome) : Type 0 where
+  pub not_model : outcome.status ≢ status.Model
+  pub not_differ : outcome.status ≢ status.Differ
+  pub done : outcome.status ≡ status.Done → ReportsAllEqual library stimulus outcome
+
+-- Whatever the library and the stimulus are, simulating the library beside its own models comes to such a run.
+abbrev pub OwnModelsAgree : Type 0
+OwnModelsAgree = (library stimulus : List ℕ) → Agrees library stimulus (own_simulation library stimulus)

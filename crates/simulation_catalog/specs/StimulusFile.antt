@@ -56,8 +56,9 @@ pub record EndsBy {T : Type 0} (answer : Result T FileStop) (old new : DeskState
   pub part : (line ≡ []) ⊎ ((stop : FileStop) × (answer ≡ Err stop) × IsPrefix line stop.line)
   pub whole : IsTrue (is_decided end) → answer ≡ Err (record { status = end; line = line })
 
--- the count of faults rose where a call failed, and in every other case it stayed as it was
+-- the count of faults rose where a call failed, and in every other case it stayed as it was; words without a reading end no run here
 pub record StopsWithStatus (before now : ℕ) (end : Status) : Type 0 where
   pub later : before ≤ now
   pub kept : IsTrue (is_unfailed end) → now ≡ before
   pub outside : end ≡ status.Outside → Rose before now
+  pub usage : end ≡ status.Usage → ⊥

@@ -11,3 +11,6 @@ pub mod NextGate
 pub mod Reversed
 pub mod Spelled
 pub mod WellRead
+pub mod LoweredNames
+pub mod ValueCounts
+pub mod StoppedTurns

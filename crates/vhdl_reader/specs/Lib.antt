@@ -1,3 +1,4 @@
 pub mod Kinds
 pub mod Checked
 pub mod File
+pub mod Lowered

@@ -9,6 +9,7 @@ ghost use Rattle.rule_readers.specs.Words.{valued, begins_as};
 ghost use Rattle.vhdl_text.specs.VhdlChecks as spec;
 ghost use Rattle.vhdl_reader.specs.Checked.{checks_of, procedure_kind};
 
+use crate::declarations::Declarations;
 use crate::language::Vhdl;
 use crate::limits::{active_low, both_limits, enabled, one_limit, referred, tested, transition};
 use crate::pulses::{a_pulse, pulse_check};
@@ -17,7 +18,6 @@ use cell_machine::{CheckKind, Edge, Event};
 use rule_readers::{Cursor, Refusal, Stop};
 use sqlite_items::Items;
 use std::alloc::Global;
-use vhdl_text::Scope;
 use vhdl_tokens::is_same;
 use vital_models::HCheck;
 
@@ -95,7 +95,7 @@ fn check_with(
 fn next_tested(
     cursor: &mut Cursor<'_, Vhdl>,
     alloc: Global,
-    scope: &Scope,
+    scope: &Declarations,
     is_period: bool,
     word: &[u8],
     checks: &[HCheck],
@@ -110,7 +110,7 @@ fn next_tested(
 fn setup_hold(
     cursor: &mut Cursor<'_, Vhdl>,
     alloc: Global,
-    scope: &Scope,
+    scope: &Declarations,
     before: Checks,
 ) -> Result<Checks, Stop>
     ensures { ReadsAs checks_of (read (spec.setup_hold scope.now (checks_of before)) cursor.old) result cursor.new }
@@ -171,7 +171,7 @@ fn a_recovery_or_removal(cursor: &mut Cursor<'_, Vhdl>) -> Result<CheckKind, Sto
 fn recovery_removal(
     cursor: &mut Cursor<'_, Vhdl>,
     alloc: Global,
-    scope: &Scope,
+    scope: &Declarations,
     before: Checks,
 ) -> Result<Checks, Stop>
     ensures { ReadsAs checks_of (read (spec.recovery_removal scope.now (checks_of before)) cursor.old) result cursor.new }
@@ -208,7 +208,7 @@ fn recovery_removal(
 fn period_pulse(
     cursor: &mut Cursor<'_, Vhdl>,
     alloc: Global,
-    scope: &Scope,
+    scope: &Declarations,
     before: Checks,
 ) -> Result<Checks, Stop>
     ensures { ReadsAs checks_of (read (spec.period_pulse scope.now (checks_of before)) cursor.old) result cursor.new }
@@ -242,7 +242,7 @@ fn procedure_of(token: &[u8]) -> Option<Procedure>
 fn check(
     cursor: &mut Cursor<'_, Vhdl>,
     alloc: Global,
-    scope: &Scope,
+    scope: &Declarations,
     before: Checks,
     procedure: Procedure,
 ) -> Result<Checks, Stop>
@@ -260,7 +260,7 @@ fn check(
 fn more_checks(
     cursor: &mut Cursor<'_, Vhdl>,
     alloc: Global,
-    scope: &Scope,
+    scope: &Declarations,
     mut found: Checks,
 ) -> Result<Checks, Stop>
     ensures { ReadsAs checks_of (read (Many (λ _. begins_as spec.procedure_of) (spec.check scope.now) (checks_of found)) cursor.old) result cursor.new }
@@ -280,7 +280,7 @@ fn more_checks(
 pub fn all_checks(
     cursor: &mut Cursor<'_, Vhdl>,
     alloc: Global,
-    scope: &Scope,
+    scope: &Declarations,
 ) -> Result<Checks, Stop>
     ensures { ReadsAs checks_of (read (spec.checks scope.now) cursor.old) result cursor.new }
 {
@@ -289,6 +289,6 @@ pub fn all_checks(
         uses: Items::new(alloc),
     };
     let all = more_checks(cursor, alloc, scope, none)?;
-    cursor.go_on_where(all.checks.len() == scope.variables.periods.len())?;
+    cursor.go_on_where(all.checks.len() == scope.variables().periods.len())?;
     Ok(all)
 }

@@ -7,6 +7,7 @@ ghost use Rattle.rule_readers.specs.Reading.{Reads};
 ghost use Rattle.vhdl_text.specs.VhdlRules as rules;
 ghost use Rattle.vhdl_text.specs.VhdlNames as spec;
 
+use crate::declarations::Declarations;
 use crate::language::Vhdl;
 use crate::names::{input_of, is_listed, list_end};
 use crate::scope::width_at;
@@ -14,7 +15,7 @@ use crate::words::is_number_token;
 use rule_readers::{Cursor, Refusal, Stop};
 use sqlite_items::Items;
 use std::alloc::Global;
-use vhdl_text::{Columns, Scope};
+use vhdl_text::Columns;
 use vhdl_tokens::is_name;
 
 /// How many columns there are.
@@ -29,10 +30,10 @@ fn column_count(columns: &Columns) -> usize
 }
 
 /// Whether the violation may stand behind these columns.
-fn takes_violation(scope: &Scope, columns: &Columns) -> bool
+fn takes_violation(scope: &Declarations, columns: &Columns) -> bool
     ensures { result ≡ spec.takes_violation scope.now columns.now }
 {
-    scope.variables.periods.len() > 0 && column_count(columns) == 0
+    scope.variables().periods.len() > 0 && column_count(columns) == 0
 }
 
 /// One more column.
@@ -40,7 +41,7 @@ fn takes_violation(scope: &Scope, columns: &Columns) -> bool
 fn next_column(
     cursor: &mut Cursor<'_, Vhdl>,
     alloc: Global,
-    scope: &Scope,
+    scope: &Declarations,
     mut columns: Columns,
 ) -> Result<Columns, Stop>
     ensures { Reads (read (spec.next_column scope.now columns) cursor.old) result cursor.new }
@@ -52,10 +53,11 @@ fn next_column(
             inputs: Items::new(alloc),
         });
     }
-    if !is_name(cursor.bytes()) {
+    let token = cursor.bytes();
+    if !is_name(token) {
         return Err(Stop::Refused(Refusal::Syntax));
     }
-    let Some(port) = input_of(scope.ports.as_slice(), cursor.bytes()) else {
+    let Some(port) = input_of(scope.ports(), token)? else {
         return Err(Stop::Refused(Refusal::Undefined));
     };
     if is_listed(columns.inputs.as_slice(), port) {
@@ -71,7 +73,7 @@ fn next_column(
 fn more_columns(
     cursor: &mut Cursor<'_, Vhdl>,
     alloc: Global,
-    scope: &Scope,
+    scope: &Declarations,
     mut columns: Columns,
 ) -> Result<Columns, Stop>
     ensures { Reads (read (Many (λ _. rules.begins (codes ",")) (λ found _. spec.next_column scope.now found) columns) cursor.old) result cursor.new }
@@ -91,7 +93,7 @@ fn more_columns(
 fn several_columns(
     cursor: &mut Cursor<'_, Vhdl>,
     alloc: Global,
-    scope: &Scope,
+    scope: &Declarations,
     none: Columns,
 ) -> Result<Columns, Stop>
     ensures { Reads (read (rules.several_elements (spec.next_column scope.now) none) cursor.old) result cursor.new }
@@ -107,7 +109,7 @@ fn several_columns(
 fn listed_columns(
     cursor: &mut Cursor<'_, Vhdl>,
     alloc: Global,
-    scope: &Scope,
+    scope: &Declarations,
     none: Columns,
 ) -> Result<Columns, Stop>
     ensures { Reads (read (rules.elements (spec.next_column scope.now) none) cursor.old) result cursor.new }
@@ -125,7 +127,7 @@ fn listed_columns(
 pub fn columns_of(
     cursor: &mut Cursor<'_, Vhdl>,
     alloc: Global,
-    scope: &Scope,
+    scope: &Declarations,
     state: usize,
 ) -> Result<Columns, Stop>
     ensures { Reads (read (spec.columns_of scope.now state) cursor.old) result cursor.new }
@@ -137,7 +139,7 @@ pub fn columns_of(
     let columns = listed_columns(cursor, alloc, scope, none)?;
     list_end(
         cursor,
-        width_at(&scope.tables, state),
+        width_at(scope.tables(), state),
         column_count(&columns),
     )?;
     Ok(columns)

@@ -1,25 +1,58 @@
 //! The calls that look up conditions. (IEEE 1076.4-2000, VitalTruthTable.)
 
-ghost use Rattle.std.specs.Prelude.{◌≡◌, ◌+◌, min, length, slice_get, Option, option_copied, IfOk, codes};
+ghost use Rattle.std.specs.Prelude.{◌≡◌, ℕ, ◌+◌, ◌-◌, ◌<◌, ◌^◌, if◌then◌else◌, min, length, drop, slice_get, Option, Some, None, option_copied, IfOk, codes, decimal};
 ghost use Rattle.grammar_rules.specs.Rule.{Gives, Many, Then};
 ghost use Rattle.grammar_rules.specs.Reading.{read};
 ghost use Rattle.rule_readers.specs.Reading.{Reads};
+ghost use Rattle.vhdl_tokens.specs.Spelling.{is_same};
 ghost use Rattle.vhdl_text.specs.VhdlRules as rules;
 ghost use Rattle.vhdl_text.specs.VhdlNames as spec;
 
+use crate::declarations::Declarations;
 use crate::language::Vhdl;
-use crate::names::{input_of, inputs, list_end};
+use crate::names::{input_at, inputs, list_end};
+use crate::ports::Ports;
 use crate::symbols::truth_width;
 use crate::words::{expect_all, is_number_token, is_numbered, known_number};
-use rule_readers::{Cursor, Stop};
+use rule_readers::{Cursor, Refusal, Stop};
 use sqlite_items::Items;
 use std::alloc::{AllocError, Global};
-use udp_tables::VPort;
-use vhdl_text::Scope;
+use vhdl_tokens::is_name;
 
-/// Which, from 0, of the names of a word with the numbers from 1 up to this one a token is. An `Err` comes only where memory is
+/// The number that stands in a token behind as many bytes as a word has.
+fn number_behind(word: &[u8], token: &[u8]) -> Option<usize>
+    ensures { (n : ℕ) → n < 2 ^ 64 → drop (length word.now) token.now ≡ decimal n → result ≡ Some n }
+{
+    if token.len() < word.len() {
+        return None;
+    }
+    let (_, rest) = token.split_at(word.len());
+    match str::from_utf8(rest) {
+        Ok(digits) => digits.parse::<usize>().ok(),
+        Err(_) => None,
+    }
+}
+
+/// The place, from 0, of the name of a word with this number, where a token is that name. An `Err` comes only where memory is
 /// wanting.
-#[tactic(auto, using(crate::proofs::NextPlaces::place_step))]
+fn place_at(
+    alloc: Global,
+    word: &[u8],
+    number: usize,
+    token: &[u8],
+) -> Result<Option<usize>, AllocError>
+    requires { 0 < number }
+    ensures { IfOk result (λ place. place ≡ (if is_same token.now (rules.numbered word.now number) then Some (number - 1) else None)) }
+{
+    if is_numbered(alloc, token, word, number)? {
+        Ok(Some(number - 1))
+    } else {
+        Ok(None)
+    }
+}
+
+/// Which, from 0, of the names of a word with the numbers from 1 up to this one a token is, in time of no more than the token's
+/// length. An `Err` comes only where memory is wanting.
 pub fn place_among(
     alloc: Global,
     word: &[u8],
@@ -28,21 +61,27 @@ pub fn place_among(
 ) -> Result<Option<usize>, AllocError>
     ensures { IfOk result (λ place. place ≡ rules.place_among word.now most token.now) }
 {
-    for passed in 0..most {
-        let number = most - passed;
-        if is_numbered(alloc, token, word, number)? {
-            return Ok(Some(number - 1));
+    let lowered = token.to_ascii_lowercase(alloc)?;
+    match number_behind(word, &lowered) {
+        None => Ok(None),
+        Some(number) => {
+            if number == 0 {
+                return Ok(None);
+            }
+            if number > most {
+                return Ok(None);
+            }
+            place_at(alloc, word, number, token)
         }
     }
-    Ok(None)
 }
 
 /// The number, from 1, of the last condition that may be looked up behind these.
-fn last_condition(scope: &Scope, uses: &[Items<usize>]) -> usize
+fn last_condition(scope: &Declarations, uses: &[Items<usize>]) -> usize
     ensures { result ≡ min (length uses.now + 1) (length scope.now.tables.conditions) }
 {
     let next = uses.len() + 1;
-    let all = scope.tables.conditions.len();
+    let all = scope.tables().conditions.len();
     if next < all { next } else { all }
 }
 
@@ -50,7 +89,7 @@ fn last_condition(scope: &Scope, uses: &[Items<usize>]) -> usize
 /// wanting.
 fn condition_of(
     alloc: Global,
-    scope: &Scope,
+    scope: &Declarations,
     uses: &[Items<usize>],
     token: &[u8],
 ) -> Result<Option<usize>, AllocError>
@@ -63,7 +102,7 @@ fn condition_of(
 fn condition_name(
     cursor: &mut Cursor<'_, Vhdl>,
     alloc: Global,
-    scope: &Scope,
+    scope: &Declarations,
     uses: &[Items<usize>],
 ) -> Result<usize, Stop>
     ensures { Reads (read (rules.known (spec.condition_of scope.now uses.now)) cursor.old) result cursor.new }
@@ -73,10 +112,10 @@ fn condition_name(
 }
 
 /// How many inputs the table of a condition has.
-fn condition_width(scope: &Scope, condition: usize) -> usize
+fn condition_width(scope: &Declarations, condition: usize) -> usize
     ensures { result ≡ spec.condition_width scope.now condition }
 {
-    match scope.tables.conditions.get(condition) {
+    match scope.tables().conditions.get(condition) {
         Some(table) => truth_width(table.rows.as_slice()),
         None => 0,
     }
@@ -87,46 +126,31 @@ fn condition_width(scope: &Scope, condition: usize) -> usize
 fn first_list(
     cursor: &mut Cursor<'_, Vhdl>,
     alloc: Global,
-    scope: &Scope,
+    scope: &Declarations,
     condition: usize,
 ) -> Result<Items<usize>, Stop>
     ensures { Reads (read (spec.first_list scope.now condition) cursor.old) result cursor.new }
 {
-    let inputs = inputs(cursor, alloc, scope.ports.as_slice())?;
+    let inputs = inputs(cursor, alloc, scope.ports())?;
     list_end(cursor, condition_width(scope, condition), inputs.len())?;
     Ok(inputs)
 }
 
-/// Whether this thing stands at this place of a list.
-fn stands_at(inputs: &[usize], place: usize, port: usize) -> bool
-    ensures { result ≡ spec.stands_at inputs.now place port }
-{
-    match inputs.get(place) {
-        Some(input) => port == *input,
-        None => false,
-    }
-}
-
-/// The input of a name that stands at this place of a list.
-fn input_at(ports: &[VPort], inputs: &[usize], place: usize, name: &[u8]) -> Option<usize>
-    ensures { result ≡ spec.kept (spec.stands_at inputs.now place) (spec.input_of ports.now name.now) }
-{
-    match input_of(ports, name) {
-        Some(port) if stands_at(inputs, place, port) => Some(port),
-        _ => None,
-    }
-}
-
 /// The name of the input at this place of a list.
+#[tactic(auto, using(crate::proofs::NextWords::known_other))]
 fn same_name(
     cursor: &mut Cursor<'_, Vhdl>,
-    ports: &[VPort],
+    ports: &Ports,
     inputs: &[usize],
     place: usize,
 ) -> Result<usize, Stop>
     ensures { Reads (read (rules.known (λ x. spec.kept (spec.stands_at inputs.now place) (spec.input_of ports.now x))) cursor.old) result cursor.new }
 {
-    let found = input_at(ports, inputs, place, cursor.bytes());
+    let token = cursor.bytes();
+    if !is_name(token) {
+        return Err(Stop::Refused(Refusal::Syntax));
+    }
+    let found = input_at(ports, inputs, place, token)?;
     known_number(cursor, found)
 }
 
@@ -134,7 +158,7 @@ fn same_name(
 #[tactic(auto, unfolding(vhdl_text::specs::VhdlNames::same_input))]
 fn same_input(
     cursor: &mut Cursor<'_, Vhdl>,
-    ports: &[VPort],
+    ports: &Ports,
     inputs: &[usize],
     place: usize,
 ) -> Result<usize, Stop>
@@ -148,7 +172,7 @@ fn same_input(
 #[tactic(auto, using(rule_readers::proofs::Repeats::turn, crate::proofs::NextWords::choose_begun, crate::proofs::NextWords::choose_other))]
 fn more_same_inputs(
     cursor: &mut Cursor<'_, Vhdl>,
-    ports: &[VPort],
+    ports: &Ports,
     inputs: &[usize],
     mut place: usize,
 ) -> Result<usize, Stop>
@@ -168,7 +192,7 @@ fn more_same_inputs(
 #[tactic(auto, unfolding(vhdl_text::specs::VhdlRules::several_elements, vhdl_text::specs::VhdlRules::more_elements))]
 fn several_same_inputs(
     cursor: &mut Cursor<'_, Vhdl>,
-    ports: &[VPort],
+    ports: &Ports,
     inputs: &[usize],
 ) -> Result<usize, Stop>
     ensures { Reads (read (rules.several_elements (spec.same_input ports.now inputs.now) 0) cursor.old) result cursor.new }
@@ -183,7 +207,7 @@ fn several_same_inputs(
 #[tactic(auto, unfolding(vhdl_text::specs::VhdlRules::elements, vhdl_text::specs::VhdlRules::only_element), using(rule_readers::proofs::Choices::choose_by, rule_readers::proofs::Choices::choose_not_by))]
 fn same_inputs(
     cursor: &mut Cursor<'_, Vhdl>,
-    ports: &[VPort],
+    ports: &Ports,
     inputs: &[usize],
 ) -> Result<usize, Stop>
     ensures { Reads (read (rules.elements (spec.same_input ports.now inputs.now) 0) cursor.old) result cursor.new }
@@ -198,10 +222,14 @@ fn same_inputs(
 
 /// The list of inputs of a condition that was looked up before.
 #[tactic(auto, unfolding(vhdl_text::specs::VhdlNames::same_list))]
-fn same_list(cursor: &mut Cursor<'_, Vhdl>, scope: &Scope, inputs: &[usize]) -> Result<(), Stop>
+fn same_list(
+    cursor: &mut Cursor<'_, Vhdl>,
+    scope: &Declarations,
+    inputs: &[usize],
+) -> Result<(), Stop>
     ensures { Reads (read (spec.same_list scope.now inputs.now) cursor.old) result cursor.new }
 {
-    let count = same_inputs(cursor, scope.ports.as_slice(), inputs)?;
+    let count = same_inputs(cursor, scope.ports(), inputs)?;
     cursor.go_on_where(count == inputs.len())?;
     cursor.expect(b")")
 }
@@ -211,7 +239,7 @@ fn same_list(cursor: &mut Cursor<'_, Vhdl>, scope: &Scope, inputs: &[usize]) -> 
 fn list_of(
     cursor: &mut Cursor<'_, Vhdl>,
     alloc: Global,
-    scope: &Scope,
+    scope: &Declarations,
     mut uses: Items<Items<usize>>,
     condition: usize,
 ) -> Result<Items<Items<usize>>, Stop>
@@ -230,7 +258,7 @@ fn list_of(
 fn list_and_end(
     cursor: &mut Cursor<'_, Vhdl>,
     alloc: Global,
-    scope: &Scope,
+    scope: &Declarations,
     uses: Items<Items<usize>>,
     condition: usize,
 ) -> Result<(usize, Items<Items<usize>>), Stop>
@@ -246,7 +274,7 @@ fn list_and_end(
 pub fn condition(
     cursor: &mut Cursor<'_, Vhdl>,
     alloc: Global,
-    scope: &Scope,
+    scope: &Declarations,
     uses: Items<Items<usize>>,
 ) -> Result<(usize, Items<Items<usize>>), Stop>
     ensures { Reads (read (spec.condition scope.now uses) cursor.old) result cursor.new }

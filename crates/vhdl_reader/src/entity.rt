@@ -9,6 +9,8 @@ ghost use Rattle.vhdl_text.specs.VhdlText as spec;
 ghost use Rattle.vhdl_reader.specs.File.{entities_of};
 
 use crate::checks::{Checks, all_checks};
+use crate::declarations::Declarations;
+use crate::entities::Entities;
 use crate::header::packages;
 use crate::joined::entity_with;
 use crate::language::Vhdl;
@@ -21,8 +23,7 @@ use crate::words::expect_all;
 use rule_readers::{Cursor, Refusal, Stop};
 use sqlite_items::Items;
 use std::alloc::Global;
-use vhdl_text::Scope;
-use vhdl_tokens::is_same;
+use vhdl_tokens::is_name;
 use vital_models::VEntity;
 
 /// The wait at the end of a process in which these names are its sensitivity list, if there are none. (IEEE 1076-1993, 8.1.)
@@ -36,10 +37,10 @@ fn last_wait(cursor: &mut Cursor<'_, Vhdl>, names: &[Items<u8>]) -> Result<(), S
 }
 
 /// Whether each condition was looked up.
-fn are_looked_up(scope: &Scope, uses: &[Items<usize>]) -> bool
+fn are_looked_up(scope: &Declarations, uses: &[Items<usize>]) -> bool
     ensures { result ≡ spec.are_looked_up scope.now uses.now }
 {
-    uses.len() == scope.tables.conditions.len()
+    uses.len() == scope.tables().conditions.len()
 }
 
 /// The end of an entity, behind all look-ups of conditions.
@@ -47,12 +48,12 @@ fn are_looked_up(scope: &Scope, uses: &[Items<usize>]) -> bool
 fn entity_end(
     cursor: &mut Cursor<'_, Vhdl>,
     alloc: Global,
-    scope: &Scope,
+    scope: &Declarations,
     uses: &[Items<usize>],
 ) -> Result<(), Stop>
     ensures { Reads (read (spec.entity_end scope.now uses.now) cursor.old) result cursor.new }
 {
-    let inputs = input_names(alloc, scope.ports.as_slice())?;
+    let inputs = input_names(alloc, scope.ports().as_slice())?;
     last_wait(cursor, inputs.as_slice())?;
     cursor.expect_where(are_looked_up(scope, uses), Refusal::Undriven, b"end")?;
     expect_all(cursor, &[b"process", b";", b"end", b"vital", b";"])
@@ -60,7 +61,11 @@ fn entity_end(
 
 /// The statements behind these declarations: an entity.
 #[tactic(auto, unfolding(vhdl_text::specs::VhdlText::statements))]
-fn statements(cursor: &mut Cursor<'_, Vhdl>, alloc: Global, scope: Scope) -> Result<VEntity, Stop>
+fn statements(
+    cursor: &mut Cursor<'_, Vhdl>,
+    alloc: Global,
+    scope: Declarations,
+) -> Result<VEntity, Stop>
     ensures { Reads (read (spec.statements scope) cursor.old) result cursor.new }
 {
     let Checks { checks, uses } = all_checks(cursor, alloc, &scope)?;
@@ -69,31 +74,24 @@ fn statements(cursor: &mut Cursor<'_, Vhdl>, alloc: Global, scope: Scope) -> Res
     let values = values_of(cursor, alloc, &scope)?;
     let lines = output_lines(cursor, alloc, &scope, uses)?;
     entity_end(cursor, alloc, &scope, lines.1.as_slice())?;
-    let entity = entity_with(alloc, scope, checks, columns, values, lines)?;
+    let entity = entity_with(alloc, scope.into_scope(), checks, columns, values, lines)?;
     Ok(entity)
 }
 
-/// Whether a name is that of one of these entities.
-fn is_entity_name(entities: &[VEntity], name: &[u8]) -> bool
-    ensures { result ≡ rules.is_among (spec.entity_names entities.now) name.now }
-{
-    for entity in entities {
-        if is_same(name, entity.name.as_slice()) {
-            return true;
-        }
-    }
-    false
-}
-
 /// The name of an entity, where these entities stand before it.
+#[tactic(auto, using(crate::proofs::NextWords::named_other))]
 fn entity_name(
     cursor: &mut Cursor<'_, Vhdl>,
     alloc: Global,
-    entities: &[VEntity],
+    entities: &Entities,
 ) -> Result<Items<u8>, Stop>
     ensures { Reads (read (rules.new_name (spec.entity_names entities.now)) cursor.old) result cursor.new }
 {
-    let taken = is_entity_name(entities, cursor.bytes());
+    let token = cursor.bytes();
+    if !is_name(token) {
+        return Err(Stop::Refused(Refusal::Syntax));
+    }
+    let taken = entities.has(token)?;
     cursor.fresh_name(alloc, taken)
 }
 
@@ -102,7 +100,7 @@ fn entity_name(
 fn entity(
     cursor: &mut Cursor<'_, Vhdl>,
     alloc: Global,
-    entities: &[VEntity],
+    entities: &Entities,
 ) -> Result<VEntity, Stop>
     ensures { Reads (read (spec.entity (spec.entity_names entities.now)) cursor.old) result cursor.new }
 {
@@ -118,13 +116,12 @@ fn entity(
 fn next_entity(
     cursor: &mut Cursor<'_, Vhdl>,
     alloc: Global,
-    mut entities: Vec<VEntity>,
-) -> Result<Vec<VEntity>, Stop>
-    ensures { ReadsAs entities_of (read (spec.next_entity entities.items) cursor.old) result cursor.new }
+    entities: Entities,
+) -> Result<Entities, Stop>
+    ensures { Reads (read (spec.next_entity entities) cursor.old) result cursor.new }
 {
     let more = entity(cursor, alloc, &entities)?;
-    entities.push(more)?;
-    Ok(entities)
+    entities.with(more)
 }
 
 /// The entities behind these.
@@ -132,9 +129,9 @@ fn next_entity(
 fn more_entities(
     cursor: &mut Cursor<'_, Vhdl>,
     alloc: Global,
-    mut entities: Vec<VEntity>,
-) -> Result<Vec<VEntity>, Stop>
-    ensures { ReadsAs entities_of (read (Many (λ _. rules.begins (codes "library")) (λ found _. spec.next_entity found) entities.items) cursor.old) result cursor.new }
+    mut entities: Entities,
+) -> Result<Entities, Stop>
+    ensures { Reads (read (Many (λ _. rules.begins (codes "library")) (λ found _. spec.next_entity found) entities) cursor.old) result cursor.new }
 {
     for _turn in 0..cursor.left() {
         if !cursor.is_next(b"library") {
@@ -151,9 +148,9 @@ fn more_entities(
 pub fn file(cursor: &mut Cursor<'_, Vhdl>, alloc: Global) -> Result<Vec<VEntity>, Stop>
     ensures { ReadsAs entities_of (read spec.file cursor.old) result cursor.new }
 {
-    let entities = more_entities(cursor, alloc, Vec::new(alloc))?;
+    let entities = more_entities(cursor, alloc, Entities::new(alloc))?;
     if cursor.left() > 0 {
         return Err(Stop::Refused(Refusal::Syntax));
     }
-    Ok(entities)
+    Ok(entities.into_vec())
 }

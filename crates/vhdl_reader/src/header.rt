@@ -1,14 +1,16 @@
 //! The header of an entity: its packages, name and ports. (IEEE 1076-1993, 1.1, 1.2 and 10.4.)
 
-ghost use Rattle.std.specs.Prelude.{◌≡◌, [], codes};
+ghost use Rattle.std.specs.Prelude.{◌≡◌, [], true, false, IfOk, codes};
 ghost use Rattle.grammar_rules.specs.Rule.{Many};
 ghost use Rattle.grammar_rules.specs.Reading.{read};
 ghost use Rattle.rule_readers.specs.Reading.{Reads};
 ghost use Rattle.rule_readers.specs.Words.{valued};
+ghost use Rattle.vhdl_tokens.specs.Tokens.{is_name};
 ghost use Rattle.vhdl_text.specs.VhdlRules as rules;
 ghost use Rattle.vhdl_text.specs.VhdlDeclarations as spec;
 
 use crate::language::Vhdl;
+use crate::ports::Ports;
 use crate::words::expect_all;
 use rule_readers::{Cursor, Refusal, Stop};
 use sqlite_items::Items;
@@ -56,38 +58,29 @@ fn has_underscore(name: &[u8]) -> bool
     false
 }
 
-/// Whether a name is that of one of these ports.
-fn is_port_name(ports: &[VPort], name: &[u8]) -> bool
-    ensures { result ≡ rules.is_among (spec.port_names ports.now) name.now }
-{
-    for port in ports {
-        if is_same(name, port.name.as_slice()) {
-            return true;
-        }
-    }
-    false
-}
-
 /// The name of a port of this entity, behind these ports.
 #[tactic(auto, using(crate::proofs::NextWords::named_fits, crate::proofs::NextWords::named_foul, crate::proofs::NextWords::named_misfit, crate::proofs::NextWords::named_other))]
 fn port_name(
     cursor: &mut Cursor<'_, Vhdl>,
     alloc: Global,
     entity: &[u8],
-    ports: &[VPort],
+    ports: &Ports,
 ) -> Result<Items<u8>, Stop>
-    ensures { Reads (read (rules.named (spec.port_by entity.now ports.now)) cursor.old) result cursor.new }
+    ensures reads { Reads (read (rules.named (spec.port_by entity.now ports.now)) cursor.old) result cursor.new }
+    ensures named { IfOk result (λ name. is_name name ≡ true) }
+    ensures fresh { IfOk result (λ name. rules.is_among (spec.port_names ports.now) name ≡ false) }
 {
-    if !is_name(cursor.bytes()) {
+    let token = cursor.bytes();
+    if !is_name(token) {
         return Err(Stop::Refused(Refusal::Syntax));
     }
-    if has_underscore(cursor.bytes()) {
+    if has_underscore(token) {
         return Err(Stop::Refused(Refusal::Undefined));
     }
-    if is_same(cursor.bytes(), entity) || is_port_name(ports, cursor.bytes()) {
+    if is_same(token, entity) || ports.has(token)? {
         return Err(Stop::Refused(Refusal::Twice));
     }
-    let name = Items::from_slice(alloc, cursor.bytes())?;
+    let name = Items::from_slice(alloc, token)?;
     cursor.skip();
     Ok(name)
 }
@@ -123,16 +116,15 @@ fn next_port(
     cursor: &mut Cursor<'_, Vhdl>,
     alloc: Global,
     entity: &[u8],
-    mut ports: Items<VPort>,
-) -> Result<Items<VPort>, Stop>
+    ports: Ports,
+) -> Result<Ports, Stop>
     ensures { Reads (read (spec.next_port entity.now ports) cursor.old) result cursor.new }
 {
-    let name = port_name(cursor, alloc, entity, ports.as_slice())?;
+    let name = port_name(cursor, alloc, entity, &ports)?;
     cursor.expect(b":")?;
     let input = direction(cursor)?;
     cursor.expect(b"std_ulogic")?;
-    ports.push(VPort { name, input })?;
-    Ok(ports)
+    ports.with(VPort { name, input })
 }
 
 /// The ports of this entity behind these.
@@ -141,8 +133,8 @@ fn more_ports(
     cursor: &mut Cursor<'_, Vhdl>,
     alloc: Global,
     entity: &[u8],
-    mut ports: Items<VPort>,
-) -> Result<Items<VPort>, Stop>
+    mut ports: Ports,
+) -> Result<Ports, Stop>
     ensures { Reads (read (Many (λ _. rules.begins (codes ";")) (λ found _. spec.next_port entity.now found) ports) cursor.old) result cursor.new }
 {
     for _turn in 0..cursor.left() {
@@ -157,15 +149,11 @@ fn more_ports(
 
 /// The ports of this entity, behind their word.
 #[tactic(auto, unfolding(vhdl_text::specs::VhdlDeclarations::port_list))]
-fn port_list(
-    cursor: &mut Cursor<'_, Vhdl>,
-    alloc: Global,
-    entity: &[u8],
-) -> Result<Items<VPort>, Stop>
+fn port_list(cursor: &mut Cursor<'_, Vhdl>, alloc: Global, entity: &[u8]) -> Result<Ports, Stop>
     ensures { Reads (read (spec.port_list entity.now) cursor.old) result cursor.new }
 {
     cursor.expect(b"(")?;
-    let first = next_port(cursor, alloc, entity, Items::new(alloc))?;
+    let first = next_port(cursor, alloc, entity, Ports::new(alloc))?;
     let ports = more_ports(cursor, alloc, entity, first)?;
     expect_all(cursor, &[b")", b";"])?;
     Ok(ports)
@@ -173,15 +161,11 @@ fn port_list(
 
 /// The ports of this entity, if there are any.
 #[tactic(auto, unfolding(vhdl_text::specs::VhdlDeclarations::ports_of), using(crate::proofs::NextWords::choose_begun, crate::proofs::NextWords::choose_other))]
-fn ports_of(
-    cursor: &mut Cursor<'_, Vhdl>,
-    alloc: Global,
-    entity: &[u8],
-) -> Result<Items<VPort>, Stop>
+fn ports_of(cursor: &mut Cursor<'_, Vhdl>, alloc: Global, entity: &[u8]) -> Result<Ports, Stop>
     ensures { Reads (read (spec.ports_of entity.now) cursor.old) result cursor.new }
 {
     if !cursor.is_next(b"port") {
-        return Ok(Items::new(alloc));
+        return Ok(Ports::new(alloc));
     }
     cursor.skip();
     port_list(cursor, alloc, entity)
@@ -193,7 +177,7 @@ pub fn entity_header(
     cursor: &mut Cursor<'_, Vhdl>,
     alloc: Global,
     entity: &[u8],
-) -> Result<Items<VPort>, Stop>
+) -> Result<Ports, Stop>
     ensures { Reads (read (spec.entity_header entity.now) cursor.old) result cursor.new }
 {
     cursor.expect(b"is")?;

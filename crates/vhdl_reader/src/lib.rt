@@ -1,10 +1,13 @@
 //! Entities read from VHDL text, by recursive descent. (IEEE 1076-1993; IEEE 1076.4-2000.)
 #![tactic(auto)]
 
+mod assigned;
 mod checks;
 mod columns;
 mod conditions;
 mod constants;
+mod declarations;
+mod entities;
 mod entity;
 mod header;
 mod joined;
@@ -14,6 +17,7 @@ mod lines;
 mod names;
 mod outputs;
 mod paths;
+mod ports;
 mod process;
 mod pulses;
 mod read;

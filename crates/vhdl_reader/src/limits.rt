@@ -9,6 +9,7 @@ ghost use Rattle.vhdl_text.specs.VhdlRules as rules;
 ghost use Rattle.vhdl_text.specs.VhdlChecks as spec;
 
 use crate::conditions::condition;
+use crate::declarations::Declarations;
 use crate::language::Vhdl;
 use crate::names::an_input;
 use crate::words::{expect_all, numbered, time};
@@ -16,14 +17,13 @@ use cell_machine::{CheckKind, Edge};
 use rule_readers::{Cursor, Refusal, Stop};
 use sqlite_items::Items;
 use std::alloc::Global;
-use vhdl_text::Scope;
 use vhdl_tokens::{is_same, number_of};
 
 /// Whether the data of the check with this number, from 0, are of this type.
-fn has_data(scope: &Scope, is_period: bool, check: usize) -> bool
+fn has_data(scope: &Declarations, is_period: bool, check: usize) -> bool
     ensures { result ≡ spec.has_data scope.now is_period check }
 {
-    match scope.variables.periods.as_slice().get(check) {
+    match scope.variables().periods.as_slice().get(check) {
         Some(found) => if is_period { *found } else { !*found },
         None => false,
     }
@@ -33,13 +33,13 @@ fn has_data(scope: &Scope, is_period: bool, check: usize) -> bool
 fn report(
     cursor: &mut Cursor<'_, Vhdl>,
     alloc: Global,
-    scope: &Scope,
+    scope: &Declarations,
     check: usize,
 ) -> Result<(), Stop>
     requires { check < 2 ^ 63 }
     ensures { Reads (read (rules.this_name (rules.numbered_where (nat_lt check (length scope.now.variables.periods)) (codes "x_") (check + 1))) cursor.old) result cursor.new }
 {
-    let is_there = check < scope.variables.periods.len();
+    let is_there = check < scope.variables().periods.len();
     numbered(cursor, alloc, is_there, b"x_", check + 1)
 }
 
@@ -47,7 +47,7 @@ fn report(
 fn data(
     cursor: &mut Cursor<'_, Vhdl>,
     alloc: Global,
-    scope: &Scope,
+    scope: &Declarations,
     is_period: bool,
     check: usize,
 ) -> Result<(), Stop>
@@ -68,7 +68,7 @@ fn data(
 pub fn tested(
     cursor: &mut Cursor<'_, Vhdl>,
     alloc: Global,
-    scope: &Scope,
+    scope: &Declarations,
     is_period: bool,
     word: &[u8],
     check: usize,
@@ -81,18 +81,18 @@ pub fn tested(
     expect_all(cursor, &[b",", word, b"=>"])?;
     data(cursor, alloc, scope, is_period, check)?;
     expect_all(cursor, &[b",", b"TestSignal", b"=>"])?;
-    let pin = an_input(cursor, scope.ports.as_slice())?;
+    let pin = an_input(cursor, scope.ports())?;
     cursor.expect(b",")?;
     Ok(pin)
 }
 
 /// The input to which a check refers.
 #[tactic(auto, unfolding(vhdl_text::specs::VhdlChecks::referred))]
-pub fn referred(cursor: &mut Cursor<'_, Vhdl>, scope: &Scope) -> Result<usize, Stop>
+pub fn referred(cursor: &mut Cursor<'_, Vhdl>, scope: &Declarations) -> Result<usize, Stop>
     ensures { Reads (read (spec.referred scope.now) cursor.old) result cursor.new }
 {
     expect_all(cursor, &[b"RefSignal", b"=>"])?;
-    let pin = an_input(cursor, scope.ports.as_slice())?;
+    let pin = an_input(cursor, scope.ports())?;
     cursor.expect(b",")?;
     Ok(pin)
 }
@@ -102,7 +102,7 @@ pub fn referred(cursor: &mut Cursor<'_, Vhdl>, scope: &Scope) -> Result<usize, S
 fn enabling_condition(
     cursor: &mut Cursor<'_, Vhdl>,
     alloc: Global,
-    scope: &Scope,
+    scope: &Declarations,
     uses: Items<Items<usize>>,
 ) -> Result<(Option<usize>, Items<Items<usize>>), Stop>
     ensures { Reads (read (spec.enabling_condition scope.now uses) cursor.old) result cursor.new }
@@ -117,7 +117,7 @@ fn enabling_condition(
 pub fn enabled(
     cursor: &mut Cursor<'_, Vhdl>,
     alloc: Global,
-    scope: &Scope,
+    scope: &Declarations,
     uses: Items<Items<usize>>,
 ) -> Result<(Option<usize>, Items<Items<usize>>), Stop>
     ensures { Reads (read (spec.enabled scope.now uses) cursor.old) result cursor.new }

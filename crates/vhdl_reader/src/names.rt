@@ -1,30 +1,23 @@
 //! The inputs that statements name, and lists of them. (IEEE 1076-1993, 6.2 and 7.3.2.)
 
-ghost use Rattle.std.specs.Prelude.{◌≡◌, ℕ, nat_eq, List, [], codes};
+ghost use Rattle.std.specs.Prelude.{◌≡◌, ℕ, nat_eq, List, [], true, IfOk, codes};
 ghost use Rattle.std.specs.List.{list_any};
 ghost use Rattle.grammar_rules.specs.Rule.{Many};
 ghost use Rattle.grammar_rules.specs.Reading.{read};
 ghost use Rattle.rule_readers.specs.Reading.{Reads};
 ghost use Rattle.vital_models.specs.Sound as sound;
+ghost use Rattle.vhdl_tokens.specs.Tokens.{is_name};
 ghost use Rattle.vhdl_text.specs.VhdlRules as rules;
 ghost use Rattle.vhdl_text.specs.VhdlNames as spec;
 
 use crate::language::Vhdl;
+use crate::ports::Ports;
 use crate::words::{is_number_token, known_number};
 use rule_readers::{Cursor, Refusal, Stop};
 use sqlite_items::Items;
-use std::alloc::Global;
+use std::alloc::{AllocError, Global};
 use udp_tables::VPort;
-use vhdl_tokens::{is_name, is_same};
-
-/// The number of the port with this name.
-fn port_of(ports: &[VPort], name: &[u8]) -> Option<usize>
-    ensures { result ≡ spec.port_of ports.now name.now }
-{
-    ports
-        .iter()
-        .position(|port| is_same(name, port.name.as_slice()))
-}
+use vhdl_tokens::is_name;
 
 /// Whether this is the number of an input.
 fn is_input_port(ports: &[VPort], port: usize) -> bool
@@ -36,22 +29,53 @@ fn is_input_port(ports: &[VPort], port: usize) -> bool
     }
 }
 
-/// The number of the input with this name.
-pub fn input_of(ports: &[VPort], name: &[u8]) -> Option<usize>
-    ensures { result ≡ spec.input_of ports.now name.now }
+/// The number of the input with this name, in the time of one look-up. An `Err` comes only where memory is wanting.
+pub fn input_of(ports: &Ports, name: &[u8]) -> Result<Option<usize>, AllocError>
+    requires { is_name name.now ≡ true }
+    ensures { IfOk result (λ found. found ≡ spec.input_of ports.now name.now) }
 {
-    match port_of(ports, name) {
-        Some(port) if is_input_port(ports, port) => Some(port),
-        _ => None,
+    match ports.number(name)? {
+        Some(port) if is_input_port(ports.as_slice(), port) => Ok(Some(port)),
+        _ => Ok(None),
+    }
+}
+
+/// Whether this thing stands at this place of a list.
+fn stands_at(inputs: &[usize], place: usize, port: usize) -> bool
+    ensures { result ≡ spec.stands_at inputs.now place port }
+{
+    match inputs.get(place) {
+        Some(input) => port == *input,
+        None => false,
+    }
+}
+
+/// The input of a name that stands at this place of a list. An `Err` comes only where memory is wanting.
+pub fn input_at(
+    ports: &Ports,
+    inputs: &[usize],
+    place: usize,
+    name: &[u8],
+) -> Result<Option<usize>, AllocError>
+    requires { is_name name.now ≡ true }
+    ensures { IfOk result (λ found. found ≡ spec.kept (spec.stands_at inputs.now place) (spec.input_of ports.now name.now)) }
+{
+    match input_of(ports, name)? {
+        Some(port) if stands_at(inputs, place, port) => Ok(Some(port)),
+        _ => Ok(None),
     }
 }
 
 /// The name of an input.
-#[tactic(auto, unfolding(vhdl_text::specs::VhdlNames::an_input))]
-pub fn an_input(cursor: &mut Cursor<'_, Vhdl>, ports: &[VPort]) -> Result<usize, Stop>
+#[tactic(auto, unfolding(vhdl_text::specs::VhdlNames::an_input), using(crate::proofs::NextWords::known_other))]
+pub fn an_input(cursor: &mut Cursor<'_, Vhdl>, ports: &Ports) -> Result<usize, Stop>
     ensures { Reads (read (spec.an_input ports.now) cursor.old) result cursor.new }
 {
-    let found = input_of(ports, cursor.bytes());
+    let token = cursor.bytes();
+    if !is_name(token) {
+        return Err(Stop::Refused(Refusal::Syntax));
+    }
+    let found = input_of(ports, token)?;
     known_number(cursor, found)
 }
 
@@ -71,15 +95,16 @@ pub fn is_listed(numbers: &[usize], number: usize) -> bool
 #[tactic(auto, using(crate::proofs::NextWords::named_fits, crate::proofs::NextWords::named_foul, crate::proofs::NextWords::named_misfit, crate::proofs::NextWords::named_other))]
 fn listed_name(
     cursor: &mut Cursor<'_, Vhdl>,
-    ports: &[VPort],
+    ports: &Ports,
     inputs: &[usize],
 ) -> Result<usize, Stop>
     ensures { Reads (read (rules.named (spec.input_by ports.now inputs.now)) cursor.old) result cursor.new }
 {
-    if !is_name(cursor.bytes()) {
+    let token = cursor.bytes();
+    if !is_name(token) {
         return Err(Stop::Refused(Refusal::Syntax));
     }
-    let Some(port) = input_of(ports, cursor.bytes()) else {
+    let Some(port) = input_of(ports, token)? else {
         return Err(Stop::Refused(Refusal::Undefined));
     };
     if is_listed(inputs, port) {
@@ -93,7 +118,7 @@ fn listed_name(
 #[tactic(auto, unfolding(vhdl_text::specs::VhdlNames::listed_input))]
 fn listed_input(
     cursor: &mut Cursor<'_, Vhdl>,
-    ports: &[VPort],
+    ports: &Ports,
     mut inputs: Items<usize>,
 ) -> Result<Items<usize>, Stop>
     ensures { Reads (read (spec.listed_input ports.now inputs) cursor.old) result cursor.new }
@@ -107,7 +132,7 @@ fn listed_input(
 #[tactic(auto, using(rule_readers::proofs::Repeats::turn, crate::proofs::NextWords::choose_begun, crate::proofs::NextWords::choose_other))]
 fn more_inputs(
     cursor: &mut Cursor<'_, Vhdl>,
-    ports: &[VPort],
+    ports: &Ports,
     mut inputs: Items<usize>,
 ) -> Result<Items<usize>, Stop>
     ensures { Reads (read (Many (λ _. rules.begins (codes ",")) (λ found _. spec.listed_input ports.now found) inputs) cursor.old) result cursor.new }
@@ -127,7 +152,7 @@ fn more_inputs(
 fn several_inputs(
     cursor: &mut Cursor<'_, Vhdl>,
     alloc: Global,
-    ports: &[VPort],
+    ports: &Ports,
 ) -> Result<Items<usize>, Stop>
     ensures { Reads (read (rules.several_elements (spec.listed_input ports.now) []) cursor.old) result cursor.new }
 {
@@ -142,7 +167,7 @@ fn several_inputs(
 pub fn inputs(
     cursor: &mut Cursor<'_, Vhdl>,
     alloc: Global,
-    ports: &[VPort],
+    ports: &Ports,
 ) -> Result<Items<usize>, Stop>
     ensures { Reads (read (rules.elements (spec.listed_input ports.now) []) cursor.old) result cursor.new }
 {

@@ -11,6 +11,7 @@ ghost use Rattle.vital_models.specs.Sound.{output_ports_from};
 ghost use Rattle.vhdl_text.specs.VhdlRules as rules;
 ghost use Rattle.vhdl_text.specs.VhdlOutputs as spec;
 
+use crate::declarations::Declarations;
 use crate::language::Vhdl;
 use crate::paths::{Uses, paths};
 use crate::words::{expect_all, numbered};
@@ -18,7 +19,6 @@ use rule_readers::{Cursor, Refusal, Stop};
 use sqlite_items::Items;
 use std::alloc::{AllocError, Global};
 use udp_tables::VPort;
-use vhdl_text::Scope;
 use vhdl_tokens::{is_name, is_quoted, is_same, is_string};
 use vital_models::HPath;
 
@@ -36,22 +36,21 @@ pub fn output_ports(alloc: Global, ports: &[VPort]) -> Result<Items<usize>, Allo
 }
 
 /// Whether the output with this number, from 0, has data of its delays.
-fn has_glitch(scope: &Scope, output: usize) -> bool
+fn has_glitch(scope: &Declarations, output: usize) -> bool
     ensures { result ≡ spec.has_glitch scope.now output }
 {
-    match scope.variables.glitches.as_slice().get(output) {
+    match scope.variables().glitches.as_slice().get(output) {
         Some(has) => *has,
         None => false,
     }
 }
 
-/// The port of the output with this number, from 0, of these outputs.
-fn port_at<'a>(scope: &'a Scope, outputs: &[usize], output: usize) -> Option<&'a VPort>
-    requires { outputs.now ≡ output_ports_from 0 scope.now.ports }
+/// The port of the output with this number, from 0.
+fn port_at<'a>(scope: &'a Declarations, output: usize) -> Option<&'a VPort>
     ensures { option_map (λ (port : VPort). port.name) (option_copied result) ≡ spec.output_name scope.now output }
 {
-    match outputs.get(output) {
-        Some(port) => scope.ports.as_slice().get(*port),
+    match scope.ports().outputs().get(output) {
+        Some(port) => scope.ports().as_slice().get(*port),
         None => None,
     }
 }
@@ -59,14 +58,12 @@ fn port_at<'a>(scope: &'a Scope, outputs: &[usize], output: usize) -> Option<&'a
 /// The name of the output with this number, from 0.
 fn output_name(
     cursor: &mut Cursor<'_, Vhdl>,
-    scope: &Scope,
-    outputs: &[usize],
+    scope: &Declarations,
     output: usize,
 ) -> Result<(), Stop>
-    requires { outputs.now ≡ output_ports_from 0 scope.now.ports }
     ensures { Reads (read (rules.this_name (spec.output_name scope.now output)) cursor.old) result cursor.new }
 {
-    match port_at(scope, outputs, output) {
+    match port_at(scope, output) {
         Some(port) => cursor.this_name(port.name.as_slice()),
         None => Err(Stop::Refused(cursor.no_name())),
     }
@@ -75,17 +72,15 @@ fn output_name(
 /// The text of the name of the output with this number, from 0.
 fn output_text(
     cursor: &mut Cursor<'_, Vhdl>,
-    scope: &Scope,
-    outputs: &[usize],
+    scope: &Declarations,
     output: usize,
 ) -> Result<(), Stop>
-    requires { outputs.now ≡ output_ports_from 0 scope.now.ports }
     ensures { Reads (read (Token (spec.text_by (spec.output_name scope.now output)) Syntax) cursor.old) result cursor.new }
 {
     if !is_string(cursor.bytes()) {
         return Err(Stop::Refused(Refusal::Syntax));
     }
-    let Some(port) = port_at(scope, outputs, output) else {
+    let Some(port) = port_at(scope, output) else {
         return Err(Stop::Refused(Refusal::Undefined));
     };
     if !is_quoted(cursor.bytes(), port.name.as_slice()) {
@@ -99,7 +94,7 @@ fn output_text(
 fn glitch_name(
     cursor: &mut Cursor<'_, Vhdl>,
     alloc: Global,
-    scope: &Scope,
+    scope: &Declarations,
     output: usize,
 ) -> Result<(), Stop>
     requires { output < 2 ^ 63 }
@@ -121,20 +116,18 @@ fn value_name(cursor: &mut Cursor<'_, Vhdl>, alloc: Global, output: usize) -> Re
 fn path_call_start(
     cursor: &mut Cursor<'_, Vhdl>,
     alloc: Global,
-    scope: &Scope,
-    outputs: &[usize],
+    scope: &Declarations,
     output: usize,
 ) -> Result<(), Stop>
-    requires fits { output < 2 ^ 63 }
-    requires outputs { outputs.now ≡ output_ports_from 0 scope.now.ports }
+    requires { output < 2 ^ 63 }
     ensures { Reads (read (spec.path_call_start scope.now output) cursor.old) result cursor.new }
 {
     expect_all(cursor, &[b"(", b"OutSignal", b"=>"])?;
-    output_name(cursor, scope, outputs, output)?;
+    output_name(cursor, scope, output)?;
     expect_all(cursor, &[b",", b"GlitchData", b"=>"])?;
     glitch_name(cursor, alloc, scope, output)?;
     expect_all(cursor, &[b",", b"OutSignalName", b"=>"])?;
-    output_text(cursor, scope, outputs, output)?;
+    output_text(cursor, scope, output)?;
     expect_all(cursor, &[b",", b"OutTemp", b"=>"])?;
     value_name(cursor, alloc, output)?;
     cursor.expect(b",")
@@ -144,14 +137,12 @@ fn path_call_start(
 fn next_start(
     cursor: &mut Cursor<'_, Vhdl>,
     alloc: Global,
-    scope: &Scope,
-    outputs: &[usize],
+    scope: &Declarations,
     lines: &[Items<HPath>],
 ) -> Result<(), Stop>
-    requires { outputs.now ≡ output_ports_from 0 scope.now.ports }
     ensures { Reads (read (spec.path_call_start scope.now (length lines.now)) cursor.old) result cursor.new }
 {
-    path_call_start(cursor, alloc, scope, outputs, lines.len())
+    path_call_start(cursor, alloc, scope, lines.len())
 }
 
 /// The variable of the output behind these lines of other outputs.
@@ -170,15 +161,13 @@ fn next_value_name(
 pub fn path_call(
     cursor: &mut Cursor<'_, Vhdl>,
     alloc: Global,
-    scope: &Scope,
-    outputs: &[usize],
+    scope: &Declarations,
     before: (Items<Items<HPath>>, Uses),
 ) -> Result<(Items<Items<HPath>>, Uses), Stop>
-    requires { outputs.now ≡ output_ports_from 0 scope.now.ports }
     ensures { Reads (read (spec.path_call scope.now before) cursor.old) result cursor.new }
 {
     let (mut lines, uses) = before;
-    next_start(cursor, alloc, scope, outputs, lines.as_slice())?;
+    next_start(cursor, alloc, scope, lines.as_slice())?;
     expect_all(cursor, &[b"Paths", b"=>"])?;
     let (found, more) = paths(cursor, alloc, scope, uses)?;
     expect_all(
@@ -207,28 +196,21 @@ pub fn assignment(
 }
 
 /// Whether a name is that of the output with this number, from 0, which has no paths.
-fn is_unpathed(scope: &Scope, outputs: &[usize], output: usize, name: &[u8]) -> bool
-    requires { outputs.now ≡ output_ports_from 0 scope.now.ports }
+fn is_unpathed(scope: &Declarations, output: usize, name: &[u8]) -> bool
     ensures { result ≡ spec.is_unpathed scope.now output name.now }
 {
     if has_glitch(scope, output) {
         return false;
     }
-    match port_at(scope, outputs, output) {
+    match port_at(scope, output) {
         Some(port) => is_same(name, port.name.as_slice()),
         None => false,
     }
 }
 
 /// Whether a name is that of the output behind these lines of other outputs, which has no paths.
-pub fn is_next_unpathed(
-    scope: &Scope,
-    outputs: &[usize],
-    lines: &[Items<HPath>],
-    name: &[u8],
-) -> bool
-    requires { outputs.now ≡ output_ports_from 0 scope.now.ports }
+pub fn is_next_unpathed(scope: &Declarations, lines: &[Items<HPath>], name: &[u8]) -> bool
     ensures { result ≡ spec.is_unpathed scope.now (length lines.now) name.now }
 {
-    is_unpathed(scope, outputs, lines.len(), name)
+    is_unpathed(scope, lines.len(), name)
 }

@@ -8,13 +8,13 @@ ghost use Rattle.vhdl_text.specs.VhdlRules as rules;
 ghost use Rattle.vhdl_text.specs.VhdlOutputs as spec;
 
 use crate::conditions::condition;
+use crate::declarations::Declarations;
 use crate::language::Vhdl;
 use crate::names::an_input;
 use crate::words::{expect_all, this_number, time};
 use rule_readers::{Cursor, Stop};
 use sqlite_items::Items;
 use std::alloc::Global;
-use vhdl_text::Scope;
 use vital_models::{HGate, HPath};
 
 /// The lists of the inputs of the conditions that were looked up so far, in the order of the conditions' numbers.
@@ -25,7 +25,7 @@ pub type Uses = Items<Items<usize>>;
 fn next_zero(
     cursor: &mut Cursor<'_, Vhdl>,
     alloc: Global,
-    scope: &Scope,
+    scope: &Declarations,
     before: (Items<usize>, Uses),
 ) -> Result<(Items<usize>, Uses), Stop>
     ensures { Reads (read (spec.next_zero scope.now before) cursor.old) result cursor.new }
@@ -43,7 +43,7 @@ fn next_zero(
 fn more_zeros(
     cursor: &mut Cursor<'_, Vhdl>,
     alloc: Global,
-    scope: &Scope,
+    scope: &Declarations,
     mut found: (Items<usize>, Uses),
 ) -> Result<(Items<usize>, Uses), Stop>
     ensures { Reads (read (Many (λ _. rules.begins (codes "and")) (λ found _. spec.next_zero scope.now found) found) cursor.old) result cursor.new }
@@ -63,7 +63,7 @@ fn more_zeros(
 fn all_zero(
     cursor: &mut Cursor<'_, Vhdl>,
     alloc: Global,
-    scope: &Scope,
+    scope: &Declarations,
     first: (usize, Uses),
 ) -> Result<(HGate, Uses), Stop>
     ensures { Reads (read (spec.all_zero scope.now first) cursor.old) result cursor.new }
@@ -81,7 +81,7 @@ fn all_zero(
 fn gate_of_conditions(
     cursor: &mut Cursor<'_, Vhdl>,
     alloc: Global,
-    scope: &Scope,
+    scope: &Declarations,
     uses: Uses,
 ) -> Result<(HGate, Uses), Stop>
     ensures { Reads (read (spec.gate_of_conditions scope.now uses) cursor.old) result cursor.new }
@@ -110,7 +110,7 @@ fn always(cursor: &mut Cursor<'_, Vhdl>, uses: Uses) -> Result<(HGate, Uses), St
 fn gate_of(
     cursor: &mut Cursor<'_, Vhdl>,
     alloc: Global,
-    scope: &Scope,
+    scope: &Declarations,
     uses: Uses,
 ) -> Result<(HGate, Uses), Stop>
     ensures { Reads (read (spec.gate_of scope.now uses) cursor.old) result cursor.new }
@@ -147,7 +147,7 @@ fn path_number(cursor: &mut Cursor<'_, Vhdl>, paths: &[HPath]) -> Result<(), Sto
 fn next_path(
     cursor: &mut Cursor<'_, Vhdl>,
     alloc: Global,
-    scope: &Scope,
+    scope: &Declarations,
     before: (Items<HPath>, Uses),
 ) -> Result<(Items<HPath>, Uses), Stop>
     ensures { Reads (read (spec.next_path scope.now before) cursor.old) result cursor.new }
@@ -155,7 +155,7 @@ fn next_path(
     let (mut paths, uses) = before;
     path_number(cursor, paths.as_slice())?;
     expect_all(cursor, &[b"=>", b"("])?;
-    let from = an_input(cursor, scope.ports.as_slice())?;
+    let from = an_input(cursor, scope.ports())?;
     expect_all(cursor, &[b"'", b"last_event", b","])?;
     let (rise, fall) = delays(cursor)?;
     let (gate, more) = gate_of(cursor, alloc, scope, uses)?;
@@ -174,7 +174,7 @@ fn next_path(
 fn more_paths(
     cursor: &mut Cursor<'_, Vhdl>,
     alloc: Global,
-    scope: &Scope,
+    scope: &Declarations,
     mut found: (Items<HPath>, Uses),
 ) -> Result<(Items<HPath>, Uses), Stop>
     ensures { Reads (read (Many (λ _. rules.begins (codes ",")) (λ found _. spec.next_path scope.now found) found) cursor.old) result cursor.new }
@@ -194,7 +194,7 @@ fn more_paths(
 pub fn paths(
     cursor: &mut Cursor<'_, Vhdl>,
     alloc: Global,
-    scope: &Scope,
+    scope: &Declarations,
     uses: Uses,
 ) -> Result<(Items<HPath>, Uses), Stop>
     ensures { Reads (read (spec.paths scope.now uses) cursor.old) result cursor.new }

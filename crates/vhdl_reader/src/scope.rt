@@ -6,6 +6,7 @@ ghost use Rattle.rule_readers.specs.Reading.{Reads};
 ghost use Rattle.vhdl_text.specs.VhdlDeclarations as spec;
 
 use crate::constants::constants;
+use crate::declarations::Declarations;
 use crate::header::{architecture_header, entity_header};
 use crate::language::Vhdl;
 use crate::process::{input_names, sensitivity};
@@ -15,21 +16,7 @@ use crate::words::expect_all;
 use rule_readers::{Cursor, Stop};
 use sqlite_items::Items;
 use std::alloc::Global;
-use udp_tables::VPort;
-use vhdl_text::{Scope, Tables};
-
-/// How many outputs there are.
-pub fn output_count(ports: &[VPort]) -> usize
-    ensures { result ≡ spec.output_count ports.now }
-{
-    let mut count = 0;
-    for port in ports {
-        if !port.input {
-            count += 1;
-        }
-    }
-    count
-}
+use vhdl_text::Tables;
 
 /// How many columns the table of the state with this number has.
 pub fn width_at(tables: &Tables, state: usize) -> usize
@@ -47,7 +34,7 @@ pub fn scope_of(
     cursor: &mut Cursor<'_, Vhdl>,
     alloc: Global,
     name: Items<u8>,
-) -> Result<Scope, Stop>
+) -> Result<Declarations, Stop>
     ensures { Reads (read (spec.scope_of name) cursor.old) result cursor.new }
 {
     let ports = entity_header(cursor, alloc, name.as_slice())?;
@@ -56,12 +43,7 @@ pub fn scope_of(
     expect_all(cursor, &[b"begin", b"process"])?;
     let inputs = input_names(alloc, ports.as_slice())?;
     sensitivity(cursor, inputs.as_slice())?;
-    let variables = variables(cursor, alloc, ports.as_slice(), &tables)?;
+    let variables = variables(cursor, alloc, &ports, &tables)?;
     cursor.expect(b"begin")?;
-    Ok(Scope {
-        name,
-        ports,
-        tables,
-        variables,
-    })
+    Ok(Declarations::new(name, ports, tables, variables))
 }

@@ -1,14 +1,16 @@
 //! The inputs and states that the calls of tables of outputs list. (IEEE 1076.4-2000, VitalTruthTable; IEEE 1076-1993, 7.3.2.)
 
-ghost use Rattle.std.specs.Prelude.{◌≡◌, [], IfOk, codes};
+ghost use Rattle.std.specs.Prelude.{◌≡◌, [], true, IfOk, codes};
 ghost use Rattle.std.specs.List.{list_any};
 ghost use Rattle.grammar_rules.specs.Rule.{Many};
 ghost use Rattle.grammar_rules.specs.Reading.{read};
 ghost use Rattle.rule_readers.specs.Reading.{Reads};
+ghost use Rattle.vhdl_tokens.specs.Tokens.{is_name};
 ghost use Rattle.vhdl_text.specs.VhdlRules as rules;
 ghost use Rattle.vhdl_text.specs.VhdlNames as names;
 
 use crate::conditions::place_among;
+use crate::declarations::Declarations;
 use crate::language::Vhdl;
 use crate::names::{input_of, list_end};
 use crate::words::is_number_token;
@@ -16,7 +18,6 @@ use cell_machine::Source;
 use rule_readers::{Cursor, Refusal, Stop};
 use sqlite_items::Items;
 use std::alloc::{AllocError, Global};
-use vhdl_text::Scope;
 use vhdl_tokens::is_name;
 
 /// Whether two sources are the same.
@@ -43,13 +44,18 @@ fn has_source(sources: &[Source], source: Source) -> bool
 }
 
 /// The source of a name: an input, or a state. An `Err` comes only where memory is wanting.
-fn source_of(alloc: Global, scope: &Scope, token: &[u8]) -> Result<Option<Source>, AllocError>
+fn source_of(
+    alloc: Global,
+    scope: &Declarations,
+    token: &[u8],
+) -> Result<Option<Source>, AllocError>
+    requires { is_name token.now ≡ true }
     ensures { IfOk result (λ found. found ≡ names.source_of scope.now token.now) }
 {
-    if let Some(port) = input_of(scope.ports.as_slice(), token) {
+    if let Some(port) = input_of(scope.ports(), token)? {
         return Ok(Some(Source::Pin(port)));
     }
-    match place_among(alloc, b"s_", scope.tables.states.len(), token)? {
+    match place_among(alloc, b"s_", scope.tables().states.len(), token)? {
         Some(state) => Ok(Some(Source::State(state))),
         None => Ok(None),
     }
@@ -60,15 +66,16 @@ fn source_of(alloc: Global, scope: &Scope, token: &[u8]) -> Result<Option<Source
 fn source_name(
     cursor: &mut Cursor<'_, Vhdl>,
     alloc: Global,
-    scope: &Scope,
+    scope: &Declarations,
     sources: &[Source],
 ) -> Result<Source, Stop>
     ensures { Reads (read (rules.named (λ x. names.listed_by (λ s. list_any (names.same_source s) sources.now) (names.source_of scope.now x))) cursor.old) result cursor.new }
 {
-    if !is_name(cursor.bytes()) {
+    let token = cursor.bytes();
+    if !is_name(token) {
         return Err(Stop::Refused(Refusal::Syntax));
     }
-    let Some(source) = source_of(alloc, scope, cursor.bytes())? else {
+    let Some(source) = source_of(alloc, scope, token)? else {
         return Err(Stop::Refused(Refusal::Undefined));
     };
     if has_source(sources, source) {
@@ -83,7 +90,7 @@ fn source_name(
 fn listed_source(
     cursor: &mut Cursor<'_, Vhdl>,
     alloc: Global,
-    scope: &Scope,
+    scope: &Declarations,
     mut sources: Items<Source>,
 ) -> Result<Items<Source>, Stop>
     ensures { Reads (read (names.listed_source scope.now sources) cursor.old) result cursor.new }
@@ -98,7 +105,7 @@ fn listed_source(
 fn more_sources(
     cursor: &mut Cursor<'_, Vhdl>,
     alloc: Global,
-    scope: &Scope,
+    scope: &Declarations,
     mut sources: Items<Source>,
 ) -> Result<Items<Source>, Stop>
     ensures { Reads (read (Many (λ _. rules.begins (codes ",")) (λ found _. names.listed_source scope.now found) sources) cursor.old) result cursor.new }
@@ -118,7 +125,7 @@ fn more_sources(
 fn several_sources(
     cursor: &mut Cursor<'_, Vhdl>,
     alloc: Global,
-    scope: &Scope,
+    scope: &Declarations,
 ) -> Result<Items<Source>, Stop>
     ensures { Reads (read (rules.several_elements (names.listed_source scope.now) []) cursor.old) result cursor.new }
 {
@@ -133,7 +140,7 @@ fn several_sources(
 fn sources(
     cursor: &mut Cursor<'_, Vhdl>,
     alloc: Global,
-    scope: &Scope,
+    scope: &Declarations,
 ) -> Result<Items<Source>, Stop>
     ensures { Reads (read (rules.elements (names.listed_source scope.now) []) cursor.old) result cursor.new }
 {
@@ -150,7 +157,7 @@ fn sources(
 pub fn sources_of(
     cursor: &mut Cursor<'_, Vhdl>,
     alloc: Global,
-    scope: &Scope,
+    scope: &Declarations,
     width: usize,
 ) -> Result<Items<Source>, Stop>
     ensures { Reads (read (names.sources_of scope.now width) cursor.old) result cursor.new }

@@ -9,12 +9,13 @@ ghost use Rattle.vhdl_text.specs.VhdlNames as names;
 ghost use Rattle.vhdl_text.specs.VhdlChecks as spec;
 
 use crate::columns::columns_of;
+use crate::declarations::Declarations;
 use crate::language::Vhdl;
 use crate::words::{expect_all, numbered};
 use rule_readers::{Cursor, Stop};
 use sqlite_items::Items;
 use std::alloc::Global;
-use vhdl_text::{Columns, Scope};
+use vhdl_text::Columns;
 
 /// The variable that tells of the check with this number, from 0, of so many.
 fn report(
@@ -85,10 +86,14 @@ fn any_report(cursor: &mut Cursor<'_, Vhdl>, alloc: Global, checks: usize) -> Re
 
 /// What the violation is, where there are checks.
 #[tactic(auto, using(crate::proofs::NextChecks::violation_some))]
-pub fn violation(cursor: &mut Cursor<'_, Vhdl>, alloc: Global, scope: &Scope) -> Result<(), Stop>
+pub fn violation(
+    cursor: &mut Cursor<'_, Vhdl>,
+    alloc: Global,
+    scope: &Declarations,
+) -> Result<(), Stop>
     ensures { Reads (read (spec.violation (length scope.now.variables.periods)) cursor.old) result cursor.new }
 {
-    let checks = scope.variables.periods.as_slice().len();
+    let checks = scope.variables().periods.as_slice().len();
     if checks == 0 {
         return Ok(());
     }
@@ -99,13 +104,13 @@ pub fn violation(cursor: &mut Cursor<'_, Vhdl>, alloc: Global, scope: &Scope) ->
 fn state_name(
     cursor: &mut Cursor<'_, Vhdl>,
     alloc: Global,
-    scope: &Scope,
+    scope: &Declarations,
     state: usize,
 ) -> Result<(), Stop>
     requires { state < 2 ^ 63 }
     ensures { Reads (read (rules.this_name (rules.numbered_where (nat_lt state (length scope.now.tables.states)) (codes "s_") (state + 1))) cursor.old) result cursor.new }
 {
-    let is_there = state < scope.tables.states.len();
+    let is_there = state < scope.tables().states.len();
     numbered(cursor, alloc, is_there, b"s_", state + 1)
 }
 
@@ -113,13 +118,13 @@ fn state_name(
 fn previous_name(
     cursor: &mut Cursor<'_, Vhdl>,
     alloc: Global,
-    scope: &Scope,
+    scope: &Declarations,
     state: usize,
 ) -> Result<(), Stop>
     requires { state < 2 ^ 63 }
     ensures { Reads (read (rules.this_name (rules.numbered_where (nat_lt state (length scope.now.tables.states)) (codes "p_") (state + 1))) cursor.old) result cursor.new }
 {
-    let is_there = state < scope.tables.states.len();
+    let is_there = state < scope.tables().states.len();
     numbered(cursor, alloc, is_there, b"p_", state + 1)
 }
 
@@ -127,13 +132,13 @@ fn previous_name(
 fn table_name(
     cursor: &mut Cursor<'_, Vhdl>,
     alloc: Global,
-    scope: &Scope,
+    scope: &Declarations,
     state: usize,
 ) -> Result<(), Stop>
     requires { state < 2 ^ 63 }
     ensures { Reads (read (rules.this_name (rules.numbered_where (nat_lt state (length scope.now.tables.states)) (codes "k_") (state + 1))) cursor.old) result cursor.new }
 {
-    let is_there = state < scope.tables.states.len();
+    let is_there = state < scope.tables().states.len();
     numbered(cursor, alloc, is_there, b"k_", state + 1)
 }
 
@@ -142,7 +147,7 @@ fn table_name(
 fn state_call_start(
     cursor: &mut Cursor<'_, Vhdl>,
     alloc: Global,
-    scope: &Scope,
+    scope: &Declarations,
     state: usize,
 ) -> Result<(), Stop>
     requires { state < 2 ^ 63 }
@@ -161,7 +166,7 @@ fn state_call_start(
 fn next_start(
     cursor: &mut Cursor<'_, Vhdl>,
     alloc: Global,
-    scope: &Scope,
+    scope: &Declarations,
     states: &[Columns],
 ) -> Result<(), Stop>
     ensures { Reads (read (spec.state_call_start scope.now (length states.now)) cursor.old) result cursor.new }
@@ -173,7 +178,7 @@ fn next_start(
 fn next_columns(
     cursor: &mut Cursor<'_, Vhdl>,
     alloc: Global,
-    scope: &Scope,
+    scope: &Declarations,
     states: &[Columns],
 ) -> Result<Columns, Stop>
     ensures { Reads (read (names.columns_of scope.now (length states.now)) cursor.old) result cursor.new }
@@ -186,7 +191,7 @@ fn next_columns(
 fn state_call(
     cursor: &mut Cursor<'_, Vhdl>,
     alloc: Global,
-    scope: &Scope,
+    scope: &Declarations,
     mut states: Items<Columns>,
 ) -> Result<Items<Columns>, Stop>
     ensures { Reads (read (spec.state_call scope.now states) cursor.old) result cursor.new }
@@ -203,7 +208,7 @@ fn state_call(
 fn more_state_calls(
     cursor: &mut Cursor<'_, Vhdl>,
     alloc: Global,
-    scope: &Scope,
+    scope: &Declarations,
     mut states: Items<Columns>,
 ) -> Result<Items<Columns>, Stop>
     ensures { Reads (read (Many (λ _. rules.begins (codes "VitalStateTable")) (λ found _. spec.state_call scope.now found) states) cursor.old) result cursor.new }
@@ -223,11 +228,11 @@ fn more_state_calls(
 pub fn state_calls(
     cursor: &mut Cursor<'_, Vhdl>,
     alloc: Global,
-    scope: &Scope,
+    scope: &Declarations,
 ) -> Result<Items<Columns>, Stop>
     ensures { Reads (read (spec.state_calls scope.now) cursor.old) result cursor.new }
 {
     let states = more_state_calls(cursor, alloc, scope, Items::new(alloc))?;
-    cursor.go_on_where(states.len() == scope.tables.states.len())?;
+    cursor.go_on_where(states.len() == scope.tables().states.len())?;
     Ok(states)
 }

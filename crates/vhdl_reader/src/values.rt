@@ -10,35 +10,23 @@ ghost use Rattle.vhdl_text.specs.VhdlRules as rules;
 ghost use Rattle.vhdl_text.specs.VhdlDeclarations as declarations;
 ghost use Rattle.vhdl_text.specs.VhdlOutputs as spec;
 
+use crate::assigned::Values;
+use crate::declarations::Declarations;
 use crate::language::Vhdl;
-use crate::scope::output_count;
 use crate::sources::sources_of;
 use crate::symbols::truth_width;
 use crate::words::{expect_all, is_numbered, numbered};
 use rule_readers::{Cursor, Refusal, Stop};
 use sqlite_items::Items;
 use std::alloc::{AllocError, Global};
-use vhdl_text::{Assigned, Scope};
+use vhdl_text::Assigned;
 use vhdl_tokens::{is_name, is_same};
 
-/// How many tables of outputs these values look up.
-fn lookups(values: &[Assigned]) -> usize
-    ensures { result ≡ spec.lookups values.now }
-{
-    let mut count = 0;
-    for value in values {
-        if matches!(value, Assigned::Lookup(_)) {
-            count += 1;
-        }
-    }
-    count
-}
-
 /// How many inputs the table of an output with this number has.
-fn output_width(scope: &Scope, table: usize) -> usize
+fn output_width(scope: &Declarations, table: usize) -> usize
     ensures { result ≡ spec.output_width scope.now table }
 {
-    match scope.tables.outputs.get(table) {
+    match scope.tables().outputs.get(table) {
         Some(table) => truth_width(table.rows.as_slice()),
         None => 0,
     }
@@ -48,15 +36,15 @@ fn output_width(scope: &Scope, table: usize) -> usize
 fn table_name(
     cursor: &mut Cursor<'_, Vhdl>,
     alloc: Global,
-    scope: &Scope,
+    scope: &Declarations,
     table: usize,
 ) -> Result<(), Stop>
     ensures { Reads (read (rules.this_name (spec.output_table_name scope.now table)) cursor.old) result cursor.new }
 {
-    if table >= scope.tables.outputs.as_slice().len() {
+    if table >= scope.tables().outputs.as_slice().len() {
         return Err(Stop::Refused(cursor.no_name()));
     }
-    let before = scope.tables.states.as_slice().len() + table;
+    let before = scope.tables().states.as_slice().len() + table;
     numbered(cursor, alloc, true, b"k_", before + 1)
 }
 
@@ -65,7 +53,7 @@ fn table_name(
 fn lookup(
     cursor: &mut Cursor<'_, Vhdl>,
     alloc: Global,
-    scope: &Scope,
+    scope: &Declarations,
     table: usize,
 ) -> Result<Assigned, Stop>
     ensures { Reads (read (spec.lookup scope.now table) cursor.old) result cursor.new }
@@ -82,12 +70,12 @@ fn lookup(
 fn next_lookup(
     cursor: &mut Cursor<'_, Vhdl>,
     alloc: Global,
-    scope: &Scope,
-    values: &[Assigned],
+    scope: &Declarations,
+    values: &Values,
 ) -> Result<Assigned, Stop>
     ensures { Reads (read (spec.lookup scope.now (spec.lookups values.now)) cursor.old) result cursor.new }
 {
-    lookup(cursor, alloc, scope, lookups(values))
+    lookup(cursor, alloc, scope, values.lookups())
 }
 
 /// The bit that a literal stands for.
@@ -129,8 +117,8 @@ fn a_constant(cursor: &mut Cursor<'_, Vhdl>) -> Result<Assigned, Stop>
 fn a_value(
     cursor: &mut Cursor<'_, Vhdl>,
     alloc: Global,
-    scope: &Scope,
-    values: &[Assigned],
+    scope: &Declarations,
+    values: &Values,
 ) -> Result<Assigned, Stop>
     ensures { Reads (read (Choice (rules.begins (codes "VitalTruthTable")) (λ _. spec.lookup scope.now (spec.lookups values.now)) spec.a_constant) cursor.old) result cursor.new }
 {
@@ -146,27 +134,26 @@ fn a_value(
 fn next_value(
     cursor: &mut Cursor<'_, Vhdl>,
     alloc: Global,
-    scope: &Scope,
-    mut values: Items<Assigned>,
-) -> Result<Items<Assigned>, Stop>
+    scope: &Declarations,
+    values: Values,
+) -> Result<Values, Stop>
     ensures { Reads (read (spec.next_value scope.now values) cursor.old) result cursor.new }
 {
     cursor.expect(b":=")?;
-    let value = a_value(cursor, alloc, scope, values.as_slice())?;
+    let value = a_value(cursor, alloc, scope, &values)?;
     cursor.expect(b";")?;
-    values.push(value)?;
-    Ok(values)
+    values.with(value)
 }
 
 /// Whether an output is left behind these values.
-fn awaits_value(scope: &Scope, values: &[Assigned]) -> bool
+fn awaits_value(scope: &Declarations, values: &Values) -> bool
     ensures { result ≡ nat_lt (length values.now) (declarations.output_count scope.now.ports) }
 {
-    values.len() < output_count(scope.ports.as_slice())
+    values.len() < scope.ports().outputs().len()
 }
 
 /// Whether a token is the name of the variable behind these values. An `Err` comes only where memory is wanting.
-fn is_value_name(alloc: Global, token: &[u8], values: &[Assigned]) -> Result<bool, AllocError>
+fn is_value_name(alloc: Global, token: &[u8], values: &Values) -> Result<bool, AllocError>
     ensures { IfOk result (λ same. same ≡ is_same token.now (rules.numbered (codes "z_") (length values.now + 1))) }
 {
     let number = values.len() + 1;
@@ -178,19 +165,19 @@ fn is_value_name(alloc: Global, token: &[u8], values: &[Assigned]) -> Result<boo
 fn more_values(
     cursor: &mut Cursor<'_, Vhdl>,
     alloc: Global,
-    scope: &Scope,
-    mut values: Items<Assigned>,
-) -> Result<Items<Assigned>, Stop>
+    scope: &Declarations,
+    mut values: Values,
+) -> Result<Values, Stop>
     ensures { Reads (read (Many (spec.begins_value scope.now) (λ found _. spec.next_value scope.now found) values) cursor.old) result cursor.new }
 {
     for _turn in 0..cursor.left() {
-        if !awaits_value(scope, values.as_slice()) {
+        if !awaits_value(scope, &values) {
             break;
         }
         if !is_name(cursor.bytes()) {
             break;
         }
-        if !is_value_name(alloc, cursor.bytes(), values.as_slice())? {
+        if !is_value_name(alloc, cursor.bytes(), &values)? {
             return Err(Stop::Refused(Refusal::Undefined));
         }
         cursor.skip();
@@ -200,17 +187,17 @@ fn more_values(
 }
 
 /// Whether these are the values of all outputs.
-fn are_all_values(scope: &Scope, values: &[Assigned]) -> bool
+fn are_all_values(scope: &Declarations, values: &Values) -> bool
     ensures { result ≡ nat_eq (length values.now) (declarations.output_count scope.now.ports) }
 {
-    values.len() == output_count(scope.ports.as_slice())
+    values.len() == scope.ports().outputs().len()
 }
 
 /// Whether these values look up all tables of the outputs.
-fn are_all_looked_up(scope: &Scope, values: &[Assigned]) -> bool
+fn are_all_looked_up(scope: &Declarations, values: &Values) -> bool
     ensures { result ≡ nat_eq (spec.lookups values.now) (length scope.now.tables.outputs) }
 {
-    lookups(values) == scope.tables.outputs.len()
+    values.lookups() == scope.tables().outputs.len()
 }
 
 /// A place that no text gets past unless the condition holds, also not with a name.
@@ -228,12 +215,12 @@ fn go_on_unnamed(cursor: &Cursor<'_, Vhdl>, holds: bool) -> Result<(), Stop>
 pub fn values_of(
     cursor: &mut Cursor<'_, Vhdl>,
     alloc: Global,
-    scope: &Scope,
+    scope: &Declarations,
 ) -> Result<Items<Assigned>, Stop>
     ensures { Reads (read (spec.values_of scope.now) cursor.old) result cursor.new }
 {
-    let values = more_values(cursor, alloc, scope, Items::new(alloc))?;
-    cursor.go_on_where(are_all_values(scope, values.as_slice()))?;
-    go_on_unnamed(cursor, are_all_looked_up(scope, values.as_slice()))?;
-    Ok(values)
+    let values = more_values(cursor, alloc, scope, Values::new(alloc))?;
+    cursor.go_on_where(are_all_values(scope, &values))?;
+    go_on_unnamed(cursor, are_all_looked_up(scope, &values))?;
+    Ok(values.into_items())
 }

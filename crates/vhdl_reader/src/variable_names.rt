@@ -12,11 +12,10 @@ ghost use Rattle.vhdl_reader.specs.Kinds.{variable_kind};
 ghost use Rattle.vhdl_reader.specs.declared.variable_names.VariableOf.TheVariants as kind;
 
 use crate::language::Vhdl;
-use crate::scope::output_count;
+use crate::ports::Ports;
 use crate::words::is_numbered;
 use rule_readers::{Cursor, Refusal, Stop};
 use std::alloc::{AllocError, Global};
-use udp_tables::VPort;
 use vhdl_text::{Tables, Variables};
 use vhdl_tokens::is_name;
 
@@ -62,7 +61,7 @@ fn is_last_false(flags: &[bool]) -> bool
 /// The variable of a state or of an output that a name declares behind these. An `Err` comes only where memory is wanting.
 fn state_or_output(
     alloc: Global,
-    ports: &[VPort],
+    ports: &Ports,
     tables: &Tables,
     variables: &Variables,
     token: &[u8],
@@ -77,7 +76,7 @@ fn state_or_output(
         return Ok(None);
     }
     let outputs = variables.glitches.as_slice().len();
-    if outputs < output_count(ports) && is_numbered(alloc, token, b"z_", outputs + 1)? {
+    if outputs < ports.outputs().len() && is_numbered(alloc, token, b"z_", outputs + 1)? {
         return Ok(Some(VariableOf::Output));
     }
     if is_last_false(variables.glitches.as_slice()) && is_numbered(alloc, token, b"g_", outputs)? {
@@ -89,7 +88,7 @@ fn state_or_output(
 /// The variable that a name declares behind these. An `Err` comes only where memory is wanting.
 fn variable_of(
     alloc: Global,
-    ports: &[VPort],
+    ports: &Ports,
     tables: &Tables,
     variables: &Variables,
     token: &[u8],
@@ -114,7 +113,7 @@ fn variable_of(
 pub fn variable_name(
     cursor: &mut Cursor<'_, Vhdl>,
     alloc: Global,
-    ports: &[VPort],
+    ports: &Ports,
     tables: &Tables,
     variables: &Variables,
 ) -> Result<VariableOf, Stop>

@@ -9,13 +9,13 @@ ghost use Rattle.vhdl_text.specs.VhdlRules as rules;
 ghost use Rattle.vhdl_text.specs.VhdlDeclarations as spec;
 
 use crate::language::Vhdl;
-use crate::scope::{output_count, width_at};
+use crate::ports::Ports;
+use crate::scope::width_at;
 use crate::variable_names::{VariableOf, awaits_violation, variable_name};
 use crate::words::{expect_all, numbered, this_number};
 use rule_readers::{Cursor, Refusal, Stop};
 use sqlite_items::Items;
 use std::alloc::{AllocError, Global};
-use udp_tables::VPort;
 use vhdl_text::{Tables, Variables};
 use vhdl_tokens::is_same;
 
@@ -184,7 +184,7 @@ fn glitch_variable(cursor: &mut Cursor<'_, Vhdl>, variables: Variables) -> Resul
 fn variable(
     cursor: &mut Cursor<'_, Vhdl>,
     alloc: Global,
-    ports: &[VPort],
+    ports: &Ports,
     tables: &Tables,
     variables: Variables,
 ) -> Result<Variables, Stop>
@@ -200,12 +200,12 @@ fn variable(
 }
 
 /// Whether the variables of all checks, states and outputs stand.
-fn are_declared(ports: &[VPort], tables: &Tables, variables: &Variables) -> bool
+fn are_declared(ports: &Ports, tables: &Tables, variables: &Variables) -> bool
     ensures { result ≡ spec.are_declared ports.now tables.now variables.now }
 {
     !awaits_violation(variables)
         && variables.states == tables.states.len()
-        && variables.glitches.len() == output_count(ports)
+        && variables.glitches.len() == ports.outputs().len()
 }
 
 /// The variables behind these.
@@ -213,7 +213,7 @@ fn are_declared(ports: &[VPort], tables: &Tables, variables: &Variables) -> bool
 fn more_variables(
     cursor: &mut Cursor<'_, Vhdl>,
     alloc: Global,
-    ports: &[VPort],
+    ports: &Ports,
     tables: &Tables,
     mut variables: Variables,
 ) -> Result<Variables, Stop>
@@ -234,7 +234,7 @@ fn more_variables(
 pub fn variables(
     cursor: &mut Cursor<'_, Vhdl>,
     alloc: Global,
-    ports: &[VPort],
+    ports: &Ports,
     tables: &Tables,
 ) -> Result<Variables, Stop>
     ensures { Reads (read (spec.variables ports.now tables.now) cursor.old) result cursor.new }

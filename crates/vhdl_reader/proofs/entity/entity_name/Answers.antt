@@ -6,4 +6,4 @@ use Rattle.vhdl_reader.proofs.entity.entity_name.Goals as goal
 pub returns : goal.returns
 returns c =
     c.fresh_name.ensures (entity_names c.args.entities.now)
-    (c.is_entity_name-taken.ensures ∙ ap (is_among (entity_names c.args.entities.now)) c.bytes.ensures)
+    (c.in_ok-taken.ensures ∙ ap (is_among (entity_names c.args.entities.now)) c.bytes-token.ensures)

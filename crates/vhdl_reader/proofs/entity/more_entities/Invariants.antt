@@ -6,5 +6,5 @@ use Rattle.vhdl_reader.proofs.entity.more_entities.Given as goal
 
 abbrev pub invariant-loop-turn : goal.invariant-loop-turn
 invariant-loop-turn l =
-    repeat (λ _. begins (codes "library")) (λ found _ r. read (next_entity found) r) (l._turn-end - l._turn) l.entities.items l.cursor
-    ≡ repeat (λ _. begins (codes "library")) (λ found _ r. read (next_entity found) r) l._turn-end l.initial.entities.items l.initial.cursor
+    repeat (λ _. begins (codes "library")) (λ found _ r. read (next_entity found) r) (l._turn-end - l._turn) l.entities l.cursor
+    ≡ repeat (λ _. begins (codes "library")) (λ found _ r. read (next_entity found) r) l._turn-end l.initial.entities l.initial.cursor

@@ -4,4 +4,4 @@ use Rattle.vhdl_reader.proofs.names.an_input.Goals as goal
 
 pub returns : goal.returns
 unfolding an_input
-returns c = c.known_number.ensures (input_of c.args.ports.now) (λ _. c.input_of-found.ensures ∙ ap (input_of c.args.ports.now) c.bytes.ensures)
+returns c = c.known_number.ensures (input_of c.args.ports.now) (λ _. c.in_ok-found.ensures ∙ ap (input_of c.args.ports.now) c.bytes-token.ensures)

@@ -1,0 +1,16 @@
+use Rattle.std.proofs.Common.{◌≡◌, List, ap, ◌∙◌}
+use Rattle.std.specs.Option.{is_some}
+use Rattle.bool_functions.specs.NameList.{number_of}
+use Rattle.vital_models.specs.declared.model.VEntity.{VEntity}
+use Rattle.vhdl_names.specs.Kept.{lowered}
+use Rattle.vhdl_text.specs.VhdlRules.{is_among}
+use Rattle.vhdl_text.specs.VhdlText.{entity_names}
+use Rattle.vhdl_reader.proofs.LoweredNames.{found_among}
+use Rattle.vhdl_reader.proofs.entities.Entities.has.Goals as goal
+
+pub returns : goal.returns
+returns c =
+    let same : c.deref.result.now ≡ lowered c.args.name.now = c.deref.ensures.value ∙ c.in_ok-lowered.ensures.ok in
+    c.is_some.ensures ∙ ap is_some (c.number.ensures ∙ ap (number_of c.self.inside.lowered) same)
+    ∙ found_among c.self.inside.lowered (entity_names c.self.inside.entities.items) c.args.name.now c.self.invariant c.requires
+    ∙ ap (λ (entities : List VEntity). is_among (entity_names entities) c.args.name.now) c.self.view_is

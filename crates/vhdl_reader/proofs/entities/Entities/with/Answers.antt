@@ -1,0 +1,16 @@
+use Rattle.std.proofs.Common.{◌≡◌, ℕ, List, sym, ap, subst, ◌∙◌}
+use Rattle.bool_functions.specs.NameList.{Adds}
+use Rattle.vital_models.specs.declared.model.VEntity.{VEntity}
+use Rattle.vhdl_names.specs.Kept.{lowered}
+use Rattle.vhdl_text.specs.VhdlText.{entity_names}
+use Rattle.vhdl_reader.specs.Lowered.{HaveSame}
+use Rattle.vhdl_reader.proofs.LoweredNames.{entity_added}
+use Rattle.vhdl_reader.proofs.entities.Entities.with.Goals as goal
+
+pub invariant_of-result : goal.invariant_of-result
+invariant_of-result c =
+    let same : c.deref.result.now ≡ lowered c.args.entity.name = c.deref.ensures.value ∙ c.in_ok-name.ensures.ok ∙ ap lowered c.as_slice.ensures in
+    let added =
+    entity_added c.self.inside.lowered c.add.new.self c.self.inside.entities.items c.args.entity c.in-Ok.field-0
+    (subst (λ (x : List ℕ). Adds c.self.inside.lowered x c.in-Ok.field-0 c.add.new.self) same c.in-Ok.ensures.added) c.self.invariant in
+    subst (λ (entities : List VEntity). HaveSame c.add.new.self (entity_names entities)) (sym c.in_ok-push.ensures.items) added

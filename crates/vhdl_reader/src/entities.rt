@@ -1,0 +1,86 @@
+//! The entities of a text that were read so far, with a list that finds a name at once.
+
+use bool_functions::Names;
+use rule_readers::Stop;
+use std::alloc::{AllocError, Global};
+use std::marker::Model;
+use vital_models::VEntity;
+
+/// Entities in the order of their text. Contracts see the list of them. Beside them stand their names in lower case, since a name
+/// is the same whatever the case of its letters. (IEEE 1076-1993, 13.3.1.)
+#[derive(Drop)]
+pub struct Entities {
+    alloc: Global,
+    entities: Vec<VEntity>,
+    lowered: Names,
+}
+
+impl Model for Entities {
+    ghost use Rattle.std.specs.Prelude.{List};
+    ghost use Rattle.vital_models.specs.declared.model.VEntity.{VEntity};
+    ghost use Rattle.vhdl_text.specs.VhdlText.{entity_names};
+    ghost use Rattle.vhdl_reader.specs.Lowered.{HaveSame};
+
+    ghost Value = { List VEntity };
+
+    ghost view = { λ e. e.entities.items };
+
+    ghost invariant = { λ e. HaveSame e.lowered (entity_names e.entities.items) };
+}
+
+impl Entities {
+    ghost use Rattle.std.specs.Prelude.{◌≡◌, [], ◌∷◌, ◌++◌, true, IfOk, IfErr};
+    ghost use Rattle.vhdl_tokens.specs.Tokens.{is_name};
+    ghost use Rattle.vhdl_text.specs.VhdlRules.{is_among};
+    ghost use Rattle.vhdl_text.specs.VhdlText.{entity_names};
+
+    /// No entities. Takes no memory.
+    pub fn new(alloc: Global) -> Entities
+        ensures { result ≡ [] }
+    {
+        Entities {
+            alloc,
+            entities: Vec::new(alloc),
+            lowered: Names::new(alloc),
+        }
+    }
+
+    /// Whether a name is that of one of these entities, in the time of one look-up. An `Err` comes only where memory is wanting.
+    pub fn has(&self, name: &[u8]) -> Result<bool, AllocError>
+        requires { is_name name.now ≡ true }
+        ensures { IfOk result (λ taken. taken ≡ is_among (entity_names self.now) name.now) }
+    {
+        let lowered = name.to_ascii_lowercase(self.alloc)?;
+        Ok(self.lowered.number(&lowered).is_some())
+    }
+
+    /// These entities, and one more behind them.
+    pub fn with(self, entity: VEntity) -> Result<Entities, Stop>
+        ensures added { IfOk result (λ more. more ≡ self ++ entity ∷ []) }
+        ensures memory { IfErr result (λ stop. stop ≡ Stop.Memory) }
+    {
+        let Entities {
+            alloc,
+            mut entities,
+            mut lowered,
+        } = self;
+        let name = entity.name.as_slice().to_ascii_lowercase(alloc)?;
+        let Ok(_) = lowered.add(&name) else {
+            return Err(Stop::Memory);
+        };
+        entities.push(entity)?;
+        Ok(Entities {
+            alloc,
+            entities,
+            lowered,
+        })
+    }
+
+    /// The list of these entities.
+    pub fn into_vec(self) -> Vec<VEntity>
+        ensures { result.items ≡ self }
+    {
+        let Entities { entities, .. } = self;
+        entities
+    }
+}

@@ -4,3 +4,4 @@ pub mod Outputs
 pub mod Pins
 pub mod Sides
 pub mod ViewEnables
+pub mod ViewReading

@@ -1,21 +1,20 @@
 -- A first difference is one, and where there is none all is equal.
-use Rattle.std.proofs.Common.{◌≡◌, ◌≢◌, ◌↔◌, ℕ, zero, suc, ◌+◌, ◌^◌, ◌%◌, ◌<◌, ◌≤◌, Bool, true, false, not, cond, List, [], ◌∷◌, length, nat_eq, Option, Some, None, refl, sym, ◌∙◌, ap, subst, inl, inr, arith}
+use Rattle.std.proofs.Common.{◌≡◌, ◌≢◌, ℕ, zero, suc, ◌+◌, ◌^◌, ◌%◌, ◌<◌, ◌≤◌, Bool, true, false, not, cond, List, [], ◌∷◌, length, nat_eq, Option, Some, None, refl, sym, ◌∙◌, ap, subst, inl, inr, arith}
 use Rattle.std.specs.Prelude.{⊤}
 use Rattle.std.specs.List.{range_with_len}
 use Rattle.std.specs.Option.{option_map_or}
 use Rattle.std.specs.Int.{bit_at}
-use Rattle.std.proofs.lemmas.Bool.{true≢false, cases_Bool, cases_eq, eq-eqb, ne_eqb}
+use Rattle.std.proofs.lemmas.Bool.{true≢false, cases_eq, eq-eqb, ne_eqb}
 use Rattle.std.proofs.lemmas.Nat.Bits.{bit_at_xor, bit_at-pow_same, bit_at-pow_other, bit_at-lt}
 use Rattle.trit_cubes.specs.declared.trits.Trit.{Trit}
 use Rattle.trit_cubes.specs.declared.trits.Trit.TheVariants.{Zero, One, Unknown}
 use Rattle.trit_cubes.specs.Filling.{same}
 use Rattle.cell_machine.specs.CellData.{CellData}
-use Rattle.scan_cells.specs.declared.answers.Agreement.{Agreement}
-use Rattle.scan_cells.specs.declared.answers.Agreement.TheVariants.{Same, Differs}
+use Rattle.scan_cells.specs.declared.answers.Agreement.TheVariants.{Same}
 use Rattle.scan_cells.specs.declared.answers.Difference.{Difference}
 use Rattle.scan_cells.specs.Views.{ViewData}
 use Rattle.scan_cells.specs.Places.{is_set, changed_at, is_inactive}
-use Rattle.scan_cells.specs.Comparison.{or_else, first_some, difference, step_places, cell_step, view_step, step_difference, state_difference, change_difference, after_difference, group_difference, output_in_view, output_pin, output_places, cell_output, view_output, point_difference, pair_difference, output_difference, first_difference, answered, agreement}
+use Rattle.scan_cells.specs.Comparison.{or_else, first_some, difference, step_places, cell_step, view_step, step_difference, state_difference, change_difference, after_difference, group_difference, output_in_view, output_pin, output_places, cell_output, view_output, point_difference, pair_difference, output_difference, first_difference, answered}
 use Rattle.scan_cells.specs.Laws.{AllAgree, SameIsAgreement, DifferencesDiffer, ChangesOnePlace}
 
 -- no answer among two, and among a list

@@ -1,7 +1,7 @@
 -- How a scan cell and its test view are compared: state by state and output by output, at all points at which the scan
 -- enable is inactive. (This project's rule; Liberty Reference Manual, `test_cell` group: the test cell says what the cell
 -- does out of test.)
-use Rattle.std.specs.Prelude.{◌≡◌, ℕ, ◌+◌, ◌^◌, Bool, true, false, List, [], ◌∷◌, length, map, nat_eq, position, slice_get, slice_index_or, Option, Some, None, if◌then◌else◌}
+use Rattle.std.specs.Prelude.{ℕ, ◌+◌, ◌^◌, Bool, true, false, List, [], ◌∷◌, length, map, nat_eq, position, slice_get, slice_index_or, Option, Some, None, if◌then◌else◌}
 use Rattle.std.specs.List.{range_with_len}
 use Rattle.std.specs.Option.{option_map_or}
 use Rattle.trit_cubes.specs.declared.trits.Trit.{Trit}

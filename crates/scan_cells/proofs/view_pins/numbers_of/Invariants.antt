@@ -1,4 +1,4 @@
-use Rattle.std.proofs.Common.{◌≡◌, ◌++◌, drop, map}
+use Rattle.std.proofs.Common.{◌≡◌, ◌++◌, drop}
 use Rattle.scan_cells.specs.Views.{numbers_of}
 use Rattle.scan_cells.proofs.view_pins.numbers_of.Given as goal
 

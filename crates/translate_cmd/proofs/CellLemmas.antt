@@ -1,5 +1,5 @@
 -- The next cell of a library.
-use Rattle.std.proofs.Common.{◌≡◌, ℕ, List, Some, None, refl, ◌∙◌, ap}
+use Rattle.std.proofs.Common.{◌≡◌, ℕ, List, Some, None, refl, subst, ◌∙◌, ap}
 use Rattle.liberty_groups.specs.declared.tree.Group.{Group}
 use Rattle.cell_machine.specs.CellData.{data_of}
 use Rattle.cell_reader.specs.declared.refusal.Refusal.{Refusal}
@@ -8,9 +8,20 @@ use Rattle.cell_parts.specs.Groups.{cell_name}
 use Rattle.library_report.specs.CellLines.{refused_line}
 use Rattle.library_items.specs.declared.progress.Progress.{Progress}
 use Rattle.library_items.specs.Progress.{next_number, next_refusal, next_data, next_entity, entity_by}
-use Rattle.library_items.specs.NextCells.{IsAcceptedNext}
+use Rattle.library_items.specs.NextCells.{IsAcceptedNext, IsNext}
+use Rattle.library_items.specs.declared.next.NextCell.{NextCell}
+use Rattle.library_items.specs.declared.next.NextCell.TheVariants as next
 use Rattle.command_outcomes.specs.Written.{in_report}
 use Rattle.translate_cmd.specs.Cells.{accepted_written, written_by}
+
+-- the next cell, or why it is refused
+pub accepted_of : (p : Progress) (group : Group) (found : NextCell) (read : ReadCell) (entity : List ℕ) → found ≡ next.Accepted read entity → IsNext p group found
+    → IsAcceptedNext p group read entity
+accepted_of p group found read entity e h = subst (IsNext p group) e h
+
+pub refused_of : (p : Progress) (group : Group) (found : NextCell) (refusal : Refusal) → found ≡ next.Refused refusal → IsNext p group found
+    → next_refusal p group ≡ Some refusal
+refused_of p group found refusal e h = subst (IsNext p group) e h
 
 -- nothing refuses the next cell
 pub entity_by_as : (p : Progress) (group : Group) (read : ReadCell) (entity : List ℕ) → IsAcceptedNext p group read entity

@@ -42,6 +42,7 @@ left_written now next text e = ap (λ s. s.left Library) e
 
 -- before the first item
 pub reached_start : (limit : ℕ) (base : DeskState) (p : Progress) (c : CellCursor) → c.limit ≡ limit → Stands c [] [] → c.answer ≡ None → Reached limit base base p p c
+unfolding follows_start
 reached_start limit base p c l h e = record {
   follows = follows_start limit base p c l h e;
   state = sym (took-zero base Library) ∙ sym (wrote_all-nothing (took base Library 0));
@@ -51,6 +52,7 @@ reached_start limit base p c l h e = record {
 pub reached_next : (limit : ℕ) (base now next new : DeskState) (p q r : Progress) (c d : CellCursor) (x : LibraryItem)
     → Reached limit base now p q c → Moves c d now next (x ∷ []) → (IsAtEnd c now → IsAtEnd d next) → new ≡ wrote_all next (item_written q x) → r ≡ after_item q x
     → Reached limit base new p r d
+unfolding follows_next
 reached_next limit base now next new p q r c d x h m a w e =
     let f = h.follows in
     let state = more_state base now next f.taken m.taken (items_written p f.items) h.state m.takes.state in
@@ -80,8 +82,8 @@ first_written : (limit : ℕ) (base now : DeskState) (p q : Progress) (c : CellC
     → IfSome (base.left Library) (λ all. IsPart (items_written p h.follows.items) (items_written p (items_within limit all)))
 first_written limit base now p q c h =
     IfSome-each (base.left Library) (λ all. IsPart (items_written p h.follows.items) (items_written p (items_within limit all))) (λ all is.
-        let first = first_given limit (base.left Library) now p q c all h.follows is in
-        first_part p _ h.follows.items first.0 _ first.1 (IsPart-all _))
+    let first = first_given limit (base.left Library) now p q c all h.follows is in
+    first_part p _ h.follows.items first.0 _ first.1 (IsPart-all _))
 
 -- a stop before anything was read
 pub stops_first : (limit : ℕ) (base : DeskState) (p : Progress) (r : Result Ending Stop) → IsErr r → Handles limit base base p p r

@@ -1,11 +1,13 @@
 -- The library file of a command at each exit of the call that reads it.
-use Rattle.std.proofs.Common.{◌≡◌, ℕ, Bool, true, false, List, [], ◌∷◌, Option, Some, None, Result, Ok, Err, IfSome, IsTrue, inl, inr, refl, sym, ap, subst, ◌∙◌}
+use Rattle.std.proofs.Common.{◌≡◌, ℕ, Bool, true, false, List, [], Option, Some, None, Result, Ok, Err, MatchResult, IfSome, IsTrue, inl, inr, refl, sym, ap, subst, ◌∙◌}
 use Rattle.std.specs.Prelude.{Vec}
 use Rattle.std.specs.Option.{option_map}
 use Rattle.text_io.specs.declared.slots.InSlot.TheVariants.{Library}
 use Rattle.text_io.specs.declared.slots.OutSlot.TheVariants.{Faults}
 use Rattle.text_io.specs.declared.slots.Slot.TheVariants.{Input}
-use Rattle.text_io.specs.Desk.{DeskState, is_bound, opened, took, wrote, IsFileAt, IsPrefix}
+use Rattle.std.proofs.lemmas.List.{append-nil}
+use Rattle.text_io.specs.declared.outside.Failed.{Failed}
+use Rattle.text_io.specs.Desk.{DeskState, is_bound, opened, took, wrote, IsFileAt, IsPrefix, WritesText}
 use Rattle.text_io.proofs.Took.{took-zero}
 use Rattle.text_io.proofs.Wrote.{wrote-nil}
 use Rattle.cell_reader.specs.declared.library_cell.LibraryCell.{LibraryCell}
@@ -15,7 +17,7 @@ use Rattle.library_items.specs.declared.ending.NotWhole.{NotWhole}
 use Rattle.library_items.specs.Endings.{library_limit}
 use Rattle.library_items.specs.KeptCells.{library_cells_within, entries_of, ReadsCells}
 use Rattle.command_outcomes.specs.declared.status.Status.{Status}
-use Rattle.command_outcomes.specs.declared.status.Status.TheVariants.{Outside, Memory}
+use Rattle.command_outcomes.specs.declared.status.Status.TheVariants.{Outside}
 use Rattle.command_outcomes.specs.Status.{is_decided}
 use Rattle.command_outcomes.specs.FileSteps.{FileStop, FileIsTaken, FileEndsRun}
 use Rattle.translate_cmd.specs.LibraryAnswers.{library_stop, answer_by, library_answer, TellsStop}
@@ -84,6 +86,22 @@ cells_taken old mid new place bytes cells f e h = record {
       (file_told old mid bytes (λ b. entries_of (Ok cells) ≡ library_cells_within library_limit b) e h.cells);
 }
 
+-- the line was written, and the run ended with its status, or the call failed
+pub told_so : {T : Type 0} (old new : DeskState) (stop : FileStop) (written : Result T Failed) (result : Status) → WritesText old new Faults stop.line written
+    → MatchResult written (λ _. result ≡ stop.status) (λ _. result ≡ Outside) → TellsStop stop old new result
+told_so old new stop (Ok x) result w r = record {
+  line = stop.line;
+  state = w.whole;
+  part = ([], append-nil stop.line);
+  whole = λ d. ap (λ (s : Status). record { status = s; line = stop.line }) (sym r);
+}
+told_so old new stop (Err y) result w r = record {
+  line = w.part.0;
+  state = w.part.2;
+  part = w.part.1;
+  whole = λ d. absurd (let no = rw r at d in cc);
+}
+
 -- a library that is not whole was told
 pub told_ends : {A : Type 0} (old mid now new : DeskState) (place : ℕ) (bytes : List ℕ) (why : NotWhole) (status : Status)
     → IsFileAt old place bytes → mid ≡ opened old Library bytes → ReadsCells {A = A} library_limit mid now (Ok (Err why)) → TellsStop (library_stop why) now new status
@@ -102,11 +120,11 @@ told_ends old mid now new place bytes why status f e h t =
       part = inr (
         refl,
         mapped (old.left Library) (library_answer bytes ≡ Err (library_stop why)) ((stop : FileStop) × (library_answer bytes ≡ Err stop) × IsPrefix t.line stop.line)
-        (λ same. (library_stop why, same, t.part)) answer,
+            (λ same. (library_stop why, same, t.part)) answer,
       );
       whole = λ d. (
         refl,
         mapped (old.left Library) (library_answer bytes ≡ Err (library_stop why)) (library_answer bytes ≡ Err (record { status = status; line = t.line }))
-        (λ same. same ∙ ap Err (t.whole d)) answer,
+            (λ same. same ∙ ap Err (t.whole d)) answer,
       );
     }

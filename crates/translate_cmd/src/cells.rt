@@ -30,11 +30,13 @@ fn write_verilog<D: Desk>(alloc: Global, desk: &mut D, cell: &Cell) -> Result<()
     ensures text { Writes (D.state desk.old) (D.state desk.new) (in_verilog (model_text (data_of cell.now))) result }
     ensures cause { StopsWithCause (D.faults desk.old) (D.faults desk.new) result }
 {
-    let Ok(model) = verilog_model(alloc, cell) else {
-        return Err(Stop::Memory);
-    };
-    write_model(desk, &model)?;
-    Ok(())
+    match verilog_model(alloc, cell) {
+        Ok(model) => {
+            write_model(desk, &model)?;
+            Ok(())
+        }
+        Err(_) => Err(Stop::Memory),
+    }
 }
 
 /// Writes the VHDL model of a cell: the entity with this name.

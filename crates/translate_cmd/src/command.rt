@@ -77,7 +77,7 @@ pub fn run_sure(alloc: Global, desk: &mut SureDesk) -> Status
 }
 
 /// The status of a run whose last writing ended so.
-fn ended(written: Result<(), Failed>, status: Status) -> Status
+pub(crate) fn ended(written: Result<(), Failed>, status: Status) -> Status
     ensures { MatchResult written (λ _. result ≡ status) (λ _. result ≡ Status.Outside) }
 {
     match written {

@@ -10,6 +10,7 @@ ghost use Rattle.command_outcomes.specs.Status.{is_unfailed};
 ghost use Rattle.command_outcomes.specs.FileSteps.{FileIsTaken, FileEndsRun};
 ghost use Rattle.translate_cmd.specs.LibraryAnswers.{library_answer, library_stop, TellsStop};
 
+use crate::command::ended;
 use cell_reader::LibraryCell;
 use command_outcomes::Status;
 use library_items::{NotWhole, Stop, read_cells};
@@ -27,13 +28,9 @@ fn tell<D: Desk>(desk: &mut D, why: NotWhole) -> Status
     ensures later { D.faults desk.old ≤ D.faults desk.new }
     ensures kept { IsTrue (is_unfailed result) → D.faults desk.new ≡ D.faults desk.old }
 {
-    let (written, status) = match why {
-        NotWhole::Fault(fault) => (write_library_fault(desk, &fault), Status::Library),
-        NotWhole::TooLong => (write_library_too_long(desk), Status::TooLong),
-    };
-    match written {
-        Ok(()) => status,
-        Err(Failed) => Status::Outside,
+    match why {
+        NotWhole::Fault(fault) => ended(write_library_fault(desk, &fault), Status::Library),
+        NotWhole::TooLong => ended(write_library_too_long(desk), Status::TooLong),
     }
 }
 
@@ -53,13 +50,13 @@ pub(crate) fn read_library<D: Desk>(
     ensures unfailed { IfErr result (λ status. IsTrue (is_unfailed status) → D.faults desk.new ≡ D.faults desk.old) }
     ensures kept { OnOk result (D.faults desk.new ≡ D.faults desk.old) }
 {
-    if let Err(Failed) = desk.bind_in(InSlot::Library, place) {
-        return Err(Status::Outside);
-    }
-    match read_cells(alloc, desk, LIMIT) {
-        Ok(Ok(cells)) => Ok(cells),
-        Ok(Err(why)) => Err(tell(desk, why)),
-        Err(Stop::Failed) => Err(Status::Outside),
-        Err(Stop::Memory) => Err(Status::Memory),
+    match desk.bind_in(InSlot::Library, place) {
+        Ok(()) => match read_cells(alloc, desk, LIMIT) {
+            Ok(Ok(cells)) => Ok(cells),
+            Ok(Err(why)) => Err(tell(desk, why)),
+            Err(Stop::Failed) => Err(Status::Outside),
+            Err(Stop::Memory) => Err(Status::Memory),
+        },
+        Err(Failed) => Err(Status::Outside),
     }
 }

@@ -24,7 +24,6 @@ use std::alloc::Global;
 use text_io::{Desk, Failed, InSlot, OutSlot};
 use verilog_writer::write_prelude;
 
-
 /// Writes the Verilog and VHDL models of the cells of the library that the words name, and its report.
 pub(crate) fn translate<D: Desk>(alloc: Global, desk: &mut D) -> Status
     requires { reading (D.state desk.old).words ≡ command.Translate }

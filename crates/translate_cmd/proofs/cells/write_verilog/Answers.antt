@@ -1,18 +1,20 @@
+use Rattle.std.proofs.Common.{refl, Err}
+use Rattle.library_items.specs.declared.stop.Stop.TheVariants.{Memory}
 use Rattle.translate_cmd.specs.Cells.{model_text}
 use Rattle.command_outcomes.proofs.WrittenLaws.{stopped_before, verilog_stops, verilog_whole}
 use Rattle.translate_cmd.proofs.cells.write_verilog.Goals as goal
 
-pub returns-in_err-model-clause-text : goal.returns-in_err-model-clause-text
-returns-in_err-model-clause-text g c = stopped_before _ _ _ c.from_residual.ensures.0
+pub returns-in-Err-clause-text : goal.returns-in-Err-clause-text
+returns-in-Err-clause-text g c = stopped_before {T = Unit {0}} _ _ (Err Memory) refl
 
-pub returns-in_err-write_model-clause-text : goal.returns-in_err-write_model-clause-text
+pub returns-in_err-write_model-in-Ok-clause-text : goal.returns-in_err-write_model-in-Ok-clause-text
 unfolding model_text
-returns-in_err-write_model-clause-text g c =
-    verilog_stops _ _ _ _ _ (rw c.in_ok-model.ensures at c.in_err-write_model.ensures.text) c.from_residual-in_err-write_model.ensures.0
+returns-in_err-write_model-in-Ok-clause-text g c =
+    verilog_stops _ _ _ _ _ (rw c.in-Ok.ensures at c.in_err-write_model-in-Ok.ensures.text) c.from_residual.ensures.0
 
-pub returns-clause-text : goal.returns-clause-text
+pub returns-in_ok-write_model-in-Ok-clause-text : goal.returns-in_ok-write_model-in-Ok-clause-text
 unfolding model_text
-returns-clause-text g c = record {
-  whole = verilog_whole _ _ _ (rw c.in_ok-model.ensures at c.in_ok-write_model.ensures.text.whole);
+returns-in_ok-write_model-in-Ok-clause-text g c = record {
+  whole = verilog_whole _ _ _ (rw c.in-Ok.ensures at c.in_ok-write_model-in-Ok.ensures.text.whole);
   part = tt;
 }

@@ -9,7 +9,7 @@ returns-in_err-write_totals-in-Whole-clause-text g c =
 
 pub returns-in_ok-write_totals-in-Whole-clause-text : goal.returns-in_ok-write_totals-in-Whole-clause-text
 returns-in_ok-write_totals-in-Whole-clause-text g c =
-    rw c.in-Whole.is (last_told _ _ c.args.progress.now ending.Whole _ c.in_ok-write_totals-in-Whole.ensures.text.whole refl c.status.ensures)
+    rw c.in-Whole.is (last_told _ _ c.args.progress.now ending.Whole _ c.in_ok-write_totals-in-Whole.ensures.text.whole refl c.whole_status.ensures)
 
 pub returns-in_err-write_library_fault-in-Fault-clause-text : goal.returns-in_err-write_library_fault-in-Fault-clause-text
 returns-in_err-write_library_fault-in-Fault-clause-text g c =

@@ -1,5 +1,5 @@
 -- The cells that are kept of the items of a library.
-use Rattle.std.proofs.Common.{◌≡◌, ℕ, Bool, true, false, List, [], ◌∷◌, ◌++◌, length, map, Option, Some, None, is_some, Result, Ok, IsErr, IfOk, IfSome, refl, sym, ap, subst, ◌∙◌, append_assoc, length-append, if◌then◌else◌}
+use Rattle.std.proofs.Common.{◌≡◌, ℕ, Bool, true, false, List, [], ◌∷◌, ◌++◌, length, Option, Some, None, is_some, Result, Ok, IsErr, IfOk, refl, sym, ap, subst, ◌∙◌, append_assoc, length-append, if◌then◌else◌}
 use Rattle.std.specs.Prelude.{Vec}
 use Rattle.std.proofs.lemmas.List.{append-nil, map-append}
 use Rattle.std.specs.List.{list_any, IsDistinct}
@@ -26,10 +26,9 @@ use Rattle.library_items.specs.declared.ending.Ending.{Ending}
 use Rattle.library_items.specs.declared.ending.Ending.TheVariants as ending
 use Rattle.library_items.specs.declared.ending.NotWhole.{NotWhole}
 use Rattle.library_items.specs.Progress.{no_progress, names_with, next_refusal, next_data, entity_by, after_cell, after_item, progress_after}
-use Rattle.library_items.specs.Endings.{ending_of}
 use Rattle.library_items.specs.Steps.{IsAtEnd, TellsEnd}
 use Rattle.library_items.specs.KeptCells.{kept_by, next_entry, item_kept, kept_cells, cells_by, library_cells_within, entries_of, ReadsCells}
-use Rattle.library_items.specs.Reached.{Follows, HasKept}
+use Rattle.library_items.specs.Reached.{HasKept}
 use Rattle.library_items.proofs.Fronts.{IfSome-each, IfOk-error}
 use Rattle.library_items.proofs.Following.{follows_start, follows_next, all_given}
 use Rattle.cell_cursor.specs.Ends.{items_within}

@@ -1,5 +1,5 @@
 -- The library file of a command at each exit of the call that reads it.
-use Rattle.std.proofs.Common.{◌≡◌, ℕ, Bool, true, false, List, [], Option, Some, None, Result, Ok, Err, MatchResult, IfSome, IsTrue, inl, inr, refl, sym, ap, subst, ◌∙◌}
+use Rattle.std.proofs.Common.{◌≡◌, ℕ, true, false, List, [], Option, Some, None, Result, Ok, Err, MatchResult, IfSome, IsTrue, inl, inr, refl, sym, ap, subst, ◌∙◌}
 use Rattle.std.specs.Prelude.{Vec}
 use Rattle.std.specs.Option.{option_map}
 use Rattle.text_io.specs.declared.slots.InSlot.TheVariants.{Library}
@@ -11,7 +11,7 @@ use Rattle.text_io.specs.Desk.{DeskState, is_bound, opened, took, wrote, IsFileA
 use Rattle.text_io.proofs.Took.{took-zero}
 use Rattle.text_io.proofs.Wrote.{wrote-nil}
 use Rattle.cell_reader.specs.declared.library_cell.LibraryCell.{LibraryCell}
-use Rattle.cell_reader.specs.LibraryCells.{CellEntry, all_described}
+use Rattle.cell_reader.specs.LibraryCells.{all_described}
 use Rattle.library_items.specs.declared.stop.Stop.{Stop}
 use Rattle.library_items.specs.declared.ending.NotWhole.{NotWhole}
 use Rattle.library_items.specs.Endings.{library_limit}

@@ -47,10 +47,13 @@ latch_items =
     latch ∷ input (codes "EN") (simple (codes "min_pulse_width_high") (codes "15") ∷ []) ∷ input (codes "D") []
     ∷ output (codes "Q") (simple (codes "function") (codes "IQ") ∷ []) ∷ []
 
+unfoldable pub state_rows : List ℕ
+state_rows = codes "L L L : - : L, L L H : - : H, L H L : - : H, L H H : - : H, H - - : - : N"
+
 unfoldable pub state_table : Item
 state_table =
     inner (codes "statetable") (text (codes "CK E SE") ∷ text (codes "IQ") ∷ [])
-    (simple (codes "table") (codes "L L L : - : L, L L H : - : H, L H L : - : H, L H H : - : H, H - - : - : N") ∷ [])
+    (simple (codes "table") state_rows ∷ [])
 
 unfoldable pub clock_gate_items : List Item
 clock_gate_items =

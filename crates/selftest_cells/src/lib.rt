@@ -5,6 +5,8 @@ mod changes;
 mod damage;
 mod draws;
 mod faults;
+mod library;
+mod statements;
 mod sums;
 
 pub use changes::{CHANGES_EACH, cell_changes, changes_are_proper};

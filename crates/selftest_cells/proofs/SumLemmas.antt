@@ -1,5 +1,5 @@
 -- Sums of products, one point after another.
-use Rattle.std.proofs.Common.{◌≡◌, ℕ, ◌+◌, ◌/◌, ◌%◌, ◌==◌, List, ap, add-one, if◌then◌else◌}
+use Rattle.std.proofs.Common.{◌≡◌, ℕ, ◌+◌, ◌/◌, ◌%◌, ◌==◌, ap, add-one, if◌then◌else◌}
 use Rattle.selftest_cells.specs.Sums.{product, bits_from, plus, sum_below}
 
 pub bits-step : (number i : ℕ) → bits_from number (i + 1) ≡ bits_from number i / 2

@@ -2,7 +2,7 @@
 ghost use Rattle.std.specs.Prelude.{◌≡◌, ◌<◌, [], ◌++◌, codes, decimal, IfOk};
 ghost use Rattle.selftest_cells.specs.Draws.{next as next_of, pick as pick_of};
 ghost use Rattle.selftest_cells.specs.Sums.{function_text as function_text_of};
-ghost use Rattle.selftest_cells.specs.Library.{input as input_of, output as output_of, function_items as function_items_of, setup as the_setup, arc as the_arc, flip_flop as the_flip_flop, flip_flop_items as the_flip_flop_items, latch as the_latch, latch_items as the_latch_items, state_rows as the_state_rows};
+ghost use Rattle.selftest_cells.specs.Library.{input as input_of, output as output_of, function_items as function_items_of, setup as the_setup, arc as the_arc, flip_flop as the_flip_flop, flip_flop_items as the_flip_flop_items, latch as the_latch, latch_items as the_latch_items, state_rows as the_state_rows, state_table as the_state_table};
 
 use crate::draws::{next, pick};
 use crate::faults::Memory;
@@ -126,13 +126,22 @@ fn latch_items(alloc: Global) -> Result<Items<Item>, Memory>
 
 /// The rows of the clock gate's state table.
 #[tactic(auto, unfolding(crate::specs::Library::state_rows))]
-fn state_rows(alloc: Global) -> Result<Vec<u8>, Memory>
-    ensures { IfOk result (λ text. text.items ≡ the_state_rows) }
+fn state_rows(alloc: Global) -> Result<Items<u8>, Memory>
+    ensures { IfOk result (λ text. text ≡ the_state_rows) }
 {
     let mut text = Vec::from_slice(alloc, b"L L L : - : L, L L H : - : H, ")?;
     text.extend_from_slice(b"L H L : - : H, L H H : - : H, ")?;
     text.extend_from_slice(b"H - - : - : N")?;
-    Ok(text)
+    Ok(Items::from_vec(text))
+}
+
+/// The state table of the clock gate.
+fn state_table(alloc: Global) -> Result<Item, Memory>
+    ensures { IfOk result (λ item. item ≡ the_state_table) }
+{
+    let rows = state_rows(alloc)?;
+    let items = Items::from_vec(vec![in alloc; simple(alloc, b"table", rows.as_slice())?]?);
+    Ok(Item::Inner(group(alloc, b"statetable", two(alloc, b"CK E SE", b"IQ")?, items)?))
 }
 
 /// The statements of a cell with a function that is drawn from its number.

@@ -5,6 +5,7 @@ use text_io::{MemoryDesk, NamedFile, OutSlot};
 use translate_cmd::{Status, run};
 
 /// What a run left: its status, and the bytes of the report and of the faults.
+#[derive(Drop)]
 pub(crate) struct Left {
     pub status: Status,
     pub desk: MemoryDesk,
@@ -24,7 +25,7 @@ const ROOM: usize = 20000;
 
 /// Runs a command with these words over files with these names and bytes, on a desk at which the calls with these numbers fail,
 /// and a call moves at most `piece` bytes.
-pub(crate) fn left(
+pub(crate) fn ran(
     alloc: Global,
     words: &[&str],
     files: &[(&str, &[u8])],
@@ -56,7 +57,7 @@ pub(crate) fn simulated(
     vital: &[u8],
     stimulus: &str,
 ) -> Result<Left, Fail> {
-    left(
+    ran(
         alloc,
         &["simulate", "in.lib", "in.v", "in.vhd", "in.stim"],
         &[
@@ -72,7 +73,7 @@ pub(crate) fn simulated(
 
 /// Translates a library.
 pub(crate) fn translated(alloc: Global, library: &str) -> Result<Left, Fail> {
-    left(
+    ran(
         alloc,
         &["translate", "in.lib", "out.v", "out.vhd"],
         &[("in.lib", library.as_bytes())],

@@ -2,4 +2,3 @@ pub mod ProperChanges
 pub mod AlteredLists
 pub mod SoundModules
 pub mod SoundEntities
-pub mod SumLemmas

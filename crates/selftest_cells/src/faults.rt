@@ -19,9 +19,3 @@ impl<T: Drop> From<AllocFailed<T>> for Memory {
         Memory
     }
 }
-
-impl From<liberty_groups::Memory> for Memory {
-    fn from(_: liberty_groups::Memory) -> Memory {
-        Memory
-    }
-}

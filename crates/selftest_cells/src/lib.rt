@@ -1,13 +1,10 @@
-//! The test cells that a run makes for itself, their changes, the damage of models, and what is counted.
+//! Changes of cells that are drawn by numbers, and models that are damaged in one row.
 #![tactic(auto)]
 
 mod changes;
 mod damage;
 mod draws;
 mod faults;
-mod library;
-mod statements;
-mod sums;
 
 pub use changes::{CHANGES_EACH, cell_changes, changes_are_proper};
 pub use damage::{

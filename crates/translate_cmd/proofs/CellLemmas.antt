@@ -29,10 +29,11 @@ pub entity_by_as : (p : Progress) (group : Group) (read : ReadCell) (entity : Li
 entity_by_as p group read entity h = rw h.unrefused (ap Some h.same_entity)
 
 pub accepted_written_as : (p : Progress) (group : Group) (read : ReadCell) (entity : List ℕ) → IsAcceptedNext p group read entity
-    → accepted_written entity (data_of read.cell) read.left_out ≡ written_by p group (next_refusal p group)
+    → accepted_written entity (data_of read.cell) read.left_out group ≡ written_by p group (next_refusal p group)
 accepted_written_as p group read entity h =
-    rw h.unrefused (ap (λ t. accepted_written t (data_of read.cell) read.left_out) h.same_entity ∙ ap (λ d. accepted_written (next_entity p group) d read.left_out) h.same_cell
-    ∙ ap (accepted_written (next_entity p group) (next_data p group)) h.same_left_out)
+    rw h.unrefused (ap (λ t. accepted_written t (data_of read.cell) read.left_out group) h.same_entity
+    ∙ ap (λ d. accepted_written (next_entity p group) d read.left_out group) h.same_cell
+    ∙ ap (λ l. accepted_written (next_entity p group) (next_data p group) l group) h.same_left_out)
 
 -- something does
 pub refused_written_as : (p : Progress) (group : Group) (number : ℕ) (name : List ℕ) (refusal : Refusal)

@@ -23,7 +23,7 @@ use Rattle.translate_cmd.proofs.EntityNames.{AreAlike, alike_with, its_entity}
 
 accepted_vital :
     (p : Progress) (group : Group)
-    → (accepted_written (next_entity p group) (next_data p group) (next_left_out p group)).vital ≡ entity_text (entity_of (next_data p group) (next_entity p group))
+    → (accepted_written (next_entity p group) (next_data p group) (next_left_out p group) group).vital ≡ entity_text (entity_of (next_data p group) (next_entity p group))
 unfolding accepted_written models_written vital_text
 accepted_vital p group = append-nil (entity_text (entity_of (next_data p group) (next_entity p group)))
 
@@ -37,7 +37,7 @@ Follow items =
 cell_named :
     (p : Progress) (group : Group) (items : List LibraryItem) (given : List (List ℕ)) → Follow items → AreAlike given p.entities
     → (name : List ℕ) → next_entity p group ≡ name
-    → (accepted_written (next_entity p group) (next_data p group) (next_left_out p group)).vital
+    → (accepted_written (next_entity p group) (next_data p group) (next_left_out p group) group).vital
     ++ (items_written (after_cell p (cell_name group) (Some (next_entity p group))) items).vital
     ≡ entity_text (entity_of (next_data p group) name)
     ++ flat_map entity_text (entities_behind (given ++ lowered name ∷ []) (accepted_cells (after_cell p (cell_name group) (Some (next_entity p group))) items))

@@ -3,6 +3,7 @@ pub mod PlanLemmas
 pub mod RunsLemmas
 pub mod AskedLemmas
 pub mod CellLemmas
+pub mod TestLineTexts
 pub mod VitalTexts
 pub mod ItemTexts
 pub mod ModelsLemmas

@@ -25,7 +25,7 @@ texts cells = flat_map module_text (map module_of cells)
 
 accepted_verilog :
     (p : Progress) (group : Group)
-    → (accepted_written (next_entity p group) (next_data p group) (next_left_out p group)).verilog ≡ module_text (module_of (next_data p group))
+    → (accepted_written (next_entity p group) (next_data p group) (next_left_out p group) group).verilog ≡ module_text (module_of (next_data p group))
 unfolding accepted_written models_written model_text
 accepted_verilog p group =
     let text = module_text (module_of (next_data p group)) in append-nil (text ++ []) ∙ append-nil text

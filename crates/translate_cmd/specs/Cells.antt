@@ -1,5 +1,6 @@
 -- What becomes of one item of a library: the two models of a cell and the lines of the report. This project's rules.
 use Rattle.std.specs.Prelude.{ℕ, List, [], ◌∷◌, ◌++◌, Option, Some, None}
+use Rattle.std.specs.Option.{option_map}
 use Rattle.liberty_groups.specs.declared.tree.Group.{Group}
 use Rattle.cell_machine.specs.declared.pins.Pin.{Pin}
 use Rattle.cell_reader.specs.declared.refusal.Refusal.{Refusal}
@@ -10,6 +11,10 @@ use Rattle.vital_models.specs.Generated.{entity_of}
 use Rattle.vhdl_writer.specs.Entity.{entity_text}
 use Rattle.specify_blocks.specs.Generated.{module_of}
 use Rattle.verilog_writer.specs.Model.{module_text}
+use Rattle.scan_cells.specs.TestGroup.{test_of}
+use Rattle.scan_cells.specs.Functional.{functional_view}
+use Rattle.scan_cells.specs.Comparison.{agreement}
+use Rattle.scan_cells.specs.TestLines.{test_line}
 use Rattle.library_report.specs.CellLines.{accepted_line, refused_line}
 use Rattle.library_report.specs.LeftOutLines.{left_out_lines, left_out_file_line}
 use Rattle.library_items.specs.declared.progress.Progress.{Progress}
@@ -21,6 +26,15 @@ use Rattle.library_items.specs.Progress.{next_number, next_refusal, next_data, n
 -- the report lines of an accepted cell: its own, and one for each of its timing groups that are left out
 unfoldable pub accepted_lines : ℕ → List ℕ → List Pin → List LeftOut → List ℕ
 accepted_lines number name pins left_out = accepted_line number name ++ left_out_lines number pins left_out
+
+-- the line on a test cell of a cell, where there is one: whether its test view, where it gives one, does what the cell does
+abbrev pub lines_on_test : CellData → Option Group → List ℕ
+lines_on_test cell None = []
+lines_on_test cell (Some test) = test_line cell.number (option_map (agreement cell) (functional_view cell test))
+
+-- the line on the test cell of a cell, where its group has one (Liberty Reference Manual, `test_cell` group)
+unfoldable pub test_lines : CellData → Group → List ℕ
+test_lines cell group = lines_on_test cell (test_of group)
 
 -- the text of a cell's Verilog model
 unfoldable pub model_text : CellData → List ℕ
@@ -38,14 +52,15 @@ in_vital text = record { verilog = []; vital = text; report = [] }
 unfoldable pub models_written : List ℕ → CellData → Written
 models_written entity cell = joined (in_verilog (model_text cell)) (in_vital (vital_text entity cell))
 
--- the models of an accepted cell, whose entity has this name, and its lines
-unfoldable pub accepted_written : List ℕ → CellData → List LeftOut → Written
-accepted_written entity cell left_out =
-    joined (models_written entity cell) (in_report (accepted_lines cell.number cell.name cell.pins left_out))
+-- the models of an accepted cell, whose entity has this name, its lines, and behind them the line on the test cell of its group
+unfoldable pub accepted_written : List ℕ → CellData → List LeftOut → Group → Written
+accepted_written entity cell left_out group =
+    joined (models_written entity cell)
+    (joined (in_report (accepted_lines cell.number cell.name cell.pins left_out)) (in_report (test_lines cell group)))
 
 -- of an accepted cell its models and its lines, of a refused one its line alone
 abbrev pub written_by : Progress → Group → Option Refusal → Written
-written_by p group None = accepted_written (next_entity p group) (next_data p group) (next_left_out p group)
+written_by p group None = accepted_written (next_entity p group) (next_data p group) (next_left_out p group) group
 written_by p group (Some refusal) = in_report (refused_line (next_number p) (cell_name group) refusal)
 
 -- what is written for an item

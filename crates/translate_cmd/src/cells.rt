@@ -10,6 +10,7 @@ ghost use Rattle.library_items.specs.Stops.{StopsWithCause};
 ghost use Rattle.library_items.specs.Progress.{next_refusal, entity_by, after_item};
 ghost use Rattle.translate_cmd.specs.Cells.{model_text, vital_text, in_vital, models_written, accepted_lines, accepted_written, written_by, item_written};
 
+use crate::test_lines::write_test;
 use cell_machine::Cell;
 use cell_parts::groups::cell_name;
 use cell_reader::ReadCell;
@@ -83,22 +84,24 @@ fn write_lines<D: Desk>(desk: &mut D, read: &ReadCell) -> Result<(), Failed>
     )
 }
 
-/// Writes the models of an accepted cell, whose entity has this name, and its report lines.
+/// Writes the models of an accepted cell, whose entity has this name, its report lines, and the line on the test cell of its
+/// group.
 #[tactic(auto, unfolding(crate::specs::Cells::accepted_written))]
 fn write_accepted<D: Desk>(
     alloc: Global,
     desk: &mut D,
     read: &ReadCell,
     entity: &[u8],
+    group: &Group,
 ) -> Result<(), Stop>
     requires verilog { IsTrue (is_bound (D.state desk.old) (Output VerilogText)) }
     requires vital { IsTrue (is_bound (D.state desk.old) (Output VitalText)) }
-    ensures text { Writes (D.state desk.old) (D.state desk.new) (accepted_written entity.now (data_of read.now.cell) read.now.left_out) result }
+    ensures text { Writes (D.state desk.old) (D.state desk.new) (accepted_written entity.now (data_of read.now.cell) read.now.left_out group.now) result }
     ensures cause { StopsWithCause (D.faults desk.old) (D.faults desk.new) result }
 {
     write_models(alloc, desk, &read.cell, entity)?;
     write_lines(desk, read)?;
-    Ok(())
+    write_test(alloc, desk, &read.cell, group)
 }
 
 /// Writes what becomes of the next cell, and answers the name of its entity where it was accepted.
@@ -117,7 +120,7 @@ fn write_cell<D: Desk>(
 {
     match next_cell(alloc, progress, group)? {
         NextCell::Accepted { read, entity } => {
-            write_accepted(alloc, desk, &read, entity.as_slice())?;
+            write_accepted(alloc, desk, &read, entity.as_slice(), group)?;
             Ok(Some(entity))
         }
         NextCell::Refused(refusal) => {

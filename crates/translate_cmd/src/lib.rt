@@ -8,6 +8,7 @@ mod items;
 mod laws;
 mod library_file;
 mod replay;
+mod test_lines;
 mod translate;
 mod verilog;
 mod vital;

@@ -22,7 +22,14 @@ use Rattle.library_items.specs.Endings.{library_limit, ending_of}
 use Rattle.translate_cmd.specs.Library.{outcome_at}
 use Rattle.translate_cmd.specs.Outcome.{files_of, outcome_of, outcome}
 use Rattle.translate_cmd.specs.Runs.{Runs}
-use Rattle.translate_cmd.specs.Complete.{IsWholeLibrary, CanBeDone, IsAllDone, Completes}
+use Rattle.translate_cmd.specs.Complete.{IsWholeLibrary, CanBeSimulated, CanBeDone, IsAllDone, Completes}
+use Rattle.library_items.specs.KeptCells.{kept_cells, cells_by}
+use Rattle.library_items.specs.Progress.{no_progress}
+use Rattle.simulation_catalog.specs.Catalog.{cells_named}
+use Rattle.simulation_catalog.specs.Comparisons.{any_differs}
+use Rattle.translate_cmd.specs.LibraryAnswers.{answer_by}
+use Rattle.translate_cmd.specs.Simulate.{simulate_files, simulate_outcome}
+use Rattle.translate_cmd.proofs.WholeSimulations.{model_whole, stimulus_whole, simulated_whole}
 use Rattle.model_replay.specs.declared.format.ModelFormat.TheVariants as format
 use Rattle.model_replay.specs.Languages.{Language}
 use Rattle.model_replay.specs.Outcome.{replay_files, replay_outcome}
@@ -57,12 +64,16 @@ ends_whole bytes h =
 
 -- what is good of an outcome
 pub record IsGood (o : Outcome) : Type 0 where
-  status : (o.status ≡ status.Done) ⊎ (o.status ≡ status.Cells)
+  status : (o.status ≡ status.Done) ⊎ ((o.status ≡ status.Cells) ⊎ (o.status ≡ status.Differ))
   faults : o.faults ≡ []
 
-done_or_cells : (none : Bool) (s : Status) → s ≡ (if none then status.Done else status.Cells) → (s ≡ status.Done) ⊎ (s ≡ status.Cells)
+done_or_cells : (none : Bool) (s : Status) → s ≡ (if none then status.Done else status.Cells) → (s ≡ status.Done) ⊎ ((s ≡ status.Cells) ⊎ (s ≡ status.Differ))
 done_or_cells true s e = inl e
-done_or_cells false s e = inr e
+done_or_cells false s e = inr (inl e)
+
+differ_or_done : (some_differ : Bool) (s : Status) → s ≡ (if some_differ then status.Differ else status.Done) → (s ≡ status.Done) ⊎ ((s ≡ status.Cells) ⊎ (s ≡ status.Differ))
+differ_or_done true s e = inr (inr e)
+differ_or_done false s e = inl e
 
 whole_is_good : (items : List LibraryItem) (end : Ending) → end ≡ ending.Whole → IsGood (outcome_at items end)
 unfolding outcome_at
@@ -77,12 +88,22 @@ replay_is_good : {M : Type 0} (l : Language M) (text stimulus : List ℕ) → Ca
 replay_is_good l text stimulus can =
     subst (IsGoodOf (replay_files l.format)) (sym (replayed_whole l text stimulus can)) (record { good = record { status = inl refl; faults = refl }; binds = refl })
 
+simulation_is_good : (library text vhdl stimulus : List ℕ) → CanBeSimulated library text vhdl stimulus → IsGoodOf simulate_files (simulate_outcome library text vhdl stimulus)
+simulation_is_good library text vhdl stimulus can =
+    let cells = kept_cells no_progress (items_within library_limit library) in
+    subst (IsGoodOf simulate_files) (sym (simulated_whole library text vhdl stimulus cells can.modules can.entities can.sections
+    (ap (λ end. answer_by (cells_by end cells)) (ends_whole library can.whole))
+    (model_whole verilog text can.modules can.text_within can.verilog) (model_whole vital vhdl can.entities can.vhdl_within can.vital)
+    (stimulus_whole cells (cells_named cells can.modules can.entities) stimulus can.sections can.stimulus_within can.lines)))
+    (record { good = record { status = differ_or_done (any_differs cells can.modules can.entities can.sections) _ refl; faults = refl }; binds = refl })
+
 can_is_good : (asked : Command) (words : List (List ℕ)) (folder : Folder) → CanBeDone asked words folder → IsGoodOf (files_of asked) (outcome_of asked words folder)
 unfolding outcome_at
 can_is_good (command.Udp udp) words folder can = record { good = record { status = inl refl; faults = refl }; binds = refl }
 can_is_good command.Translate words folder can =
     let bytes = bytes_at words folder 1 in
     record { good = whole_is_good (items_within library_limit bytes) (ending_of library_limit bytes) (ends_whole bytes can); binds = refl }
+can_is_good command.Simulate words folder can = simulation_is_good (bytes_at words folder 1) (bytes_at words folder 2) (bytes_at words folder 3) (bytes_at words folder 4) can
 can_is_good (command.Replay format.Verilog) words folder can = replay_is_good verilog (bytes_at words folder 1) (bytes_at words folder 2) can
 can_is_good (command.Replay format.Vital) words folder can = replay_is_good vital (bytes_at words folder 1) (bytes_at words folder 2) can
 can_is_good command.Usage words folder can = absurd can

@@ -12,6 +12,11 @@ pub mod LibraryFileLemmas
 pub mod ReplayLemmas
 pub mod LanguageLemmas
 pub mod ItemsLemmas
+pub mod ModelFileLemmas
+pub mod SimulationFiles
+pub mod SimulateLemmas
+pub mod BesideLemmas
+pub mod WholeSimulations
 pub mod CompleteLemmas
 pub mod AcceptedCells
 pub mod ModuleTexts
@@ -21,3 +26,4 @@ pub mod ReadBack
 pub mod KeptModels
 pub mod OwnNames
 pub mod Agreement
+pub mod AgreementRuns

@@ -1,5 +1,5 @@
 -- When a command does all that it was asked for. This project's promise.
-use Rattle.std.specs.Prelude.{◌≡◌, ◌≤◌, ◌⊎◌, ℕ, List, length, true}
+use Rattle.std.specs.Prelude.{◌≡◌, ◌≤◌, ◌⊎◌, ℕ, List, length, true, Ok}
 use Rattle.liberty_groups.specs.declared.read.End.TheVariants.{Whole}
 use Rattle.liberty_groups.specs.Answer.{end_of_bytes}
 use Rattle.text_io.specs.declared.slots.InSlot.{InSlot}
@@ -14,6 +14,18 @@ use Rattle.command_outcomes.specs.Binding.{bound_state, AreNamed, took_all, Tell
 use Rattle.model_replay.specs.declared.format.ModelFormat.{ModelFormat}
 use Rattle.model_replay.specs.declared.format.ModelFormat.TheVariants as format
 use Rattle.model_replay.specs.Complete.{CanBeReplayed}
+use Rattle.model_replay.specs.Outcome.{model_limit, stimulus_limit}
+use Rattle.cell_cursor.specs.Ends.{items_within}
+use Rattle.specify_blocks.specs.declared.model.VModule.{VModule}
+use Rattle.specify_blocks.specs.VerilogText.{verilog_text}
+use Rattle.vital_models.specs.declared.model.VEntity.{VEntity}
+use Rattle.vhdl_text.specs.VhdlText.{vhdl_text}
+use Rattle.stimulus.specs.declared.sections.Section.{Section}
+use Rattle.stimulus.specs.PortEntries.{listed}
+use Rattle.stimulus.specs.Stimulus.{stimulus_of}
+use Rattle.library_items.specs.KeptCells.{kept_cells}
+use Rattle.library_items.specs.Progress.{no_progress}
+use Rattle.simulation_catalog.specs.Catalog.{cells_named}
 use Rattle.model_languages.specs.Verilog.{verilog}
 use Rattle.model_languages.specs.Vital.{vital}
 use Rattle.library_items.specs.Endings.{library_limit}
@@ -29,18 +41,34 @@ abbrev pub CanBeReplayedAs : ModelFormat → List ℕ → List ℕ → Type 0
 CanBeReplayedAs format.Verilog text stimulus = CanBeReplayed verilog text stimulus
 CanBeReplayedAs format.Vital text stimulus = CanBeReplayed vital text stimulus
 
--- The command can be done with these words and files: a primitive can always be printed, a whole library be translated, and a
--- Verilog or VHDL file be replayed that is not refused, under a stimulus that is not. Words without a reading ask for nothing.
+-- a whole library, a Verilog file and a VHDL file that are not refused, and a stimulus without a bad line over the library's cells beside
+-- these models, each within its limit
+pub record CanBeSimulated (library text vhdl stimulus : List ℕ) : Type 0 where
+  pub whole : IsWholeLibrary library
+  pub text_within : length text ≤ model_limit
+  pub modules : List VModule
+  pub verilog : verilog_text text ≡ Ok modules
+  pub vhdl_within : length vhdl ≤ model_limit
+  pub entities : List VEntity
+  pub vital : vhdl_text vhdl ≡ Ok entities
+  pub stimulus_within : length stimulus ≤ stimulus_limit
+  pub sections : List Section
+  pub lines : stimulus_of (listed (cells_named (kept_cells no_progress (items_within library_limit library)) modules entities)) stimulus ≡ Ok sections
+
+-- The command can be done with these words and files: a primitive can always be printed, a whole library be translated, its cells be
+-- simulated beside the models of files that are not refused, under a stimulus that is not, and a Verilog or VHDL file be replayed so.
+-- Words without a reading ask for nothing.
 abbrev pub CanBeDone : Command → List (List ℕ) → Folder → Type 0
 CanBeDone (command.Udp udp) words folder = Unit {0}
 CanBeDone command.Translate words folder = IsWholeLibrary (bytes_at words folder 1)
+CanBeDone command.Simulate words folder = CanBeSimulated (bytes_at words folder 1) (bytes_at words folder 2) (bytes_at words folder 3) (bytes_at words folder 4)
 CanBeDone (command.Replay f) words folder = CanBeReplayedAs f (bytes_at words folder 1) (bytes_at words folder 2)
 CanBeDone command.Usage words folder = ⊥
 
 -- All was done: the files of the command were bound, all that the outcome appends was appended, and nothing was told as a
--- fault. Cells of a library may have been refused.
+-- fault. Cells of a library may have been refused, and traces that are compared may differ.
 pub record IsAllDone (old new : DeskState) (folder : Folder) (result : Status) : Type 0 where
-  pub good : (result ≡ status.Done) ⊎ (result ≡ status.Cells)
+  pub good : (result ≡ status.Done) ⊎ ((result ≡ status.Cells) ⊎ (result ≡ status.Differ))
   pub same_status : result ≡ (outcome old.words folder).status
   pub bytes : InSlot → List ℕ
   pub named : AreNamed old (files_of (reading old.words)) bytes

@@ -5,6 +5,8 @@ pub mod Library
 pub mod LibraryAnswers
 pub mod ModelAnswers
 pub mod Simulate
+pub mod Simulations
+pub mod Besides
 pub mod Outcome
 pub mod Runs
 pub mod Reached
@@ -12,3 +14,4 @@ pub mod Complete
 pub mod TranslatedModels
 pub mod TranslatedLaws
 pub mod Agreement
+pub mod AgreementRuns

@@ -18,6 +18,7 @@ use Rattle.translate_cmd.specs.declared.asked.Command.{Command}
 use Rattle.translate_cmd.specs.declared.asked.Command.TheVariants as command
 use Rattle.translate_cmd.specs.Reading.{reading}
 use Rattle.translate_cmd.specs.Library.{translate_outcome}
+use Rattle.translate_cmd.specs.Simulate.{simulate_files, simulate_of}
 
 -- the files of `translate`: the library that it reads, and the two model files that it writes
 abbrev pub translate_files : Files
@@ -26,6 +27,7 @@ translate_files = (Input Library, 1) ∷ (Output VerilogText, 2) ∷ (Output Vit
 -- the files that a command names
 abbrev pub files_of : Command → Files
 files_of command.Translate = translate_files
+files_of command.Simulate = simulate_files
 files_of (command.Replay f) = replay_files f
 files_of (command.Udp udp) = []
 files_of command.Usage = []
@@ -39,6 +41,7 @@ replay_outcome_of format.Vital words folder = replay_of vital words folder
 abbrev pub outcome_of : Command → List (List ℕ) → Folder → Outcome
 outcome_of (command.Udp udp) words folder = record { status = Done; binds = 0; text = in_report (primitive_text udp); faults = [] }
 outcome_of command.Translate words folder = translate_outcome (bytes_at words folder 1)
+outcome_of command.Simulate words folder = simulate_of words folder
 outcome_of (command.Replay f) words folder = replay_outcome_of f words folder
 outcome_of command.Usage words folder = record { status = Usage; binds = 0; text = nothing_written; faults = codes "lib2sim: usage\n" }
 

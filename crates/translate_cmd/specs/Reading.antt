@@ -45,6 +45,17 @@ translate_reading (library ∷ (verilog ∷ (vital ∷ []))) =
     if are_file_words (library ∷ verilog ∷ vital ∷ []) then command.Translate else command.Usage
 translate_reading (library ∷ (verilog ∷ (vital ∷ (more ∷ others)))) = command.Usage
 
+-- what the words after `simulate` ask for: those of a library, of a Verilog file, of a VHDL file and of a stimulus, none empty and no
+-- two equal
+abbrev pub simulate_reading : List (List ℕ) → Command
+simulate_reading [] = command.Usage
+simulate_reading (library ∷ []) = command.Usage
+simulate_reading (library ∷ (verilog ∷ [])) = command.Usage
+simulate_reading (library ∷ (verilog ∷ (vital ∷ []))) = command.Usage
+simulate_reading (library ∷ (verilog ∷ (vital ∷ (stimulus ∷ [])))) =
+    if are_file_words (library ∷ verilog ∷ vital ∷ stimulus ∷ []) then command.Simulate else command.Usage
+simulate_reading (library ∷ (verilog ∷ (vital ∷ (stimulus ∷ (more ∷ others))))) = command.Usage
+
 -- What the words after `replay-verilog` or `replay-vital` ask for: those of a file of models, of the command's format, and of a
 -- stimulus, neither empty and not equal.
 abbrev pub replay_reading : ModelFormat → List (List ℕ) → Command
@@ -57,6 +68,7 @@ replay_reading f (models ∷ (stimulus ∷ (more ∷ others))) = command.Usage
 unfoldable pub file_reading : List ℕ → List (List ℕ) → Command
 file_reading name words =
     if bytes_eq name (codes "translate") then translate_reading words
+    else if bytes_eq name (codes "simulate") then simulate_reading words
     else if bytes_eq name (codes "replay-verilog") then replay_reading format.Verilog words
     else if bytes_eq name (codes "replay-vital") then replay_reading format.Vital words
     else command.Usage

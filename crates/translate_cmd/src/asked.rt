@@ -1,9 +1,9 @@
 //! What the words ask for.
 
-ghost use Rattle.std.specs.Prelude.{◌≡◌, ◌≤◌, [], ◌∷◌, drop, Ok, IfOk};
+ghost use Rattle.std.specs.Prelude.{◌≡◌, ◌≤◌, [], ◌∷◌, drop, Ok, IfOk, if◌then◌else◌};
 ghost use Rattle.bool_functions.specs.Tree.{name_bound};
 ghost use Rattle.text_io.specs.Plan.{are_file_words};
-ghost use Rattle.translate_cmd.specs.Reading.{asked_primitive, primitive_read, udp_reading, translate_reading, replay_reading, file_reading, reading};
+ghost use Rattle.translate_cmd.specs.Reading.{asked_primitive, primitive_read, udp_reading, translate_reading, simulate_reading, replay_reading, file_reading, reading};
 
 use bool_functions::{Function, FunctionFault, read_free};
 use model_replay::ModelFormat;
@@ -19,6 +19,8 @@ pub(crate) enum Command {
     Udp(Udp),
     /// The models of the cells of a library, to be written.
     Translate,
+    /// The traces of the cells of a library, of their Verilog modules and of their VHDL entities under a stimulus, to be compared.
+    Simulate,
     /// The traces of the models of a file of this format under a stimulus, to be printed.
     Replay(ModelFormat),
     /// Nothing: the words have no reading.
@@ -50,6 +52,8 @@ fn asked_files<D: Desk>(desk: &D, name: &str) -> Command
 {
     if name == "translate" {
         asked_translate(desk)
+    } else if name == "simulate" {
+        asked_simulate(desk)
     } else if name == "replay-verilog" {
         asked_replay(desk, ModelFormat::Verilog)
     } else if name == "replay-vital" {
@@ -74,6 +78,39 @@ fn asked_translate<D: Desk>(desk: &D) -> Command
     };
     if desk.word(4).is_none() && are_file_words(library, verilog, vital) {
         Command::Translate
+    } else {
+        Command::Usage
+    }
+}
+
+/// What the words after `simulate` ask for.
+fn asked_simulate<D: Desk>(desk: &D) -> Command
+    ensures { result ≡ simulate_reading (drop 1 (D.state desk.now).words) }
+{
+    let Some(library) = desk.word(1) else {
+        return Command::Usage;
+    };
+    let Some(verilog) = desk.word(2) else {
+        return Command::Usage;
+    };
+    let Some(vital) = desk.word(3) else {
+        return Command::Usage;
+    };
+    let Some(stimulus) = desk.word(4) else {
+        return Command::Usage;
+    };
+    match desk.word(5) {
+        Some(_) => Command::Usage,
+        None => simulate_where(are_four_file_words(library, verilog, vital, stimulus)),
+    }
+}
+
+/// The command of four words after `simulate`, by whether they can name files side by side.
+fn simulate_where(are_files: bool) -> Command
+    ensures { result ≡ if are_files then Command.Simulate else Command.Usage }
+{
+    if are_files {
+        Command::Simulate
     } else {
         Command::Usage
     }
@@ -113,6 +150,17 @@ fn are_file_words(first: &str, second: &str, third: &str) -> bool
         && !second.is_empty()
         && second != third
         && !third.is_empty()
+}
+
+/// Whether four words can name files side by side: none is empty, and no two are equal as texts.
+fn are_four_file_words(first: &str, second: &str, third: &str, fourth: &str) -> bool
+    ensures { result ≡ are_file_words (first.now ∷ second.now ∷ third.now ∷ fourth.now ∷ []) }
+{
+    !first.is_empty()
+        && first != second
+        && first != third
+        && first != fourth
+        && are_file_words(second, third, fourth)
 }
 
 /// What the words after `udp` ask for.

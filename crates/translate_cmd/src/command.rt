@@ -8,9 +8,11 @@ ghost use Rattle.translate_cmd.specs.declared.asked.Command.TheVariants as comma
 ghost use Rattle.translate_cmd.specs.Reading.{reading};
 ghost use Rattle.translate_cmd.specs.Runs.{Runs};
 ghost use Rattle.translate_cmd.specs.Complete.{Completes};
+ghost use Rattle.translate_cmd.specs.AgreementRuns.{OwnModelsEndInAgreement};
 
 use crate::asked::{Command, Memory, asked};
 use crate::replay::replay;
+use crate::simulate::simulate;
 use crate::translate::translate;
 use command_outcomes::Status;
 use std::alloc::Global;
@@ -21,8 +23,10 @@ use verilog_writer::write_udp;
 const USAGE: &[u8] = b"lib2sim: usage\n";
 
 /// Runs the command that the desk's words ask for: `udp` prints a primitive, `translate` writes the Verilog and VHDL models
-/// of a library's cells and a report of them, `replay-verilog` prints the traces of a Verilog file's modules under a
-/// stimulus, `replay-vital` those of a VHDL file's entities, and words without a reading are `Usage`.
+/// of a library's cells and a report of them, `simulate` prints the traces of a library's cells, of their modules in a Verilog
+/// file and of their entities in a VHDL file under a stimulus and whether they are equal, `replay-verilog` prints the traces of a
+/// Verilog file's modules under a stimulus, `replay-vital` those of a VHDL file's entities, and words without a reading are
+/// `Usage`.
 ///
 /// It ends with the status of the outcome of the words and the desk's files, and all that the outcome appends was appended,
 /// or with one of two others: `Outside`, only where a call on the desk failed in this call, and `Memory`, where there was
@@ -34,7 +38,13 @@ const USAGE: &[u8] = b"lib2sim: usage\n";
 ///
 /// Where no call failed, words of `udp` with a reading come to `Done` or `Memory`, a whole library of at most 67,108,864
 /// bytes, its cells refused or not, to `Done`, `Cells` or `Memory`, and a Verilog or VHDL file of at most as many bytes and a
-/// stimulus of at most 16,777,216, neither refused, to `Done` or `Memory`.
+/// stimulus of at most 16,777,216, neither refused, to `Done` or `Memory`. A whole library, a Verilog file and a VHDL file that
+/// are not refused, and a stimulus without a bad line, each within its limit, are simulated to `Done`, where all traces are equal,
+/// to `Differ`, where some are not, or to `Memory`. Cells that are refused count there only where the stimulus names them.
+///
+/// Where `simulate` names a library and, as its Verilog and VHDL files, the texts that `translate` writes for this library, it ends
+/// neither with `Model` nor with `Differ`, whatever the library and the stimulus are. With `Done` the report is the sections of the
+/// stimulus, each of which says that the traces of the cell, of its module and of its entity are equal.
 ///
 /// Nothing is bound but what the words name. Of a command that reads files all this is said where the desk tells its folder
 /// and what is left of its files.
@@ -45,6 +55,7 @@ pub fn run<D: Desk>(alloc: Global, desk: &mut D) -> Status
     ensures later { D.faults desk.old ≤ D.faults desk.new }
     ensures kept { IsTrue (is_unfailed result) → D.faults desk.new ≡ D.faults desk.old }
     ensures complete { (Rose (D.faults desk.old) (D.faults desk.new) → ⊥) → Completes (D.state desk.old) (D.state desk.new) result }
+    ensures agree { OwnModelsEndInAgreement (D.state desk.old) (D.state desk.new) result }
 {
     carry_out(alloc, desk)
 }
@@ -60,6 +71,7 @@ fn carry_out<D: Desk>(alloc: Global, desk: &mut D) -> Status
     match asked(alloc, desk) {
         Ok(Command::Udp(udp)) => ended(write_udp(desk, OutSlot::Report, &udp), Status::Done),
         Ok(Command::Translate) => translate(alloc, desk),
+        Ok(Command::Simulate) => simulate(alloc, desk),
         Ok(Command::Replay(format)) => replay(alloc, desk, format),
         Ok(Command::Usage) => ended(write_whole(desk, OutSlot::Faults, USAGE), Status::Usage),
         Err(Memory) => Status::Memory,
@@ -72,6 +84,7 @@ pub fn run_sure(alloc: Global, desk: &mut SureDesk) -> Status
     ensures writes { Runs (sure_state desk.old) (sure_state desk.new) result }
     ensures usage { IsTrue (is_decided result) → (result ≡ Status.Usage ↔ reading (sure_state desk.old).words ≡ command.Usage) }
     ensures complete { Completes (sure_state desk.old) (sure_state desk.new) result }
+    ensures agree { OwnModelsEndInAgreement (sure_state desk.old) (sure_state desk.new) result }
 {
     run(alloc, desk)
 }

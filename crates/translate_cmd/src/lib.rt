@@ -4,10 +4,14 @@
 mod asked;
 mod cells;
 mod command;
+mod comparisons;
 mod items;
 mod laws;
 mod library_file;
+mod model_file;
 mod replay;
+mod simulate;
+mod simulation;
 mod test_lines;
 mod translate;
 mod verilog;

@@ -27,6 +27,7 @@ fn tell<D: Desk>(desk: &mut D, why: NotWhole) -> Status
     ensures outside { result ≡ Status.Outside → Rose (D.faults desk.old) (D.faults desk.new) }
     ensures later { D.faults desk.old ≤ D.faults desk.new }
     ensures kept { IsTrue (is_unfailed result) → D.faults desk.new ≡ D.faults desk.old }
+    ensures usage { result ≡ Status.Usage → ⊥ }
 {
     match why {
         NotWhole::Fault(fault) => ended(write_library_fault(desk, &fault), Status::Library),
@@ -49,6 +50,7 @@ pub(crate) fn read_library<D: Desk>(
     ensures later { D.faults desk.old ≤ D.faults desk.new }
     ensures unfailed { IfErr result (λ status. IsTrue (is_unfailed status) → D.faults desk.new ≡ D.faults desk.old) }
     ensures kept { OnOk result (D.faults desk.new ≡ D.faults desk.old) }
+    ensures usage { IfErr result (λ status. status ≡ Status.Usage → ⊥) }
 {
     match desk.bind_in(InSlot::Library, place) {
         Ok(()) => match read_cells(alloc, desk, LIMIT) {

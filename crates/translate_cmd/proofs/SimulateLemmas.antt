@@ -1,0 +1,50 @@
+-- Simulating: names of models in which none stands twice, sound models, and a run of the command that the words ask for.
+use Rattle.std.proofs.Common.{◌≡◌, ◌≤◌, ℕ, List, [], ◌∷◌, length, map, Ok, refl, sym, ap, subst, ◌∙◌}
+use Rattle.std.specs.Prelude.{All}
+use Rattle.text_io.specs.Desk.{DeskState}
+use Rattle.bool_functions.specs.NameList.{AreDistinct}
+use Rattle.cell_reader.specs.LibraryCells.{CellEntry, cell_names}
+use Rattle.specify_blocks.specs.declared.model.VModule.{VModule}
+use Rattle.specify_blocks.specs.Sound as modules_of
+use Rattle.specify_blocks.specs.VerilogText.{verilog_text}
+use Rattle.specify_blocks.specs.WellFormed as verilog_forms
+use Rattle.specify_blocks.proofs.ReadText.{text_modules}
+use Rattle.specify_blocks.proofs.VerilogAnswers.{is_answer}
+use Rattle.vital_models.specs.declared.model.VEntity.{VEntity}
+use Rattle.vital_models.specs.Sound as entities_of
+use Rattle.vhdl_text.specs.VhdlText.{vhdl_text, VhdlTextHasOneAnswer}
+use Rattle.vhdl_text.specs.WellFormed as vital_forms
+use Rattle.vhdl_text.specs.Laws.{TextsAreWellFormed}
+use Rattle.model_replay.specs.Outcome.{model_limit}
+use Rattle.command_outcomes.specs.declared.status.Status.{Status}
+use Rattle.command_outcomes.specs.Runs.{RunsAs}
+use Rattle.simulation_catalog.specs.Catalog.{HaveOwnNames}
+use Rattle.translate_cmd.specs.declared.asked.Command.TheVariants as command
+use Rattle.translate_cmd.specs.Reading.{reading}
+use Rattle.translate_cmd.specs.Outcome.{files_of, outcome_of}
+use Rattle.translate_cmd.specs.Simulate.{simulate_files, simulate_of}
+use Rattle.translate_cmd.specs.Runs.{Runs}
+use Rattle.translate_cmd.proofs.LanguageLemmas.{short_number}
+use Rattle.translate_cmd.proofs.OwnNames.{modules_apart, entities_apart}
+
+pub modules_sound : (modules : List VModule) → All verilog_forms.IsWellFormedModule modules → All modules_of.IsSound modules
+modules_sound modules h = λ k d below. (h k d below).sound
+
+pub entities_sound : (entities : List VEntity) → All vital_forms.IsWellFormedEntity entities → All entities_of.IsSound entities
+entities_sound entities h = λ k d below. (h k d below).sound
+
+-- cells of different names beside the models of two texts
+pub own_names : (cells : List CellEntry) (modules : List VModule) (entities : List VEntity) (text vhdl : List ℕ) → VhdlTextHasOneAnswer → TextsAreWellFormed
+    → AreDistinct (cell_names cells) → verilog_text text ≡ Ok modules → length vhdl ≤ model_limit → vhdl_text vhdl ≡ Ok entities → HaveOwnNames cells modules entities
+own_names cells modules entities text vhdl answer texts own read short found = record {
+  of_cells = own;
+  of_modules = modules_apart modules (text_modules text modules (((is_answer text).modules modules).1 read));
+  of_entities = entities_apart entities (texts vhdl entities (short_number (length vhdl) short) (((answer vhdl).entities entities).1 found));
+}
+
+-- a run of a simulation is one of the command that the words ask for
+pub simulation_asked : (old new : DeskState) (result : Status) → reading old.words ≡ command.Simulate → RunsAs simulate_files (simulate_of old.words) old new result → Runs old new result
+simulation_asked old new result e run = record {
+  run = subst (λ asked. RunsAs (files_of asked) (outcome_of asked old.words) old new result) (sym e) run;
+  models = λ asks. absurd (let same : command.Simulate ≡ command.Translate = sym e ∙ asks in cc);
+}

@@ -1,0 +1,44 @@
+//! Simulating the cells of a library beside their models: four files are read, and then the traces of each section are printed and
+//! compared.
+ghost use Rattle.std.specs.Prelude.{◌≡◌, ◌≤◌, IsTrue};
+ghost use Rattle.text_io.specs.Desk.{Rose};
+ghost use Rattle.command_outcomes.specs.Status.{is_unfailed};
+ghost use Rattle.translate_cmd.specs.declared.asked.Command.TheVariants as command;
+ghost use Rattle.translate_cmd.specs.Reading.{reading};
+ghost use Rattle.translate_cmd.specs.Runs.{Runs};
+ghost use Rattle.translate_cmd.specs.Besides.{compared_status};
+
+use crate::comparisons::write_sections;
+use crate::simulation::read_simulation;
+use command_outcomes::Status;
+use section_runs::RunFault;
+use std::alloc::Global;
+use text_io::Desk;
+
+/// Prints the traces of the cells of a library, of their modules and of their entities, section by section of a stimulus, all of the
+/// files that the words name, and whether the three of each section are equal. Nothing is printed before all four files are read.
+pub(crate) fn simulate<D: Desk>(alloc: Global, desk: &mut D) -> Status
+    requires { reading (D.state desk.old).words ≡ command.Simulate }
+    ensures writes { Runs (D.state desk.old) (D.state desk.new) result }
+    ensures usage { result ≡ Status.Usage → ⊥ }
+    ensures outside { result ≡ Status.Outside → Rose (D.faults desk.old) (D.faults desk.new) }
+    ensures later { D.faults desk.old ≤ D.faults desk.new }
+    ensures kept { IsTrue (is_unfailed result) → D.faults desk.new ≡ D.faults desk.old }
+{
+    match read_simulation(alloc, desk) {
+        Ok(simulation) => ended(write_sections(alloc, desk, &simulation)),
+        Err(status) => status,
+    }
+}
+
+/// The status of a run whose sections were printed so, and of which some differ or none.
+fn ended(printed: Result<bool, RunFault>) -> Status
+    ensures { result ≡ compared_status printed }
+{
+    match printed {
+        Ok(true) => Status::Differ,
+        Ok(false) => Status::Done,
+        Err(RunFault::Failed) => Status::Outside,
+        Err(RunFault::Memory) => Status::Memory,
+    }
+}

@@ -108,14 +108,21 @@ fn stimulus_of(alloc: Global, section: &Section) -> Result<String, Fail> {
     Ok(text)
 }
 
+/// Adds what one of the three shows.
+fn push_line(text: &mut String, tag: &str, change: &str, shown: &str) -> Result<(), Fail> {
+    text.push_str(tag)?;
+    text.push_str(change)?;
+    text.push_str(" : ")?;
+    text.push_str(shown)?;
+    text.push_str("\n")?;
+    Ok(())
+}
+
 /// Adds what each of the three shows.
 fn push_three(text: &mut String, change: &str, shown: &str) -> Result<(), Fail> {
-    for tag in ["L ", "V ", "H "] {
-        for part in [tag, change, " : ", shown, "\n"] {
-            text.push_str(part)?;
-        }
-    }
-    Ok(())
+    push_line(text, "L ", change, shown)?;
+    push_line(text, "V ", change, shown)?;
+    push_line(text, "H ", change, shown)
 }
 
 /// The report of a section.

@@ -1,19 +1,17 @@
 -- A file of models that a run reads, by what its language says of it.
-use Rattle.std.proofs.Common.{◌≡◌, ◌≤◌, ◌⊎◌, inl, inr, ℕ, Bool, true, false, List, [], length, Result, Ok, Err, IfSome, refl, ap, subst, ◌∙◌}
+use Rattle.std.proofs.Common.{◌≡◌, ◌⊎◌, inl, inr, ℕ, Bool, true, false, List, [], Ok, Err, IfSome, refl, ap, ◌∙◌}
 use Rattle.text_io.specs.declared.slots.InSlot.{InSlot}
 use Rattle.text_io.specs.declared.slots.OutSlot.TheVariants.{Faults}
 use Rattle.text_io.specs.Desk.{DeskState, took, wrote, IsPrefix}
 use Rattle.command_outcomes.specs.declared.status.Status.{Status}
 use Rattle.command_outcomes.specs.FileSteps.{FileStop, opened_where, FileIsTaken, FileEndsRun}
 use Rattle.model_replay.specs.declared.ending.Ending.{Ending}
-use Rattle.model_replay.specs.declared.refused.Refused.{Refused}
 use Rattle.model_replay.specs.Languages.{Language}
 use Rattle.model_replay.specs.Outcome.{model_limit}
 use Rattle.model_replay.specs.Endings.{status_of, ending_of, line_of}
 use Rattle.model_replay.specs.Answers.{models_answer}
 use Rattle.model_replay.specs.FileEnds.{answer_within, opened_if, FileIsRead, FileIsRefused, IsRefusedBy}
 use Rattle.model_replay.proofs.FileLemmas.{IfSome-map}
-use Rattle.model_replay.proofs.ReplayRuns.{of_models}
 use Rattle.translate_cmd.specs.ModelAnswers.{stop_of, or_stop, model_answer}
 
 -- a file of models that was read
@@ -27,11 +25,6 @@ models_taken l old new slot place models r = record {
   state = r.state;
   told = IfSome-map (old.left slot) (answer_within (models_answer l) model_limit r.bytes ≡ Ok models) (or_stop (answer_within (models_answer l) model_limit r.bytes) ≡ Ok models) (ap or_stop) r.told;
 }
-
--- the text that was read is one of the models
-pub models_text : {M : Type 0} (l : Language M) (old new : DeskState) (slot : InSlot) (place : ℕ) (models : List M) → FileIsRead (models_answer l) model_limit old new slot place models
-    → (text : List ℕ) × (length text ≤ model_limit) × (l.text text ≡ Ok models)
-models_text l old new slot place models r = (r.text, r.within, of_models l r.more r.text models r.read)
 
 same_opened : (bound : Bool) (s : DeskState) (slot : InSlot) (bytes : List ℕ) → opened_if bound s slot bytes ≡ opened_where bound s slot bytes
 same_opened true s slot bytes = refl

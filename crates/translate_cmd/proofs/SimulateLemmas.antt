@@ -1,5 +1,5 @@
 -- Simulating: names of models in which none stands twice, sound models, and a run of the command that the words ask for.
-use Rattle.std.proofs.Common.{◌≡◌, ◌≤◌, ℕ, List, [], ◌∷◌, length, map, Ok, refl, sym, ap, subst, ◌∙◌}
+use Rattle.std.proofs.Common.{◌≡◌, ◌≤◌, ℕ, Bool, true, false, List, length, Result, Ok, Err, refl, sym, subst, ◌∙◌}
 use Rattle.std.specs.Prelude.{All}
 use Rattle.text_io.specs.Desk.{DeskState}
 use Rattle.bool_functions.specs.NameList.{AreDistinct}
@@ -15,14 +15,19 @@ use Rattle.vital_models.specs.Sound as entities_of
 use Rattle.vhdl_text.specs.VhdlText.{vhdl_text, VhdlTextHasOneAnswer}
 use Rattle.vhdl_text.specs.WellFormed as vital_forms
 use Rattle.vhdl_text.specs.Laws.{TextsAreWellFormed}
+use Rattle.section_runs.specs.declared.faults.RunFault.{RunFault}
+use Rattle.section_runs.specs.declared.faults.RunFault.TheVariants as run
+use Rattle.section_runs.specs.Writes.{HasCause}
 use Rattle.model_replay.specs.Outcome.{model_limit}
 use Rattle.command_outcomes.specs.declared.status.Status.{Status}
 use Rattle.command_outcomes.specs.Runs.{RunsAs}
 use Rattle.simulation_catalog.specs.Catalog.{HaveOwnNames}
+use Rattle.simulation_catalog.specs.StimulusFile.{StopsWithStatus}
 use Rattle.translate_cmd.specs.declared.asked.Command.TheVariants as command
 use Rattle.translate_cmd.specs.Reading.{reading}
 use Rattle.translate_cmd.specs.Outcome.{files_of, outcome_of}
 use Rattle.translate_cmd.specs.Simulate.{simulate_files, simulate_of}
+use Rattle.translate_cmd.specs.Besides.{compared_status}
 use Rattle.translate_cmd.specs.Runs.{Runs}
 use Rattle.translate_cmd.proofs.LanguageLemmas.{short_number}
 use Rattle.translate_cmd.proofs.OwnNames.{modules_apart, entities_apart}
@@ -48,3 +53,16 @@ simulation_asked old new result e run = record {
   run = subst (λ asked. RunsAs (files_of asked) (outcome_of asked old.words) old new result) (sym e) run;
   models = λ asks. absurd (let same : command.Simulate ≡ command.Translate = sym e ∙ asks in cc);
 }
+
+-- A run whose sections were printed so counts its faults as its status tells.
+
+stops_printed : (before after : ℕ) (printed : Result Bool RunFault) → HasCause before after printed → StopsWithStatus before after (compared_status printed)
+stops_printed before after (Ok true) h = record { later = h.later; kept = λ u. h.kept; outside = λ e. absurd cc; usage = λ e. cc }
+stops_printed before after (Ok false) h = record { later = h.later; kept = λ u. h.kept; outside = λ e. absurd cc; usage = λ e. cc }
+stops_printed before after (Err run.Failed) h = record { later = h.later; kept = λ u. absurd (let no : false ≡ true = u in cc); outside = λ e. h.failed refl; usage = λ e. cc }
+stops_printed before after (Err run.Memory) h = record { later = h.later; kept = λ u. h.memory refl; outside = λ e. absurd cc; usage = λ e. cc }
+
+pub printed_stops : (before now after : ℕ) (printed : Result Bool RunFault) (result : Status) → now ≡ before → HasCause now after printed → result ≡ compared_status printed
+    → StopsWithStatus before after result
+printed_stops before now after printed result kept h is =
+    subst (λ count. StopsWithStatus count after result) kept (subst (StopsWithStatus now after) (sym is) (stops_printed now after printed h))

@@ -1,6 +1,5 @@
 -- The four files of a simulation, one after another.
-use Rattle.std.proofs.Common.{◌≡◌, ℕ, ◌<◌, Bool, true, false, if◌then◌else◌, List, [], ◌∷◌, Result, Ok, Err, IfOk, IsTrue, Contains, refl, sym, ap, subst, ◌∙◌, arith}
-use Rattle.std.specs.Prelude.{All}
+use Rattle.std.proofs.Common.{◌≡◌, ℕ, Bool, if◌then◌else◌, List, [], ◌∷◌, Result, Ok, Err, IfOk, Contains, refl, sym, ap, subst, ◌∙◌, arith}
 use Rattle.std.proofs.lemmas.List.{append-nil}
 use Rattle.text_io.specs.declared.slots.InSlot.TheVariants.{Library, Verilog, Vital, Stimulus}
 use Rattle.text_io.specs.declared.slots.Slot.{Slot}
@@ -63,9 +62,6 @@ pub still_planned : (done : Files) (behind : Folder → Outcome) (old now : Desk
     → plan old.words ≡ simulate_files → Contains simulate_files file → Contains (plan now.words) file
 still_planned done behind old now file r planned has =
     subst (λ words. Contains (plan words) file) (sym (words_before old now done r.bytes r.taken r.state)) (subst (λ files. Contains files file) (sym planned) has)
-
-pub has_library : Contains simulate_files (Input Library, 1)
-has_library = (0, omega arith, refl)
 
 pub has_verilog : Contains simulate_files (Input Verilog, 2)
 has_verilog = (1, omega arith, refl)

@@ -1,10 +1,8 @@
-use Rattle.std.proofs.Common.{◌≡◌, List, All, Contains, sym, subst, ap, ◌∙◌}
-use Rattle.text_io.specs.declared.slots.InSlot.TheVariants.{Library}
-use Rattle.text_io.specs.declared.slots.Slot.TheVariants.{Input}
+use Rattle.std.proofs.Common.{sym, subst}
 use Rattle.command_outcomes.specs.Runs.{RunsAs}
 use Rattle.model_replay.proofs.FileLemmas.{err_is}
 use Rattle.translate_cmd.specs.Simulate.{simulate_files, simulate_of}
-use Rattle.translate_cmd.proofs.SimulationFiles.{one_file, two_files, after_cells, after_modules, still_planned, has_library, has_verilog, has_vital, cells_read, modules_read, entities_read, library_ends, verilog_ends, vital_ends}
+use Rattle.translate_cmd.proofs.SimulationFiles.{one_file, two_files, still_planned, has_verilog, has_vital, cells_read, modules_read, entities_read, library_ends, verilog_ends, vital_ends}
 use Rattle.translate_cmd.proofs.SimulateLemmas.{own_names, modules_sound, entities_sound}
 use Rattle.translate_cmd.proofs.simulation.read_cells_and_models.Goals as goal
 

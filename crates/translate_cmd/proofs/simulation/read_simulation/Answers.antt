@@ -1,4 +1,4 @@
-use Rattle.std.proofs.Common.{◌≡◌, sym, subst, ◌∙◌}
+use Rattle.std.proofs.Common.{sym, subst, ◌∙◌}
 use Rattle.text_io.specs.declared.slots.InSlot.TheVariants.{Stimulus}
 use Rattle.cell_reader.specs.LibraryCells.{all_described}
 use Rattle.command_outcomes.specs.Runs.{RunsAs}

@@ -13,7 +13,8 @@ use Rattle.vhdl_writer.specs.Joined.{numbered_texts}
 use Rattle.vhdl_writer.specs.Names.{port_at}
 use Rattle.vhdl_writer.specs.Statements.{one_text, enabled_text, test_at, reference_at, transition_text, high_word, low_word, setup_hold_text, recovery_word, active_text, recovery_removal_text, width_word, pulse_word, period_pulse_text, kind_text, check_text}
 use Rattle.grammar_phrases.proofs.Fronts.{Front, Anything}
-use Rattle.written_entities.proofs.Spelling.{Spells, joins, behind, literal, anywhere}
+use Rattle.grammar_phrases.proofs.Spelling.{joins, behind, anywhere}
+use Rattle.written_entities.proofs.Spelling.{Spells, literal}
 use Rattle.written_entities.proofs.Words.{Ends, word, name, number, of_report, of_data, true_word}
 use Rattle.written_entities.proofs.Counting.{counted, counted_anywhere}
 use Rattle.written_entities.proofs.Parts.{part_behind}

@@ -24,7 +24,8 @@ use Rattle.vhdl_writer.specs.Names.{port_at, inputs_at, input_text, inputs_text,
 use Rattle.grammar_phrases.proofs.Fronts.{Front, Anything}
 use Rattle.grammar_phrases.proofs.Derivations.{Reads, from_same, to_same, gives, token, in_turn, goes_on}
 use Rattle.grammar_phrases.proofs.Places.{at_place, all_at, get_at, one_longer}
-use Rattle.written_entities.proofs.Spelling.{Spells, behind, literal}
+use Rattle.grammar_phrases.proofs.Spelling.{behind}
+use Rattle.written_entities.proofs.Spelling.{Spells, literal}
 use Rattle.written_entities.proofs.Words.{of_condition, part_named, below_word, unnumbered}
 use Rattle.written_entities.proofs.NameReading.{expected, three_expected, four_expected, expected_where, known_as, place_found}
 use Rattle.written_entities.proofs.Elements.{names_front, names_spelled, closed, elements_read}

@@ -28,7 +28,8 @@ use Rattle.vhdl_text.specs.WellFormed.{IsNumber, HasOneEdge, IsWrittenState, IsW
 use Rattle.vhdl_writer.specs.Tables.{state_rows_text, truth_rows_text, state_constant_text, condition_constant_text, is_looked_up, table_number, output_table_text, value_constant_text, output_constant_text, constants_text}
 use Rattle.grammar_phrases.proofs.Fronts.{Front, Anything}
 use Rattle.grammar_phrases.proofs.Derivations.{Reads, to_same, gives, in_turn, chosen, passed, no_turn, turn, turns}
-use Rattle.written_entities.proofs.Spelling.{Spells, behind, nothing, literal}
+use Rattle.grammar_phrases.proofs.Spelling.{behind, nothing}
+use Rattle.written_entities.proofs.Spelling.{Spells, literal}
 use Rattle.written_entities.proofs.Words.{of_table, of_condition, part_named, below_word}
 use Rattle.written_entities.proofs.TableTokens.{truth_row_front, state_row_front, rows_front, truth_rows, state_rows}
 use Rattle.written_entities.proofs.TableReading.{truth_table_read, state_table_read}

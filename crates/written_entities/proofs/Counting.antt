@@ -10,7 +10,8 @@ use Rattle.vhdl_writer.specs.Joined.{numbered_texts, apart_text}
 use Rattle.grammar_phrases.proofs.Fronts.{Front, Anything}
 use Rattle.grammar_phrases.proofs.Derivations.{Reads}
 use Rattle.grammar_phrases.proofs.Places.{one_longer}
-use Rattle.written_entities.proofs.Spelling.{Spells, joins, behind, nothing}
+use Rattle.grammar_phrases.proofs.Spelling.{joins, behind, nothing}
+use Rattle.written_entities.proofs.Spelling.{Spells}
 
 -- the tokens of items that are numbered from this number on
 abbrev pub counted : {A : Type 0} → (ℕ → A → Front) → ℕ → List A → Front

@@ -8,7 +8,8 @@ use Rattle.vhdl_writer.specs.Joined.{numbered_texts, apart_text}
 use Rattle.vhdl_writer.specs.Names.{list_start}
 use Rattle.grammar_phrases.proofs.Fronts.{Front, Anything}
 use Rattle.grammar_phrases.proofs.Derivations.{Reads, in_turn, chosen, passed, no_turn, turn, turns}
-use Rattle.written_entities.proofs.Spelling.{Spells, joins, behind, literal}
+use Rattle.grammar_phrases.proofs.Spelling.{joins, behind}
+use Rattle.written_entities.proofs.Spelling.{Spells, literal}
 use Rattle.written_entities.proofs.Words.{Ends, IsNamed, name}
 use Rattle.written_entities.proofs.Counting.{counted, apart_spelled, over}
 use Rattle.written_entities.proofs.NameReading.{expected}

@@ -14,7 +14,8 @@ use Rattle.grammar_phrases.proofs.Fronts.{Anything, each}
 use Rattle.grammar_phrases.proofs.Derivations.{Reads, gives, in_turn, turn, through}
 use Rattle.grammar_phrases.proofs.Places.{none_if}
 use Rattle.written_entities.specs.Laws.{entities_text, EntitiesReadBack}
-use Rattle.written_entities.proofs.Spelling.{Spells, behind, nothing, found}
+use Rattle.grammar_phrases.proofs.Spelling.{behind, nothing}
+use Rattle.written_entities.proofs.Spelling.{Spells, found}
 use Rattle.written_entities.proofs.Words.{entity_named}
 use Rattle.written_entities.proofs.NameReading.{is_new}
 use Rattle.written_entities.proofs.TableText.{all_found}

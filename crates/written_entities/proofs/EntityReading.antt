@@ -29,7 +29,8 @@ use Rattle.vhdl_writer.specs.Declarations.{is_input, first_input}
 use Rattle.vhdl_writer.specs.Entity.{end_text, statements_text, entity_text}
 use Rattle.grammar_phrases.proofs.Fronts.{Front, Anything}
 use Rattle.grammar_phrases.proofs.Derivations.{Reads, to_same, gives, in_turn}
-use Rattle.written_entities.proofs.Spelling.{Spells, behind, literal}
+use Rattle.grammar_phrases.proofs.Spelling.{behind}
+use Rattle.written_entities.proofs.Spelling.{Spells, literal}
 use Rattle.written_entities.proofs.Words.{entity_named}
 use Rattle.written_entities.proofs.NameReading.{expected, two_expected, five_expected, expected_where, newly_named}
 use Rattle.written_entities.proofs.Counting.{counted}

@@ -18,7 +18,8 @@ use Rattle.vhdl_writer.specs.Declarations.{direction_text, port_text, some_ports
 use Rattle.grammar_phrases.proofs.Fronts.{Front, Anything}
 use Rattle.grammar_phrases.proofs.Derivations.{Reads, gives, token, in_turn, chosen, passed, no_turn, turn, turns}
 use Rattle.grammar_phrases.proofs.Places.{at_place}
-use Rattle.written_entities.proofs.Spelling.{Spells, joins, behind, nothing, literal}
+use Rattle.grammar_phrases.proofs.Spelling.{joins, behind, nothing}
+use Rattle.written_entities.proofs.Spelling.{Spells, literal}
 use Rattle.written_entities.proofs.Words.{Ends, IsNamed, word, name, entity_named, port_named}
 use Rattle.written_entities.proofs.NameReading.{expected, two_expected, three_expected, seven_expected, so_named, is_new}
 use Rattle.written_entities.proofs.Counting.{counted, apart_front, apart_spelled, over}

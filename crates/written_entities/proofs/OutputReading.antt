@@ -25,7 +25,8 @@ use Rattle.grammar_phrases.proofs.Fronts.{Front, Anything}
 use Rattle.grammar_phrases.proofs.Derivations.{Reads, gives, token, in_turn, no_turn, turn, turns, goes_on}
 use Rattle.grammar_phrases.proofs.Places.{get_at}
 use Rattle.written_entities.proofs.Assigned.{IsAssigned, assigned}
-use Rattle.written_entities.proofs.Spelling.{Spells, joins, behind, literal}
+use Rattle.grammar_phrases.proofs.Spelling.{joins, behind}
+use Rattle.written_entities.proofs.Spelling.{Spells, literal}
 use Rattle.written_entities.proofs.Words.{IsNamed, name, of_glitch, of_output, part_named, below_word, port_named}
 use Rattle.written_entities.proofs.NameReading.{same_name, same_self, expected, two_expected, three_expected, six_expected, so_named, part_read}
 use Rattle.written_entities.proofs.Counting.{counted, counted_anywhere, apart_front, over}

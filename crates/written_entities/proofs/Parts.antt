@@ -10,7 +10,8 @@ use Rattle.vital_models.specs.Sound.{output_ports_from}
 use Rattle.vhdl_text.specs.WellFormed.{IsNumber, IsWellFormedEntity}
 use Rattle.grammar_phrases.proofs.Fronts.{Front, Anything}
 use Rattle.grammar_phrases.proofs.Places.{at_place}
-use Rattle.written_entities.proofs.Spelling.{Spells, joins, behind}
+use Rattle.grammar_phrases.proofs.Spelling.{joins, behind}
+use Rattle.written_entities.proofs.Spelling.{Spells}
 use Rattle.written_entities.proofs.Words.{Ends, IsLetter, part, below_word}
 
 -- text that is written where a test holds

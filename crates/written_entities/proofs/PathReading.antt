@@ -14,7 +14,8 @@ use Rattle.vhdl_writer.specs.Names.{port_at, condition_text}
 use Rattle.vhdl_writer.specs.Outputs.{not_zero_text, zero_text, all_zero_text, gate_text, path_text}
 use Rattle.grammar_phrases.proofs.Fronts.{Front, Anything}
 use Rattle.grammar_phrases.proofs.Derivations.{Reads, from_same, to_same, gives, in_turn, chosen, passed, no_turn, turn, turns}
-use Rattle.written_entities.proofs.Spelling.{Spells, joins, behind, literal, anywhere}
+use Rattle.grammar_phrases.proofs.Spelling.{joins, behind, anywhere}
+use Rattle.written_entities.proofs.Spelling.{Spells, literal}
 use Rattle.written_entities.proofs.Words.{Ends, name, number, true_word}
 use Rattle.written_entities.proofs.NameReading.{expected, two_expected, three_expected, time_read, this_number_read}
 use Rattle.written_entities.proofs.Counting.{counted, apart_front, apart_spelled, over}

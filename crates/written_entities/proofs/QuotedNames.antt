@@ -9,7 +9,8 @@ use Rattle.vhdl_tokens.specs.Tokens.{is_name_byte, later, string_rest, token_len
 use Rattle.vhdl_tokens.specs.Spelling.{text_of, is_quoted}
 use Rattle.vhdl_tokens.proofs.Padding.{over_token}
 use Rattle.grammar_phrases.proofs.Fronts.{Front, Anything}
-use Rattle.written_entities.proofs.Spelling.{Spells, behind}
+use Rattle.grammar_phrases.proofs.Spelling.{behind}
+use Rattle.written_entities.proofs.Spelling.{Spells}
 use Rattle.written_entities.proofs.Words.{IsNamed}
 use Rattle.written_entities.proofs.NameReading.{same_case}
 

@@ -14,7 +14,8 @@ use Rattle.vhdl_writer.specs.Declarations.{is_input, first_input, signal_start, 
 use Rattle.grammar_phrases.proofs.Fronts.{Front, Anything, each}
 use Rattle.grammar_phrases.proofs.Derivations.{Reads, to_same, gives, in_turn, turn, through, goes_on}
 use Rattle.grammar_phrases.proofs.Places.{at_place, get_at, one_longer}
-use Rattle.written_entities.proofs.Spelling.{Spells, joins, behind, nothing, literal}
+use Rattle.grammar_phrases.proofs.Spelling.{joins, behind, nothing}
+use Rattle.written_entities.proofs.Spelling.{Spells, literal}
 use Rattle.written_entities.proofs.Words.{Ends, IsNamed, word, name, port_named}
 use Rattle.written_entities.proofs.NameReading.{expected, so_named}
 use Rattle.written_entities.proofs.Elements.{comma}

@@ -1,33 +1,19 @@
 -- How the tokens of a VHDL text come from those of its pieces.
-use Rattle.std.proofs.Common.{◌≡◌, ℕ, ◌+◌, ◌≤◌, Bool, List, [], ◌∷◌, ◌++◌, refl, ap, ◌∙◌, arith, append_assoc}
+use Rattle.std.proofs.Common.{◌≡◌, ℕ, ◌+◌, ◌≤◌, Bool, List, [], ◌∷◌, ◌++◌, ap, ◌∙◌, arith}
 use Rattle.vhdl_tokens.specs.Tokens.{scan}
 use Rattle.vhdl_tokens.specs.Separators.{spelled}
 use Rattle.vhdl_tokens.proofs.Padding.{Found, any_offset}
 use Rattle.vhdl_writer.specs.Joined.{numbered_texts}
 use Rattle.grammar_phrases.proofs.Fronts.{Front, in_front, Anything, each}
+use Rattle.grammar_phrases.proofs.Spelling.{SpellsBy, behind, nothing}
 
 -- the tokens of bytes, behind a name or not
 abbrev pub found : Bool → List ℕ → Found
 found t text = spelled (scan t 0 0 text)
 
 -- Before bytes that pass a test the text is these tokens. The flags say whether a name stands before it, and whether it ends with one.
-pub record Spells (P : List ℕ → Type 0) (t : Bool) (text : List ℕ) (f : Front) (u : Bool) : Type 0 where
-  pub is : (r : List ℕ) → P r → found t (text ++ r) ≡ in_front f (found u r)
-
--- one text behind another
-pub joins : {P Q : List ℕ → Type 0} {t u v : Bool} {a b : List ℕ} {f g : Front} → Spells P t a f u → ((r : List ℕ) → Q r → P (b ++ r)) → Spells Q u b g v
-    → Spells Q t (a ++ b) (λ s. f (g s)) v
-joins {t = t} {a = a} {b = b} {f = f} h k i = record {
-  is = λ r q. ap (λ (s : List ℕ). found t s) (append_assoc a b r) ∙ h.is (b ++ r) (k r q) ∙ ap (in_front f) (i.is r q);
-}
-
--- one text behind another that may stand before any bytes
-pub behind : {Q : List ℕ → Type 0} {t u v : Bool} {a b : List ℕ} {f g : Front} → Spells Anything t a f u → Spells Q u b g v → Spells Q t (a ++ b) (λ s. f (g s)) v
-behind h i = joins h (λ r q. tt) i
-
--- no text
-pub nothing : {P : List ℕ → Type 0} {t : Bool} → Spells P t [] (λ s. s) t
-nothing = record { is = λ r p. refl }
+abbrev pub Spells : (List ℕ → Type 0) → Bool → List ℕ → Front → Bool → Type 0
+Spells = SpellsBy found
 
 -- bytes of which the tokens are found by computing, so many of them
 pub literal : {t u : Bool} {text : List ℕ} {f : Front} (n : ℕ) → ((r : List ℕ) → found t (text ++ r) ≡ in_front f (spelled (scan u n 0 r))) → Spells Anything t text f u
@@ -40,6 +26,3 @@ numbered_spelled text f least h n [] m = nothing
 numbered_spelled text f least h n (x ∷ xs) m =
     let next : least ≤ n + 1 = omega (arith, m) in
     behind (h n x m) (numbered_spelled text f least h (n + 1) xs next)
-
-pub anywhere : {P : List ℕ → Type 0} {t u : Bool} {text : List ℕ} {f : Front} → Spells Anything t text f u → Spells P t text f u
-anywhere h = record { is = λ r p. h.is r tt }

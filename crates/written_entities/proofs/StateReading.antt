@@ -21,7 +21,8 @@ use Rattle.vhdl_writer.specs.Names.{port_at, next_input_text, violated_text}
 use Rattle.vhdl_writer.specs.Statements.{state_text}
 use Rattle.grammar_phrases.proofs.Fronts.{Front, Anything}
 use Rattle.grammar_phrases.proofs.Derivations.{Reads, to_same, gives, token, in_turn, chosen, passed, no_turn, turn, turns, goes_on}
-use Rattle.written_entities.proofs.Spelling.{Spells, joins, behind, literal}
+use Rattle.grammar_phrases.proofs.Spelling.{joins, behind}
+use Rattle.written_entities.proofs.Spelling.{Spells, literal}
 use Rattle.written_entities.proofs.Words.{Ends, IsNamed, word, name, of_table, of_state, of_columns, unnumbered}
 use Rattle.written_entities.proofs.NameReading.{two_expected, three_expected, four_expected, expected, unlike_word, part_read}
 use Rattle.written_entities.proofs.Counting.{counted, counted_spelled, counted_anywhere, begins_at, over}

@@ -38,7 +38,8 @@ use Rattle.vhdl_writer.specs.Outputs.{lookup_text, assigned_text, value_line}
 use Rattle.grammar_phrases.proofs.Fronts.{Front, Anything}
 use Rattle.grammar_phrases.proofs.Derivations.{Reads, to_same, gives, token, in_turn, chosen, passed, no_turn, turn, turns, goes_on}
 use Rattle.grammar_phrases.proofs.Places.{get_at}
-use Rattle.written_entities.proofs.Spelling.{Spells, behind, literal}
+use Rattle.grammar_phrases.proofs.Spelling.{behind}
+use Rattle.written_entities.proofs.Spelling.{Spells, literal}
 use Rattle.written_entities.proofs.Words.{IsNamed, of_table, of_state, of_output, part_named, below_word, unnumbered}
 use Rattle.written_entities.proofs.NameReading.{same_self, expected, three_expected, four_expected, so_named, place_found, unlike_plain}
 use Rattle.written_entities.proofs.Counting.{counted, counted_anywhere, over}

@@ -17,7 +17,8 @@ use Rattle.vhdl_text.specs.VhdlDeclarations.{first_data}
 use Rattle.vhdl_text.specs.WellFormed.{IsNumber, IsWrittenState, IsWellFormedEntity}
 use Rattle.vhdl_writer.specs.Declarations.{data_text, check_variables_text, violation_variable_text, width_of, state_variables_text, glitch_data_text, output_variables_text, variables_text}
 use Rattle.grammar_phrases.proofs.Fronts.{Front, Anything}
-use Rattle.written_entities.proofs.Spelling.{Spells, joins, behind, nothing, literal}
+use Rattle.grammar_phrases.proofs.Spelling.{joins, behind, nothing}
+use Rattle.written_entities.proofs.Spelling.{Spells, literal}
 use Rattle.written_entities.proofs.Words.{of_state, of_columns, of_report, of_data, of_output, of_glitch, number}
 use Rattle.written_entities.proofs.Counting.{counted, counted_anywhere}
 use Rattle.written_entities.proofs.Parts.{shown, part_behind, fact_at, place_below, output_number, state_number, check_number}

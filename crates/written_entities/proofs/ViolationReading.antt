@@ -11,7 +11,8 @@ use Rattle.vhdl_writer.specs.Statements.{report_text, reports_text, violation_te
 use Rattle.grammar_phrases.proofs.Fronts.{Front, Anything}
 use Rattle.grammar_phrases.proofs.Derivations.{Reads, to_same, gives, in_turn, no_turn, turn, turns, goes_on}
 use Rattle.grammar_phrases.proofs.Places.{one_longer}
-use Rattle.written_entities.proofs.Spelling.{Spells, joins, behind, nothing, literal}
+use Rattle.grammar_phrases.proofs.Spelling.{joins, behind, nothing}
+use Rattle.written_entities.proofs.Spelling.{Spells, literal}
 use Rattle.written_entities.proofs.Words.{Ends, of_report, part, below_word}
 use Rattle.written_entities.proofs.NameReading.{expected, two_expected, part_read}
 use Rattle.written_entities.proofs.Counting.{counted, apart_front, apart_spelled, over}

@@ -14,7 +14,8 @@ use Rattle.specify_blocks.proofs.VerilogAnswers.{is_answer}
 use Rattle.rule_readers.specs.Words.{begins_by}
 use Rattle.verilog_writer.specs.Model.{prelude_text, module_text}
 use Rattle.written_modules.specs.Laws.{modules_text, ReadBack}
-use Rattle.written_modules.proofs.Spelling.{found, Spells, behind, each_spelled, literal}
+use Rattle.grammar_phrases.proofs.Spelling.{behind, each_spelled}
+use Rattle.written_modules.proofs.Spelling.{found, Spells, literal}
 use Rattle.grammar_phrases.proofs.Fronts.{Front, Anything, each}
 use Rattle.written_modules.proofs.PrimitiveTokens.{primitive_tokens, primitive_spelled}
 use Rattle.written_modules.proofs.PrimitiveReading.{primitive_read}

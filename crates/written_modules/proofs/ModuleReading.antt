@@ -23,7 +23,8 @@ use Rattle.specify_blocks.specs.WellFormed.{IsName, AreApart, IsWellFormedUdp, I
 use Rattle.rule_readers.specs.declared.refusal.Refusal.TheVariants.{Undriven}
 use Rattle.verilog_writer.specs.Timing.{has_block}
 use Rattle.verilog_writer.specs.Model.{module_only_text}
-use Rattle.written_modules.proofs.Spelling.{Spells, behind, each_spelled, literal}
+use Rattle.grammar_phrases.proofs.Spelling.{behind, each_spelled}
+use Rattle.written_modules.proofs.Spelling.{Spells, literal}
 use Rattle.grammar_phrases.proofs.Fronts.{Front, Anything, each}
 use Rattle.written_modules.proofs.Words.{unlike_word}
 use Rattle.grammar_phrases.proofs.Derivations.{Reads, gives, in_turn}

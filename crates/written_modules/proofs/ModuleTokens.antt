@@ -9,7 +9,8 @@ use Rattle.specify_blocks.specs.declared.model.VModule.{VModule}
 use Rattle.specify_blocks.specs.WellFormed.{IsName}
 use Rattle.verilog_writer.specs.Nets.{primitive_at, net_at}
 use Rattle.verilog_writer.specs.Model.{module_opening_text, next_port_text, ports_text, module_header_text, input_port_text, output_port_text, wire_text, register_text, declarations_text, terminal_text, driver_text, call_text, constant_text, instance_text}
-use Rattle.written_modules.proofs.Spelling.{Spells, Ends, joins, behind, nothing, each_spelled, literal}
+use Rattle.grammar_phrases.proofs.Spelling.{joins, behind, nothing, each_spelled}
+use Rattle.written_modules.proofs.Spelling.{Spells, Ends, literal}
 use Rattle.grammar_phrases.proofs.Fronts.{Front, Anything, each, each_begins}
 use Rattle.written_modules.proofs.Words.{name}
 use Rattle.written_modules.proofs.PrimitiveTokens.{declared, comma, opened, closed, line_end, input_word, output_word}

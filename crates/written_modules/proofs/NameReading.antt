@@ -1,6 +1,6 @@
 -- What the words of the grammar take of names.
 use Rattle.std.proofs.Common.{◌≡◌, ℕ, Bool, true, false, List, [], ◌∷◌, ◌++◌, Option, Some, refl, ◌∙◌}
-use Rattle.std.specs.List.{AllByRecursion, IsDistinct}
+use Rattle.std.specs.List.{IsDistinct}
 use Rattle.std.specs.Str.{bytes_eq}
 use Rattle.rule_readers.specs.declared.refusal.Refusal.{Refusal}
 use Rattle.udp_tables.specs.VerilogRules.{expect, expect_where, any_name, is_among, new_name, known, this_name}

@@ -1,5 +1,5 @@
 -- The text of a well formed primitive is read as this primitive.
-use Rattle.std.proofs.Common.{◌≡◌, ℕ, Bool, false, List, [], ◌∷◌, Option, Some, None, is_some, refl, sym, ap, ◌∙◌, subst, codes}
+use Rattle.std.proofs.Common.{◌≡◌, ℕ, Bool, false, List, [], ◌∷◌, refl, sym, ap, ◌∙◌, subst, codes}
 use Rattle.std.proofs.lemmas.List.{append-nil}
 use Rattle.grammar_rules.specs.Rule.{Takes}
 use Rattle.grammar_rules.proofs.Exact.{complete}

@@ -1,7 +1,9 @@
 //! The Verilog text of primitives and modules, by IEEE 1364-2005, clauses 8, 12, 14 and 15.
 #![tactic(auto)]
 
+mod block;
 mod declarations;
+mod instances;
 mod models;
 mod nets;
 mod primitive;

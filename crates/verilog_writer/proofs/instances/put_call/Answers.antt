@@ -1,7 +1,7 @@
 use Rattle.text_io.specs.declared.slots.Slot.TheVariants.{Output}
 use Rattle.text_io.proofs.LineLaws.{gathered_bound, puts_on, put_stops}
 use Rattle.verilog_writer.specs.Model.{call_text}
-use Rattle.verilog_writer.proofs.models.put_call.Goals as goal
+use Rattle.verilog_writer.proofs.instances.put_call.Goals as goal
 
 pub returns-in_err-put_driver-clause-text : goal.returns-in_err-put_driver-clause-text
 unfolding call_text

@@ -2,7 +2,7 @@ use Rattle.std.proofs.Common.{take, ◌≡◌}
 use Rattle.std.specs.List.{flat_map}
 use Rattle.text_io.specs.Line.{Gathers}
 use Rattle.verilog_writer.specs.Model.{terminal_text}
-use Rattle.verilog_writer.proofs.models.put_terminals.Given as goal
+use Rattle.verilog_writer.proofs.instances.put_terminals.Given as goal
 
 abbrev pub invariant-loop-input : goal.invariant-loop-input
 invariant-loop-input g l = record {

@@ -2,7 +2,7 @@ use Rattle.std.proofs.Common.{take, ◌≡◌}
 use Rattle.std.specs.List.{flat_map}
 use Rattle.text_io.specs.Line.{Gathers}
 use Rattle.verilog_writer.specs.Timing.{path_text}
-use Rattle.verilog_writer.proofs.models.put_paths.Given as goal
+use Rattle.verilog_writer.proofs.block.put_paths.Given as goal
 
 abbrev pub invariant-loop-path : goal.invariant-loop-path
 invariant-loop-path g l = record {

@@ -2,7 +2,7 @@ use Rattle.std.proofs.Common.{take, ◌≡◌}
 use Rattle.std.specs.List.{flat_map}
 use Rattle.text_io.specs.Line.{Gathers}
 use Rattle.verilog_writer.specs.Timing.{check_text}
-use Rattle.verilog_writer.proofs.models.put_checks.Given as goal
+use Rattle.verilog_writer.proofs.block.put_checks.Given as goal
 
 abbrev pub invariant-loop-check : goal.invariant-loop-check
 invariant-loop-check g l = record {

@@ -2,7 +2,7 @@ use Rattle.std.proofs.Common.{take, ◌≡◌}
 use Rattle.std.specs.List.{flat_map}
 use Rattle.text_io.specs.Line.{Gathers}
 use Rattle.verilog_writer.specs.Model.{instance_text}
-use Rattle.verilog_writer.proofs.models.put_instances.Given as goal
+use Rattle.verilog_writer.proofs.instances.put_instances.Given as goal
 
 abbrev pub invariant-loop-instance : goal.invariant-loop-instance
 invariant-loop-instance g l = record {

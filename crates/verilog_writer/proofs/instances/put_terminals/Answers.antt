@@ -3,7 +3,7 @@ use Rattle.std.proofs.lemmas.List.{get_or_default}
 use Rattle.text_io.specs.declared.slots.Slot.TheVariants.{Output}
 use Rattle.text_io.proofs.LineLaws.{Gathers-nil, gathered_bound, put_item_as, part_of_put_item_as, put_items}
 use Rattle.verilog_writer.specs.Model.{terminal_text}
-use Rattle.verilog_writer.proofs.models.put_terminals.Goals as goal
+use Rattle.verilog_writer.proofs.instances.put_terminals.Goals as goal
 
 pub loop-input-init : goal.loop-input-init
 loop-input-init g c = record { gathered = Gathers-nil _ _ _; kept = omega arith }

@@ -3,7 +3,7 @@ use Rattle.std.proofs.lemmas.List.{get_or_default}
 use Rattle.text_io.specs.declared.slots.Slot.TheVariants.{Output}
 use Rattle.text_io.proofs.LineLaws.{Gathers-nil, gathered_bound, put_item_as, part_of_put_item_as, put_items}
 use Rattle.verilog_writer.specs.Timing.{check_text}
-use Rattle.verilog_writer.proofs.models.put_checks.Goals as goal
+use Rattle.verilog_writer.proofs.block.put_checks.Goals as goal
 
 pub loop-check-init : goal.loop-check-init
 loop-check-init g c = record { gathered = Gathers-nil _ _ _; kept = omega arith }

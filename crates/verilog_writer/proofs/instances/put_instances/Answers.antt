@@ -2,7 +2,7 @@ use Rattle.std.proofs.Common.{arith}
 use Rattle.text_io.specs.declared.slots.Slot.TheVariants.{Output}
 use Rattle.text_io.proofs.LineLaws.{Gathers-nil, gathered_bound, put_item_as, part_of_put_item_as, put_items}
 use Rattle.verilog_writer.specs.Model.{instance_text}
-use Rattle.verilog_writer.proofs.models.put_instances.Goals as goal
+use Rattle.verilog_writer.proofs.instances.put_instances.Goals as goal
 
 pub loop-instance-init : goal.loop-instance-init
 loop-instance-init g c = record { gathered = Gathers-nil _ _ _; kept = omega arith }

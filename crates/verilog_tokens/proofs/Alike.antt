@@ -1,8 +1,8 @@
 -- Bytes that differ only behind a blank of the second, and what the tokens in front of them are.
-use Rattle.std.proofs.Common.{◌≡◌, ℕ, zero, suc, ◌+◌, ◌≤◌, ◌<◌, Bool, true, false, not, ◌&&◌, ◌||◌, nat_eq, nat_le, cond, List, [], ◌∷◌, ◌++◌, length, take, refl, sym, ap, ◌∙◌, arith, subst}
-use Rattle.std.proofs.lemmas.Bool.{and_parts, and_from, eqb-true, eq-eqb}
-use Rattle.std.specs.List.{prefix_len, list_all, list_any, starts_with}
-use Rattle.verilog_tokens.specs.Tokens.{is_blank, is_one_of, begins_with}
+use Rattle.std.proofs.Common.{◌≡◌, ℕ, suc, ◌+◌, ◌≤◌, Bool, true, false, not, nat_eq, cond, List, [], ◌∷◌, ◌++◌, length, refl, ap, arith}
+use Rattle.std.proofs.lemmas.Bool.{and_parts, and_from, eqb-true}
+use Rattle.std.specs.List.{prefix_len, list_all}
+use Rattle.verilog_tokens.specs.Tokens.{is_blank, begins_with}
 
 -- the second bytes are the first, or have a blank where they differ first
 pub data Alike : List ℕ → List ℕ → Type 0 where

@@ -2,7 +2,7 @@
 use Rattle.std.proofs.Common.{◌≡◌, ℕ, zero, suc, ◌+◌, ◌≤◌, ◌<◌, Bool, true, false, not, ◌&&◌, ◌==◌, cond, if◌then◌else◌, List, [], ◌∷◌, ◌++◌, length, take, drop, Option, Some, None, unwrap_or, refl, sym, ap, ◌∙◌, arith, subst, codes, append_assoc, length-append}
 use Rattle.std.proofs.lemmas.Bool.{and_parts, eqb-true}
 use Rattle.std.proofs.lemmas.List.{length-take-le, take-append-drop}
-use Rattle.std.specs.List.{prefix_len, list_all}
+use Rattle.std.specs.List.{prefix_len}
 use Rattle.verilog_tokens.specs.Tokens.{Token, is_blank, begins_with, later, comment_rest, block_length, separator_length, token_length, is_open_after, at_front, after, scan}
 use Rattle.verilog_tokens.specs.Cover.{EndsLine, IsSeparator, Separates, spells_token, EndsWith, CoversLast, CoversFirst, Covers, IsCovered}
 use Rattle.verilog_tokens.specs.Cover as cover

@@ -1,9 +1,8 @@
 -- What is added between tokens changes none.
-use Rattle.std.proofs.Common.{◌≡◌, ℕ, zero, suc, ◌+◌, ◌≤◌, ◌<◌, Bool, true, false, not, ◌&&◌, ◌||◌, ◌==◌, nat_eq, cond, if◌then◌else◌, List, [], ◌∷◌, ◌++◌, length, take, Option, Some, None, is_some, unwrap_or, refl, sym, ap, ◌∙◌, arith, subst, codes, append_assoc, length-append}
-use Rattle.std.proofs.lemmas.Bool.{and_parts, and_from, eqb-true, eq-eqb}
-use Rattle.std.proofs.Math.Seq.{take-append_seam}
+use Rattle.std.proofs.Common.{◌≡◌, ℕ, zero, suc, ◌+◌, ◌<◌, Bool, true, false, not, ◌&&◌, ◌==◌, nat_eq, if◌then◌else◌, List, [], ◌∷◌, ◌++◌, length, take, Option, Some, None, unwrap_or, refl, sym, ap, ◌∙◌, arith, subst, codes, append_assoc, length-append}
+use Rattle.std.proofs.lemmas.Bool.{and_parts, eqb-true}
 use Rattle.std.specs.List.{prefix_len, list_all}
-use Rattle.verilog_tokens.specs.Tokens.{Token, is_blank, begins_with, later, comment_rest, block_length, separator_length, token_length, is_open_after, at_front, after, scan, scan_of, spellings}
+use Rattle.verilog_tokens.specs.Tokens.{Token, is_blank, begins_with, later, comment_rest, block_length, separator_length, token_length, is_open_after, at_front, after, scan}
 use Rattle.verilog_tokens.specs.Separators.{IsSeparation, Padded, spelled, HaveSameTokens}
 use Rattle.verilog_tokens.specs.Separators as pad
 use Rattle.verilog_tokens.proofs.Alike.{Alike, behind, begins_not}

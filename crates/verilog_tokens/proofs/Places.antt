@@ -1,5 +1,5 @@
 -- The tokens of a text stand in it one behind the other.
-use Rattle.std.proofs.Common.{◌≡◌, ℕ, zero, suc, ◌+◌, ◌≤◌, ◌<◌, Bool, false, List, [], ◌∷◌, length, take, Option, Some, None, refl, sym, arith, subst, length-take}
+use Rattle.std.proofs.Common.{◌≡◌, ℕ, zero, suc, ◌+◌, ◌≤◌, ◌<◌, Bool, false, List, [], ◌∷◌, length, take, Option, Some, None, arith, length-take}
 use Rattle.verilog_tokens.specs.Tokens.{Token, separator_length, token_length, is_open_after, at_front, after, scan, scan_of}
 use Rattle.verilog_tokens.specs.Places.{AreInOrder, StandInOrder}
 

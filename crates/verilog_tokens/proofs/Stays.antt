@@ -1,11 +1,11 @@
 -- A token in front of bytes stays one where the bytes behind it change only behind a blank.
-use Rattle.std.proofs.Common.{◌≡◌, ℕ, zero, suc, ◌+◌, ◌≤◌, ◌<◌, Bool, true, false, not, ◌&&◌, ◌||◌, ◌==◌, nat_eq, nat_le, cond, if◌then◌else◌, List, [], ◌∷◌, ◌++◌, length, take, refl, sym, ap, ◌∙◌, arith, subst, codes}
-use Rattle.std.proofs.lemmas.Bool.{and_parts, and_from, eqb-true, eq-eqb}
+use Rattle.std.proofs.Common.{◌≡◌, ℕ, suc, ◌+◌, Bool, true, false, ◌&&◌, ◌||◌, nat_eq, nat_le, if◌then◌else◌, List, ◌∷◌, ◌++◌, length, refl, sym, ap, ◌∙◌, arith, codes}
+use Rattle.std.proofs.lemmas.Bool.{eqb-true}
 use Rattle.std.specs.Char.{is_ascii_alphabetic, is_ascii_digit}
-use Rattle.std.specs.List.{prefix_len, list_any}
+use Rattle.std.specs.List.{prefix_len}
 use Rattle.verilog_tokens.specs.Kept.{is_name_byte}
-use Rattle.verilog_tokens.specs.Tokens.{is_blank, is_one_of, begins_with, block_length, separator_length, token_length, word_length, number_length, sign_length, is_mark, is_symbol, begins_word}
-use Rattle.verilog_tokens.proofs.Alike.{Alike, behind, run_ends, begins_first, begins_not, begins_still}
+use Rattle.verilog_tokens.specs.Tokens.{is_blank, is_one_of, begins_with, token_length, word_length, number_length, sign_length, is_mark, is_symbol, begins_word}
+use Rattle.verilog_tokens.proofs.Alike.{Alike, behind, run_ends, begins_not, begins_still}
 
 -- the bytes of blanks
 blanks : (c : ℕ) → is_blank c ≡ true → (f : ℕ → Bool) → f 32 ≡ false → f 9 ≡ false → f 10 ≡ false → f c ≡ false

@@ -7,6 +7,7 @@ mod kept;
 mod laws;
 mod numbers;
 mod scanner;
+mod word_groups;
 mod words;
 
 pub use kept::{is_kept_cell_name, is_kept_port_name};

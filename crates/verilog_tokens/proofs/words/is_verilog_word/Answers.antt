@@ -1,6 +1,6 @@
-use Rattle.verilog_tokens.specs.Words.{is_verilog_word, verilog_words}
+use Rattle.std.proofs.Common.{arith}
+use Rattle.verilog_tokens.proofs.NoWord.{nothing_is_no_word}
 use Rattle.verilog_tokens.proofs.words.is_verilog_word.Goals as goal
 
-pub returns : goal.returns
-unfolding is_verilog_word verilog_words
-returns c = c.is_among.ensures
+pub returns-in-empty : goal.returns-in-empty
+returns-in-empty c = nothing_is_no_word c.args.name.now (omega arith)

@@ -1,8 +1,5 @@
-use Rattle.std.proofs.Common.{◌≡◌, ◌+◌, ◌<◌, ◌≤◌, ◌++◌, ℕ, List, [], ◌∷◌, take, drop, length, ap, ◌∙◌, subst, arith, length-drop}
+use Rattle.std.proofs.Common.{◌≡◌, ◌+◌, ◌<◌, ◌≤◌, ℕ, length, ap, ◌∙◌, arith, length-drop}
 use Rattle.verilog_tokens.specs.Tokens.{separator_length, token_length}
-use Rattle.token_spans.specs.declared.span.Span.{Span}
-use Rattle.token_spans.specs.Spans.{LieInside}
-use Rattle.verilog_tokens.specs.Spans.{from_here}
 use Rattle.verilog_tokens.proofs.Turns.{inside, separator, fault, token, inside_more}
 use Rattle.verilog_tokens.proofs.scanner.Scanner.step.Goals as goal
 

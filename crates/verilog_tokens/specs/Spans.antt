@@ -1,5 +1,5 @@
 -- Tokens as places of a text, and the tokens that they are.
-use Rattle.std.specs.Prelude.{ℕ, ◌-◌, Bool, List, ◌++◌, Option, map, drop, slice_range}
+use Rattle.std.specs.Prelude.{ℕ, ◌+◌, ◌-◌, ◌≤◌, Bool, List, [], ◌∷◌, ◌++◌, Option, length, map, drop, slice_range}
 use Rattle.verilog_tokens.specs.Tokens.{Token, scan}
 use Rattle.token_spans.specs.declared.span.Span.{Span}
 

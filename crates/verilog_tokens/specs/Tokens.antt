@@ -1,7 +1,7 @@
 -- The tokens of Verilog text. (IEEE 1364-2005, clause 3, lexical conventions, and 8.1.4, the symbols of a primitive's table. Which
 -- signs, numbers and symbols there are is this project's subset.) At each place outside a token a separator begins, or a token,
 -- which is the longest that begins there, or neither, which is a lexical fault.
-use Rattle.std.specs.Prelude.{ℕ, zero, suc, ◌+◌, Bool, true, false, not, ◌&&◌, ◌||◌, ◌==◌, nat_eq, nat_le, if◌then◌else◌, List, [], ◌∷◌, codes, map, take, Option, Some, None, unwrap_or}
+use Rattle.std.specs.Prelude.{ℕ, zero, suc, ◌+◌, ◌-◌, Bool, true, false, not, ◌&&◌, ◌||◌, ◌==◌, nat_eq, nat_le, nat_lt, if◌then◌else◌, List, [], ◌∷◌, codes, map, take, Option, Some, None, unwrap_or}
 use Rattle.std.specs.Char.{is_ascii_alphabetic, is_ascii_digit}
 use Rattle.std.specs.List.{list_any, prefix_len, starts_with}
 use Rattle.std.specs.Str.{bytes_eq}

@@ -5,6 +5,8 @@ ghost use Rattle.std.specs.List.{prefix_len};
 ghost use Rattle.std.specs.Char.{is_ascii_digit};
 ghost use Rattle.vhdl_tokens.specs.Tokens as spec;
 
+use crate::spelling::is_name;
+
 /// How many bytes stand before the first line end.
 fn line_length(bytes: &[u8]) -> usize
     ensures value { result ≡ prefix_len (λ c. not (c == 10)) bytes.now }
@@ -144,10 +146,10 @@ fn word_length(bytes: &[u8]) -> usize
     }
 }
 
-/// How many bytes of the longest token stand at the front of these, where `after_name` says whether the token before is a name.
-/// None where no token begins.
-pub fn token_length(after_name: bool, bytes: &[u8]) -> usize
-    ensures value { result ≡ spec.token_length after_name bytes.now }
+/// How many bytes of the longest token stand at the front of these, where `last` is the token before, if there is one. None where
+/// no token begins. Only an apostrophe asks whether the token before is a name.
+pub fn token_length(last: &[u8], bytes: &[u8]) -> usize
+    ensures value { result ≡ spec.token_length (spec.is_name last.now) bytes.now }
     ensures within { result ≤ length bytes.now }
 {
     let Some(first) = bytes.first() else {
@@ -156,7 +158,7 @@ pub fn token_length(after_name: bool, bytes: &[u8]) -> usize
     if b"(),;.".contains(first) {
         1
     } else if *first == b'\'' {
-        if after_name {
+        if is_name(last) {
             1
         } else {
             character_length(bytes)

@@ -1,30 +1,29 @@
 //! VHDL text to tokens.
 
 ghost use Rattle.std.specs.Prelude.{◌≡◌, ◌+◌, ◌<◌, length, true, false, IfOk, Some};
-ghost use Rattle.vhdl_tokens.specs.Tokens.{scan_of};
+ghost use Rattle.vhdl_tokens.specs.Tokens.{is_name, scan_of};
 ghost use Rattle.token_spans.specs.Spans.{LieInside};
 ghost use Rattle.vhdl_tokens.specs.Spans.{tokens_of, from_here};
 
 use crate::fronts::{separator_length, token_length};
-use crate::spelling::is_name;
 use std::alloc::Global;
 use token_spans::{Memory, Scan, Span};
 
-/// The tokens that were found so far, and whether the last of them is a name. None begins before the offset `next`.
+/// The tokens that were found so far, and the bytes of the last of them. None begins before the offset `next`.
 #[derive(Drop)]
-struct Scanner {
+struct Scanner<'a> {
     tokens: Vec<Span>,
-    after_name: bool,
+    last: &'a [u8],
     next: usize,
 }
 
-impl Scanner {
+impl<'a> Scanner<'a> {
     /// Goes on with the byte at an offset. False says that neither a separator nor a token begins there.
-    fn step(&mut self, text: &[u8], at: usize) -> Result<bool, Memory>
+    fn step(&mut self, text: &'a [u8], at: usize) -> Result<bool, Memory>
         requires here { at < length text.now }
         requires inside { LieInside text.now self.old.tokens.items }
-        ensures goes_on { IfOk result (λ good. good ≡ true → from_here text.now self.new.tokens.items self.new.after_name self.new.next (at + 1) ≡ from_here text.now self.old.tokens.items self.old.after_name self.old.next at) }
-        ensures stops { IfOk result (λ good. good ≡ false → from_here text.now self.old.tokens.items self.old.after_name self.old.next at ≡ (tokens_of text.now self.new.tokens.items, Some at)) }
+        ensures goes_on { IfOk result (λ good. good ≡ true → from_here text.now self.new.tokens.items (is_name self.new.last.now) self.new.next (at + 1) ≡ from_here text.now self.old.tokens.items (is_name self.old.last.now) self.old.next at) }
+        ensures stops { IfOk result (λ good. good ≡ false → from_here text.now self.old.tokens.items (is_name self.old.last.now) self.old.next at ≡ (tokens_of text.now self.new.tokens.items, Some at)) }
         ensures inside { IfOk result (λ good. LieInside text.now self.new.tokens.items) }
     {
         if at < self.next {
@@ -36,7 +35,7 @@ impl Scanner {
             self.next = at + skipped;
             return Ok(true);
         }
-        let length = token_length(self.after_name, rest);
+        let length = token_length(self.last, rest);
         if length == 0 {
             return Ok(false);
         }
@@ -44,7 +43,7 @@ impl Scanner {
             at,
             end: at + length,
         })?;
-        self.after_name = is_name(&rest[..length]);
+        self.last = &rest[..length];
         self.next = at + length;
         Ok(true)
     }
@@ -58,7 +57,7 @@ pub fn scan(alloc: Global, text: &[u8]) -> Result<Scan, Memory>
 {
     let mut scanner = Scanner {
         tokens: Vec::new(alloc),
-        after_name: false,
+        last: &[],
         next: 0,
     };
     for at in 0..text.len() {

@@ -7,6 +7,7 @@ pub mod Places
 pub mod Quoting
 pub mod Runs
 pub mod Sound
+pub mod Staying
 pub mod Spelling
 pub mod TextValues
 pub mod Times

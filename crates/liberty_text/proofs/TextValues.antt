@@ -1,8 +1,10 @@
 -- The value of a text, byte by byte.
-use Rattle.std.proofs.Common.{◌≡◌, ℕ, ◌+◌, ◌<◌, ◌++◌, zero, suc, List, [], ◌∷◌, length, drop, get_or, refl, sym, ◌∙◌, ap, arith, add-one, append_assoc}
+use Rattle.std.proofs.Common.{◌≡◌, ℕ, ◌+◌, ◌<◌, ◌++◌, zero, suc, Bool, true, false, ◌==◌, ◌&&◌, cond, List, [], ◌∷◌, length, drop, get_or, refl, sym, ◌∙◌, ap, arith, add-one, append_assoc}
 use Rattle.std.proofs.Math.Seq.{drop-cons}
 use Rattle.std.proofs.lemmas.List.{drop-drop}
-use Rattle.liberty_text.specs.TextValue.{piece, value_behind, value_of}
+use Rattle.std.specs.List.{list_all}
+use Rattle.liberty_text.specs.Idle.{stands_for_itself}
+use Rattle.liberty_text.specs.TextValue.{piece, value_behind, value_of, behind_backslash, blank_line, begins_with_quote}
 
 -- the value behind the first few bytes is that of the others
 pub value_skip : (n : ℕ) (bs : List ℕ) → value_behind n bs ≡ value_of (drop n bs)
@@ -35,3 +37,28 @@ value_turn bytes at behind before after taken h e f g kept =
     ∙ append_assoc before p.0 (value_of (drop (at + (1 + taken)) bytes))
     ∙ ap (λ l. before ++ l) (ap (λ n. p.0 ++ value_of (drop (at + (1 + n)) bytes)) taken_is ∙ sym (value_step bytes at h))
     ∙ kept
+
+-- a byte that stands for itself, before others
+itself_first : (b : ℕ) (bs : List ℕ) → stands_for_itself b ≡ true → value_of (b ∷ bs) ≡ b ∷ value_of bs
+itself_first b bs e = by_tests (b == 10) (b == 92) refl refl
+  where
+    by_tests : (p q : Bool) → (b == 10) ≡ p → (b == 92) ≡ q → value_of (b ∷ bs) ≡ b ∷ value_of bs
+    by_tests true q f g = absurd cc
+    by_tests false true f g = absurd cc
+    by_tests false false f g =
+        let plain : piece b bs ≡ (b ∷ [], 0) =
+        ap (λ q. cond q (32 ∷ [], 0) (cond (b == 92) (behind_backslash (blank_line bs) (begins_with_quote bs)) (b ∷ [], 0))) f
+        ∙ ap (λ q. cond q (behind_backslash (blank_line bs) (begins_with_quote bs)) (b ∷ [], 0)) g in
+        ap (λ p. p.0 ++ value_behind p.1 bs) plain
+
+both_true : (p q : Bool) → (p && q) ≡ true → (p ≡ true) × (q ≡ true)
+both_true true true e = (refl, refl)
+both_true true false e = absurd cc
+both_true false q e = absurd cc
+
+-- bytes that stand for themselves
+pub value_of_plain : (bytes : List ℕ) → list_all stands_for_itself bytes ≡ true → value_of bytes ≡ bytes
+value_of_plain [] e = refl
+value_of_plain (b ∷ bs) e =
+    let both = both_true (stands_for_itself b) (list_all stands_for_itself bs) e in
+    itself_first b bs both.0 ∙ ap (λ l. b ∷ l) (value_of_plain bs both.1)

@@ -1,4 +1,5 @@
 pub mod Cover
+pub mod Idle
 pub mod Number
 pub mod Runs
 pub mod Scanner

@@ -4,6 +4,7 @@
 
 mod class;
 mod decimal;
+mod idle;
 mod laws;
 mod number;
 mod scanner;

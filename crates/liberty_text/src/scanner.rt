@@ -11,6 +11,7 @@ ghost use Rattle.liberty_text.specs.TokenLaws.{IsInside, AreInOrder};
 ghost use Rattle.liberty_text.specs.Tokens.{Reads, AreTokensOf, IsFaultOf};
 
 use crate::class::{Class, class_of};
+use crate::idle::idle_run;
 use crate::token::{Memory, Scan, Stop, TextFault, Token, TokenKind};
 use std::alloc::Global;
 
@@ -234,10 +235,16 @@ impl Scanner {
         ensures all { IfOk result (λ count. tokens_ended self.old.mode at (take count bytes.now) ≡ [] → count ≡ length bytes.now) }
     {
         let ended = self.tokens().len();
-        for (index, byte) in bytes.iter().enumerate() {
-            self.step(at + index, *byte)?;
-            if self.tokens().len() != ended {
-                return Ok(index + 1);
+        let mut done = 0;
+        while done < bytes.len() {
+            let (_, left) = bytes.split_at(done);
+            done += idle_run(self.mode, left);
+            if done < bytes.len() {
+                self.step(at + done, bytes[done])?;
+                done += 1;
+                if self.tokens().len() != ended {
+                    return Ok(done);
+                }
             }
         }
         Ok(bytes.len())

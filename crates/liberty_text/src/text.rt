@@ -1,6 +1,8 @@
 //! What a quoted text stands for.
 
 ghost use Rattle.std.specs.Prelude.{◌≡◌, ◌<◌, ◌≤◌, ◌+◌, length, IfOk, IfSome, [], ◌∷◌, OnOk, ◌++◌};
+ghost use Rattle.std.specs.List.{list_all};
+ghost use Rattle.liberty_text.specs.Idle.{stands_for_itself};
 ghost use Rattle.liberty_text.specs.TextValue.{blank_line, piece, behind_backslash, begins_with_quote, value_of, HaveOneValue, QuotesReadBack};
 
 use crate::class::{Class, class_of};
@@ -59,12 +61,23 @@ fn push_escape(value: &mut Items<u8>, behind: &[u8]) -> Result<usize, Memory>
     Ok(0)
 }
 
+/// Whether each byte stands for itself.
+fn is_plain(bytes: &[u8]) -> bool
+    ensures { result ≡ list_all stands_for_itself bytes.now }
+{
+    bytes.iter().all(|byte| !(*byte == b'\n' || *byte == b'\\'))
+}
+
 /// The value of a text token, given the bytes between its quotes: a backslash with blanks and a line
 /// end behind it vanishes, a line end without one stands for a space, `\"` for a double quote, and
 /// any other byte for itself.
+#[tactic(auto, using(crate::proofs::TextValues::value_of_plain))]
 pub fn text_value(alloc: Global, bytes: &[u8]) -> Result<Items<u8>, Memory>
     ensures { IfOk result (λ value. value ≡ value_of bytes.now) }
 {
+    if is_plain(bytes) {
+        return Ok(Items::from_slice(alloc, bytes)?);
+    }
     let mut value = Items::new(alloc);
     let mut at = 0;
     while at < bytes.len() {

@@ -8,8 +8,8 @@ use Rattle.text_io.specs.declared.slots.OutSlot.{OutSlot}
 use Rattle.text_io.specs.declared.slots.OutSlot.TheVariants.{VerilogText, VitalText, Report, Faults}
 use Rattle.text_io.specs.declared.slots.Slot.{Slot}
 use Rattle.text_io.specs.Desk.{DeskState, is_bound, took, wrote, IsPrefix, WritesText}
-use Rattle.text_io.proofs.Wrote.{IsPrefix-append, IsPrefix-front}
-use Rattle.command_outcomes.specs.Written.{Written, nothing_written, in_verilog, in_report, joined, IsPart, wrote_all, Writes}
+use Rattle.text_io.proofs.Wrote.{wrote-nil, IsPrefix-append, IsPrefix-front}
+use Rattle.command_outcomes.specs.Written.{Written, nothing_written, in_verilog, in_vital, in_report, joined, IsPart, wrote_all, Writes}
 
 appended-nil : (known : Option (List ℕ)) → option_map (λ before. before ++ []) known ≡ known
 appended-nil None = refl
@@ -55,6 +55,11 @@ verilog_at s text Faults = refl
 pub wrote_all-verilog : (s : DeskState) (text : List ℕ) → wrote_all s (in_verilog text) ≡ wrote s VerilogText text
 unfolding wrote wrote_all
 wrote_all-verilog s text = λ i. record s { written = λ t. verilog_at s text t i }
+
+-- VHDL text alone
+wrote_all-vital : (s : DeskState) (text : List ℕ) → wrote_all s (in_vital text) ≡ wrote s VitalText text
+unfolding wrote_all
+wrote_all-vital s text = wrote-nil (wrote (wrote s VerilogText []) VitalText text) Report ∙ ap (λ t. wrote t VitalText text) (wrote-nil s VerilogText)
 
 report_at : (s : DeskState) (text : List ℕ) (t : OutSlot) → (wrote_all s (in_report text)).written t ≡ (wrote s Report text).written t
 unfolding wrote wrote_all
@@ -150,6 +155,14 @@ verilog_stops old new text y r w e =
     (record { verilog = w.part.1; vital = ([], refl); report = ([], refl) })
     (w.part.2 ∙ sym (wrote_all-verilog old w.part.0))
 
+-- a fault within VHDL text
+pub vital_stops : {S T E : Type 0} (old new : DeskState) (text : List ℕ) (y : Failed) (r : Result T E)
+    → WritesText {T = S} old new VitalText text (Err y) → IsErr r → Writes old new (in_vital text) r
+vital_stops old new text y r w e =
+    stopped old new (in_vital text) (in_vital w.part.0) r e
+    (record { verilog = ([], refl); vital = w.part.1; report = ([], refl) })
+    (w.part.2 ∙ sym (wrote_all-vital old w.part.0))
+
 -- a fault within lines of the report
 pub report_stops : {S T E : Type 0} (old new : DeskState) (text : List ℕ) (y : Failed) (r : Result T E)
     → WritesText {T = S} old new Report text (Err y) → IsErr r → Writes old new (in_report text) r
@@ -158,9 +171,12 @@ report_stops old new text y r w e =
     (record { verilog = ([], refl); vital = ([], refl); report = w.part.1 })
     (w.part.2 ∙ sym (wrote_all-report old w.part.0))
 
--- all of the Verilog text, or of the lines
+-- all of the Verilog text, of the VHDL text, or of the lines
 pub verilog_whole : (old new : DeskState) (text : List ℕ) → new ≡ wrote old VerilogText text → new ≡ wrote_all old (in_verilog text)
 verilog_whole old new text e = e ∙ sym (wrote_all-verilog old text)
+
+pub vital_whole : (old new : DeskState) (text : List ℕ) → new ≡ wrote old VitalText text → new ≡ wrote_all old (in_vital text)
+vital_whole old new text e = e ∙ sym (wrote_all-vital old text)
 
 pub report_whole : (old new : DeskState) (text : List ℕ) → new ≡ wrote old Report text → new ≡ wrote_all old (in_report text)
 report_whole old new text e = e ∙ sym (wrote_all-report old text)

@@ -1,11 +1,12 @@
 -- Files that a run reads one after another: each is read as something, or ends the run. The first that ends it decides. This
 -- project's rule.
-use Rattle.std.specs.Prelude.{◌≡◌, ◌⊎◌, ℕ, Bool, true, false, List, [], Result, Ok, Err, IfSome, IsTrue}
+use Rattle.std.specs.Prelude.{◌≡◌, ◌≤◌, ◌⊎◌, ℕ, Bool, true, false, List, [], Result, Ok, Err, IfSome, IsTrue}
 use Rattle.text_io.specs.declared.slots.InSlot.{InSlot}
 use Rattle.text_io.specs.declared.slots.OutSlot.TheVariants.{Faults}
-use Rattle.text_io.specs.Desk.{DeskState, opened, took, wrote, IsFileAt, IsPrefix}
+use Rattle.text_io.specs.Desk.{DeskState, opened, took, wrote, IsFileAt, IsPrefix, Rose}
 use Rattle.command_outcomes.specs.declared.status.Status.{Status}
-use Rattle.command_outcomes.specs.Status.{is_decided}
+use Rattle.command_outcomes.specs.declared.status.Status.TheVariants.{Outside, Usage}
+use Rattle.command_outcomes.specs.Status.{is_decided, is_unfailed}
 use Rattle.command_outcomes.specs.Written.{nothing_written}
 use Rattle.command_outcomes.specs.Outcome.{Outcome}
 
@@ -49,3 +50,26 @@ pub record FileEndsRun {T : Type 0} (answer : FileAnswer T) (old new : DeskState
   pub state : new ≡ wrote (took (opened_where bound old slot bytes) slot count) Faults line
   pub part : (line ≡ []) ⊎ ((bound ≡ true) × IfSome (old.left slot) (λ _. (stop : FileStop) × (answer bytes ≡ Err stop) × IsPrefix line stop.line))
   pub whole : IsTrue (is_decided status) → (bound ≡ true) × IfSome (old.left slot) (λ _. answer bytes ≡ Err (record { status = status; line = line }))
+
+-- This stop was told, and the run ends with this status: a part of the line was told, and all of it where no call failed and memory was
+-- found; the status is then the stop's. Nothing else changed.
+pub record TellsStop (stop : FileStop) (old new : DeskState) (end : Status) : Type 0 where
+  pub line : List ℕ
+  pub state : new ≡ wrote old Faults line
+  pub part : IsPrefix line stop.line
+  pub whole : IsTrue (is_decided end) → (end ≡ stop.status) × (line ≡ stop.line)
+
+-- The run ends by this answer, with this status: a part of the answer's line was told, and all of it where no call failed and memory
+-- was found; the status is then the answer's. Nothing else changed.
+pub record EndsBy {T : Type 0} (answer : Result T FileStop) (old new : DeskState) (end : Status) : Type 0 where
+  pub line : List ℕ
+  pub state : new ≡ wrote old Faults line
+  pub part : (line ≡ []) ⊎ ((stop : FileStop) × (answer ≡ Err stop) × IsPrefix line stop.line)
+  pub whole : IsTrue (is_decided end) → answer ≡ Err (record { status = end; line = line })
+
+-- the count of faults rose where a call failed, and in every other case it stayed as it was; words without a reading end no run here
+pub record StopsWithStatus (before now : ℕ) (end : Status) : Type 0 where
+  pub later : before ≤ now
+  pub kept : IsTrue (is_unfailed end) → now ≡ before
+  pub outside : end ≡ Outside → Rose before now
+  pub usage : end ≡ Usage → ⊥

@@ -16,6 +16,10 @@ nothing_written = record { verilog = []; vital = []; report = [] }
 abbrev pub in_verilog : List ℕ → Written
 in_verilog text = record { verilog = text; vital = []; report = [] }
 
+-- VHDL text alone
+abbrev pub in_vital : List ℕ → Written
+in_vital text = record { verilog = []; vital = text; report = [] }
+
 -- lines of the report alone
 abbrev pub in_report : List ℕ → Written
 in_report text = record { verilog = []; vital = []; report = text }

@@ -13,13 +13,13 @@ use Rattle.stimulus.specs.declared.sections.Section.{Section}
 use Rattle.stimulus.specs.PortEntries.{NamedCells}
 use Rattle.command_outcomes.specs.declared.status.Status.{Status}
 use Rattle.command_outcomes.specs.declared.status.Status.TheVariants as status
-use Rattle.command_outcomes.specs.FileSteps.{FileStop, FileAnswer, opened_where, FileIsTaken, FileEndsRun}
+use Rattle.command_outcomes.specs.FileSteps.{FileStop, FileAnswer, opened_where, FileIsTaken, FileEndsRun, EndsBy}
 use Rattle.model_replay.specs.declared.ending.Ending.{Ending}
 use Rattle.model_replay.specs.Endings.{status_of}
 use Rattle.model_replay.specs.FileEnds.{opened_if, TakesFile, StopsAtFile}
 use Rattle.model_replay.specs.Outcome.{stimulus_limit}
 use Rattle.model_replay.proofs.FileLemmas.{IfSome-map}
-use Rattle.simulation_catalog.specs.StimulusFile.{answer_where, stimulus_answer, EndsBy}
+use Rattle.simulation_catalog.specs.StimulusFile.{answer_where, stimulus_answer}
 
 -- A file that could not be taken.
 

@@ -1,17 +1,13 @@
 -- What the bytes of the stimulus are read as over the catalog of a library's cells, or how they end the run. (This project's rules on
 -- their number and on the first bad line.)
-use Rattle.std.specs.Prelude.{◌≡◌, ◌≤◌, ◌⊎◌, ℕ, Bool, true, false, List, [], length, nat_lt, Result, Ok, Err, IsTrue}
-use Rattle.text_io.specs.declared.slots.OutSlot.TheVariants.{Faults}
-use Rattle.text_io.specs.Desk.{DeskState, wrote, IsPrefix, Rose}
+use Rattle.std.specs.Prelude.{ℕ, Bool, true, false, List, [], length, nat_lt, Result, Ok, Err}
 use Rattle.cell_reader.specs.LibraryCells.{CellEntry}
 use Rattle.stimulus.specs.declared.faults.StimulusFault.{StimulusFault}
 use Rattle.stimulus.specs.declared.faults.StimulusFault.TheVariants as fault
 use Rattle.stimulus.specs.declared.sections.Section.{Section}
 use Rattle.stimulus.specs.PortEntries.{NamedCells, listed}
 use Rattle.stimulus.specs.Stimulus.{stimulus_of}
-use Rattle.command_outcomes.specs.declared.status.Status.{Status}
 use Rattle.command_outcomes.specs.declared.status.Status.TheVariants as status
-use Rattle.command_outcomes.specs.Status.{is_decided, is_unfailed}
 use Rattle.command_outcomes.specs.FileSteps.{FileStop, FileAnswer}
 use Rattle.model_replay.specs.FaultLines.{stimulus_too_long_line}
 use Rattle.model_replay.specs.Outcome.{stimulus_limit}
@@ -39,26 +35,3 @@ answer_where cells catalog false bytes = sections_or cells (stimulus_of (listed 
 -- what a stimulus is read as over a catalog, whose cells are these
 abbrev pub stimulus_answer : List CellEntry → NamedCells → FileAnswer (List Section)
 stimulus_answer cells catalog bytes = answer_where cells catalog (nat_lt stimulus_limit (length bytes)) bytes
-
--- This stop was told, and the run ends with this status: a part of the line was told, and all of it where no call failed and memory was
--- found; the status is then the stop's. Nothing else changed.
-pub record TellsStop (stop : FileStop) (old new : DeskState) (end : Status) : Type 0 where
-  pub line : List ℕ
-  pub state : new ≡ wrote old Faults line
-  pub part : IsPrefix line stop.line
-  pub whole : IsTrue (is_decided end) → (end ≡ stop.status) × (line ≡ stop.line)
-
--- The run ends by this answer, with this status: a part of the answer's line was told, and all of it where no call failed and memory
--- was found; the status is then the answer's. Nothing else changed.
-pub record EndsBy {T : Type 0} (answer : Result T FileStop) (old new : DeskState) (end : Status) : Type 0 where
-  pub line : List ℕ
-  pub state : new ≡ wrote old Faults line
-  pub part : (line ≡ []) ⊎ ((stop : FileStop) × (answer ≡ Err stop) × IsPrefix line stop.line)
-  pub whole : IsTrue (is_decided end) → answer ≡ Err (record { status = end; line = line })
-
--- the count of faults rose where a call failed, and in every other case it stayed as it was; words without a reading end no run here
-pub record StopsWithStatus (before now : ℕ) (end : Status) : Type 0 where
-  pub later : before ≤ now
-  pub kept : IsTrue (is_unfailed end) → now ≡ before
-  pub outside : end ≡ status.Outside → Rose before now
-  pub usage : end ≡ status.Usage → ⊥

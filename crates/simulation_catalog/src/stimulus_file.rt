@@ -7,8 +7,8 @@ ghost use Rattle.cell_reader.specs.LibraryCells.{all_described};
 ghost use Rattle.stimulus.specs.declared.faults.StimulusFault.TheVariants as fault;
 ghost use Rattle.stimulus.specs.PortEntries.{listed};
 ghost use Rattle.stimulus.specs.Stimulus.{stimulus_of};
-ghost use Rattle.command_outcomes.specs.FileSteps.{FileIsTaken, FileEndsRun};
-ghost use Rattle.simulation_catalog.specs.StimulusFile.{too_long_stop, fault_stop, answer_where, stimulus_answer, TellsStop, EndsBy, StopsWithStatus};
+ghost use Rattle.command_outcomes.specs.FileSteps.{FileIsTaken, FileEndsRun, TellsStop, EndsBy, StopsWithStatus};
+ghost use Rattle.simulation_catalog.specs.StimulusFile.{too_long_stop, fault_stop, answer_where, stimulus_answer};
 
 use crate::bad_lines::{cause_status, write_cause};
 use cell_reader::LibraryCell;

@@ -4,7 +4,6 @@ pub mod RunsLemmas
 pub mod AskedLemmas
 pub mod CellLemmas
 pub mod TestLineTexts
-pub mod VitalTexts
 pub mod ItemTexts
 pub mod ModelsLemmas
 pub mod TranslateLemmas

@@ -19,8 +19,8 @@ use Rattle.library_items.specs.KeptCells.{library_cells_within, entries_of, Read
 use Rattle.command_outcomes.specs.declared.status.Status.{Status}
 use Rattle.command_outcomes.specs.declared.status.Status.TheVariants.{Outside}
 use Rattle.command_outcomes.specs.Status.{is_decided}
-use Rattle.command_outcomes.specs.FileSteps.{FileStop, FileIsTaken, FileEndsRun}
-use Rattle.translate_cmd.specs.LibraryAnswers.{library_stop, answer_by, library_answer, TellsStop}
+use Rattle.command_outcomes.specs.FileSteps.{FileStop, FileIsTaken, FileEndsRun, TellsStop}
+use Rattle.translate_cmd.specs.LibraryAnswers.{library_stop, answer_by, library_answer}
 
 left_opened : (old : DeskState) (bytes : List ℕ) → (opened old Library bytes).left Library ≡ option_map (λ _. bytes) (old.left Library)
 unfolding opened
@@ -93,7 +93,7 @@ told_so old new stop (Ok x) result w r = record {
   line = stop.line;
   state = w.whole;
   part = ([], append-nil stop.line);
-  whole = λ d. ap (λ (s : Status). record { status = s; line = stop.line }) (sym r);
+  whole = λ d. (r, refl);
 }
 told_so old new stop (Err y) result w r = record {
   line = w.part.0;
@@ -101,6 +101,9 @@ told_so old new stop (Err y) result w r = record {
   part = w.part.1;
   whole = λ d. absurd (let no = rw r at d in cc);
 }
+
+same_stop : (stop : FileStop) (status : Status) (line : List ℕ) → status ≡ stop.status → line ≡ stop.line → stop ≡ record { status = status; line = line }
+same_stop stop status line s l = λ i. record { status = sym s i; line = sym l i }
 
 -- a library that is not whole was told
 pub told_ends : {A : Type 0} (old mid now new : DeskState) (place : ℕ) (bytes : List ℕ) (why : NotWhole) (status : Status)
@@ -125,6 +128,6 @@ told_ends old mid now new place bytes why status f e h t =
       whole = λ d. (
         refl,
         mapped (old.left Library) (library_answer bytes ≡ Err (library_stop why)) (library_answer bytes ≡ Err (record { status = status; line = t.line }))
-            (λ same. same ∙ ap Err (t.whole d)) answer,
+            (λ same. same ∙ ap Err (same_stop (library_stop why) status t.line (t.whole d).0 (t.whole d).1)) answer,
       );
     }

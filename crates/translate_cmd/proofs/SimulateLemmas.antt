@@ -20,9 +20,9 @@ use Rattle.section_runs.specs.declared.faults.RunFault.TheVariants as run
 use Rattle.section_runs.specs.Writes.{HasCause}
 use Rattle.model_replay.specs.Outcome.{model_limit}
 use Rattle.command_outcomes.specs.declared.status.Status.{Status}
+use Rattle.command_outcomes.specs.FileSteps.{StopsWithStatus}
 use Rattle.command_outcomes.specs.Runs.{RunsAs}
 use Rattle.simulation_catalog.specs.Catalog.{HaveOwnNames}
-use Rattle.simulation_catalog.specs.StimulusFile.{StopsWithStatus}
 use Rattle.translate_cmd.specs.declared.asked.Command.TheVariants as command
 use Rattle.translate_cmd.specs.Reading.{reading}
 use Rattle.translate_cmd.specs.Outcome.{files_of, outcome_of}

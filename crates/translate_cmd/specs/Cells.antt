@@ -20,7 +20,7 @@ use Rattle.library_report.specs.LeftOutLines.{left_out_lines, left_out_file_line
 use Rattle.library_items.specs.declared.progress.Progress.{Progress}
 use Rattle.cell_cursor.specs.declared.item.LibraryItem.{LibraryItem}
 use Rattle.cell_cursor.specs.declared.item.LibraryItem.TheVariants as item
-use Rattle.command_outcomes.specs.Written.{Written, nothing_written, in_verilog, in_report, joined}
+use Rattle.command_outcomes.specs.Written.{Written, nothing_written, in_verilog, in_vital, in_report, joined}
 use Rattle.library_items.specs.Progress.{next_number, next_refusal, next_data, next_left_out, next_entity, after_item}
 
 -- the report lines of an accepted cell: its own, and one for each of its timing groups that are left out
@@ -43,10 +43,6 @@ model_text cell = module_text (module_of cell)
 -- the text of a cell's VHDL model, the entity with this name
 unfoldable pub vital_text : List ℕ → CellData → List ℕ
 vital_text entity cell = entity_text (entity_of cell entity)
-
--- VHDL text alone
-abbrev pub in_vital : List ℕ → Written
-in_vital text = record { verilog = []; vital = text; report = [] }
 
 -- both models of a cell, the Verilog model before the entity with this name
 unfoldable pub models_written : List ℕ → CellData → Written

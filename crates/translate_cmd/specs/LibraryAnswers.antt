@@ -1,16 +1,12 @@
 -- What the library file of a command is read as, or how it ends a run. This project's rules.
-use Rattle.std.specs.Prelude.{◌≡◌, ℕ, List, Result, Ok, Err, IsTrue}
-use Rattle.text_io.specs.declared.slots.OutSlot.TheVariants.{Faults}
-use Rattle.text_io.specs.Desk.{DeskState, wrote, IsPrefix}
+use Rattle.std.specs.Prelude.{List, Result, Ok, Err}
 use Rattle.cell_reader.specs.LibraryCells.{CellEntry}
 use Rattle.library_items.specs.declared.ending.NotWhole.{NotWhole}
 use Rattle.library_items.specs.declared.ending.NotWhole.TheVariants as not_whole
 use Rattle.library_items.specs.Endings.{library_limit}
 use Rattle.library_items.specs.KeptCells.{library_cells_within}
 use Rattle.library_report.specs.FaultLines.{library_fault_line, library_too_long_line}
-use Rattle.command_outcomes.specs.declared.status.Status.{Status}
 use Rattle.command_outcomes.specs.declared.status.Status.TheVariants as status
-use Rattle.command_outcomes.specs.Status.{is_decided}
 use Rattle.command_outcomes.specs.FileSteps.{FileStop, FileAnswer}
 
 -- how a library that is not whole ends a run
@@ -25,11 +21,3 @@ answer_by (Err why) = Err (library_stop why)
 -- a library's cells, or how its bytes end a run
 abbrev pub library_answer : FileAnswer (List CellEntry)
 library_answer bytes = answer_by (library_cells_within library_limit bytes)
-
--- After a call that tells how a file ends the run: a part of its line was appended to the faults or, where no call failed, all of
--- it, and the status is then the file's. Nothing else changed.
-pub record TellsStop (stop : FileStop) (old new : DeskState) (result : Status) : Type 0 where
-  pub line : List ℕ
-  pub state : new ≡ wrote old Faults line
-  pub part : IsPrefix line stop.line
-  pub whole : IsTrue (is_decided result) → stop ≡ record { status = result; line = line }

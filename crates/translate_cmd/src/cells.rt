@@ -5,10 +5,10 @@ ghost use Rattle.text_io.specs.declared.slots.OutSlot.TheVariants.{VerilogText, 
 ghost use Rattle.text_io.specs.Desk.{is_bound, HasCause, WritesText};
 ghost use Rattle.cell_machine.specs.CellData.{data_of};
 ghost use Rattle.cell_cursor.specs.declared.item.LibraryItem.TheVariants as item;
-ghost use Rattle.command_outcomes.specs.Written.{Writes, in_verilog};
+ghost use Rattle.command_outcomes.specs.Written.{Writes, in_verilog, in_vital};
 ghost use Rattle.library_items.specs.Stops.{StopsWithCause};
 ghost use Rattle.library_items.specs.Progress.{next_refusal, entity_by, after_item};
-ghost use Rattle.translate_cmd.specs.Cells.{model_text, vital_text, in_vital, models_written, accepted_lines, accepted_written, written_by, item_written};
+ghost use Rattle.translate_cmd.specs.Cells.{model_text, vital_text, models_written, accepted_lines, accepted_written, written_by, item_written};
 
 use crate::test_lines::write_test;
 use cell_machine::Cell;

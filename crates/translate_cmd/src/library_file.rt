@@ -1,14 +1,12 @@
 //! The library file of a command: its cells are read, or the run ends.
-ghost use Rattle.std.specs.Prelude.{◌≡◌, ◌≤◌, IsTrue, IfOk, IfErr, OnOk, Contains};
+ghost use Rattle.std.specs.Prelude.{◌≡◌, IfOk, IfErr, OnOk, Contains};
 ghost use Rattle.text_io.specs.declared.slots.Slot.TheVariants.{Input};
 ghost use Rattle.text_io.specs.declared.slots.InSlot.TheVariants.{Library};
-ghost use Rattle.text_io.specs.Desk.{Rose};
 ghost use Rattle.text_io.specs.Plan.{plan};
 ghost use Rattle.bool_functions.specs.NameList.{AreDistinct};
 ghost use Rattle.cell_reader.specs.LibraryCells.{all_described, cell_names};
-ghost use Rattle.command_outcomes.specs.Status.{is_unfailed};
-ghost use Rattle.command_outcomes.specs.FileSteps.{FileIsTaken, FileEndsRun};
-ghost use Rattle.translate_cmd.specs.LibraryAnswers.{library_answer, library_stop, TellsStop};
+ghost use Rattle.command_outcomes.specs.FileSteps.{FileIsTaken, FileEndsRun, TellsStop, StopsWithStatus};
+ghost use Rattle.translate_cmd.specs.LibraryAnswers.{library_answer, library_stop};
 
 use crate::command::ended;
 use cell_reader::LibraryCell;
@@ -24,10 +22,7 @@ pub(crate) const LIMIT: usize = 67_108_864;
 /// Tells how a library that is not whole ends the run.
 fn tell<D: Desk>(desk: &mut D, why: NotWhole) -> Status
     ensures text { TellsStop (library_stop why) (D.state desk.old) (D.state desk.new) result }
-    ensures outside { result ≡ Status.Outside → Rose (D.faults desk.old) (D.faults desk.new) }
-    ensures later { D.faults desk.old ≤ D.faults desk.new }
-    ensures kept { IsTrue (is_unfailed result) → D.faults desk.new ≡ D.faults desk.old }
-    ensures usage { result ≡ Status.Usage → ⊥ }
+    ensures cause { StopsWithStatus (D.faults desk.old) (D.faults desk.new) result }
 {
     match why {
         NotWhole::Fault(fault) => ended(write_library_fault(desk, &fault), Status::Library),
@@ -46,11 +41,8 @@ pub(crate) fn read_library<D: Desk>(
     ensures ok { IfOk result (λ cells. FileIsTaken library_answer (D.state desk.old) (D.state desk.new) Library place (all_described cells.items)) }
     ensures own { IfOk result (λ cells. AreDistinct (cell_names (all_described cells.items))) }
     ensures err { IfErr result (FileEndsRun library_answer (D.state desk.old) (D.state desk.new) Library place) }
-    ensures outside { IfErr result (λ status. status ≡ Status.Outside → Rose (D.faults desk.old) (D.faults desk.new)) }
-    ensures later { D.faults desk.old ≤ D.faults desk.new }
-    ensures unfailed { IfErr result (λ status. IsTrue (is_unfailed status) → D.faults desk.new ≡ D.faults desk.old) }
     ensures kept { OnOk result (D.faults desk.new ≡ D.faults desk.old) }
-    ensures usage { IfErr result (λ status. status ≡ Status.Usage → ⊥) }
+    ensures cause { IfErr result (StopsWithStatus (D.faults desk.old) (D.faults desk.new)) }
 {
     match desk.bind_in(InSlot::Library, place) {
         Ok(()) => match read_cells(alloc, desk, LIMIT) {

@@ -2,11 +2,10 @@
 ghost use Rattle.std.specs.Prelude.{◌≡◌, ◌≤◌, ℕ, List, All, Contains, Ok, length, IfOk, IfErr, OnOk};
 ghost use Rattle.text_io.specs.declared.slots.Slot.TheVariants.{Input};
 ghost use Rattle.text_io.specs.Plan.{plan};
-ghost use Rattle.command_outcomes.specs.FileSteps.{FileIsTaken, FileEndsRun};
+ghost use Rattle.command_outcomes.specs.FileSteps.{FileIsTaken, FileEndsRun, StopsWithStatus};
 ghost use Rattle.model_replay.specs.Formats.{slot_of};
 ghost use Rattle.model_replay.specs.ModelPorts.{HaveOwnNames};
 ghost use Rattle.model_replay.specs.Outcome.{model_limit};
-ghost use Rattle.simulation_catalog.specs.StimulusFile.{StopsWithStatus};
 ghost use Rattle.translate_cmd.specs.ModelAnswers.{model_answer};
 
 use command_outcomes::Status;

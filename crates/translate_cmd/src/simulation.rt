@@ -2,9 +2,9 @@
 ghost use Rattle.std.specs.Prelude.{◌≡◌, IfOk, IfErr, OnOk};
 ghost use Rattle.text_io.specs.Plan.{plan};
 ghost use Rattle.cell_reader.specs.LibraryCells.{all_described};
+ghost use Rattle.command_outcomes.specs.FileSteps.{StopsWithStatus};
 ghost use Rattle.command_outcomes.specs.Runs.{RunsAs};
 ghost use Rattle.simulation_catalog.specs.Catalog.{simulated_of, HaveOwnNames};
-ghost use Rattle.simulation_catalog.specs.StimulusFile.{StopsWithStatus};
 ghost use Rattle.translate_cmd.specs.Simulate.{simulate_files, simulate_of};
 ghost use Rattle.translate_cmd.specs.Simulations.{ReadsModels, ReadsSimulation};
 

@@ -1,6 +1,5 @@
 use Rattle.translate_cmd.specs.Cells.{vital_text}
-use Rattle.command_outcomes.proofs.WrittenLaws.{stopped_before}
-use Rattle.translate_cmd.proofs.VitalTexts.{vital_stops, vital_whole}
+use Rattle.command_outcomes.proofs.WrittenLaws.{stopped_before, vital_stops, vital_whole}
 use Rattle.translate_cmd.proofs.cells.write_vital.Goals as goal
 
 pub returns-in_err-model-clause-text : goal.returns-in_err-model-clause-text

@@ -1,6 +1,7 @@
 //! Verilog text to modules. (IEEE 1364-2005, clauses 3, 8, 12, 14 and 15.)
 #![tactic(auto)]
 
+mod check_parts;
 mod checks;
 mod declarations;
 mod file;
@@ -9,6 +10,7 @@ mod laws;
 mod nets;
 mod numbers;
 mod paths;
+mod period_lines;
 mod ports;
 mod primitive_names;
 mod read;

@@ -1,7 +1,7 @@
 use Rattle.std.proofs.Common.{sym, ap, ◌∙◌}
 use Rattle.verilog_tokens.specs.Numbers.{number_of}
 use Rattle.verilog_reader.proofs.Periods.{other_number}
-use Rattle.verilog_reader.proofs.checks.same_number.Goals as goal
+use Rattle.verilog_reader.proofs.period_lines.same_number.Goals as goal
 
 pub returns-then-number-limit : goal.returns-then-number-limit
 returns-then-number-limit c =

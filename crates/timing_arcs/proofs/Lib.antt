@@ -8,3 +8,4 @@ pub mod OffsetLemmas
 pub mod SoundLemmas
 pub mod SumLemmas
 pub mod TextLemmas
+pub mod FoldedWords

@@ -16,3 +16,4 @@ pub mod PinLimits
 pub mod TimingTexts
 pub mod Laws
 pub mod Shown
+pub mod Words

@@ -64,8 +64,8 @@ impl GroupText {
         let related = RelatedText::of_group(alloc, subject, group)?;
         let when = WhenText::of_group(alloc, subject, group)?;
         let names_related = names_one(when.named.as_slice(), related.inputs.as_slice());
-        let rise = Limit::of_tables(alloc, subject.unit, group, timing_type.rise_table())?;
-        let fall = Limit::of_tables(alloc, subject.unit, group, timing_type.fall_table())?;
+        let rise = Limit::of_tables(subject.unit, group, timing_type.rise_table());
+        let fall = Limit::of_tables(subject.unit, group, timing_type.fall_table());
         Ok(GroupText {
             place,
             at: group.at,

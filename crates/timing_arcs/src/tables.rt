@@ -1,5 +1,5 @@
 //! The tables of timing groups and the times in them.
-ghost use Rattle.std.specs.Prelude.{◌≡◌, IfOk, OnOk};
+ghost use Rattle.std.specs.Prelude.{◌≡◌};
 ghost use Rattle.std.specs.Option.{option_copied};
 ghost use Rattle.liberty_groups.specs.declared.tree.Item.{out-Item};
 ghost use Rattle.timing_arcs.specs.Attributes.{groups_named, first_of};
@@ -7,15 +7,13 @@ ghost use Rattle.timing_arcs.specs.Offsets.{least};
 ghost use Rattle.timing_arcs.specs.Times.{time_of};
 ghost use Rattle.timing_arcs.specs.Tables.{limit_of, bad_numbers_at};
 ghost use Rattle.timing_arcs.specs.Sums.{first_unless, no_sum, with_entry, with_text, with_arguments, with_item, with_table, with_tables};
-ghost use Rattle.timing_arcs.specs.Attributes.{first_of};
+ghost use Rattle.timing_arcs.specs.Words.{with_word};
 
 use crate::attributes::inner_group;
-use crate::fault::Memory;
 use crate::offsets::lesser;
-use crate::words::entries;
+use crate::words::{behind_first, entry_length};
 use liberty_groups::{Group, Item, Value};
 use liberty_text::{Unit, fixed, picoseconds};
-use std::alloc::Global;
 
 /// What some entries of tables give.
 #[derive(Clone, Copy, Debug)]
@@ -73,42 +71,39 @@ impl Sum {
         }
     }
 
-    /// Adds the entries of a text, in the statement at this offset.
-    fn add_text(
-        &mut self,
-        alloc: Global,
-        unit: Option<Unit>,
-        at: usize,
-        text: &[u8],
-    ) -> Result<(), Memory>
-        ensures { OnOk result (self.new ≡ with_text unit at self.old text.now) }
+    /// Adds a word as an entry, in the statement at this offset, if it has a byte.
+    fn add_word(&mut self, unit: Option<Unit>, at: usize, word: &[u8])
+        ensures { self.new ≡ with_word unit at self.old word.now }
     {
-        let words = entries(alloc, text)?;
-        for word in &words {
+        if word.len() != 0 {
             self.add_entry(unit, at, word);
         }
-        Ok(())
+    }
+
+    /// Adds the entries of a text, in the statement at this offset.
+    fn add_text(&mut self, unit: Option<Unit>, at: usize, text: &[u8])
+        ensures { self.new ≡ with_text unit at self.old text.now }
+    {
+        let mut left = text;
+        while left.len() != 0 {
+            let (word, behind) = left.split_at(entry_length(left));
+            self.add_word(unit, at, word);
+            left = behind_first(behind);
+        }
     }
 
     /// Adds the entries of a `values` statement at this offset.
-    fn add_arguments(
-        &mut self,
-        alloc: Global,
-        unit: Option<Unit>,
-        at: usize,
-        arguments: &[Value],
-    ) -> Result<(), Memory>
-        ensures { OnOk result (self.new ≡ with_arguments unit at self.old arguments.now) }
+    fn add_arguments(&mut self, unit: Option<Unit>, at: usize, arguments: &[Value])
+        ensures { self.new ≡ with_arguments unit at self.old arguments.now }
     {
         for value in arguments {
-            self.add_text(alloc, unit, at, value.bytes.as_slice())?;
+            self.add_text(unit, at, value.bytes.as_slice());
         }
-        Ok(())
     }
 
     /// Adds the entries of a statement, if it is a `values` statement.
-    fn add_item(&mut self, alloc: Global, unit: Option<Unit>, item: &Item) -> Result<(), Memory>
-        ensures { OnOk result (self.new ≡ with_item unit self.old (out-Item item.now)) }
+    fn add_item(&mut self, unit: Option<Unit>, item: &Item)
+        ensures { self.new ≡ with_item unit self.old (out-Item item.now) }
     {
         match item {
             Item::Complex {
@@ -116,38 +111,30 @@ impl Sum {
                 arguments,
                 at,
             } if name.as_slice() == b"values".as_slice() => {
-                self.add_arguments(alloc, unit, *at, arguments.as_slice())
+                self.add_arguments(unit, *at, arguments.as_slice());
             }
-            _ => Ok(()),
+            _ => {}
         }
     }
 
     /// Adds the entries of a table.
-    fn add_table(&mut self, alloc: Global, unit: Option<Unit>, table: &Group) -> Result<(), Memory>
-        ensures { OnOk result (self.new ≡ with_table unit self.old table.now) }
+    fn add_table(&mut self, unit: Option<Unit>, table: &Group)
+        ensures { self.new ≡ with_table unit self.old table.now }
     {
         for item in table.items.as_slice() {
-            self.add_item(alloc, unit, item)?;
+            self.add_item(unit, item);
         }
-        Ok(())
     }
 
     /// Adds the entries of all tables of one name in a timing group.
-    fn add_tables(
-        &mut self,
-        alloc: Global,
-        unit: Option<Unit>,
-        group: &Group,
-        name: &[u8],
-    ) -> Result<(), Memory>
-        ensures { OnOk result (self.new ≡ with_tables unit name.now self.old group.now.items) }
+    fn add_tables(&mut self, unit: Option<Unit>, group: &Group, name: &[u8])
+        ensures { self.new ≡ with_tables unit name.now self.old group.now.items }
     {
         for item in group.items.as_slice() {
             if let Some(table) = inner_group(item, name) {
-                self.add_table(alloc, unit, table)?;
+                self.add_table(unit, table);
             }
         }
-        Ok(())
     }
 }
 
@@ -175,21 +162,16 @@ fn first_unless(has_entry: bool, first: Option<&Group>) -> Option<usize>
 
 impl Limit {
     /// What all tables of one name in a timing group give together.
-    pub(crate) fn of_tables(
-        alloc: Global,
-        unit: Option<Unit>,
-        group: &Group,
-        name: &[u8],
-    ) -> Result<Limit, Memory>
-        ensures time { IfOk result (λ limit. limit.time ≡ limit_of unit name.now group.now) }
-        ensures bad_at { IfOk result (λ limit. limit.bad_at ≡ least (bad_numbers_at unit name.now group.now)) }
+    pub(crate) fn of_tables(unit: Option<Unit>, group: &Group, name: &[u8]) -> Limit
+        ensures time { result.time ≡ limit_of unit name.now group.now }
+        ensures bad_at { result.bad_at ≡ least (bad_numbers_at unit name.now group.now) }
     {
         let mut sum = Sum::new();
-        sum.add_tables(alloc, unit, group, name)?;
+        sum.add_tables(unit, group, name);
         let empty_at = first_unless(sum.has_entry, first_group(group, name));
-        Ok(Limit {
+        Limit {
             time: sum.greatest,
             bad_at: lesser(empty_at, sum.bad_at),
-        })
+        }
     }
 }

@@ -1,8 +1,9 @@
 //! Texts cut into words.
-ghost use Rattle.std.specs.Prelude.{◌≡◌, ◌==◌, map, IfOk};
+ghost use Rattle.std.specs.Prelude.{◌≡◌, ◌==◌, ◌≤◌, length, drop, map, IfOk};
 ghost use Rattle.timing_arcs.specs.Attributes.{words_between};
 ghost use Rattle.timing_arcs.specs.RelatedPins.{is_space};
 ghost use Rattle.timing_arcs.specs.Tables.{is_separator};
+ghost use Rattle.timing_arcs.specs.Words.{word_length};
 
 use std::alloc::{AllocError, Global};
 
@@ -29,11 +30,25 @@ pub(crate) fn pin_names(alloc: Global, text: &[u8]) -> Result<Vec<&[u8]>, AllocE
         .collect(alloc)
 }
 
-/// The entries in a text of a table, in order.
-pub(crate) fn entries(alloc: Global, text: &[u8]) -> Result<Vec<&[u8]>, AllocError>
-    ensures { IfOk result (λ words. map (λ word. word.now) words.items ≡ words_between is_separator text.now) }
+/// How many bytes of a text stand before the first separator of entries.
+pub(crate) fn entry_length(text: &[u8]) -> usize
+    ensures value { result ≡ word_length is_separator text.now }
+    ensures within { result ≤ length text.now }
 {
-    text.split(|byte| is_separator(*byte))
-        .filter(|word| !word.is_empty())
-        .collect(alloc)
+    for (at, byte) in text.iter().enumerate() {
+        if is_separator(*byte) {
+            return at;
+        }
+    }
+    text.len()
+}
+
+/// A text without its first byte, if there is one.
+pub(crate) fn behind_first(text: &[u8]) -> &[u8]
+    ensures { result.now ≡ drop 1 text.now }
+{
+    match text {
+        [_, behind @ ..] => behind,
+        [] => text,
+    }
 }

@@ -1,0 +1,5 @@
+mod Kept
+mod Lists
+mod Names
+mod ModuleLemmas
+mod EntityLemmas

@@ -1,0 +1,2 @@
+pub mod EntityNames
+pub mod Texts

@@ -2,9 +2,9 @@
 ghost use Rattle.std.specs.Prelude.{◌≡◌, ◌<◌, IfOk};
 ghost use Rattle.selftest_cells.specs.Changes.{value_of, changes_of, ChangesAreProper};
 
-use crate::draws::{next, pick};
 use crate::faults::Memory;
 use cell_machine::Change;
+use selftest_library::{next, pick};
 use sqlite_items::Items;
 use std::alloc::Global;
 use trit_cubes::Trit;

@@ -1,6 +1,6 @@
 //! Drawn numbers.
 ghost use Rattle.std.specs.Prelude.{◌≡◌, ◌<◌};
-ghost use Rattle.selftest_cells.specs.Draws.{next as next_of, pick as pick_of};
+ghost use Rattle.selftest_library.specs.Draws.{next as next_of, pick as pick_of};
 
 /// The number that is drawn after another one.
 pub fn next(x: u64) -> u64

@@ -1,0 +1,4 @@
+pub mod SumLemmas
+pub mod Writable
+pub mod LibraryText
+pub mod ReadingLemmas

@@ -1,0 +1,5 @@
+pub mod Draws
+pub mod Sums
+pub mod Statements
+pub mod Library
+pub mod Reading

@@ -6,3 +6,4 @@ pub mod Places
 pub mod DigitLemmas
 pub mod Longest
 pub mod Covered
+pub mod SecondBytes

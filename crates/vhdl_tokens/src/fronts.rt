@@ -7,6 +7,20 @@ ghost use Rattle.vhdl_tokens.specs.Tokens as spec;
 
 use crate::spelling::is_name;
 
+/// Whether a byte is a space, a tab or a line end.
+fn is_blank(byte: u8) -> bool
+    ensures { result ≡ spec.is_blank byte }
+{
+    matches!(byte, b' ' | b'\t' | b'\n')
+}
+
+/// Whether a byte is a delimiter of one byte that begins no other.
+fn is_mark(byte: u8) -> bool
+    ensures { result ≡ spec.is_mark byte }
+{
+    matches!(byte, b'(' | b')' | b',' | b';' | b'.')
+}
+
 /// How many bytes stand before the first line end.
 fn line_length(bytes: &[u8]) -> usize
     ensures value { result ≡ prefix_len (λ c. not (c == 10)) bytes.now }
@@ -95,7 +109,7 @@ pub fn separator_length(bytes: &[u8]) -> usize
     let Some(first) = bytes.first() else {
         return 0;
     };
-    if b" \t\n".contains(first) {
+    if is_blank(*first) {
         1
     } else if bytes.starts_with(b"--") {
         line_length(bytes)
@@ -155,7 +169,7 @@ pub fn token_length(last: &[u8], bytes: &[u8]) -> usize
     let Some(first) = bytes.first() else {
         return 0;
     };
-    if b"(),;.".contains(first) {
+    if is_mark(*first) {
         1
     } else if *first == b'\'' {
         if is_name(last) {

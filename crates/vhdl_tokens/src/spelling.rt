@@ -1,6 +1,7 @@
 //! Which tokens of VHDL text are names, and when two tokens stand for the same.
 
-ghost use Rattle.std.specs.Prelude.{◌≡◌};
+ghost use Rattle.std.specs.Prelude.{◌≡◌, false};
+ghost use Rattle.vhdl_names.specs.Words.{is_vhdl_word};
 ghost use Rattle.vhdl_tokens.specs.Tokens as tokens;
 ghost use Rattle.vhdl_tokens.specs.Spelling as spec;
 
@@ -13,8 +14,21 @@ pub fn is_name(token: &[u8]) -> bool
 {
     match token.first() {
         None => false,
-        Some(first) => first.is_ascii_alphabetic() && !is_vhdl_word(token),
+        Some(first) => {
+            first.is_ascii_alphabetic() && !(could_be_word(token) && is_vhdl_word(token))
+        }
     }
+}
+
+/// Whether the second byte of a token is that of a word of VHDL, whatever the case of its letter. It spares most names the look-up
+/// among the words.
+fn could_be_word(token: &[u8]) -> bool
+    ensures { result ≡ false → is_vhdl_word token.now ≡ false }
+{
+    if token.len() < 2 {
+        return false;
+    }
+    !b"dgjkqvwz123456789_".contains(&token[1].to_ascii_lowercase())
 }
 
 /// Whether a token is a string. It takes no memory.

@@ -89,6 +89,15 @@ impl Part {
         self.bytes.as_slice()
     }
 
+    /// How many bytes of the library stand before the part, and the bytes of the part.
+    pub(crate) fn into_bytes(self) -> (usize, Vec<u8>)
+        ensures before { result.0 ≡ self.before }
+        ensures bytes { result.1.items ≡ self.bytes }
+    {
+        let Part { before, bytes, .. } = self;
+        (before, bytes)
+    }
+
     /// The tokens that have ended in the part.
     pub(crate) fn tokens(&self) -> &[Token]
         ensures tokens { result.now ≡ self.now.tokens }

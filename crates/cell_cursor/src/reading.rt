@@ -12,7 +12,7 @@ ghost use Rattle.cell_cursor.specs.Scanned.{stop_behind};
 use crate::cursor::Answer;
 use crate::fault::{CursorFault, Memory};
 use crate::item::LibraryItem;
-use crate::part::{Part, Place};
+use crate::part::Place;
 use crate::statements::read_rest;
 use liberty_groups::{Cursor, Halt, LibraryFault, Stop, fault_of};
 use liberty_text::{Scan, Stop as TextStop, scan};
@@ -70,14 +70,14 @@ fn halt_of(
 
 /// Whether some library goes on with a part that ends in an open text, once that is closed.
 #[tactic(auto, using(liberty_groups::proofs::Inside::lie_inside), unfolding(crate::specs::Finish::part_outcome))]
-fn goes_on_closed(alloc: Global, part: &Part, place: Place) -> Result<bool, Memory>
-    ensures { IfOk result (λ does. does ≡ goes_on_closed place part.now.before part.now.bytes) }
+fn goes_on_closed(alloc: Global, before: usize, bytes: &[u8], place: Place) -> Result<bool, Memory>
+    ensures { IfOk result (λ does. does ≡ goes_on_closed place before bytes.now) }
 {
-    let mut closed = Vec::from_slice(alloc, part.bytes())?;
+    let mut closed = Vec::from_slice(alloc, bytes)?;
     closed.extend_from_slice(b" \"")?;
-    moved(part.before(), closed.len())?;
+    moved(before, closed.len())?;
     let Scan { tokens, .. } = scan(alloc, &closed)?;
-    let mut cursor = Cursor::behind(part.before(), &closed, &tokens);
+    let mut cursor = Cursor::behind(before, &closed, &tokens);
     let mut items = Vec::new(alloc);
     if let Err(Stop::Memory) = read_rest(&mut cursor, alloc, place, &mut items) {
         return Err(Memory);
@@ -88,19 +88,20 @@ fn goes_on_closed(alloc: Global, part: &Part, place: Place) -> Result<bool, Memo
 /// Whether some library goes on with a part whose tokens halt and stop so.
 fn may_go_on(
     alloc: Global,
-    part: &Part,
+    before: usize,
+    bytes: &[u8],
     place: Place,
     halt: Halt,
     stop: TextStop,
 ) -> Result<bool, Memory>
-    ensures { IfOk result (λ may. may ≡ may_go_on place part.now.before part.now.bytes halt stop) }
+    ensures { IfOk result (λ may. may ≡ may_go_on place before bytes.now halt stop) }
 {
     if let Halt::Refused { unfinished, .. } = halt {
         return Ok(stop == TextStop::End && unfinished);
     }
     match stop {
         TextStop::BadByte(_) => Ok(false),
-        TextStop::OpenText(_) => goes_on_closed(alloc, part, place),
+        TextStop::OpenText(_) => goes_on_closed(alloc, before, bytes, place),
         _ => Ok(true),
     }
 }
@@ -117,27 +118,28 @@ fn answer_by(whole: bool, fault: Option<LibraryFault>) -> Answer
     }
 }
 
-/// The items of a part that ends where the file does or, where that is not `whole`, where the limit is, and how it ends.
+/// The items of a part of these bytes, before which so many others stand, that ends where the file does or, where that is not `whole`, where the limit is, and how it ends.
 #[tactic(auto, using(liberty_groups::proofs::Inside::lie_inside), unfolding(crate::specs::Finish::part_outcome, crate::specs::Finish::part_halt, crate::specs::Finish::answer_at))]
 pub(crate) fn read_end(
     alloc: Global,
-    part: &Part,
+    before: usize,
+    bytes: &[u8],
     place: Place,
     whole: bool,
     items: &mut Vec<LibraryItem>,
 ) -> Result<Answer, Memory>
-    requires fits { part.now.before + length part.now.bytes < 2 ^ 64 }
+    requires fits { before + length bytes.now < 2 ^ 64 }
     requires nothing { items.old.items ≡ [] }
-    ensures answer { IfOk result (λ answer. answer ≡ answer_at place part.now.before part.now.bytes whole) }
-    ensures items { OnOk result (items.new.items ≡ items_in (part_outcome place part.now.before part.now.bytes)) }
+    ensures answer { IfOk result (λ answer. answer ≡ answer_at place before bytes.now whole) }
+    ensures items { OnOk result (items.new.items ≡ items_in (part_outcome place before bytes.now)) }
 {
-    let end = part.before() + part.bytes().len();
-    let Scan { tokens, stop } = scan(alloc, part.bytes())?;
-    let mut cursor = Cursor::behind(part.before(), part.bytes(), &tokens);
+    let end = before + bytes.len();
+    let Scan { tokens, stop } = scan(alloc, bytes)?;
+    let mut cursor = Cursor::behind(before, bytes, &tokens);
     let halt = halt_of(alloc, &mut cursor, place, end, items)?;
-    if !whole && may_go_on(alloc, part, place, halt, stop)? {
+    if !whole && may_go_on(alloc, before, bytes, place, halt, stop)? {
         return Ok(Answer::Over);
     }
-    let stop = stop_behind(part.before(), stop)?;
+    let stop = stop_behind(before, stop)?;
     Ok(answer_by(whole, fault_of(end, halt, stop)))
 }

@@ -16,6 +16,7 @@ use crate::part::{Part, Place};
 use crate::reading::read_end;
 use crate::statements::{Reached, reach};
 use liberty_groups::{Cursor, LibraryFault};
+use std::mem::replace;
 
 impl CellCursor {
     /// Sees which token of the part is refused, if one is.
@@ -139,7 +140,8 @@ impl CellCursor {
         self.part = Part::new(self.alloc, end, place);
     }
 
-    /// Takes what there is of a library that has ended or, where that is not `whole`, has come to the limit.
+    /// Takes what there is of a library that has ended or, where that is not `whole`, has come to the limit. The tokens of the
+    /// part go first, since all its bytes are scanned again.
     pub(crate) fn take_end(&mut self, whole: bool) -> Result<(), Memory>
         ensures err { OnErr result (self.new.waiting.items ≡ self.old.waiting.items) }
         ensures limit { self.new.limit ≡ self.old.limit }
@@ -147,7 +149,9 @@ impl CellCursor {
         ensures items { OnOk result (self.new.waiting.items ≡ reverse (items_in (part_outcome self.old.place self.old.part.before self.old.part.bytes))) }
     {
         let mut items = Vec::new(self.alloc);
-        let answer = read_end(self.alloc, &self.part, self.place, whole, &mut items)?;
+        let nothing = Part::new(self.alloc, self.part.before(), self.place);
+        let (before, bytes) = replace(&mut self.part, nothing).into_bytes();
+        let answer = read_end(self.alloc, before, &bytes, self.place, whole, &mut items)?;
         items.reverse();
         self.waiting = items;
         self.answer = Some(answer);

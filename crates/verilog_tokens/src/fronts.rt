@@ -6,6 +6,32 @@ ghost use Rattle.std.specs.Char.{is_ascii_alphabetic, is_ascii_digit};
 ghost use Rattle.verilog_tokens.specs.Kept.{is_name_byte};
 ghost use Rattle.verilog_tokens.specs.Tokens as spec;
 
+/// Whether a byte is a space, a tab or a line end.
+fn is_blank(byte: u8) -> bool
+    ensures { result ≡ spec.is_blank byte }
+{
+    matches!(byte, b' ' | b'\t' | b'\n')
+}
+
+/// Whether a byte is a mark of one byte.
+fn is_mark(byte: u8) -> bool
+    ensures { result ≡ spec.is_mark byte }
+{
+    matches!(byte, b'(' | b')' | b',' | b';' | b':')
+}
+
+/// Whether a byte is a symbol of a table.
+fn is_symbol(byte: u8) -> bool
+    ensures { result ≡ spec.is_symbol byte }
+{
+    match byte {
+        b'0' | b'1' | b'x' | b'X' | b'b' | b'B' | b'?' => true,
+        b'r' | b'R' | b'f' | b'F' | b'p' | b'P' | b'n' | b'N' | b'*' => true,
+        b'-' | b'(' | b')' | b':' | b';' => true,
+        _ => false,
+    }
+}
+
 /// How many bytes end a comment, up to and with the first slash right behind a star.
 fn comment_rest(bytes: &[u8]) -> Option<usize>
     ensures value { result ≡ spec.comment_rest false bytes.now }
@@ -95,7 +121,7 @@ pub fn separator_length(bytes: &[u8]) -> usize
     let Some(first) = bytes.first() else {
         return 0;
     };
-    if b" \t\n".contains(first) {
+    if is_blank(*first) {
         1
     } else if bytes.starts_with(b"//") {
         line_length(bytes)
@@ -161,9 +187,9 @@ pub fn token_length(in_table: bool, bytes: &[u8]) -> usize
     let Some(first) = bytes.first() else {
         return 0;
     };
-    if in_table && b"01xXbB?rRfFpPnN*-():;".contains(first) {
+    if in_table && is_symbol(*first) {
         1
-    } else if b"(),;:".contains(first) {
+    } else if is_mark(*first) {
         1
     } else if first.is_ascii_alphabetic() || b"_$`".contains(first) {
         word_length(bytes)

@@ -233,9 +233,10 @@ impl Cursor<'_> {
     fn value(&mut self, alloc: Global) -> Result<Items<Value>, Stop>
         ensures { Reads (read spec.value self.old) result self.new }
     {
-        let mut found = Items::new(alloc);
         match self.peek() {
             Some(token) if goes_on(Place::ValueStart, token) => {
+                // nearly every value is one token
+                let mut found = Items::from_vec(Vec::with_capacity(alloc, 1)?);
                 self.add_part(alloc, &mut found)?;
                 let found = self.parts(alloc, Place::Value, found)?;
                 self.value_end(Place::Value)?;
@@ -243,7 +244,7 @@ impl Cursor<'_> {
             }
             _ => {
                 self.value_end(Place::ValueStart)?;
-                Ok(found)
+                Ok(Items::new(alloc))
             }
         }
     }

@@ -7,7 +7,6 @@ use Rattle.std.proofs.lemmas.List.{length-map, map-append}
 use Rattle.std.proofs.Math.Pow.{pow_mono}
 use Rattle.std.proofs.lemmas.Nat.{and_block, or_block, xor_block}
 use Rattle.bool_functions.specs.declared.tree.Node.{Node}
-use Rattle.bool_functions.specs.declared.tree.Node.TheVariants as node
 use Rattle.bool_functions.specs.Tree.{value_step, value_by, xor}
 use Rattle.bool_functions.specs.Point.{bit, number, entry_of}
 use Rattle.bool_functions.specs.Block.{ones, word_step, word_by, word_at, word_of, name_word, named, bits_of}

@@ -3,6 +3,7 @@ pub mod Support
 pub mod Point
 pub mod Block
 pub mod Key
+pub mod Kept
 pub mod NameBytes
 pub mod NameList
 pub mod Token

@@ -3,6 +3,7 @@
 
 mod blocks;
 mod faults;
+mod kept_values;
 mod keys;
 mod laws;
 mod name_list;

@@ -10,10 +10,14 @@ ghost use Rattle.bool_functions.specs.declared.tree.Node.TheVariants as tree;
 
 use crate::blocks::table;
 use crate::faults::Memory;
+use crate::kept_values::KeptValues;
 use crate::keys::key;
 use sqlite_items::Boxed;
 use std::alloc::{AllocError, Global};
 use std::marker::Model;
+
+/// The most names of a function whose values are kept.
+const MOST_NAMES: usize = 10;
 
 /// An operator of a function with its parts, or one of its leaves. A name is a number that a list of names gives it.
 ///
@@ -36,12 +40,15 @@ pub struct Function {
     node: Node,
     /// The number of the tree, by which most unlike trees are told apart.
     key: u64,
+    /// Its values, where its tree is long and names few names.
+    kept: Option<KeptValues>,
 }
 
 impl Model for Function {
     ghost use Rattle.std.specs.Prelude.{◌≡◌};
     ghost use Rattle.bool_functions.specs.declared.tree.Node.{Node};
     ghost use Rattle.bool_functions.specs.Key.{key_of};
+    ghost use Rattle.bool_functions.specs.Kept.{AreOfTree};
 
     ghost Value = { Node };
 
@@ -52,7 +59,7 @@ impl Model for Function {
 
     ghost view = { λ f. f.node };
 
-    ghost invariant = { λ f. f.key ≡ key_of f.node };
+    ghost invariant = { λ f. (f.key ≡ key_of f.node) × AreOfTree f.node f.kept };
 }
 
 impl Function {
@@ -61,7 +68,25 @@ impl Function {
         ensures { result ≡ node }
     {
         let key = key(&node);
-        Function { node, key }
+        Function {
+            node,
+            key,
+            kept: None,
+        }
+    }
+
+    /// The function of a tree, with its values kept where it names few names. `Memory` comes only where memory is wanting.
+    pub(crate) fn with_values(alloc: Global, node: Node) -> Result<Function, Memory>
+        ensures { IfOk result (λ f. f ≡ node) }
+    {
+        let mut function = Function::new(node);
+        let names = function.support(alloc)?;
+        if names.len() > MOST_NAMES {
+            return Ok(function);
+        }
+        let values = function.table(alloc, &names)?;
+        function.kept = Some(KeptValues { names, values });
+        Ok(function)
     }
 
     /// The function that is the name `i`. Takes no memory.
@@ -83,7 +108,10 @@ impl Function {
         requires { name_bound self.now ≤ length bits.now }
         ensures { result ≡ value_of bits.now self.now }
     {
-        value(&self.node, bits)
+        match &self.kept {
+            Some(kept) => kept.at(bits),
+            None => value(&self.node, bits),
+        }
     }
 
     /// Whether the two trees are equal. Takes no memory.
@@ -111,7 +139,11 @@ impl Function {
         ensures { IfOk result (λ f. f ≡ renamed_by to.now self.now) }
     {
         let node = renamed(&self.node, alloc, to)?;
-        Ok(Function::new(node))
+        if self.kept.is_some() {
+            Function::with_values(alloc, node)
+        } else {
+            Ok(Function::new(node))
+        }
     }
 
     /// The numbers of the written names, each once, in ascending order. `Memory` comes only where memory is wanting.

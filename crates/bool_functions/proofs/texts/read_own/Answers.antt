@@ -18,4 +18,4 @@ returns-in_err-tree c =
 pub returns : goal.returns
 returns c =
     let own : c.in_ok-names.names ≡ free_names c.args.text.now = c.in_ok-names.ensures ∙ ap (λ ts. first_appearances (words_of c.args.text.now ts)) (c.deref.ensures.value ∙ c.in_ok-tokens.ensures) in
-    (own, own_tree c.in_ok-names.names c.args.text.now c.in_ok-tree.tree own c.if-text-gt-MAX_LEN.false c.in_ok-tree.ensures ∙ ap Ok (sym c.new.ensures))
+    (own, own_tree c.in_ok-names.names c.args.text.now c.in_ok-tree.tree own c.if-text-gt-MAX_LEN.false c.in_ok-tree.ensures ∙ ap Ok (sym c.in_ok-function.ensures))

@@ -8,7 +8,7 @@ pub returns-then-self-other-clause-test : goal.returns-then-self-other-clause-te
 returns-then-self-other-clause-test c =
     sym (unlike-keys c.args.self.now c.args.other.now (λ e.
     c.if-self-other.true
-    (c.self.invariant ∙ ap key_of c.self.view_is ∙ e ∙ sym (ap key_of c.other.view_is) ∙ sym c.other.invariant)))
+    (c.self.invariant.0 ∙ ap key_of c.self.view_is ∙ e ∙ sym (ap key_of c.other.view_is) ∙ sym c.other.invariant.0)))
 
 pub returns-clause-test : goal.returns-clause-test
 returns-clause-test c =

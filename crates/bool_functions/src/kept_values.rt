@@ -1,0 +1,54 @@
+//! The values of a function at all points, kept so that a long tree is walked for them once.
+ghost use Rattle.std.specs.Prelude.{◌≡◌, ◌≤◌, ◌<◌, ◌^◌, false, length, slice_index_or};
+ghost use Rattle.bool_functions.specs.declared.tree.Node.{Node};
+ghost use Rattle.bool_functions.specs.Tree.{value_of};
+ghost use Rattle.bool_functions.specs.Point.{number, bits_at, HasValues};
+
+/// Some names, and a value for each point over them, at the point's number.
+#[derive(Debug, Drop)]
+pub(crate) struct KeptValues {
+    /// The numbers of the names.
+    pub names: Vec<usize>,
+    /// The values.
+    pub values: Vec<bool>,
+}
+
+impl KeptValues {
+    /// The value where `bits[i]` is the value of the name `i`.
+    pub(crate) fn at(&self, bits: &[bool]) -> bool
+        requires { length self.now.names.items ≤ 10 }
+        ensures { (f : Node) → HasValues self.now.names.items f self.now.values.items → result ≡ value_of bits.now f }
+    {
+        match self.values.get(point_number(&self.names, bits)) {
+            Some(value) => *value,
+            None => false,
+        }
+    }
+}
+
+/// The value of a name, 0 where there is no such name.
+fn bit_at(bits: &[bool], name: usize) -> bool
+    ensures { result ≡ slice_index_or bits.now name false }
+{
+    match bits.get(name) {
+        Some(bit) => *bit,
+        None => false,
+    }
+}
+
+/// The number of the point that the values of all names make at these names.
+fn point_number(names: &[usize], bits: &[bool]) -> usize
+    requires { length names.now ≤ 10 }
+    ensures number { result ≡ number (bits_at names.now bits.now) }
+    ensures small { result < 2 ^ length names.now }
+{
+    let Some((first, rest)) = names.split_first() else {
+        return 0;
+    };
+    let back = point_number(rest, bits);
+    if bit_at(bits, *first) {
+        2 * back + 1
+    } else {
+        2 * back
+    }
+}

@@ -12,6 +12,16 @@ use vital_models::{
     OutValue, TruthRow, TruthTable, VEntity, VNext, VOutput, VState, VStateRow, VStateTable,
 };
 
+/// A part of a model that can be damaged: one row of it gives 0 in place of 1, or 1 in place of 0. Where that row gives another
+/// thing, or there is none, the part stays as it is.
+trait Damage: Drop + Sized {
+    ghost damaged: { Self → Self };
+
+    /// The part, damaged. An `Err` comes only where memory is wanting.
+    fn damaged(self, alloc: Global) -> Result<Self, Memory>
+        ensures { IfOk result (λ part. part ≡ damaged self) };
+}
+
 /// A list with an item before the others.
 fn with_first<T: Drop>(alloc: Global, first: T, others: Items<T>) -> Result<Items<T>, Memory>
     ensures { IfOk result (λ list. list ≡ first ∷ others) }
@@ -20,6 +30,29 @@ fn with_first<T: Drop>(alloc: Global, first: T, others: Items<T>) -> Result<Item
     list.push(first)?;
     list.append(others)?;
     Ok(list)
+}
+
+/// A list, its first part damaged where there is one.
+fn first_damaged<T: Damage>(alloc: Global, mut parts: Items<T>) -> Result<Items<T>, Memory>
+    ensures { IfOk result (λ list. list ≡ alter_first T.damaged parts) }
+{
+    if parts.is_empty() {
+        return Ok(parts);
+    }
+    let first = parts.remove(0).damaged(alloc)?;
+    with_first(alloc, first, parts)
+}
+
+/// A list, its second part damaged where there is one.
+fn second_damaged<T: Damage>(alloc: Global, mut parts: Items<T>) -> Result<Items<T>, Memory>
+    ensures { IfOk result (λ list. list ≡ alter_second T.damaged parts) }
+{
+    if parts.is_empty() {
+        return Ok(parts);
+    }
+    let first = parts.remove(0);
+    let others = first_damaged(alloc, parts)?;
+    with_first(alloc, first, others)
 }
 
 /// What a row of a primitive gives, with 0 and 1 exchanged.
@@ -33,28 +66,22 @@ fn other_next(next: Next) -> Next
     }
 }
 
-/// The rows of a primitive, the first one damaged.
-fn damaged_rows(alloc: Global, mut rows: Items<UdpRow>) -> Result<Items<UdpRow>, Memory>
-    ensures { IfOk result (λ list. list ≡ alter_first damaged_row rows) }
-{
-    if rows.is_empty() {
-        return Ok(rows);
+impl Damage for UdpRow {
+    ghost damaged = { damaged_row };
+
+    fn damaged(mut self, _alloc: Global) -> Result<UdpRow, Memory> {
+        self.next = other_next(self.next);
+        Ok(self)
     }
-    let mut row = rows.remove(0);
-    row.next = other_next(row.next);
-    with_first(alloc, row, rows)
 }
 
-/// The primitives of a module, the first one damaged.
-fn damaged_udps(alloc: Global, mut udps: Items<Udp>) -> Result<Items<Udp>, Memory>
-    ensures { IfOk result (λ list. list ≡ alter_first damaged_udp udps) }
-{
-    if udps.is_empty() {
-        return Ok(udps);
+impl Damage for Udp {
+    ghost damaged = { damaged_udp };
+
+    fn damaged(mut self, alloc: Global) -> Result<Udp, Memory> {
+        self.rows = first_damaged(alloc, self.rows)?;
+        Ok(self)
     }
-    let mut udp = udps.remove(0);
-    udp.rows = damaged_rows(alloc, udp.rows)?;
-    with_first(alloc, udp, udps)
 }
 
 /// The module in which the first row of the first primitive gives 0 in place of 1, or 1 in place of 0. A row that gives another
@@ -62,7 +89,7 @@ fn damaged_udps(alloc: Global, mut udps: Items<Udp>) -> Result<Items<Udp>, Memor
 pub fn damaged_module(alloc: Global, mut model: VModule) -> Result<VModule, Memory>
     ensures { IfOk result (λ m. m ≡ damaged_module model) }
 {
-    model.udps = damaged_udps(alloc, model.udps)?;
+    model.udps = first_damaged(alloc, model.udps)?;
     Ok(model)
 }
 
@@ -77,38 +104,25 @@ fn other_state(next: VNext) -> VNext
     }
 }
 
-/// Rows of a state table, the first one damaged.
-fn first_damaged(alloc: Global, mut rows: Items<VStateRow>) -> Result<Items<VStateRow>, Memory>
-    ensures { IfOk result (λ list. list ≡ alter_first damaged_state_row rows) }
-{
-    if rows.is_empty() {
-        return Ok(rows);
+impl Damage for VStateRow {
+    ghost damaged = { damaged_state_row };
+
+    fn damaged(mut self, _alloc: Global) -> Result<VStateRow, Memory> {
+        self.result = other_state(self.result);
+        Ok(self)
     }
-    let mut row = rows.remove(0);
-    row.result = other_state(row.result);
-    with_first(alloc, row, rows)
 }
 
-/// Rows of a state table, the second one damaged.
-fn second_damaged(alloc: Global, mut rows: Items<VStateRow>) -> Result<Items<VStateRow>, Memory>
-    ensures { IfOk result (λ list. list ≡ alter_second damaged_state_row rows) }
-{
-    if rows.is_empty() {
-        return Ok(rows);
-    }
-    let first = rows.remove(0);
-    let others = first_damaged(alloc, rows)?;
-    with_first(alloc, first, others)
-}
+/// The second row of the state's table: the first one keeps the state.
+impl Damage for VState {
+    ghost damaged = { damaged_state };
 
-/// A state, the second row of its table damaged.
-fn damaged_state(alloc: Global, mut state: VState) -> Result<VState, Memory>
-    ensures { IfOk result (λ s. s ≡ damaged_state state) }
-{
-    state.table = VStateTable {
-        rows: second_damaged(alloc, state.table.rows)?,
-    };
-    Ok(state)
+    fn damaged(mut self, alloc: Global) -> Result<VState, Memory> {
+        self.table = VStateTable {
+            rows: second_damaged(alloc, self.table.rows)?,
+        };
+        Ok(self)
+    }
 }
 
 /// What a row of a truth table gives, with 0 and 1 exchanged.
@@ -122,43 +136,38 @@ fn other_value(value: Trit) -> Trit
     }
 }
 
-/// The rows of a truth table, the first one damaged.
-fn damaged_truth_rows(alloc: Global, mut rows: Items<TruthRow>) -> Result<Items<TruthRow>, Memory>
-    ensures { IfOk result (λ list. list ≡ alter_first damaged_truth_row rows) }
-{
-    if rows.is_empty() {
-        return Ok(rows);
-    }
-    let mut row = rows.remove(0);
-    row.result = other_value(row.result);
-    with_first(alloc, row, rows)
-}
+impl Damage for TruthRow {
+    ghost damaged = { damaged_truth_row };
 
-/// The value of an output, the first row of its table damaged.
-fn damaged_value(alloc: Global, value: OutValue) -> Result<OutValue, Memory>
-    ensures { IfOk result (λ v. v ≡ damaged_value value) }
-{
-    match value {
-        OutValue::Constant(one) => Ok(OutValue::Constant(one)),
-        OutValue::Table { table, inputs } => Ok(OutValue::Table {
-            table: TruthTable {
-                rows: damaged_truth_rows(alloc, table.rows)?,
-            },
-            inputs,
-        }),
+    fn damaged(mut self, _alloc: Global) -> Result<TruthRow, Memory> {
+        self.result = other_value(self.result);
+        Ok(self)
     }
 }
 
-/// The outputs of an entity, the first one damaged.
-fn damaged_outputs(alloc: Global, mut outputs: Items<VOutput>) -> Result<Items<VOutput>, Memory>
-    ensures { IfOk result (λ list. list ≡ alter_first damaged_output outputs) }
-{
-    if outputs.is_empty() {
-        return Ok(outputs);
+impl Damage for OutValue {
+    ghost damaged = { damaged_value };
+
+    fn damaged(self, alloc: Global) -> Result<OutValue, Memory> {
+        match self {
+            OutValue::Constant(one) => Ok(OutValue::Constant(one)),
+            OutValue::Table { table, inputs } => Ok(OutValue::Table {
+                table: TruthTable {
+                    rows: first_damaged(alloc, table.rows)?,
+                },
+                inputs,
+            }),
+        }
     }
-    let mut output = outputs.remove(0);
-    output.value = damaged_value(alloc, output.value)?;
-    with_first(alloc, output, outputs)
+}
+
+impl Damage for VOutput {
+    ghost damaged = { damaged_output };
+
+    fn damaged(mut self, alloc: Global) -> Result<VOutput, Memory> {
+        self.value = self.value.damaged(alloc)?;
+        Ok(self)
+    }
 }
 
 /// The entity in which the second row of the first state table, and without states the first row of the first output's table, gives
@@ -168,11 +177,10 @@ pub fn damaged_entity(alloc: Global, mut model: VEntity) -> Result<VEntity, Memo
     ensures { IfOk result (λ e. e ≡ damaged_entity model) }
 {
     if model.states.is_empty() {
-        model.outputs = damaged_outputs(alloc, model.outputs)?;
-        return Ok(model);
+        model.outputs = first_damaged(alloc, model.outputs)?;
+    } else {
+        model.states = first_damaged(alloc, model.states)?;
     }
-    let state = damaged_state(alloc, model.states.remove(0))?;
-    model.states = with_first(alloc, state, model.states)?;
     Ok(model)
 }
 

@@ -1,0 +1,4 @@
+pub mod CountLemmas
+pub mod CountedCells
+pub mod BesideModels
+pub mod OwnLibraries

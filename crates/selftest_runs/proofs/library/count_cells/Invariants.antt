@@ -1,0 +1,16 @@
+use Rattle.std.proofs.Common.{◌≡◌, ◌+◌, ◌≤◌, false, IsTrue}
+use Rattle.text_io.specs.declared.slots.InSlot.TheVariants.{Library}
+use Rattle.text_io.specs.declared.slots.Slot.TheVariants.{Input}
+use Rattle.text_io.specs.Desk.{is_bound}
+use Rattle.cell_cursor.specs.Stands.{is_failed}
+use Rattle.selftest_runs.specs.LibraryCounts.{HasCounted}
+use Rattle.selftest_runs.proofs.library.count_cells.Given as goal
+
+abbrev pub invariant-loop-turn : goal.invariant-loop-turn
+invariant-loop-turn g l = record {
+  counted : HasCounted l.limit (g.D.Desk.state l.fn.desk) (g.D.Desk.state l.desk) l.progress l.counts l.cursor;
+  library : IsTrue (is_bound (g.D.Desk.state l.desk) (Input Library));
+  room : l.progress.accepted + l.progress.refused ≤ l._turn;
+  same : g.D.Desk.faults l.desk ≡ g.D.Desk.faults l.fn.desk;
+  unfailed : is_failed l.cursor.answer ≡ false;
+}

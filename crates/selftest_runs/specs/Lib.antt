@@ -1,0 +1,5 @@
+pub mod Counts
+pub mod CellCounts
+pub mod LibraryCounts
+pub mod OwnCounts
+pub mod Report

@@ -4,6 +4,7 @@
 mod contents;
 mod cursor;
 mod fault;
+mod items;
 mod library;
 mod outline;
 mod read;

@@ -1,4 +1,4 @@
-//! What stands between the tokens of a Liberty text: values, arguments and statements, by recursive descent.
+//! The values and the arguments of statements.
 
 ghost use Rattle.std.specs.Prelude.{◌≡◌, ◌++◌, ℕ, [], OnOk, OnErr, IfOk};
 ghost use Rattle.grammar_rules.specs.Reading.{read};
@@ -8,7 +8,7 @@ ghost use Rattle.liberty_groups.specs.Grammar.{Reads, next_part, next_start, nex
 
 use crate::cursor::Cursor;
 use crate::fault::{Expected, Refusal, Stop};
-use crate::tree::{Group, Item, Value};
+use crate::tree::{Item, Value};
 use liberty_text::{Token, TokenKind, text_value};
 use sqlite_items::Items;
 use std::alloc::{AllocError, Global};
@@ -157,7 +157,7 @@ impl Cursor<'_> {
     }
 
     /// The offset of the next token.
-    fn at(&self) -> usize
+    pub(crate) fn at(&self) -> usize
         ensures { result ≡ next_at self.now }
     {
         match self.peek() {
@@ -251,7 +251,7 @@ impl Cursor<'_> {
 
     /// A simple attribute, after its colon.
     #[tactic(auto, unfolding(crate::specs::Grammar::simple))]
-    fn simple(&mut self, alloc: Global, name: Items<u8>, at: usize) -> Result<Item, Stop>
+    pub(crate) fn simple(&mut self, alloc: Global, name: Items<u8>, at: usize) -> Result<Item, Stop>
         ensures { Reads (read (spec.simple name at) self.old) result self.new }
     {
         let value = self.value(alloc)?;
@@ -266,116 +266,5 @@ impl Cursor<'_> {
             Some(token) => start_by(token.kind),
             None => Start::Other,
         }
-    }
-
-    /// The bytes and the offset of the next token, which is taken.
-    pub fn name(&mut self, alloc: Global) -> Result<(Items<u8>, usize), Stop>
-        ensures name { IfOk result (λ found. found ≡ (next_bytes self.old, next_at self.old)) }
-        ensures left { OnOk result (self.new ≡ rest self.old) }
-        ensures memory { OnErr result (result ≡ Err Stop.Memory) }
-    {
-        let at = self.at();
-        let bytes = Items::from_slice(alloc, self.bytes())?;
-        self.skip();
-        Ok((bytes, at))
-    }
-
-    /// What follows the name of a statement, where groups may be open to `levels` more levels.
-    #[cycle(nest)]
-    pub fn statement(
-        &mut self,
-        alloc: Global,
-        levels: usize,
-        name: Items<u8>,
-        at: usize,
-    ) -> Result<Item, Stop>
-        ensures { Reads (read (spec.statement levels name at) self.old) result self.new }
-    {
-        if self.sees(Mark::Colon) {
-            self.skip();
-            self.simple(alloc, name, at)
-        } else {
-            self.bracketed(alloc, levels, name, at)
-        }
-    }
-
-    /// The arguments of a statement, and the statements of a group if it is one.
-    #[cycle(nest)]
-    #[tactic(auto, unfolding(crate::specs::Grammar::bracketed))]
-    fn bracketed(
-        &mut self,
-        alloc: Global,
-        levels: usize,
-        name: Items<u8>,
-        at: usize,
-    ) -> Result<Item, Stop>
-        ensures { Reads (read (spec.bracketed levels (spec.body levels) name at) self.old) result self.new }
-    {
-        self.expect(Mark::Open, Expected::AfterName)?;
-        let arguments = self.arguments(alloc)?;
-        self.complex_or_group(alloc, levels, name, arguments, at)
-    }
-
-    /// The group, if a brace opens it; otherwise the complex attribute that was read.
-    #[cycle(nest)]
-    #[tactic(auto, unfolding(crate::specs::Grammar::complex_or_group), using(crate::proofs::Statements::inner))]
-    fn complex_or_group(
-        &mut self,
-        alloc: Global,
-        levels: usize,
-        name: Items<u8>,
-        arguments: Items<Value>,
-        at: usize,
-    ) -> Result<Item, Stop>
-        ensures { Reads (read (spec.complex_or_group levels (spec.body levels) name arguments at) self.old) result self.new }
-    {
-        if !self.sees(Mark::Begin) {
-            return Ok(Item::Complex {
-                name,
-                arguments,
-                at,
-            });
-        }
-        if levels == 0 {
-            return Err(Stop::Refused(Refusal::TooDeep));
-        }
-        self.skip();
-        let items = self.statements(alloc, levels - 1)?;
-        Ok(Item::Inner(Group {
-            name,
-            arguments,
-            items,
-            at,
-        }))
-    }
-
-    /// The statements of a group up to its closing brace, and the brace.
-    #[cycle(nest)]
-    fn statements(&mut self, alloc: Global, levels: usize) -> Result<Items<Item>, Stop>
-        ensures { Reads (read (spec.statements (spec.statement levels)) self.old) result self.new }
-    {
-        let items = self.some_statements(alloc, levels)?;
-        self.expect(Mark::End, Expected::Statement)?;
-        Ok(items)
-    }
-
-    /// The statements from here on.
-    #[cycle(nest)]
-    #[tactic(auto, using(crate::proofs::Statements::empty_turn, crate::proofs::Statements::named_turn, crate::proofs::Statements::failed_turn, crate::proofs::Statements::no_turn))]
-    fn some_statements(&mut self, alloc: Global, levels: usize) -> Result<Items<Item>, Stop>
-        ensures { Reads (read (spec.some_statements (spec.statement levels) []) self.old) result self.new }
-    {
-        let mut items = Items::new(alloc);
-        for _turn in 0..self.left() {
-            match self.start() {
-                Start::Empty => self.skip(),
-                Start::Named => {
-                    let (name, at) = self.name(alloc)?;
-                    items.push(self.statement(alloc, levels, name, at)?)?;
-                }
-                Start::Other => break,
-            }
-        }
-        Ok(items)
     }
 }

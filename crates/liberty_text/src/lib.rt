@@ -2,6 +2,7 @@
 //! times that they spell.
 #![tactic(auto)]
 
+mod bytes_after;
 mod class;
 mod decimal;
 mod idle;
@@ -11,11 +12,13 @@ mod scanner;
 mod text;
 mod time;
 mod token;
+mod whole_texts;
 
 pub use decimal::{Fixed, NumberFault};
 pub use laws::{one_reading, tokens_cover};
 pub use number::fixed;
-pub use scanner::{Mode, Scanner, scan, tokens};
+pub use scanner::{Mode, Scanner};
 pub use text::{one_value, quotes_read_back, text_value};
 pub use time::{Unit, picoseconds};
 pub use token::{Memory, Scan, Stop, TextFault, Token, TokenKind};
+pub use whole_texts::{scan, tokens};

@@ -1,18 +1,15 @@
-//! Liberty text to tokens, byte by byte.
+//! A scanner that takes the bytes of a Liberty text and keeps its tokens.
 
-ghost use Rattle.std.specs.Prelude.{◌≡◌, ◌++◌, ◌+◌, ◌<◌, ◌≤◌, ◌^◌, ℕ, length, take, OnOk, IfOk, IfErr};
+ghost use Rattle.std.specs.Prelude.{◌≡◌, ◌++◌, ◌+◌, ◌<◌, ◌≤◌, ◌^◌, ℕ, length, take, OnOk, IfOk};
 ghost use Rattle.std.specs.Prelude.{false, [], ◌∷◌};
-ghost use Rattle.liberty_text.specs.Scanner.{class_of, token, slash_at, opened, in_word_by, comment_in_word, in_text, in_comment, in_continuation, step, closing, scan_of};
+ghost use Rattle.liberty_text.specs.Scanner.{class_of, token, opened, in_word_by, comment_in_word, in_text, step, closing};
 ghost use Rattle.liberty_text.specs.Runs.{mode_behind, tokens_ended};
-ghost use Rattle.std.specs.Prelude.{All};
-ghost use Rattle.liberty_text.specs.declared.token.Stop.TheVariants.{End};
 ghost use Rattle.liberty_text.specs.declared.scanner.Mode.TheVariants.{Between};
-ghost use Rattle.liberty_text.specs.TokenLaws.{IsInside, AreInOrder};
-ghost use Rattle.liberty_text.specs.Tokens.{Reads, AreTokensOf, IsFaultOf};
 
+use crate::bytes_after::{after_comment_byte, after_continuation_byte, slash_at};
 use crate::class::{Class, class_of};
 use crate::idle::idle_run;
-use crate::token::{Memory, Scan, Stop, TextFault, Token, TokenKind};
+use crate::token::{Memory, Scan, Stop, Token, TokenKind};
 use std::alloc::Global;
 
 /// What stands open at a place of the text. `line_before` is that of the token to come.
@@ -188,7 +185,7 @@ impl Scanner {
     }
 
     /// The byte at an offset, after those before it.
-    fn step(&mut self, at: usize, byte: u8) -> Result<(), Memory>
+    pub(crate) fn step(&mut self, at: usize, byte: u8) -> Result<(), Memory>
         requires { at + 1 < 2 ^ 64 }
         ensures mode { OnOk result (self.new.mode ≡ (step self.old.mode at byte).0) }
         ensures tokens { OnOk result (self.new.tokens.items ≡ self.old.tokens.items ++ (step self.old.mode at byte).1) }
@@ -272,82 +269,5 @@ impl Scanner {
         };
         let Scanner { tokens, .. } = self;
         Ok(Scan { tokens, stop })
-    }
-}
-
-/// What stands open after a byte of the comment that begins at `begun`.
-fn after_comment_byte(begun: usize, line_before: bool, star: bool, byte: u8) -> Mode
-    ensures { result ≡ (in_comment begun line_before star byte).0 }
-{
-    if byte == b'/' && star {
-        Mode::Between { line_before }
-    } else {
-        Mode::InComment {
-            at: begun,
-            line_before: line_before || byte == b'\n',
-            star: byte == b'*',
-        }
-    }
-}
-
-/// What stands open after a byte behind the backslash at `begun` and blanks.
-fn after_continuation_byte(begun: usize, line_before: bool, byte: u8) -> Mode
-    ensures { result ≡ (in_continuation begun line_before (class_of byte)).0 }
-{
-    match class_of(byte) {
-        Class::LineEnd => Mode::Between { line_before },
-        Class::Blank => Mode::InContinuation {
-            at: begun,
-            line_before,
-        },
-        _ => Mode::Stopped { at: begun },
-    }
-}
-
-/// The offset of a slash, where the byte there is one.
-fn slash_at(at: usize, byte: u8) -> Option<usize>
-    ensures { result ≡ slash_at at byte }
-{
-    if byte == b'/' { Some(at) } else { None }
-}
-
-#[tactic(auto, using(crate::proofs::Sound::reads, crate::proofs::Places::all_inside, crate::proofs::Places::all_in_order))]
-/// The tokens of a text up to the place where it stops, and what stops it there.
-pub fn scan(alloc: Global, bytes: &[u8]) -> Result<Scan, Memory>
-    ensures grammar { IfOk result (λ found. Reads bytes.now found.tokens.items found.stop) }
-    ensures tokens { IfOk result (λ found. found.tokens.items ≡ (scan_of bytes.now).0) }
-    ensures stop { IfOk result (λ found. found.stop ≡ (scan_of bytes.now).1) }
-    ensures inside { IfOk result (λ found. All (IsInside (length bytes.now)) found.tokens.items) }
-    ensures in_order { IfOk result (λ found. AreInOrder 0 found.tokens.items) }
-{
-    scan_bytes(alloc, bytes)
-}
-
-/// `scan`, step by step.
-fn scan_bytes(alloc: Global, bytes: &[u8]) -> Result<Scan, Memory>
-    ensures tokens { IfOk result (λ found. found.tokens.items ≡ (scan_of bytes.now).0) }
-    ensures stop { IfOk result (λ found. found.stop ≡ (scan_of bytes.now).1) }
-{
-    let mut scanner = Scanner::new(alloc);
-    for (at, byte) in bytes.iter().enumerate() {
-        scanner.step(at, *byte)?;
-    }
-    scanner.finish(bytes.len())
-}
-
-/// The tokens of a text, or its first fault.
-pub fn tokens(alloc: Global, bytes: &[u8]) -> Result<Vec<Token>, TextFault>
-    ensures read { IfOk result (λ found. AreTokensOf found.items bytes.now) }
-    ensures fault { IfErr result (λ fault. IsFaultOf fault bytes.now) }
-    ensures exact { IfOk result (λ found. scan_of bytes.now ≡ (found.items, End)) }
-    ensures inside { IfOk result (λ found. All (IsInside (length bytes.now)) found.items) }
-    ensures in_order { IfOk result (λ found. AreInOrder 0 found.items) }
-{
-    let Scan { tokens, stop } = scan(alloc, bytes)?;
-    match stop {
-        Stop::End => Ok(tokens),
-        Stop::BadByte(at) | Stop::OpenContinuation(at) => Err(TextFault::BadByte(at)),
-        Stop::OpenText(at) => Err(TextFault::OpenText(at)),
-        Stop::OpenComment(at) => Err(TextFault::OpenComment(at)),
     }
 }

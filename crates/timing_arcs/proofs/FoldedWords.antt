@@ -1,5 +1,5 @@
 -- What is folded over the words of a text, one word after another.
-use Rattle.std.proofs.Common.{◌≡◌, ℕ, Option, zero, suc, Bool, true, false, not, List, [], ◌∷◌, length, take, drop, ◌==◌, refl, sym, ◌∙◌, ap, cond}
+use Rattle.std.proofs.Common.{◌≡◌, ℕ, Option, suc, Bool, true, false, not, List, [], ◌∷◌, length, take, drop, ◌==◌, refl, sym, ◌∙◌, ap, cond}
 use Rattle.std.specs.Prelude.{fold, filter}
 use Rattle.std.specs.List.{slice_split, onto_first}
 use Rattle.timing_arcs.specs.Attributes.{words_between}

@@ -1,0 +1,52 @@
+//! The tokens of whole Liberty texts.
+
+ghost use Rattle.std.specs.Prelude.{◌≡◌, length, All, IfOk, IfErr};
+ghost use Rattle.liberty_text.specs.declared.token.Stop.TheVariants.{End};
+ghost use Rattle.liberty_text.specs.Scanner.{scan_of};
+ghost use Rattle.liberty_text.specs.TokenLaws.{IsInside, AreInOrder};
+ghost use Rattle.liberty_text.specs.Tokens.{Reads, AreTokensOf, IsFaultOf};
+
+use crate::scanner::Scanner;
+use crate::token::{Memory, Scan, Stop, TextFault, Token};
+use std::alloc::Global;
+
+/// The tokens of a text up to the place where it stops, and what stops it there.
+#[tactic(auto, using(crate::proofs::Sound::reads, crate::proofs::Places::all_inside, crate::proofs::Places::all_in_order))]
+pub fn scan(alloc: Global, bytes: &[u8]) -> Result<Scan, Memory>
+    ensures grammar { IfOk result (λ found. Reads bytes.now found.tokens.items found.stop) }
+    ensures tokens { IfOk result (λ found. found.tokens.items ≡ (scan_of bytes.now).0) }
+    ensures stop { IfOk result (λ found. found.stop ≡ (scan_of bytes.now).1) }
+    ensures inside { IfOk result (λ found. All (IsInside (length bytes.now)) found.tokens.items) }
+    ensures in_order { IfOk result (λ found. AreInOrder 0 found.tokens.items) }
+{
+    scan_bytes(alloc, bytes)
+}
+
+/// `scan`, step by step.
+fn scan_bytes(alloc: Global, bytes: &[u8]) -> Result<Scan, Memory>
+    ensures tokens { IfOk result (λ found. found.tokens.items ≡ (scan_of bytes.now).0) }
+    ensures stop { IfOk result (λ found. found.stop ≡ (scan_of bytes.now).1) }
+{
+    let mut scanner = Scanner::new(alloc);
+    for (at, byte) in bytes.iter().enumerate() {
+        scanner.step(at, *byte)?;
+    }
+    scanner.finish(bytes.len())
+}
+
+/// The tokens of a text, or its first fault.
+pub fn tokens(alloc: Global, bytes: &[u8]) -> Result<Vec<Token>, TextFault>
+    ensures read { IfOk result (λ found. AreTokensOf found.items bytes.now) }
+    ensures fault { IfErr result (λ fault. IsFaultOf fault bytes.now) }
+    ensures exact { IfOk result (λ found. scan_of bytes.now ≡ (found.items, End)) }
+    ensures inside { IfOk result (λ found. All (IsInside (length bytes.now)) found.items) }
+    ensures in_order { IfOk result (λ found. AreInOrder 0 found.items) }
+{
+    let Scan { tokens, stop } = scan(alloc, bytes)?;
+    match stop {
+        Stop::End => Ok(tokens),
+        Stop::BadByte(at) | Stop::OpenContinuation(at) => Err(TextFault::BadByte(at)),
+        Stop::OpenText(at) => Err(TextFault::OpenText(at)),
+        Stop::OpenComment(at) => Err(TextFault::OpenComment(at)),
+    }
+}

@@ -39,7 +39,7 @@ use Rattle.model_languages.specs.Verilog.{verilog}
 use Rattle.model_languages.specs.Vital.{vital}
 
 -- how a status came about
-decided_or : (s : Status) → (s ≡ status.Outside) ⊎ ((s ≡ status.Memory) ⊎ IsTrue (is_decided s))
+pub decided_or : (s : Status) → (s ≡ status.Outside) ⊎ ((s ≡ status.Memory) ⊎ IsTrue (is_decided s))
 decided_or status.Outside = inl refl
 decided_or status.Memory = inr (inl refl)
 decided_or status.Done = inr (inr cc)
@@ -106,6 +106,7 @@ can_is_good command.Translate words folder can =
 can_is_good command.Simulate words folder can = simulation_is_good (bytes_at words folder 1) (bytes_at words folder 2) (bytes_at words folder 3) (bytes_at words folder 4) can
 can_is_good (command.Replay format.Verilog) words folder can = replay_is_good verilog (bytes_at words folder 1) (bytes_at words folder 2) can
 can_is_good (command.Replay format.Vital) words folder can = replay_is_good vital (bytes_at words folder 1) (bytes_at words folder 2) can
+can_is_good (command.Selftest cells) words folder can = record { good = record { status = inl refl; faults = refl }; binds = refl }
 can_is_good command.Usage words folder can = absurd can
 
 -- a state behind some that was appended is the same where what was appended is

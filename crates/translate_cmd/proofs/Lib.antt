@@ -1,6 +1,8 @@
 pub mod Bounds
 pub mod PlanLemmas
+pub mod NumeralLemmas
 pub mod RunsLemmas
+pub mod SelftestLemmas
 pub mod AskedLemmas
 pub mod CellLemmas
 pub mod TestLineTexts

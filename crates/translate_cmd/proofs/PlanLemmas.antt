@@ -8,7 +8,8 @@ use Rattle.model_replay.specs.declared.format.ModelFormat.{ModelFormat}
 use Rattle.model_replay.specs.declared.format.ModelFormat.TheVariants as format
 use Rattle.translate_cmd.specs.declared.asked.Command.{Command}
 use Rattle.translate_cmd.specs.declared.asked.Command.TheVariants as command
-use Rattle.translate_cmd.specs.Reading.{reading, udp_reading, udp_command, asked_primitive, translate_reading, simulate_reading, replay_reading, file_reading}
+use Rattle.translate_cmd.specs.Reading.{reading, udp_reading, udp_command, asked_primitive, selftest_reading, selftest_command, translate_reading, simulate_reading, replay_reading, file_reading}
+use Rattle.translate_cmd.specs.Numerals.{asked_cells}
 use Rattle.translate_cmd.specs.Outcome.{files_of}
 
 -- the command has files
@@ -17,6 +18,7 @@ has_files command.Translate = true
 has_files command.Simulate = true
 has_files (command.Replay f) = true
 has_files (command.Udp udp) = false
+has_files (command.Selftest cells) = false
 has_files command.Usage = false
 
 printed : (udp : Option Udp) → has_files (udp_command udp) ≡ true → ⊥
@@ -28,6 +30,15 @@ not_udp [] e = cc
 not_udp (name ∷ []) e = cc
 not_udp (name ∷ (text ∷ [])) e = printed (asked_primitive name text) e
 not_udp (name ∷ (text ∷ (more ∷ others))) e = cc
+
+tested : (cells : Option ℕ) → has_files (selftest_command cells) ≡ true → ⊥
+tested None e = cc
+tested (Some cells) e = cc
+
+not_selftest : (words : List (List ℕ)) → has_files (selftest_reading words) ≡ true → ⊥
+not_selftest [] e = cc
+not_selftest (number ∷ []) e = tested (asked_cells number) e
+not_selftest (number ∷ (more ∷ others)) e = cc
 
 not_usage : {A : Type 0} (asked : Command) → command.Usage ≡ asked → has_files asked ≡ true → A
 not_usage asked e h = absurd (let same : false ≡ true = ap has_files e ∙ h in cc)
@@ -101,13 +112,14 @@ named_planned first files asked false false true vital t u r s e h = word_planne
 named_planned first files asked false false false true t u r s e h = word_planned format.Vital first files asked s e h
 named_planned first files asked false false false false t u r s e h = not_usage asked e h
 
-planned_by : (first : List ℕ) (files : List (List ℕ)) (asked : Command) (prints : Bool)
-    → (if prints then udp_reading files else file_reading first files) ≡ asked → has_files asked ≡ true → plan (first ∷ files) ≡ files_of asked
+planned_by : (first : List ℕ) (files : List (List ℕ)) (asked : Command) (prints tests : Bool)
+    → (if prints then udp_reading files else if tests then selftest_reading files else file_reading first files) ≡ asked → has_files asked ≡ true → plan (first ∷ files) ≡ files_of asked
 unfolding file_reading
-planned_by first files asked true e h = absurd (not_udp files (ap has_files e ∙ h))
-planned_by first files asked false e h = named_planned first files asked (bytes_eq first (codes "translate")) (bytes_eq first (codes "simulate")) (bytes_eq first (codes "replay-verilog")) (bytes_eq first (codes "replay-vital")) refl refl refl refl e h
+planned_by first files asked true tests e h = absurd (not_udp files (ap has_files e ∙ h))
+planned_by first files asked false true e h = absurd (not_selftest files (ap has_files e ∙ h))
+planned_by first files asked false false e h = named_planned first files asked (bytes_eq first (codes "translate")) (bytes_eq first (codes "simulate")) (bytes_eq first (codes "replay-verilog")) (bytes_eq first (codes "replay-vital")) refl refl refl refl e h
 
 -- they are those of the command
 pub planned_files : (words : List (List ℕ)) (asked : Command) → reading words ≡ asked → has_files asked ≡ true → plan words ≡ files_of asked
 planned_files [] asked e h = not_usage asked e h
-planned_files (first ∷ files) asked e h = planned_by first files asked (bytes_eq first (codes "udp")) e h
+planned_files (first ∷ files) asked e h = planned_by first files asked (bytes_eq first (codes "udp")) (bytes_eq first (codes "selftest")) e h

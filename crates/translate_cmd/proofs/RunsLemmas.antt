@@ -1,11 +1,14 @@
 -- A run that writes one text, or nothing.
-use Rattle.std.proofs.Common.{◌≡◌, Result, MatchResult, codes, sym, ap, subst}
+use Rattle.std.proofs.Common.{◌≡◌, ℕ, Result, MatchResult, codes, sym, ap, subst}
 use Rattle.text_io.specs.declared.slots.InSlot.TheVariants.{Library}
 use Rattle.text_io.specs.declared.outside.Failed.{Failed}
 use Rattle.text_io.specs.declared.slots.OutSlot.TheVariants.{Report, Faults}
 use Rattle.text_io.specs.Desk.{DeskState, WritesText}
 use Rattle.udp_tables.specs.declared.table.Udp.{Udp}
 use Rattle.verilog_writer.specs.Primitive.{primitive_text}
+use Rattle.selftest_runs.specs.declared.counts.Counts.{Counts}
+use Rattle.selftest_runs.specs.OwnCounts.{own_counts}
+use Rattle.selftest_runs.specs.Report.{report_text}
 use Rattle.command_outcomes.specs.declared.status.Status.{Status}
 use Rattle.command_outcomes.specs.declared.status.Status.TheVariants.{Done, Usage, Outside, Memory}
 use Rattle.command_outcomes.proofs.RunsLaws.{RunsUnread, report_runs, faults_runs, nothing_runs as did_nothing}
@@ -30,6 +33,14 @@ pub udp_runs : {T : Type 0} (old new : DeskState) (udp : Udp) (written : Result 
 udp_runs old new udp written result e w r =
     unread_runs old new result
     (report_runs (files_of (reading old.words)) (outcome old.words) old new (primitive_text udp) Done written result (ap files_of e) (λ folder. ap (λ c. outcome_of c old.words folder) e) w r)
+
+-- the report of a run on test cells was written
+pub selftest_runs : {T : Type 0} (old new : DeskState) (cells : ℕ) (counts : Counts) (written : Result T Failed) (result : Status) → reading old.words ≡ command.Selftest cells
+    → counts ≡ own_counts cells → WritesText old new Report (report_text cells counts) written → MatchResult written (λ _. result ≡ Done) (λ _. result ≡ Outside) → Runs old new result
+selftest_runs old new cells counts written result e own w r =
+    unread_runs old new result
+    (report_runs (files_of (reading old.words)) (outcome old.words) old new (report_text cells (own_counts cells)) Done written result (ap files_of e)
+    (λ folder. ap (λ c. outcome_of c old.words folder) e) (subst (λ counted. WritesText old new Report (report_text cells counted) written) own w) r)
 
 -- the line of usage was written to the faults
 pub usage_runs : {T : Type 0} (old new : DeskState) (written : Result T Failed) (result : Status) → reading old.words ≡ command.Usage

@@ -55,7 +55,7 @@ pub record CanBeSimulated (library text vhdl stimulus : List ℕ) : Type 0 where
   pub sections : List Section
   pub lines : stimulus_of (listed (cells_named (kept_cells no_progress (items_within library_limit library)) modules entities)) stimulus ≡ Ok sections
 
--- The command can be done with these words and files: a primitive can always be printed, a whole library be translated, its cells be
+-- The command can be done with these words and files: a primitive can always be printed, a run on test cells be made, a whole library be translated, its cells be
 -- simulated beside the models of files that are not refused, under a stimulus that is not, and a Verilog or VHDL file be replayed so.
 -- Words without a reading ask for nothing.
 abbrev pub CanBeDone : Command → List (List ℕ) → Folder → Type 0
@@ -63,6 +63,7 @@ CanBeDone (command.Udp udp) words folder = Unit {0}
 CanBeDone command.Translate words folder = IsWholeLibrary (bytes_at words folder 1)
 CanBeDone command.Simulate words folder = CanBeSimulated (bytes_at words folder 1) (bytes_at words folder 2) (bytes_at words folder 3) (bytes_at words folder 4)
 CanBeDone (command.Replay f) words folder = CanBeReplayedAs f (bytes_at words folder 1) (bytes_at words folder 2)
+CanBeDone (command.Selftest cells) words folder = Unit {0}
 CanBeDone command.Usage words folder = ⊥
 
 -- All was done: the files of the command were bound, all that the outcome appends was appended, and nothing was told as a

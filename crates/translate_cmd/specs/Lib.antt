@@ -1,3 +1,4 @@
+pub mod Numerals
 pub mod Reading
 pub mod Cells
 pub mod Models
@@ -11,6 +12,7 @@ pub mod Outcome
 pub mod Runs
 pub mod Reached
 pub mod Complete
+pub mod Selftests
 pub mod TranslatedModels
 pub mod TranslatedLaws
 pub mod Agreement

@@ -14,6 +14,8 @@ use Rattle.model_replay.specs.declared.format.ModelFormat.TheVariants as format
 use Rattle.model_replay.specs.Outcome.{replay_files, replay_of}
 use Rattle.model_languages.specs.Verilog.{verilog}
 use Rattle.model_languages.specs.Vital.{vital}
+use Rattle.selftest_runs.specs.OwnCounts.{own_counts}
+use Rattle.selftest_runs.specs.Report.{report_text}
 use Rattle.translate_cmd.specs.declared.asked.Command.{Command}
 use Rattle.translate_cmd.specs.declared.asked.Command.TheVariants as command
 use Rattle.translate_cmd.specs.Reading.{reading}
@@ -30,6 +32,7 @@ files_of command.Translate = translate_files
 files_of command.Simulate = simulate_files
 files_of (command.Replay f) = replay_files f
 files_of (command.Udp udp) = []
+files_of (command.Selftest cells) = []
 files_of command.Usage = []
 
 -- what the replay of a file of models of this format comes to
@@ -37,12 +40,17 @@ abbrev pub replay_outcome_of : ModelFormat → List (List ℕ) → Folder → Ou
 replay_outcome_of format.Verilog words folder = replay_of verilog words folder
 replay_outcome_of format.Vital words folder = replay_of vital words folder
 
+-- what a run on so many test cells comes to: its report on what is counted of them
+abbrev pub selftest_outcome : ℕ → Outcome
+selftest_outcome cells = record { status = Done; binds = 0; text = in_report (report_text cells (own_counts cells)); faults = [] }
+
 -- what a command comes to with these words and files; words without a reading are usage
 abbrev pub outcome_of : Command → List (List ℕ) → Folder → Outcome
 outcome_of (command.Udp udp) words folder = record { status = Done; binds = 0; text = in_report (primitive_text udp); faults = [] }
 outcome_of command.Translate words folder = translate_outcome (bytes_at words folder 1)
 outcome_of command.Simulate words folder = simulate_of words folder
 outcome_of (command.Replay f) words folder = replay_outcome_of f words folder
+outcome_of (command.Selftest cells) words folder = selftest_outcome cells
 outcome_of command.Usage words folder = record { status = Usage; binds = 0; text = nothing_written; faults = codes "lib2sim: usage\n" }
 
 -- what words come to, with these files

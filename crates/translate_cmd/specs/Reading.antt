@@ -12,6 +12,7 @@ use Rattle.model_replay.specs.declared.format.ModelFormat.{ModelFormat}
 use Rattle.model_replay.specs.declared.format.ModelFormat.TheVariants as format
 use Rattle.translate_cmd.specs.declared.asked.Command.{Command}
 use Rattle.translate_cmd.specs.declared.asked.Command.TheVariants as command
+use Rattle.translate_cmd.specs.Numerals.{asked_cells}
 
 -- the primitive of a function text that was read, where it has 1 to 10 names
 abbrev pub primitive_read : List ℕ → ℕ → Result Node FunctionFault → Option Udp
@@ -35,6 +36,17 @@ udp_reading [] = command.Usage
 udp_reading (name ∷ []) = command.Usage
 udp_reading (name ∷ (text ∷ [])) = udp_command (asked_primitive name text)
 udp_reading (name ∷ (text ∷ (more ∷ others))) = command.Usage
+
+-- the command that makes a run on so many test cells, where there is such a number
+abbrev pub selftest_command : Option ℕ → Command
+selftest_command None = command.Usage
+selftest_command (Some cells) = command.Selftest cells
+
+-- what the words after `selftest` ask for: a number of cells
+abbrev pub selftest_reading : List (List ℕ) → Command
+selftest_reading [] = command.Usage
+selftest_reading (number ∷ []) = selftest_command (asked_cells number)
+selftest_reading (number ∷ (more ∷ others)) = command.Usage
 
 -- what the words after `translate` ask for: those of a library and of two files for its models, none empty and no two equal
 abbrev pub translate_reading : List (List ℕ) → Command
@@ -76,4 +88,7 @@ file_reading name words =
 -- what words ask for; usage where they have no reading
 abbrev pub reading : List (List ℕ) → Command
 reading [] = command.Usage
-reading (first ∷ words) = if bytes_eq first (codes "udp") then udp_reading words else file_reading first words
+reading (first ∷ words) =
+    if bytes_eq first (codes "udp") then udp_reading words
+    else if bytes_eq first (codes "selftest") then selftest_reading words
+    else file_reading first words

@@ -3,8 +3,9 @@
 ghost use Rattle.std.specs.Prelude.{◌≡◌, ◌≤◌, [], ◌∷◌, drop, Ok, IfOk, if◌then◌else◌};
 ghost use Rattle.bool_functions.specs.Tree.{name_bound};
 ghost use Rattle.text_io.specs.Plan.{are_file_words};
-ghost use Rattle.translate_cmd.specs.Reading.{asked_primitive, primitive_read, udp_reading, translate_reading, simulate_reading, replay_reading, file_reading, reading};
+ghost use Rattle.translate_cmd.specs.Reading.{asked_primitive, primitive_read, udp_reading, selftest_reading, translate_reading, simulate_reading, replay_reading, file_reading, reading};
 
+use crate::numerals::asked_cells;
 use bool_functions::{Function, FunctionFault, read_free};
 use model_replay::ModelFormat;
 use std::alloc::Global;
@@ -23,6 +24,8 @@ pub(crate) enum Command {
     Simulate,
     /// The traces of the models of a file of this format under a stimulus, to be printed.
     Replay(ModelFormat),
+    /// A run on so many test cells, from 1 to 10,000.
+    Selftest(u64),
     /// Nothing: the words have no reading.
     Usage,
 }
@@ -40,6 +43,8 @@ pub(crate) fn asked<D: Desk>(alloc: Global, desk: &D) -> Result<Command, Memory>
     };
     if first == "udp" {
         asked_udp(alloc, desk)
+    } else if first == "selftest" {
+        Ok(asked_selftest(desk))
     } else {
         Ok(asked_files(desk, first))
     }
@@ -60,6 +65,22 @@ fn asked_files<D: Desk>(desk: &D, name: &str) -> Command
         asked_replay(desk, ModelFormat::Vital)
     } else {
         Command::Usage
+    }
+}
+
+/// What the words after `selftest` ask for.
+fn asked_selftest<D: Desk>(desk: &D) -> Command
+    ensures { result ≡ selftest_reading (drop 1 (D.state desk.now).words) }
+{
+    let Some(number) = desk.word(1) else {
+        return Command::Usage;
+    };
+    if desk.word(2).is_some() {
+        return Command::Usage;
+    }
+    match asked_cells(number) {
+        Some(cells) => Command::Selftest(cells),
+        None => Command::Usage,
     }
 }
 

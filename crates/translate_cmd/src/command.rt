@@ -8,10 +8,12 @@ ghost use Rattle.translate_cmd.specs.declared.asked.Command.TheVariants as comma
 ghost use Rattle.translate_cmd.specs.Reading.{reading};
 ghost use Rattle.translate_cmd.specs.Runs.{Runs};
 ghost use Rattle.translate_cmd.specs.Complete.{Completes};
+ghost use Rattle.translate_cmd.specs.Selftests.{SelftestsEnd};
 ghost use Rattle.translate_cmd.specs.AgreementRuns.{OwnModelsEndInAgreement};
 
 use crate::asked::{Command, Memory, asked};
 use crate::replay::replay;
+use crate::selftest::selftest;
 use crate::simulate::simulate;
 use crate::translate::translate;
 use command_outcomes::Status;
@@ -25,8 +27,8 @@ const USAGE: &[u8] = b"lib2sim: usage\n";
 /// Runs the command that the desk's words ask for: `udp` prints a primitive, `translate` writes the Verilog and VHDL models
 /// of a library's cells and a report of them, `simulate` prints the traces of a library's cells, of their modules in a Verilog
 /// file and of their entities in a VHDL file under a stimulus and whether they are equal, `replay-verilog` prints the traces of a
-/// Verilog file's modules under a stimulus, `replay-vital` those of a VHDL file's entities, and words without a reading are
-/// `Usage`.
+/// Verilog file's modules under a stimulus, `replay-vital` those of a VHDL file's entities, `selftest` makes test cells, runs them
+/// beside their models and damaged models, and reports what it counted, and words without a reading are `Usage`.
 ///
 /// It ends with the status of the outcome of the words and the desk's files, and all that the outcome appends was appended,
 /// or with one of two others: `Outside`, only where a call on the desk failed in this call, and `Memory`, where there was
@@ -36,7 +38,9 @@ const USAGE: &[u8] = b"lib2sim: usage\n";
 /// However `translate` ends, these two among the ways, all is there that is written for the cells whose closing braces lie
 /// more than 65,536 bytes before the end of the bytes that it read: both whole models of the accepted ones, and their lines.
 ///
-/// Where no call failed, words of `udp` with a reading come to `Done` or `Memory`, a whole library of at most 67,108,864
+/// `selftest` ends with `Done`, `Outside` or `Memory`, and with no other status.
+///
+/// Where no call failed, words of `udp` or `selftest` with a reading come to `Done` or `Memory`, a whole library of at most 67,108,864
 /// bytes, its cells refused or not, to `Done`, `Cells` or `Memory`, and a Verilog or VHDL file of at most as many bytes and a
 /// stimulus of at most 16,777,216, neither refused, to `Done` or `Memory`. A whole library, a Verilog file and a VHDL file that
 /// are not refused, and a stimulus without a bad line, each within its limit, are simulated to `Done`, where all traces are equal,
@@ -56,6 +60,7 @@ pub fn run<D: Desk>(alloc: Global, desk: &mut D) -> Status
     ensures kept { IsTrue (is_unfailed result) → D.faults desk.new ≡ D.faults desk.old }
     ensures complete { (Rose (D.faults desk.old) (D.faults desk.new) → ⊥) → Completes (D.state desk.old) (D.state desk.new) result }
     ensures agree { OwnModelsEndInAgreement (D.state desk.old) (D.state desk.new) result }
+    ensures selftest { SelftestsEnd (D.state desk.old) result }
 {
     carry_out(alloc, desk)
 }
@@ -73,6 +78,7 @@ fn carry_out<D: Desk>(alloc: Global, desk: &mut D) -> Status
         Ok(Command::Translate) => translate(alloc, desk),
         Ok(Command::Simulate) => simulate(alloc, desk),
         Ok(Command::Replay(format)) => replay(alloc, desk, format),
+        Ok(Command::Selftest(cells)) => selftest(alloc, desk, cells),
         Ok(Command::Usage) => ended(write_whole(desk, OutSlot::Faults, USAGE), Status::Usage),
         Err(Memory) => Status::Memory,
     }
@@ -85,6 +91,7 @@ pub fn run_sure(alloc: Global, desk: &mut SureDesk) -> Status
     ensures usage { IsTrue (is_decided result) → (result ≡ Status.Usage ↔ reading (sure_state desk.old).words ≡ command.Usage) }
     ensures complete { Completes (sure_state desk.old) (sure_state desk.new) result }
     ensures agree { OwnModelsEndInAgreement (sure_state desk.old) (sure_state desk.new) result }
+    ensures selftest { SelftestsEnd (sure_state desk.old) result }
 {
     run(alloc, desk)
 }

@@ -1,5 +1,6 @@
 use Rattle.translate_cmd.proofs.AgreementRuns.{own_models_end_in_agreement}
 use Rattle.translate_cmd.proofs.CompleteLemmas.{completes}
+use Rattle.translate_cmd.proofs.SelftestLemmas.{selftests_end}
 use Rattle.translate_cmd.proofs.command.run.Goals as goal
 
 pub returns-clause-complete : goal.returns-clause-complete
@@ -7,3 +8,6 @@ returns-clause-complete g c = λ sound. completes _ _ _ c.carry_out.ensures.writ
 
 pub returns-clause-agree : goal.returns-clause-agree
 returns-clause-agree g c = own_models_end_in_agreement _ _ _ c.carry_out.ensures.writes
+
+pub returns-clause-selftest : goal.returns-clause-selftest
+returns-clause-selftest g c = selftests_end _ _ _ c.carry_out.ensures.writes

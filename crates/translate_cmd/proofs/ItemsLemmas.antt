@@ -24,7 +24,7 @@ use Rattle.translate_cmd.specs.Library.{IsHandled, Handles}
 use Rattle.translate_cmd.specs.Reached.{Reached}
 use Rattle.translate_cmd.proofs.ItemTexts.{items_written-more, first_part}
 use Rattle.translate_cmd.proofs.ModelsLemmas.{given_held, no_cell_owed}
-use Rattle.translate_cmd.proofs.TranslateLemmas.{IfSome-always, IfSome-map}
+use Rattle.translate_cmd.proofs.Claims.{IfSome-always, IfSome-map}
 
 -- some bytes of the library more
 more_state : (base now next : DeskState) (a b : List ℕ) (text : Written) → now ≡ wrote_all (took base Library (length a)) text

@@ -8,7 +8,10 @@ pub mod CellLemmas
 pub mod TestLineTexts
 pub mod ItemTexts
 pub mod ModelsLemmas
+pub mod Claims
+pub mod TranslateFiles
 pub mod TranslateLemmas
+pub mod LastLines
 pub mod LibraryFileLemmas
 pub mod ReplayLemmas
 pub mod LanguageLemmas

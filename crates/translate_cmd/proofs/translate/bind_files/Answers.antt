@@ -3,7 +3,7 @@ use Rattle.text_io.specs.declared.slots.InSlot.TheVariants.{Library}
 use Rattle.text_io.specs.declared.slots.OutSlot.TheVariants.{VerilogText, VitalText}
 use Rattle.text_io.specs.declared.slots.Slot.TheVariants.{Input, Output}
 use Rattle.text_io.specs.Desk.{created}
-use Rattle.translate_cmd.proofs.TranslateLemmas.{binds_stopped, binds_last}
+use Rattle.translate_cmd.proofs.TranslateFiles.{binds_stopped, binds_last}
 use Rattle.translate_cmd.proofs.translate.bind_files.Goals as goal
 
 pub returns-in_err-bind_in-clause-binds : goal.returns-in_err-bind_in-clause-binds

@@ -1,6 +1,6 @@
 use Rattle.std.proofs.Common.{refl}
 use Rattle.library_items.specs.declared.ending.Ending.TheVariants as ending
-use Rattle.translate_cmd.proofs.TranslateLemmas.{last_stops, last_told, fault_stops, fault_told}
+use Rattle.translate_cmd.proofs.LastLines.{last_stops, last_told, fault_stops, fault_told}
 use Rattle.translate_cmd.proofs.translate.finish.Goals as goal
 
 pub returns-in_err-write_totals-in-Whole-clause-text : goal.returns-in_err-write_totals-in-Whole-clause-text

@@ -1,7 +1,7 @@
 use Rattle.std.proofs.Common.{refl}
 use Rattle.translate_cmd.specs.declared.asked.Command.TheVariants as command
 use Rattle.translate_cmd.proofs.PlanLemmas.{planned_files}
-use Rattle.translate_cmd.proofs.TranslateLemmas.{bound_all, file_all, library_bound, verilog_bound, vital_bound, unbound_runs, translated_runs}
+use Rattle.translate_cmd.proofs.TranslateFiles.{bound_all, file_all, library_bound, verilog_bound, vital_bound, unbound_runs, translated_runs}
 use Rattle.translate_cmd.proofs.translate.translate.Goals as goal
 
 pub bind_files-requires : goal.bind_files-requires

@@ -1,6 +1,5 @@
 -- A cell beside its models, as they are generated and damaged.
-use Rattle.std.proofs.Common.{◌≡◌, ℕ, suc, Bool, true, false, IsTrue, List, [], ◌∷◌, length, map, Option, None, is_some, if◌then◌else◌, refl, sym, ap, subst, ◌∙◌}
-use Rattle.std.proofs.lemmas.List.{length-map}
+use Rattle.std.proofs.Common.{◌≡◌, ℕ, suc, Bool, true, false, IsTrue, List, [], ◌∷◌, length, is_some, refl, sym, ap, subst, ◌∙◌}
 use Rattle.cell_machine.specs.declared.changes.Change.{Change}
 use Rattle.cell_machine.specs.declared.outputs.OutputPin.{OutputPin}
 use Rattle.cell_machine.specs.CellData.{CellData}
@@ -27,7 +26,7 @@ use Rattle.model_traces.specs.ModuleFits as module_fits
 use Rattle.model_traces.specs.EntityFits as entity_fits
 use Rattle.model_traces.specs.Agreement.{ModelsAgree}
 use Rattle.model_traces.proofs.ModelAgreement.{generated-modules, generated-entities}
-use Rattle.section_runs.specs.Differences.{first_difference, NoDifferenceIsEqual}
+use Rattle.section_runs.specs.Differences.{NoDifferenceIsEqual}
 use Rattle.selftest_cells.specs.Damage.{alter_first, damaged_output, damaged_by, damaged_module, damaged_entity, DamagedModulesAreSound, DamagedEntitiesAreSound}
 use Rattle.selftest_runs.specs.Counts.{is_caught}
 

@@ -1,5 +1,5 @@
 -- Known output values counted one after another.
-use Rattle.std.proofs.Common.{◌≡◌, ℕ, ◌+◌, ◌<◌, ◌≤◌, not, List, [], ◌∷◌, get_or, drop, length, refl, sym, ap, subst, ◌∙◌, arith, count_by, sum_by}
+use Rattle.std.proofs.Common.{◌≡◌, ℕ, ◌+◌, ◌<◌, ◌≤◌, not, List, [], ◌∷◌, get_or, drop, length, sym, ap, subst, ◌∙◌, arith, count_by, sum_by}
 use Rattle.std.proofs.lemmas.List.{drop_more, drop_all}
 use Rattle.std.proofs.lemmas.List.Sums.{sum_by-cons}
 use Rattle.trit_cubes.specs.declared.trits.Trit.{Trit}

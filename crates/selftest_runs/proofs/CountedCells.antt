@@ -1,32 +1,27 @@
 -- What is counted of the items of a library.
-use Rattle.std.proofs.Common.{◌≡◌, ℕ, ◌+◌, ◌≤◌, Bool, true, false, List, [], ◌∷◌, ◌++◌, length, Option, Some, None, is_some, Result, Ok, IsErr, IfSome, refl, sym, ap, subst, ◌∙◌, append_assoc, length-append, if◌then◌else◌, arith}
+use Rattle.std.proofs.Common.{◌≡◌, ℕ, ◌+◌, List, [], ◌∷◌, ◌++◌, length, None, Result, Ok, IsErr, refl, sym, ap, subst, ◌∙◌, append_assoc, length-append, arith}
 use Rattle.std.proofs.lemmas.List.{append-nil}
-use Rattle.bool_functions.specs.NameList.{number_of}
 use Rattle.text_io.specs.declared.slots.InSlot.TheVariants.{Library}
 use Rattle.text_io.specs.Desk.{DeskState, took}
 use Rattle.text_io.proofs.Took.{took-zero, took_more}
 use Rattle.liberty_groups.specs.declared.tree.Group.{Group}
-use Rattle.cell_machine.specs.CellData.{CellData, data_of}
+use Rattle.cell_machine.specs.CellData.{CellData}
 use Rattle.cell_cursor.specs.declared.item.LibraryItem.{LibraryItem}
-use Rattle.cell_cursor.specs.declared.item.LibraryItem.TheVariants as item
 use Rattle.cell_cursor.specs.declared.cursor.CellCursor.{CellCursor}
 use Rattle.cell_cursor.specs.Stands.{Stands, Moves}
-use Rattle.cell_parts.specs.Groups.{cell_name}
-use Rattle.cell_reader.specs.declared.refusal.Refusal.{Refusal}
 use Rattle.cell_reader.specs.declared.read.ReadCell.{ReadCell}
 use Rattle.cell_reader.specs.LibraryCells.{CellEntry}
 use Rattle.library_items.specs.declared.stop.Stop.{Stop}
 use Rattle.library_items.specs.declared.progress.Progress.{Progress}
 use Rattle.library_items.specs.declared.ending.Ending.{Ending}
-use Rattle.library_items.specs.Progress.{no_progress, next_number, next_data, next_entity, next_refusal, after_item, progress_after}
+use Rattle.library_items.specs.Progress.{no_progress, next_number, next_data, after_item, progress_after}
 use Rattle.library_items.specs.Steps.{IsAtEnd, TellsEnd}
 use Rattle.library_items.specs.NextCells.{IsAcceptedNext}
-use Rattle.library_items.specs.KeptCells.{kept_by, next_entry, item_kept, kept_cells}
+use Rattle.library_items.specs.KeptCells.{item_kept, kept_cells}
 use Rattle.library_items.proofs.Fronts.{IfSome-each, IfOk-error}
 use Rattle.library_items.proofs.Following.{follows_start, follows_next, all_given}
 use Rattle.selftest_runs.specs.declared.counts.Counts.{Counts}
 use Rattle.selftest_runs.specs.Counts.{no_counts, plus}
-use Rattle.selftest_runs.specs.CellCounts.{cell_counts}
 use Rattle.selftest_runs.specs.LibraryCounts.{counted, all_counts, counts_within, HasCounted, CountsCells}
 
 -- Sums of counts.

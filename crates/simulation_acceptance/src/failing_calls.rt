@@ -1,5 +1,5 @@
 //! Calls on the desk that fail, each in turn: what was written then is the front of what is written without.
-use crate::four_files::{Left, ran, translated};
+use crate::four_files::{Left, Models, own_models, ran};
 use crate::libraries::INVERTER;
 use std::alloc::Global;
 use std::test::Fail;
@@ -16,22 +16,6 @@ V 5 A 1 : Y=0@0
 H 5 A 1 : Y=0@0
 equal
 ";
-
-/// The model files of the library.
-#[derive(Drop)]
-struct Models {
-    verilog: Vec<u8>,
-    vital: Vec<u8>,
-}
-
-/// What the library is translated to.
-fn own_models(alloc: Global) -> Result<Models, Fail> {
-    let written = translated(alloc, INVERTER)?;
-    Ok(Models {
-        verilog: Vec::from_slice(alloc, written.desk.written(OutSlot::VerilogText))?,
-        vital: Vec::from_slice(alloc, written.desk.written(OutSlot::VitalText))?,
-    })
-}
 
 /// Simulates the library beside these models on a desk where this call fails and a call moves at most `piece` bytes.
 fn failed_at(alloc: Global, models: &Models, call: u64, piece: usize) -> Result<Left, Fail> {
@@ -68,7 +52,7 @@ fn last_status(alloc: Global, models: &Models, piece: usize) -> Result<Status, F
 
 #[test]
 fn each_call_that_fails_leaves_a_front(rt: HostRuntime) -> Result<(), Fail> {
-    let models = own_models(rt.alloc())?;
+    let models = own_models(rt.alloc(), INVERTER)?;
     for piece in [1, 7, 4096] {
         assert_eq!(rt; last_status(rt.alloc(), &models, piece)?.code(), 0);
     }
@@ -77,7 +61,7 @@ fn each_call_that_fails_leaves_a_front(rt: HostRuntime) -> Result<(), Fail> {
 
 #[test]
 fn a_file_that_cannot_be_opened_ends_the_run(rt: HostRuntime) -> Result<(), Fail> {
-    let models = own_models(rt.alloc())?;
+    let models = own_models(rt.alloc(), INVERTER)?;
     for call in [1, 2] {
         let left = failed_at(rt.alloc(), &models, call, usize::MAX)?;
         assert!(rt; left.is(Status::Outside, b"", ""));

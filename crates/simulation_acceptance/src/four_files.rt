@@ -82,6 +82,22 @@ pub(crate) fn translated(alloc: Global, library: &str) -> Result<Left, Fail> {
     )
 }
 
+/// The model files of a library.
+#[derive(Drop)]
+pub(crate) struct Models {
+    pub verilog: Vec<u8>,
+    pub vital: Vec<u8>,
+}
+
+/// What a library is translated to.
+pub(crate) fn own_models(alloc: Global, library: &str) -> Result<Models, Fail> {
+    let written = translated(alloc, library)?;
+    Ok(Models {
+        verilog: Vec::from_slice(alloc, written.desk.written(OutSlot::VerilogText))?,
+        vital: Vec::from_slice(alloc, written.desk.written(OutSlot::VitalText))?,
+    })
+}
+
 /// Simulates a library beside its own models.
 pub(crate) fn simulated_beside_its_own(
     alloc: Global,

@@ -14,6 +14,8 @@ mod library_desk;
 #[cfg(test)]
 mod replays;
 #[cfg(test)]
+mod runs_on_test_cells;
+#[cfg(test)]
 mod test_cells;
 #[cfg(test)]
 mod three_cells;

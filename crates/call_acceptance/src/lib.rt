@@ -11,6 +11,8 @@ mod liberty_tokens;
 #[cfg(test)]
 mod libraries;
 #[cfg(test)]
+mod own_libraries;
+#[cfg(test)]
 mod state_tables;
 #[cfg(test)]
 mod verilog_scans;

@@ -123,7 +123,7 @@ fn has_change(entries: &[Entry]) -> bool
 fn begins_second_change(entries: &[Entry], token: &[u8]) -> bool
     ensures { result ≡ (spec.has_change entries.now && spec.begins_change token.now) }
 {
-    has_change(entries) && begins_change(token)
+    begins_change(token) && has_change(entries)
 }
 
 /// A level.
@@ -169,16 +169,17 @@ fn entry_after(cursor: &mut Cursor<'_, Verilog>, first: &[u8]) -> Result<Entry, 
     }
 }
 
-/// The first entry of a row, behind its first token.
+/// The first entry of a row, behind its first token, with room for so many entries.
 #[tactic(auto, unfolding(udp_tables::specs::VerilogPrimitives::next_entry))]
 fn first_entry(
     cursor: &mut Cursor<'_, Verilog>,
     alloc: Global,
+    room: usize,
     first: &[u8],
 ) -> Result<Items<Entry>, Stop>
     ensures { Reads (read (spec.next_entry [] first.now) cursor.old) result cursor.new }
 {
-    let mut entries = Items::new(alloc);
+    let mut entries = Items::from_vec(Vec::with_capacity(alloc, room)?);
     entries.push(entry_after(cursor, first)?)?;
     Ok(entries)
 }
@@ -262,7 +263,7 @@ pub fn row(
 ) -> Result<UdpRow, Stop>
     ensures { Reads (read (spec.row sequential inputs first.now) cursor.old) result cursor.new }
 {
-    let one = first_entry(cursor, alloc, first)?;
+    let one = first_entry(cursor, alloc, inputs, first)?;
     let entries = more_entries(cursor, sequential, one)?;
     cursor.expect_where(entries.len() == inputs, Refusal::Width, b":")?;
     row_end(cursor, sequential, entries)

@@ -6,6 +6,7 @@ ghost use Rattle.table_interpreters.specs.Wiring.{is_wired};
 ghost use Rattle.model_traces.specs.PortNumbers.{input_event};
 ghost use Rattle.model_traces.specs.CheckTimes.{stamped, opened, is_enabled, check_reports};
 
+use crate::module_values::ModuleValues;
 use crate::net_values::net_value;
 use crate::ports::input_number;
 use cell_machine::{Change, CheckKind, Edge, Event, is_rise, is_within, moves, renewed};
@@ -78,68 +79,56 @@ pub(crate) fn opened(check: &VCheck, from: Trit, change: Change, stamps: Stamps)
 }
 
 /// Whether a check's condition lets it count: there is none, or its net is 1.
-fn is_enabled(
-    model: &VModule,
-    inputs: &[Trit],
-    states: &[Trit],
-    condition: Option<usize>,
-    room: &mut Items<Trit>,
-) -> bool
-    requires { IsTrue (is_wired (length room.old) model.now) }
-    ensures enabled { result ≡ is_enabled model.now inputs.now states.now condition }
+fn is_enabled(values: &ModuleValues, condition: Option<usize>, room: &mut Items<Trit>) -> bool
+    requires { IsTrue (is_wired (length room.old) values.now.model.now) }
+    ensures enabled { result ≡ is_enabled values.now.model.now values.now.inputs.now values.now.states.now condition }
     ensures len { length room.new ≡ length room.old }
 {
     match condition {
-        Some(wire) => net_value(model, inputs, states, VNet::Wire(wire), room) == Trit::One,
+        Some(wire) => net_value(values, VNet::Wire(wire), room) == Trit::One,
         None => true,
     }
 }
 
 /// Whether a check reports. `inputs` and `states` are those after the change, `from` is the value that the input had.
 fn check_reports(
-    model: &VModule,
-    inputs: &[Trit],
-    states: &[Trit],
+    values: &ModuleValues,
     from: Trit,
     change: Change,
     check: &VCheck,
     stamps: Stamps,
     room: &mut Items<Trit>,
 ) -> bool
-    requires { IsTrue (is_wired (length room.old) model.now) }
-    ensures reports { result ≡ check_reports model.now inputs.now states.now from change check.now stamps }
+    requires { IsTrue (is_wired (length room.old) values.now.model.now) }
+    ensures reports { result ≡ check_reports values.now.model.now values.now.inputs.now values.now.states.now from change check.now stamps }
     ensures len { length room.new ≡ length room.old }
 {
-    if !happens(model.ports.as_slice(), check.second, from, change) {
+    if !happens(values.model.ports.as_slice(), check.second, from, change) {
         return false;
     }
-    let enabled = is_enabled(model, inputs, states, check.condition, room);
+    let enabled = is_enabled(values, check.condition, room);
     enabled && is_within(change.at, check.limit, opened(check, from, change, stamps))
 }
 
 /// Writes for each check whether it reports.
 pub(crate) fn compare_all(
-    model: &VModule,
-    inputs: &[Trit],
-    states: &[Trit],
+    values: &ModuleValues,
     from: Trit,
     change: Change,
     stamps: &[Stamps],
     reports: &mut Items<bool>,
     room: &mut Items<Trit>,
 )
-    requires wired { IsTrue (is_wired (length room.old) model.now) }
-    requires one_each { length stamps.now ≡ length model.now.checks }
-    requires one_report { length reports.old ≡ length model.now.checks }
-    ensures reports { reports.new ≡ each (check_reports model.now inputs.now states.now from change) model.now.checks stamps.now }
+    requires wired { IsTrue (is_wired (length room.old) values.now.model.now) }
+    requires one_each { length stamps.now ≡ length values.now.model.now.checks }
+    requires one_report { length reports.old ≡ length values.now.model.now.checks }
+    ensures reports { reports.new ≡ each (check_reports values.now.model.now values.now.inputs.now values.now.states.now from change) values.now.model.now.checks stamps.now }
     ensures len { length reports.new ≡ length reports.old }
     ensures room { length room.new ≡ length room.old }
 {
-    let checks = model.checks.as_slice();
+    let checks = values.model.checks.as_slice();
     for i in 0..reports.len() {
-        let reported = check_reports(
-            model, inputs, states, from, change, &checks[i], stamps[i], room,
-        );
+        let reported = check_reports(values, from, change, &checks[i], stamps[i], room);
         reports.set(i, reported);
     }
 }

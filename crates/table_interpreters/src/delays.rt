@@ -6,10 +6,11 @@ ghost use Rattle.table_interpreters.specs.Wiring.{is_wired};
 ghost use Rattle.model_traces.specs.PathDelays.{is_off, is_quiet, is_active, is_between, paths_between, path_at, delay_at};
 ghost use Rattle.table_interpreters.specs.LeastPath.{path_delay_of};
 
+use crate::module_values::ModuleValues;
 use crate::net_values::net_value;
 use crate::ports::input_number;
 use cell_machine::{is_rise, lesser};
-use specify_blocks::{Gate, VModule, VNet, VPath};
+use specify_blocks::{Gate, VNet, VPath};
 use sqlite_items::Items;
 use trit_cubes::Trit;
 
@@ -27,59 +28,40 @@ pub struct OutputChange {
 }
 
 /// Whether a path is no `if` path or its net is 0.
-fn is_off(
-    model: &VModule,
-    inputs: &[Trit],
-    states: &[Trit],
-    gate: Gate,
-    room: &mut Items<Trit>,
-) -> bool
-    requires { IsTrue (is_wired (length room.old) model.now) }
-    ensures off { result ≡ is_off model.now inputs.now states.now gate }
+fn is_off(values: &ModuleValues, gate: Gate, room: &mut Items<Trit>) -> bool
+    requires { IsTrue (is_wired (length room.old) values.now.model.now) }
+    ensures off { result ≡ is_off values.now.model.now values.now.inputs.now values.now.states.now gate }
     ensures len { length room.new ≡ length room.old }
 {
     match gate {
         Gate::Always => true,
-        Gate::If(wire) => { net_value(model, inputs, states, VNet::Wire(wire), room) == Trit::Zero }
+        Gate::If(wire) => { net_value(values, VNet::Wire(wire), room) == Trit::Zero }
         Gate::IfNone => true,
     }
 }
 
 /// Whether another path leaves an `ifnone` path active.
-fn is_quiet(
-    model: &VModule,
-    inputs: &[Trit],
-    states: &[Trit],
-    path: VPath,
-    other: VPath,
-    room: &mut Items<Trit>,
-) -> bool
-    requires { IsTrue (is_wired (length room.old) model.now) }
-    ensures quiet { result ≡ is_quiet model.now inputs.now states.now path other }
+fn is_quiet(values: &ModuleValues, path: VPath, other: VPath, room: &mut Items<Trit>) -> bool
+    requires { IsTrue (is_wired (length room.old) values.now.model.now) }
+    ensures quiet { result ≡ is_quiet values.now.model.now values.now.inputs.now values.now.states.now path other }
     ensures len { length room.new ≡ length room.old }
 {
     let same_ports = path.from == other.from && path.to == other.to;
     if !same_ports {
         return true;
     }
-    is_off(model, inputs, states, other.gate, room)
+    is_off(values, other.gate, room)
 }
 
 /// Whether all other paths leave an `ifnone` path active.
-fn all_are_quiet(
-    model: &VModule,
-    inputs: &[Trit],
-    states: &[Trit],
-    path: VPath,
-    room: &mut Items<Trit>,
-) -> bool
-    requires { IsTrue (is_wired (length room.old) model.now) }
-    ensures quiet { result ≡ list_all (is_quiet model.now inputs.now states.now path) model.now.paths }
+fn all_are_quiet(values: &ModuleValues, path: VPath, room: &mut Items<Trit>) -> bool
+    requires { IsTrue (is_wired (length room.old) values.now.model.now) }
+    ensures quiet { result ≡ list_all (is_quiet values.now.model.now values.now.inputs.now values.now.states.now path) values.now.model.now.paths }
     ensures len { length room.new ≡ length room.old }
 {
-    let paths = model.paths.as_slice();
+    let paths = values.model.paths.as_slice();
     for i in 0..paths.len() {
-        if !is_quiet(model, inputs, states, path, paths[i], room) {
+        if !is_quiet(values, path, paths[i], room) {
             return false;
         }
     }
@@ -87,43 +69,35 @@ fn all_are_quiet(
 }
 
 /// Whether a path is active.
-fn is_active(
-    model: &VModule,
-    inputs: &[Trit],
-    states: &[Trit],
-    path: VPath,
-    room: &mut Items<Trit>,
-) -> bool
-    requires { IsTrue (is_wired (length room.old) model.now) }
-    ensures active { result ≡ is_active model.now inputs.now states.now path path.gate }
+fn is_active(values: &ModuleValues, path: VPath, room: &mut Items<Trit>) -> bool
+    requires { IsTrue (is_wired (length room.old) values.now.model.now) }
+    ensures active { result ≡ is_active values.now.model.now values.now.inputs.now values.now.states.now path path.gate }
     ensures len { length room.new ≡ length room.old }
 {
     match path.gate {
         Gate::Always => true,
-        Gate::If(wire) => { net_value(model, inputs, states, VNet::Wire(wire), room) != Trit::Zero }
-        Gate::IfNone => all_are_quiet(model, inputs, states, path, room),
+        Gate::If(wire) => { net_value(values, VNet::Wire(wire), room) != Trit::Zero }
+        Gate::IfNone => all_are_quiet(values, path, room),
     }
 }
 
 /// The delay that a path gives, there where it leads from the input to the output and is active.
 fn path_delay(
-    model: &VModule,
-    inputs: &[Trit],
-    states: &[Trit],
+    values: &ModuleValues,
     change: OutputChange,
     path: VPath,
     room: &mut Items<Trit>,
 ) -> Option<u64>
-    requires { IsTrue (is_wired (length room.old) model.now) }
-    ensures delay { result ≡ path_delay_of (is_between model.now.ports change.input change.port) (path_at model.now inputs.now states.now) change.from change.to path }
+    requires { IsTrue (is_wired (length room.old) values.now.model.now) }
+    ensures delay { result ≡ path_delay_of (is_between values.now.model.now.ports change.input change.port) (path_at values.now.model.now values.now.inputs.now values.now.states.now) change.from change.to path }
     ensures len { length room.new ≡ length room.old }
 {
-    let leads = input_number(model.ports.as_slice(), path.from) == change.input
+    let leads = input_number(values.model.ports.as_slice(), path.from) == change.input
         && path.to == change.port;
     if !leads {
         return None;
     }
-    if !is_active(model, inputs, states, path, room) {
+    if !is_active(values, path, room) {
         return None;
     }
     Some(if is_rise(change.from, change.to) {
@@ -134,24 +108,15 @@ fn path_delay(
 }
 
 /// The delay of a change of an output: the least over the active paths from the input to it, 0 where none is active.
-fn least_delay(
-    model: &VModule,
-    inputs: &[Trit],
-    states: &[Trit],
-    change: OutputChange,
-    room: &mut Items<Trit>,
-) -> u64
-    requires { IsTrue (is_wired (length room.old) model.now) }
-    ensures delay { result ≡ least_delay change.from change.to (paths_between model.now inputs.now states.now change.input change.port) }
+fn least_delay(values: &ModuleValues, change: OutputChange, room: &mut Items<Trit>) -> u64
+    requires { IsTrue (is_wired (length room.old) values.now.model.now) }
+    ensures delay { result ≡ least_delay change.from change.to (paths_between values.now.model.now values.now.inputs.now values.now.states.now change.input change.port) }
     ensures len { length room.new ≡ length room.old }
 {
-    let paths = model.paths.as_slice();
+    let paths = values.model.paths.as_slice();
     let mut best = None;
     for i in 0..paths.len() {
-        best = lesser(
-            best,
-            path_delay(model, inputs, states, change, paths[i], room),
-        );
+        best = lesser(best, path_delay(values, change, paths[i], room));
     }
     match best {
         Some(delay) => delay,
@@ -161,19 +126,17 @@ fn least_delay(
 
 /// The delay of an output, there where it changes.
 pub(crate) fn delay_at(
-    model: &VModule,
-    inputs: &[Trit],
-    states: &[Trit],
+    values: &ModuleValues,
     change: OutputChange,
     room: &mut Items<Trit>,
 ) -> Option<u64>
-    requires { IsTrue (is_wired (length room.old) model.now) }
-    ensures delay { result ≡ delay_at model.now inputs.now states.now change.input change.port change.from change.to }
+    requires { IsTrue (is_wired (length room.old) values.now.model.now) }
+    ensures delay { result ≡ delay_at values.now.model.now values.now.inputs.now values.now.states.now change.input change.port change.from change.to }
     ensures len { length room.new ≡ length room.old }
 {
     if change.from == change.to {
         None
     } else {
-        Some(least_delay(model, inputs, states, change, room))
+        Some(least_delay(values, change, room))
     }
 }

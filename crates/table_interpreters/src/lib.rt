@@ -4,8 +4,10 @@
 
 mod checks;
 mod delays;
+mod entity_values;
 mod faults;
 mod module_run;
+mod module_values;
 mod net_values;
 mod ports;
 mod primitives;

@@ -5,6 +5,7 @@ ghost use Rattle.cell_machine.specs.History.{value_before};
 ghost use Rattle.model_traces.specs.ModuleRun.{toggled, entered, notified, shaken, reports_at, happened, step_reports, run_step, HasEach};
 
 use crate::checks::{clear, compare_all, stamp_all};
+use crate::module_values::ModuleValues;
 use crate::primitives::step_states;
 use cell_machine::Change;
 use model_traces::{ModuleRun, Turn, Turned};
@@ -122,16 +123,12 @@ fn happen(
     ensures len { length room.new ≡ length room.old }
 {
     enter(run, model, change, from, room);
-    compare_all(
+    let values = ModuleValues {
         model,
-        run.inputs.as_slice(),
-        run.states.as_slice(),
-        from,
-        change,
-        run.stamps.as_slice(),
-        reports,
-        room,
-    );
+        inputs: run.inputs.as_slice(),
+        states: run.states.as_slice(),
+    };
+    compare_all(&values, from, change, run.stamps.as_slice(), reports, room);
     stamp_all(model, from, change, &mut run.stamps);
     shake(run, model, reports.as_slice(), room);
 }

@@ -8,9 +8,10 @@ ghost use Rattle.udp_tables.specs.Primitive.{IsCombinational};
 ghost use Rattle.table_interpreters.specs.Wiring.{is_table, is_joined, is_wired};
 ghost use Rattle.model_traces.specs.NetValues.{driver, kept_state, source_value, table_value, primitive_value, instance_value, net_value};
 
+use crate::module_values::ModuleValues;
 use crate::ports::input_value;
 use crate::wiring::instance_at;
-use specify_blocks::{Instance, VModule, VNet};
+use specify_blocks::{Instance, VNet};
 use sqlite_items::Items;
 use trit_cubes::Trit;
 use udp_tables::{Udp, udp_level};
@@ -71,54 +72,45 @@ fn kept_state(states: &[Trit], place: Option<usize>) -> Trit
 }
 
 /// The value of a net that feeds a primitive without a state.
-fn source_value(model: &VModule, inputs: &[Trit], states: &[Trit], net: VNet) -> Trit
-    ensures { result ≡ source_value model.now inputs.now states.now net }
+fn source_value(values: &ModuleValues, net: VNet) -> Trit
+    ensures { result ≡ source_value values.now.model.now values.now.inputs.now values.now.states.now net }
 {
     match net {
-        VNet::Port(port) => input_value(model.ports.as_slice(), inputs, port),
+        VNet::Port(port) => input_value(values.model.ports.as_slice(), values.inputs, port),
         VNet::Wire(wire) => kept_state(
-            states,
-            driver(model.instances.as_slice(), VNet::Wire(wire)),
+            values.states,
+            driver(values.model.instances.as_slice(), VNet::Wire(wire)),
         ),
         VNet::Notifier => Trit::Unknown,
     }
 }
 
 /// Writes the values of the nets that feed a primitive without a state to the front of the room.
-fn feed(model: &VModule, inputs: &[Trit], states: &[Trit], nets: &[VNet], room: &mut Items<Trit>)
+fn feed(values: &ModuleValues, nets: &[VNet], room: &mut Items<Trit>)
     requires { length nets.now ≤ length room.old }
-    ensures front { take (length nets.now) room.new ≡ map (source_value model.now inputs.now states.now) nets.now }
+    ensures front { take (length nets.now) room.new ≡ map (source_value values.now.model.now values.now.inputs.now values.now.states.now) nets.now }
     ensures len { length room.new ≡ length room.old }
 {
     for i in 0..nets.len() {
-        room.set(i, source_value(model, inputs, states, nets[i]));
+        room.set(i, source_value(values, nets[i]));
     }
 }
 
 /// What a primitive without a state gives for the nets that feed it.
-fn table_value(
-    model: &VModule,
-    inputs: &[Trit],
-    states: &[Trit],
-    nets: &[VNet],
-    udp: &Udp,
-    room: &mut Items<Trit>,
-) -> Trit
+fn table_value(values: &ModuleValues, nets: &[VNet], udp: &Udp, room: &mut Items<Trit>) -> Trit
     requires table { IsCombinational udp.now }
     requires entries { length nets.now ≡ length udp.now.inputs }
     requires room { length nets.now ≤ length room.old }
-    ensures value { result ≡ table_value model.now inputs.now states.now nets.now udp.now }
+    ensures value { result ≡ table_value values.now.model.now values.now.inputs.now values.now.states.now nets.now udp.now }
     ensures len { length room.new ≡ length room.old }
 {
-    feed(model, inputs, states, nets, room);
+    feed(values, nets, room);
     udp_level(udp, &room.as_slice()[..nets.len()])
 }
 
 /// What a primitive drives whose instance has this state.
 fn primitive_value(
-    model: &VModule,
-    inputs: &[Trit],
-    states: &[Trit],
+    values: &ModuleValues,
     state: Trit,
     nets: &[VNet],
     udp: &Udp,
@@ -127,28 +119,26 @@ fn primitive_value(
     requires table { IsTrue (is_table udp.now) }
     requires entries { length nets.now ≡ length udp.now.inputs }
     requires room { length nets.now ≤ length room.old }
-    ensures value { result ≡ primitive_value model.now inputs.now states.now state nets.now udp.now }
+    ensures value { result ≡ primitive_value values.now.model.now values.now.inputs.now values.now.states.now state nets.now udp.now }
     ensures len { length room.new ≡ length room.old }
 {
     if udp.sequential {
         state
     } else {
-        table_value(model, inputs, states, nets, udp, room)
+        table_value(values, nets, udp, room)
     }
 }
 
 /// What an instance with this state drives.
 fn instance_value(
-    model: &VModule,
-    inputs: &[Trit],
-    states: &[Trit],
+    values: &ModuleValues,
     state: Trit,
     instance: &Instance,
     room: &mut Items<Trit>,
 ) -> Trit
-    requires wired { IsTrue (is_wired (length room.old) model.now) }
-    requires joined { IsTrue (is_joined model.now.udps (length room.old) instance.now) }
-    ensures value { result ≡ instance_value model.now inputs.now states.now state instance.now }
+    requires wired { IsTrue (is_wired (length room.old) values.now.model.now) }
+    requires joined { IsTrue (is_joined values.now.model.now.udps (length room.old) instance.now) }
+    ensures value { result ≡ instance_value values.now.model.now values.now.inputs.now values.now.states.now state instance.now }
     ensures len { length room.new ≡ length room.old }
 {
     match instance {
@@ -156,10 +146,8 @@ fn instance_value(
             udp,
             inputs: nets,
             ..
-        } => match model.udps.get(*udp) {
-            Some(udp) => {
-                primitive_value(model, inputs, states, state, nets.as_slice(), udp, room)
-            }
+        } => match values.model.udps.get(*udp) {
+            Some(udp) => { primitive_value(values, state, nets.as_slice(), udp, room) }
             None => Trit::Unknown,
         },
         Instance::Constant { one, .. } => Trit::from(*one),
@@ -167,25 +155,19 @@ fn instance_value(
 }
 
 /// The value of a net that an instance drives: a wire or an output. Unknown where nothing drives it.
-pub(crate) fn net_value(
-    model: &VModule,
-    inputs: &[Trit],
-    states: &[Trit],
-    net: VNet,
-    room: &mut Items<Trit>,
-) -> Trit
-    requires { IsTrue (is_wired (length room.old) model.now) }
-    ensures value { result ≡ net_value model.now inputs.now states.now net }
+pub(crate) fn net_value(values: &ModuleValues, net: VNet, room: &mut Items<Trit>) -> Trit
+    requires { IsTrue (is_wired (length room.old) values.now.model.now) }
+    ensures value { result ≡ net_value values.now.model.now values.now.inputs.now values.now.states.now net }
     ensures len { length room.new ≡ length room.old }
 {
-    let place = driver(model.instances.as_slice(), net);
-    let state = kept_state(states, place);
+    let place = driver(values.model.instances.as_slice(), net);
+    let state = kept_state(values.states, place);
     let Some(place) = place else {
         return Trit::Unknown;
     };
-    if place >= model.instances.len() {
+    if place >= values.model.instances.len() {
         return Trit::Unknown;
     }
-    let instance = instance_at(model, place);
-    instance_value(model, inputs, states, state, instance, room)
+    let instance = instance_at(values.model, place);
+    instance_value(values, state, instance, room)
 }

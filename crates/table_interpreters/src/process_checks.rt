@@ -6,6 +6,7 @@ ghost use Rattle.table_interpreters.specs.EntityRooms.{HasRoom};
 ghost use Rattle.table_interpreters.specs.EntitySteps.{as_module_check, stamp_reports, restamped};
 
 use crate::checks::{happens, opened, stamped};
+use crate::entity_values::EntityValues;
 use crate::process_values::is_enabled;
 use cell_machine::{Change, is_within};
 use model_traces::Stamps;
@@ -29,48 +30,46 @@ fn as_module_check(check: HCheck) -> VCheck
 
 /// Whether a check reports. `inputs` are those after the change, `from` is the value that the input had.
 fn check_reports(
-    model: &VEntity,
-    inputs: &[Trit],
+    values: &EntityValues,
     from: Trit,
     change: Change,
     check: HCheck,
     stamps: Stamps,
     room: &mut Items<Trit>,
 ) -> bool
-    requires sound { IsSound model.now }
-    requires room { HasRoom (length room.old) model.now }
-    ensures reports { result ≡ stamp_reports model.now inputs.now from change check stamps }
+    requires sound { IsSound values.now.model.now }
+    requires room { HasRoom (length room.old) values.now.model.now }
+    ensures reports { result ≡ stamp_reports values.now.model.now values.now.inputs.now from change check stamps }
     ensures len { length room.new ≡ length room.old }
 {
-    if !happens(model.ports.as_slice(), check.second, from, change) {
+    if !happens(values.model.ports.as_slice(), check.second, from, change) {
         return false;
     }
-    let enabled = is_enabled(model, inputs, check.condition, room);
+    let enabled = is_enabled(values, check.condition, room);
     let check = as_module_check(check);
     enabled && is_within(change.at, check.limit, opened(&check, from, change, stamps))
 }
 
 /// Writes for each check whether it reports.
 pub(crate) fn compare_entity(
-    model: &VEntity,
-    inputs: &[Trit],
+    values: &EntityValues,
     from: Trit,
     change: Change,
     stamps: &[Stamps],
     reports: &mut Items<bool>,
     room: &mut Items<Trit>,
 )
-    requires sound { IsSound model.now }
-    requires room { HasRoom (length room.old) model.now }
-    requires one_each { length stamps.now ≡ length model.now.checks }
-    requires one_report { length reports.old ≡ length model.now.checks }
-    ensures reports { reports.new ≡ each (stamp_reports model.now inputs.now from change) model.now.checks stamps.now }
+    requires sound { IsSound values.now.model.now }
+    requires room { HasRoom (length room.old) values.now.model.now }
+    requires one_each { length stamps.now ≡ length values.now.model.now.checks }
+    requires one_report { length reports.old ≡ length values.now.model.now.checks }
+    ensures reports { reports.new ≡ each (stamp_reports values.now.model.now values.now.inputs.now from change) values.now.model.now.checks stamps.now }
     ensures len { length reports.new ≡ length reports.old }
     ensures room { length room.new ≡ length room.old }
 {
-    let checks = model.checks.as_slice();
+    let checks = values.model.checks.as_slice();
     for i in 0..reports.len() {
-        let reported = check_reports(model, inputs, from, change, checks[i], stamps[i], room);
+        let reported = check_reports(values, from, change, checks[i], stamps[i], room);
         reports.set(i, reported);
     }
 }

@@ -10,22 +10,23 @@ ghost use Rattle.model_traces.specs.ProcessValues.{condition_value};
 ghost use Rattle.model_traces.specs.GatedPaths.{gate_holds, path_at, begins_at, paths_from, delay_at};
 
 use crate::delays::OutputChange;
+use crate::entity_values::EntityValues;
 use crate::ports::input_number;
 use crate::process_values::condition_value;
 use cell_machine::{is_rise, lesser};
 use sqlite_items::Items;
 use trit_cubes::Trit;
-use vital_models::{HGate, HPath, VEntity, VOutput};
+use vital_models::{HGate, HPath, VOutput};
 
 /// Whether all these conditions are 0.
-fn all_zero(model: &VEntity, inputs: &[Trit], conditions: &[usize], room: &mut Items<Trit>) -> bool
-    requires sound { IsSound model.now }
-    requires room { HasRoom (length room.old) model.now }
-    ensures zero { result ≡ list_all (λ i. is_zero (condition_value model.now inputs.now i)) conditions.now }
+fn all_zero(values: &EntityValues, conditions: &[usize], room: &mut Items<Trit>) -> bool
+    requires sound { IsSound values.now.model.now }
+    requires room { HasRoom (length room.old) values.now.model.now }
+    ensures zero { result ≡ list_all (λ i. is_zero (condition_value values.now.model.now values.now.inputs.now i)) conditions.now }
     ensures len { length room.new ≡ length room.old }
 {
     for i in 0..conditions.len() {
-        if condition_value(model, inputs, conditions[i], room) != Trit::Zero {
+        if condition_value(values, conditions[i], room) != Trit::Zero {
             return false;
         }
     }
@@ -33,36 +34,35 @@ fn all_zero(model: &VEntity, inputs: &[Trit], conditions: &[usize], room: &mut I
 }
 
 /// Whether a path's condition holds.
-fn gate_holds(model: &VEntity, inputs: &[Trit], gate: &HGate, room: &mut Items<Trit>) -> bool
-    requires sound { IsSound model.now }
-    requires room { HasRoom (length room.old) model.now }
-    ensures holds { result ≡ gate_holds model.now inputs.now gate.now }
+fn gate_holds(values: &EntityValues, gate: &HGate, room: &mut Items<Trit>) -> bool
+    requires sound { IsSound values.now.model.now }
+    requires room { HasRoom (length room.old) values.now.model.now }
+    ensures holds { result ≡ gate_holds values.now.model.now values.now.inputs.now gate.now }
     ensures len { length room.new ≡ length room.old }
 {
     match gate {
         HGate::Always => true,
-        HGate::NotZero(i) => condition_value(model, inputs, *i, room) != Trit::Zero,
-        HGate::AllZero(conditions) => all_zero(model, inputs, conditions.as_slice(), room),
+        HGate::NotZero(i) => condition_value(values, *i, room) != Trit::Zero,
+        HGate::AllZero(conditions) => all_zero(values, conditions.as_slice(), room),
     }
 }
 
 /// The delay that a path gives, there where it begins at the input and its condition holds.
 fn path_delay(
-    model: &VEntity,
-    inputs: &[Trit],
+    values: &EntityValues,
     change: OutputChange,
     path: &HPath,
     room: &mut Items<Trit>,
 ) -> Option<u64>
-    requires sound { IsSound model.now }
-    requires room { HasRoom (length room.old) model.now }
-    ensures delay { result ≡ path_delay_of (begins_at model.now.ports change.input) (path_at model.now inputs.now) change.from change.to path.now }
+    requires sound { IsSound values.now.model.now }
+    requires room { HasRoom (length room.old) values.now.model.now }
+    ensures delay { result ≡ path_delay_of (begins_at values.now.model.now.ports change.input) (path_at values.now.model.now values.now.inputs.now) change.from change.to path.now }
     ensures len { length room.new ≡ length room.old }
 {
-    if input_number(model.ports.as_slice(), path.from) != change.input {
+    if input_number(values.model.ports.as_slice(), path.from) != change.input {
         return None;
     }
-    if !gate_holds(model, inputs, &path.gate, room) {
+    if !gate_holds(values, &path.gate, room) {
         return None;
     }
     Some(if is_rise(change.from, change.to) {
@@ -74,21 +74,20 @@ fn path_delay(
 
 /// The least delay over the paths of an output that hold, 0 where none does.
 fn least_delay(
-    model: &VEntity,
-    inputs: &[Trit],
+    values: &EntityValues,
     change: OutputChange,
     output: &VOutput,
     room: &mut Items<Trit>,
 ) -> u64
-    requires sound { IsSound model.now }
-    requires room { HasRoom (length room.old) model.now }
-    ensures delay { result ≡ least_delay change.from change.to (paths_from model.now inputs.now change.input output.now) }
+    requires sound { IsSound values.now.model.now }
+    requires room { HasRoom (length room.old) values.now.model.now }
+    ensures delay { result ≡ least_delay change.from change.to (paths_from values.now.model.now values.now.inputs.now change.input output.now) }
     ensures len { length room.new ≡ length room.old }
 {
     let paths = output.paths.as_slice();
     let mut best = None;
     for i in 0..paths.len() {
-        best = lesser(best, path_delay(model, inputs, change, &paths[i], room));
+        best = lesser(best, path_delay(values, change, &paths[i], room));
     }
     match best {
         Some(delay) => delay,
@@ -98,20 +97,19 @@ fn least_delay(
 
 /// The delay of an output, there where it changes.
 pub(crate) fn entity_delay(
-    model: &VEntity,
-    inputs: &[Trit],
+    values: &EntityValues,
     change: OutputChange,
     output: &VOutput,
     room: &mut Items<Trit>,
 ) -> Option<u64>
-    requires sound { IsSound model.now }
-    requires room { HasRoom (length room.old) model.now }
-    ensures delay { result ≡ delay_at model.now inputs.now change.input output.now change.from change.to }
+    requires sound { IsSound values.now.model.now }
+    requires room { HasRoom (length room.old) values.now.model.now }
+    ensures delay { result ≡ delay_at values.now.model.now values.now.inputs.now change.input output.now change.from change.to }
     ensures len { length room.new ≡ length room.old }
 {
     if change.from == change.to {
         None
     } else {
-        Some(least_delay(model, inputs, change, output, room))
+        Some(least_delay(values, change, output, room))
     }
 }

@@ -8,6 +8,7 @@ ghost use Rattle.table_interpreters.specs.EntitySteps.{event_reports, event_step
 ghost use Rattle.model_traces.specs.ProcessRun.{violation_by};
 
 use crate::checks::clear;
+use crate::entity_values::EntityValues;
 use crate::process_checks::{compare_entity, stamp_entity};
 use crate::process_states::step_entity;
 use cell_machine::Change;
@@ -75,15 +76,12 @@ fn happen(
     ensures room { length room.new ≡ length room.old }
 {
     run.inputs.set(change.pin, change.to);
-    compare_entity(
+    let values = EntityValues {
         model,
-        run.inputs.as_slice(),
-        from,
-        change,
-        run.stamps.as_slice(),
-        reports,
-        room,
-    );
+        inputs: run.inputs.as_slice(),
+        states: run.states.as_slice(),
+    };
+    compare_entity(&values, from, change, run.stamps.as_slice(), reports, room);
     let violation = violation_of(reports.as_slice());
     step_entity(
         model,

@@ -6,12 +6,13 @@ ghost use Rattle.table_interpreters.specs.EntityRooms.{source_count, HasRoom};
 ghost use Rattle.model_traces.specs.PortNumbers.{input_value};
 ghost use Rattle.model_traces.specs.ProcessValues.{truth_value, condition_value, is_enabled, source_value, output_value};
 
+use crate::entity_values::EntityValues;
 use crate::ports::input_value;
 use cell_machine::Source;
 use sqlite_items::Items;
 use trit_cubes::Trit;
 use udp_tables::VPort;
-use vital_models::{OutValue, VEntity, VTruth, lookup_truth};
+use vital_models::{OutValue, VTruth, lookup_truth};
 
 /// Writes the values of these input ports to the room, from the place `start` on.
 pub(crate) fn feed(
@@ -44,38 +45,37 @@ fn truth_value(ports: &[VPort], inputs: &[Trit], truth: &VTruth, room: &mut Item
 }
 
 /// The value of the condition with this number, unknown where there is none.
-pub(crate) fn condition_value(
-    model: &VEntity,
-    inputs: &[Trit],
-    i: usize,
-    room: &mut Items<Trit>,
-) -> Trit
-    requires sound { IsSound model.now }
-    requires room { HasRoom (length room.old) model.now }
-    ensures value { result ≡ condition_value model.now inputs.now i }
+pub(crate) fn condition_value(values: &EntityValues, i: usize, room: &mut Items<Trit>) -> Trit
+    requires sound { IsSound values.now.model.now }
+    requires room { HasRoom (length room.old) values.now.model.now }
+    ensures value { result ≡ condition_value values.now.model.now values.now.inputs.now i }
     ensures len { length room.new ≡ length room.old }
 {
-    let conditions = model.conditions.as_slice();
+    let conditions = values.model.conditions.as_slice();
     if i >= conditions.len() {
         return Trit::Unknown;
     }
-    truth_value(model.ports.as_slice(), inputs, &conditions[i], room)
+    truth_value(
+        values.model.ports.as_slice(),
+        values.inputs,
+        &conditions[i],
+        room,
+    )
 }
 
 /// Whether a check's condition lets it count: there is none, or it is 1.
 pub(crate) fn is_enabled(
-    model: &VEntity,
-    inputs: &[Trit],
+    values: &EntityValues,
     condition: Option<usize>,
     room: &mut Items<Trit>,
 ) -> bool
-    requires sound { IsSound model.now }
-    requires room { HasRoom (length room.old) model.now }
-    ensures enabled { result ≡ is_enabled model.now inputs.now condition }
+    requires sound { IsSound values.now.model.now }
+    requires room { HasRoom (length room.old) values.now.model.now }
+    ensures enabled { result ≡ is_enabled values.now.model.now values.now.inputs.now condition }
     ensures len { length room.new ≡ length room.old }
 {
     match condition {
-        Some(i) => condition_value(model, inputs, i, room) == Trit::One,
+        Some(i) => condition_value(values, i, room) == Trit::One,
         None => true,
     }
 }
@@ -111,16 +111,10 @@ fn feed_sources(
 }
 
 /// The value of an output.
-pub(crate) fn output_value(
-    model: &VEntity,
-    inputs: &[Trit],
-    states: &[Trit],
-    value: &OutValue,
-    room: &mut Items<Trit>,
-) -> Trit
-    requires value { IsValue model.now value.now }
+pub(crate) fn output_value(values: &EntityValues, value: &OutValue, room: &mut Items<Trit>) -> Trit
+    requires value { IsValue values.now.model.now value.now }
     requires room { source_count value.now ≤ length room.old }
-    ensures value { result ≡ output_value model.now inputs.now states.now value.now }
+    ensures value { result ≡ output_value values.now.model.now values.now.inputs.now values.now.states.now value.now }
     ensures len { length room.new ≡ length room.old }
 {
     match value {
@@ -131,9 +125,9 @@ pub(crate) fn output_value(
         } => {
             let count = sources.len();
             feed_sources(
-                model.ports.as_slice(),
-                inputs,
-                states,
+                values.model.ports.as_slice(),
+                values.inputs,
+                values.states,
                 sources.as_slice(),
                 room,
             );

@@ -6,8 +6,9 @@ ghost use Rattle.table_interpreters.specs.ShownPorts.{shown_first, shown_step};
 
 use crate::delays::{OutputChange, delay_at};
 use crate::faults::Memory;
+use crate::module_values::ModuleValues;
 use crate::net_values::net_value;
-use specify_blocks::{VModule, VNet};
+use specify_blocks::VNet;
 use sqlite_items::Items;
 use std::alloc::Global;
 use trit_cubes::Trit;
@@ -24,69 +25,58 @@ pub struct Shown {
 }
 
 /// What one output shows after a change of an input.
-fn shown_step(
-    model: &VModule,
-    inputs: &[Trit],
-    states: &[Trit],
-    input: usize,
-    was: Shown,
-    room: &mut Items<Trit>,
-) -> Shown
-    requires { IsTrue (is_wired (length room.old) model.now) }
-    ensures shown { result ≡ shown_step model.now inputs.now states.now input was }
+fn shown_step(values: &ModuleValues, input: usize, was: Shown, room: &mut Items<Trit>) -> Shown
+    requires { IsTrue (is_wired (length room.old) values.now.model.now) }
+    ensures shown { result ≡ shown_step values.now.model.now values.now.inputs.now values.now.states.now input was }
     ensures len { length room.new ≡ length room.old }
 {
     let port = was.port;
-    let value = net_value(model, inputs, states, VNet::Port(port), room);
+    let value = net_value(values, VNet::Port(port), room);
     let change = OutputChange {
         input,
         port,
         from: was.value,
         to: value,
     };
-    let delay = delay_at(model, inputs, states, change, room);
+    let delay = delay_at(values, change, room);
     Shown { port, value, delay }
 }
 
 /// Takes what the outputs show over a change of an input. `inputs` and `states` are those after it.
 pub(crate) fn show_all(
-    model: &VModule,
-    inputs: &[Trit],
-    states: &[Trit],
+    values: &ModuleValues,
     input: usize,
     shown: &mut Items<Shown>,
     room: &mut Items<Trit>,
 )
-    requires { IsTrue (is_wired (length room.old) model.now) }
-    ensures stepped { shown.new ≡ map (shown_step model.now inputs.now states.now input) shown.old }
+    requires { IsTrue (is_wired (length room.old) values.now.model.now) }
+    ensures stepped { shown.new ≡ map (shown_step values.now.model.now values.now.inputs.now values.now.states.now input) shown.old }
     ensures len { length shown.new ≡ length shown.old }
     ensures room { length room.new ≡ length room.old }
 {
     for i in 0..shown.len() {
         let was = shown.as_slice()[i];
-        let now = shown_step(model, inputs, states, input, was, room);
+        let now = shown_step(values, input, was, room);
         shown.set(i, now);
     }
 }
 
 /// Adds what a port shows at the start, where it is an output.
 fn add_first(
-    model: &VModule,
-    inputs: &[Trit],
-    states: &[Trit],
+    values: &ModuleValues,
     port: usize,
     is_input: bool,
     shown: &mut Items<Shown>,
     room: &mut Items<Trit>,
 ) -> Result<(), Memory>
-    requires { IsTrue (is_wired (length room.old) model.now) }
-    ensures shown { OnOk result (shown.new ≡ shown.old ++ map (shown_first model.now inputs.now states.now) (output_by port is_input)) }
+    requires { IsTrue (is_wired (length room.old) values.now.model.now) }
+    ensures shown { OnOk result (shown.new ≡ shown.old ++ map (shown_first values.now.model.now values.now.inputs.now values.now.states.now) (output_by port is_input)) }
     ensures len { length room.new ≡ length room.old }
 {
     if is_input {
         return Ok(());
     }
-    let value = net_value(model, inputs, states, VNet::Port(port), room);
+    let value = net_value(values, VNet::Port(port), room);
     shown.push(Shown {
         port,
         value,
@@ -98,20 +88,18 @@ fn add_first(
 /// What the outputs show at the start, where the inputs and the states have these values: no delays.
 pub(crate) fn show_start(
     alloc: Global,
-    model: &VModule,
-    inputs: &[Trit],
-    states: &[Trit],
+    values: &ModuleValues,
     room: &mut Items<Trit>,
 ) -> Result<Items<Shown>, Memory>
-    requires { IsTrue (is_wired (length room.old) model.now) }
-    ensures shown { IfOk result (λ shown. shown ≡ map (shown_first model.now inputs.now states.now) (output_ports model.now.ports)) }
+    requires { IsTrue (is_wired (length room.old) values.now.model.now) }
+    ensures shown { IfOk result (λ shown. shown ≡ map (shown_first values.now.model.now values.now.inputs.now values.now.states.now) (output_ports values.now.model.now.ports)) }
     ensures len { length room.new ≡ length room.old }
 {
     let mut shown = Items::new(alloc);
-    let ports = model.ports.as_slice();
+    let ports = values.model.ports.as_slice();
     for i in 0..ports.len() {
         let is_input = ports[i].input;
-        add_first(model, inputs, states, i, is_input, &mut shown, room)?;
+        add_first(values, i, is_input, &mut shown, room)?;
     }
     Ok(shown)
 }

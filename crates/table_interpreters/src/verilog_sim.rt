@@ -5,6 +5,7 @@ ghost use Rattle.model_traces.specs.PortNumbers.{input_count, output_ports};
 
 use crate::faults::Memory;
 use crate::module_run::change;
+use crate::module_values::ModuleValues;
 use crate::ports::input_count;
 use crate::shown::{Shown, show_all, show_start};
 use crate::wiring::most_nets;
@@ -48,13 +49,12 @@ impl<'a> VerilogSim<'a> {
         let states = Items::from_vec(vec![in alloc; Trit::Unknown; model.instances.len()]?);
         let stamps = Items::from_vec(vec![in alloc; Stamps::none(); model.checks.len()]?);
         let reports = Items::from_vec(vec![in alloc; false; model.checks.len()]?);
-        let shown = show_start(
-            alloc,
+        let values = ModuleValues {
             model,
-            inputs.as_slice(),
-            states.as_slice(),
-            &mut room,
-        )?;
+            inputs: inputs.as_slice(),
+            states: states.as_slice(),
+        };
+        let shown = show_start(alloc, &values, &mut room)?;
         let run = ModuleRun {
             inputs,
             states,
@@ -100,14 +100,12 @@ impl<'a> CellSim for VerilogSim<'a> {
             &mut self.reports,
             &mut self.room,
         );
-        show_all(
-            self.model,
-            self.run.inputs.as_slice(),
-            self.run.states.as_slice(),
-            pin,
-            &mut self.shown,
-            &mut self.room,
-        );
+        let values = ModuleValues {
+            model: self.model,
+            inputs: self.run.inputs.as_slice(),
+            states: self.run.states.as_slice(),
+        };
+        show_all(&values, pin, &mut self.shown, &mut self.room);
     }
 
     fn output(&self, place: usize) -> Trit {

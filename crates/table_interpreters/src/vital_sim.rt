@@ -7,6 +7,7 @@ ghost use Rattle.table_interpreters.specs.EntityRooms.{HasRoom};
 ghost use Rattle.table_interpreters.specs.EntitySteps.{HasParts};
 ghost use Rattle.model_traces.specs.PortNumbers.{input_count};
 
+use crate::entity_values::EntityValues;
 use crate::faults::Memory;
 use crate::ports::input_count;
 use crate::process_rooms::most_columns;
@@ -58,13 +59,12 @@ impl<'a> VitalSim<'a> {
         let states = Items::from_vec(vec![in alloc; Trit::Unknown; model.states.len()]?);
         let stamps = Items::from_vec(vec![in alloc; Stamps::none(); model.checks.len()]?);
         let reports = Items::from_vec(vec![in alloc; false; model.checks.len()]?);
-        let shown = show_first(
-            alloc,
+        let values = EntityValues {
             model,
-            inputs.as_slice(),
-            states.as_slice(),
-            &mut room,
-        )?;
+            inputs: inputs.as_slice(),
+            states: states.as_slice(),
+        };
+        let shown = show_first(alloc, &values, &mut room)?;
         let run = ProcessState {
             inputs,
             before,
@@ -113,14 +113,12 @@ impl<'a> CellSim for VitalSim<'a> {
             &mut self.earlier,
             &mut self.room,
         );
-        show_entity(
-            self.model,
-            self.run.inputs.as_slice(),
-            self.run.states.as_slice(),
-            pin,
-            &mut self.shown,
-            &mut self.room,
-        );
+        let values = EntityValues {
+            model: self.model,
+            inputs: self.run.inputs.as_slice(),
+            states: self.run.states.as_slice(),
+        };
+        show_entity(&values, pin, &mut self.shown, &mut self.room);
     }
 
     fn output(&self, place: usize) -> Trit {

@@ -8,7 +8,8 @@ abbrev pub invariant-loop-i : goal.invariant-loop-i
 invariant-loop-i l = record {
   front :
       take l.i l.reports
-      ≡ each (check_reports l.model l.inputs l.states l.from l.change) (take l.i l.model.checks) (take l.i l.stamps);
+      ≡ each (check_reports l.values.model.now l.values.inputs.now l.values.states.now l.from l.change)
+      (take l.i l.values.model.now.checks) (take l.i l.stamps);
   len : length l.reports ≡ length l.initial.reports;
   room : length l.room ≡ length l.initial.room;
 }

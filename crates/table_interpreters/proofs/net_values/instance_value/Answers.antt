@@ -4,4 +4,4 @@ use Rattle.table_interpreters.proofs.net_values.instance_value.Goals as goal
 
 pub primitive_value-requires-clause-table : goal.primitive_value-requires-clause-table
 primitive_value-requires-clause-table c =
-    wired-table (length c.args.room.now) c.args.model.now c.in-Primitive.udp c.in-Some.udp.now c.requires.wired (sym c.in-Some.ensures.value)
+    wired-table (length c.args.room.now) c.args.values.now.model.now c.in-Primitive.udp c.in-Some.udp.now c.requires.wired (sym c.in-Some.ensures.value)

@@ -7,14 +7,14 @@ use Rattle.table_interpreters.proofs.process_checks.compare_entity.Goals as goal
 
 pub loop-i-preserved : goal.loop-i-preserved
 loop-i-preserved c =
-    let m = c.args.model.now in
+    let m = c.args.values.now.model.now in
     let many : c.loop-i.i < length c.loop-i.reports = omega arith in
     let inside : c.loop-i.i < length m.checks = omega (arith, c.loop-i.invariant.len, c.requires.one_report) in
     let kept : c.loop-i.i < length c.args.stamps.now = omega (arith, inside, c.requires.one_each) in
     record {
       front =
           rw c.set.ensures
-          (front-step (stamp_reports m c.args.inputs.now c.args.from c.args.change) m.checks c.args.stamps.now
+          (front-step (stamp_reports m c.args.values.now.inputs.now c.args.from c.args.change) m.checks c.args.stamps.now
           c.loop-i.reports c.loop-i.i _ _ c.check_reports-reported.result (slice_get-get_or m.checks c.loop-i.i _ inside) kept many
           (rw c.as_slice-checks.ensures at c.check_reports-reported.ensures.reports) c.loop-i.invariant.front);
       len = ap length c.set.ensures ∙ length-set c.loop-i.reports c.loop-i.i c.check_reports-reported.result ∙ c.loop-i.invariant.len;
@@ -23,9 +23,9 @@ loop-i-preserved c =
 
 pub returns-clause-reports : goal.returns-clause-reports
 returns-clause-reports c =
-    let m = c.args.model.now in
+    let m = c.args.values.now.model.now in
     let all : length c.loop-i.reports ≤ c.loop-i.i = omega (arith, c.loop-i.invariant.len) in
     let checks : length m.checks ≤ c.loop-i.i = omega (arith, all, c.loop-i.invariant.len, c.requires.one_report) in
     let kept : length c.args.stamps.now ≤ c.loop-i.i = omega (arith, checks, c.requires.one_each) in
-    front-done (stamp_reports m c.args.inputs.now c.args.from c.args.change) m.checks c.args.stamps.now
+    front-done (stamp_reports m c.args.values.now.inputs.now c.args.from c.args.change) m.checks c.args.stamps.now
     c.loop-i.reports c.loop-i.i checks kept all c.loop-i.invariant.front

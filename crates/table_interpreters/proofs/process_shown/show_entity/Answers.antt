@@ -6,12 +6,12 @@ use Rattle.table_interpreters.proofs.process_shown.show_entity.Goals as goal
 
 pub loop-i-preserved : goal.loop-i-preserved
 loop-i-preserved c =
-    let m = c.args.model.now in
+    let v = c.args.values.now in
     let many : c.loop-i.i < length c.loop-i.shown = omega arith in
     record {
       whole =
           rw (c.set.ensures, add-one)
-          (each-step (output_step m c.args.inputs.now c.args.states.now c.args.input) m.outputs c.loop-i.shown c.loop-i.i
+          (each-step (output_step v.model.now v.inputs.now v.states.now c.args.input) v.model.now.outputs c.loop-i.shown c.loop-i.i
           c.output_at-output.result.now c.output_step-now.result _ c.output_at-output.ensures.is many
           (rw c.as_slice.ensures at c.output_step-now.ensures.shown)
           ∙ c.loop-i.invariant.whole);
@@ -21,5 +21,8 @@ loop-i-preserved c =
 
 pub returns-clause-stepped : goal.returns-clause-stepped
 returns-clause-stepped c =
-    sym (each-done (output_step c.args.model.now c.args.inputs.now c.args.states.now c.args.input) c.args.model.now.outputs c.loop-i.shown c.loop-i.i (omega arith))
+    let v = c.args.values.now in
+    sym
+    (each-done (output_step v.model.now v.inputs.now v.states.now c.args.input) v.model.now.outputs c.loop-i.shown c.loop-i.i
+    (omega arith))
     ∙ c.loop-i.invariant.whole

@@ -7,8 +7,9 @@ use Rattle.table_interpreters.proofs.process_shown.show_entity.Given as goal
 abbrev pub invariant-loop-i : goal.invariant-loop-i
 invariant-loop-i l = record {
   whole :
-      take l.i l.shown ++ each (output_step l.model l.inputs l.states l.input) (drop l.i l.model.outputs) (drop l.i l.shown)
-      ≡ each (output_step l.model l.inputs l.states l.input) l.model.outputs l.initial.shown;
+      take l.i l.shown
+      ++ each (output_step l.values.model.now l.values.inputs.now l.values.states.now l.input) (drop l.i l.values.model.now.outputs) (drop l.i l.shown)
+      ≡ each (output_step l.values.model.now l.values.inputs.now l.values.states.now l.input) l.values.model.now.outputs l.initial.shown;
   len : length l.shown ≡ length l.initial.shown;
   room : length l.room ≡ length l.initial.room;
 }

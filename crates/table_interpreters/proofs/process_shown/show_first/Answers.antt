@@ -6,12 +6,13 @@ use Rattle.table_interpreters.proofs.process_shown.show_first.Goals as goal
 
 pub loop-i-preserved : goal.loop-i-preserved
 loop-i-preserved c =
-    let m = c.args.model.now in
+    let v = c.args.values.now in
+    let m = v.model.now in
     record {
       front =
           c.in_ok-push.ensures.ok
           ∙ rw add-one
-          (map-take-more (output_first m c.args.inputs.now c.args.states.now) m.outputs c.loop-i.i c.output_at-output.result.now
+          (map-take-more (output_first m v.inputs.now v.states.now) m.outputs c.loop-i.i c.output_at-output.result.now
           _ c.loop-i.shown c.output_at-output.ensures.is
           (λ i. record { port = c.output_at-output.result.now.port; value = c.output_value-value.ensures.value i; delay = None })
           c.loop-i.invariant.front);

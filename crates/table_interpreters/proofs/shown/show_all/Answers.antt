@@ -6,11 +6,12 @@ use Rattle.table_interpreters.proofs.shown.show_all.Goals as goal
 
 pub loop-i-preserved : goal.loop-i-preserved
 loop-i-preserved c =
+    let v = c.args.values.now in
     let many : c.loop-i.i < length c.loop-i.shown = omega arith in
     record {
       whole =
           rw (c.set.ensures, add-one)
-          (map-step (shown_step c.args.model.now c.args.inputs.now c.args.states.now c.args.input) c.loop-i.shown c.loop-i.i _
+          (map-step (shown_step v.model.now v.inputs.now v.states.now c.args.input) c.loop-i.shown c.loop-i.i _
           c.shown_step-now.result many (rw c.as_slice.ensures at c.shown_step-now.ensures.shown)
           ∙ c.loop-i.invariant.whole);
       len = ap length c.set.ensures ∙ length-set c.loop-i.shown c.loop-i.i c.shown_step-now.result ∙ c.loop-i.invariant.len;
@@ -19,5 +20,6 @@ loop-i-preserved c =
 
 pub returns-clause-stepped : goal.returns-clause-stepped
 returns-clause-stepped c =
-    sym (map-done (shown_step c.args.model.now c.args.inputs.now c.args.states.now c.args.input) c.loop-i.shown c.loop-i.i (omega arith))
+    let v = c.args.values.now in
+    sym (map-done (shown_step v.model.now v.inputs.now v.states.now c.args.input) c.loop-i.shown c.loop-i.i (omega arith))
     ∙ c.loop-i.invariant.whole

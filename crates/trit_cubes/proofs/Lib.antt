@@ -9,3 +9,5 @@ pub mod TryingLemmas
 pub mod RowLemmas
 pub mod PointLemmas
 pub mod ConstantLemmas
+pub mod InWordLemmas
+pub mod PackLemmas

@@ -1,11 +1,13 @@
 -- Points and their numbers.
-use Rattle.std.proofs.Common.{◌≡◌, ◌==◌, ℕ, zero, suc, ◌+◌, ◌*◌, ◌/◌, ◌%◌, ◌^◌, ◌<◌, ◌≤◌, Bool, true, false, nat_eq, bit_and, List, [], ◌∷◌, ◌++◌, take, length, slice_set, slice_get, slice_index_or, Some, refl, sym, ◌∙◌, ap, arith, pow-suc}
+use Rattle.std.proofs.Common.{◌≡◌, ◌==◌, ℕ, zero, suc, ◌+◌, ◌*◌, ◌/◌, ◌%◌, ◌^◌, ◌<◌, ◌≤◌, Bool, true, false, nat_eq, bit_and, List, [], ◌∷◌, ◌++◌, map, take, length, slice_set, slice_get, slice_index_or, Some, refl, sym, ◌∙◌, ap, arith, pow-suc}
 use Rattle.std.specs.Int.{bit_at}
-use Rattle.std.proofs.lemmas.List.{take_more_set, take_more}
+use Rattle.std.proofs.lemmas.List.{take_more_set, take_more, get_or-map}
 use Rattle.std.proofs.lemmas.Option.{get_or_from_slice_get}
 use Rattle.std.proofs.lemmas.Nat.Bits.{bit_at-suc, shr_and_one, bit_at_lowest}
-use Rattle.trit_cubes.specs.Filling.{bit, number}
-use Rattle.trit_cubes.specs.Sets.{IsTableOf, point_of}
+use Rattle.trit_cubes.specs.declared.trits.Trit.{Trit}
+use Rattle.trit_cubes.specs.declared.trits.Trit.TheVariants.{Unknown}
+use Rattle.trit_cubes.specs.Filling.{bit, number, same}
+use Rattle.trit_cubes.specs.Sets.{IsTableOf, AreValuesOf, has, gives, point_of}
 
 bit-is : (b : Bool) → (bit b == 1) ≡ b
 bit-is true = refl
@@ -60,3 +62,21 @@ table-points n set table long h =
           let below : number p < 2 ^ n = rw (← e) (number-below p) in
           h (number p) below ∙ ap set (ap (λ m. point_of m (number p)) (sym e) ∙ point_of-number p);
     }
+
+-- and so a list of values
+pub values-points : (n : ℕ) (f : List Bool → Trit) (values : List Trit) → length values ≡ 2 ^ n
+    → ((j : ℕ) → j < 2 ^ n → slice_index_or values j Unknown ≡ f (point_of n j)) → AreValuesOf n f values
+values-points n f values long h =
+    record {
+      entries = long;
+      values_at = λ p e.
+          let below : number p < 2 ^ n = rw (← e) (number-below p) in
+          h (number p) below ∙ ap f (ap (λ m. point_of m (number p)) (sym e) ∙ point_of-number p);
+    }
+
+-- the table of the points at which a function with these values has this one
+pub has-value : (n : ℕ) (f : List Bool → Trit) (value : Trit) (values : List Trit) → AreValuesOf n f values
+    → (p : List Bool) → length p ≡ n → has (map (same value) values) p ≡ gives value f p
+has-value n f value values are p e =
+    let below : number p < length values = rw (are.entries, ← e) (number-below p) in
+    get_or-map (same value) values (number p) Unknown false below ∙ ap (same value) (are.values_at p e)

@@ -87,7 +87,7 @@ primes-free n set =
     filter-map (is_prime set) (λ c. Unknown ∷ c) (cubes_of n)
     ∙ ap (map (λ c. Unknown ∷ c)) (filter_same (λ c. is_prime set (Unknown ∷ c)) (is_prime (both set)) (cubes_of n) (λ c _. is_prime-free set c))
 
-prime_list-outside : (n : ℕ) (set : List Bool → Bool)
+pub prime_list-outside : (n : ℕ) (set : List Bool → Bool)
     → prime_list (suc n) set
     ≡ map (λ c. Zero ∷ c) (filter (λ c. not (is_inside (both set) c)) (prime_list n (half set false)))
     ++ map (λ c. One ∷ c) (filter (λ c. not (is_inside (both set) c)) (prime_list n (half set true)))

@@ -3,3 +3,4 @@ pub mod Resolution
 pub mod Sets
 pub mod Prime
 pub mod Words
+pub mod InWords

@@ -1,6 +1,7 @@
 -- Sets of points, as tests of a point.
 use Rattle.std.specs.Prelude.{◌≡◌, ◌==◌, ℕ, zero, suc, ◌/◌, ◌%◌, ◌^◌, Bool, true, false, ◌&&◌, List, [], ◌∷◌, length, slice_index_or}
 use Rattle.trit_cubes.specs.declared.trits.Trit.{Trit}
+use Rattle.trit_cubes.specs.declared.trits.Trit.TheVariants.{Unknown}
 use Rattle.trit_cubes.specs.Filling.{number, same}
 
 -- whether the table, whose entry k stands for the point with the number k, has this point
@@ -34,3 +35,12 @@ joined f g (true ∷ p) = g p
 -- the points at which the function gives this value
 abbrev pub gives : Trit → (List Bool → Trit) → List Bool → Bool
 gives v f p = same v (f p)
+
+-- the list has an entry for each point of n places, each the function's value there
+pub record AreValuesOf (n : ℕ) (f : List Bool → Trit) (values : List Trit) : Type 0 where
+  pub entries : length values ≡ 2 ^ n
+  pub values_at : (p : List Bool) → length p ≡ n → slice_index_or values (number p) Unknown ≡ f p
+
+-- a closure that returns this gives the function's value at each point of n places
+pub record Gives (returns : List Bool → Trit → Type 0) (n : ℕ) (f : List Bool → Trit) : Type 0 where
+  pub at_point : (p : List Bool) → length p ≡ n → (t : Trit) → returns p t → t ≡ f p

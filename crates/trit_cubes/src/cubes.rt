@@ -1,6 +1,6 @@
 //! Packed cubes: lists of at most ten trits in two words.
 
-ghost use Rattle.std.specs.Prelude.{◌≡◌, ◌↔◌, ◌<◌, ◌≤◌, [], ◌∷◌, length, replicate, slice_get, IsNone, IfSome};
+ghost use Rattle.std.specs.Prelude.{◌≡◌, ◌↔◌, ◌<◌, ◌≤◌, [], ◌∷◌, ◌++◌, length, replicate, slice_get, IsNone, IfSome};
 ghost use Rattle.trit_cubes.specs.Words.{fixed_word, value_word};
 
 use crate::trits::Trit;
@@ -123,6 +123,20 @@ impl Cube {
             len: self.len + 1,
             fixed: 2 * fixed + fixed_bit,
             values: 2 * values + value_bit,
+        }
+    }
+
+    /// The cube with one more place at the end.
+    pub(crate) fn before(self, last: Trit) -> Cube
+        requires { length self < 10 }
+        ensures { result ≡ self ++ last ∷ [] }
+    {
+        let (fixed, values) = self.words();
+        let (fixed_bit, value_bit) = last.bits();
+        Cube {
+            len: self.len + 1,
+            fixed: fixed + (fixed_bit << self.len),
+            values: values + (value_bit << self.len),
         }
     }
 }

@@ -14,6 +14,8 @@ mod tests;
 mod trits;
 #[cfg(test)]
 mod trying;
+mod valuation;
+mod word_primes;
 
 pub use covering::covers;
 pub use cubes::Cube;
@@ -23,3 +25,4 @@ pub use resolution::resolve;
 pub use splitting::primes;
 pub use tabulation::table_of;
 pub use trits::Trit;
+pub use valuation::{primes_where, values_of};

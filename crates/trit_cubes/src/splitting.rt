@@ -7,6 +7,7 @@ ghost use Rattle.trit_cubes.specs.Prime.{prime_list};
 use crate::cubes::Cube;
 use crate::memory::Memory;
 use crate::merging::merge;
+use crate::word_primes::primes_by_words;
 use std::alloc::Global;
 
 /// The primes over `n` places of the set that the table tells, ordered place by place with 0 before 1 before free. Entry k
@@ -16,6 +17,10 @@ pub fn primes(alloc: Global, n: usize, set: &[bool]) -> Result<Vec<Cube>, Memory
     requires entries { length set.now ≡ 2 ^ n }
     ensures { IfOk result (λ found. found.items ≡ prime_list n (has set.now)) }
 {
+    if n <= 6 {
+        let few = primes_by_words(alloc, n, set)?;
+        return Ok(few);
+    }
     if let Some(all) = common_entry(set) {
         return of_all_or_none(alloc, n, all);
     }

@@ -28,7 +28,7 @@ pub fn table_of<F: Fn(&[bool]) -> bool>(
 }
 
 /// The first ten places of the point with this number.
-fn point_of(number: u32) -> [bool; 10]
+pub(crate) fn point_of(number: u32) -> [bool; 10]
     ensures { result ≡ point_of 10 number }
 {
     let mut point = [false; 10];

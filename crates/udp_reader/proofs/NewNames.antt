@@ -6,11 +6,12 @@ use Rattle.bool_functions.specs.NameList.{Adds}
 use Rattle.bool_functions.proofs.NameLists.{position-none, position-some}
 use Rattle.grammar_rules.specs.Reading.{Outcome, read}
 use Rattle.rule_readers.specs.declared.refusal.Refusal.{Refusal}
+use Rattle.rule_readers.specs.declared.refusal.Refusal.TheVariants.{Syntax, Twice}
 use Rattle.rule_readers.specs.declared.refusal.Stop.{Stop}
 use Rattle.rule_readers.specs.Reading.{Reads}
-use Rattle.rule_readers.specs.Next.{next_bytes}
+use Rattle.rule_readers.specs.Next.{next_bytes, rest}
 use Rattle.verilog_tokens.specs.Tokens.{is_name}
-use Rattle.udp_tables.specs.VerilogRules.{is_among, new_name}
+use Rattle.udp_tables.specs.VerilogRules.{is_among, any_name, new_name}
 
 -- a name is taken exactly where it has a number
 pub taken : (names : List (List ℕ)) (name : List ℕ) (found : Option ℕ) (new : List (List ℕ)) → Adds names name found new → is_none found ≡ is_among names name
@@ -21,11 +22,6 @@ taken names name found new a = by_among (is_among names name) refl found a
     by_among true e None h = refl
     by_among false e (Some i) h = refl
     by_among false e None h = absurd (h.0 (position-none (bytes_eq name) names e))
-
--- the first name is always new
-pub first_added : (name : List ℕ) (found : Option ℕ) (new : List (List ℕ)) → Adds [] name found new → new ≡ name ∷ []
-first_added name (Some i) new a = a.2
-first_added name None new a = absurd (a.0 refl)
 
 abbrev name_of : Outcome (List ℕ) Refusal (List ℕ) → List ℕ
 name_of (Ok p) = p.0
@@ -66,3 +62,25 @@ missing none found e = twice none ∙ ap not (sym e)
     twice : (b : Bool) → b ≡ not (not b)
     twice true = refl
     twice false = refl
+
+-- the name that is next, where it is declared
+pub new_fits : (names s : List (List ℕ)) → is_name (next_bytes s) ≡ true → is_among names (next_bytes s) ≡ false → read (new_name names) s ≡ Ok (next_bytes s, rest s)
+new_fits names [] e f = absurd cc
+new_fits names (x ∷ s) e f = rw (e, f) refl
+
+pub new_taken : (names s : List (List ℕ)) → is_name (next_bytes s) ≡ true → is_among names (next_bytes s) ≡ true → read (new_name names) s ≡ Err (Twice, s)
+new_taken names [] e f = absurd cc
+new_taken names (x ∷ s) e f = rw (e, f) refl
+
+pub new_other : (names s : List (List ℕ)) → is_name (next_bytes s) ≡ false → read (new_name names) s ≡ Err (Syntax, s)
+new_other names [] e = refl
+new_other names (x ∷ s) e = rw e refl
+
+-- the name that is next, where any may stand
+pub any_fits : (s : List (List ℕ)) → is_name (next_bytes s) ≡ true → read any_name s ≡ Ok (next_bytes s, rest s)
+any_fits [] e = absurd cc
+any_fits (x ∷ s) e = rw e refl
+
+pub any_other : (s : List (List ℕ)) → is_name (next_bytes s) ≡ false → read any_name s ≡ Err (Syntax, s)
+any_other [] e = refl
+any_other (x ∷ s) e = rw e refl

@@ -1,6 +1,6 @@
 //! The places of names that are declared, with all names before them in a list that finds a name at once.
 
-ghost use Rattle.std.specs.Prelude.{◌≡◌, [], ◌∷◌, ◌++◌, IfOk, IfErr};
+ghost use Rattle.std.specs.Prelude.{◌≡◌, [], ◌∷◌, ◌++◌, IfOk};
 ghost use Rattle.grammar_rules.specs.Reading.{read};
 ghost use Rattle.udp_tables.specs.VerilogRules.{new_name};
 ghost use Rattle.rule_readers.specs.Reading.{Reads};
@@ -10,18 +10,6 @@ use bool_functions::Names;
 use rule_readers::{Cursor, Stop};
 use sqlite_items::Items;
 use std::alloc::Global;
-
-/// The list of one name.
-pub fn one_name(alloc: Global, name: &[u8]) -> Result<Names, Stop>
-    ensures named { IfOk result (λ names. names ≡ name.now ∷ []) }
-    ensures memory { IfErr result (λ stop. stop ≡ Stop.Memory) }
-{
-    let mut names = Names::new(alloc);
-    match names.add(name) {
-        Ok(_) => Ok(names),
-        Err(_) => Err(Stop::Memory),
-    }
-}
 
 /// A name that is declared here, and was none of these before; it then is the last of them. Where the reading stops they may
 /// have one name more. It takes the time of one look-up, however many there are.

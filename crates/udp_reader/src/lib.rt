@@ -5,7 +5,9 @@ mod declared;
 mod language;
 mod primitives;
 mod row;
+mod text_names;
 
-pub use declared::{declare, one_name};
+pub use declared::declare;
 pub use language::Verilog;
 pub use primitives::primitive;
+pub use text_names::TextNames;

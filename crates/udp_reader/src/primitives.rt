@@ -7,16 +7,19 @@ ghost use Rattle.rule_readers.specs.declared.refusal.Refusal.TheVariants.{Syntax
 ghost use Rattle.udp_tables.specs.VerilogPrimitives as spec;
 ghost use Rattle.rule_readers.specs.Reading.{Reads, ReadsAs};
 ghost use Rattle.rule_readers.specs.Next.{next_bytes};
-ghost use Rattle.udp_reader.specs.Headers.{header_of};
+ghost use Rattle.udp_tables.specs.VerilogRules.{any_name};
+ghost use Rattle.udp_reader.specs.Headers.{header_of, inputs_of};
 
-use crate::declared::{declare, one_name};
+use crate::declared::declare;
 use crate::language::Verilog;
 use crate::row::{begins_entry, row};
+use crate::text_names::TextNames;
 use bool_functions::Names;
 use rule_readers::{Cursor, Refusal, Stop};
 use sqlite_items::Items;
 use std::alloc::Global;
 use udp_tables::{Udp, UdpRow};
+use verilog_tokens::is_name;
 
 /// How many inputs a primitive may have.
 const MOST_INPUTS: usize = 10;
@@ -31,44 +34,77 @@ pub struct Header {
     pub inputs: Items<Items<u8>>,
 }
 
-/// One more input of a header, whose output and inputs have these names.
-#[tactic(auto, unfolding(udp_tables::specs::VerilogPrimitives::next_input))]
-fn next_input(
-    cursor: &mut Cursor<'_, Verilog>,
-    alloc: Global,
-    output: &[u8],
-    names: &mut Names,
-    mut inputs: Items<Items<u8>>,
-) -> Result<Items<Items<u8>>, Stop>
-    requires { names.old ≡ output.now ∷ inputs }
-    ensures reads { Reads (read (spec.next_input output.now inputs) cursor.old) result cursor.new }
-    ensures named { IfOk result (λ more. names.new ≡ output.now ∷ more) }
-{
-    let input = declare(cursor, alloc, names)?;
-    inputs.push(input)?;
-    Ok(inputs)
+/// The inputs of a header so far, with the names of its output and of these.
+#[derive(Drop)]
+pub struct HeaderInputs<'a> {
+    pub inputs: Items<Items<u8>>,
+    pub names: TextNames<'a>,
 }
 
-/// The inputs of a header behind these, where its output and these have these names.
-#[tactic(auto, unfolding(udp_tables::specs::VerilogPrimitives::more_inputs), using(rule_readers::proofs::Repeats::turn, crate::proofs::Words::choose_begun, crate::proofs::Words::choose_other))]
-fn more_inputs(
-    cursor: &mut Cursor<'_, Verilog>,
+/// The name of the output, as the only one of a header.
+#[tactic(auto, using(crate::proofs::NewNames::any_fits, crate::proofs::NewNames::any_other))]
+fn first_name<'a>(
+    cursor: &mut Cursor<'a, Verilog>,
+    alloc: Global,
+) -> Result<(Items<u8>, TextNames<'a>), Stop>
+    ensures reads { ReadsAs (λ first. first.0) (read any_name cursor.old) result cursor.new }
+    ensures named { IfOk result (λ first. first.1 ≡ first.0 ∷ []) }
+{
+    let token = cursor.bytes();
+    if !is_name(token) {
+        return Err(Stop::Refused(Refusal::Syntax));
+    }
+    let name = Items::from_slice(alloc, token)?;
+    let names = TextNames::new(alloc).with(token)?;
+    cursor.skip();
+    Ok((name, names))
+}
+
+/// One more input of a header with this output.
+#[tactic(auto, unfolding(udp_tables::specs::VerilogPrimitives::next_input), using(crate::proofs::NewNames::new_fits, crate::proofs::NewNames::new_taken, crate::proofs::NewNames::new_other))]
+fn next_input<'a>(
+    cursor: &mut Cursor<'a, Verilog>,
     alloc: Global,
     output: &[u8],
-    mut names: Names,
-    mut inputs: Items<Items<u8>>,
-) -> Result<Items<Items<u8>>, Stop>
-    requires { names ≡ output.now ∷ inputs }
-    ensures { Reads (read (spec.more_inputs output.now inputs) cursor.old) result cursor.new }
+    before: HeaderInputs<'a>,
+) -> Result<HeaderInputs<'a>, Stop>
+    requires { before.names ≡ output.now ∷ before.inputs }
+    ensures reads { ReadsAs inputs_of (read (spec.next_input output.now before.entry.inputs) cursor.old) result cursor.new }
+    ensures named { IfOk result (λ more. more.names ≡ output.now ∷ more.inputs) }
+{
+    let HeaderInputs { mut inputs, names } = before;
+    let token = cursor.bytes();
+    if !is_name(token) {
+        return Err(Stop::Refused(Refusal::Syntax));
+    }
+    if names.has(token) {
+        return Err(Stop::Refused(Refusal::Twice));
+    }
+    inputs.push(Items::from_slice(alloc, token)?)?;
+    let names = names.with(token)?;
+    cursor.skip();
+    Ok(HeaderInputs { inputs, names })
+}
+
+/// The inputs of a header with this output behind these.
+#[tactic(auto, unfolding(udp_tables::specs::VerilogPrimitives::more_inputs), using(rule_readers::proofs::Repeats::turn, crate::proofs::Words::choose_begun, crate::proofs::Words::choose_other))]
+fn more_inputs<'a>(
+    cursor: &mut Cursor<'a, Verilog>,
+    alloc: Global,
+    output: &[u8],
+    mut found: HeaderInputs<'a>,
+) -> Result<HeaderInputs<'a>, Stop>
+    requires { found.names ≡ output.now ∷ found.inputs }
+    ensures { ReadsAs inputs_of (read (spec.more_inputs output.now found.entry.inputs) cursor.old) result cursor.new }
 {
     for _turn in 0..cursor.left() {
         if !cursor.is_next(b",") {
             break;
         }
         cursor.skip();
-        inputs = next_input(cursor, alloc, output, &mut names, inputs)?;
+        found = next_input(cursor, alloc, output, found)?;
     }
-    Ok(inputs)
+    Ok(found)
 }
 
 /// The header of a primitive, behind its name.
@@ -77,17 +113,14 @@ fn primitive_header(cursor: &mut Cursor<'_, Verilog>, alloc: Global) -> Result<H
     ensures { ReadsAs header_of (read spec.header cursor.old) result cursor.new }
 {
     cursor.expect(b"(")?;
-    let output = cursor.any_name(alloc)?;
+    let (output, names) = first_name(cursor, alloc)?;
     cursor.expect(b",")?;
-    let mut names = one_name(alloc, output.as_slice())?;
-    let first = next_input(
-        cursor,
-        alloc,
-        output.as_slice(),
-        &mut names,
-        Items::new(alloc),
-    )?;
-    let inputs = more_inputs(cursor, alloc, output.as_slice(), names, first)?;
+    let none = HeaderInputs {
+        inputs: Items::new(alloc),
+        names,
+    };
+    let first = next_input(cursor, alloc, output.as_slice(), none)?;
+    let HeaderInputs { inputs, .. } = more_inputs(cursor, alloc, output.as_slice(), first)?;
     cursor.expect_where(inputs.len() <= MOST_INPUTS, Refusal::Width, b")")?;
     cursor.expect(b";")?;
     Ok(Header { output, inputs })

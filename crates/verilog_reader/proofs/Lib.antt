@@ -8,3 +8,4 @@ pub mod Spelled
 pub mod TextLemmas
 pub mod WellRead
 pub mod SameNames
+pub mod NoWires

@@ -5,16 +5,15 @@ ghost use Rattle.grammar_rules.specs.Reading.{read};
 ghost use Rattle.udp_tables.specs.VerilogRules.{known};
 ghost use Rattle.specify_blocks.specs.VerilogModules as spec;
 ghost use Rattle.rule_readers.specs.Reading.{Reads, ReadsAs};
-ghost use Rattle.verilog_reader.specs.Headers.{inputs_of};
+ghost use Rattle.verilog_reader.specs.Headers.{inputs_of, ports_of};
 
 use crate::ports::{output_place, port_place};
 use crate::wires::{module_notifier, module_wires};
-use bool_functions::Names;
 use rule_readers::{Cursor, Refusal, Stop};
 use specify_blocks::VModule;
 use sqlite_items::Items;
 use std::alloc::Global;
-use udp_reader::{Verilog, declare, one_name};
+use udp_reader::{TextNames, Verilog};
 use udp_tables::{Udp, VPort};
 use verilog_tokens::is_name;
 
@@ -25,41 +24,57 @@ pub struct Inputs {
     pub behind: usize,
 }
 
-/// One more port of a header, whose ports so far have these names.
-#[tactic(auto, unfolding(specify_blocks::specs::VerilogModules::next_port))]
-fn next_port(
-    cursor: &mut Cursor<'_, Verilog>,
-    alloc: Global,
-    names: &mut Names,
-    mut ports: Items<VPort>,
-) -> Result<Items<VPort>, Stop>
-    requires { names.old ≡ spec.port_names ports }
-    ensures reads { Reads (read (spec.next_port ports) cursor.old) result cursor.new }
-    ensures named { IfOk result (λ more. names.new ≡ spec.port_names more) }
-{
-    let name = declare(cursor, alloc, names)?;
-    ports.push(VPort { name, input: false })?;
-    Ok(ports)
+/// The ports of a header so far, with their names.
+#[derive(Drop)]
+pub struct HeaderPorts<'a> {
+    pub ports: Items<VPort>,
+    pub names: TextNames<'a>,
 }
 
-/// The ports of a header behind these, which have these names.
-#[tactic(auto, unfolding(specify_blocks::specs::VerilogModules::more_ports), using(rule_readers::proofs::Repeats::turn, udp_reader::proofs::Words::choose_begun, udp_reader::proofs::Words::choose_other))]
-fn more_ports(
-    cursor: &mut Cursor<'_, Verilog>,
+/// One more port of a header.
+#[tactic(auto, unfolding(specify_blocks::specs::VerilogModules::next_port), using(udp_reader::proofs::NewNames::new_fits, udp_reader::proofs::NewNames::new_taken, udp_reader::proofs::NewNames::new_other))]
+fn next_port<'a>(
+    cursor: &mut Cursor<'a, Verilog>,
     alloc: Global,
-    mut names: Names,
-    mut ports: Items<VPort>,
+    before: HeaderPorts<'a>,
+) -> Result<HeaderPorts<'a>, Stop>
+    requires { before.names ≡ spec.port_names before.ports }
+    ensures reads { ReadsAs ports_of (read (spec.next_port before.entry.ports) cursor.old) result cursor.new }
+    ensures named { IfOk result (λ more. more.names ≡ spec.port_names more.ports) }
+{
+    let HeaderPorts { mut ports, names } = before;
+    let token = cursor.bytes();
+    if !is_name(token) {
+        return Err(Stop::Refused(Refusal::Syntax));
+    }
+    if names.has(token) {
+        return Err(Stop::Refused(Refusal::Twice));
+    }
+    let name = Items::from_slice(alloc, token)?;
+    ports.push(VPort { name, input: false })?;
+    let names = names.with(token)?;
+    cursor.skip();
+    Ok(HeaderPorts { ports, names })
+}
+
+/// The ports of a header behind these.
+#[tactic(auto, unfolding(specify_blocks::specs::VerilogModules::more_ports), using(rule_readers::proofs::Repeats::turn, udp_reader::proofs::Words::choose_begun, udp_reader::proofs::Words::choose_other))]
+fn more_ports<'a>(
+    cursor: &mut Cursor<'a, Verilog>,
+    alloc: Global,
+    mut found: HeaderPorts<'a>,
 ) -> Result<Items<VPort>, Stop>
-    requires { names ≡ spec.port_names ports }
-    ensures { Reads (read (spec.more_ports ports) cursor.old) result cursor.new }
+    requires { found.names ≡ spec.port_names found.ports }
+    ensures { Reads (read (spec.more_ports found.entry.ports) cursor.old) result cursor.new }
 {
     for _turn in 0..cursor.left() {
         if !cursor.is_next(b",") {
             break;
         }
         cursor.skip();
-        ports = next_port(cursor, alloc, &mut names, ports)?;
+        found = next_port(cursor, alloc, found)?;
     }
+    let HeaderPorts { ports, .. } = found;
     Ok(ports)
 }
 
@@ -69,16 +84,17 @@ fn some_ports(cursor: &mut Cursor<'_, Verilog>, alloc: Global) -> Result<Items<V
     ensures { Reads (read spec.some_ports cursor.old) result cursor.new }
 {
     let mut ports = Items::new(alloc);
-    if !is_name(cursor.bytes()) {
+    let token = cursor.bytes();
+    if !is_name(token) {
         return Ok(ports);
     }
     ports.push(VPort {
-        name: Items::from_slice(alloc, cursor.bytes())?,
+        name: Items::from_slice(alloc, token)?,
         input: false,
     })?;
-    let names = one_name(alloc, cursor.bytes())?;
+    let names = TextNames::new(alloc).with(token)?;
     cursor.skip();
-    more_ports(cursor, alloc, names, ports)
+    more_ports(cursor, alloc, HeaderPorts { ports, names })
 }
 
 /// The header of a module, behind its name.

@@ -79,9 +79,9 @@ fn module_wire(
     Ok(wires)
 }
 
-/// All declared wires.
+/// The declared wires, of which there are some as a rule.
 #[tactic(auto, unfolding(specify_blocks::specs::VerilogModules::declared_wires), using(rule_readers::proofs::Repeats::turn, udp_reader::proofs::Words::choose_begun, udp_reader::proofs::Words::choose_other))]
-pub fn module_wires(
+fn some_wires(
     cursor: &mut Cursor<'_, Verilog>,
     alloc: Global,
     ports: &[VPort],
@@ -98,6 +98,21 @@ pub fn module_wires(
         wires = module_wire(cursor, alloc, ports, &mut names, wires)?;
     }
     Ok(wires)
+}
+
+/// All declared wires. Where none is next, the names of the ports are not looked at.
+#[tactic(auto, using(crate::proofs::NoWires::no_wires))]
+pub fn module_wires(
+    cursor: &mut Cursor<'_, Verilog>,
+    alloc: Global,
+    ports: &[VPort],
+) -> Result<Items<Items<u8>>, Stop>
+    ensures { Reads (read (spec.declared_wires ports.now) cursor.old) result cursor.new }
+{
+    if !cursor.is_next(b"wire") {
+        return Ok(Items::new(alloc));
+    }
+    some_wires(cursor, alloc, ports)
 }
 
 /// The name of the register, behind its word.

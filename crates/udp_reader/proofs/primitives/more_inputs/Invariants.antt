@@ -6,7 +6,7 @@ use Rattle.udp_reader.proofs.primitives.more_inputs.Given as goal
 
 abbrev pub invariant-loop-turn : goal.invariant-loop-turn
 invariant-loop-turn l = record {
-  reads : repeat (λ _. begins (codes ",")) (λ found a r. read (next_input l.output found) r) (l._turn-end - l._turn) l.inputs l.cursor
-      ≡ read (more_inputs l.output l.initial.inputs) l.initial.cursor;
-  named : l.names ≡ l.output ∷ l.inputs;
+  reads : repeat (λ _. begins (codes ",")) (λ found a r. read (next_input l.output found) r) (l._turn-end - l._turn) l.found.inputs l.cursor
+      ≡ read (more_inputs l.output l.initial.found.inputs) l.initial.cursor;
+  named : l.found.names ≡ l.output ∷ l.found.inputs;
 }

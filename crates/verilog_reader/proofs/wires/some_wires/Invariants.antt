@@ -3,7 +3,7 @@ use Rattle.grammar_rules.specs.Reading.{repeat, read}
 use Rattle.udp_tables.specs.VerilogRules.{begins}
 use Rattle.specify_blocks.specs.VerilogModules.{declared_wire, port_names}
 use Rattle.verilog_reader.specs.SameNames.{HaveSame}
-use Rattle.verilog_reader.proofs.wires.module_wires.Given as goal
+use Rattle.verilog_reader.proofs.wires.some_wires.Given as goal
 
 abbrev pub invariant-loop-turn : goal.invariant-loop-turn
 invariant-loop-turn l = record {

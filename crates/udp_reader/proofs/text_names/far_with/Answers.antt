@@ -1,0 +1,14 @@
+use Rattle.std.proofs.Common.{◌≡◌, ◌≤◌, false, ◌++◌, ◌∷◌, [], length, ap, ◌∙◌, bytes_eq, arith}
+use Rattle.std.specs.List.{list_any}
+use Rattle.std.proofs.lemmas.Bool.Decides.{nat_tests}
+use Rattle.udp_reader.proofs.NearNames.{added, none_behind, drop_far}
+use Rattle.udp_reader.proofs.text_names.far_with.Goals as goal
+
+pub returns-in-Ok-clause-more : goal.returns-in-Ok-clause-more
+returns-in-Ok-clause-more c =
+    let fresh : list_any (bytes_eq c.args.name.now) c.args.far ≡ false =
+    ap (list_any (bytes_eq c.args.name.now)) c.requires.kept ∙ none_behind (bytes_eq c.args.name.now) 16 _ c.requires.fresh in
+    let many : 16 ≤ length c.args.names.now = grind (arith, nat_tests, c.if-names-lt-NEAR.false) in
+    added c.args.far c.args.name.now c.in-Ok.field-0 c.add.new.self c.in-Ok.ensures.added fresh
+    ∙ ap (λ names. names ++ c.args.name.now ∷ []) c.requires.kept
+    ∙ drop_far (λ other. other.now) 16 c.args.names.now c.args.name.now many

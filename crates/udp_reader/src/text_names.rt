@@ -1,0 +1,116 @@
+//! Names that are declared, as they stand in a text.
+
+ghost use Rattle.std.specs.Prelude.{◌≡◌, [], ◌∷◌, ◌++◌, false, map, take, drop, IfOk, IfErr};
+ghost use Rattle.std.specs.List.{list_any};
+ghost use Rattle.std.specs.Str.{bytes_eq};
+
+use bool_functions::Names;
+use rule_readers::Stop;
+use std::alloc::Global;
+use std::marker::Model;
+
+/// How many names of a list are compared one by one.
+const NEAR: usize = 16;
+
+/// Names that are declared, as they stand in a text, in order. Contracts see the list of them. The first of them are compared one by
+/// one, which takes no memory; those behind them stand in a list that finds a name at once too.
+#[derive(Drop)]
+pub struct TextNames<'a> {
+    names: Vec<&'a [u8]>,
+    far: Names,
+}
+
+impl<'a> Model for TextNames<'a> {
+    ghost use Rattle.std.specs.Prelude.{◌≡◌, ℕ, List, map, drop};
+
+    ghost Value = { List (List ℕ) };
+
+    ghost view = { λ t. map (λ name. name.now) t.names.items };
+
+    ghost invariant = { λ t. t.far ≡ drop 16 (map (λ name. name.now) t.names.items) };
+}
+
+/// Whether a name is one of these.
+fn is_one(names: &[&[u8]], name: &[u8]) -> bool
+    ensures { result ≡ list_any (bytes_eq name.now) (map (λ other. other.now) names.now) }
+{
+    for other in names {
+        if name == *other {
+            return true;
+        }
+    }
+    false
+}
+
+/// The first names of a list, which are compared one by one.
+#[tactic(auto, using(crate::proofs::NearNames::take_all))]
+fn near<'a, 'b>(names: &'b [&'a [u8]]) -> &'b [&'a [u8]]
+    ensures { result.now ≡ take 16 names.now }
+{
+    if names.len() <= NEAR {
+        names
+    } else {
+        &names[..NEAR]
+    }
+}
+
+/// Whether a name is in a list that finds it at once.
+#[tactic(auto, using(crate::proofs::NearNames::numbered))]
+fn is_found(names: &Names, name: &[u8]) -> bool
+    ensures { result ≡ list_any (bytes_eq name.now) names.now }
+{
+    names.number(name).is_some()
+}
+
+/// The list beside declared names, where one more is declared behind them, which is none of them.
+#[tactic(auto, using(crate::proofs::NearNames::none_behind, crate::proofs::NearNames::drop_near, crate::proofs::NearNames::drop_far, crate::proofs::NearNames::added))]
+fn far_with(mut far: Names, names: &[&[u8]], name: &[u8]) -> Result<Names, Stop>
+    requires kept { far ≡ drop 16 (map (λ other. other.now) names.now) }
+    requires fresh { list_any (bytes_eq name.now) (map (λ other. other.now) names.now) ≡ false }
+    ensures more { IfOk result (λ more. more ≡ drop 16 (map (λ other. other.now) names.now ++ name.now ∷ [])) }
+    ensures memory { IfErr result (λ stop. stop ≡ Stop.Memory) }
+{
+    if names.len() < NEAR {
+        return Ok(far);
+    }
+    match far.add(name) {
+        Ok(_) => Ok(far),
+        Err(_) => Err(Stop::Memory),
+    }
+}
+
+impl<'a> TextNames<'a> {
+    ghost use Rattle.std.specs.Prelude.{◌≡◌, [], ◌∷◌, ◌++◌, false, IfOk, IfErr};
+    ghost use Rattle.udp_tables.specs.VerilogRules.{is_among};
+
+    /// No names. Takes no memory.
+    pub fn new(alloc: Global) -> TextNames<'a>
+        ensures { result ≡ [] }
+    {
+        TextNames {
+            names: Vec::new(alloc),
+            far: Names::new(alloc),
+        }
+    }
+
+    /// Whether a name is one of these, in the time of one look-up.
+    #[tactic(auto, using(crate::proofs::NearNames::shown_parted))]
+    pub fn has(&self, name: &[u8]) -> bool
+        ensures { result ≡ is_among self.now name.now }
+    {
+        is_one(near(self.names.as_slice()), name) || is_found(&self.far, name)
+    }
+
+    /// These names, and one more behind them, which is none of them.
+    #[tactic(auto, using(crate::proofs::NearNames::shown_push))]
+    pub fn with(self, name: &'a [u8]) -> Result<TextNames<'a>, Stop>
+        requires { is_among self name.now ≡ false }
+        ensures added { IfOk result (λ more. more ≡ self.entry ++ name.now ∷ []) }
+        ensures memory { IfErr result (λ stop. stop ≡ Stop.Memory) }
+    {
+        let TextNames { mut names, far } = self;
+        let far = far_with(far, names.as_slice(), name)?;
+        names.push(name)?;
+        Ok(TextNames { names, far })
+    }
+}

@@ -36,6 +36,23 @@ pub enum VNet {
     Notifier,
 }
 
+impl VNet {
+    ghost use Rattle.std.specs.Prelude.{◌≡◌};
+    ghost use Rattle.specify_blocks.specs.Nets.{same_net};
+
+    /// Whether these are one net.
+    pub fn is_same(self, other: VNet) -> bool
+        ensures { result ≡ same_net self other }
+    {
+        match (self, other) {
+            (VNet::Port(port), VNet::Port(other)) => port == other,
+            (VNet::Wire(wire), VNet::Wire(other)) => wire == other,
+            (VNet::Notifier, VNet::Notifier) => true,
+            _ => false,
+        }
+    }
+}
+
 /// An instance: what drives one net.
 #[derive(Debug, Drop)]
 pub enum Instance {
@@ -55,6 +72,21 @@ pub enum Instance {
         /// Whether the constant is 1.
         one: bool,
     },
+}
+
+impl Instance {
+    ghost use Rattle.std.specs.Prelude.{◌≡◌};
+    ghost use Rattle.specify_blocks.specs.Nets.{net_driven};
+
+    /// The net that it drives.
+    pub fn net_driven(&self) -> VNet
+        ensures { result ≡ net_driven self.now }
+    {
+        match self {
+            Instance::Primitive { output, .. } => *output,
+            Instance::Constant { output, .. } => *output,
+        }
+    }
 }
 
 /// When a path counts. (IEEE 1364-2005, 14.2.4, state-dependent paths.)

@@ -1,7 +1,7 @@
 //! Whether the timing checks of a module report, by the times that they keep.
 ghost use Rattle.std.specs.Prelude.{◌≡◌, ◌<◌, length, IsTrue, replicate, false};
 ghost use Rattle.cell_machine.specs.Each.{each};
-ghost use Rattle.cell_machine.specs.Report.{is_period, happens};
+ghost use Rattle.cell_machine.specs.Report.{happens};
 ghost use Rattle.table_interpreters.specs.Wiring.{is_wired};
 ghost use Rattle.model_traces.specs.PortNumbers.{input_event};
 ghost use Rattle.model_traces.specs.CheckTimes.{stamped, opened, is_enabled, check_reports};
@@ -9,26 +9,12 @@ ghost use Rattle.model_traces.specs.CheckTimes.{stamped, opened, is_enabled, che
 use crate::module_values::ModuleValues;
 use crate::net_values::net_value;
 use crate::ports::input_number;
-use cell_machine::{Change, CheckKind, Edge, Event, is_rise, is_within, moves, renewed};
+use cell_machine::{Change, Edge, Event, is_rise, is_within, moves, renewed};
 use model_traces::Stamps;
 use specify_blocks::{VCheck, VModule, VNet};
 use sqlite_items::Items;
 use trit_cubes::Trit;
 use udp_tables::VPort;
-
-/// Whether a check of this kind measures from an event of the change's own kind.
-fn is_period(kind: CheckKind) -> bool
-    ensures { result ≡ is_period kind }
-{
-    match kind {
-        CheckKind::Setup => false,
-        CheckKind::Hold => false,
-        CheckKind::Recovery => false,
-        CheckKind::Removal => false,
-        CheckKind::Width => false,
-        CheckKind::Period => true,
-    }
-}
 
 /// Whether a change of an input that had the value `from` is this event of a port.
 pub(crate) fn happens(ports: &[VPort], event: Event, from: Trit, change: Change) -> bool
@@ -67,7 +53,7 @@ pub(crate) fn stamped(
 pub(crate) fn opened(check: &VCheck, from: Trit, change: Change, stamps: Stamps) -> Option<u64>
     ensures { result ≡ opened check.now from change stamps }
 {
-    if is_period(check.kind) {
+    if check.kind.is_period() {
         if is_rise(from, change.to) {
             stamps.rise
         } else {

@@ -3,7 +3,6 @@
 ghost use Rattle.std.specs.Prelude.{◌≡◌, ◌≤◌, ◌<◌, length, map, take, false, IsTrue, slice_index_or};
 ghost use Rattle.trit_cubes.specs.declared.trits.Trit.TheVariants.{Unknown};
 ghost use Rattle.trit_cubes.specs.Filling.{trit_of};
-ghost use Rattle.specify_blocks.specs.Nets.{same_net, net_driven};
 ghost use Rattle.udp_tables.specs.Primitive.{IsCombinational};
 ghost use Rattle.table_interpreters.specs.Wiring.{is_table, is_joined, is_wired};
 ghost use Rattle.model_traces.specs.NetValues.{driver, kept_state, source_value, table_value, primitive_value, instance_value, net_value};
@@ -16,46 +15,13 @@ use sqlite_items::Items;
 use trit_cubes::Trit;
 use udp_tables::{Udp, udp_level};
 
-/// Whether these are the same net.
-fn same_net(net: VNet, other: VNet) -> bool
-    ensures { result ≡ same_net net other }
-{
-    match net {
-        VNet::Port(port) => match other {
-            VNet::Port(number) => port == number,
-            VNet::Wire(_) => false,
-            VNet::Notifier => false,
-        },
-        VNet::Wire(wire) => match other {
-            VNet::Port(_) => false,
-            VNet::Wire(number) => wire == number,
-            VNet::Notifier => false,
-        },
-        VNet::Notifier => match other {
-            VNet::Port(_) => false,
-            VNet::Wire(_) => false,
-            VNet::Notifier => true,
-        },
-    }
-}
-
-/// The net that an instance drives.
-fn net_driven(instance: &Instance) -> VNet
-    ensures { result ≡ net_driven instance.now }
-{
-    match instance {
-        Instance::Primitive { output, .. } => *output,
-        Instance::Constant { output, .. } => *output,
-    }
-}
-
 /// The place of the instance that drives a net, where there is one.
 fn driver(instances: &[Instance], net: VNet) -> Option<usize>
     ensures { result ≡ driver instances.now net }
 {
     instances
         .iter()
-        .position(|instance| same_net(net_driven(instance), net))
+        .position(|instance| instance.net_driven().is_same(net))
 }
 
 /// The state of the instance at this place, unknown where there is none.

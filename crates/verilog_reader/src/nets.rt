@@ -89,35 +89,13 @@ pub fn has_state(udps: &[Udp], instance: &Instance) -> bool
     }
 }
 
-/// The net that an instance drives.
-pub fn net_driven(instance: &Instance) -> VNet
-    ensures { result ≡ spec.net_driven instance.now }
-{
-    match instance {
-        Instance::Primitive { output, .. } => *output,
-        Instance::Constant { output, .. } => *output,
-    }
-}
-
-/// Whether these are one net.
-pub fn same_net(net: VNet, other: VNet) -> bool
-    ensures { result ≡ spec.same_net net other }
-{
-    match (net, other) {
-        (VNet::Port(port), VNet::Port(other)) => port == other,
-        (VNet::Wire(wire), VNet::Wire(other)) => wire == other,
-        (VNet::Notifier, VNet::Notifier) => true,
-        _ => false,
-    }
-}
-
 /// Whether an instance without a state drives this wire.
 pub fn is_value(model: &VModule, wire: usize) -> bool
     ensures { result ≡ spec.is_value model.now model.now.instances wire }
 {
     for instance in model.instances.as_slice() {
         if !has_state(model.udps.as_slice(), instance)
-            && same_net(net_driven(instance), VNet::Wire(wire))
+            && instance.net_driven().is_same(VNet::Wire(wire))
         {
             return true;
         }

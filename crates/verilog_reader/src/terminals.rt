@@ -5,9 +5,7 @@ ghost use Rattle.std.specs.List.{list_any, list_all};
 ghost use Rattle.specify_blocks.specs.Nets as nets;
 ghost use Rattle.specify_blocks.specs.VerilogModules as spec;
 
-use crate::nets::{
-    has_state, is_input_port, is_output_port, net_driven, port_of, same_net, wire_of,
-};
+use crate::nets::{has_state, is_input_port, is_output_port, port_of, wire_of};
 use specify_blocks::{VModule, VNet};
 use udp_tables::Udp;
 
@@ -43,7 +41,7 @@ pub fn is_driven_already(model: &VModule, net: VNet) -> bool
     ensures { result ≡ spec.is_driven_already model.now net }
 {
     for instance in model.instances.as_slice() {
-        if same_net(net_driven(instance), net) {
+        if instance.net_driven().is_same(net) {
             return true;
         }
     }
@@ -56,7 +54,7 @@ fn is_state(model: &VModule, wire: usize) -> bool
 {
     for instance in model.instances.as_slice() {
         if has_state(model.udps.as_slice(), instance)
-            && same_net(net_driven(instance), VNet::Wire(wire))
+            && instance.net_driven().is_same(VNet::Wire(wire))
         {
             return true;
         }
@@ -80,7 +78,7 @@ fn is_one_of(others: &[VNet], net: VNet) -> bool
     ensures { result ≡ list_any (nets.same_net net) others.now }
 {
     for other in others {
-        if same_net(net, *other) {
+        if net.is_same(*other) {
             return true;
         }
     }
@@ -91,7 +89,7 @@ fn is_one_of(others: &[VNet], net: VNet) -> bool
 pub fn is_terminal(output: VNet, inputs: &[VNet], net: VNet) -> bool
     ensures { result ≡ list_any (nets.same_net net) (output ∷ inputs.now) }
 {
-    same_net(net, output) || is_one_of(inputs, net)
+    net.is_same(output) || is_one_of(inputs, net)
 }
 
 /// How many inputs the primitive with this number has.

@@ -1,5 +1,5 @@
 -- The laws of accepted cells.
-use Rattle.std.proofs.Common.{◌≡◌, ℕ, ◌≤◌, List, None, [], ◌∷◌, length, map, flat_map, arith, refl, IsTrue, Bool, true, false}
+use Rattle.std.proofs.Common.{◌≡◌, ℕ, ◌≤◌, List, None, [], ◌∷◌, length, map, flat_map, arith, refl, ap, ◌∙◌, IsTrue, Bool, true, false}
 use Rattle.std.specs.Prelude.{if◌then◌else◌}
 use Rattle.liberty_groups.specs.declared.tree.Group.{Group}
 use Rattle.cell_machine.specs.CellRules.{is_name}
@@ -13,15 +13,19 @@ use Rattle.cell_parts.specs.StateReadings.{state_reading}
 use Rattle.cell_parts.specs.Texts.{malformed_at, unknown_at}
 use Rattle.cell_parts.specs.TextFaults.{malformed_in, unknown_in}
 use Rattle.cell_parts.specs.CellLaws.{readings_of, texts_of, numbers_of, groups_of, outputs_of, CellMeetsNone}
-use Rattle.cell_parts.specs.Limits.{first_past, place_of_group, state_at, wide_support_in, wide_output}
-use Rattle.cell_reader.specs.PinTimings.{check_at_in, arc_at_in, wide_in}
+use Rattle.cell_parts.specs.Limits.{first_past, place_of_group, state_at, wide_output}
+use Rattle.cell_reader.specs.Written.{wide_support_of}
+use Rattle.timing_arcs.specs.Timing.{least, check_at_of}
+use Rattle.cell_reader.specs.PinTimings.{arc_at_of, check_at_in, arc_at_in, wide_in}
 use Rattle.cell_reader.specs.CellTexts.{subject_of}
-use Rattle.cell_reader.specs.Refusals.{reasons_of, refusal_of, timing_answers, checks_of, arcs_of}
+use Rattle.cell_reader.specs.Refusals.{reasons_of, refusal_of, timing_answers, timing_places, checks_of, arcs_of}
 use Rattle.cell_reader.specs.Laws.{AcceptedMeetsNone, AcceptedPinsAreSound, AcceptedStatesAreFew, AcceptedCellsAreSound}
 use Rattle.cell_parts.proofs.Distinct.{nil_parts}
 use Rattle.cell_parts.proofs.PinRules.{within_limit, pins_are_sound}
 use Rattle.cell_parts.proofs.GroupCount.{group_count}
-use Rattle.cell_reader.proofs.Refused.{all_unmet}
+use Rattle.cell_reader.proofs.Refused.{all_unmet, least_none}
+use Rattle.cell_reader.proofs.AllPlaces.{check_at_all, arc_at_all, wide_all}
+use Rattle.cell_reader.proofs.Decides.{all_read, coupled_told_is, supports_told_are, wide_supports_told_are}
 use Rattle.cell_reader.proofs.TimingRules.{checks_rules, arcs_rules, arcs_apart}
 use Rattle.cell_parts.proofs.CellGroups.{groups_keep_rules}
 use Rattle.cell_parts.proofs.CellOutputs.{outputs_keep_rules}
@@ -71,22 +75,22 @@ accepted_meets_none_here pins earlier cell h =
     let names = nil_parts (bad_names cell) _ m12.0 in
     let counts = nil_parts (first_past 64 (map place_of_group (owners_of cell))) _ names.1 in
     let states = nil_parts (first_past 16 (flat_map state_at (state_groups cell))) _ counts.1 in
-    let checks = nil_parts (first_past 256 (flat_map check_at_in (timing_answers pins cell))) _ states.1 in
-    let arcs = nil_parts (first_past 1024 (flat_map arc_at_in (timing_answers pins cell))) _ checks.1 in
-    let wide = nil_parts (flat_map wide_support_in (readings_of cell)) _ m12.1.0 in
+    let checks = nil_parts (first_past 256 (timing_places check_at_of pins cell)) _ states.1 in
+    let arcs = nil_parts (first_past 1024 (timing_places arc_at_of pins cell)) _ checks.1 in
+    let wide = nil_parts (flat_map (wide_support_of (vocabulary cell) (length (pins_of cell))) (state_groups cell)) _ m12.1.0 in
     let wide_texts =
     nil_parts (flat_map (wide_output (vocabulary cell) (length (pins_of cell)) (groups_of cell) (numbers_of cell)) (owners_of cell)) _ wide.1 in
     record {
       none_twice = twice.1;
       states_read = bad_states.0;
       states_known = lost_states.0;
-      states_apart = m6.1.1.0;
+      states_apart = coupled_told_is pins cell m6.1.0 ∙ m6.1.1.0;
       texts_read = bad_texts.0;
       texts_known = lost_texts.0;
       driven = m6.1.1.1.0;
       few_states = states.0;
-      some_support = arcs.1;
-      narrow_support = wide.0;
+      some_support = supports_told_are pins cell m6.1.0 m6.1.1.0 ∙ arcs.1;
+      narrow_support = wide_supports_told_are pins cell m6.1.0 m6.1.1.0 ∙ wide.0;
       narrow_outputs = wide_texts.0;
     }
 
@@ -99,16 +103,21 @@ pub timing_limits :
     × (flat_map wide_in (timing_answers pins cell) ≡ [])
 timing_limits pins earlier cell h =
     let m = accepted_meets_none pins earlier cell h in
-    let m12 = m.1.1.1.1.1.1.1.1.1.1.1.1 in
+    let m6 = m.1.1.1.1.1.1 in
+    let m12 = m6.1.1.1.1.1.1 in
+    let read = all_read pins cell m6.0 m6.1.0 m6.1.1.1.1.0 m6.1.1.1.1.1.0 in
     let names = nil_parts (bad_names cell) _ m12.0 in
     let counts = nil_parts (first_past 64 (map place_of_group (owners_of cell))) _ names.1 in
     let states = nil_parts (first_past 16 (flat_map state_at (state_groups cell))) _ counts.1 in
-    let checks = nil_parts (first_past 256 (flat_map check_at_in (timing_answers pins cell))) _ states.1 in
-    let arcs = nil_parts (first_past 1024 (flat_map arc_at_in (timing_answers pins cell))) _ checks.1 in
-    let wide = nil_parts (flat_map wide_support_in (readings_of cell)) _ m12.1.0 in
+    let checks = nil_parts (first_past 256 (timing_places check_at_of pins cell)) _ states.1 in
+    let arcs = nil_parts (first_past 1024 (timing_places arc_at_of pins cell)) _ checks.1 in
+    let wide = nil_parts (flat_map (wide_support_of (vocabulary cell) (length (pins_of cell))) (state_groups cell)) _ m12.1.0 in
     let wide_texts =
-    nil_parts (flat_map (wide_output (vocabulary cell) (length (pins_of cell)) (groups_of cell) (numbers_of cell)) (owners_of cell)) _ wide.1 in
-    (checks.0, arcs.0, wide_texts.1)
+    nil_parts (flat_map (wide_output (vocabulary cell) (length (pins_of cell)) (groups_of cell) (numbers_of cell)) (owners_of cell)) _ wide.1 in (
+      ap (first_past 256) (check_at_all pins (owners_of cell) read) ∙ checks.0,
+      ap (first_past 1024) (arc_at_all pins (owners_of cell) read) ∙ arcs.0,
+      least_none (flat_map wide_in (timing_answers pins cell)) (wide_all pins (owners_of cell) read ∙ ap least wide_texts.1),
+    )
 
 pub accepted_cells_are_sound : AcceptedCellsAreSound
 accepted_cells_are_sound unit earlier cell h =

@@ -1,6 +1,9 @@
 pub mod Refused
 pub mod Accepted
 pub mod Chains
+pub mod AsWritten
+pub mod AllPlaces
+pub mod Decides
 pub mod TimingRules
 pub mod Held
 pub mod HeldSteps

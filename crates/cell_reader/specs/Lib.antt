@@ -1,6 +1,8 @@
 pub mod PinTimings
 pub mod Held
+pub mod Written
 pub mod Refusals
+pub mod Told
 pub mod CellTexts
 pub mod Parts
 pub mod ReasonWords

@@ -10,7 +10,8 @@ use Rattle.timing_arcs.specs.declared.fault.TimingFault.TheVariants as fault
 use Rattle.timing_arcs.specs.declared.subject.Subject.{Subject}
 use Rattle.timing_arcs.specs.declared.subject.PinTiming.{PinTiming}
 use Rattle.timing_arcs.specs.Attributes.{Attribute, attribute_of, group_named}
-use Rattle.timing_arcs.specs.Timing.{reading_answer}
+use Rattle.timing_arcs.specs.Timing.{reading_answer, placed_arcs}
+use Rattle.timing_arcs.specs.Merging.{merged_at}
 use Rattle.cell_reader.specs.declared.left_out.LeftOut.{LeftOut}
 
 -- the pin with this number, in the same cell
@@ -26,7 +27,17 @@ abbrev pub answers_from : Subject → ℕ → List Group → List Answer
 answers_from cell pin [] = []
 answers_from cell pin (owner ∷ owners) = reading_answer (subject_at cell pin) owner ∷ answers_from cell (pin + 1) owners
 
--- The offset at which a pin's timing is wrong, by what is wrong first.
+-- All offsets that are told of each pin's timing, one pin after another, whose groups these are, where the first has this
+-- number.
+abbrev pub places_from : (Subject → Group → List ℕ) → Subject → ℕ → List Group → List ℕ
+places_from places cell pin [] = []
+places_from places cell pin (owner ∷ owners) = places (subject_at cell pin) owner ++ places_from places cell (pin + 1) owners
+
+-- For each arc of a pin the offset of the group that first makes it.
+abbrev pub arc_at_of : Subject → Group → List ℕ
+arc_at_of subject pin = merged_at (placed_arcs subject pin)
+
+-- What an answer tells of what is wrong in a pin's timing: the kind that is wrong first, at its least offset.
 abbrev pub malformed_timing : Answer → List ℕ
 malformed_timing (Ok timing) = []
 malformed_timing (Err (fault.Malformed at)) = at ∷ []

@@ -4,7 +4,7 @@ use Rattle.timing_arcs.specs.declared.subject.Subject.{Subject}
 use Rattle.liberty_groups.specs.declared.tree.Group.{Group}
 use Rattle.cell_machine.specs.declared.checks.Check.{Check}
 use Rattle.cell_machine.specs.declared.arcs.Arc.{Arc}
-use Rattle.timing_arcs.specs.Timing.{least}
+use Rattle.timing_arcs.specs.Timing.{least, malformed_at as malformed_timing, unknown_names_at as unknown_timing, numbers_at as number_timing, check_at_of}
 use Rattle.cell_reader.specs.declared.refusal.Reason.{Reason}
 use Rattle.cell_reader.specs.declared.refusal.Reason.TheVariants as reason
 use Rattle.cell_reader.specs.declared.refusal.Refusal.{Refusal}
@@ -15,10 +15,11 @@ use Rattle.cell_parts.specs.Scans.{directions, three_states, banks, left_out_sta
 use Rattle.cell_parts.specs.Declarations.{duplicates, bad_names}
 use Rattle.cell_parts.specs.Vocabulary.{vocabulary}
 use Rattle.cell_parts.specs.Texts.{malformed_at, unknown_at}
-use Rattle.cell_parts.specs.TextFaults.{malformed_in, unknown_in, coupled_in}
-use Rattle.cell_reader.specs.PinTimings.{Answer, answers_from, malformed_timing, unknown_timing, own_timing, number_timing, checks_in, arcs_in, check_at_in, arc_at_in, wide_in, left_out_from}
+use Rattle.cell_parts.specs.TextFaults.{malformed_in, unknown_in}
+use Rattle.cell_reader.specs.PinTimings.{Answer, answers_from, places_from, arc_at_of, checks_in, arcs_in, left_out_from}
 use Rattle.cell_parts.specs.CellLaws.{readings_of, texts_of, numbers_of, groups_of}
-use Rattle.cell_parts.specs.Limits.{first_past, place_of_group, state_at, no_support_in, wide_support_in, wide_output}
+use Rattle.cell_parts.specs.Limits.{first_past, place_of_group, state_at, wide_output}
+use Rattle.cell_reader.specs.Written.{coupled_of, own_conditions_of, wide_conditions_of, no_support_of, wide_support_of}
 
 -- What reading the timing of each pin answers, where `pins` are the cell's pins with the time unit of the library.
 abbrev pub timing_answers : Subject → Group → List Answer
@@ -34,30 +35,37 @@ arcs_of pins cell = flat_map arcs_in (timing_answers pins cell)
 abbrev pub left_out_of : Subject → Group → List LeftOut
 left_out_of pins cell = left_out_from 0 (owners_of cell) (timing_answers pins cell)
 
+-- The offsets that are told of the timing of each pin, whatever else is wrong with it.
+abbrev pub timing_places : (Subject → Group → List ℕ) → Subject → Group → List ℕ
+timing_places places pins cell = places_from places pins 0 (owners_of cell)
+
+-- The list of a reason holds each offset at which it is met, also where a reason before it is met at the same pin, group
+-- or text.
+
 -- A function text does not read or has more than 4,096 bytes, a table does not read, a needed attribute is absent, or
 -- a group's arguments are not two names.
 abbrev pub malformed : Subject → Group → List ℕ
 malformed pins cell =
     flat_map malformed_in (readings_of cell)
-    ++ (flat_map malformed_at (texts_of cell) ++ flat_map malformed_timing (timing_answers pins cell))
+    ++ (flat_map malformed_at (texts_of cell) ++ timing_places malformed_timing pins cell)
 
 -- A text names nothing of the allowed kind.
 abbrev pub unknown_names : Subject → Group → List ℕ
 unknown_names pins cell =
     flat_map unknown_in (readings_of cell)
-    ++ (flat_map unknown_at (texts_of cell) ++ flat_map unknown_timing (timing_answers pins cell))
+    ++ (flat_map unknown_at (texts_of cell) ++ timing_places unknown_timing pins cell)
 
 -- A state text makes one state hang on another.
 abbrev pub coupled : Group → List ℕ
-coupled cell = flat_map coupled_in (readings_of cell)
+coupled cell = flat_map (coupled_of (vocabulary cell) (length (pins_of cell))) (state_groups cell)
 
 -- A check's condition names a pin of its events, or an arc's condition the pin where it starts.
 abbrev pub own_conditions : Subject → Group → List ℕ
-own_conditions pins cell = flat_map own_timing (timing_answers pins cell)
+own_conditions pins cell = timing_places own_conditions_of pins cell
 
 -- A time is no number within the limits, or the time unit is unknown and a time is used.
 abbrev pub numbers : Subject → Group → List ℕ
-numbers pins cell = flat_map number_timing (timing_answers pins cell)
+numbers pins cell = timing_places number_timing pins cell
 
 -- A count or a name is over its limit, a name is empty or has a byte that may not stand in it, or the support of a state
 -- group is empty. The limits are 64 pins, 16 states, 256 checks and 1,024 arcs.
@@ -66,16 +74,17 @@ limits pins cell =
     bad_names cell
     ++ (first_past 64 (map place_of_group (owners_of cell))
     ++ (first_past 16 (flat_map state_at (state_groups cell))
-    ++ (first_past 256 (flat_map check_at_in (timing_answers pins cell))
-    ++ (first_past 1024 (flat_map arc_at_in (timing_answers pins cell))
-    ++ flat_map no_support_in (readings_of cell)))))
+    ++ (first_past 256 (timing_places check_at_of pins cell)
+    ++ (first_past 1024 (timing_places arc_at_of pins cell)
+    ++ flat_map (no_support_of (vocabulary cell) (length (pins_of cell))) (state_groups cell)))))
 
--- A state group has more than 8 pins in its support, or an output function or condition more than 10 names.
+-- A state group has more than 8 pins in its support, or a condition or the function of an output more than 10 names. A text
+-- that names nothing of the allowed kind is no function of an output.
 abbrev pub udp_inputs : Subject → Group → List ℕ
 udp_inputs pins cell =
-    flat_map wide_support_in (readings_of cell)
+    flat_map (wide_support_of (vocabulary cell) (length (pins_of cell))) (state_groups cell)
     ++ (flat_map (wide_output (vocabulary cell) (length (pins_of cell)) (groups_of cell) (numbers_of cell)) (owners_of cell)
-    ++ flat_map wide_in (timing_answers pins cell))
+    ++ timing_places wide_conditions_of pins cell)
 
 -- A reason, and the offsets at which it is met.
 pub record Met : Type 0 where

@@ -2,7 +2,8 @@
 ghost use Rattle.std.specs.Prelude.{◌≡◌, IfOk, map, flat_map, None, Option};
 ghost use Rattle.timing_arcs.specs.Timing.{least};
 ghost use Rattle.cell_parts.specs.Declarations.{bad_names as bad_names_of};
-ghost use Rattle.cell_reader.specs.Refusals.{malformed as malformed_of, unknown_names as unknown_names_of, limits as limits_of, middle_reasons, first_refusal};
+ghost use Rattle.cell_reader.specs.Refusals.{middle_reasons, first_refusal};
+ghost use Rattle.cell_reader.specs.Told.{malformed_told, unknown_told, limits_told, told_reasons};
 ghost use Rattle.cell_reader.specs.Parts.{subject_in, AreParts};
 
 use crate::early::refused_or;
@@ -24,7 +25,7 @@ use std::alloc::Global;
 #[tactic(auto, using(cell_parts::proofs::LeastLemmas::least_append))]
 fn malformed(parts: &Parts<'_>) -> Option<usize>
     requires { AreParts parts.now }
-    ensures { result ≡ least (malformed_of (subject_in parts.now) parts.now.cell.now) }
+    ensures { result ≡ least (malformed_told (subject_in parts.now) parts.now.cell.now) }
 {
     let states = malformed_states(parts.readings.as_slice());
     let pins = malformed_pins(parts.texts.as_slice());
@@ -35,7 +36,7 @@ fn malformed(parts: &Parts<'_>) -> Option<usize>
 #[tactic(auto, using(cell_parts::proofs::LeastLemmas::least_append))]
 fn unknown_names(parts: &Parts<'_>) -> Option<usize>
     requires { AreParts parts.now }
-    ensures { result ≡ least (unknown_names_of (subject_in parts.now) parts.now.cell.now) }
+    ensures { result ≡ least (unknown_told (subject_in parts.now) parts.now.cell.now) }
 {
     let states = unknown_states(parts.readings.as_slice());
     let pins = unknown_pins(parts.texts.as_slice());
@@ -56,7 +57,7 @@ fn bad_names(alloc: Global, parts: &Parts<'_>) -> Result<Option<usize>, Memory>
 #[tactic(auto, using(cell_parts::proofs::LeastLemmas::least_append))]
 fn limits(alloc: Global, parts: &Parts<'_>) -> Result<Option<usize>, Memory>
     requires { AreParts parts.now }
-    ensures { IfOk result (λ at. at ≡ least (limits_of (subject_in parts.now) parts.now.cell.now)) }
+    ensures { IfOk result (λ at. at ≡ least (limits_told (subject_in parts.now) parts.now.cell.now)) }
 {
     let names = bad_names(alloc, parts)?;
     let pins = first_group_past(64, &parts.owners);
@@ -72,10 +73,11 @@ fn limits(alloc: Global, parts: &Parts<'_>) -> Result<Option<usize>, Memory>
     Ok(lesser(names, counts))
 }
 
-/// The first of the reasons that are tried after the texts are read, but for the last of all.
-pub(crate) fn middle_refusal(alloc: Global, parts: &Parts<'_>) -> Result<Option<Refusal>, Memory>
+/// The first of the reasons that are tried after the texts are read, but for the last of all, where of each pin's timing the
+/// kind that is wrong first is known.
+fn told_refusal(alloc: Global, parts: &Parts<'_>) -> Result<Option<Refusal>, Memory>
     requires { AreParts parts.now }
-    ensures { IfOk result (λ refusal. refusal ≡ first_refusal (middle_reasons (subject_in parts.now) parts.now.cell.now)) }
+    ensures { IfOk result (λ refusal. refusal ≡ first_refusal (told_reasons (subject_in parts.now) parts.now.cell.now)) }
 {
     let over = limits(alloc, parts)?;
     let later = refused_or(Reason::Limit, over, None);
@@ -86,4 +88,12 @@ pub(crate) fn middle_refusal(alloc: Global, parts: &Parts<'_>) -> Result<Option<
     let later = refused_or(Reason::Coupled, coupled, later);
     let later = refused_or(Reason::UnknownName, unknown_names(parts), later);
     Ok(refused_or(Reason::Malformed, malformed(parts), later))
+}
+
+/// The first of the reasons that are tried after the texts are read, but for the last of all.
+pub(crate) fn middle_refusal(alloc: Global, parts: &Parts<'_>) -> Result<Option<Refusal>, Memory>
+    requires { AreParts parts.now }
+    ensures { IfOk result (λ refusal. refusal ≡ first_refusal (middle_reasons (subject_in parts.now) parts.now.cell.now)) }
+{
+    told_refusal(alloc, parts)
 }

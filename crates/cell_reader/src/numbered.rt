@@ -1,7 +1,11 @@
 //! The names of a cell by their numbers in it, and its states over them.
-ghost use Rattle.std.specs.Prelude.{◌≡◌, IfOk, None, Option};
+ghost use Rattle.std.specs.Prelude.{◌≡◌, IfOk, None, Option, flat_map, length};
 ghost use Rattle.timing_arcs.specs.Timing.{least};
-ghost use Rattle.cell_reader.specs.Refusals.{middle_reasons, first_refusal, udp_inputs as udp_inputs_of};
+ghost use Rattle.cell_parts.specs.Groups.{state_groups as state_groups_of};
+ghost use Rattle.cell_parts.specs.Pins.{pins_of};
+ghost use Rattle.cell_parts.specs.Vocabulary.{vocabulary};
+ghost use Rattle.cell_reader.specs.Written.{wide_conditions_of, wide_support_of};
+ghost use Rattle.cell_reader.specs.Refusals.{timing_places, middle_reasons, first_refusal, udp_inputs as udp_inputs_of};
 ghost use Rattle.cell_reader.specs.Parts.{subject_in, AreParts, AreNumbered};
 
 use crate::cell_numbers::cell_numbers;
@@ -40,6 +44,24 @@ pub(crate) fn number_names(alloc: Global, parts: &Parts<'_>) -> Result<Numbered,
     Ok(Numbered { numbers, groups })
 }
 
+/// Where a condition has more than 10 names.
+fn wide_conditions(parts: &Parts<'_>) -> Option<usize>
+    requires parts { AreParts parts.now }
+    requires unmet { first_refusal (middle_reasons (subject_in parts.now) parts.now.cell.now) ≡ None }
+    ensures { result ≡ least (timing_places wide_conditions_of (subject_in parts.now) parts.now.cell.now) }
+{
+    wide_timings(&parts.answers)
+}
+
+/// Where a state group names more than 8 pins.
+fn wide_states(parts: &Parts<'_>) -> Option<usize>
+    requires parts { AreParts parts.now }
+    requires unmet { first_refusal (middle_reasons (subject_in parts.now) parts.now.cell.now) ≡ None }
+    ensures { result ≡ least (flat_map (wide_support_of (vocabulary parts.now.cell.now) (length (pins_of parts.now.cell.now))) (state_groups_of parts.now.cell.now)) }
+{
+    wide_supports(parts.readings.as_slice())
+}
+
 /// Where a state group names more than 8 pins, or an output function or a condition more than 10 names.
 #[tactic(auto, using(cell_parts::proofs::LeastLemmas::least_append))]
 pub(crate) fn udp_inputs(
@@ -60,6 +82,6 @@ pub(crate) fn udp_inputs(
         parts.pins.len(),
         &parts.owners,
     )?;
-    let states = wide_supports(parts.readings.as_slice());
-    Ok(lesser(states, lesser(outputs, wide_timings(&parts.answers))))
+    let states = wide_states(parts);
+    Ok(lesser(states, lesser(outputs, wide_conditions(parts))))
 }

@@ -2,6 +2,7 @@ pub mod NameLists
 pub mod Elements
 pub mod Supports
 pub mod Trees
+pub mod CodeLists
 pub mod Tables
 pub mod WordLemmas
 pub mod Runs
@@ -14,3 +15,4 @@ pub mod Readings
 pub mod Bounds
 pub mod Renamings
 pub mod SameTreeLemmas
+pub mod Forms

@@ -4,6 +4,8 @@ pub mod Point
 pub mod Block
 pub mod Key
 pub mod Kept
+pub mod Code
+pub mod Form
 pub mod NameBytes
 pub mod NameList
 pub mod Token

@@ -1,8 +1,16 @@
 //! The values of a function at all points, kept so that a long tree is walked for them once.
-ghost use Rattle.std.specs.Prelude.{◌≡◌, ◌≤◌, ◌<◌, ◌^◌, false, length, slice_index_or};
+ghost use Rattle.std.specs.Prelude.{◌≡◌, ◌≤◌, ◌<◌, ◌^◌, false, length, slice_index_or, IfOk};
 ghost use Rattle.bool_functions.specs.declared.tree.Node.{Node};
 ghost use Rattle.bool_functions.specs.Tree.{value_of};
 ghost use Rattle.bool_functions.specs.Point.{number, bits_at, HasValues};
+
+use crate::blocks::table;
+use crate::faults::Memory;
+use crate::tree::{Node, support};
+use std::alloc::Global;
+
+/// The most names of a function whose values are kept.
+const MOST_NAMES: usize = 10;
 
 /// Some names, and a value for each point over them, at the point's number.
 #[derive(Debug, Drop)]
@@ -14,6 +22,20 @@ pub(crate) struct KeptValues {
 }
 
 impl KeptValues {
+    ghost use Rattle.bool_functions.specs.Kept.{AreOfTree};
+
+    /// The values of a tree, where it names few names.
+    pub(crate) fn of(alloc: Global, node: &Node) -> Result<Option<KeptValues>, Memory>
+        ensures { IfOk result (AreOfTree node.now) }
+    {
+        let names = support(node, alloc)?;
+        if names.len() > MOST_NAMES {
+            return Ok(None);
+        }
+        let values = table(node, alloc, &names)?;
+        Ok(Some(KeptValues { names, values }))
+    }
+
     /// The value where `bits[i]` is the value of the name `i`.
     pub(crate) fn at(&self, bits: &[bool]) -> bool
         requires { length self.now.names.items ≤ 10 }
@@ -27,7 +49,7 @@ impl KeptValues {
 }
 
 /// The value of a name, 0 where there is no such name.
-fn bit_at(bits: &[bool], name: usize) -> bool
+pub(crate) fn bit_at(bits: &[bool], name: usize) -> bool
     ensures { result ≡ slice_index_or bits.now name false }
 {
     match bits.get(name) {

@@ -2,10 +2,13 @@
 #![tactic(auto)]
 
 mod blocks;
+mod codes;
 mod faults;
+mod functions;
 mod kept_values;
 mod keys;
 mod laws;
+mod lines;
 mod name_list;
 mod reader;
 mod symbol;
@@ -15,7 +18,8 @@ mod tree;
 mod words;
 
 pub use faults::{FunctionFault, Memory};
+pub use functions::Function;
 pub use laws::{bound_is_least, one_tree, own_names, read_by_grammar, renamed_values};
 pub use name_list::Names;
 pub use texts::{MAX_LEN, read_free, read_function};
-pub use tree::{Function, Node};
+pub use tree::Node;

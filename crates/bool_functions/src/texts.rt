@@ -5,20 +5,18 @@ ghost use Rattle.bool_functions.specs.Token.{bytes_at, spans, symbol_of, symbols
 ghost use Rattle.bool_functions.specs.Machine.{run, start};
 ghost use Rattle.bool_functions.specs.FunctionText.{FunctionText, HasFault, free_names, reading_of, OrMemory, OrMemoryFree, FaultOrMemory, TreeOf, Answers, AnswersFree};
 
-use crate::faults::{FunctionFault, Memory};
+use crate::faults::FunctionFault;
+use crate::functions::Function;
 use crate::name_list::Names;
 use crate::reader::{ReadFault, run};
 use crate::symbol::{Symbol, symbol_of};
 use crate::tokens::{Span, spans};
-use crate::tree::{Function, Node};
+use crate::tree::Node;
 use crate::words::{bytes_at, first_unknown, names_in};
 use std::alloc::{AllocError, Global};
 
 /// The greatest number of bytes of a function text.
 pub const MAX_LEN: usize = 4096;
-
-/// The greatest number of bytes of a text whose tree is walked for each value, since looking a value up takes as long.
-const SHORT_LEN: usize = 64;
 
 /// Reads a function text (Liberty Reference Manual, `function`) whose names are in a list, by which its tree numbers
 /// them. Offsets are in bytes, from 0. The faults are, in this order:
@@ -62,7 +60,7 @@ fn read_over(alloc: Global, text: &[u8], names: &Names) -> Result<Function, Func
     let tree = read_tree(alloc, text, &tokens, names)?;
     match first_unknown(text, &tokens, names) {
         Some(at) => Err(FunctionFault::UnknownName(at)),
-        None => Ok(function_of(alloc, text, tree)?),
+        None => Ok(Function::new(alloc, tree)?),
     }
 }
 
@@ -76,19 +74,8 @@ fn read_own(alloc: Global, text: &[u8]) -> Result<(Function, Names), FunctionFau
     let tokens = spans(alloc, text)?;
     let names = names_in(alloc, text, &tokens)?;
     let tree = read_tree(alloc, text, &tokens, &names)?;
-    let function = function_of(alloc, text, tree)?;
+    let function = Function::new(alloc, tree)?;
     Ok((function, names))
-}
-
-/// The function of a text's tree, whose values are kept where the text is long.
-fn function_of(alloc: Global, text: &[u8], tree: Node) -> Result<Function, Memory>
-    ensures { IfOk result (λ f. f ≡ tree) }
-{
-    if text.len() > SHORT_LEN {
-        Function::with_values(alloc, tree)
-    } else {
-        Ok(Function::new(tree))
-    }
 }
 
 /// The tree of a text's tokens, where a name that is not in the list has the list's length for its number.

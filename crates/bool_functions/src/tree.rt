@@ -1,23 +1,13 @@
 //! A function as the tree of its operators.
-ghost use Rattle.std.specs.Prelude.{◌≡◌, ◌≤◌, ◌^◌, ◌↔◌, ◌==◌, ℕ, IsTrue, IfOk, OnOk, Contains, EachIndex, length, slice_get};
+ghost use Rattle.std.specs.Prelude.{◌≡◌, ◌≤◌, ◌==◌, ℕ, IsTrue, IfOk, OnOk, length, slice_get, ◌↔◌};
 ghost use Rattle.std.specs.List.{list_any};
-ghost use Rattle.std.specs.List.Sorted.{IsStrictlyIncreasing};
-ghost use Rattle.bool_functions.specs.Tree.{value_of, name_bound, names_of, Has, renamed_by};
+ghost use Rattle.bool_functions.specs.Tree.{value_of, name_bound, names_of, renamed_by};
 ghost use Rattle.bool_functions.specs.Support.{inserted, insert_all, support_of};
-ghost use Rattle.bool_functions.specs.SameTrees.{same_tree};
-ghost use Rattle.bool_functions.specs.Point.{IsTable, HasValues};
-ghost use Rattle.bool_functions.specs.declared.tree.Node.TheVariants as tree;
+ghost use Rattle.bool_functions.specs.Code.{room_after};
 
-use crate::blocks::table;
 use crate::faults::Memory;
-use crate::kept_values::KeptValues;
-use crate::keys::key;
 use sqlite_items::Boxed;
 use std::alloc::{AllocError, Global};
-use std::marker::Model;
-
-/// The most names of a function whose values are kept.
-const MOST_NAMES: usize = 10;
 
 /// An operator of a function with its parts, or one of its leaves. A name is a number that a list of names gives it.
 ///
@@ -34,143 +24,8 @@ pub enum Node {
     Or(Boxed<Node>, Boxed<Node>),
 }
 
-/// A function of numbered names, which contracts see as its tree.
-#[derive(Debug, Drop)]
-pub struct Function {
-    node: Node,
-    /// The number of the tree, by which most unlike trees are told apart.
-    key: u64,
-    /// Its values, where its tree is long and names few names.
-    kept: Option<KeptValues>,
-}
-
-impl Model for Function {
-    ghost use Rattle.std.specs.Prelude.{◌≡◌};
-    ghost use Rattle.bool_functions.specs.declared.tree.Node.{Node};
-    ghost use Rattle.bool_functions.specs.Key.{key_of};
-    ghost use Rattle.bool_functions.specs.Kept.{AreOfTree};
-
-    ghost Value = { Node };
-
-    ghost use Rattle.bool_functions.specs.contracts.tree.Node as nodes;
-    ghost use Rattle.std.specs.Coded.{codes};
-
-    ghost coded = { Prim.hlevel (codes, nodes.the_row.coded) };
-
-    ghost view = { λ f. f.node };
-
-    ghost invariant = { λ f. (f.key ≡ key_of f.node) × AreOfTree f.node f.kept };
-}
-
-impl Function {
-    /// The function of a tree.
-    pub(crate) fn new(node: Node) -> Function
-        ensures { result ≡ node }
-    {
-        let key = key(&node);
-        Function {
-            node,
-            key,
-            kept: None,
-        }
-    }
-
-    /// The function of a tree, with its values kept where it names few names. `Memory` comes only where memory is wanting.
-    pub(crate) fn with_values(alloc: Global, node: Node) -> Result<Function, Memory>
-        ensures { IfOk result (λ f. f ≡ node) }
-    {
-        let mut function = Function::new(node);
-        let names = function.support(alloc)?;
-        if names.len() > MOST_NAMES {
-            return Ok(function);
-        }
-        let values = function.table(alloc, &names)?;
-        function.kept = Some(KeptValues { names, values });
-        Ok(function)
-    }
-
-    /// The function that is the name `i`. Takes no memory.
-    pub fn of_name(i: usize) -> Function
-        ensures { result ≡ tree.Name i }
-    {
-        Function::new(Node::Name(i))
-    }
-
-    /// The tree.
-    pub fn node(&self) -> &Node
-        ensures { result.now ≡ self.now }
-    {
-        &self.node
-    }
-
-    /// The value where `bits[i]` is the value of the name `i`. Needs an entry for each name, and takes no memory.
-    pub fn value(&self, bits: &[bool]) -> bool
-        requires { name_bound self.now ≤ length bits.now }
-        ensures { result ≡ value_of bits.now self.now }
-    {
-        match &self.kept {
-            Some(kept) => kept.at(bits),
-            None => value(&self.node, bits),
-        }
-    }
-
-    /// Whether the two trees are equal. Takes no memory.
-    pub fn same(&self, other: &Function) -> bool
-        ensures equal { IsTrue result ↔ (self.now ≡ other.now) }
-        ensures test { result ≡ same_tree self.now other.now }
-    {
-        if self.key != other.key {
-            return false;
-        }
-        same(&self.node, &other.node)
-    }
-
-    /// Whether the name `i` is written in the tree. Takes no memory.
-    pub fn has(&self, i: usize) -> bool
-        ensures { IsTrue result ↔ Has self.now i }
-    {
-        has(&self.node, i)
-    }
-
-    /// The tree in which `to[i]` stands for each name `i`. Needs an entry for each name. `Memory` comes only where
-    /// memory is wanting.
-    pub fn renamed(&self, alloc: Global, to: &[usize]) -> Result<Function, Memory>
-        requires { name_bound self.now ≤ length to.now }
-        ensures { IfOk result (λ f. f ≡ renamed_by to.now self.now) }
-    {
-        let node = renamed(&self.node, alloc, to)?;
-        if self.kept.is_some() {
-            Function::with_values(alloc, node)
-        } else {
-            Ok(Function::new(node))
-        }
-    }
-
-    /// The numbers of the written names, each once, in ascending order. `Memory` comes only where memory is wanting.
-    pub fn support(&self, alloc: Global) -> Result<Vec<usize>, Memory>
-        ensures ascending { IfOk result (λ v. IsStrictlyIncreasing v.items) }
-        ensures written { IfOk result (λ v. (i : ℕ) → Contains v.items i ↔ Has self.now i) }
-        ensures list { IfOk result (λ v. v.items ≡ support_of self.now) }
-    {
-        support(&self.node, alloc)
-    }
-
-    /// The value at each point over these places, which are numbers of names, at the point's number, in which place `i`
-    /// weighs 2 to the power `i`. Needs each written name among at most 10 places; where a place stands twice, its name
-    /// has the first one's value. `Memory` comes only where memory is wanting.
-    pub fn table(&self, alloc: Global, places: &[usize]) -> Result<Vec<bool>, Memory>
-        requires few { length places.now ≤ 10 }
-        requires inside { (i : ℕ) → Has self.now i → Contains places.now i }
-        ensures len { IfOk result (λ v. length v.items ≡ 2 ^ length places.now) }
-        ensures points { IfOk result (λ v. IsTable places.now self.now v.items) }
-        ensures values { IfOk result (λ v. HasValues places.now self.now v.items) }
-    {
-        table(&self.node, alloc, places)
-    }
-}
-
 /// The value of a tree where `bits[i]` is the value of the name `i`.
-fn value(node: &Node, bits: &[bool]) -> bool
+pub(crate) fn value(node: &Node, bits: &[bool]) -> bool
     requires { name_bound node.now ≤ length bits.now }
     ensures { result ≡ value_of bits.now node.now }
 {
@@ -186,7 +41,7 @@ fn value(node: &Node, bits: &[bool]) -> bool
 }
 
 /// Whether two trees are equal.
-fn same(node: &Node, other: &Node) -> bool
+pub(crate) fn same(node: &Node, other: &Node) -> bool
     ensures { IsTrue result ↔ (node.now ≡ other.now) }
 {
     match (node, other) {
@@ -204,7 +59,7 @@ fn same(node: &Node, other: &Node) -> bool
 
 /// Whether a name is written in a tree.
 #[tactic(auto, using(crate::proofs::Trees::names_by_top))]
-fn has(node: &Node, i: usize) -> bool
+pub(crate) fn has(node: &Node, i: usize) -> bool
     ensures { result ≡ list_any (λ j. j == i) (names_of node.now) }
 {
     match node {
@@ -218,7 +73,7 @@ fn has(node: &Node, i: usize) -> bool
 }
 
 /// A copy of a tree with other numbers for its names.
-fn renamed(node: &Node, alloc: Global, to: &[usize]) -> Result<Node, AllocError>
+pub(crate) fn renamed(node: &Node, alloc: Global, to: &[usize]) -> Result<Node, AllocError>
     requires { name_bound node.now ≤ length to.now }
     ensures { IfOk result (λ f. f ≡ renamed_by to.now node.now) }
 {
@@ -243,7 +98,7 @@ fn renamed(node: &Node, alloc: Global, to: &[usize]) -> Result<Node, AllocError>
 }
 
 /// The names of a tree, each once, in ascending order.
-fn support(node: &Node, alloc: Global) -> Result<Vec<usize>, Memory>
+pub(crate) fn support(node: &Node, alloc: Global) -> Result<Vec<usize>, Memory>
     ensures { IfOk result (λ v. v.items ≡ support_of node.now) }
 {
     let mut found = Vec::new(alloc);
@@ -268,7 +123,7 @@ fn collect(node: &Node, found: &mut Vec<usize>) -> Result<(), Memory>
 }
 
 /// Puts a number into an ascending list, unless it is there.
-fn insert(found: &mut Vec<usize>, i: usize) -> Result<(), Memory>
+pub(crate) fn insert(found: &mut Vec<usize>, i: usize) -> Result<(), Memory>
     ensures { OnOk result (found.new.items ≡ inserted i found.old.items) }
 {
     for at in 0..found.len() {
@@ -282,4 +137,18 @@ fn insert(found: &mut Vec<usize>, i: usize) -> Result<(), Memory>
     }
     found.push(i)?;
     Ok(())
+}
+
+/// What is left of so many nodes after those of a tree.
+pub(crate) fn room(node: &Node, most: usize) -> usize
+    ensures { result ≡ room_after node.now most }
+{
+    let left = most.saturating_sub(1);
+    match node {
+        Node::Zero | Node::One | Node::Name(_) => left,
+        Node::Not(part) => room(part.get(), left),
+        Node::Xor(first, second) | Node::And(first, second) | Node::Or(first, second) => {
+            room(second.get(), room(first.get(), left))
+        }
+    }
 }

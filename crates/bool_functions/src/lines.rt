@@ -1,0 +1,114 @@
+//! The tree of a long function, held as its codes.
+ghost use Rattle.std.specs.Prelude.{◌≡◌, ◌≤◌, ◌^◌, ◌↔◌, ℕ, false, true, Some, IsTrue, IfOk, MatchOption, EachIndex, length, slice_get};
+ghost use Rattle.bool_functions.specs.Tree.{value_of, value_by, name_bound, renamed_by, Has};
+ghost use Rattle.bool_functions.specs.Point.{entry_of};
+ghost use Rattle.bool_functions.specs.Support.{support_of};
+ghost use Rattle.bool_functions.specs.Code.{fits};
+
+use crate::blocks::table;
+use crate::codes::{Code, add_codes, has, same, support, tree, value};
+use crate::faults::Memory;
+use crate::kept_values::KeptValues;
+use crate::tree::{Node, renamed};
+use std::alloc::{AllocError, Global};
+use std::marker::Model;
+
+/// A tree as its codes, with its values where it names few names. Contracts see the tree.
+#[derive(Debug, Drop)]
+pub(crate) struct Line {
+    spelled: Vec<Code>,
+    kept: Option<KeptValues>,
+}
+
+impl Model for Line {
+    ghost use Rattle.std.specs.Prelude.{◌≡◌};
+    ghost use Rattle.bool_functions.specs.declared.tree.Node.{Node};
+    ghost use Rattle.bool_functions.specs.Code.{codes_of, tree_of};
+    ghost use Rattle.bool_functions.specs.Kept.{AreOfTree};
+
+    ghost Value = { Node };
+
+    ghost use Rattle.bool_functions.specs.contracts.tree.Node as nodes;
+    ghost use Rattle.std.specs.Coded.{codes};
+
+    ghost coded = { Prim.hlevel (codes, nodes.the_row.coded) };
+
+    ghost view = { λ l. tree_of l.spelled.items };
+
+    ghost invariant = { λ l. (l.spelled.items ≡ codes_of (tree_of l.spelled.items)) × AreOfTree (tree_of l.spelled.items) l.kept };
+}
+
+impl Line {
+    /// A tree as its codes, where they have room for its numbers.
+    pub(crate) fn new(alloc: Global, node: &Node) -> Result<Option<Line>, Memory>
+        ensures { IfOk result (λ line. MatchOption line (fits node.now ≡ false) (λ l. (l ≡ node.now) × (fits node.now ≡ true))) }
+    {
+        let mut spelled = Vec::new(alloc);
+        if !add_codes(node, &mut spelled)? {
+            return Ok(None);
+        }
+        spelled.shrink_to_fit();
+        let kept = KeptValues::of(alloc, node)?;
+        Ok(Some(Line { spelled, kept }))
+    }
+
+    /// The tree itself.
+    fn tree(&self, alloc: Global) -> Result<Node, AllocError>
+        ensures { IfOk result (λ f. f ≡ self.now) }
+    {
+        tree(self.spelled.as_slice(), alloc)
+    }
+
+    /// The tree in which `to[i]` stands for each name `i`.
+    pub(crate) fn renamed(&self, alloc: Global, to: &[usize]) -> Result<Node, AllocError>
+        requires { name_bound self.now ≤ length to.now }
+        ensures { IfOk result (λ f. f ≡ renamed_by to.now self.now) }
+    {
+        let node = self.tree(alloc)?;
+        renamed(&node, alloc, to)
+    }
+
+    /// The values at all points over these places.
+    pub(crate) fn table(&self, alloc: Global, places: &[usize]) -> Result<Vec<bool>, Memory>
+        requires { length places.now ≤ 10 }
+        ensures len { IfOk result (λ v. length v.items ≡ 2 ^ length places.now) }
+        ensures entries { IfOk result (λ v. EachIndex v.items (λ k. slice_get v.items k ≡ Some (value_by (entry_of places.now k) self.now))) }
+    {
+        let node = self.tree(alloc)?;
+        table(&node, alloc, places)
+    }
+
+    /// The value where `bits[i]` is the value of the name `i`.
+    pub(crate) fn value(&self, bits: &[bool]) -> bool
+        ensures { result ≡ value_of bits.now self.now }
+    {
+        match &self.kept {
+            Some(kept) => kept.at(bits),
+            None => value(self.spelled.as_slice(), bits),
+        }
+    }
+
+    /// Whether the two trees are equal.
+    pub(crate) fn same(&self, other: &Line) -> bool
+        ensures { IsTrue result ↔ (self.now ≡ other.now) }
+    {
+        same(self.spelled.as_slice(), other.spelled.as_slice())
+    }
+
+    /// Whether the name `i` is written in the tree.
+    pub(crate) fn has(&self, i: usize) -> bool
+        ensures { IsTrue result ↔ Has self.now i }
+    {
+        has(self.spelled.as_slice(), i)
+    }
+
+    /// The names of the tree, each once, in ascending order.
+    pub(crate) fn support(&self, alloc: Global) -> Result<Vec<usize>, Memory>
+        ensures { IfOk result (λ v. v.items ≡ support_of self.now) }
+    {
+        if let Some(kept) = &self.kept {
+            return Ok(Vec::from_slice(alloc, &kept.names)?);
+        }
+        support(self.spelled.as_slice(), alloc)
+    }
+}

@@ -8,7 +8,7 @@ use crate::item::LibraryItem;
 use crate::part::{Part, Place, scanned_part};
 use crate::statements::reach_rest;
 use liberty_groups::Cursor;
-use liberty_text::{Token, TokenKind};
+use liberty_text::{Kept, TokenKind};
 use std::alloc::Global;
 
 /// The part behind the statements of this part that have ended before the name that ended last, if they have, and their items.
@@ -29,7 +29,7 @@ pub(crate) fn part_behind(
     let Some((last, _)) = front.split_last() else {
         return Ok(None);
     };
-    let end = last.end;
+    let end = last.token().end;
     if place != Place::Inside || bytes.len() < end {
         return Ok(None);
     }
@@ -42,11 +42,11 @@ pub(crate) fn part_behind(
 }
 
 /// The index of the name that is among the tokens that ended last: a mark may have ended with the byte that ended the name.
-fn name_at(tokens: &[Token]) -> usize
+fn name_at(tokens: &[Kept]) -> usize
     ensures { result ≤ length tokens.now }
 {
     match tokens {
-        [.., last] if last.kind == TokenKind::Word => tokens.len() - 1,
+        [.., last] if last.token().kind == TokenKind::Word => tokens.len() - 1,
         _ => tokens.len().saturating_sub(2),
     }
 }

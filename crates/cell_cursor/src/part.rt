@@ -10,7 +10,7 @@ ghost use Rattle.cell_cursor.specs.Scanned.{AreScanned, NoneEnds, ends_by, last_
 use crate::fault::Memory;
 use crate::watch::{Sight, Watch};
 use liberty_groups::Standing;
-use liberty_text::{Scanner, Token, TokenKind};
+use liberty_text::{Kept, Scanner, TokenKind};
 use std::alloc::Global;
 use std::marker::Model;
 
@@ -99,7 +99,7 @@ impl Part {
     }
 
     /// The tokens that have ended in the part.
-    pub(crate) fn tokens(&self) -> &[Token]
+    pub(crate) fn tokens(&self) -> &[Kept]
         ensures tokens { result.now ≡ self.now.tokens }
         ensures inside { LieInside self.now.bytes result.now }
         ensures scanned { AreScanned self.now.bytes self.now.tokens self.now.mode }
@@ -226,8 +226,8 @@ fn scan_run(
     let count = scanner.step_on(bytes.len(), more)?;
     bytes.extend_from_slice(&more[..count])?;
     let kind = match &scanner.tokens()[ended..] {
-        [token] => Some(token.kind),
-        [_, token] => Some(token.kind),
+        [last] => Some(last.token().kind),
+        [_, last] => Some(last.token().kind),
         _ => None,
     };
     Ok((count, kind))

@@ -15,7 +15,7 @@ use crate::item::LibraryItem;
 use crate::part::Place;
 use crate::statements::read_rest;
 use liberty_groups::{Cursor, Halt, LibraryFault, Stop, fault_of};
-use liberty_text::{Scan, Stop as TextStop, scan};
+use liberty_text::{KeptScan, Stop as TextStop, scan_kept};
 use std::alloc::Global;
 
 /// An offset in bytes that so many others stand before. Where that is no machine number, there is no memory for the bytes.
@@ -76,7 +76,7 @@ fn goes_on_closed(alloc: Global, before: usize, bytes: &[u8], place: Place) -> R
     let mut closed = Vec::from_slice(alloc, bytes)?;
     closed.extend_from_slice(b" \"")?;
     moved(before, closed.len())?;
-    let Scan { tokens, .. } = scan(alloc, &closed)?;
+    let KeptScan { tokens, .. } = scan_kept(alloc, &closed)?;
     let mut cursor = Cursor::behind(before, &closed, &tokens);
     let mut items = Vec::new(alloc);
     if let Err(Stop::Memory) = read_rest(&mut cursor, alloc, place, &mut items) {
@@ -134,7 +134,7 @@ pub(crate) fn read_end(
     ensures items { OnOk result (items.new.items ≡ items_in (part_outcome place before bytes.now)) }
 {
     let end = before + bytes.len();
-    let Scan { tokens, stop } = scan(alloc, bytes)?;
+    let KeptScan { tokens, stop } = scan_kept(alloc, bytes)?;
     let mut cursor = Cursor::behind(before, bytes, &tokens);
     let halt = halt_of(alloc, &mut cursor, place, end, items)?;
     if !whole && may_go_on(alloc, before, bytes, place, halt, stop)? {

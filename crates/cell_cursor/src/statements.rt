@@ -65,7 +65,7 @@ fn read_statement(
     ensures inner { IfOk result (λ ended. ended ≡ false → has_outer place.Inside (lexeme_kinds (rest cursor.old)) ≡ false) }
 {
     let (name, at) = cursor.name(alloc)?;
-    let statement = cursor.statement(alloc, LEVELS_INSIDE, name, at)?;
+    let statement = cursor.whole_statement(alloc, LEVELS_INSIDE, name, at)?;
     let has_ended = has_ended(&statement, cursor);
     add(items, item_of(alloc, statement))?;
     Ok(has_ended)

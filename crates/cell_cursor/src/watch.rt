@@ -1,7 +1,7 @@
 //! What a token tells as soon as it has ended, before any statement is read.
 
 use liberty_groups::{Standing, next_standing};
-use liberty_text::Token;
+use liberty_text::{Kept, Token};
 
 /// What the tokens of a part tell that ended last.
 #[derive(Clone, Copy, Debug, PartialEq, Eq)]
@@ -30,14 +30,15 @@ impl Watch {
     }
 
     /// Sees tokens of these bytes that have ended. A misfit is told once.
-    pub(crate) fn see(&mut self, bytes: &[u8], tokens: &[Token]) -> Sight {
+    pub(crate) fn see(&mut self, bytes: &[u8], tokens: &[Kept]) -> Sight {
         let mut sight = Sight::Nothing;
-        for token in tokens {
+        for kept in tokens {
             let Some(here) = self.standing else {
                 return sight;
             };
-            let is_library = bytes.get(token.at..token.end) == Some(b"library".as_slice());
-            self.standing = next_standing(here, *token, is_library);
+            let token = kept.token();
+            let is_library = here == Standing::Start && is_library(bytes, token);
+            self.standing = next_standing(here, token, is_library);
             if self.standing.is_none() {
                 return Sight::Misfit;
             }
@@ -47,6 +48,11 @@ impl Watch {
         }
         sight
     }
+}
+
+/// Whether the bytes of a token are the name of a library.
+fn is_library(bytes: &[u8], token: Token) -> bool {
+    bytes.get(token.at..token.end) == Some(b"library".as_slice())
 }
 
 /// Whether a statement of the library may end here before any token.

@@ -6,4 +6,5 @@ pub mod Grammar
 pub mod Lexeme
 pub mod Library
 pub mod Outline
+pub mod Skipping
 pub mod Writing

@@ -4,7 +4,7 @@ ghost use Rattle.std.specs.Prelude.{◌≡◌, ◌<◌, ◌+◌, ◌^◌, length
 ghost use Rattle.liberty_groups.specs.Lexeme.{lexemes_of, lexemes_behind, LieInside, next_token, next_bytes, rest};
 ghost use Rattle.liberty_groups.specs.Answer.{is_last};
 
-use liberty_text::Token;
+use liberty_text::{Kept, Token};
 use std::marker::Model;
 
 /// The tokens of a text, or of a part of it, that are not read yet. It shows them with the offsets of
@@ -12,7 +12,7 @@ use std::marker::Model;
 #[derive(Drop)]
 pub struct Cursor<'a> {
     text: &'a [u8],
-    left: &'a [Token],
+    left: &'a [Kept],
     /// How many bytes stand before the part.
     before: usize,
 }
@@ -32,7 +32,7 @@ impl<'a> Model for Cursor<'a> {
 
 impl<'a> Cursor<'a> {
     /// A cursor before the first token.
-    pub fn new(text: &'a [u8], tokens: &'a [Token]) -> Cursor<'a>
+    pub fn new(text: &'a [u8], tokens: &'a [Kept]) -> Cursor<'a>
         requires { LieInside text.now tokens.now }
         ensures { result ≡ lexemes_of text.now tokens.now }
     {
@@ -44,7 +44,7 @@ impl<'a> Cursor<'a> {
     }
 
     /// The tokens of a part of a text, before which so many bytes stand.
-    pub fn behind(before: usize, text: &'a [u8], tokens: &'a [Token]) -> Cursor<'a>
+    pub fn behind(before: usize, text: &'a [u8], tokens: &'a [Kept]) -> Cursor<'a>
         requires inside { LieInside text.now tokens.now }
         requires fits { before + length text.now < 2 ^ 64 }
         ensures { result ≡ lexemes_behind before text.now tokens.now }
@@ -53,6 +53,17 @@ impl<'a> Cursor<'a> {
             text,
             left: tokens,
             before,
+        }
+    }
+
+    /// A cursor at the same place.
+    pub(crate) fn again(&self) -> Cursor<'a>
+        ensures { result ≡ self.now }
+    {
+        Cursor {
+            text: self.text,
+            left: self.left,
+            before: self.before,
         }
     }
 
@@ -68,12 +79,15 @@ impl<'a> Cursor<'a> {
         ensures { result ≡ next_token self.now }
     {
         match self.left {
-            [first, ..] => Some(Token {
-                kind: first.kind,
-                at: first.at + self.before,
-                end: first.end + self.before,
-                line_before: first.line_before,
-            }),
+            [first, ..] => {
+                let token = first.token();
+                Some(Token {
+                    kind: token.kind,
+                    at: token.at + self.before,
+                    end: token.end + self.before,
+                    line_before: token.line_before,
+                })
+            }
             [] => None,
         }
     }
@@ -99,7 +113,10 @@ impl<'a> Cursor<'a> {
         ensures { result.now ≡ next_bytes self.now }
     {
         match self.left {
-            [first, ..] => &self.text[first.at..first.end],
+            [first, ..] => {
+                let token = first.token();
+                &self.text[token.at..token.end]
+            }
             [] => &[],
         }
     }

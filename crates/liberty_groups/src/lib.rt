@@ -9,6 +9,7 @@ mod library;
 mod outline;
 mod read;
 mod reader;
+mod skip;
 mod tree;
 mod write;
 

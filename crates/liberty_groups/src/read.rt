@@ -13,7 +13,7 @@ use crate::contents::{Contents, UnitLine};
 use crate::cursor::Cursor;
 use crate::fault::{LibraryFault, Memory, Refusal, Stop, fault_at, lexical_fault};
 use crate::tree::Group;
-use liberty_text::{Scan, Stop as TextStop, Token, TokenKind, scan};
+use liberty_text::{Kept, KeptScan, Stop as TextStop, TokenKind, scan_kept};
 use std::alloc::Global;
 
 /// What is kept of a library text.
@@ -82,7 +82,7 @@ impl Cursor<'_> {
 fn read_tokens(
     alloc: Global,
     bytes: &[u8],
-    tokens: &[Token],
+    tokens: &[Kept],
     found: &mut Contents,
 ) -> Result<Halt, Memory>
     requires inside { LieInside bytes.now tokens.now }
@@ -109,12 +109,12 @@ fn read_tokens(
 
 /// The tokens of a text up to the place where it stops, and what stops it there.
 #[tactic(auto, using(crate::proofs::Inside::lie_inside))]
-fn tokens_of(alloc: Global, bytes: &[u8]) -> Result<Scan, Memory>
+fn tokens_of(alloc: Global, bytes: &[u8]) -> Result<KeptScan, Memory>
     ensures tokens { IfOk result (λ found. found.tokens.items ≡ (scan_of bytes.now).0) }
     ensures stop { IfOk result (λ found. found.stop ≡ (scan_of bytes.now).1) }
     ensures inside { IfOk result (λ found. LieInside bytes.now found.tokens.items) }
 {
-    Ok(scan(alloc, bytes)?)
+    Ok(scan_kept(alloc, bytes)?)
 }
 
 /// Whether the bytes, which end in an open text, are the front of a library once it is closed.
@@ -123,7 +123,7 @@ fn closed_has_outline(alloc: Global, bytes: &[u8]) -> Result<bool, Memory>
 {
     let mut closed = Vec::from_slice(alloc, bytes)?;
     closed.extend_from_slice(b" \"")?;
-    let Scan { tokens, .. } = tokens_of(alloc, &closed)?;
+    let KeptScan { tokens, .. } = tokens_of(alloc, &closed)?;
     Ok(Cursor::new(&closed, &tokens).has_outline())
 }
 
@@ -185,7 +185,7 @@ fn read_exactly(alloc: Global, bytes: &[u8], whole: bool) -> Result<Reading, Mem
     ensures end { IfOk result (λ r. r.end ≡ end_of_bytes bytes.now whole) }
 {
     let mut contents = Contents::new(alloc);
-    let Scan { tokens, stop } = tokens_of(alloc, bytes)?;
+    let KeptScan { tokens, stop } = tokens_of(alloc, bytes)?;
     let halt = read_tokens(alloc, bytes, &tokens, &mut contents)?;
     drop(tokens);
     let end = end_of(alloc, bytes, whole, halt, stop)?;

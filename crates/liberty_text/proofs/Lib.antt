@@ -1,8 +1,10 @@
 pub mod Complete
 pub mod Covered
+pub mod Firsts
 pub mod Fixeds
 pub mod Joined
 pub mod Numbers
+pub mod Packing
 pub mod Places
 pub mod Quoting
 pub mod Runs

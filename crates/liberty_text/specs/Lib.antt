@@ -1,5 +1,6 @@
 pub mod Cover
 pub mod Idle
+pub mod Kept
 pub mod Number
 pub mod Runs
 pub mod Scanner

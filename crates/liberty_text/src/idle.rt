@@ -5,6 +5,7 @@ ghost use Rattle.liberty_text.specs.Idle.{is_blank, is_plain_in_word, is_plain_i
 
 use crate::class::{Class, class_of};
 use crate::scanner::Mode;
+use memchr::memchr2;
 
 /// Whether a byte is a space, a tab or a carriage return.
 fn is_blank(byte: u8) -> bool
@@ -53,16 +54,15 @@ fn word_run(bytes: &[u8]) -> usize
 }
 
 /// How many bytes at the front are neither quotes nor backslashes.
+#[tactic(auto, using(crate::proofs::Firsts::text_some, crate::proofs::Firsts::text_none))]
 fn text_run(bytes: &[u8]) -> usize
     ensures value { result ≡ front_run is_plain_in_text bytes.now }
     ensures within { result ≤ length bytes.now }
 {
-    for (at, byte) in bytes.iter().enumerate() {
-        if *byte == b'"' || *byte == b'\\' {
-            return at;
-        }
+    match memchr2(b'"', b'\\', bytes) {
+        Some(at) => at,
+        None => bytes.len(),
     }
-    bytes.len()
 }
 
 /// How many bytes at the front leave open what stands open. No token ends with one of them.

@@ -9,7 +9,8 @@ ghost use Rattle.liberty_text.specs.declared.scanner.Mode.TheVariants.{Between};
 use crate::bytes_after::{after_comment_byte, after_continuation_byte, slash_at};
 use crate::class::{Class, class_of};
 use crate::idle::idle_run;
-use crate::token::{Memory, Scan, Stop, Token, TokenKind};
+use crate::kept::{Kept, KeptScan};
+use crate::token::{Memory, Stop, TokenKind};
 use std::alloc::Global;
 
 /// What stands open at a place of the text. `line_before` is that of the token to come.
@@ -48,10 +49,10 @@ pub enum Mode {
 }
 
 /// The tokens of the bytes that were read so far, and what stands open behind them: a text read byte
-/// by byte, also in pieces.
+/// by byte, also in pieces. Each token is kept in eight bytes.
 #[derive(Drop)]
 pub struct Scanner {
-    tokens: Vec<Token>,
+    tokens: Vec<Kept>,
     mode: Mode,
 }
 
@@ -68,7 +69,7 @@ impl Scanner {
     }
 
     /// The tokens that have ended.
-    pub fn tokens(&self) -> &[Token]
+    pub fn tokens(&self) -> &[Kept]
         ensures { result.now ≡ self.now.tokens.items }
     {
         self.tokens.as_slice()
@@ -85,12 +86,7 @@ impl Scanner {
         ensures tokens { OnOk result (self.new.tokens.items ≡ self.old.tokens.items ++ token kind at end line_before ∷ []) }
         ensures mode { self.new.mode ≡ self.old.mode }
     {
-        self.tokens.push(Token {
-            kind,
-            at,
-            end,
-            line_before,
-        })?;
+        self.tokens.push(Kept::new(kind, at, end, line_before)?)?;
         Ok(())
     }
 
@@ -248,7 +244,7 @@ impl Scanner {
     }
 
     /// What there is where the bytes end, at an offset.
-    pub fn finish(mut self, at: usize) -> Result<Scan, Memory>
+    pub fn finish(mut self, at: usize) -> Result<KeptScan, Memory>
         ensures tokens { IfOk result (λ found. found.tokens.items ≡ self.tokens.items ++ (closing self.mode at).0) }
         ensures stop { IfOk result (λ found. found.stop ≡ (closing self.mode at).1) }
     {
@@ -268,6 +264,6 @@ impl Scanner {
             Mode::Stopped { at: begun } => Stop::BadByte(begun),
         };
         let Scanner { tokens, .. } = self;
-        Ok(Scan { tokens, stop })
+        Ok(KeptScan { tokens, stop })
     }
 }

@@ -7,6 +7,7 @@ ghost use Rattle.liberty_text.specs.TextValue.{blank_line, piece, behind_backsla
 
 use crate::class::{Class, class_of};
 use crate::token::Memory;
+use memchr::memchr2;
 use sqlite_items::Items;
 use std::alloc::Global;
 
@@ -62,10 +63,14 @@ fn push_escape(value: &mut Items<u8>, behind: &[u8]) -> Result<usize, Memory>
 }
 
 /// Whether each byte stands for itself.
+#[tactic(auto, using(crate::proofs::Firsts::plain_some, crate::proofs::Firsts::plain_none))]
 fn is_plain(bytes: &[u8]) -> bool
     ensures { result ≡ list_all stands_for_itself bytes.now }
 {
-    bytes.iter().all(|byte| !(*byte == b'\n' || *byte == b'\\'))
+    match memchr2(b'\n', b'\\', bytes) {
+        Some(_) => false,
+        None => true,
+    }
 }
 
 /// The value of a text token, given the bytes between its quotes: a backslash with blanks and a line

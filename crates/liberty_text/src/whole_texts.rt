@@ -6,6 +6,7 @@ ghost use Rattle.liberty_text.specs.Scanner.{scan_of};
 ghost use Rattle.liberty_text.specs.TokenLaws.{IsInside, AreInOrder};
 ghost use Rattle.liberty_text.specs.Tokens.{Reads, AreTokensOf, IsFaultOf};
 
+use crate::kept::{Kept, KeptScan};
 use crate::scanner::Scanner;
 use crate::token::{Memory, Scan, Stop, TextFault, Token};
 use std::alloc::Global;
@@ -19,11 +20,22 @@ pub fn scan(alloc: Global, bytes: &[u8]) -> Result<Scan, Memory>
     ensures inside { IfOk result (λ found. All (IsInside (length bytes.now)) found.tokens.items) }
     ensures in_order { IfOk result (λ found. AreInOrder 0 found.tokens.items) }
 {
+    scan_out(alloc, bytes)
+}
+
+/// The tokens of a text up to the place where it stops, in eight bytes each, and what stops it there. There is no memory for a
+/// token that begins at 4 GiB or later, or has 256 MiB or more.
+#[tactic(auto, using(crate::proofs::Places::all_inside))]
+pub fn scan_kept(alloc: Global, bytes: &[u8]) -> Result<KeptScan, Memory>
+    ensures tokens { IfOk result (λ found. found.tokens.items ≡ (scan_of bytes.now).0) }
+    ensures stop { IfOk result (λ found. found.stop ≡ (scan_of bytes.now).1) }
+    ensures inside { IfOk result (λ found. All (IsInside (length bytes.now)) found.tokens.items) }
+{
     scan_bytes(alloc, bytes)
 }
 
-/// `scan`, step by step.
-fn scan_bytes(alloc: Global, bytes: &[u8]) -> Result<Scan, Memory>
+/// `scan_kept`, step by step.
+fn scan_bytes(alloc: Global, bytes: &[u8]) -> Result<KeptScan, Memory>
     ensures tokens { IfOk result (λ found. found.tokens.items ≡ (scan_of bytes.now).0) }
     ensures stop { IfOk result (λ found. found.stop ≡ (scan_of bytes.now).1) }
 {
@@ -32,6 +44,27 @@ fn scan_bytes(alloc: Global, bytes: &[u8]) -> Result<Scan, Memory>
         scanner.step(at, *byte)?;
     }
     scanner.finish(bytes.len())
+}
+
+/// `scan`, by way of the tokens in eight bytes each.
+fn scan_out(alloc: Global, bytes: &[u8]) -> Result<Scan, Memory>
+    ensures tokens { IfOk result (λ found. found.tokens.items ≡ (scan_of bytes.now).0) }
+    ensures stop { IfOk result (λ found. found.stop ≡ (scan_of bytes.now).1) }
+{
+    let KeptScan { tokens, stop } = scan_bytes(alloc, bytes)?;
+    let tokens = tokens_out(alloc, &tokens)?;
+    Ok(Scan { tokens, stop })
+}
+
+/// The tokens that are kept.
+fn tokens_out(alloc: Global, kept: &[Kept]) -> Result<Vec<Token>, Memory>
+    ensures { IfOk result (λ tokens. tokens.items ≡ kept.now) }
+{
+    let mut tokens = Vec::with_capacity(alloc, kept.len())?;
+    for one in kept {
+        tokens.push(one.token())?;
+    }
+    Ok(tokens)
 }
 
 /// The tokens of a text, or its first fault.

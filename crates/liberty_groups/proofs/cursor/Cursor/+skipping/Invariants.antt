@@ -1,0 +1,24 @@
+use Rattle.std.proofs.Common.{◌≡◌, ◌+◌, ◌-◌, ◌*◌, length}
+use Rattle.liberty_groups.specs.Skipping as spec
+use Rattle.liberty_groups.proofs.Skips.{statement_turns}
+use Rattle.liberty_groups.proofs.cursor.Cursor.+skipping.Given as goal
+
+abbrev pub decreases-skip_group : goal.decreases-skip_group
+decreases-skip_group l = 5 * l.levels
+
+abbrev pub decreases-skip_bracketed : goal.decreases-skip_bracketed
+decreases-skip_bracketed l = 5 * l.levels + 1
+
+abbrev pub decreases-skip_statement : goal.decreases-skip_statement
+decreases-skip_statement l = 5 * l.levels + 2
+
+abbrev pub decreases-skip_some : goal.decreases-skip_some
+decreases-skip_some l = 5 * l.levels + 3
+
+abbrev pub decreases-skip_statements : goal.decreases-skip_statements
+decreases-skip_statements l = 5 * l.levels + 4
+
+abbrev pub invariant-skip_some-loop-turn : goal.invariant-skip_some-loop-turn
+invariant-skip_some-loop-turn l =
+    statement_turns (spec.skipped_statement l.levels) (l._turn-end - l._turn) l.self
+    ≡ statement_turns (spec.skipped_statement l.levels) (length l.initial.self) l.initial.self

@@ -1,0 +1,116 @@
+//! Tokens in eight bytes each.
+
+ghost use Rattle.std.specs.Prelude.{◌≡◌, ◌<◌, ◌≤◌, ◌^◌, IfOk, if◌then◌else◌};
+ghost use Rattle.liberty_text.specs.Scanner.{token};
+ghost use Rattle.liberty_text.specs.Kept.{kind_by, size_by, token_by};
+
+use crate::token::{Memory, Stop, Token, TokenKind};
+use std::marker::Model;
+
+/// The farthest offset of a token that is kept.
+const FARTHEST: usize = 4_294_967_295;
+
+/// The most bytes of a token that is kept.
+const LONGEST: usize = 268_435_455;
+
+/// A token as it is kept, in eight bytes. Contracts see the token.
+#[derive(Debug, Drop)]
+pub struct Kept {
+    at: u32,
+    /// Whether a line ends before it, the code of its kind, and its length or the byte of a brace.
+    rest: u32,
+}
+
+impl Model for Kept {
+    ghost use Rattle.liberty_text.specs.declared.token.Token.{Token};
+    ghost use Rattle.liberty_text.specs.Kept.{unpacked};
+
+    ghost Value = { Token };
+
+    ghost view = { λ k. unpacked k.at k.rest };
+}
+
+/// The tokens before the place where a reading stopped, in eight bytes each, and what stopped it.
+#[derive(Debug, Drop)]
+pub struct KeptScan {
+    pub tokens: Vec<Kept>,
+    pub stop: Stop,
+}
+
+/// The kind with a code; what stands beside the code is the byte of a brace.
+fn kind_by(code: u32, amount: u32) -> TokenKind
+    ensures { result ≡ kind_by code amount }
+{
+    match code {
+        0 => TokenKind::Word,
+        1 => TokenKind::Text,
+        2 => TokenKind::Brace((amount % 256) as u8),
+        3 => TokenKind::Colon,
+        4 => TokenKind::Semicolon,
+        _ => TokenKind::Comma,
+    }
+}
+
+/// How many bytes a token has; what stands beside the code is the length of a Word or a text.
+fn size_by(code: u32, amount: u32) -> u32
+    ensures { result ≡ size_by code amount }
+{
+    if code == 0 || code == 1 { amount } else { 1 }
+}
+
+impl Kept {
+    /// The token.
+    pub fn token(&self) -> Token
+        ensures { result ≡ self.now }
+    {
+        let code = self.rest / 2 % 8;
+        let amount = self.rest / 2 / 8;
+        let at = self.at as usize;
+        Token {
+            kind: kind_by(code, amount),
+            at,
+            end: at + size_by(code, amount) as usize,
+            line_before: self.rest % 2 == 1,
+        }
+    }
+
+    /// A token of a kind with this code.
+    #[tactic(auto, using(crate::proofs::Packing::packed_back))]
+    fn packed(at: u32, code: u32, amount: u32, line_before: bool) -> Kept
+        requires code { code < 8 }
+        requires amount { amount < 2 ^ 28 }
+        ensures { result ≡ token_by at code amount (if line_before then 1 else 0) }
+    {
+        let line = if line_before { 1 } else { 0 };
+        Kept {
+            at,
+            rest: (amount * 8 + code) * 2 + line,
+        }
+    }
+
+    /// A token from an offset up to another. There is no memory for one that begins at 4 GiB or later, or has 256 MiB or more.
+    #[tactic(auto, using(crate::proofs::Packing::word_kept, crate::proofs::Packing::text_kept, crate::proofs::Packing::brace_kept, crate::proofs::Packing::colon_kept, crate::proofs::Packing::semicolon_kept, crate::proofs::Packing::comma_kept))]
+    pub(crate) fn new(
+        kind: TokenKind,
+        at: usize,
+        end: usize,
+        line_before: bool,
+    ) -> Result<Kept, Memory>
+        ensures { IfOk result (λ kept. kept ≡ token kind at end line_before) }
+    {
+        if end < at || at > FARTHEST || end - at > LONGEST {
+            return Err(Memory);
+        }
+        let size = (end - at) as u32;
+        let at = at as u32;
+        match kind {
+            TokenKind::Word => Ok(Kept::packed(at, 0, size, line_before)),
+            TokenKind::Text => Ok(Kept::packed(at, 1, size, line_before)),
+            _ if size != 1 => Err(Memory),
+            TokenKind::Brace(byte) => Ok(Kept::packed(at, 2, u32::from(byte), line_before)),
+            TokenKind::Colon => Ok(Kept::packed(at, 3, 0, line_before)),
+            TokenKind::Semicolon => Ok(Kept::packed(at, 4, 0, line_before)),
+            TokenKind::Comma => Ok(Kept::packed(at, 5, 0, line_before)),
+        }
+    }
+}

@@ -99,15 +99,9 @@ never_by a here n bytes w e = ap is_failed e ∙ never_failed here n bytes w
 pub never_going : (a : Option Answer) → a ≡ None → is_failed a ≡ false
 never_going a e = ap is_failed e
 
-pub rose_since : (a b c : ℕ) → a ≤ b → Rose b c → Rose a c
-rose_since a b c h i = omega (arith, h, i)
-
-pub rose_still : (a b c : ℕ) → Rose a b → b ≤ c → Rose a c
-rose_still a b c h i = omega (arith, h, i)
-
--- where a read failed, before a call or in it
-pub failed_since : (first old new : Option Answer) (a b c : ℕ) → old ≡ None → a ≤ b → b ≤ c → (is_failed new ≡ true → Rose b c) → is_failed new ≡ true → (is_failed first ≡ true) ⊎ Rose a c
-failed_since first old new a b c e h i j f = inr (rose_since a b c h (j f))
+-- a count that stood still before it rose
+pub rose_since : (a b c : ℕ) → b ≡ a → Rose b c → Rose a c
+rose_since a b c same rose = subst (λ n. Rose n c) same rose
 
 pub none_popped : {T : Type 0} (old new : List T) (x : T) → old ≡ new ++ option_to_list (Some x) → old ≡ [] → ⊥
 none_popped old new x e f = let k = ap length (sym e ∙ f) in absurd (omega (arith, k, length-append new (x ∷ [])))

@@ -4,3 +4,4 @@ pub mod RunsLaws
 pub mod SlotLaws
 pub mod FileLaws
 pub mod FilesReadLaws
+pub mod FailureLaws

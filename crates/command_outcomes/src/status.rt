@@ -1,6 +1,9 @@
 //! The statuses of a run, and the program's exit codes.
-ghost use Rattle.std.specs.Prelude.{◌≡◌};
+ghost use Rattle.std.specs.Prelude.{◌≡◌, MatchResult};
 ghost use Rattle.command_outcomes.specs.Status.{code_of};
+
+use text_io::Failed;
+
 /// How a run of a command ended.
 #[derive(Clone, Copy, Debug, PartialEq, Eq)]
 pub enum Status {
@@ -43,5 +46,15 @@ impl Status {
             Status::Memory => 8,
             Status::TooLong => 9,
         }
+    }
+}
+
+/// The status of a run whose last writing ended so: what it would be, or `Outside` where the writing failed.
+pub fn ended(written: Result<(), Failed>, status: Status) -> Status
+    ensures { MatchResult written (λ _. result ≡ status) (λ _. result ≡ Status.Outside) }
+{
+    match written {
+        Ok(()) => status,
+        Err(Failed) => Status::Outside,
     }
 }

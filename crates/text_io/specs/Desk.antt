@@ -54,9 +54,9 @@ took s slot count = record s { left = put_in s.left slot (option_map (drop count
 unfoldable pub wrote : DeskState → OutSlot → List ℕ → DeskState
 wrote s slot bytes = record s { written = put_out s.written slot (option_map (λ before. before ++ bytes) (s.written slot)) }
 
--- the count of faults rose between the two moments, or stands at its last value, 2^64 - 1
+-- the count of faults rose by one between the two moments, or stands at its last value, 2^64 - 1
 abbrev pub Rose : ℕ → ℕ → Type 0
-Rose before now = min (before + 1) (2 ^ 64 - 1) ≤ now
+Rose before now = now ≡ min (before + 1) (2 ^ 64 - 1)
 
 -- the count of faults did not fall, a call that went well left it as it was, and one that failed raised it
 pub record HasCause {T : Type 0} (before now : ℕ) (result : Result T Failed) : Type 0 where

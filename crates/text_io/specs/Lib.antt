@@ -6,6 +6,7 @@ pub mod EachSlot
 pub mod NamedFiles
 pub mod Memory
 pub mod Host
+pub mod Gate
 pub mod Found
 pub mod Sure
 pub mod Line

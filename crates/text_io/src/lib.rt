@@ -5,6 +5,7 @@
 
 mod each_slot;
 mod file_words;
+mod gate;
 mod host;
 mod line;
 mod memory;
@@ -19,6 +20,7 @@ mod slots;
 mod sure;
 mod writing;
 
+pub use gate::GatedDesk;
 pub use host::FileDesk;
 pub use line::Line;
 pub use memory::{Memory, MemoryDesk};

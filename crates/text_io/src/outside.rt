@@ -18,8 +18,8 @@ pub struct Failed;
 ///
 /// What is known of a desk at any moment is its `state`: the words of the command, the folder of named files, which
 /// slots are bound, the bytes that are left to read and the bytes that were written. A desk tells the folder, the
-/// bytes left and the bytes written, or does not, and never changes its mind. `faults` is a count that never falls; it
-/// stays where a call goes well.
+/// bytes left and the bytes written, or does not, and never changes its mind. `faults` counts the calls that failed, up to
+/// 2^64 - 1; it stays where a call goes well.
 pub trait Desk {
     ghost state: { Self → DeskState };
 

@@ -36,7 +36,7 @@ loop-item-preserved g c =
       kept = λ h. not_going _ _ none h (c.loop-item.invariant.kept h);
       clean = λ f. c.go_on.ensures.clean f ∙ c.loop-item.invariant.clean (ap is_failed none);
       empty = λ f. inr (c.go_on.ensures.empty f);
-      failed = λ f. inr (rose_since _ _ _ c.loop-item.invariant.later (c.go_on.ensures.failed f));
+      failed = λ f. inr (rose_since _ _ _ (c.loop-item.invariant.clean (ap is_failed none)) (c.go_on.ensures.failed f));
     }
 
 pub returns-in-Some-clause-answered : goal.returns-in-Some-clause-answered

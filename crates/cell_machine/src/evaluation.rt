@@ -163,7 +163,7 @@ fn values_at(cell: &Cell, sources: &[Source], point: &[bool]) -> Values
 {
     let mut values = Values::new();
     for i in 0..sources.len() {
-        values = values.with(source_name(cell, sources[i]), point[i]);
+        values.set(source_name(cell, sources[i]), point[i]);
     }
     values
 }

@@ -59,6 +59,15 @@ impl Values {
         Values { bits }
     }
 
+    /// Gives a name another value.
+    pub(crate) fn set(&mut self, name: usize, value: bool)
+        ensures { self.new ≡ slice_set self.old name value }
+    {
+        if name < Values::NAMES {
+            self.bits[name] = value;
+        }
+    }
+
     /// The values with those of a point for these names.
     pub fn written(self, names: &[usize], point: &[bool]) -> Values
         requires { length names.now ≡ length point.now }
@@ -66,7 +75,7 @@ impl Values {
     {
         let mut values = self;
         for i in 0..names.len() {
-            values = values.with(names[i], point[i]);
+            values.set(names[i], point[i]);
         }
         values
     }

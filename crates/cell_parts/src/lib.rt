@@ -3,6 +3,7 @@
 
 pub mod declarations;
 pub mod fault;
+mod group_texts;
 pub mod groups;
 mod laws;
 pub mod least;

@@ -1,16 +1,16 @@
 //! What the groups that hold states say.
 ghost use Rattle.std.specs.Prelude.{◌≡◌, IfOk, map};
-ghost use Rattle.std.specs.Option.{option_map};
-ghost use Rattle.cell_parts.specs.StateReadings.{is_ff as is_ff_of, data_name as data_name_of, control_name as control_name_of, lacks_attribute as lacks_attribute_of, group_malformed as group_malformed_of, place_if as place_if_of, holds_state as holds_state_of, own_scope as own_scope_of, reading_of_texts as reading_of_texts_of, reading_of_table as reading_of_table_of, state_reading as state_reading_of};
-ghost use Rattle.cell_parts.specs.Shown.{shown_vocabulary, shown_arguments};
+ghost use Rattle.cell_parts.specs.StateReadings.{is_ff as is_ff_of, data_name as data_name_of, control_name as control_name_of, lacks_attribute as lacks_attribute_of, group_malformed as group_malformed_of, place_if as place_if_of, holds_state as holds_state_of, reading_of_texts as reading_of_texts_of, reading_of_table as reading_of_table_of, state_reading as state_reading_of};
+ghost use Rattle.cell_parts.specs.Shown.{shown_vocabulary};
 
 use crate::fault::Memory;
+use crate::group_texts::{driving_texts, forcing_texts};
 use crate::groups::{is_called, is_missing};
-use crate::states::{Arguments, arguments_of, is_table, states_in};
+use crate::states::{arguments_of, is_table, states_in};
 use crate::supports::{pins_among, support_of};
 use crate::table_inputs::{has_coupled_word, has_unknown_word, input_words, numbers_of};
 use crate::table_texts::table_with;
-use crate::texts::{Scope, Text, text_as};
+use crate::texts::Text;
 use crate::vocabulary::Vocabulary;
 use liberty_groups::Group;
 use sqlite_items::Items;
@@ -112,22 +112,6 @@ fn group_malformed(group: &Group) -> Option<usize>
     )
 }
 
-/// What the texts of a group may name that may name its own variables.
-fn own_scope(vocabulary: &Vocabulary<'_>, arguments: Option<Arguments<'_>>) -> Scope
-    ensures { result ≡ own_scope_of (shown_vocabulary vocabulary.now) (option_map shown_arguments arguments.entry) }
-{
-    match arguments {
-        None => Scope::Data {
-            first: None,
-            second: None,
-        },
-        Some(arguments) => Scope::Data {
-            first: vocabulary.names.number(arguments.first),
-            second: vocabulary.names.number(arguments.second),
-        },
-    }
-}
-
 /// What an `ff` or `latch` says.
 fn reading_of_texts(
     alloc: Global,
@@ -137,26 +121,28 @@ fn reading_of_texts(
 ) -> Result<StateReading, Memory>
     ensures { IfOk result (λ reading. reading ≡ reading_of_texts_of (shown_vocabulary vocabulary.now) pins group.now) }
 {
-    let own = own_scope(vocabulary, arguments_of(group));
-    let data = last_attribute(group, data_name(group));
-    let control = last_attribute(group, control_name(group));
-    let data_text = text_as(alloc, vocabulary, own, data)?;
-    let control = text_as(alloc, vocabulary, Scope::Control, control)?;
-    let clear = last_attribute(group, b"clear");
-    let clear = text_as(alloc, vocabulary, Scope::Control, clear)?;
-    let preset = last_attribute(group, b"preset");
-    let preset = text_as(alloc, vocabulary, Scope::Control, preset)?;
-    let support = support_of(alloc, pins, &data_text, &control, &clear, &preset)?;
+    let holds = holds_state(alloc, group)?;
+    let data = data_name(group);
+    let driving = driving_texts(alloc, vocabulary, group, data, control_name(group))?;
+    let forcing = forcing_texts(alloc, vocabulary, group)?;
+    let support = support_of(
+        alloc,
+        pins,
+        &driving.data_text,
+        &driving.control,
+        &forcing.clear,
+        &forcing.preset,
+    )?;
     Ok(StateReading {
         at: group.at,
-        holds: holds_state(alloc, group)?,
+        holds,
         malformed: group_malformed(group),
         unknown: None,
         coupled: None,
-        data_text,
-        control,
-        clear,
-        preset,
+        data_text: driving.data_text,
+        control: driving.control,
+        clear: forcing.clear,
+        preset: forcing.preset,
         inputs: Items::new(alloc),
         support,
     })
@@ -171,6 +157,7 @@ fn reading_of_table(
 ) -> Result<StateReading, Memory>
     ensures { IfOk result (λ reading. reading ≡ reading_of_table_of (shown_vocabulary vocabulary.now) pins group.now) }
 {
+    let holds = holds_state(alloc, group)?;
     let arguments = arguments_of(group);
     let words = input_words(alloc, arguments)?;
     let numbers = numbers_of(alloc, vocabulary, &words)?;
@@ -178,7 +165,7 @@ fn reading_of_table(
     let data_text = table_with(alloc, arguments, last_attribute(group, b"table"))?;
     Ok(StateReading {
         at: group.at,
-        holds: holds_state(alloc, group)?,
+        holds,
         malformed: group_malformed(group),
         unknown: place_if(has_unknown_word(vocabulary, &words), group.at),
         coupled: place_if(has_coupled_word(vocabulary, &words), group.at),

@@ -20,6 +20,7 @@ mod scans;
 mod sources;
 mod state_groups;
 mod text_faults;
+mod text_kinds;
 mod timing_faults;
 mod timings;
 

@@ -6,7 +6,7 @@ ghost use Rattle.cell_parts.specs.Limits.{wide_text as wide_text_of, wide_functi
 ghost use Rattle.cell_parts.specs.Shown.{shown_vocabulary};
 
 use crate::sources::sources_of;
-use crate::state_groups::function_of;
+use crate::text_kinds::function_of;
 use cell_machine::{Direction, OutputPin, StateGroup};
 use cell_parts::fault::Memory;
 use cell_parts::least::lesser;

@@ -1,110 +1,22 @@
 //! The state groups of a cell.
-ghost use Rattle.std.specs.Prelude.{◌≡◌, IfOk, length, map, codes, unwrap_or, All};
+ghost use Rattle.std.specs.Prelude.{◌≡◌, IfOk, length, map, codes, All};
 ghost use Rattle.std.specs.Option.{option_map};
 ghost use Rattle.timing_arcs.specs.Attributes.{attribute_of};
 ghost use Rattle.timing_arcs.specs.Shown.{shown};
-ghost use Rattle.cell_parts.specs.States.{first_both as first_both_of, second_both as second_both_of};
-ghost use Rattle.cell_parts.specs.Building.{function_in as function_in_of, function_of as function_of_text, clocked as clocked_of, gated as gated_of, kind_of_texts as kind_of_texts_of, table_in as table_in_of, table_groups as table_groups_of, groups_in as groups_in_of, node_groups, groups_from as groups_from_of, FitsText, FitsReading};
-ghost use Rattle.cell_machine.specs.declared.groups.Both.TheVariants as both;
+ghost use Rattle.cell_parts.specs.Building.{kind_of_texts as kind_of_texts_of, table_in as table_in_of, table_groups as table_groups_of, groups_in as groups_in_of, node_groups, groups_from as groups_from_of, FitsReading};
 ghost use Rattle.cell_machine.specs.declared.groups.GroupKind.TheVariants as kind_of;
 ghost use Rattle.cell_parts.specs.Shown.{shown_arguments};
 
-use bool_functions::Function;
-use cell_machine::{Both, Clocked, Gated, GroupKind, StateGroup};
+use crate::text_kinds::text_kind;
+use cell_machine::{GroupKind, StateGroup};
 use cell_parts::fault::Memory;
-use cell_parts::state_readings::{StateReading, is_ff};
-use cell_parts::states::{Arguments, arguments_of, both_named, is_table, names_in};
-use cell_parts::texts::Text;
+use cell_parts::state_readings::StateReading;
+use cell_parts::states::{Arguments, arguments_of, is_table, names_in};
 use liberty_groups::Group;
 use sqlite_items::Items;
 use statetables::{StateTable, TableFault, read_table};
 use std::alloc::Global;
 use timing_arcs::{Attribute, last_attribute};
-
-/// The function of a text, where `to` has the number in the cell for each of its names.
-fn function_in(alloc: Global, to: &[usize], text: &Text) -> Result<Option<Function>, Memory>
-    requires { FitsText (length to.now) text.now }
-    ensures { IfOk result (λ f. f ≡ function_in_of to.now text.now) }
-{
-    match text {
-        Text::Reads { function, .. } => Ok(Some(function.renamed(alloc, to)?)),
-        Text::Absent | Text::Malformed(_) | Text::Unknown(_) | Text::Coupled(_) => Ok(None),
-    }
-}
-
-/// The same of a text that is there.
-pub(crate) fn function_of(alloc: Global, to: &[usize], text: &Text) -> Result<Function, Memory>
-    requires { FitsText (length to.now) text.now }
-    ensures { IfOk result (λ f. f ≡ function_of_text to.now text.now) }
-{
-    match function_in(alloc, to, text)? {
-        Some(function) => Ok(function),
-        None => Ok(Function::of_name(0)),
-    }
-}
-
-/// What the first variable becomes where both `clear` and `preset` are 1.
-fn first_both(group: &Group) -> Both
-    ensures { result ≡ unwrap_or (first_both_of group.now) both.Unknown }
-{
-    match last_attribute(group, b"clear_preset_var1") {
-        None => Both::Unknown,
-        Some(attribute) => both_named(attribute.text).unwrap_or(Both::Unknown),
-    }
-}
-
-/// What the second variable becomes where both `clear` and `preset` are 1.
-fn second_both(group: &Group) -> Both
-    ensures { result ≡ unwrap_or (second_both_of group.now) both.Unknown }
-{
-    match last_attribute(group, b"clear_preset_var2") {
-        None => Both::Unknown,
-        Some(attribute) => match both_named(attribute.text) {
-            None | Some(Both::Keep) => Both::Unknown,
-            Some(both) => both,
-        },
-    }
-}
-
-/// The texts of a flip-flop as functions.
-fn clocked(
-    alloc: Global,
-    to: &[usize],
-    group: &Group,
-    reading: &StateReading,
-) -> Result<Clocked, Memory>
-    requires { FitsReading (length to.now) reading.now }
-    ensures { IfOk result (λ k. k ≡ clocked_of to.now group.now reading.now) }
-{
-    Ok(Clocked {
-        next_state: function_of(alloc, to, &reading.data_text)?,
-        clocked_on: function_of(alloc, to, &reading.control)?,
-        clear: function_in(alloc, to, &reading.clear)?,
-        preset: function_in(alloc, to, &reading.preset)?,
-        both1: first_both(group),
-        both2: second_both(group),
-    })
-}
-
-/// The texts of a latch as functions.
-fn gated(
-    alloc: Global,
-    to: &[usize],
-    group: &Group,
-    reading: &StateReading,
-) -> Result<Gated, Memory>
-    requires { FitsReading (length to.now) reading.now }
-    ensures { IfOk result (λ k. k ≡ gated_of to.now group.now reading.now) }
-{
-    Ok(Gated {
-        data_in: function_in(alloc, to, &reading.data_text)?,
-        enable: function_in(alloc, to, &reading.control)?,
-        clear: function_in(alloc, to, &reading.clear)?,
-        preset: function_in(alloc, to, &reading.preset)?,
-        both1: first_both(group),
-        both2: second_both(group),
-    })
-}
 
 /// The state of an `ff` or `latch`.
 fn text_group(
@@ -116,12 +28,8 @@ fn text_group(
     requires { FitsReading (length to.now) reading.now }
     ensures { IfOk result (λ g. g ≡ record { kind = kind_of_texts_of to.now group.now reading.now; support = reading.now.support }) }
 {
-    let kind = if is_ff(group) {
-        GroupKind::Ff(clocked(alloc, to, group, reading)?)
-    } else {
-        GroupKind::Latch(gated(alloc, to, group, reading)?)
-    };
     let support = Items::from_slice(alloc, reading.support.as_slice())?;
+    let kind = text_kind(alloc, to, group, reading)?;
     Ok(StateGroup { kind, support })
 }
 

@@ -1,0 +1,169 @@
+//! The texts of an `ff` or `latch` as functions.
+ghost use Rattle.std.specs.Prelude.{◌≡◌, IfOk, length, unwrap_or};
+ghost use Rattle.cell_parts.specs.States.{first_both as first_both_of, second_both as second_both_of};
+ghost use Rattle.cell_parts.specs.Building.{function_in as function_in_of, function_of as function_of_text, clocked as clocked_of, gated as gated_of, kind_of_texts as kind_of_texts_of, FitsText, FitsReading};
+ghost use Rattle.cell_machine.specs.declared.groups.Both.TheVariants as both;
+
+use bool_functions::Function;
+use cell_machine::{Both, Clocked, Gated, GroupKind};
+use cell_parts::fault::Memory;
+use cell_parts::state_readings::{StateReading, is_ff};
+use cell_parts::states::both_named;
+use cell_parts::texts::Text;
+use liberty_groups::Group;
+use std::alloc::Global;
+use timing_arcs::last_attribute;
+
+/// The function of a text, where `to` has the number in the cell for each of its names.
+fn function_in(alloc: Global, to: &[usize], text: &Text) -> Result<Option<Function>, Memory>
+    requires { FitsText (length to.now) text.now }
+    ensures { IfOk result (λ f. f ≡ function_in_of to.now text.now) }
+{
+    match text {
+        Text::Reads { function, .. } => Ok(Some(function.renamed(alloc, to)?)),
+        Text::Absent | Text::Malformed(_) | Text::Unknown(_) | Text::Coupled(_) => Ok(None),
+    }
+}
+
+/// The same of a text that is there.
+pub(crate) fn function_of(alloc: Global, to: &[usize], text: &Text) -> Result<Function, Memory>
+    requires { FitsText (length to.now) text.now }
+    ensures { IfOk result (λ f. f ≡ function_of_text to.now text.now) }
+{
+    match function_in(alloc, to, text)? {
+        Some(function) => Ok(function),
+        None => Ok(Function::of_name(0)),
+    }
+}
+
+/// What the first variable becomes where both `clear` and `preset` are 1.
+fn first_both(group: &Group) -> Both
+    ensures { result ≡ unwrap_or (first_both_of group.now) both.Unknown }
+{
+    match last_attribute(group, b"clear_preset_var1") {
+        None => Both::Unknown,
+        Some(attribute) => both_named(attribute.text).unwrap_or(Both::Unknown),
+    }
+}
+
+/// What the second variable becomes where both `clear` and `preset` are 1.
+fn second_both(group: &Group) -> Both
+    ensures { result ≡ unwrap_or (second_both_of group.now) both.Unknown }
+{
+    match last_attribute(group, b"clear_preset_var2") {
+        None => Both::Unknown,
+        Some(attribute) => match both_named(attribute.text) {
+            None | Some(Both::Keep) => Both::Unknown,
+            Some(both) => both,
+        },
+    }
+}
+
+/// Two functions that may not be written.
+#[derive(Drop)]
+struct WrittenPair {
+    first: Option<Function>,
+    second: Option<Function>,
+}
+
+/// Two texts as functions that may not be written.
+fn written_pair(
+    alloc: Global,
+    to: &[usize],
+    first: &Text,
+    second: &Text,
+) -> Result<WrittenPair, Memory>
+    requires first { FitsText (length to.now) first.now }
+    requires second { FitsText (length to.now) second.now }
+    ensures first { IfOk result (λ pair. pair.first ≡ function_in_of to.now first.now) }
+    ensures second { IfOk result (λ pair. pair.second ≡ function_in_of to.now second.now) }
+{
+    let first = function_in(alloc, to, first)?;
+    let second = function_in(alloc, to, second)?;
+    Ok(WrittenPair { first, second })
+}
+
+/// Two functions.
+#[derive(Drop)]
+struct NeededPair {
+    first: Function,
+    second: Function,
+}
+
+/// Two texts as functions.
+fn needed_pair(
+    alloc: Global,
+    to: &[usize],
+    first: &Text,
+    second: &Text,
+) -> Result<NeededPair, Memory>
+    requires first { FitsText (length to.now) first.now }
+    requires second { FitsText (length to.now) second.now }
+    ensures first { IfOk result (λ pair. pair.first ≡ function_of_text to.now first.now) }
+    ensures second { IfOk result (λ pair. pair.second ≡ function_of_text to.now second.now) }
+{
+    let first = function_of(alloc, to, first)?;
+    let second = function_of(alloc, to, second)?;
+    Ok(NeededPair { first, second })
+}
+
+/// The texts of a flip-flop as functions.
+fn clocked(
+    alloc: Global,
+    to: &[usize],
+    group: &Group,
+    reading: &StateReading,
+) -> Result<Clocked, Memory>
+    requires { FitsReading (length to.now) reading.now }
+    ensures { IfOk result (λ k. k ≡ clocked_of to.now group.now reading.now) }
+{
+    let driving = needed_pair(alloc, to, &reading.data_text, &reading.control)?;
+    let forcing = written_pair(alloc, to, &reading.clear, &reading.preset)?;
+    Ok(Clocked {
+        next_state: driving.first,
+        clocked_on: driving.second,
+        clear: forcing.first,
+        preset: forcing.second,
+        both1: first_both(group),
+        both2: second_both(group),
+    })
+}
+
+/// The texts of a latch as functions.
+fn gated(
+    alloc: Global,
+    to: &[usize],
+    group: &Group,
+    reading: &StateReading,
+) -> Result<Gated, Memory>
+    requires { FitsReading (length to.now) reading.now }
+    ensures { IfOk result (λ k. k ≡ gated_of to.now group.now reading.now) }
+{
+    let driving = written_pair(alloc, to, &reading.data_text, &reading.control)?;
+    let forcing = written_pair(alloc, to, &reading.clear, &reading.preset)?;
+    Ok(Gated {
+        data_in: driving.first,
+        enable: driving.second,
+        clear: forcing.first,
+        preset: forcing.second,
+        both1: first_both(group),
+        both2: second_both(group),
+    })
+}
+
+/// The kind of an `ff` or `latch`.
+pub(crate) fn text_kind(
+    alloc: Global,
+    to: &[usize],
+    group: &Group,
+    reading: &StateReading,
+) -> Result<GroupKind, Memory>
+    requires { FitsReading (length to.now) reading.now }
+    ensures { IfOk result (λ kind. kind ≡ kind_of_texts_of to.now group.now reading.now) }
+{
+    if is_ff(group) {
+        Ok(GroupKind::Ff(clocked(alloc, to, group, reading)?))
+    } else {
+        Ok(GroupKind::Latch(gated(alloc, to, group, reading)?))
+    }
+}

@@ -5,7 +5,7 @@ use Rattle.std.proofs.lemmas.Nat.{mod-mul-add, div-mul-add, pow-add, pow_pos, an
 use Rattle.std.proofs.Math.Nat.{mod-eq_of_lt, mod-lt, div-lt_iff_lt-mul}
 use Rattle.trit_cubes.specs.declared.trits.Trit.{Trit}
 use Rattle.trit_cubes.specs.declared.trits.Trit.TheVariants.{Zero, One, Unknown}
-use Rattle.trit_cubes.specs.Filling.{number}
+use Rattle.trit_cubes.specs.Filling.{bit, number}
 use Rattle.trit_cubes.specs.Words.{fixed_bit, value_bit, fixed_word, value_word, trit_of_bits, trits_of}
 use Rattle.trit_cubes.specs.InWords.{in_word, word_part}
 use Rattle.trit_cubes.proofs.WordLemmas.{fixed_bit-lt, value_bit-lt}
@@ -231,3 +231,28 @@ packed-has n left z o start step set el l p q hz ho point e =
 -- the number of the last place, where there is one
 pub one-less : (left : ℕ) → (left ≡ 0 → ⊥) → left ≡ suc (left - 1)
 one-less left some = omega (arith, some)
+
+-- the word of two points
+pub pair-has : (zero_bit one_bit : Bool) (z o start step : ℕ) (set : List Bool) → z ≡ bit zero_bit → o ≡ bit one_bit
+    → zero_bit ≡ slice_index_or set start false → one_bit ≡ slice_index_or set (start + step) false
+    → (p : List Bool) → length p ≡ 1 → in_word 1 (z + 2 * o) p ≡ slice_index_or set (start + step * number p) false
+pair-has b d z o start step set ez eo hb hd [] e = absurd (omega arith)
+pair-has b d z o start step set ez eo hb hd (x ∷ y ∷ p) e = absurd (omega arith)
+pair-has b d z o start step set ez eo hb hd (false ∷ []) e =
+    let at : start ≡ start + step * (0 + 2 * 0) = omega arith in
+    rw (ez, eo) (pair_first b d) ∙ hb ∙ ap (λ k. slice_index_or set k false) at
+  where
+    pair_first : (b d : Bool) → in_word 0 ((bit b + 2 * bit d) % 2 ^ 2 ^ 0) [] ≡ b
+    pair_first true true = refl
+    pair_first true false = refl
+    pair_first false true = refl
+    pair_first false false = refl
+pair-has b d z o start step set ez eo hb hd (true ∷ []) e =
+    let at : start + step ≡ start + step * (1 + 2 * 0) = omega arith in
+    rw (ez, eo) (pair_second b d) ∙ hd ∙ ap (λ k. slice_index_or set k false) at
+  where
+    pair_second : (b d : Bool) → in_word 0 ((bit b + 2 * bit d) / 2 ^ 2 ^ 0) [] ≡ d
+    pair_second true true = refl
+    pair_second true false = refl
+    pair_second false true = refl
+    pair_second false false = refl

@@ -67,7 +67,7 @@ fn half(alloc: Global, set: &[bool], first: bool) -> Result<Vec<bool>, Memory>
     ensures values { IfOk result (λ points. (p : List Bool) → 2 * vec_len points ≡ length set.now → has points.items p ≡ has set.now (first ∷ p)) }
 {
     let offset = usize::from(first);
-    let mut points = Vec::new(alloc);
+    let mut points = Vec::with_capacity(alloc, set.len() / 2)?;
     for k in 0..set.len() / 2 {
         points.push(set[2 * k + offset])?;
     }
@@ -80,7 +80,7 @@ fn common(alloc: Global, one: &[bool], other: &[bool]) -> Result<Vec<bool>, Memo
     ensures entries { IfOk result (λ points. vec_len points ≡ length one.now) }
     ensures values { IfOk result (λ points. (p : List Bool) → has points.items p ≡ common (has one.now) (has other.now) p) }
 {
-    let mut points = Vec::new(alloc);
+    let mut points = Vec::with_capacity(alloc, one.len())?;
     for k in 0..one.len() {
         points.push(one[k] && other[k])?;
     }

@@ -19,7 +19,7 @@ pub fn table_of<F: Fn(&[bool]) -> bool>(
     ensures entries { IfOk result (λ table. length table.items ≡ 2 ^ places) }
     ensures values { IfOk result (λ table. (set : List Bool → Bool) → Tests (λ p b. FnReturnsAt F.Fn test.now p b) places set → IsTableOf places set table.items) }
 {
-    let mut table = Vec::new(alloc);
+    let mut table = Vec::with_capacity(alloc, 1 << places)?;
     for number in 0..1u32 << places {
         let point = point_of(number);
         table.push(test(&point[..places]))?;

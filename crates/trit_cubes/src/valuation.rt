@@ -26,7 +26,7 @@ pub fn values_of<F: Fn(&[bool]) -> Trit>(
     ensures entries { IfOk result (λ values. length values.items ≡ 2 ^ places) }
     ensures values { IfOk result (λ values. (f : List Bool → Trit) → Gives (λ p t. FnReturnsAt F.Fn function.now p t) places f → AreValuesOf places f values.items) }
 {
-    let mut values = Vec::new(alloc);
+    let mut values = Vec::with_capacity(alloc, 1 << places)?;
     for number in 0..1u32 << places {
         let point = point_of(number);
         values.push(function(&point[..places]))?;

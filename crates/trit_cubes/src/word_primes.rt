@@ -16,6 +16,9 @@ use std::alloc::Global;
 /// The most places of a set in a word.
 const MOST: usize = 6;
 
+/// For how many primes there is room from the start.
+const USUAL: usize = 12;
+
 /// As `primes`, over at most six places.
 pub(crate) fn primes_by_words(alloc: Global, n: usize, set: &[bool]) -> Result<Vec<Cube>, Memory>
     requires short { n ≤ 6 }
@@ -23,7 +26,7 @@ pub(crate) fn primes_by_words(alloc: Global, n: usize, set: &[bool]) -> Result<V
     ensures { IfOk result (λ found. found.items ≡ prime_list n (has set.now)) }
 {
     let word = packed(set, 0, 1, n);
-    let mut found = Vec::new(alloc);
+    let mut found = Vec::with_capacity(alloc, USUAL)?;
     add_primes(&mut found, Cube::empty(), n, word, &[])?;
     Ok(found)
 }
@@ -40,10 +43,25 @@ fn packed(set: &[bool], start: usize, step: usize, left: usize) -> u64
     if left == 0 {
         return u64::from(set[start]);
     }
+    if left == 1 {
+        return packed_pair(set, start, step);
+    }
     let half = 1u32 << (left - 1);
     let zero = packed(set, start, 2 * step, left - 1);
     let one = packed(set, start + step, 2 * step, left - 1);
     zero + (one << half)
+}
+
+/// The same where one place follows the first ones.
+fn packed_pair(set: &[bool], start: usize, step: usize) -> u64
+    requires entries { length set.now ≡ step * 2 }
+    requires start { start < step }
+    ensures below { result < 4 }
+    ensures values { (p : List Bool) → length p ≡ 1 → in_word 1 result p ≡ slice_index_or set.now (start + step * number p) false }
+{
+    let zero = u64::from(set[start]);
+    let one = u64::from(set[start + step]);
+    zero + 2 * one
 }
 
 /// Adds the primes that are inside none of the other sets, behind the places in front of them.

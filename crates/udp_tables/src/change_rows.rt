@@ -2,7 +2,7 @@
 ghost use Rattle.std.specs.Prelude.{◌≡◌, ◌+◌, ◌<◌, ◌≤◌, suc, not, List, ◌++◌, map, filter, length, All, IfOk, OnOk};
 ghost use Rattle.trit_cubes.specs.declared.trits.Trit.{Trit};
 ghost use Rattle.trit_cubes.specs.declared.trits.Trit.TheVariants as trit;
-ghost use Rattle.trit_cubes.specs.Sets.{gives};
+ghost use Rattle.trit_cubes.specs.Sets.{gives, AreValuesOf};
 ghost use Rattle.trit_cubes.specs.Prime.{prime_list};
 ghost use Rattle.cell_machine.specs.Machine.{edge_value};
 ghost use Rattle.cell_machine.specs.CellData.{data_of};
@@ -14,12 +14,12 @@ ghost use Rattle.udp_tables.specs.Pairs.{AreNumbers};
 use crate::cube_index::CubeIndex;
 use crate::entries::{change_entries, noted};
 use crate::faults::Memory;
-use crate::points::steps_to;
+use crate::points::value_at;
 use crate::table::{Entry, Level, Next, UdpRow};
 use cell_machine::Cell;
 use sqlite_items::Items;
 use std::alloc::Global;
-use trit_cubes::{Cube, Trit, primes, table_of};
+use trit_cubes::{Cube, Trit, primes_where, values_of};
 
 /// Adds the rows of the changes of one input: those that give 1 or keep the state, and then those that give 0.
 pub(crate) fn add_rows_of_input(
@@ -34,27 +34,51 @@ pub(crate) fn add_rows_of_input(
     requires place { place < length (support_at (data_of cell.now) group) }
     ensures { OnOk result (rows.new ≡ rows.old ++ compact_edge_rows (edge_row notifier) (keep_row notifier) (step_at (data_of cell.now) group) (length (support_at (data_of cell.now) group)) place) }
 {
-    let ones = edge_cubes(alloc, cell, group, place, Trit::One)?;
-    let zeros = edge_cubes(alloc, cell, group, place, Trit::Zero)?;
+    let values = change_values(alloc, cell, group, place)?;
+    let ones = edge_cubes(alloc, cell, group, place, &values, Trit::One)?;
+    let zeros = edge_cubes(alloc, cell, group, place, &values, Trit::Zero)?;
     add_rows_of_ones(alloc, rows, notifier, place, &ones, &zeros)?;
     add_rows_of_zeros(alloc, rows, notifier, place, &zeros, &ones)?;
     Ok(())
 }
 
-/// The primes of the points at which a change of one input gives this value, less those that have no points that change.
+/// What a change of one input gives at all points.
+fn change_values(
+    alloc: Global,
+    cell: &Cell,
+    group: usize,
+    place: usize,
+) -> Result<Vec<Trit>, Memory>
+    requires group { group < length cell.now.groups }
+    requires place { place < length (support_at (data_of cell.now) group) }
+    ensures { IfOk result (λ values. AreValuesOf (suc (suc (length (support_at (data_of cell.now) group)))) (edge_value (step_at (data_of cell.now) group) place) values.items) }
+{
+    let pins = cell.group(group).support.len();
+    let values = values_of(
+        alloc,
+        pins + 2,
+        &|point: &[bool]| { value_at(cell, group, place, point) },
+    )?;
+    Ok(values)
+}
+
+/// The primes of the points at which a change of one input gives this value, less those that have no points that change, by
+/// what it gives at all points.
 fn edge_cubes(
     alloc: Global,
     cell: &Cell,
     group: usize,
     place: usize,
+    values: &[Trit],
     value: Trit,
 ) -> Result<Vec<Cube>, Memory>
     requires group { group < length cell.now.groups }
     requires place { place < length (support_at (data_of cell.now) group) }
+    requires values { AreValuesOf (suc (suc (length (support_at (data_of cell.now) group)))) (edge_value (step_at (data_of cell.now) group) place) values.now }
     ensures list { IfOk result (λ cubes. cubes.items ≡ edge_cubes (step_at (data_of cell.now) group) (length (support_at (data_of cell.now) group)) place value) }
     ensures wide { IfOk result (λ cubes. All (λ cube. place + 3 ≤ length cube) cubes.items) }
 {
-    let cubes = change_primes(alloc, cell, group, place, value)?;
+    let cubes = change_primes(alloc, cell, group, place, values, value)?;
     let moving = moving_cubes(alloc, &cubes)?;
     Ok(moving)
 }
@@ -65,20 +89,17 @@ fn change_primes(
     cell: &Cell,
     group: usize,
     place: usize,
+    values: &[Trit],
     value: Trit,
 ) -> Result<Vec<Cube>, Memory>
     requires group { group < length cell.now.groups }
     requires place { place < length (support_at (data_of cell.now) group) }
+    requires values { AreValuesOf (suc (suc (length (support_at (data_of cell.now) group)))) (edge_value (step_at (data_of cell.now) group) place) values.now }
     ensures list { IfOk result (λ cubes. cubes.items ≡ prime_list (suc (suc (length (support_at (data_of cell.now) group)))) (gives value (edge_value (step_at (data_of cell.now) group) place))) }
     ensures wide { IfOk result (λ cubes. All (λ cube. place + 3 ≤ length cube) cubes.items) }
 {
     let pins = cell.group(group).support.len();
-    let table = table_of(
-        alloc,
-        pins + 2,
-        &|point: &[bool]| { steps_to(cell, group, place, value, point) },
-    )?;
-    let cubes = primes(alloc, pins + 2, &table)?;
+    let cubes = primes_where(alloc, pins + 2, values, value)?;
     Ok(cubes)
 }
 
@@ -87,7 +108,7 @@ fn moving_cubes(alloc: Global, cubes: &[Cube]) -> Result<Vec<Cube>, Memory>
     requires { All (λ cube. 2 ≤ length cube) cubes.now }
     ensures { IfOk result (λ moving. moving.items ≡ filter moves cubes.now) }
 {
-    let mut moving = Vec::new(alloc);
+    let mut moving = Vec::with_capacity(alloc, cubes.len())?;
     for cube in cubes {
         if moves(cube) {
             moving.push(*cube)?;

@@ -1,7 +1,6 @@
 //! The rows of a cell's conditions and outputs.
 ghost use Rattle.std.specs.Prelude.{◌≡◌, ◌<◌, length, IfOk};
-ghost use Rattle.trit_cubes.specs.Sets.{gives};
-ghost use Rattle.trit_cubes.specs.Prime.{prime_list};
+ghost use Rattle.trit_cubes.specs.Sets.{AreValuesOf};
 ghost use Rattle.bool_functions.specs.Support.{support_of};
 ghost use Rattle.cell_machine.specs.Outputs.{condition_at};
 ghost use Rattle.udp_tables.specs.Generated.{function_rows};
@@ -9,7 +8,7 @@ ghost use Rattle.udp_tables.specs.Conditions.{IsSmall};
 ghost use Rattle.cell_machine.specs.CellData.{data_of};
 ghost use Rattle.cell_machine.specs.CellTrace.{sources_at, output_value_at};
 
-use crate::cell_values::output_is;
+use crate::cell_values::output_value;
 use crate::faults::Memory;
 use crate::generation::{cube_rows, table_rows};
 use crate::table::UdpRow;
@@ -17,7 +16,7 @@ use bool_functions::Function;
 use cell_machine::Cell;
 use sqlite_items::Items;
 use std::alloc::Global;
-use trit_cubes::{Cube, Trit, primes, table_of};
+use trit_cubes::{Trit, primes_where, values_of};
 
 /// The rows of a condition over the pins that it names, which are `names`.
 pub(crate) fn condition_rows(
@@ -43,29 +42,24 @@ pub(crate) fn output_rows(
     requires { output < length cell.now.outputs }
     ensures { IfOk result (λ rows. rows ≡ function_rows (length (sources_at (data_of cell.now) output)) (output_value_at (data_of cell.now) output)) }
 {
-    let ones = output_primes(alloc, cell, output, Trit::One)?;
-    let zeros = output_primes(alloc, cell, output, Trit::Zero)?;
     let places = cell.output_pin(output).support.len();
+    let values = output_values(alloc, cell, output)?;
+    let ones = primes_where(alloc, places, &values, Trit::One)?;
+    let zeros = primes_where(alloc, places, &values, Trit::Zero)?;
     let rows = cube_rows(alloc, places, &ones, &zeros)?;
     Ok(rows)
 }
 
-/// The primes of the points at which an output has this value.
-fn output_primes(
-    alloc: Global,
-    cell: &Cell,
-    output: usize,
-    value: Trit,
-) -> Result<Vec<Cube>, Memory>
+/// The values of an output at all points of its support.
+fn output_values(alloc: Global, cell: &Cell, output: usize) -> Result<Vec<Trit>, Memory>
     requires { output < length cell.now.outputs }
-    ensures { IfOk result (λ cubes. cubes.items ≡ prime_list (length (sources_at (data_of cell.now) output)) (gives value (output_value_at (data_of cell.now) output))) }
+    ensures { IfOk result (λ values. AreValuesOf (length (sources_at (data_of cell.now) output)) (output_value_at (data_of cell.now) output) values.items) }
 {
     let places = cell.output_pin(output).support.len();
-    let table = table_of(
+    let values = values_of(
         alloc,
         places,
-        &|point: &[bool]| { output_is(cell, output, value, point) },
+        &|point: &[bool]| { output_value(cell, output, point) },
     )?;
-    let cubes = primes(alloc, places, &table)?;
-    Ok(cubes)
+    Ok(values)
 }

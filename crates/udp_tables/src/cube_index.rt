@@ -44,7 +44,7 @@ fn cube_numbers(alloc: Global, cubes: &[Cube]) -> Result<Vec<u32>, Memory>
     requires { All (λ cube. 1 ≤ length cube) cubes.now }
     ensures { IfOk result (λ numbers. numbers.items ≡ map number_of cubes.now) }
 {
-    let mut numbers = Vec::new(alloc);
+    let mut numbers = Vec::with_capacity(alloc, cubes.len())?;
     for cube in cubes {
         numbers.push(number_of(cube))?;
     }

@@ -14,7 +14,7 @@ use trit_cubes::{Cube, Trit};
 pub(crate) fn level_entries(alloc: Global, cube: &Cube) -> Result<Vec<Entry>, Memory>
     ensures { IfOk result (λ entries. entries.items ≡ map level_entry cube.now) }
 {
-    let mut entries = Vec::new(alloc);
+    let mut entries = Vec::with_capacity(alloc, cube.len() + 1)?;
     for i in 0..cube.len() {
         entries.push(Entry::from(cube.place(i)))?;
     }
@@ -45,7 +45,7 @@ fn other_entries(alloc: Global, cube: &Cube) -> Result<Vec<Entry>, Memory>
     requires { 3 ≤ length cube.now }
     ensures { IfOk result (λ entries. entries.items ≡ map level_entry (drop 2 (init cube.now))) }
 {
-    let mut entries = Vec::new(alloc);
+    let mut entries = Vec::with_capacity(alloc, cube.len())?;
     for i in 2..cube.len() - 1 {
         entries.push(Entry::from(cube.place(i)))?;
     }

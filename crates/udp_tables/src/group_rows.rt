@@ -1,7 +1,7 @@
 //! The rows of a group's step.
 ghost use Rattle.std.specs.Prelude.{◌≡◌, ◌<◌, ◌++◌, map, length, replicate, IfOk, OnOk};
 ghost use Rattle.trit_cubes.specs.declared.trits.Trit.TheVariants as trit;
-ghost use Rattle.trit_cubes.specs.Sets.{gives};
+ghost use Rattle.trit_cubes.specs.Sets.{gives, AreValuesOf};
 ghost use Rattle.trit_cubes.specs.Prime.{prime_list};
 ghost use Rattle.cell_machine.specs.Machine.{forced_at};
 ghost use Rattle.cell_machine.specs.CellTrace.{support_at, step_at};
@@ -14,12 +14,12 @@ ghost use Rattle.udp_tables.specs.CellPrimitives.{has_notifier};
 use crate::change_rows::add_rows_of_input;
 use crate::entries::{free_entries, level_entries, noted};
 use crate::faults::Memory;
-use crate::points::forces;
+use crate::points::forced_at;
 use crate::table::{Entry, Level, Next, UdpRow};
 use cell_machine::Cell;
 use sqlite_items::Items;
 use std::alloc::Global;
-use trit_cubes::{Cube, Trit, primes, table_of};
+use trit_cubes::{Cube, Trit, primes_where, values_of};
 
 /// The rows of a group: the points that force its state, the notifier where the cell has checks, and then the changes of
 /// each input, of which two that hold the state are one.
@@ -91,25 +91,42 @@ fn add_forced_rows(
     requires { group < length cell.now.groups }
     ensures { OnOk result (rows.new ≡ rows.old ++ forced_rows (state_row notifier) (length (support_at (data_of cell.now) group)) (step_at (data_of cell.now) group)) }
 {
-    let ones = forced_primes(alloc, cell, group, Trit::One)?;
+    let values = forced_values(alloc, cell, group)?;
+    let ones = forced_primes(alloc, cell, group, &values, Trit::One)?;
     add_state_rows(alloc, rows, notifier, Trit::One, &ones)?;
-    let zeros = forced_primes(alloc, cell, group, Trit::Zero)?;
+    let zeros = forced_primes(alloc, cell, group, &values, Trit::Zero)?;
     add_state_rows(alloc, rows, notifier, Trit::Zero, &zeros)?;
     Ok(())
 }
 
-/// The primes of the points that force the state of a group to this value.
-fn forced_primes(alloc: Global, cell: &Cell, group: usize, value: Trit) -> Result<Vec<Cube>, Memory>
+/// The values to which the points force the state of a group.
+fn forced_values(alloc: Global, cell: &Cell, group: usize) -> Result<Vec<Trit>, Memory>
     requires { group < length cell.now.groups }
+    ensures { IfOk result (λ values. AreValuesOf (length (support_at (data_of cell.now) group)) (forced_at (step_at (data_of cell.now) group)) values.items) }
+{
+    let pins = cell.group(group).support.len();
+    let values = values_of(
+        alloc,
+        pins,
+        &|point: &[bool]| { forced_at(cell, group, point) },
+    )?;
+    Ok(values)
+}
+
+/// The primes of the points that force the state of a group to this value, by all values to which they force it.
+fn forced_primes(
+    alloc: Global,
+    cell: &Cell,
+    group: usize,
+    values: &[Trit],
+    value: Trit,
+) -> Result<Vec<Cube>, Memory>
+    requires group { group < length cell.now.groups }
+    requires values { AreValuesOf (length (support_at (data_of cell.now) group)) (forced_at (step_at (data_of cell.now) group)) values.now }
     ensures { IfOk result (λ cubes. cubes.items ≡ prime_list (length (support_at (data_of cell.now) group)) (gives value (forced_at (step_at (data_of cell.now) group)))) }
 {
     let pins = cell.group(group).support.len();
-    let table = table_of(
-        alloc,
-        pins,
-        &|point: &[bool]| { forces(cell, group, value, point) },
-    )?;
-    let cubes = primes(alloc, pins, &table)?;
+    let cubes = primes_where(alloc, pins, values, value)?;
     Ok(cubes)
 }
 

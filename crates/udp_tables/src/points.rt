@@ -1,6 +1,5 @@
 //! The steps of a group at points.
 ghost use Rattle.std.specs.Prelude.{◌≡◌, ◌+◌, ◌<◌, ◌≤◌, suc, [], ◌∷◌, ◌++◌, List, Bool, map, take, length};
-ghost use Rattle.trit_cubes.specs.Sets.{gives};
 ghost use Rattle.cell_machine.specs.Machine.{insert, edge_value, forced_at};
 ghost use Rattle.cell_machine.specs.CellData.{data_of};
 ghost use Rattle.cell_machine.specs.CellTrace.{support_at, step_at};
@@ -83,16 +82,16 @@ impl Bits {
     }
 }
 
-/// Whether each change to this point and no change force the state of a group to the value.
-pub(crate) fn forces(cell: &Cell, group: usize, value: Trit, point: &[bool]) -> bool
+/// The value to which each change to this point and no change force the state of a group, else unknown.
+pub(crate) fn forced_at(cell: &Cell, group: usize, point: &[bool]) -> Trit
     requires { group < length cell.now.groups }
-    ensures { length point.now ≡ length (support_at (data_of cell.now) group) → result ≡ gives value (forced_at (step_at (data_of cell.now) group)) point.now }
+    ensures { length point.now ≡ length (support_at (data_of cell.now) group) → result ≡ forced_at (step_at (data_of cell.now) group) point.now }
 {
     let pins = cell.group(group).support.len();
     if point.len() != pins {
-        return false;
+        return Trit::Unknown;
     }
-    forced_value(cell, group, point) == value
+    forced_value(cell, group, point)
 }
 
 /// The value to which a point forces the state of a group.
@@ -109,18 +108,18 @@ fn forced_value(cell: &Cell, group: usize, point: &[bool]) -> Trit
     forced(cell, group, &trits[..point.len()])
 }
 
-/// Whether the step of a group gives the value at a change of the input at `place`, at a point of the value before, the
-/// value after, the other inputs and the state.
-pub(crate) fn steps_to(cell: &Cell, group: usize, place: usize, value: Trit, point: &[bool]) -> bool
+/// What the step of a group gives at a change of the input at `place`, at a point of the value before, the value after, the
+/// other inputs and the state.
+pub(crate) fn value_at(cell: &Cell, group: usize, place: usize, point: &[bool]) -> Trit
     requires group { group < length cell.now.groups }
     requires place { place < length (support_at (data_of cell.now) group) }
-    ensures { length point.now ≡ suc (suc (length (support_at (data_of cell.now) group))) → result ≡ gives value (edge_value (step_at (data_of cell.now) group) place) point.now }
+    ensures { length point.now ≡ suc (suc (length (support_at (data_of cell.now) group))) → result ≡ edge_value (step_at (data_of cell.now) group) place point.now }
 {
     let pins = cell.group(group).support.len();
     if point.len() != pins + 2 {
-        return false;
+        return Trit::Unknown;
     }
-    edge_value(cell, group, place, point) == value
+    edge_value(cell, group, place, point)
 }
 
 /// What the step gives there.

@@ -42,11 +42,11 @@ fn truth_row_from(alloc: Global, row: &UdpRow) -> Result<TruthRow, Memory>
 fn all_trits_from(alloc: Global, entries: &[Entry]) -> Result<Items<Trits>, Memory>
     ensures { IfOk result (λ levels. levels ≡ map trits_from entries.now) }
 {
-    let mut levels = Items::new(alloc);
+    let mut levels = Vec::with_capacity(alloc, entries.len())?;
     for entry in entries {
         levels.push(trits_from(*entry))?;
     }
-    Ok(levels)
+    Ok(Items::from_vec(levels))
 }
 
 /// The level of an entry of a combinational primitive, which has levels alone.
@@ -117,7 +117,7 @@ fn state_row_from(alloc: Global, checks: bool, row: &UdpRow) -> Result<VStateRow
 fn columns_from(alloc: Global, checks: bool, entries: &[Entry]) -> Result<Items<VSymbol>, Memory>
     ensures { IfOk result (λ columns. columns ≡ columns_from checks entries.now) }
 {
-    let mut columns = Items::new(alloc);
+    let mut columns = Vec::with_capacity(alloc, entries.len())?;
     if checks {
         let (note, inputs) = split_note(entries);
         columns.push(violation_from(note))?;
@@ -125,12 +125,12 @@ fn columns_from(alloc: Global, checks: bool, entries: &[Entry]) -> Result<Items<
     } else {
         add_symbols(&mut columns, entries)?;
     }
-    Ok(columns)
+    Ok(Items::from_vec(columns))
 }
 
 /// Adds the symbols of the entries.
-fn add_symbols(columns: &mut Items<VSymbol>, entries: &[Entry]) -> Result<(), Memory>
-    ensures { OnOk result (columns.new ≡ columns.old ++ map symbol_from entries.now) }
+fn add_symbols(columns: &mut Vec<VSymbol>, entries: &[Entry]) -> Result<(), Memory>
+    ensures { OnOk result (columns.new.items ≡ columns.old.items ++ map symbol_from entries.now) }
 {
     for entry in entries {
         columns.push(symbol_from(*entry))?;

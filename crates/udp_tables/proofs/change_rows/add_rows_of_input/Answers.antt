@@ -17,6 +17,6 @@ returns c =
     let zeros = edge_cubes step n c.args.place Zero in
     c.in_ok-add_rows_of_zeros.ensures
     ∙ (λ i. (c.in_ok-add_rows_of_ones.ensures
-    ∙ (λ j. c.args.rows.now ++ map (kept_or_one make keep ((c.deref-2.ensures.value ∙ c.in_ok-zeros.ensures.list) j)) ((c.deref.ensures.value ∙ c.in_ok-ones.ensures.list) j))) i
-    ++ map (make Zero) (filter (λ d. not (is_paired Zero One ((c.deref-4.ensures.value ∙ c.in_ok-ones.ensures.list) i) d)) ((c.deref-3.ensures.value ∙ c.in_ok-zeros.ensures.list) i)))
+    ∙ (λ j. c.args.rows.now ++ map (kept_or_one make keep ((c.deref-4.ensures.value ∙ c.in_ok-zeros.ensures.list) j)) ((c.deref-3.ensures.value ∙ c.in_ok-ones.ensures.list) j))) i
+    ++ map (make Zero) (filter (λ d. not (is_paired Zero One ((c.deref-6.ensures.value ∙ c.in_ok-ones.ensures.list) i) d)) ((c.deref-5.ensures.value ∙ c.in_ok-zeros.ensures.list) i)))
     ∙ append_assoc c.args.rows.now (map (kept_or_one make keep zeros) ones) (map (make Zero) (filter (λ d. not (is_paired Zero One ones d)) zeros))

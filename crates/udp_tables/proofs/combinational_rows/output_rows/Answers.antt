@@ -1,5 +1,4 @@
-use Rattle.std.proofs.Common.{◌≡◌, ◌^◌, List, replicate, length, ◌∙◌, sym, ap, subst}
-use Rattle.trit_cubes.specs.declared.trits.Trit.{Trit}
+use Rattle.std.proofs.Common.{◌≡◌, ◌^◌, replicate, length, ◌∙◌, sym, ap, subst}
 use Rattle.trit_cubes.specs.declared.trits.Trit.TheVariants.{One, Zero, Unknown}
 use Rattle.trit_cubes.specs.Sets.{gives, AreValuesOf}
 use Rattle.trit_cubes.specs.Prime.{prime_list}

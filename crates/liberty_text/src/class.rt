@@ -18,6 +18,7 @@ pub enum Class {
 }
 
 /// What a byte is outside texts and comments.
+#[inline(always)]
 pub fn class_of(byte: u8) -> Class
     ensures { result ≡ class_of byte }
 {

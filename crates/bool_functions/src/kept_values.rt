@@ -1,5 +1,5 @@
 //! The values of a function at all points, kept so that a long tree is walked for them once.
-ghost use Rattle.std.specs.Prelude.{◌≡◌, ◌≤◌, ◌<◌, ◌^◌, false, length, slice_index_or, IfOk};
+ghost use Rattle.std.specs.Prelude.{◌≡◌, ◌≤◌, ◌<◌, ◌^◌, ◌↔◌, IsTrue, false, length, slice_index_or, IfOk};
 ghost use Rattle.bool_functions.specs.declared.tree.Node.{Node};
 ghost use Rattle.bool_functions.specs.Tree.{value_of};
 ghost use Rattle.bool_functions.specs.Point.{number, bits_at, HasValues};
@@ -34,6 +34,20 @@ impl KeptValues {
         }
         let values = table(node, alloc, &names)?;
         Ok(Some(KeptValues { names, values }))
+    }
+
+    /// Whether these are the names.
+    pub(crate) fn are_over(&self, places: &[usize]) -> bool
+        ensures { IsTrue result ↔ (self.now.names.items ≡ places.now) }
+    {
+        self.names.as_slice() == places
+    }
+
+    /// The values in a list of their own.
+    pub(crate) fn copied(&self, alloc: Global) -> Result<Vec<bool>, Memory>
+        ensures { IfOk result (λ v. v.items ≡ self.now.values.items) }
+    {
+        Ok(Vec::from_slice(alloc, self.values.as_slice())?)
     }
 
     /// The value where `bits[i]` is the value of the name `i`.

@@ -74,6 +74,11 @@ impl Line {
         ensures len { IfOk result (λ v. length v.items ≡ 2 ^ length places.now) }
         ensures entries { IfOk result (λ v. EachIndex v.items (λ k. slice_get v.items k ≡ Some (value_by (entry_of places.now k) self.now))) }
     {
+        if let Some(kept) = &self.kept {
+            if kept.are_over(places) {
+                return kept.copied(alloc);
+            }
+        }
         let node = self.tree(alloc)?;
         table(&node, alloc, places)
     }

@@ -1,6 +1,5 @@
--- The cells that are kept of the items of a library.
-use Rattle.std.proofs.Common.{◌≡◌, ℕ, Bool, true, false, List, [], ◌∷◌, ◌++◌, length, Option, Some, None, is_some, Result, Ok, IsErr, IfOk, refl, sym, ap, subst, ◌∙◌, append_assoc, length-append, if◌then◌else◌}
-use Rattle.std.specs.Prelude.{Vec}
+-- The cells that are kept of the items of a library, and what is made of them.
+use Rattle.std.proofs.Common.{◌≡◌, ℕ, Bool, true, false, List, [], ◌∷◌, ◌++◌, length, Option, Some, None, is_some, Result, Ok, IsErr, refl, sym, ap, subst, ◌∙◌, append_assoc, length-append, if◌then◌else◌}
 use Rattle.std.proofs.lemmas.List.{append-nil, map-append}
 use Rattle.std.specs.List.{list_any, IsDistinct}
 use Rattle.std.proofs.lemmas.Cmp.{nat_list_eq_equiv}
@@ -18,17 +17,16 @@ use Rattle.cell_cursor.specs.declared.cursor.CellCursor.{CellCursor}
 use Rattle.cell_cursor.specs.Stands.{Stands, Moves}
 use Rattle.cell_parts.specs.Groups.{cell_name}
 use Rattle.cell_reader.specs.declared.refusal.Refusal.{Refusal}
-use Rattle.cell_reader.specs.declared.library_cell.LibraryCell.{LibraryCell}
-use Rattle.cell_reader.specs.LibraryCells.{CellEntry, all_described, name_of, cell_names}
+use Rattle.cell_reader.specs.LibraryCells.{CellEntry, name_of, cell_names}
 use Rattle.library_items.specs.declared.stop.Stop.{Stop}
 use Rattle.library_items.specs.declared.progress.Progress.{Progress}
 use Rattle.library_items.specs.declared.ending.Ending.{Ending}
-use Rattle.library_items.specs.declared.ending.Ending.TheVariants as ending
-use Rattle.library_items.specs.declared.ending.NotWhole.{NotWhole}
 use Rattle.library_items.specs.Progress.{no_progress, names_with, next_refusal, next_data, entity_by, after_cell, after_item, progress_after}
 use Rattle.library_items.specs.Steps.{IsAtEnd, TellsEnd}
-use Rattle.library_items.specs.KeptCells.{kept_by, next_entry, item_kept, kept_cells, cells_by, library_cells_within, entries_of, ReadsCells}
+use Rattle.library_items.specs.KeptCells.{kept_by, next_entry, item_kept, kept_cells}
 use Rattle.library_items.specs.Reached.{HasKept}
+use Rattle.library_items.specs.Endings.{ending_of}
+use Rattle.library_items.specs.Folds.{HasMade, FoldsCells}
 use Rattle.library_items.proofs.Fronts.{IfSome-each, IfOk-error}
 use Rattle.library_items.proofs.Following.{follows_start, follows_next, all_given}
 use Rattle.cell_cursor.specs.Ends.{items_within}
@@ -65,7 +63,7 @@ cell_named p group cells false e =
     map-append name_of cells (next_entry p group ∷ []) ∙ ap (λ names. names ++ name_of (next_entry p group) ∷ []) e
     ∙ ap (λ name. p.names ++ name ∷ []) (its_name p group (next_refusal p group))
 
-pub item_named : (p : Progress) (x : LibraryItem) (cells : List CellEntry) → cell_names cells ≡ p.names → cell_names (cells ++ item_kept p x) ≡ (after_item p x).names
+item_named : (p : Progress) (x : LibraryItem) (cells : List CellEntry) → cell_names cells ≡ p.names → cell_names (cells ++ item_kept p x) ≡ (after_item p x).names
 item_named p (item.Cell group) cells e =
     cell_named p group cells (is_some (number_of p.names (cell_name group))) e
     ∙ sym (names_after p (cell_name group) (entity_by p group (next_refusal p group)))
@@ -89,7 +87,7 @@ names_apart_by names name h false e =
 names_apart : (names : List (List ℕ)) (name : List ℕ) → AreDistinct names → AreDistinct (names_with names name)
 names_apart names name h = names_apart_by names name h (list_any (bytes_eq name) names) refl
 
-pub item_apart : (p : Progress) (x : LibraryItem) → AreDistinct p.names → AreDistinct (after_item p x).names
+item_apart : (p : Progress) (x : LibraryItem) → AreDistinct p.names → AreDistinct (after_item p x).names
 item_apart p (item.Cell group) h =
     subst AreDistinct (sym (names_after p (cell_name group) (entity_by p group (next_refusal p group)))) (names_apart p.names (cell_name group) h)
 item_apart p (item.Unit line) h = h
@@ -108,11 +106,9 @@ kept_first limit base c l h e = record {
   own = tt;
 }
 
-pub kept_start : (limit : ℕ) (base : DeskState) (p : Progress) (cells : List CellEntry) (c : CellCursor) → c.limit ≡ limit → Stands c [] [] → c.answer ≡ None
-    → p ≡ no_progress → cells ≡ [] → HasKept limit base base p cells c
-kept_start limit base p cells c l h e fresh none =
-    subst (λ q. HasKept limit base base q cells c) (sym fresh)
-    (subst (λ (kept : List CellEntry). HasKept limit base base no_progress kept c) (sym none) (kept_first limit base c l h e))
+kept_start : (limit : ℕ) (base : DeskState) (p : Progress) (c : CellCursor) → c.limit ≡ limit → Stands c [] [] → c.answer ≡ None
+    → p ≡ no_progress → HasKept limit base base p [] c
+kept_start limit base p c l h e fresh = subst (λ q. HasKept limit base base q [] c) (sym fresh) (kept_first limit base c l h e)
 
 -- some bytes of the library more
 more_taken : (base now next : DeskState) (a b : List ℕ) → now ≡ took base Library (length a) → next ≡ took now Library (length b)
@@ -121,66 +117,65 @@ more_taken base now next a b first second =
     took_more base now next Library (length a) (length b) first second ∙ ap (took base Library) (sym (length-append a b))
 
 -- after one more item
-pub kept_next : (limit : ℕ) (base now next : DeskState) (p q : Progress) (cells more : List CellEntry) (c d : CellCursor) (x : LibraryItem)
-    → HasKept limit base now p cells c → Moves c d now next (x ∷ []) → (IsAtEnd c now → IsAtEnd d next) → more ≡ cells ++ item_kept p x → q ≡ after_item p x
-    → HasKept limit base next q more d
+kept_next : (limit : ℕ) (base now next : DeskState) (p q : Progress) (cells : List CellEntry) (c d : CellCursor) (x : LibraryItem)
+    → HasKept limit base now p cells c → Moves c d now next (x ∷ []) → (IsAtEnd c now → IsAtEnd d next) → q ≡ after_item p x
+    → HasKept limit base next q (cells ++ item_kept p x) d
 unfolding follows_next
-kept_next limit base now next p q cells more c d x h m a w e = record {
+kept_next limit base now next p q cells c d x h m a e = record {
   follows = follows_next limit (base.left Library) now next next no_progress p q c d x h.follows m a refl e;
   state = more_taken base now next h.follows.taken m.taken h.state m.takes.state;
-  kept = w ∙ ap (λ first. first ++ item_kept p x) h.kept ∙ kept_cells-more no_progress p h.follows.items x h.follows.progress;
-  names = ap cell_names w ∙ item_named p x cells h.names ∙ sym (ap (λ r. r.names) e);
+  kept = ap (λ first. first ++ item_kept p x) h.kept ∙ kept_cells-more no_progress p h.follows.items x h.follows.progress;
+  names = item_named p x cells h.names ∙ sym (ap (λ r. r.names) e);
   own = subst (λ r. AreDistinct r.names) (sym e) (item_apart p x h.own);
 }
 
+-- What is made of them.
+
+-- before the first item
+pub made_start : (Made : List CellEntry → Type 0) (limit : ℕ) (base : DeskState) (p : Progress) (c : CellCursor) → c.limit ≡ limit → Stands c [] [] → c.answer ≡ None
+    → p ≡ no_progress → Made [] → HasMade Made limit base base p c
+made_start Made limit base p c l h e fresh none = record { cells = []; made = none; kept = kept_start limit base p c l h e fresh }
+
+-- after one more item
+pub made_next : (Made More : List CellEntry → Type 0) (limit : ℕ) (base now next : DeskState) (p q : Progress) (c d : CellCursor) (x : LibraryItem)
+    → HasMade Made limit base now p c → Moves c d now next (x ∷ []) → (IsAtEnd c now → IsAtEnd d next)
+    → ((cells : List CellEntry) → Made cells → More (cells ++ item_kept p x)) → q ≡ after_item p x → HasMade More limit base next q d
+made_next Made More limit base now next p q c d x h m a more e = record {
+  cells = h.cells ++ item_kept p x;
+  made = more h.cells h.made;
+  kept = kept_next limit base now next p q h.cells c d x h.kept m a e;
+}
+
 -- a stop before anything was read
-pub reads_first : {A : Type 0} (limit : ℕ) (base : DeskState) (r : Result (Result (Vec LibraryCell A) NotWhole) Stop) → IsErr r → ReadsCells limit base base r
-reads_first limit base r e = record { taken = 0; state = sym (took-zero base Library); cells = IfOk-error r _ e }
+pub folds_first : (Made : List CellEntry → Type 0) (limit : ℕ) (base : DeskState) (r : Result Ending Stop) → IsErr r → FoldsCells Made limit base base r
+folds_first Made limit base r e = record { taken = 0; state = sym (took-zero base Library); cells = IfOk-error r _ e }
 
 -- a stop where the next item is sought
-pub reads_seeking : {A : Type 0} (limit : ℕ) (base now next : DeskState) (p : Progress) (cells : List CellEntry) (c d : CellCursor) (given : List LibraryItem) (r : Result (Result (Vec LibraryCell A) NotWhole) Stop)
-    → HasKept limit base now p cells c → Moves c d now next given → IsErr r → ReadsCells limit base next r
-reads_seeking limit base now next p cells c d given r h m e = record {
-  taken = length (h.follows.taken ++ m.taken);
-  state = more_taken base now next h.follows.taken m.taken h.state m.takes.state;
+pub folds_seeking : (Made Now : List CellEntry → Type 0) (limit : ℕ) (base now next : DeskState) (p : Progress) (c d : CellCursor) (given : List LibraryItem) (r : Result Ending Stop)
+    → HasMade Made limit base now p c → Moves c d now next given → IsErr r → FoldsCells Now limit base next r
+folds_seeking Made Now limit base now next p c d given r h m e = record {
+  taken = length (h.kept.follows.taken ++ m.taken);
+  state = more_taken base now next h.kept.follows.taken m.taken h.kept.state m.takes.state;
   cells = IfOk-error r _ e;
 }
 
 -- a stop between two items
-pub reads_between : {A : Type 0} (limit : ℕ) (base now : DeskState) (p : Progress) (cells : List CellEntry) (c : CellCursor) (r : Result (Result (Vec LibraryCell A) NotWhole) Stop)
-    → HasKept limit base now p cells c → IsErr r → ReadsCells limit base now r
-reads_between limit base now p cells c r h e = record { taken = length h.follows.taken; state = h.state; cells = IfOk-error r _ e }
+pub folds_between : (Made : List CellEntry → Type 0) (limit : ℕ) (base now : DeskState) (p : Progress) (c : CellCursor) (r : Result Ending Stop)
+    → HasMade Made limit base now p c → IsErr r → FoldsCells Made limit base now r
+folds_between Made limit base now p c r h e = record { taken = length h.kept.follows.taken; state = h.kept.state; cells = IfOk-error r _ e }
 
 -- at the end
-
-entries_by : {A : Type 0} (e : Ending) (cells : Vec LibraryCell A) → entries_of (cells_by e cells) ≡ cells_by e (all_described cells.items)
-entries_by ending.Whole cells = refl
-entries_by (ending.Fault fault) cells = refl
-entries_by ending.TooLong cells = refl
-
-pub reads_all : {A : Type 0} (limit : ℕ) (base now next : DeskState) (p : Progress) (cells : Vec LibraryCell A) (c d : CellCursor) (e : Ending)
-    (answer : Result (Vec LibraryCell A) NotWhole)
-    → HasKept limit base now p (all_described cells.items) c → Moves c d now next [] → (IsAtEnd c now → IsAtEnd d next) → TellsEnd d e
-    → answer ≡ cells_by e cells → ReadsCells limit base next (Ok answer)
-reads_all limit base now next p cells c d e answer h m a t is = record {
-  taken = length (h.follows.taken ++ m.taken);
-  state = more_taken base now next h.follows.taken m.taken h.state m.takes.state;
-  cells = IfSome-each (base.left Library) (λ bytes. entries_of answer ≡ library_cells_within limit bytes) (λ bytes left.
-      let known = all_given limit (base.left Library) now next no_progress p c d e bytes h.follows m a t left in
-      ap entries_of is ∙ entries_by e cells ∙ ap (cells_by e) (h.kept ∙ ap (kept_cells no_progress) known.0)
-      ∙ ap (λ end. cells_by end (kept_cells no_progress (items_within limit bytes))) known.1);
+pub folds_all : (Made : List CellEntry → Type 0) (limit : ℕ) (base now next : DeskState) (p : Progress) (c d : CellCursor) (e : Ending)
+    → HasMade Made limit base now p c → Moves c d now next [] → (IsAtEnd c now → IsAtEnd d next) → TellsEnd d e → FoldsCells Made limit base next (Ok e)
+folds_all Made limit base now next p c d e h m a t = record {
+  taken = length (h.kept.follows.taken ++ m.taken);
+  state = more_taken base now next h.kept.follows.taken m.taken h.kept.state m.takes.state;
+  cells = record {
+    cells = h.cells;
+    made = h.made;
+    own = subst AreDistinct (sym h.kept.names) h.kept.own;
+    told = IfSome-each (base.left Library) (λ bytes. (h.cells ≡ kept_cells no_progress (items_within limit bytes)) × (e ≡ ending_of limit bytes)) (λ bytes left.
+        let known = all_given limit (base.left Library) now next no_progress p c d e bytes h.kept.follows m a t left in
+        (h.kept.kept ∙ ap (kept_cells no_progress) known.0, known.1));
+  };
 }
-
-own_by : {A : Type 0} (e : Ending) (cells : Vec LibraryCell A) → AreDistinct (cell_names (all_described cells.items))
-    → IfOk (cells_by e cells) (λ kept. AreDistinct (cell_names (all_described kept.items)))
-own_by ending.Whole cells h = h
-own_by (ending.Fault fault) cells h = tt
-own_by ending.TooLong cells h = tt
-
-pub reads_own : {A : Type 0} (limit : ℕ) (base now : DeskState) (p : Progress) (cells : Vec LibraryCell A) (c : CellCursor) (e : Ending)
-    (answer : Result (Vec LibraryCell A) NotWhole)
-    → HasKept limit base now p (all_described cells.items) c → answer ≡ cells_by e cells
-    → IfOk answer (λ kept. AreDistinct (cell_names (all_described kept.items)))
-reads_own limit base now p cells c e answer h is =
-    subst (λ r. IfOk r (λ kept. AreDistinct (cell_names (all_described kept.items)))) (sym is)
-    (own_by e cells (subst AreDistinct (sym h.names) h.own))

@@ -5,3 +5,4 @@ pub mod Steps
 pub mod NextCells
 pub mod KeptCells
 pub mod Reached
+pub mod Folds

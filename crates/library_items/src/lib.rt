@@ -2,6 +2,7 @@
 #![tactic(auto)]
 
 mod ending;
+mod fold;
 mod keeping;
 mod next;
 mod progress;
@@ -9,6 +10,7 @@ mod step;
 mod stop;
 
 pub use ending::{Ending, NotWhole};
+pub use fold::{CellFold, fold_cells};
 pub use keeping::read_cells;
 pub use next::{NextCell, next_cell};
 pub use progress::{Progress, unit_of};

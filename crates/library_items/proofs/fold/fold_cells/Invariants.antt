@@ -3,13 +3,12 @@ use Rattle.text_io.specs.declared.slots.InSlot.TheVariants.{Library}
 use Rattle.text_io.specs.declared.slots.Slot.TheVariants.{Input}
 use Rattle.text_io.specs.Desk.{is_bound}
 use Rattle.cell_cursor.specs.Stands.{is_failed}
-use Rattle.cell_reader.specs.LibraryCells.{all_described}
-use Rattle.library_items.specs.Reached.{HasKept}
-use Rattle.library_items.proofs.keeping.read_cells.Given as goal
+use Rattle.library_items.specs.Folds.{HasMade}
+use Rattle.library_items.proofs.fold.fold_cells.Given as goal
 
 abbrev pub invariant-loop-turn : goal.invariant-loop-turn
 invariant-loop-turn g l = record {
-  kept : HasKept l.limit (g.D.Desk.state l.fn.desk) (g.D.Desk.state l.desk) l.progress (all_described l.cells.items) l.cursor;
+  made : HasMade (g.F.CellFold.made l.fold) l.limit (g.D.Desk.state l.fn.desk) (g.D.Desk.state l.desk) l.progress l.cursor;
   library : IsTrue (is_bound (g.D.Desk.state l.desk) (Input Library));
   room : l.progress.accepted + l.progress.refused ≤ l._turn;
   same : g.D.Desk.faults l.desk ≡ g.D.Desk.faults l.fn.desk;

@@ -66,6 +66,24 @@ fn make_cell(
     Ok(ReadCell { cell, left_out })
 }
 
+/// The numbers and the groups of a cell, or the first of the reasons that are tried after the texts are read.
+fn judged(alloc: Global, parts: &Parts<'_>) -> Result<Numbered, CellFault>
+    requires { AreParts parts.now }
+    ensures numbered { IfOk result (λ numbered. AreNumbered parts.now.cell.now numbered) }
+    ensures unmet { IfOk result (λ _. first_refusal (later_reasons (subject_in parts.now) parts.now.cell.now) ≡ None) }
+    ensures refused { IfErr result (Tells (first_refusal (later_reasons (subject_in parts.now) parts.now.cell.now))) }
+{
+    if let Some(refusal) = middle_refusal(alloc, parts)? {
+        return Err(CellFault::Refused(refusal));
+    }
+    let numbered = number_names(alloc, parts)?;
+    if let Some(at) = udp_inputs(alloc, parts, &numbered)? {
+        let reason = Reason::UdpInputs;
+        return Err(CellFault::Refused(Refusal { reason, at }));
+    }
+    Ok(numbered)
+}
+
 /// The cell that the parts make, or the first of the reasons that are tried after the texts are read.
 fn read_later(alloc: Global, parts: Parts<'_>, number: usize) -> Result<ReadCell, CellFault>
     requires parts { AreParts parts }
@@ -75,14 +93,7 @@ fn read_later(alloc: Global, parts: Parts<'_>, number: usize) -> Result<ReadCell
     ensures unmet { IfOk result (λ _. first_refusal (later_reasons (subject_in parts.entry) parts.entry.cell.now) ≡ None) }
     ensures refused { IfErr result (Tells (first_refusal (later_reasons (subject_in parts.entry) parts.entry.cell.now))) }
 {
-    if let Some(refusal) = middle_refusal(alloc, &parts)? {
-        return Err(CellFault::Refused(refusal));
-    }
-    let numbered = number_names(alloc, &parts)?;
-    if let Some(at) = udp_inputs(alloc, &parts, &numbered)? {
-        let reason = Reason::UdpInputs;
-        return Err(CellFault::Refused(Refusal { reason, at }));
-    }
+    let numbered = judged(alloc, &parts)?;
     Ok(make_cell(alloc, parts, numbered, number)?)
 }
 

@@ -21,8 +21,10 @@ fn is_blank(byte: u8) -> bool
 fn is_plain_in_word(byte: u8) -> bool
     ensures { result ≡ is_plain_in_word byte }
 {
-    match class_of(byte) {
-        Class::WordByte => byte != b'/',
+    match byte {
+        b'\n' | b' ' | b'\t' | b'\r' | b'{' | b'}' | b'(' | b')' => false,
+        b':' | b';' | b',' | b'"' | b'\\' | b'/' => false,
+        b'!'..=b'~' => true,
         _ => false,
     }
 }

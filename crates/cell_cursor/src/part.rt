@@ -75,6 +75,19 @@ impl Part {
         }
     }
 
+    /// Makes it a part of no bytes, which begins at this place, and keeps the memory.
+    pub(crate) fn restart(&mut self, before: usize, place: Place)
+        ensures before { self.new.before ≡ before }
+        ensures bytes { self.new.bytes ≡ [] }
+        ensures tokens { self.new.tokens ≡ [] }
+    {
+        self.before = before;
+        self.bytes.clear();
+        self.scanner.restart();
+        self.depth = 0;
+        self.watch = Watch::from(standing_at(place));
+    }
+
     /// The bytes of the library before this part.
     pub(crate) fn before(&self) -> usize
         ensures { result ≡ self.now.before }

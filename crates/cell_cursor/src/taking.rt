@@ -18,6 +18,9 @@ use crate::statements::{Reached, reach};
 use liberty_groups::{Cursor, LibraryFault};
 use std::mem::replace;
 
+/// The memory of a part of more bytes than these is given back when its statements were taken.
+const MOST_KEPT: usize = 1_048_576;
+
 impl CellCursor {
     /// Sees which token of the part is refused, if one is.
     pub(crate) fn refuse_part(&mut self) -> Result<(), Memory>
@@ -137,7 +140,11 @@ impl CellCursor {
         items.reverse();
         self.waiting = items;
         self.place = place;
-        self.part = Part::new(self.alloc, end, place);
+        if self.part.bytes().len() > MOST_KEPT {
+            self.part = Part::new(self.alloc, end, place);
+        } else {
+            self.part.restart(end, place);
+        }
     }
 
     /// Takes what there is of a library that has ended or, where that is not `whole`, has come to the limit. The tokens of the

@@ -68,6 +68,15 @@ impl Scanner {
         }
     }
 
+    /// Forgets what was read, and keeps the memory for tokens.
+    pub fn restart(&mut self)
+        ensures tokens { self.new.tokens.items ≡ [] }
+        ensures mode { self.new.mode ≡ Between false }
+    {
+        self.tokens.clear();
+        self.mode = Mode::Between { line_before: false };
+    }
+
     /// The tokens that have ended.
     pub fn tokens(&self) -> &[Kept]
         ensures { result.now ≡ self.now.tokens.items }

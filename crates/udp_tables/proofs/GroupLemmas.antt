@@ -1,5 +1,7 @@
 -- What the code for a group's rows builds is what the definitions say.
 use Rattle.std.proofs.Common.{◌≡◌, ℕ, zero, suc, ◌+◌, ◌-◌, ◌<◌, ◌≤◌, Bool, false, true, List, [], ◌∷◌, ◌++◌, map, take, drop, length, get_or, slice_get, Some, refl, sym, ◌∙◌, ap, arith, flat_map}
+use Rattle.std.proofs.Math.Bool.{beq}
+use Rattle.std.proofs.lemmas.Bool.{true≢false}
 use Rattle.std.proofs.lemmas.List.{drop_more, length-map}
 use Rattle.trit_cubes.specs.declared.trits.Trit.{Trit}
 use Rattle.trit_cubes.specs.Filling.{trit_of}
@@ -7,6 +9,8 @@ use Rattle.trit_cubes.specs.Resolution.{res}
 use Rattle.bool_functions.specs.declared.tree.Node.{Node}
 use Rattle.cell_machine.specs.declared.arcs.Arc.{Arc}
 use Rattle.cell_machine.specs.Machine.{Step, insert, init, last, edge_value}
+use Rattle.cell_machine.proofs.StepLemmas.{init-append, last-append}
+use Rattle.udp_tables.specs.Edges.{still_value}
 use Rattle.udp_tables.specs.Generated.{level_entry}
 use Rattle.udp_tables.specs.Sequential.{edge_entry, edge_inputs}
 use Rattle.udp_tables.specs.Conditions.{arc_conditions, added, added_all}
@@ -121,3 +125,14 @@ length-others (old ∷ new ∷ []) l = absurd (omega arith)
 length-others (old ∷ new ∷ r ∷ rest) l =
     let few : length (old ∷ new ∷ r ∷ rest) - 1 - 2 ≡ length rest = omega arith in
     omega (arith, ap length (ap (λ k. take k (r ∷ rest)) few ∙ init-take r rest), length-init r rest)
+
+-- where no input changes
+pub still-parts : (step : Step) (inputs : List Bool) (state : Bool) → still_value step (inputs ++ state ∷ []) ≡ step inputs inputs state
+still-parts step inputs state = rw (init-append inputs state, last-append false inputs state) refl
+
+-- values that a test finds equal
+pub beq-same : (a b : Bool) → beq a b ≡ true → a ≡ b
+beq-same true true e = refl
+beq-same true false e = absurd (true≢false (sym e))
+beq-same false true e = absurd (true≢false (sym e))
+beq-same false false e = refl

@@ -7,7 +7,7 @@ ghost use Rattle.trit_cubes.specs.Prime.{prime_list};
 ghost use Rattle.cell_machine.specs.Machine.{edge_value};
 ghost use Rattle.cell_machine.specs.CellData.{data_of};
 ghost use Rattle.cell_machine.specs.CellTrace.{support_at, step_at};
-ghost use Rattle.udp_tables.specs.Edges.{moves, edge_cubes, is_paired, kept_or_one, compact_edge_rows};
+ghost use Rattle.udp_tables.specs.Edges.{moves, still_value, edge_cubes, is_paired, kept_or_one, compact_edge_rows};
 ghost use Rattle.udp_tables.specs.Sequential.{noted, edge_inputs, edge_row, keep_row};
 ghost use Rattle.udp_tables.specs.Pairs.{AreNumbers};
 
@@ -21,20 +21,23 @@ use sqlite_items::Items;
 use std::alloc::Global;
 use trit_cubes::{Cube, Trit, primes_where, values_of};
 
-/// Adds the rows of the changes of one input: those that give 1 or keep the state, and then those that give 0.
+/// Adds the rows of the changes of one input: those that give 1 or keep the state, and then those that give 0. What the step
+/// gives where no input changes is known.
 pub(crate) fn add_rows_of_input(
     alloc: Global,
     rows: &mut Items<UdpRow>,
     cell: &Cell,
     group: usize,
     notifier: bool,
+    still: &[Trit],
     place: usize,
 ) -> Result<(), Memory>
     requires group { group < length cell.now.groups }
+    requires still { AreValuesOf (suc (length (support_at (data_of cell.now) group))) (still_value (step_at (data_of cell.now) group)) still.now }
     requires place { place < length (support_at (data_of cell.now) group) }
     ensures { OnOk result (rows.new ≡ rows.old ++ compact_edge_rows (edge_row notifier) (keep_row notifier) (step_at (data_of cell.now) group) (length (support_at (data_of cell.now) group)) place) }
 {
-    let values = change_values(alloc, cell, group, place)?;
+    let values = change_values(alloc, cell, group, still, place)?;
     let ones = edge_cubes(alloc, cell, group, place, &values, Trit::One)?;
     let zeros = edge_cubes(alloc, cell, group, place, &values, Trit::Zero)?;
     add_rows_of_ones(alloc, rows, notifier, place, &ones, &zeros)?;
@@ -47,9 +50,11 @@ fn change_values(
     alloc: Global,
     cell: &Cell,
     group: usize,
+    still: &[Trit],
     place: usize,
 ) -> Result<Vec<Trit>, Memory>
     requires group { group < length cell.now.groups }
+    requires still { AreValuesOf (suc (length (support_at (data_of cell.now) group))) (still_value (step_at (data_of cell.now) group)) still.now }
     requires place { place < length (support_at (data_of cell.now) group) }
     ensures { IfOk result (λ values. AreValuesOf (suc (suc (length (support_at (data_of cell.now) group)))) (edge_value (step_at (data_of cell.now) group) place) values.items) }
 {
@@ -57,7 +62,7 @@ fn change_values(
     let values = values_of(
         alloc,
         pins + 2,
-        &|point: &[bool]| { value_at(cell, group, place, point) },
+        &|point: &[bool]| { value_at(cell, group, place, still, point) },
     )?;
     Ok(values)
 }

@@ -1,12 +1,12 @@
 //! The rows of a group's step.
-ghost use Rattle.std.specs.Prelude.{◌≡◌, ◌<◌, ◌++◌, map, length, replicate, IfOk, OnOk};
+ghost use Rattle.std.specs.Prelude.{◌≡◌, ◌<◌, suc, ◌++◌, map, length, replicate, IfOk, OnOk};
 ghost use Rattle.trit_cubes.specs.declared.trits.Trit.TheVariants as trit;
 ghost use Rattle.trit_cubes.specs.Sets.{gives, AreValuesOf};
 ghost use Rattle.trit_cubes.specs.Prime.{prime_list};
 ghost use Rattle.cell_machine.specs.Machine.{forced_at};
 ghost use Rattle.cell_machine.specs.CellTrace.{support_at, step_at};
 ghost use Rattle.udp_tables.specs.Tables.{or_row};
-ghost use Rattle.udp_tables.specs.Edges.{forced_rows, compact_edge_rows, each_below};
+ghost use Rattle.udp_tables.specs.Edges.{still_value, forced_rows, compact_edge_rows, each_below};
 ghost use Rattle.udp_tables.specs.Sequential.{state_row, notifier_rows, edge_row, keep_row, compact_rows};
 ghost use Rattle.cell_machine.specs.CellData.{data_of};
 ghost use Rattle.udp_tables.specs.CellPrimitives.{has_notifier};
@@ -14,7 +14,7 @@ ghost use Rattle.udp_tables.specs.CellPrimitives.{has_notifier};
 use crate::change_rows::add_rows_of_input;
 use crate::entries::{free_entries, level_entries, noted};
 use crate::faults::Memory;
-use crate::points::forced_at;
+use crate::points::{forced_at, still_at};
 use crate::table::{Entry, Level, Next, UdpRow};
 use cell_machine::Cell;
 use sqlite_items::Items;
@@ -170,8 +170,23 @@ fn add_rows_of_changes(
     requires { group < length cell.now.groups }
     ensures { OnOk result (rows.new ≡ rows.old ++ each_below (compact_edge_rows (edge_row notifier) (keep_row notifier) (step_at (data_of cell.now) group) (length (support_at (data_of cell.now) group))) (length (support_at (data_of cell.now) group))) }
 {
+    let still = still_values(alloc, cell, group)?;
     for place in 0..cell.group(group).support.len() {
-        add_rows_of_input(alloc, rows, cell, group, notifier, place)?;
+        add_rows_of_input(alloc, rows, cell, group, notifier, &still, place)?;
     }
     Ok(())
+}
+
+/// What the step of a group gives where no input changes, at all points of its inputs and its state.
+fn still_values(alloc: Global, cell: &Cell, group: usize) -> Result<Vec<Trit>, Memory>
+    requires { group < length cell.now.groups }
+    ensures { IfOk result (λ values. AreValuesOf (suc (length (support_at (data_of cell.now) group))) (still_value (step_at (data_of cell.now) group)) values.items) }
+{
+    let pins = cell.group(group).support.len();
+    let values = values_of(
+        alloc,
+        pins + 1,
+        &|point: &[bool]| { still_at(cell, group, point) },
+    )?;
+    Ok(values)
 }

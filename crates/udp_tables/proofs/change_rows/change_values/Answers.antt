@@ -15,6 +15,6 @@ returns c =
     let places : c.len-pins.result + 2 ≡ suc (suc (length (support_at cell c.args.group))) = omega (arith, pins) in
     let values = c.in_ok-values.ensures.values f
     (record {
-      at_point = λ p long t says. let wide : length p ≡ suc (suc (length (support_at cell c.args.group))) = long ∙ places in search rules;
+      at_point = λ p long t says. let wide : length p ≡ suc (suc (length (support_at cell c.args.group))) = long ∙ places in let known = c.requires.still in search rules;
     }) in
     subst (λ n. AreValuesOf n f c.in_ok-values.values.items) places values

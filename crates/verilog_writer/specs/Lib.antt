@@ -3,3 +3,4 @@ pub mod Primitive
 pub mod Nets
 pub mod Timing
 pub mod Model
+pub mod CheckEnds

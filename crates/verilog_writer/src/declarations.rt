@@ -1,246 +1,178 @@
 //! The header and the declarations of a module.
-ghost use Rattle.std.specs.Prelude.{◌++◌, IsTrue};
-ghost use Rattle.std.specs.List.{flat_map};
-ghost use Rattle.text_io.specs.declared.slots.Slot.TheVariants.{Output};
-ghost use Rattle.text_io.specs.Desk.{is_bound, HasCause};
-ghost use Rattle.text_io.specs.Line.{PutsText};
 ghost use Rattle.verilog_writer.specs.Model.{module_opening_text, next_port_text, ports_text, module_header_text, input_port_text, output_port_text, wire_text, register_text, declarations_text};
 
+use crate::parts::{Each, ItemText, parts};
 use specify_blocks::VModule;
 use sqlite_items::Items;
 use text_io::{Desk, Failed, Line, OutSlot};
+use text_parts::{Bytes, Part};
 use udp_tables::VPort;
 
-/// The header's line.
-pub(crate) fn put_header<D: Desk>(
-    line: &mut Line,
-    desk: &mut D,
-    slot: OutSlot,
-    model: &VModule,
-) -> Result<(), Failed>
-    requires { IsTrue (is_bound (D.state desk.old) (Output slot)) }
-    ensures text { PutsText (D.state desk.old) (D.state desk.new) slot line.old (module_header_text model.now) line.new result }
-    ensures cause { HasCause (D.faults desk.old) (D.faults desk.new) result }
-{
-    put_opening(line, desk, slot, model)?;
-    put_ports(line, desk, slot, model)?;
-    line.put(desk, slot, b");\n")
-}
+/// Ports in the header behind another one.
+#[derive(Drop)]
+struct NextPorts;
 
-/// The header up to its ports.
-#[tactic(auto, unfolding(crate::specs::Model::module_opening_text))]
-fn put_opening<D: Desk>(
-    line: &mut Line,
-    desk: &mut D,
-    slot: OutSlot,
-    model: &VModule,
-) -> Result<(), Failed>
-    requires { IsTrue (is_bound (D.state desk.old) (Output slot)) }
-    ensures text { PutsText (D.state desk.old) (D.state desk.new) slot line.old (module_opening_text model.now) line.new result }
-    ensures cause { HasCause (D.faults desk.old) (D.faults desk.new) result }
-{
-    line.put_pieces(desk, slot, &[b"module ", model.name.as_slice(), b" ("])
+impl ItemText<VPort> for NextPorts {
+    ghost text = { λ _ port. next_port_text port };
+
+    #[tactic(auto, unfolding(crate::specs::Model::next_port_text))]
+    fn put<D: Desk>(
+        &self,
+        port: &VPort,
+        line: &mut Line,
+        desk: &mut D,
+        slot: OutSlot,
+    ) -> Result<(), Failed> {
+        line.put_pieces(desk, slot, &[b", ", port.name.as_slice()])
+    }
 }
 
 /// The ports in the header.
-fn put_ports<D: Desk>(
-    line: &mut Line,
-    desk: &mut D,
-    slot: OutSlot,
-    model: &VModule,
-) -> Result<(), Failed>
-    requires { IsTrue (is_bound (D.state desk.old) (Output slot)) }
-    ensures text { PutsText (D.state desk.old) (D.state desk.new) slot line.old (ports_text model.now.ports) line.new result }
-    ensures cause { HasCause (D.faults desk.old) (D.faults desk.new) result }
-{
-    match model.ports.as_slice().split_first() {
-        Some((first, others)) => put_names(line, desk, slot, first, others),
-        None => line.put(desk, slot, b""),
+#[derive(Drop)]
+struct Ports<'a>(&'a [VPort]);
+
+impl Part for Ports<'_> {
+    ghost text = { λ m. ports_text m.0.now };
+
+    fn put<D: Desk>(&self, line: &mut Line, desk: &mut D, slot: OutSlot) -> Result<(), Failed> {
+        match self.0.split_first() {
+            Some((first, items)) => {
+                let text = NextPorts;
+                parts!(Bytes(first.name.as_slice()), Each { text, items }).put(line, desk, slot)
+            }
+            None => line.put(desk, slot, b""),
+        }
     }
 }
 
-/// The name of the first port, and the others behind it.
-fn put_names<D: Desk>(
-    line: &mut Line,
-    desk: &mut D,
-    slot: OutSlot,
-    first: &VPort,
-    others: &[VPort],
-) -> Result<(), Failed>
-    requires { IsTrue (is_bound (D.state desk.old) (Output slot)) }
-    ensures text { PutsText (D.state desk.old) (D.state desk.new) slot line.old (first.now.name ++ flat_map next_port_text others.now) line.new result }
-    ensures cause { HasCause (D.faults desk.old) (D.faults desk.new) result }
-{
-    line.put(desk, slot, first.name.as_slice())?;
-    put_next_ports(line, desk, slot, others)
-}
+/// The header up to its ports.
+#[derive(Drop)]
+struct Opening<'a>(&'a VModule);
 
-/// Ports in the header behind another one.
-fn put_next_ports<D: Desk>(
-    line: &mut Line,
-    desk: &mut D,
-    slot: OutSlot,
-    ports: &[VPort],
-) -> Result<(), Failed>
-    requires { IsTrue (is_bound (D.state desk.old) (Output slot)) }
-    ensures text { PutsText (D.state desk.old) (D.state desk.new) slot line.old (flat_map next_port_text ports.now) line.new result }
-    ensures cause { HasCause (D.faults desk.old) (D.faults desk.new) result }
-{
-    for port in ports {
-        put_next_port(line, desk, slot, port)?;
-    }
-    Ok(())
-}
+impl Part for Opening<'_> {
+    ghost text = { λ m. module_opening_text m.0.now };
 
-/// Puts one more port of the header.
-#[tactic(auto, unfolding(crate::specs::Model::next_port_text))]
-fn put_next_port<D: Desk>(
-    line: &mut Line,
-    desk: &mut D,
-    slot: OutSlot,
-    port: &VPort,
-) -> Result<(), Failed>
-    requires { IsTrue (is_bound (D.state desk.old) (Output slot)) }
-    ensures text { PutsText (D.state desk.old) (D.state desk.new) slot line.old (next_port_text port.now) line.new result }
-    ensures cause { HasCause (D.faults desk.old) (D.faults desk.new) result }
-{
-    line.put_pieces(desk, slot, &[b", ", port.name.as_slice()])
-}
-
-/// The declarations: inputs, outputs, wires, the register.
-pub(crate) fn put_declarations<D: Desk>(
-    line: &mut Line,
-    desk: &mut D,
-    slot: OutSlot,
-    model: &VModule,
-) -> Result<(), Failed>
-    requires { IsTrue (is_bound (D.state desk.old) (Output slot)) }
-    ensures text { PutsText (D.state desk.old) (D.state desk.new) slot line.old (declarations_text model.now) line.new result }
-    ensures cause { HasCause (D.faults desk.old) (D.faults desk.new) result }
-{
-    put_inputs(line, desk, slot, model)?;
-    put_outputs(line, desk, slot, model)?;
-    put_wires(line, desk, slot, model)?;
-    put_register(line, desk, slot, &model.notifier)
-}
-
-/// The declarations of the inputs, in order.
-fn put_inputs<D: Desk>(
-    line: &mut Line,
-    desk: &mut D,
-    slot: OutSlot,
-    model: &VModule,
-) -> Result<(), Failed>
-    requires { IsTrue (is_bound (D.state desk.old) (Output slot)) }
-    ensures text { PutsText (D.state desk.old) (D.state desk.new) slot line.old (flat_map input_port_text model.now.ports) line.new result }
-    ensures cause { HasCause (D.faults desk.old) (D.faults desk.new) result }
-{
-    for port in model.ports.as_slice() {
-        put_input_port(line, desk, slot, port)?;
-    }
-    Ok(())
-}
-
-/// Puts the line of an input.
-#[tactic(auto, unfolding(crate::specs::Model::input_port_text))]
-fn put_input_port<D: Desk>(
-    line: &mut Line,
-    desk: &mut D,
-    slot: OutSlot,
-    port: &VPort,
-) -> Result<(), Failed>
-    requires { IsTrue (is_bound (D.state desk.old) (Output slot)) }
-    ensures text { PutsText (D.state desk.old) (D.state desk.new) slot line.old (input_port_text port.now) line.new result }
-    ensures cause { HasCause (D.faults desk.old) (D.faults desk.new) result }
-{
-    if port.input {
-        line.put_pieces(desk, slot, &[b"  input ", port.name.as_slice(), b";\n"])
-    } else {
-        line.put(desk, slot, b"")
+    #[tactic(auto, unfolding(crate::specs::Model::module_opening_text))]
+    fn put<D: Desk>(&self, line: &mut Line, desk: &mut D, slot: OutSlot) -> Result<(), Failed> {
+        line.put_pieces(desk, slot, &[b"module ", self.0.name.as_slice(), b" ("])
     }
 }
 
-/// The declarations of the outputs, in order.
-fn put_outputs<D: Desk>(
-    line: &mut Line,
-    desk: &mut D,
-    slot: OutSlot,
-    model: &VModule,
-) -> Result<(), Failed>
-    requires { IsTrue (is_bound (D.state desk.old) (Output slot)) }
-    ensures text { PutsText (D.state desk.old) (D.state desk.new) slot line.old (flat_map output_port_text model.now.ports) line.new result }
-    ensures cause { HasCause (D.faults desk.old) (D.faults desk.new) result }
-{
-    for port in model.ports.as_slice() {
-        put_output_port(line, desk, slot, port)?;
-    }
-    Ok(())
-}
+/// The header's line.
+#[derive(Drop)]
+pub(crate) struct Header<'a>(pub(crate) &'a VModule);
 
-/// Puts the line of an output.
-#[tactic(auto, unfolding(crate::specs::Model::output_port_text))]
-fn put_output_port<D: Desk>(
-    line: &mut Line,
-    desk: &mut D,
-    slot: OutSlot,
-    port: &VPort,
-) -> Result<(), Failed>
-    requires { IsTrue (is_bound (D.state desk.old) (Output slot)) }
-    ensures text { PutsText (D.state desk.old) (D.state desk.new) slot line.old (output_port_text port.now) line.new result }
-    ensures cause { HasCause (D.faults desk.old) (D.faults desk.new) result }
-{
-    if port.input {
-        line.put(desk, slot, b"")
-    } else {
-        line.put_pieces(desk, slot, &[b"  output ", port.name.as_slice(), b";\n"])
+impl Part for Header<'_> {
+    ghost text = { λ m. module_header_text m.0.now };
+
+    #[tactic(auto, unfolding(crate::specs::Model::module_header_text))]
+    fn put<D: Desk>(&self, line: &mut Line, desk: &mut D, slot: OutSlot) -> Result<(), Failed> {
+        let ports = Ports(self.0.ports.as_slice());
+        parts!(Opening(self.0), ports, Bytes(b");\n")).put(line, desk, slot)
     }
 }
 
-/// The declarations of the wires, in order.
-fn put_wires<D: Desk>(
-    line: &mut Line,
-    desk: &mut D,
-    slot: OutSlot,
-    model: &VModule,
-) -> Result<(), Failed>
-    requires { IsTrue (is_bound (D.state desk.old) (Output slot)) }
-    ensures text { PutsText (D.state desk.old) (D.state desk.new) slot line.old (flat_map wire_text model.now.wires) line.new result }
-    ensures cause { HasCause (D.faults desk.old) (D.faults desk.new) result }
-{
-    for name in model.wires.as_slice() {
-        put_wire(line, desk, slot, name.as_slice())?;
+/// The declarations of the inputs among ports.
+#[derive(Drop)]
+struct InputPorts;
+
+impl ItemText<VPort> for InputPorts {
+    ghost text = { λ _ port. input_port_text port };
+
+    #[tactic(auto, unfolding(crate::specs::Model::input_port_text))]
+    fn put<D: Desk>(
+        &self,
+        port: &VPort,
+        line: &mut Line,
+        desk: &mut D,
+        slot: OutSlot,
+    ) -> Result<(), Failed> {
+        if port.input {
+            line.put_pieces(desk, slot, &[b"  input ", port.name.as_slice(), b";\n"])
+        } else {
+            line.put(desk, slot, b"")
+        }
     }
-    Ok(())
 }
 
-/// Puts the line of a wire.
-#[tactic(auto, unfolding(crate::specs::Model::wire_text))]
-fn put_wire<D: Desk>(
-    line: &mut Line,
-    desk: &mut D,
-    slot: OutSlot,
-    name: &[u8],
-) -> Result<(), Failed>
-    requires { IsTrue (is_bound (D.state desk.old) (Output slot)) }
-    ensures text { PutsText (D.state desk.old) (D.state desk.new) slot line.old (wire_text name.now) line.new result }
-    ensures cause { HasCause (D.faults desk.old) (D.faults desk.new) result }
-{
-    line.put_pieces(desk, slot, &[b"  wire ", name, b";\n"])
+/// The declarations of the outputs among ports.
+#[derive(Drop)]
+struct OutputPorts;
+
+impl ItemText<VPort> for OutputPorts {
+    ghost text = { λ _ port. output_port_text port };
+
+    #[tactic(auto, unfolding(crate::specs::Model::output_port_text))]
+    fn put<D: Desk>(
+        &self,
+        port: &VPort,
+        line: &mut Line,
+        desk: &mut D,
+        slot: OutSlot,
+    ) -> Result<(), Failed> {
+        if port.input {
+            line.put(desk, slot, b"")
+        } else {
+            line.put_pieces(desk, slot, &[b"  output ", port.name.as_slice(), b";\n"])
+        }
+    }
+}
+
+/// The declarations of wires.
+#[derive(Drop)]
+struct Wires;
+
+impl ItemText<Items<u8>> for Wires {
+    ghost text = { λ _ name. wire_text name };
+
+    #[tactic(auto, unfolding(crate::specs::Model::wire_text))]
+    fn put<D: Desk>(
+        &self,
+        name: &Items<u8>,
+        line: &mut Line,
+        desk: &mut D,
+        slot: OutSlot,
+    ) -> Result<(), Failed> {
+        line.put_pieces(desk, slot, &[b"  wire ", name.as_slice(), b";\n"])
+    }
 }
 
 /// The declaration of the register of the checks, where there is one.
-fn put_register<D: Desk>(
-    line: &mut Line,
-    desk: &mut D,
-    slot: OutSlot,
-    notifier: &Option<Items<u8>>,
-) -> Result<(), Failed>
-    requires { IsTrue (is_bound (D.state desk.old) (Output slot)) }
-    ensures text { PutsText (D.state desk.old) (D.state desk.new) slot line.old (register_text notifier.now) line.new result }
-    ensures cause { HasCause (D.faults desk.old) (D.faults desk.new) result }
-{
-    match notifier {
-        Some(name) => line.put_pieces(desk, slot, &[b"  reg ", name.as_slice(), b";\n"]),
-        None => line.put(desk, slot, b""),
+#[derive(Drop)]
+struct Register<'a>(&'a Option<Items<u8>>);
+
+impl Part for Register<'_> {
+    ghost text = { λ m. register_text m.0.now };
+
+    fn put<D: Desk>(&self, line: &mut Line, desk: &mut D, slot: OutSlot) -> Result<(), Failed> {
+        match self.0 {
+            Some(name) => line.put_pieces(desk, slot, &[b"  reg ", name.as_slice(), b";\n"]),
+            None => line.put(desk, slot, b""),
+        }
+    }
+}
+
+/// The declarations: inputs, outputs, wires, the register.
+#[derive(Drop)]
+pub(crate) struct Declarations<'a>(pub(crate) &'a VModule);
+
+impl Part for Declarations<'_> {
+    ghost text = { λ m. declarations_text m.0.now };
+
+    #[tactic(auto, unfolding(crate::specs::Model::declarations_text))]
+    fn put<D: Desk>(&self, line: &mut Line, desk: &mut D, slot: OutSlot) -> Result<(), Failed> {
+        let inputs = Each {
+            text: InputPorts,
+            items: self.0.ports.as_slice(),
+        };
+        let outputs = Each {
+            text: OutputPorts,
+            items: self.0.ports.as_slice(),
+        };
+        let wires = Each {
+            text: Wires,
+            items: self.0.wires.as_slice(),
+        };
+        parts!(inputs, outputs, wires, Register(&self.0.notifier)).put(line, desk, slot)
     }
 }

@@ -2,14 +2,16 @@
 #![tactic(auto)]
 
 mod block;
+mod checks;
 mod declarations;
 mod instances;
 mod models;
 mod nets;
+mod parts;
+mod paths;
 mod primitive;
 mod symbols;
 mod table;
-mod timing;
 
 pub use models::{write_model, write_prelude};
 pub use primitive::write_udp;

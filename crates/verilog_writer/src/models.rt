@@ -4,16 +4,17 @@ ghost use Rattle.std.specs.List.{flat_map};
 ghost use Rattle.text_io.specs.declared.slots.OutSlot.TheVariants.{VerilogText};
 ghost use Rattle.text_io.specs.declared.slots.Slot.TheVariants.{Output};
 ghost use Rattle.text_io.specs.Desk.{is_bound, HasCause, WritesText};
-ghost use Rattle.text_io.specs.Line.{PutsText};
 ghost use Rattle.verilog_writer.specs.Primitive.{primitive_text};
 ghost use Rattle.verilog_writer.specs.Model.{prelude_text, module_only_text, module_text};
 
-use crate::block::put_block;
-use crate::declarations::{put_declarations, put_header};
-use crate::instances::put_instances;
+use crate::block::Block;
+use crate::declarations::{Declarations, Header};
+use crate::instances::InstanceLines;
+use crate::parts::{Each, parts};
 use crate::primitive::write_udp;
 use specify_blocks::VModule;
 use text_io::{Desk, Failed, Line, OutSlot, write_whole};
+use text_parts::{Bytes, Part};
 
 /// Appends what a text of modules begins with to the Verilog text, which is bound: times are in picoseconds. After `Failed`,
 /// which comes only where a write failed, a prefix of it was appended. It takes no memory.
@@ -57,24 +58,30 @@ fn write_module<D: Desk>(desk: &mut D, model: &VModule) -> Result<(), Failed>
     ensures cause { HasCause (D.faults desk.old) (D.faults desk.new) result }
 {
     let mut line = Line::new();
-    put_module(&mut line, desk, OutSlot::VerilogText, model)?;
+    Module(model).put(&mut line, desk, OutSlot::VerilogText)?;
     line.flush(desk, OutSlot::VerilogText)
 }
 
-/// The module's lines.
-fn put_module<D: Desk>(
-    line: &mut Line,
-    desk: &mut D,
-    slot: OutSlot,
-    model: &VModule,
-) -> Result<(), Failed>
-    requires { IsTrue (is_bound (D.state desk.old) (Output slot)) }
-    ensures text { PutsText (D.state desk.old) (D.state desk.new) slot line.old (module_only_text model.now) line.new result }
-    ensures cause { HasCause (D.faults desk.old) (D.faults desk.new) result }
-{
-    put_header(line, desk, slot, model)?;
-    put_declarations(line, desk, slot, model)?;
-    put_instances(line, desk, slot, model)?;
-    put_block(line, desk, slot, model)?;
-    line.put(desk, slot, b"endmodule\n")
+/// A module behind its primitives.
+#[derive(Drop)]
+struct Module<'a>(&'a VModule);
+
+impl Part for Module<'_> {
+    ghost text = { λ m. module_only_text m.0.now };
+
+    #[tactic(auto, unfolding(crate::specs::Model::module_only_text))]
+    fn put<D: Desk>(&self, line: &mut Line, desk: &mut D, slot: OutSlot) -> Result<(), Failed> {
+        let instances = Each {
+            text: InstanceLines(self.0),
+            items: self.0.instances.as_slice(),
+        };
+        parts!(
+            Header(self.0),
+            Declarations(self.0),
+            instances,
+            Block(self.0),
+            Bytes(b"endmodule\n")
+        )
+        .put(line, desk, slot)
+    }
 }

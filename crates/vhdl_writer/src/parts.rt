@@ -1,27 +1,13 @@
-//! Parts of a text, and how they are put one behind the other. That a part puts its text is said once, by the traits.
+//! Lists of parts of a text.
 
-ghost use Rattle.std.specs.Prelude.{◌≡◌, ◌+◌, ◌++◌, IsTrue, decimal};
+ghost use Rattle.std.specs.Prelude.{◌+◌, IsTrue};
 ghost use Rattle.text_io.specs.declared.slots.Slot.TheVariants.{Output};
 ghost use Rattle.text_io.specs.Desk.{is_bound, HasCause};
 ghost use Rattle.text_io.specs.Line.{PutsText};
 ghost use Rattle.vhdl_writer.specs.Joined.{numbered_texts};
 
-use itoa::Buffer;
 use text_io::{Desk, Failed, Line, OutSlot};
-
-/// A part of a text.
-pub(crate) trait Part {
-    ghost use Rattle.std.specs.Prelude.{ℕ, List};
-
-    ghost text: { Self → List ℕ };
-
-    /// Puts the part's text to the slot, which is bound. After `Failed`, which comes only where a write failed, a prefix of all
-    /// that was put was written. It takes no memory.
-    fn put<D: Desk>(&self, line: &mut Line, desk: &mut D, slot: OutSlot) -> Result<(), Failed>
-        requires { IsTrue (is_bound (D.state desk.old) (Output slot)) }
-        ensures text { PutsText (D.state desk.old) (D.state desk.new) slot line.old (text self.now) line.new result }
-        ensures cause { HasCause (D.faults desk.old) (D.faults desk.new) result };
-}
+use text_parts::Part;
 
 /// What the items of a list are as text, where each has a number.
 pub(crate) trait ItemText<T> {
@@ -41,41 +27,6 @@ pub(crate) trait ItemText<T> {
         requires { IsTrue (is_bound (D.state desk.old) (Output slot)) }
         ensures text { PutsText (D.state desk.old) (D.state desk.new) slot line.old (text self.now number item.now) line.new result }
         ensures cause { HasCause (D.faults desk.old) (D.faults desk.new) result };
-}
-
-/// These bytes.
-#[derive(Drop)]
-pub(crate) struct Bytes<'a>(pub(crate) &'a [u8]);
-
-impl Part for Bytes<'_> {
-    ghost text = { λ b. b.0.now };
-
-    fn put<D: Desk>(&self, line: &mut Line, desk: &mut D, slot: OutSlot) -> Result<(), Failed> {
-        line.put(desk, slot, self.0)
-    }
-}
-
-/// The digits of a number.
-#[derive(Drop)]
-pub(crate) struct Decimal(pub(crate) u128);
-
-impl Part for Decimal {
-    ghost text = { λ d. decimal d.0 };
-
-    fn put<D: Desk>(&self, line: &mut Line, desk: &mut D, slot: OutSlot) -> Result<(), Failed> {
-        let mut digits = Buffer::new();
-        line.put(desk, slot, digits.format(self.0).as_bytes())
-    }
-}
-
-/// One part, and then another.
-impl<A: Part, B: Part> Part for (A, B) {
-    ghost text = { λ p. A.text p.0 ++ B.text p.1 };
-
-    fn put<D: Desk>(&self, line: &mut Line, desk: &mut D, slot: OutSlot) -> Result<(), Failed> {
-        self.0.put(line, desk, slot)?;
-        self.1.put(line, desk, slot)
-    }
 }
 
 /// The items of a list, numbered from 1.

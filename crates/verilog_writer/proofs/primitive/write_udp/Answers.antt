@@ -1,23 +1,12 @@
-use Rattle.text_io.proofs.Wrote.{goes_on, stops}
-use Rattle.verilog_writer.specs.Primitive.{primitive_text}
+use Rattle.text_io.specs.declared.slots.Slot.TheVariants.{Output}
+use Rattle.text_io.proofs.LineLaws.{gathered_bound, put_fails, flushes}
 use Rattle.verilog_writer.proofs.primitive.write_udp.Goals as goal
 
-pub returns-in_err-write_header-clause-text : goal.returns-in_err-write_header-clause-text
-unfolding primitive_text
-returns-in_err-write_header-clause-text g c =
-    stops _ _ _ _ _ _ _ c.in_err-write_header.ensures.text c.from_residual.ensures.0
+pub returns-in_err-put-clause-text : goal.returns-in_err-put-clause-text
+returns-in_err-put-clause-text g c = put_fails _ _ _ _ _ _ _ (rw c.new-line.ensures at c.in_err-put.ensures.text) c.from_residual.ensures.0
 
-pub returns-in_err-write_output-clause-text : goal.returns-in_err-write_output-clause-text
-unfolding primitive_text
-returns-in_err-write_output-clause-text g c =
-    goes_on _ _ _ _ _ _ _ c.in_ok-write_header.ensures.text.whole (stops _ _ _ _ _ _ _ c.in_err-write_output.ensures.text c.from_residual-in_err-write_output.ensures.0)
-
-pub returns-in_err-write_inputs-clause-text : goal.returns-in_err-write_inputs-clause-text
-unfolding primitive_text
-returns-in_err-write_inputs-clause-text g c =
-    goes_on _ _ _ _ _ _ _ c.in_ok-write_header.ensures.text.whole (goes_on _ _ _ _ _ _ _ c.in_ok-write_output.ensures.text.whole (stops _ _ _ _ _ _ _ (rw c.as_slice.ensures at c.in_err-write_inputs.ensures.text) c.from_residual-in_err-write_inputs.ensures.0))
+pub flush-requires : goal.flush-requires
+flush-requires g c = gathered_bound _ _ _ _ _ _ (Output c.args.slot) c.in_ok-put.ensures.text.whole c.requires
 
 pub returns-clause-text : goal.returns-clause-text
-unfolding primitive_text
-returns-clause-text g c =
-    goes_on _ _ _ _ _ _ _ c.in_ok-write_header.ensures.text.whole (goes_on _ _ _ _ _ _ _ c.in_ok-write_output.ensures.text.whole (goes_on _ _ _ _ _ _ _ (rw c.as_slice.ensures at c.in_ok-write_inputs.ensures.text.whole) (c.write_table.ensures.text)))
+returns-clause-text g c = flushes _ _ _ _ _ _ _ (rw c.new-line.ensures at c.in_ok-put.ensures.text.whole) c.flush.ensures.text

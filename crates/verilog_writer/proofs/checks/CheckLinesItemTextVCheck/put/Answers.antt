@@ -1,0 +1,7 @@
+use Rattle.cell_machine.specs.declared.checks.CheckKind.TheVariants as check_kind
+use Rattle.verilog_writer.proofs.CheckKinds.{as_kind}
+use Rattle.verilog_writer.proofs.checks.CheckLinesItemTextVCheck.put.Goals as goal
+
+pub returns-in-Setup-clause-text : goal.returns-in-Setup-clause-text
+returns-in-Setup-clause-text g c =
+    as_kind _ _ _ _ _ c.args.self.now.0.now c.args.check.now check_kind.Setup _ c.in-Setup.is c.put.ensures.text

@@ -1,3 +1,5 @@
 pub mod Repeats
 pub mod Choices
 pub mod Values
+pub mod TextAnswers
+pub mod Passing

@@ -1,3 +1,4 @@
 pub mod Next
 pub mod Words
+pub mod Texts
 pub mod Reading

@@ -1,14 +1,12 @@
 -- Specify blocks that are read: their paths and checks are sound, with numbers of at most 15 digits.
-use Rattle.std.proofs.Common.{◌≡◌, ℕ, ◌+◌, ◌-◌, ◌*◌, ◌^◌, ◌<◌, ◌≤◌, Bool, true, false, ◌&&◌, nat_eq, nat_le, if◌then◌else◌, IsTrue, List, [], ◌∷◌, length, Option, Some, None, is_some, refl, sym, subst, arith, codes, add-one}
+use Rattle.std.proofs.Common.{◌≡◌, ℕ, Bool, true, false, nat_eq, if◌then◌else◌, IsTrue, List, [], Option, Some, None, is_some, refl, sym, subst, arith, codes}
 use Rattle.std.specs.Prelude.{All}
-use Rattle.std.specs.Char.{is_ascii_digit}
 use Rattle.std.specs.Str.{bytes_eq}
-use Rattle.std.specs.List.{list_all, position}
-use Rattle.std.proofs.lemmas.Bool.{and_parts, and_from, eq-eqb}
-use Rattle.std.proofs.lemmas.Bool.Decides.{nat_tests}
+use Rattle.std.specs.List.{position}
+use Rattle.std.proofs.lemmas.Bool.{and_from, eq-eqb}
 use Rattle.std.proofs.lemmas.List.Elements.{All-push}
-use Rattle.std.proofs.Math.Nat.{pow-suc, pow-le-pow_right}
-use Rattle.verilog_tokens.specs.Numbers.{is_number, number_after, number_of}
+use Rattle.verilog_tokens.specs.Numbers.{number_of}
+use Rattle.token_spans.proofs.DigitLemmas.{number_below}
 use Rattle.grammar_rules.proofs.Promises.{Promises, gives, in_turn, many, choice, weaker}
 use Rattle.cell_machine.specs.declared.checks.CheckKind.{CheckKind}
 use Rattle.cell_machine.specs.declared.checks.CheckKind.TheVariants as check_kind
@@ -28,36 +26,8 @@ use Rattle.specify_blocks.proofs.ReadNames.{IsSpelled, some_if, known_values, va
 
 -- Numbers.
 
-digit_below : (d : ℕ) → is_ascii_digit d ≡ true → d - 48 ≤ 9
-digit_below d e = grind (arith, nat_tests)
-
--- the digits behind a number below a power of ten
-value_below : (k before : ℕ) (ds : List ℕ) → list_all is_ascii_digit ds ≡ true → before < 10 ^ k → number_after before ds < 10 ^ (k + length ds)
-value_below k before [] all h =
-    let same : k ≡ k + 0 = omega arith in
-    subst (λ n. before < 10 ^ n) same h
-value_below k before (d ∷ ds) all h =
-    let parts = and_parts (is_ascii_digit d) (list_all is_ascii_digit ds) all in
-    let digit = digit_below d parts.0 in
-    let power : 10 ^ (k + 1) ≡ 10 ^ k * 10 = rw add-one (pow-suc 10 k) in
-    let next : before * 10 + (d - 48) < 10 ^ (k + 1) = omega (arith, power, h, digit) in
-    let same : k + 1 + length ds ≡ k + length (d ∷ ds) = omega arith in
-    subst (λ n. number_after (before * 10 + (d - 48)) ds < 10 ^ n) same (value_below (k + 1) (before * 10 + (d - 48)) ds parts.1 next)
-
-all_digits : (x : List ℕ) → is_number x ≡ true → list_all is_ascii_digit x ≡ true
-all_digits [] e = refl
-all_digits (d ∷ ds) e = e
-
 number_fits : (x : List ℕ) (n : ℕ) → number_of x ≡ Some n → IsNumber n
-number_fits x n e =
-    let f = some_if (is_number x && nat_le (length x) 15) (number_after 0 x) n e in
-    let parts = and_parts (is_number x) (nat_le (length x) 15) f.0 in
-    let few : 0 + length x ≤ 15 = grind (arith, nat_tests, parts.1) in
-    let below : number_after 0 x < 10 ^ (0 + length x) = value_below 0 0 x (all_digits x parts.0) (omega arith) in
-    let ten : 0 < 10 = omega arith in
-    let top : 10 ^ (0 + length x) ≤ 10 ^ 15 = pow-le-pow_right ten few in
-    let bound : number_after 0 x < 10 ^ 15 = omega (arith, below, top) in
-    subst IsNumber f.1 bound
+number_fits = number_below
 
 numbers : Promises IsSpelled a_number IsNumber
 unfolding a_number

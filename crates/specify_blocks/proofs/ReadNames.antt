@@ -1,5 +1,5 @@
 -- The tokens and the names that are read.
-use Rattle.std.proofs.Common.{◌≡◌, ℕ, Bool, true, false, not, ◌||◌, ◌==◌, if◌then◌else◌, IsTrue, List, [], ◌∷◌, ◌++◌, Option, Some, None, refl, sym, ap, subst, arith}
+use Rattle.std.proofs.Common.{◌≡◌, ℕ, Bool, true, false, not, ◌||◌, ◌==◌, if◌then◌else◌, IsTrue, List, [], ◌∷◌, ◌++◌, Option, refl, sym, ap, subst, arith}
 use Rattle.std.specs.Prelude.{All}
 use Rattle.std.specs.Str.{bytes_eq}
 use Rattle.std.specs.Cmp.{IsEquivalence}
@@ -12,11 +12,12 @@ use Rattle.std.proofs.lemmas.Map.Keys.{IsDistinct-push}
 use Rattle.verilog_tokens.specs.Kept.{is_identifier}
 use Rattle.verilog_tokens.specs.Words.{is_verilog_word}
 use Rattle.std.specs.Char.{is_ascii_alphabetic}
-use Rattle.grammar_rules.specs.Rule.{Verdict, Fits, Foul, Misfit}
+use Rattle.grammar_rules.specs.Rule.{Verdict, Fits, Foul}
 use Rattle.grammar_rules.proofs.Promises.{Promises, token, gives, any, keeps}
 use Rattle.verilog_tokens.specs.Tokens.{is_name}
 use Rattle.rule_readers.specs.declared.refusal.Refusal.{Refusal}
 use Rattle.rule_readers.specs.declared.refusal.Refusal.TheVariants.{Syntax, Undefined, Twice}
+pub use Rattle.rule_readers.proofs.Passing.{fits_if, fits_unless, fits_where, some_if, fits_allowed, IsFound}
 use Rattle.rule_readers.specs.Words.{Grammar, go_on_where, allowed_by, valued, fresh}
 use Rattle.udp_tables.specs.VerilogRules.{expect_where, any_name, is_among, new_name, known}
 use Rattle.specify_blocks.specs.WellFormed.{IsName, AreApart}
@@ -29,30 +30,8 @@ pub a_name : (x : List ℕ) → IsSpelled x → IsTrue (is_name x) → IsName x
 a_name [] h e = absurd cc
 a_name (b ∷ bs) h e = record { identifier = h e; no_word = (and_parts (is_ascii_alphabetic b || b == 95) (not (is_verilog_word (b ∷ bs))) e).1 }
 
--- Tests of a token that passes.
-
-pub fits_if : {A : Type 0} (b : Bool) (v : Verdict A Refusal) (k : Refusal) (a : A) → (if b then v else Misfit k) ≡ Fits a → (b ≡ true) × (v ≡ Fits a)
-fits_if true v k a e = (refl, e)
-fits_if false v k a e = absurd cc
-
-pub fits_unless : {A : Type 0} (b : Bool) (k : Refusal) (x a : A) → (if b then Foul k x else Fits x) ≡ Fits a → (b ≡ false) × (x ≡ a)
-fits_unless true k x a e = absurd cc
-fits_unless false k x a e = (refl, cc)
-
-pub fits_where : {A : Type 0} (b : Bool) (k : Refusal) (x a : A) → (if b then Fits x else Foul k x) ≡ Fits a → b ≡ true
-fits_where true k x a e = refl
-fits_where false k x a e = absurd cc
-
-pub some_if : {A : Type 0} (b : Bool) (v w : A) → (if b then Some v else None) ≡ Some w → (b ≡ true) × (v ≡ w)
-some_if true v w e = (refl, cc)
-some_if false v w e = absurd cc
-
 pub fits_same : {A : Type 0} (x a : A) → ◌≡◌ {A = Verdict A Refusal} (Fits x) (Fits a) → x ≡ a
 fits_same x a e = cc
-
-pub fits_allowed : {A : Type 0} (k : Refusal) (o : Option A) (a : A) → allowed_by k o ≡ Fits a → o ≡ Some a
-fits_allowed k None a e = absurd cc
-fits_allowed k (Some b) a e = cc
 
 -- Names.
 
@@ -105,10 +84,6 @@ any_names = token (λ x a p e.
     let n = fits_if (is_name x) (Fits x) Syntax a e in
     subst IsName (fits_same x a n.1) (a_name x p n.0))
 
--- some token stands for the value
-abbrev pub IsFound : {A : Type 0} → (List ℕ → Option A) → A → Type 0
-IsFound find a = (x : List ℕ) × (find x ≡ Some a)
-
 pub known_values : {A : Type 0} (find : List ℕ → Option A) → Promises IsSpelled (known find) (IsFound find)
 known_values find = token (λ x a p e.
     let n = fits_if (is_name x) (allowed_by Undefined (find x)) Syntax a e in
@@ -120,7 +95,7 @@ values find = token (λ x a p e. (x, fits_allowed Syntax (find x) a e))
 pub where_holds : (b : Bool) (k : Refusal) (text : List ℕ) → Promises IsSpelled (expect_where b k text) (λ _. b ≡ true)
 where_holds b k text = token (λ x a p e.
     let n = fits_if (bytes_eq x text) (if b then Fits tt else Foul k tt) Syntax a e in
-    fits_where b k tt a n.1)
+    (fits_where b k tt a n.1).0)
 
 pub goes_on : (b : Bool) → Promises IsSpelled (go_on_where b) (λ _. b ≡ true)
 goes_on true = gives refl

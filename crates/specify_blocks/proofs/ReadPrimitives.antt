@@ -69,7 +69,7 @@ abbrev MayHaveState : ℕ → Bool → Type 0
 MayHaveState n sequential = IsTrue sequential → n ≤ most_inputs_with_state
 
 begun_where : (b : Bool) (k : Refusal) (text x : List ℕ) (a : Unit {0}) → begins_where b k text x ≡ Some (Fits a) → b ≡ true
-begun_where b k text x a e = fits_where b k tt a ((some_if (bytes_eq x text) (if b then Fits tt else Foul k tt) (Fits a) e).1)
+begun_where b k text x a e = (fits_where b k tt a ((some_if (bytes_eq x text) (if b then Fits tt else Foul k tt) (Fits a) e).1)).0
 
 states : (h : Header) → Promises IsSpelled (register h) (MayHaveState (length h.inputs))
 unfolding register declared_state

@@ -1,5 +1,5 @@
 -- The tokens of a text that begin as names are whole identifiers.
-use Rattle.std.proofs.Common.{◌≡◌, ℕ, zero, suc, ◌+◌, Bool, true, false, not, ◌&&◌, ◌||◌, ◌==◌, nat_eq, if◌then◌else◌, List, [], ◌∷◌, take, inl, inr, Option, refl, subst, arith, codes}
+use Rattle.std.proofs.Common.{◌≡◌, ℕ, suc, ◌+◌, Bool, true, false, not, ◌&&◌, ◌||◌, ◌==◌, nat_eq, if◌then◌else◌, List, [], ◌∷◌, take, inl, inr, refl, subst, arith, codes}
 use Rattle.std.specs.List.{AllByRecursion, list_all, list_any, prefix_len}
 use Rattle.std.specs.Char.{is_ascii_alphabetic, is_ascii_digit}
 use Rattle.std.specs.Int.{is_in_range}
@@ -7,7 +7,8 @@ use Rattle.std.proofs.lemmas.Bool.{and_parts, and_from, cases_Bool}
 use Rattle.std.proofs.lemmas.Bool.Decides.{nat_tests}
 use Rattle.verilog_tokens.specs.Kept.{is_name_byte}
 use Rattle.verilog_tokens.specs.Words.{is_verilog_word}
-use Rattle.verilog_tokens.specs.Tokens.{Token, is_one_of, is_symbol, is_mark, sign_length, number_length, word_length, begins_word, token_length, is_open_after, at_front, after, scan, spellings, separator_length}
+use Rattle.token_spans.proofs.EachToken.{each_token}
+use Rattle.verilog_tokens.specs.Tokens.{is_one_of, is_symbol, is_mark, sign_length, number_length, word_length, begins_word, token_length, lexis}
 use Rattle.specify_blocks.specs.VerilogText.{text_tokens}
 use Rattle.specify_blocks.proofs.ReadNames.{IsSpelled}
 
@@ -73,24 +74,5 @@ token_spelled t n (b ∷ bs) e = λ name.
     and_from (is_ascii_alphabetic b || b == 95) (list_all is_name_byte (take n bs)) first
     (rest_named (t && is_symbol b) (is_mark b) (begins_word b) (is_ascii_digit b) b n bs refl first e)
 
-abbrev AreSpelled : List Token × Option ℕ → Type 0
-AreSpelled found = AllByRecursion IsSpelled (spellings found.0)
-
-after_spelled : (t : Token) (r : List Token × Option ℕ) → IsSpelled t.bytes → AreSpelled r → AreSpelled (after t r)
-after_spelled t (ts, f) h k = (h, k)
-
-front_spelled : (t : Bool) (at : ℕ) (bytes : List ℕ) (f : Bool → ℕ → List Token × Option ℕ) (n m : ℕ) → token_length t bytes ≡ m
-    → ((o : Bool) (k : ℕ) → AreSpelled (f o k)) → AreSpelled (at_front t at bytes f n m)
-front_spelled t at bytes f zero zero e h = tt
-front_spelled t at bytes f zero (suc m) e h =
-    after_spelled (record { at = at; bytes = take (suc m) bytes }) (f (is_open_after t (take (suc m) bytes)) m) (token_spelled t m bytes e) (h (is_open_after t (take (suc m) bytes)) m)
-front_spelled t at bytes f (suc n) m e h = h t n
-
-scan_spelled : (t : Bool) (at n : ℕ) (bytes : List ℕ) → AreSpelled (scan t at n bytes)
-scan_spelled t at n [] = tt
-scan_spelled t at (suc n) (b ∷ bs) = scan_spelled t (at + 1) n bs
-scan_spelled t at zero (b ∷ bs) =
-    front_spelled t at (b ∷ bs) (λ o k. scan o (at + 1) k bs) (separator_length (b ∷ bs)) (token_length t (b ∷ bs)) refl (λ o k. scan_spelled o (at + 1) k bs)
-
 pub tokens_spelled : (bytes : List ℕ) → AllByRecursion IsSpelled (text_tokens bytes)
-tokens_spelled bytes = scan_spelled false 0 0 bytes
+tokens_spelled = each_token lexis IsSpelled token_spelled

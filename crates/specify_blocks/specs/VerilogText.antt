@@ -1,18 +1,16 @@
 -- Verilog text: the modules that its bytes are, or its fault. (IEEE 1364-2005, A.1, source text, and 19.8, `timescale; the subset is this
 -- project's.)
-use Rattle.std.specs.Prelude.{◌≡◌, ◌<◌, ◌≤◌, ◌⊎◌, ◌↔◌, ℕ, ◌==◌, Bool, true, false, ◌||◌, if◌then◌else◌, List, [], ◌∷◌, ◌++◌, length, Option, Some, None, Result, Ok, Err, codes}
+use Rattle.std.specs.Prelude.{◌≡◌, ◌↔◌, ℕ, Bool, true, false, ◌||◌, List, [], ◌∷◌, ◌++◌, Option, Result, Ok, Err, codes}
 use Rattle.std.specs.Str.{bytes_eq}
-use Rattle.grammar_rules.specs.Rule.{Verdict, Fits, Takes, Refuses}
 use Rattle.grammar_rules.specs.Rule as r
-use Rattle.grammar_rules.specs.Reading.{Outcome, read}
-use Rattle.grammar_rules.specs.Loose.{loose, Fouls}
 use Rattle.udp_tables.specs.declared.table.Udp.{Udp}
 use Rattle.udp_tables.specs.declared.models.ModelFault.{ModelFault}
 use Rattle.udp_tables.specs.declared.models.ModelFault.TheVariants as fault
 use Rattle.specify_blocks.specs.declared.model.VModule.{VModule}
-use Rattle.verilog_tokens.specs.Tokens.{Token, scan_of, spellings}
-use Rattle.rule_readers.specs.declared.refusal.Refusal.{Refusal}
+use Rattle.verilog_tokens.specs.Tokens.{lexis}
 use Rattle.rule_readers.specs.declared.refusal.Refusal.TheVariants.{Syntax, Undriven}
+use Rattle.rule_readers.specs.Texts.{Texts, IsText, IsFault, text}
+use Rattle.rule_readers.specs.Texts as texts
 use Rattle.rule_readers.specs.Words.{Grammar, ◌>>=◌, begins_by}
 use Rattle.udp_tables.specs.VerilogRules.{fault_at, expect, expect_where, begins, new_name}
 use Rattle.udp_tables.specs.VerilogPrimitives.{primitive}
@@ -101,37 +99,6 @@ file = do
   all ← designs
   r.Last (λ _. Syntax) all.modules
 
--- the tokens of a text before its lexical fault, by their spelling
-abbrev pub text_tokens : List ℕ → List (List ℕ)
-text_tokens bytes = spellings (scan_of bytes).0
-
--- the offset of the lexical fault, if there is one
-abbrev pub lexical_place : List ℕ → Option ℕ
-lexical_place bytes = (scan_of bytes).1
-
--- The bytes are the text of these modules: they are tokens, without a lexical fault, that the grammar takes.
-pub record IsVerilogText (bytes : List ℕ) (modules : List VModule) : Type 0 where
-  pub lexes : lexical_place bytes ≡ None
-  pub takes : Takes file (text_tokens bytes) modules []
-
--- the offset of the token with which so many tokens are left, and the length of the text where none is left
-abbrev pub place_from : ℕ → List Token → ℕ → ℕ
-place_from len [] left = len
-place_from len (t ∷ ts) left = if length (t ∷ ts) == left then t.at else place_from len ts left
-
--- the offset of the first of the tokens that are left
-abbrev pub token_place : List ℕ → List (List ℕ) → ℕ
-token_place bytes left = place_from (length bytes) (scan_of bytes).0 (length left)
-
--- A text meets a fault: a place where no token begins; a token that the loose subset takes, although it breaks a strict rule; the
--- first token with which the tokens so far are no front of the loose subset; or the end of the text where it is a front and no text.
-abbrev pub MeetsFault : List ℕ → ModelFault → Type 0
-MeetsFault bytes f =
-    ((at : ℕ) × (lexical_place bytes ≡ Some at) × (f ≡ fault.Lexical at))
-    ⊎ (((k : Refusal) × (m : List (List ℕ)) × Fouls file (text_tokens bytes) k m × (f ≡ fault_at k (token_place bytes m)))
-    ⊎ (((k : Refusal) × (x : List ℕ) × (m : List (List ℕ)) × Refuses (loose file) (text_tokens bytes) k (x ∷ m) × (f ≡ fault_at k (token_place bytes (x ∷ m))))
-    ⊎ ((lexical_place bytes ≡ None) × (k : Refusal) × Refuses (loose file) (text_tokens bytes) k [] × (f ≡ fault_at k (length bytes)))))
-
 -- the offset of a fault
 abbrev pub fault_place : ModelFault → ℕ
 fault_place (fault.Lexical at) = at
@@ -156,37 +123,36 @@ fault_rank (fault.Undriven at) = 6
 fault_rank (fault.Unequal at) = 7
 fault_rank fault.Memory = 8
 
--- the least offset counts, and at one offset the first kind
-abbrev pub CountsBefore : ModelFault → ModelFault → Type 0
-CountsBefore f g = (fault_place f < fault_place g) ⊎ ((fault_place f ≡ fault_place g) × (fault_rank f ≤ fault_rank g))
+-- the tokens of Verilog, its grammar and its faults
+abbrev pub language : Texts (List VModule) ModelFault
+language = record {
+  lexis = lexis;
+  file = file;
+  lexical = fault.Lexical;
+  fault_at = fault_at;
+  fault_place = fault_place;
+  fault_rank = fault_rank;
+}
+
+-- the tokens of a text before its lexical fault, by their spelling
+abbrev pub text_tokens : List ℕ → List (List ℕ)
+text_tokens = texts.text_tokens lexis
+
+-- the offset of the lexical fault, if there is one
+abbrev pub lexical_place : List ℕ → Option ℕ
+lexical_place = texts.lexical_place lexis
+
+-- The bytes are the text of these modules: they are tokens, without a lexical fault, that the grammar takes.
+abbrev pub IsVerilogText : List ℕ → List VModule → Type 0
+IsVerilogText = IsText language
 
 -- This is the fault of a text: of those that it meets, the first.
-pub record IsVerilogFault (bytes : List ℕ) (f : ModelFault) : Type 0 where
-  pub met : MeetsFault bytes f
-  pub first : (g : ModelFault) → MeetsFault bytes g → CountsBefore f g
-
--- Below: the same as a function of the bytes.
-
-abbrev pub end_fault : ℕ → Refusal → Option ℕ → ModelFault
-end_fault len k None = fault_at k len
-end_fault len k (Some at) = fault.Lexical at
-
--- the fault of a refusal before these tokens, in a text of this length with these tokens and this lexical fault
-abbrev pub refusal_fault : ℕ → List Token → Option ℕ → Refusal → List (List ℕ) → ModelFault
-refusal_fault len tokens lexical k [] = end_fault len k lexical
-refusal_fault len tokens lexical k (x ∷ m) = fault_at k (place_from len tokens (length (x ∷ m)))
-
-abbrev pub unless_lexical : {A : Type 0} → Option ℕ → A → Result A ModelFault
-unless_lexical None a = Ok a
-unless_lexical (Some at) a = Err (fault.Lexical at)
-
-abbrev pub answer_of : ℕ → List Token → Option ℕ → Outcome (List ℕ) Refusal (List VModule) → Result (List VModule) ModelFault
-answer_of len tokens lexical (Ok p) = unless_lexical lexical p.0
-answer_of len tokens lexical (Err e) = Err (refusal_fault len tokens lexical e.0 e.1)
+abbrev pub IsVerilogFault : List ℕ → ModelFault → Type 0
+IsVerilogFault = IsFault language
 
 -- the modules of a text, or its fault
 unfoldable pub verilog_text : List ℕ → Result (List VModule) ModelFault
-verilog_text bytes = answer_of (length bytes) (scan_of bytes).0 (scan_of bytes).1 (read file (text_tokens bytes))
+verilog_text bytes = text language bytes
 
 -- A text has modules or a fault, and one of them.
 pub record IsVerilogAnswer (bytes : List ℕ) : Type 0 where

@@ -1,1 +1,6 @@
 pub mod Spans
+pub mod Tokens
+pub mod Places
+pub mod Separators
+pub mod Numbers
+pub mod Cover

@@ -1,6 +1,12 @@
-//! Where the tokens of a text stand: what any scanner gives.
+//! Where the tokens of a text stand: what any scanner gives, and what the scanners of many languages have in common.
 #![tactic(auto)]
 
+mod fronts;
+mod numbers;
+mod place;
 mod span;
 
+pub use fronts::{digits_length, is_blank, line_length, name_length};
+pub use numbers::{is_number, number_of};
+pub use place::place_of;
 pub use span::{Memory, Scan, Span};

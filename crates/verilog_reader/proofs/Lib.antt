@@ -4,7 +4,6 @@ pub mod Headers
 pub mod Periods
 pub mod NamedNets
 pub mod Begun
-pub mod Spelled
 pub mod TextLemmas
 pub mod WellRead
 pub mod SameNames

@@ -3,17 +3,17 @@
 ghost use Rattle.std.specs.Prelude.{◌≡◌, length, IfOk, IfErr, Ok};
 ghost use Rattle.grammar_rules.specs.Reading.{read};
 ghost use Rattle.udp_tables.specs.VerilogRules.{fault_at};
-ghost use Rattle.specify_blocks.specs.VerilogText.{verilog_text, place_from, refusal_fault};
+ghost use Rattle.specify_blocks.specs.VerilogText.{verilog_text, language};
+ghost use Rattle.rule_readers.specs.Texts.{refusal_fault};
 ghost use Rattle.specify_blocks.specs.WellFormed.{AreWellFormed};
-ghost use Rattle.verilog_tokens.specs.Spans.{tokens_of};
-ghost use Rattle.token_spans.specs.Spans.{spelled};
+ghost use Rattle.token_spans.specs.Spans.{tokens_of, spelled};
 ghost use Rattle.verilog_reader.specs.File.{IsFaultOf};
 
 use crate::file::{Before, file};
 use rule_readers::{Cursor, Refusal, Stop};
 use specify_blocks::VModule;
 use std::alloc::Global;
-use token_spans::{Scan, Span};
+use token_spans::{Scan, Span, place_of};
 use udp_reader::Verilog;
 use udp_tables::ModelFault;
 use verilog_tokens::scan;
@@ -33,22 +33,6 @@ fn fault_at(refusal: Refusal, at: usize) -> ModelFault
     }
 }
 
-/// The offset of the token with which so many tokens are left; the length of the text where none is left.
-fn place_of(text: &[u8], tokens: &[Span], left: usize) -> usize
-    ensures { result ≡ place_from (length text.now) (tokens_of text.now tokens.now) left }
-{
-    let mut rest = tokens;
-    for _turn in 0..tokens.len() {
-        if let [first, more @ ..] = rest {
-            if rest.len() == left {
-                return first.at;
-            }
-            rest = more;
-        }
-    }
-    text.len()
-}
-
 /// The fault of a refusal before so many tokens.
 fn refusal_fault_of(
     text: &[u8],
@@ -57,7 +41,7 @@ fn refusal_fault_of(
     refusal: Refusal,
     left: &Cursor<'_, Verilog>,
 ) -> ModelFault
-    ensures { result ≡ refusal_fault (length text.now) (tokens_of text.now tokens.now) lexical refusal left.now }
+    ensures { result ≡ refusal_fault language (length text.now) (tokens_of text.now tokens.now) lexical refusal left.now }
 {
     if left.left() > 0 {
         return fault_at(refusal, place_of(text, tokens, left.left()));
@@ -69,7 +53,7 @@ fn refusal_fault_of(
 }
 
 /// The modules of a Verilog text, or its first fault.
-#[tactic(auto, unfolding(specify_blocks::specs::VerilogText::verilog_text), using(crate::proofs::Spelled::spelled))]
+#[tactic(auto, unfolding(specify_blocks::specs::VerilogText::verilog_text), using(token_spans::proofs::Spelled::spelled))]
 fn models_of(alloc: Global, text: &[u8]) -> Result<Vec<VModule>, ModelFault>
     ensures modules { IfOk result (λ found. verilog_text text.now ≡ Ok found.items) }
     ensures fault { IfErr result (λ e. IsFaultOf text.now e) }

@@ -1,9 +1,5 @@
-pub mod Turns
-pub mod Alike
 pub mod Stays
 pub mod Padding
-pub mod Places
-pub mod DigitLemmas
 pub mod Longest
 pub mod Covered
 mod NoWord

@@ -1,78 +1,34 @@
 -- What is added between tokens changes none.
-use Rattle.std.proofs.Common.{◌≡◌, ℕ, zero, suc, ◌+◌, ◌<◌, Bool, true, false, not, ◌&&◌, ◌==◌, nat_eq, if◌then◌else◌, List, [], ◌∷◌, ◌++◌, length, take, Option, Some, None, unwrap_or, refl, sym, ap, ◌∙◌, arith, subst, codes, append_assoc, length-append}
+use Rattle.std.proofs.Common.{◌≡◌, ℕ, suc, ◌+◌, ◌<◌, Bool, true, false, not, ◌&&◌, ◌==◌, nat_eq, if◌then◌else◌, List, [], ◌∷◌, ◌++◌, length, Option, Some, None, unwrap_or, refl, sym, ap, ◌∙◌, arith, subst, codes, append_assoc, length-append}
 use Rattle.std.proofs.lemmas.Bool.{and_parts, eqb-true}
 use Rattle.std.specs.List.{prefix_len, list_all}
-use Rattle.verilog_tokens.specs.Tokens.{Token, is_blank, begins_with, later, comment_rest, block_length, separator_length, token_length, is_open_after, at_front, after, scan}
+use Rattle.verilog_tokens.specs.Tokens.{is_blank, begins_with, later, comment_rest, block_length, separator_length, token_length, is_open_after, lexis, scan}
 use Rattle.verilog_tokens.specs.Separators.{IsSeparation, Padded, spelled, HaveSameTokens}
 use Rattle.verilog_tokens.specs.Separators as pad
-use Rattle.verilog_tokens.proofs.Alike.{Alike, behind, begins_not}
-use Rattle.verilog_tokens.proofs.Alike as alike
+use Rattle.token_spans.proofs.Alike.{Alike, behind, begins_not}
+use Rattle.token_spans.proofs.Alike as alike
+pub use Rattle.token_spans.proofs.Padding.{Found, word_before}
+use Rattle.token_spans.proofs.Padding.{line_run, Lets}
+use Rattle.token_spans.proofs.Padding as padding
 use Rattle.verilog_tokens.proofs.Stays.{token_stays}
-
--- the tokens found, and whether there is a fault behind them
-abbrev pub Found : Type 0
-Found = List (List ℕ) × Bool
-
-abbrev pub word_before : List ℕ → Found → Found
-word_before w (ws, f) = (w ∷ ws, f)
-
-spelled_after : (t : Token) (r : List Token × Option ℕ) → spelled (after t r) ≡ word_before t.bytes (spelled r)
-spelled_after t (ts, f) = refl
-
-any_front : (t : Bool) (at z : ℕ) (bytes : List ℕ) (f g : Bool → ℕ → List Token × Option ℕ) (n m : ℕ) →
-    ((o : Bool) (k : ℕ) → spelled (f o k) ≡ spelled (g o k)) → spelled (at_front t at bytes f n m) ≡ spelled (at_front t z bytes g n m)
-any_front t at z bytes f g zero zero same = refl
-any_front t at z bytes f g zero (suc m) same =
-    spelled_after (record { at = at; bytes = take (suc m) bytes }) (f (is_open_after t (take (suc m) bytes)) m)
-    ∙ ap (word_before (take (suc m) bytes)) (same (is_open_after t (take (suc m) bytes)) m)
-    ∙ sym (spelled_after (record { at = z; bytes = take (suc m) bytes }) (g (is_open_after t (take (suc m) bytes)) m))
-any_front t at z bytes f g (suc n) m same = same t n
 
 -- the tokens are the same at any offset
 pub any_offset : (t : Bool) (at z n : ℕ) (s : List ℕ) → spelled (scan t at n s) ≡ spelled (scan t z n s)
-any_offset t at z n [] = refl
-any_offset t at z (suc n) (b ∷ s) = any_offset t (at + 1) (z + 1) n s
-any_offset t at z zero (b ∷ s) =
-    any_front t at z (b ∷ s) (λ o k. scan o (at + 1) k s) (λ o k. scan o (z + 1) k s) (separator_length (b ∷ s)) (token_length t (b ∷ s))
-    (λ o k. any_offset o (at + 1) (z + 1) k s)
-
--- bytes of what stands before are passed over
-passes : (t : Bool) (at z : ℕ) (w r : List ℕ) → spelled (scan t at (length w) (w ++ r)) ≡ spelled (scan t z 0 r)
-passes t at z [] r = any_offset t at z 0 r
-passes t at z (c ∷ w) r = passes t (at + 1) z w r
+any_offset = padding.any_offset lexis
 
 pub over_separator : (t : Bool) (at z b : ℕ) (w r : List ℕ) → separator_length (b ∷ w ++ r) ≡ suc (length w) →
     spelled (scan t at 0 (b ∷ w ++ r)) ≡ spelled (scan t z 0 r)
-over_separator t at z b w r e =
-    ap (λ n. spelled (at_front t at (b ∷ w ++ r) (λ o k. scan o (at + 1) k (w ++ r)) n (token_length t (b ∷ w ++ r)))) e
-    ∙ passes t (at + 1) z w r
-
-front_is : (w r : List ℕ) → take (length w) (w ++ r) ≡ w
-front_is [] r = refl
-front_is (c ∷ w) r = ap (λ (s : List ℕ). c ∷ s) (front_is w r)
+over_separator = padding.over_separator lexis
 
 pub over_token : (t : Bool) (at z b : ℕ) (w r : List ℕ) → separator_length (b ∷ w ++ r) ≡ 0 → token_length t (b ∷ w ++ r) ≡ suc (length w) →
     spelled (scan t at 0 (b ∷ w ++ r)) ≡ word_before (b ∷ w) (spelled (scan (is_open_after t (b ∷ w)) z 0 r))
-over_token t at z b w r e f =
-    ap (λ n. spelled (at_front t at (b ∷ w ++ r) (λ o k. scan o (at + 1) k (w ++ r)) n (token_length t (b ∷ w ++ r)))) e
-    ∙ ap (λ n. spelled (at_front t at (b ∷ w ++ r) (λ o k. scan o (at + 1) k (w ++ r)) 0 n)) f
-    ∙ ap (λ (s : List ℕ). spelled (after (record { at = at; bytes = b ∷ s }) (scan (is_open_after t (b ∷ s)) (at + 1) (length w) (w ++ r)))) (front_is w r)
-    ∙ spelled_after (record { at = at; bytes = b ∷ w }) (scan (is_open_after t (b ∷ w)) (at + 1) (length w) (w ++ r))
-    ∙ ap (word_before (b ∷ w)) (passes (is_open_after t (b ∷ w)) (at + 1) z w r)
+over_token = padding.over_token lexis
 
 blank_length : (b : ℕ) (s : List ℕ) → is_blank b ≡ true → separator_length (b ∷ s) ≡ 1
 blank_length b s e = rw e refl
 
 over_blank : (t : Bool) (at z b : ℕ) (r : List ℕ) → is_blank b ≡ true → spelled (scan t at 0 (b ∷ r)) ≡ spelled (scan t z 0 r)
-over_blank t at z b r e = over_separator t at z b [] r (blank_length b r e)
-
--- the bytes before a line end
-line_run : (body r : List ℕ) → list_all (λ c. not (c == 10)) body ≡ true → prefix_len (λ c. not (c == 10)) (body ++ (10 ∷ r)) ≡ length body
-line_run [] r e = refl
-line_run (c ∷ body) r e =
-    let s = and_parts (not (c == 10)) (list_all (λ c. not (c == 10)) body) e in
-    let i : prefix_len (λ c. not (c == 10)) (body ++ (10 ∷ r)) ≡ length body = line_run body r s.1 in
-    rw s.0 (omega arith)
+over_blank = padding.over_blank lexis blank_length
 
 no_end : (t : Bool) (o : Option ℕ) → (if t then Some 1 else later 1 o) ≡ None → (t ≡ false) × (o ≡ None)
 no_end true o e = absurd cc
@@ -120,21 +76,11 @@ added (pad.block_comment b body rest e f h g) t at z r =
     ∙ ap (λ (x : List ℕ). spelled (scan t 0 0 (47 ∷ 42 ∷ x))) (append_assoc body (42 ∷ 47 ∷ rest) r)
     ∙ over_block t 0 0 body (rest ++ r) f ∙ added h t 0 z r
 
-alike_self : (s : List ℕ) → Alike s s
-alike_self [] = alike.empty
-alike_self (c ∷ s) = alike.cons c (alike_self s)
-
 alike_added : {s : List ℕ} → IsSeparation s → {r p : List ℕ} → Alike r p → Alike r (s ++ p)
 alike_added pad.nothing h = h
 alike_added (pad.blank {b} {s} e g) h = alike.blank b e
 alike_added (pad.line_comment b body rest e f g k) {r} {p} h = subst (λ (x : List ℕ). Alike r (x ++ p)) (sym k) (alike.blank b e)
 alike_added (pad.block_comment b body rest e f g k) {r} {p} h = subst (λ (x : List ℕ). Alike r (x ++ p)) (sym k) (alike.blank b e)
-
-padded_alike : {t : Bool} {b q : List ℕ} → Padded t b q → Alike b q
-padded_alike (pad.same {bytes = s}) = alike_self s
-padded_alike (pad.added {bytes = b} s rest g h e) = subst (λ (x : List ℕ). Alike b x) (sym e) (alike_added g (padded_alike h))
-padded_alike (pad.separator c s rest more e f g k h) = rw (e, f) (behind (c ∷ s) (padded_alike h))
-padded_alike (pad.token c s rest more e f g k h) = rw (e, f) (behind (c ∷ s) (padded_alike h))
 
 separator_by : (t line block line' block' : Bool) (n m n' m' : ℕ) →
     (line ≡ true → 0 < n) → (block ≡ true → ⊥) → (line ≡ false → line' ≡ false) → (block ≡ false → block' ≡ false) →
@@ -176,26 +122,15 @@ no_separator t b w {r} {p} h e f =
     (line_some b (w ++ r)) (no_block t b (w ++ r) (length w) f)
     (begins_not (codes "//") refl all) (begins_not (codes "/*") refl all) e
 
-padded_same : {t : Bool} {b q : List ℕ} → Padded t b q → (at z : ℕ) → spelled (scan t at 0 b) ≡ spelled (scan t z 0 q)
-padded_same (pad.same {in_table = t} {bytes = s}) at z = any_offset t at z 0 s
-padded_same (pad.added {in_table = t} {bytes = b} s rest g h e) at z =
-    padded_same h at 0 ∙ sym (added g t z 0 rest) ∙ ap (λ (x : List ℕ). spelled (scan t z 0 x)) (sym e)
-padded_same (pad.separator {in_table = t} c s rest more e f g k h) at z =
-    ap (λ (x : List ℕ). spelled (scan t at 0 x)) e
-    ∙ over_separator t at 0 c s rest (ap separator_length (sym e) ∙ g)
-    ∙ padded_same h 0 0
-    ∙ sym (over_separator t z 0 c s more (ap separator_length (sym f) ∙ k))
-    ∙ ap (λ (x : List ℕ). spelled (scan t z 0 x)) (sym f)
-padded_same (pad.token {in_table = t} c s rest more e f g k h) at z =
-    let n : separator_length (c ∷ s ++ rest) ≡ 0 = ap separator_length (sym e) ∙ g in
-    let l : token_length t (c ∷ s ++ rest) ≡ suc (length s) = ap (token_length t) (sym e) ∙ k in
-    let a : Alike rest more = padded_alike h in
-    ap (λ (x : List ℕ). spelled (scan t at 0 x)) e
-    ∙ over_token t at 0 c s rest n l
-    ∙ ap (word_before (c ∷ s)) (padded_same h 0 0)
-    ∙ sym (over_token t z 0 c s more (no_separator t c s a n l) (token_stays t c s a l))
-    ∙ ap (λ (x : List ℕ). spelled (scan t z 0 x)) (sym f)
+-- what must be known of the language
+lets : Lets lexis IsSeparation
+lets = record {
+  added = λ s h. added h;
+  alike_added = λ s h r p. alike_added h;
+  no_separator = λ t b w r p h e f. no_separator t b w h e f;
+  token_stays = λ t b w r p. token_stays t b w;
+}
 
 -- what is added between tokens changes none
 pub same_tokens : (text other : List ℕ) → Padded false text other → HaveSameTokens text other
-same_tokens text other h = padded_same h 0 0
+same_tokens = padding.same_tokens lexis IsSeparation lets

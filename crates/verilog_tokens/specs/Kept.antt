@@ -1,13 +1,10 @@
 -- Which names of a cell library are kept in Verilog text. This project's rule.
 use Rattle.std.specs.Prelude.{ℕ, Bool, false, not, ◌&&◌, ◌||◌, ◌==◌, List, [], ◌∷◌, codes, drop, length, nat_eq}
-use Rattle.std.specs.Char.{is_ascii_alphabetic, is_ascii_alphanumeric}
+use Rattle.std.specs.Char.{is_ascii_alphabetic}
 use Rattle.std.specs.List.{list_all, starts_with}
+pub use Rattle.token_spans.specs.Tokens.{is_name_byte}
 use Rattle.verilog_tokens.specs.Numbers.{is_number}
 use Rattle.verilog_tokens.specs.Words.{is_verilog_word}
-
--- a letter, a digit or `_`
-abbrev pub is_name_byte : ℕ → Bool
-is_name_byte b = is_ascii_alphanumeric b || b == 95
 
 -- a letter or `_`, followed by letters, digits and `_`: a simple identifier of IEEE 1364-2005, 3.7, without `$`
 abbrev pub is_identifier : List ℕ → Bool

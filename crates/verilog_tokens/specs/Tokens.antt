@@ -1,34 +1,13 @@
 -- The tokens of Verilog text. (IEEE 1364-2005, clause 3, lexical conventions, and 8.1.4, the symbols of a primitive's table. Which
 -- signs, numbers and symbols there are is this project's subset.) At each place outside a token a separator begins, or a token,
 -- which is the longest that begins there, or neither, which is a lexical fault.
-use Rattle.std.specs.Prelude.{ℕ, zero, suc, ◌+◌, ◌-◌, Bool, true, false, not, ◌&&◌, ◌||◌, ◌==◌, nat_eq, nat_le, nat_lt, if◌then◌else◌, List, [], ◌∷◌, codes, map, take, Option, Some, None, unwrap_or}
+use Rattle.std.specs.Prelude.{ℕ, ◌+◌, Bool, true, false, not, ◌&&◌, ◌||◌, ◌==◌, nat_le, if◌then◌else◌, List, [], ◌∷◌, codes, Option, Some, None, unwrap_or}
 use Rattle.std.specs.Char.{is_ascii_alphabetic, is_ascii_digit}
-use Rattle.std.specs.List.{list_any, prefix_len, starts_with}
+use Rattle.std.specs.List.{prefix_len}
 use Rattle.std.specs.Str.{bytes_eq}
-use Rattle.verilog_tokens.specs.Kept.{is_name_byte}
+use Rattle.token_spans.specs.Tokens as tokens
+pub use Rattle.token_spans.specs.Tokens.{Token, Lexis, begins_with, is_one_of, is_blank, is_name_byte, later, after, spellings}
 use Rattle.verilog_tokens.specs.Words.{is_verilog_word}
-
--- A token: the offset where it begins, and the bytes that spell it. There is at least one.
-pub record Token : Type 0 where
-  pub at : ℕ
-  pub bytes : List ℕ
-
--- the bytes begin with these
-abbrev pub begins_with : List ℕ → List ℕ → Bool
-begins_with bytes front = starts_with nat_eq bytes front
-
--- the byte is one of these
-abbrev pub is_one_of : List ℕ → ℕ → Bool
-is_one_of bytes b = list_any (λ c. nat_eq c b) bytes
-
--- a space, a tab or a line end (3.2, white space; no other byte separates tokens here)
-abbrev pub is_blank : ℕ → Bool
-is_blank b = is_one_of (codes " \t\n") b
-
--- so many bytes more
-abbrev pub later : ℕ → Option ℕ → Option ℕ
-later n None = None
-later n (Some m) = Some (n + m)
 
 -- How many bytes end a comment, up to and with the first slash right behind a star. The flag says whether the byte before these
 -- is a star of the comment.
@@ -102,32 +81,21 @@ abbrev pub is_open_after : Bool → List ℕ → Bool
 is_open_after in_table token =
     if bytes_eq token (codes "table") then true else (if bytes_eq token (codes "endtable") then false else in_table)
 
--- a token before these
-abbrev pub after : Token → List Token × Option ℕ → List Token × Option ℕ
-after t (ts, fault) = (t ∷ ts, fault)
+-- the lexical level of Verilog; the flag says whether a table is open
+abbrev pub lexis : Lexis
+lexis = record { separator_length = separator_length; token_length = token_length; flag_after = is_open_after }
 
--- What bytes are that begin at an offset outside a token, by what they are behind the separator or the token that begins there.
 abbrev pub at_front : Bool → ℕ → List ℕ → (Bool → ℕ → List Token × Option ℕ) → ℕ → ℕ → List Token × Option ℕ
-at_front in_table at bytes rest zero zero = ([], Some at)
-at_front in_table at bytes rest zero (suc n) =
-    after (record { at = at; bytes = take (suc n) bytes }) (rest (is_open_after in_table (take (suc n) bytes)) n)
-at_front in_table at bytes rest (suc n) _ = rest in_table n
+at_front = tokens.at_front lexis
 
 -- The tokens of bytes that begin at an offset, where so many of them belong to what stands before, and the offset of the lexical
 -- fault, if there is one. The flag says whether a table is open.
 abbrev pub scan : Bool → ℕ → ℕ → List ℕ → List Token × Option ℕ
-scan in_table at n [] = ([], None)
-scan in_table at (suc n) (b ∷ bs) = scan in_table (at + 1) n bs
-scan in_table at zero (b ∷ bs) =
-    at_front in_table at (b ∷ bs) (λ open_then n. scan open_then (at + 1) n bs) (separator_length (b ∷ bs)) (token_length in_table (b ∷ bs))
+scan = tokens.scan lexis
 
 -- the tokens of a text before its lexical fault, and the offset of the fault, if there is one
 abbrev pub scan_of : List ℕ → List Token × Option ℕ
-scan_of bytes = scan false 0 0 bytes
-
--- the bytes of each token
-abbrev pub spellings : List Token → List (List ℕ)
-spellings tokens = map (λ (t : Token). t.bytes) tokens
+scan_of = tokens.scan_of lexis
 
 -- The token is a name: it is spelled as an identifier, and is no word of Verilog. (In a table no place wants one.)
 abbrev pub is_name : List ℕ → Bool

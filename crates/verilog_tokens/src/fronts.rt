@@ -1,17 +1,11 @@
 //! What begins at the front of bytes of a Verilog text.
 
-ghost use Rattle.std.specs.Prelude.{◌≡◌, ◌≤◌, length, false, not, ◌==◌, IfSome};
+ghost use Rattle.std.specs.Prelude.{◌≡◌, ◌≤◌, length, false, IfSome};
 ghost use Rattle.std.specs.List.{prefix_len};
-ghost use Rattle.std.specs.Char.{is_ascii_alphabetic, is_ascii_digit};
-ghost use Rattle.verilog_tokens.specs.Kept.{is_name_byte};
+ghost use Rattle.std.specs.Char.{is_ascii_alphabetic};
 ghost use Rattle.verilog_tokens.specs.Tokens as spec;
 
-/// Whether a byte is a space, a tab or a line end.
-fn is_blank(byte: u8) -> bool
-    ensures { result ≡ spec.is_blank byte }
-{
-    matches!(byte, b' ' | b'\t' | b'\n')
-}
+use token_spans::{digits_length, is_blank, line_length, name_length};
 
 /// Whether a byte is a mark of one byte.
 fn is_mark(byte: u8) -> bool
@@ -61,32 +55,6 @@ fn block_length(bytes: &[u8]) -> usize
     }
 }
 
-/// How many bytes stand before the first line end.
-fn line_length(bytes: &[u8]) -> usize
-    ensures value { result ≡ prefix_len (λ c. not (c == 10)) bytes.now }
-    ensures within { result ≤ length bytes.now }
-{
-    for (at, byte) in bytes.iter().enumerate() {
-        if *byte == b'\n' {
-            return at;
-        }
-    }
-    bytes.len()
-}
-
-/// How many letters, digits and `_` stand at the front of the bytes.
-fn name_length(bytes: &[u8]) -> usize
-    ensures value { result ≡ prefix_len is_name_byte bytes.now }
-    ensures within { result ≤ length bytes.now }
-{
-    for (at, byte) in bytes.iter().enumerate() {
-        if !byte.is_ascii_alphanumeric() && *byte != b'_' {
-            return at;
-        }
-    }
-    bytes.len()
-}
-
 /// How many letters stand at the front of the bytes.
 fn letters_length(bytes: &[u8]) -> usize
     ensures value { result ≡ prefix_len is_ascii_alphabetic bytes.now }
@@ -94,19 +62,6 @@ fn letters_length(bytes: &[u8]) -> usize
 {
     for (at, byte) in bytes.iter().enumerate() {
         if !byte.is_ascii_alphabetic() {
-            return at;
-        }
-    }
-    bytes.len()
-}
-
-/// How many digits stand at the front of the bytes.
-fn digits_length(bytes: &[u8]) -> usize
-    ensures value { result ≡ prefix_len is_ascii_digit bytes.now }
-    ensures within { result ≤ length bytes.now }
-{
-    for (at, byte) in bytes.iter().enumerate() {
-        if !byte.is_ascii_digit() {
             return at;
         }
     }

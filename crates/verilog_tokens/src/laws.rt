@@ -12,7 +12,6 @@ pub fn added_separators_change_no_token(text: &[u8], padded: &[u8])
 {}
 
 /// A law: the tokens of a text stand in it one behind the other, and its lexical fault behind them.
-#[tactic(auto, using(crate::proofs::Places::stand_in_order))]
 pub fn tokens_stand_in_order(text: &[u8])
     ensures { StandInOrder text.now }
 {}

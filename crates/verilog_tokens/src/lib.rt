@@ -5,13 +5,12 @@
 mod fronts;
 mod kept;
 mod laws;
-mod numbers;
 mod scanner;
 mod word_groups;
 mod words;
 
 pub use kept::{is_kept_cell_name, is_kept_port_name};
 pub use laws::{added_separators_change_no_token, tokens_cover, tokens_stand_in_order};
-pub use numbers::{is_number, number_of};
 pub use scanner::scan;
+pub use token_spans::{is_number, number_of};
 pub use words::{is_name, is_verilog_word};

@@ -9,7 +9,6 @@ pub mod NextValue
 pub mod NextLine
 pub mod NextGate
 pub mod Reversed
-pub mod Spelled
 pub mod WellRead
 pub mod LoweredNames
 pub mod ValueCounts

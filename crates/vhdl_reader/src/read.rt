@@ -2,16 +2,17 @@
 
 ghost use Rattle.std.specs.Prelude.{◌≡◌, length, IfOk, IfErr, Ok};
 ghost use Rattle.udp_tables.specs.VerilogRules.{fault_at};
-ghost use Rattle.vhdl_text.specs.VhdlText.{vhdl_text, place_from, refusal_fault};
+ghost use Rattle.vhdl_text.specs.VhdlText.{vhdl_text, language};
+ghost use Rattle.rule_readers.specs.Texts.{refusal_fault};
 ghost use Rattle.vhdl_text.specs.WellFormed.{IsNumber, AreWellFormed};
-ghost use Rattle.vhdl_tokens.specs.Spans.{tokens_of};
+ghost use Rattle.token_spans.specs.Spans.{tokens_of};
 ghost use Rattle.vhdl_reader.specs.File.{IsFaultOf};
 
 use crate::entity::file;
 use crate::language::Vhdl;
 use rule_readers::{Cursor, Refusal, Stop};
 use std::alloc::Global;
-use token_spans::{Scan, Span};
+use token_spans::{Scan, Span, place_of};
 use udp_tables::ModelFault;
 use vhdl_text::{texts_are_well_formed, vhdl_text_has_one_answer};
 use vhdl_tokens::scan;
@@ -32,22 +33,6 @@ fn fault_at(refusal: Refusal, at: usize) -> ModelFault
     }
 }
 
-/// The offset of the token with which so many tokens are left; the length of the text where none is left.
-fn place_of(text: &[u8], tokens: &[Span], left: usize) -> usize
-    ensures { result ≡ place_from (length text.now) (tokens_of text.now tokens.now) left }
-{
-    let mut rest = tokens;
-    for _turn in 0..tokens.len() {
-        if let [first, more @ ..] = rest {
-            if rest.len() == left {
-                return first.at;
-            }
-            rest = more;
-        }
-    }
-    text.len()
-}
-
 /// The fault of a refusal before so many tokens.
 fn refusal_fault_of(
     text: &[u8],
@@ -56,7 +41,7 @@ fn refusal_fault_of(
     refusal: Refusal,
     left: &Cursor<'_, Vhdl>,
 ) -> ModelFault
-    ensures { result ≡ refusal_fault (length text.now) (tokens_of text.now tokens.now) lexical refusal left.now }
+    ensures { result ≡ refusal_fault language (length text.now) (tokens_of text.now tokens.now) lexical refusal left.now }
 {
     if left.left() > 0 {
         return fault_at(refusal, place_of(text, tokens, left.left()));
@@ -68,7 +53,7 @@ fn refusal_fault_of(
 }
 
 /// The entities of a VHDL text, or its first fault.
-#[tactic(auto, unfolding(vhdl_text::specs::VhdlText::vhdl_text), using(crate::proofs::Spelled::spelled))]
+#[tactic(auto, unfolding(vhdl_text::specs::VhdlText::vhdl_text), using(token_spans::proofs::Spelled::spelled))]
 fn entities_of(alloc: Global, text: &[u8]) -> Result<Vec<VEntity>, ModelFault>
     ensures entities { IfOk result (λ found. vhdl_text text.now ≡ Ok found.items) }
     ensures fault { IfErr result (λ e. IsFaultOf text.now e) }

@@ -1,23 +1,24 @@
 -- The tokens and the names that are read.
-use Rattle.std.proofs.Common.{◌≡◌, ℕ, ◌+◌, ◌-◌, ◌*◌, ◌^◌, ◌<◌, ◌≤◌, Bool, true, false, not, ◌&&◌, ◌||◌, ◌==◌, nat_eq, nat_le, if◌then◌else◌, IsTrue, List, [], ◌∷◌, ◌++◌, length, Option, Some, None, refl, sym, ap, subst, ◌∙◌, arith, add-one}
-use Rattle.std.specs.Char.{is_ascii_alphabetic, is_ascii_digit}
+use Rattle.std.proofs.Common.{◌≡◌, ℕ, Bool, true, false, not, ◌||◌, ◌==◌, nat_eq, if◌then◌else◌, IsTrue, List, [], ◌∷◌, ◌++◌, Option, Some, None, refl, sym, ap, subst, ◌∙◌, arith}
+use Rattle.std.specs.Char.{is_ascii_alphabetic}
 use Rattle.std.specs.Str.{bytes_eq, str_eq_ignore_ascii_case, str_to_ascii_lowercase}
 use Rattle.std.specs.Cmp.{IsEquivalence}
 use Rattle.std.specs.Option.{option_map_or}
-use Rattle.std.specs.List.{list_any, list_all}
+use Rattle.std.specs.List.{list_any}
 use Rattle.std.proofs.lemmas.Bool.{and_parts, eq-eqb, eqb-true, true≢false}
 use Rattle.std.proofs.lemmas.Bool.Decides.{nat_tests, same_from_decides}
 use Rattle.std.proofs.lemmas.Slice.Eq.{bytes_eq-Decides}
 use Rattle.std.proofs.lemmas.Map.Keys.{IsDistinct-push}
-use Rattle.std.proofs.Math.Nat.{pow-suc, pow-le-pow_right}
-use Rattle.grammar_rules.specs.Rule.{Verdict, Fits, Foul, Misfit}
+use Rattle.grammar_rules.specs.Rule.{Fits, Foul}
 use Rattle.grammar_rules.proofs.Promises.{Promises, token, gives, any, keeps, weaker}
 use Rattle.rule_readers.specs.declared.refusal.Refusal.{Refusal}
 use Rattle.rule_readers.specs.declared.refusal.Refusal.TheVariants.{Syntax, Undefined}
 use Rattle.rule_readers.specs.Words.{Grammar, go_on_where, allowed_by, valued}
+pub use Rattle.rule_readers.proofs.Passing.{fits_if, fits_unless, fits_where, some_if, fits_allowed, IsFound}
 use Rattle.vhdl_names.specs.Words.{is_vhdl_word}
 use Rattle.vhdl_tokens.specs.Tokens.{is_name}
-use Rattle.vhdl_tokens.specs.Numbers.{is_number, number_after, number_of}
+use Rattle.vhdl_tokens.specs.Numbers.{number_of}
+use Rattle.token_spans.proofs.DigitLemmas.{number_below}
 use Rattle.vhdl_tokens.specs.Spelling.{is_same}
 use Rattle.vhdl_text.specs.VhdlRules.{expect_where, is_among, known, a_number, is_number_token, this_number}
 use Rattle.vhdl_text.specs.WellFormed.{is_spelled_as_name, IsEntityName, AreApart, IsNumber}
@@ -29,28 +30,6 @@ IsSpelled x = IsTrue (is_name x) → IsTrue (is_spelled_as_name x)
 pub a_name : (x : List ℕ) → IsSpelled x → IsTrue (is_name x) → IsEntityName x
 a_name [] h e = absurd cc
 a_name (b ∷ bs) h e = record { identifier = h e; no_word = (and_parts (is_ascii_alphabetic b) (not (is_vhdl_word (b ∷ bs))) e).1 }
-
--- Tests of a token that passes.
-
-pub fits_if : {A : Type 0} (b : Bool) (v : Verdict A Refusal) (k : Refusal) (a : A) → (if b then v else Misfit k) ≡ Fits a → (b ≡ true) × (v ≡ Fits a)
-fits_if true v k a e = (refl, e)
-fits_if false v k a e = absurd cc
-
-pub fits_unless : {A : Type 0} (b : Bool) (k : Refusal) (x a : A) → (if b then Foul k x else Fits x) ≡ Fits a → (b ≡ false) × (x ≡ a)
-fits_unless true k x a e = absurd cc
-fits_unless false k x a e = (refl, cc)
-
-pub fits_where : {A : Type 0} (b : Bool) (k : Refusal) (x a : A) → (if b then Fits x else Foul k x) ≡ Fits a → (b ≡ true) × (x ≡ a)
-fits_where true k x a e = (refl, cc)
-fits_where false k x a e = absurd cc
-
-pub some_if : {A : Type 0} (b : Bool) (v w : A) → (if b then Some v else None) ≡ Some w → (b ≡ true) × (v ≡ w)
-some_if true v w e = (refl, cc)
-some_if false v w e = absurd cc
-
-pub fits_allowed : {A : Type 0} (k : Refusal) (o : Option A) (a : A) → allowed_by k o ≡ Fits a → o ≡ Some a
-fits_allowed k None a e = absurd cc
-fits_allowed k (Some b) a e = cc
 
 -- Names that are apart.
 
@@ -93,10 +72,6 @@ push_apart names x h e new = IsDistinct-push same_equivalence names x h (sym (am
 
 -- What the words of the grammar promise.
 
--- some token stands for the value
-abbrev pub IsFound : {A : Type 0} → (List ℕ → Option A) → A → Type 0
-IsFound find a = (x : List ℕ) × (find x ≡ Some a)
-
 pub known_values : {A : Type 0} (find : List ℕ → Option A) → Promises IsSpelled (known find) (IsFound find)
 known_values find = token (λ x a p e.
     let n = fits_if (is_name x) (allowed_by Undefined (find x)) Syntax a e in
@@ -124,36 +99,8 @@ surely {p = p} q = record { kept = λ s a left all t. (q a, ((keeps IsSpelled p)
 
 -- Numbers.
 
-digit_below : (d : ℕ) → is_ascii_digit d ≡ true → d - 48 ≤ 9
-digit_below d e = grind (arith, nat_tests)
-
--- the digits behind a number below a power of ten
-value_below : (k before : ℕ) (ds : List ℕ) → list_all is_ascii_digit ds ≡ true → before < 10 ^ k → number_after before ds < 10 ^ (k + length ds)
-value_below k before [] all h =
-    let same : k ≡ k + 0 = omega arith in
-    subst (λ n. before < 10 ^ n) same h
-value_below k before (d ∷ ds) all h =
-    let parts = and_parts (is_ascii_digit d) (list_all is_ascii_digit ds) all in
-    let digit = digit_below d parts.0 in
-    let power : 10 ^ (k + 1) ≡ 10 ^ k * 10 = rw add-one (pow-suc 10 k) in
-    let next : before * 10 + (d - 48) < 10 ^ (k + 1) = omega (arith, power, h, digit) in
-    let same : k + 1 + length ds ≡ k + length (d ∷ ds) = omega arith in
-    subst (λ n. number_after (before * 10 + (d - 48)) ds < 10 ^ n) same (value_below (k + 1) (before * 10 + (d - 48)) ds parts.1 next)
-
-all_digits : (x : List ℕ) → is_number x ≡ true → list_all is_ascii_digit x ≡ true
-all_digits [] e = refl
-all_digits (d ∷ ds) e = e
-
 number_fits : (x : List ℕ) (n : ℕ) → number_of x ≡ Some n → IsNumber n
-number_fits x n e =
-    let f = some_if (is_number x && nat_le (length x) 15) (number_after 0 x) n e in
-    let parts = and_parts (is_number x) (nat_le (length x) 15) f.0 in
-    let few : 0 + length x ≤ 15 = grind (arith, nat_tests, parts.1) in
-    let below : number_after 0 x < 10 ^ (0 + length x) = value_below 0 0 x (all_digits x parts.0) (omega arith) in
-    let ten : 0 < 10 = omega arith in
-    let top : 10 ^ (0 + length x) ≤ 10 ^ 15 = pow-le-pow_right ten few in
-    let bound : number_after 0 x < 10 ^ 15 = omega (arith, below, top) in
-    subst IsNumber f.1 bound
+number_fits = number_below
 
 pub numbers : Promises IsSpelled a_number IsNumber
 unfolding a_number

@@ -1,10 +1,11 @@
 -- The tokens of a text that begin as names are whole identifiers.
-use Rattle.std.proofs.Common.{◌≡◌, ℕ, zero, suc, ◌+◌, Bool, true, false, not, ◌==◌, if◌then◌else◌, List, [], ◌∷◌, take, inl, inr, Option, refl, sym, subst, ◌∙◌, arith}
+use Rattle.std.proofs.Common.{◌≡◌, ℕ, suc, ◌+◌, Bool, true, false, not, ◌==◌, if◌then◌else◌, List, [], ◌∷◌, take, inl, inr, refl, sym, subst, ◌∙◌, arith}
 use Rattle.std.specs.List.{AllByRecursion, list_all, prefix_len}
 use Rattle.std.specs.Char.{is_ascii_alphabetic, is_ascii_digit}
 use Rattle.std.proofs.lemmas.Bool.{and_parts, and_from, cases_Bool, eqb-true, true≢false}
 use Rattle.vhdl_names.specs.Words.{is_vhdl_word}
-use Rattle.vhdl_tokens.specs.Tokens.{Token, is_mark, is_name, is_name_byte, sign_length, number_length, word_length, character_length, string_length, token_length, at_front, after, scan, spellings, separator_length}
+use Rattle.token_spans.proofs.EachToken.{each_token}
+use Rattle.vhdl_tokens.specs.Tokens.{is_mark, is_name_byte, sign_length, number_length, word_length, character_length, string_length, token_length, lexis}
 use Rattle.vhdl_text.specs.VhdlText.{text_tokens}
 use Rattle.vhdl_text.proofs.ReadNames.{IsSpelled}
 
@@ -50,24 +51,5 @@ token_spelled after_name n (b ∷ bs) e = λ name.
     and_from (is_ascii_alphabetic b) (list_all is_name_byte (take n bs)) first
     (rest_named (is_mark b) (b == 39) (b == 34) (is_ascii_alphabetic b) (is_ascii_digit b) after_name b n bs refl refl refl first e)
 
-abbrev AreSpelled : List Token × Option ℕ → Type 0
-AreSpelled found = AllByRecursion IsSpelled (spellings found.0)
-
-after_spelled : (t : Token) (r : List Token × Option ℕ) → IsSpelled t.bytes → AreSpelled r → AreSpelled (after t r)
-after_spelled t (ts, f) h k = (h, k)
-
-front_spelled : (after_name : Bool) (at : ℕ) (bytes : List ℕ) (f : Bool → ℕ → List Token × Option ℕ) (n m : ℕ) → token_length after_name bytes ≡ m
-    → ((o : Bool) (k : ℕ) → AreSpelled (f o k)) → AreSpelled (at_front after_name at bytes f n m)
-front_spelled t at bytes f zero zero e h = tt
-front_spelled t at bytes f zero (suc m) e h =
-    after_spelled (record { at = at; bytes = take (suc m) bytes }) (f (is_name (take (suc m) bytes)) m) (token_spelled t m bytes e) (h (is_name (take (suc m) bytes)) m)
-front_spelled t at bytes f (suc n) m e h = h t n
-
-scan_spelled : (t : Bool) (at n : ℕ) (bytes : List ℕ) → AreSpelled (scan t at n bytes)
-scan_spelled t at n [] = tt
-scan_spelled t at (suc n) (b ∷ bs) = scan_spelled t (at + 1) n bs
-scan_spelled t at zero (b ∷ bs) =
-    front_spelled t at (b ∷ bs) (λ o k. scan o (at + 1) k bs) (separator_length (b ∷ bs)) (token_length t (b ∷ bs)) refl (λ o k. scan_spelled o (at + 1) k bs)
-
 pub tokens_spelled : (bytes : List ℕ) → AllByRecursion IsSpelled (text_tokens bytes)
-tokens_spelled bytes = scan_spelled false 0 0 bytes
+tokens_spelled = each_token lexis IsSpelled token_spelled

@@ -1,10 +1,7 @@
 -- VHDL text: the entities that its bytes are, or its fault. (IEEE 1076-1993, 1.1 and 1.2; IEEE 1076.4-2000; the subset is this
 -- project's.)
-use Rattle.std.specs.Prelude.{◌≡◌, ◌<◌, ◌≤◌, ◌⊎◌, ◌↔◌, ℕ, ◌==◌, nat_eq, Bool, if◌then◌else◌, List, [], ◌∷◌, ◌++◌, length, map, Option, Some, None, Result, Ok, Err, codes}
-use Rattle.grammar_rules.specs.Rule.{Takes, Refuses}
+use Rattle.std.specs.Prelude.{◌≡◌, ◌↔◌, ℕ, nat_eq, Bool, List, [], ◌∷◌, ◌++◌, length, map, Option, Result, Ok, Err, codes}
 use Rattle.grammar_rules.specs.Rule as r
-use Rattle.grammar_rules.specs.Reading.{Outcome, read}
-use Rattle.grammar_rules.specs.Loose.{loose, Fouls}
 use Rattle.udp_tables.specs.declared.models.ModelFault.{ModelFault}
 use Rattle.udp_tables.specs.declared.models.ModelFault.TheVariants as fault
 use Rattle.udp_tables.specs.VerilogRules.{fault_at}
@@ -19,10 +16,11 @@ use Rattle.vital_models.specs.declared.model.HPath.{HPath}
 use Rattle.vital_models.specs.declared.model.HCheck.{HCheck}
 use Rattle.vital_models.specs.declared.model.VEntity.{VEntity}
 use Rattle.vital_models.specs.Sound.{output_ports_from}
-use Rattle.rule_readers.specs.declared.refusal.Refusal.{Refusal}
 use Rattle.rule_readers.specs.declared.refusal.Refusal.TheVariants.{Syntax, Undriven}
+use Rattle.rule_readers.specs.Texts.{Texts, IsText, IsFault, text}
+use Rattle.rule_readers.specs.Texts as texts
 use Rattle.rule_readers.specs.Words.{Grammar, ◌>>=◌}
-use Rattle.vhdl_tokens.specs.Tokens.{Token, scan_of, spellings}
+use Rattle.vhdl_tokens.specs.Tokens.{lexis}
 use Rattle.vhdl_text.specs.declared.scope.Columns.{Columns}
 use Rattle.vhdl_text.specs.declared.scope.Assigned.{Assigned}
 use Rattle.vhdl_text.specs.declared.scope.Assigned.TheVariants as assigned
@@ -123,37 +121,6 @@ file = do
   entities ← r.Many (λ _. begins (codes "library")) (λ found _. next_entity found) []
   r.Last (λ _. Syntax) entities
 
--- the tokens of a text before its lexical fault, by their spelling
-abbrev pub text_tokens : List ℕ → List (List ℕ)
-text_tokens bytes = spellings (scan_of bytes).0
-
--- the offset of the lexical fault, if there is one
-abbrev pub lexical_place : List ℕ → Option ℕ
-lexical_place bytes = (scan_of bytes).1
-
--- The bytes are the text of these entities: they are tokens, without a lexical fault, that the grammar takes.
-pub record IsVhdlText (bytes : List ℕ) (entities : List VEntity) : Type 0 where
-  pub lexes : lexical_place bytes ≡ None
-  pub takes : Takes file (text_tokens bytes) entities []
-
--- the offset of the token with which so many tokens are left, and the length of the text where none is left
-abbrev pub place_from : ℕ → List Token → ℕ → ℕ
-place_from len [] left = len
-place_from len (t ∷ ts) left = if length (t ∷ ts) == left then t.at else place_from len ts left
-
--- the offset of the first of the tokens that are left
-abbrev pub token_place : List ℕ → List (List ℕ) → ℕ
-token_place bytes left = place_from (length bytes) (scan_of bytes).0 (length left)
-
--- A text meets a fault: a place where no token begins; a token that the loose subset takes, although it breaks a strict rule; the
--- first token with which the tokens so far are no front of the loose subset; or the end of the text where it is a front and no text.
-abbrev pub MeetsFault : List ℕ → ModelFault → Type 0
-MeetsFault bytes f =
-    ((at : ℕ) × (lexical_place bytes ≡ Some at) × (f ≡ fault.Lexical at))
-    ⊎ (((k : Refusal) × (m : List (List ℕ)) × Fouls file (text_tokens bytes) k m × (f ≡ fault_at k (token_place bytes m)))
-    ⊎ (((k : Refusal) × (x : List ℕ) × (m : List (List ℕ)) × Refuses (loose file) (text_tokens bytes) k (x ∷ m) × (f ≡ fault_at k (token_place bytes (x ∷ m))))
-    ⊎ ((lexical_place bytes ≡ None) × (k : Refusal) × Refuses (loose file) (text_tokens bytes) k [] × (f ≡ fault_at k (length bytes)))))
-
 -- the offset of a fault
 abbrev pub fault_place : ModelFault → ℕ
 fault_place (fault.Lexical at) = at
@@ -178,37 +145,36 @@ fault_rank (fault.Undriven at) = 6
 fault_rank (fault.Unequal at) = 7
 fault_rank fault.Memory = 8
 
--- the least offset counts, and at one offset the first kind
-abbrev pub CountsBefore : ModelFault → ModelFault → Type 0
-CountsBefore f g = (fault_place f < fault_place g) ⊎ ((fault_place f ≡ fault_place g) × (fault_rank f ≤ fault_rank g))
+-- the tokens of VHDL, its grammar and its faults
+abbrev pub language : Texts (List VEntity) ModelFault
+language = record {
+  lexis = lexis;
+  file = file;
+  lexical = fault.Lexical;
+  fault_at = fault_at;
+  fault_place = fault_place;
+  fault_rank = fault_rank;
+}
+
+-- the tokens of a text before its lexical fault, by their spelling
+abbrev pub text_tokens : List ℕ → List (List ℕ)
+text_tokens = texts.text_tokens lexis
+
+-- the offset of the lexical fault, if there is one
+abbrev pub lexical_place : List ℕ → Option ℕ
+lexical_place = texts.lexical_place lexis
+
+-- The bytes are the text of these entities: they are tokens, without a lexical fault, that the grammar takes.
+abbrev pub IsVhdlText : List ℕ → List VEntity → Type 0
+IsVhdlText = IsText language
 
 -- This is the fault of a text: of those that it meets, the first.
-pub record IsVhdlFault (bytes : List ℕ) (f : ModelFault) : Type 0 where
-  pub met : MeetsFault bytes f
-  pub first : (g : ModelFault) → MeetsFault bytes g → CountsBefore f g
-
--- Below: the same as a function of the bytes.
-
-abbrev pub end_fault : ℕ → Refusal → Option ℕ → ModelFault
-end_fault len k None = fault_at k len
-end_fault len k (Some at) = fault.Lexical at
-
--- the fault of a refusal before these tokens, in a text of this length with these tokens and this lexical fault
-abbrev pub refusal_fault : ℕ → List Token → Option ℕ → Refusal → List (List ℕ) → ModelFault
-refusal_fault len tokens lexical k [] = end_fault len k lexical
-refusal_fault len tokens lexical k (x ∷ m) = fault_at k (place_from len tokens (length (x ∷ m)))
-
-abbrev pub unless_lexical : {A : Type 0} → Option ℕ → A → Result A ModelFault
-unless_lexical None a = Ok a
-unless_lexical (Some at) a = Err (fault.Lexical at)
-
-abbrev pub answer_of : ℕ → List Token → Option ℕ → Outcome (List ℕ) Refusal (List VEntity) → Result (List VEntity) ModelFault
-answer_of len tokens lexical (Ok p) = unless_lexical lexical p.0
-answer_of len tokens lexical (Err e) = Err (refusal_fault len tokens lexical e.0 e.1)
+abbrev pub IsVhdlFault : List ℕ → ModelFault → Type 0
+IsVhdlFault = IsFault language
 
 -- the entities of a text, or its fault
 unfoldable pub vhdl_text : List ℕ → Result (List VEntity) ModelFault
-vhdl_text bytes = answer_of (length bytes) (scan_of bytes).0 (scan_of bytes).1 (read file (text_tokens bytes))
+vhdl_text bytes = text language bytes
 
 -- A text has entities or a fault, and one of them.
 pub record IsVhdlAnswer (bytes : List ℕ) : Type 0 where

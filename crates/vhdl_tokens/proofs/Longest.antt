@@ -1,61 +1,15 @@
 -- The token in front of bytes is one, and none that goes on from it is longer.
-use Rattle.std.proofs.Common.{◌≡◌, ℕ, zero, suc, ◌+◌, ◌≤◌, ◌<◌, Bool, true, false, not, ◌&&◌, ◌||◌, ◌==◌, nat_eq, nat_le, if◌then◌else◌, List, [], ◌∷◌, ◌++◌, length, take, Option, Some, None, unwrap_or, refl, sym, ap, ◌∙◌, arith, subst, codes}
-use Rattle.std.proofs.lemmas.Bool.{and_parts, and_from, eqb-true}
+use Rattle.std.proofs.Common.{◌≡◌, ℕ, zero, suc, ◌+◌, ◌≤◌, ◌<◌, Bool, true, false, not, ◌&&◌, ◌||◌, ◌==◌, nat_le, if◌then◌else◌, List, [], ◌∷◌, ◌++◌, length, take, Option, Some, None, unwrap_or, refl, sym, ap, ◌∙◌, arith, subst, codes}
+use Rattle.std.proofs.lemmas.Bool.{and_parts, and_from}
 use Rattle.std.proofs.lemmas.List.{length-take-le}
 use Rattle.std.proofs.lemmas.Slice.Eq.{bytes_eq-Decides}
 use Rattle.std.specs.Char.{is_ascii_alphabetic, is_ascii_digit}
 use Rattle.std.specs.List.{prefix_len, list_all}
 use Rattle.std.specs.Str.{bytes_eq}
 use Rattle.vhdl_tokens.specs.Tokens.{is_name_byte, is_printable, begins_with, later, string_rest, string_length, character_length, token_length, word_length, number_length, sign_length, is_mark}
-use Rattle.vhdl_tokens.specs.Cover.{is_nothing, spells_number, spells_sign, closes_string, closes_character, spells_token}
-use Rattle.vhdl_tokens.proofs.Alike.{more}
-
--- so many bytes at the front pass the test
-pub run_at : (f : ℕ → Bool) (n : ℕ) (s : List ℕ) → prefix_len f s ≡ n → (list_all f (take n s) ≡ true) × (n ≤ length s)
-run_at f zero s e = (refl, omega arith)
-run_at f (suc n) [] e = absurd (omega arith)
-run_at f (suc n) (c ∷ s) e =
-    let m = more (f c) (prefix_len f s) n e in
-    let i = run_at f n s m.1 in
-    (and_from (f c) (list_all f (take n s)) m.0 i.0, omega (arith, i.1))
-
--- bytes that pass the test are no more than the run of such bytes
-run_least : (f : ℕ → Bool) (u r : List ℕ) → list_all f u ≡ true → length u ≤ prefix_len f (u ++ r)
-run_least f [] r e = omega arith
-run_least f (c ∷ u) r e =
-    let p = and_parts (f c) (list_all f u) e in
-    let i = run_least f u r p.1 in
-    rw p.0 (omega (arith, i))
-
--- the bytes begin with these
-begins_is : (lit s : List ℕ) → begins_with s lit ≡ true → (take (length lit) s ≡ lit) × (length lit ≤ length s)
-begins_is [] s e = (refl, omega arith)
-begins_is (l ∷ lit) [] e = absurd cc
-begins_is (l ∷ lit) (c ∷ s) e =
-    let p = and_parts (nat_eq l c) (begins_with s lit) e in
-    let i = begins_is lit s p.1 in
-    let h : l ≡ c = eqb-true l c p.0 in
-    (ap (λ (x : ℕ). x ∷ take (length lit) s) (sym h) ∙ ap (λ (w : List ℕ). l ∷ w) i.0, omega (arith, i.1))
-
--- the first bytes are these
-literal : (lit s : List ℕ) (b m : ℕ) → begins_with (b ∷ s) lit ≡ true → length lit ≡ suc m → (b ∷ take m s ≡ lit) × (m ≤ length s)
-literal lit s b m e h =
-    let i = begins_is lit (b ∷ s) e in
-    (ap (λ (n : ℕ). take n (b ∷ s)) (sym h) ∙ i.0, omega (arith, i.1))
-
-module _ (P : List ℕ → Bool) (b : ℕ) (s : List ℕ) (m : ℕ) where
-  -- the first bytes pass a test, and so many are there
-  abbrev Spelled : Type 0
-  Spelled = (P (b ∷ take m s) ≡ true) × (m ≤ length s)
-
-  spelled_as : (lit : List ℕ) → P lit ≡ true → begins_with (b ∷ s) lit ≡ true → length lit ≡ suc m → Spelled
-  spelled_as lit p e h =
-      let i = literal lit s b m e h in
-      (subst (λ (w : List ℕ). P w ≡ true) (sym i.0) p, i.1)
-
-nothing_here : (s : List ℕ) (m : ℕ) → 1 ≡ suc m → (is_nothing (take m s) ≡ true) × (m ≤ length s)
-nothing_here s zero e = (refl, omega arith)
-nothing_here s (suc m) e = absurd (omega arith)
+use Rattle.vhdl_tokens.specs.Cover.{spells_number, spells_sign, closes_string, closes_character, spells_token}
+use Rattle.token_spans.specs.Cover.{is_nothing}
+use Rattle.token_spans.proofs.Runs.{run_at, run_least, Spelled, spelled_as, nothing_here, nothing_least}
 
 -- bytes behind the first pass a test
 abbrev Ends : (List ℕ → Bool) → List ℕ → ℕ → Type 0
@@ -162,10 +116,6 @@ token_here t b s m e =
     (list_all is_name_byte (take m s)) (spells_number (b ∷ take m s)) (spells_sign (b ∷ take m s))
     (character_length (b ∷ s)) (string_length (b ∷ s)) (word_length (b ∷ s)) (number_length (b ∷ s)) (sign_length (b ∷ s)) m (length s)
     (nothing_here s m) (character_here b s m) (string_here b s m) (word_here b s m) (number_here b s m) (sign_here b s m) e
-
-nothing_least : (b : ℕ) (u : List ℕ) → is_nothing u ≡ true → length (b ∷ u) ≤ 1
-nothing_least b [] e = omega arith
-nothing_least b (c ∷ u) e = absurd cc
 
 word_least : (b : ℕ) (u r : List ℕ) → list_all is_name_byte u ≡ true → length (b ∷ u) ≤ word_length (b ∷ u ++ r)
 word_least b u r e = let i = run_least is_name_byte u r e in omega (arith, i)

@@ -1,32 +1,9 @@
 -- A token in front of bytes stays one where the bytes behind it change only behind a blank.
-use Rattle.std.proofs.Common.{◌≡◌, ℕ, zero, suc, ◌+◌, ◌≤◌, Bool, true, false, ◌&&◌, ◌||◌, ◌==◌, nat_eq, nat_le, if◌then◌else◌, List, [], ◌∷◌, ◌++◌, length, Option, Some, None, unwrap_or, refl, sym, ap, ◌∙◌, arith, codes}
-use Rattle.std.proofs.lemmas.Bool.{eqb-true}
+use Rattle.std.proofs.Common.{◌≡◌, ℕ, zero, suc, ◌+◌, ◌≤◌, Bool, true, false, ◌&&◌, ◌==◌, nat_le, if◌then◌else◌, List, [], ◌∷◌, ◌++◌, length, Option, Some, None, unwrap_or, refl, sym, ap, ◌∙◌, arith, codes}
 use Rattle.std.specs.Char.{is_ascii_alphabetic, is_ascii_digit}
 use Rattle.std.specs.List.{prefix_len}
-use Rattle.vhdl_tokens.specs.Tokens.{is_blank, is_name_byte, is_printable, begins_with, later, string_rest, string_length, character_length, token_length, word_length, number_length, sign_length, is_mark}
-use Rattle.vhdl_tokens.proofs.Alike.{Alike, behind, run_ends, begins_not, begins_still}
-
--- the bytes of blanks
-blanks : (c : ℕ) → is_blank c ≡ true → (f : ℕ → Bool) → f 32 ≡ false → f 9 ≡ false → f 10 ≡ false → f c ≡ false
-blanks c b f space tab line_end = first (nat_eq 32 c) refl b
-  where
-    third : (t : Bool) → nat_eq 10 c ≡ t → (t || false) ≡ true → f c ≡ false
-    third true e h = ap f (sym (eqb-true 10 c e)) ∙ line_end
-    third false e h = absurd cc
-
-    second : (t : Bool) → nat_eq 9 c ≡ t → (t || (nat_eq 10 c || false)) ≡ true → f c ≡ false
-    second true e h = ap f (sym (eqb-true 9 c e)) ∙ tab
-    second false e h = third (nat_eq 10 c) refl h
-
-    first : (t : Bool) → nat_eq 32 c ≡ t → (t || (nat_eq 9 c || (nat_eq 10 c || false))) ≡ true → f c ≡ false
-    first true e h = ap f (sym (eqb-true 32 c e)) ∙ space
-    first false e h = second (nat_eq 9 c) refl h
-
-no_name_byte : (c : ℕ) → is_blank c ≡ true → is_name_byte c ≡ false
-no_name_byte c b = blanks c b is_name_byte refl refl refl
-
-no_digit : (c : ℕ) → is_blank c ≡ true → is_ascii_digit c ≡ false
-no_digit c b = blanks c b is_ascii_digit refl refl refl
+use Rattle.vhdl_tokens.specs.Tokens.{is_name_byte, is_printable, begins_with, later, string_rest, string_length, character_length, token_length, word_length, number_length, sign_length, is_mark}
+use Rattle.token_spans.proofs.Alike.{no_name_byte, no_digit, Alike, behind, run_ends, begins_not, begins_still}
 
 word : (b : ℕ) (w : List ℕ) {r p : List ℕ} → Alike r p → word_length (b ∷ w ++ r) ≡ suc (length w) → word_length (b ∷ w ++ p) ≡ suc (length w)
 word b w {r} {p} h e =

@@ -1,20 +1,11 @@
 -- Tokens as places of a text, and the tokens that they are.
-use Rattle.std.specs.Prelude.{ℕ, ◌-◌, Bool, List, ◌++◌, Option, map, drop, slice_range}
-use Rattle.vhdl_tokens.specs.Tokens.{Token, scan}
+use Rattle.std.specs.Prelude.{ℕ, Bool, List, Option}
+pub use Rattle.token_spans.specs.Spans.{tokens_of}
+use Rattle.token_spans.specs.Spans as spans
 use Rattle.token_spans.specs.declared.span.Span.{Span}
-
--- the token at a place of a text
-abbrev pub token_of : List ℕ → Span → Token
-token_of text s = record { at = s.at; bytes = slice_range text s.at s.end }
-
-abbrev pub tokens_of : List ℕ → List Span → List Token
-tokens_of text spans = map (token_of text) spans
-
--- these tokens stand before those
-abbrev pub after_tokens : List Token → List Token × Option ℕ → List Token × Option ℕ
-after_tokens before (tokens, fault) = (before ++ tokens, fault)
+use Rattle.vhdl_tokens.specs.Tokens.{Token, lexis}
 
 -- What a scan of a text gives that stands at an offset: the tokens found so far, and those that begin from there on, where no token
 -- begins before the offset `next`. The flag says whether the token before is a name.
 abbrev pub from_here : List ℕ → List Span → Bool → ℕ → ℕ → List Token × Option ℕ
-from_here text spans after_name next at = after_tokens (tokens_of text spans) (scan after_name at (next - at) (drop at text))
+from_here = spans.from_here lexis

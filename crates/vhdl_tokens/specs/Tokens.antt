@@ -1,27 +1,12 @@
 -- The tokens of VHDL text. (IEEE 1076-1993, clause 13, lexical elements. Which delimiters and literals there are is this project's
 -- subset.) At each place outside a token a separator begins, or a token, which is the longest that begins there, or neither, which
 -- is a lexical fault.
-use Rattle.std.specs.Prelude.{ℕ, zero, suc, ◌+◌, Bool, false, not, ◌&&◌, ◌||◌, ◌==◌, nat_eq, nat_le, if◌then◌else◌, List, [], ◌∷◌, codes, map, take, Option, Some, None, unwrap_or}
-use Rattle.std.specs.Char.{is_ascii_alphabetic, is_ascii_alphanumeric, is_ascii_digit, is_ascii_graphic}
-use Rattle.std.specs.List.{list_any, prefix_len, starts_with}
+use Rattle.std.specs.Prelude.{ℕ, ◌+◌, Bool, false, not, ◌&&◌, ◌||◌, ◌==◌, nat_le, if◌then◌else◌, List, [], ◌∷◌, codes, Option, Some, None, unwrap_or}
+use Rattle.std.specs.Char.{is_ascii_alphabetic, is_ascii_digit, is_ascii_graphic}
+use Rattle.std.specs.List.{prefix_len}
 use Rattle.vhdl_names.specs.Words.{is_vhdl_word}
-
--- A token: the offset where it begins, and the bytes that spell it. There is at least one.
-pub record Token : Type 0 where
-  pub at : ℕ
-  pub bytes : List ℕ
-
--- the bytes begin with these
-abbrev pub begins_with : List ℕ → List ℕ → Bool
-begins_with bytes front = starts_with nat_eq bytes front
-
--- the byte is one of these
-abbrev pub is_one_of : List ℕ → ℕ → Bool
-is_one_of bytes b = list_any (λ c. nat_eq c b) bytes
-
--- a space, a tab or a line end (13.2, separators; no other byte separates tokens here)
-abbrev pub is_blank : ℕ → Bool
-is_blank b = is_one_of (codes " \t\n") b
+use Rattle.token_spans.specs.Tokens as tokens
+pub use Rattle.token_spans.specs.Tokens.{Token, Lexis, begins_with, is_one_of, is_blank, is_name_byte, later, after, spellings}
 
 -- How many bytes of a separator stand at the front of these: a blank, or a comment before its line end (13.8). None where there is
 -- no separator.
@@ -50,20 +35,11 @@ sign_length bytes =
 abbrev pub number_length : List ℕ → ℕ
 number_length bytes = if nat_le (prefix_len is_ascii_digit bytes) 15 then prefix_len is_ascii_digit bytes else 0
 
--- a letter, a digit or `_`
-abbrev pub is_name_byte : ℕ → Bool
-is_name_byte b = is_ascii_alphanumeric b || b == 95
-
 -- how many bytes of an identifier stand at the front of these, where the first is a letter (13.3.1; `_` may stand at any place
 -- behind it)
 abbrev pub word_length : List ℕ → ℕ
 word_length [] = 0
 word_length (b ∷ bs) = 1 + prefix_len is_name_byte bs
-
--- so many bytes more
-abbrev pub later : ℕ → Option ℕ → Option ℕ
-later n None = None
-later n (Some m) = Some (n + m)
 
 -- How many bytes end a string, up to and with its closing quotation mark. It closes before its line ends.
 abbrev pub string_rest : List ℕ → Option ℕ
@@ -104,29 +80,18 @@ abbrev pub is_name : List ℕ → Bool
 is_name [] = false
 is_name (b ∷ bs) = is_ascii_alphabetic b && not (is_vhdl_word (b ∷ bs))
 
--- a token before these
-abbrev pub after : Token → List Token × Option ℕ → List Token × Option ℕ
-after t (ts, fault) = (t ∷ ts, fault)
+-- the lexical level of VHDL; the flag says whether the token before is a name
+abbrev pub lexis : Lexis
+lexis = record { separator_length = separator_length; token_length = token_length; flag_after = λ _ token. is_name token }
 
--- What bytes are that begin at an offset outside a token, by what they are behind the separator or the token that begins there.
 abbrev pub at_front : Bool → ℕ → List ℕ → (Bool → ℕ → List Token × Option ℕ) → ℕ → ℕ → List Token × Option ℕ
-at_front after_name at bytes rest zero zero = ([], Some at)
-at_front after_name at bytes rest zero (suc n) =
-    after (record { at = at; bytes = take (suc n) bytes }) (rest (is_name (take (suc n) bytes)) n)
-at_front after_name at bytes rest (suc n) _ = rest after_name n
+at_front = tokens.at_front lexis
 
 -- The tokens of bytes that begin at an offset, where so many of them belong to what stands before, and the offset of the lexical
 -- fault, if there is one. The flag says whether the token before is a name.
 abbrev pub scan : Bool → ℕ → ℕ → List ℕ → List Token × Option ℕ
-scan after_name at n [] = ([], None)
-scan after_name at (suc n) (b ∷ bs) = scan after_name (at + 1) n bs
-scan after_name at zero (b ∷ bs) =
-    at_front after_name at (b ∷ bs) (λ named n. scan named (at + 1) n bs) (separator_length (b ∷ bs)) (token_length after_name (b ∷ bs))
+scan = tokens.scan lexis
 
 -- the tokens of a text before its lexical fault, and the offset of the fault, if there is one
 abbrev pub scan_of : List ℕ → List Token × Option ℕ
-scan_of bytes = scan false 0 0 bytes
-
--- the bytes of each token
-abbrev pub spellings : List Token → List (List ℕ)
-spellings tokens = map (λ (t : Token). t.bytes) tokens
+scan_of = tokens.scan_of lexis

@@ -1,63 +1,16 @@
 //! What begins at the front of bytes of a VHDL text.
 
-ghost use Rattle.std.specs.Prelude.{◌≡◌, ◌≤◌, length, not, ◌==◌, IfSome};
-ghost use Rattle.std.specs.List.{prefix_len};
-ghost use Rattle.std.specs.Char.{is_ascii_digit};
+ghost use Rattle.std.specs.Prelude.{◌≡◌, ◌≤◌, length, IfSome};
 ghost use Rattle.vhdl_tokens.specs.Tokens as spec;
 
 use crate::spelling::is_name;
-
-/// Whether a byte is a space, a tab or a line end.
-fn is_blank(byte: u8) -> bool
-    ensures { result ≡ spec.is_blank byte }
-{
-    matches!(byte, b' ' | b'\t' | b'\n')
-}
+use token_spans::{digits_length, is_blank, line_length, name_length};
 
 /// Whether a byte is a delimiter of one byte that begins no other.
 fn is_mark(byte: u8) -> bool
     ensures { result ≡ spec.is_mark byte }
 {
     matches!(byte, b'(' | b')' | b',' | b';' | b'.')
-}
-
-/// How many bytes stand before the first line end.
-fn line_length(bytes: &[u8]) -> usize
-    ensures value { result ≡ prefix_len (λ c. not (c == 10)) bytes.now }
-    ensures within { result ≤ length bytes.now }
-{
-    for (at, byte) in bytes.iter().enumerate() {
-        if *byte == b'\n' {
-            return at;
-        }
-    }
-    bytes.len()
-}
-
-/// How many letters, digits and `_` stand at the front of the bytes.
-fn name_length(bytes: &[u8]) -> usize
-    ensures value { result ≡ prefix_len spec.is_name_byte bytes.now }
-    ensures within { result ≤ length bytes.now }
-{
-    for (at, byte) in bytes.iter().enumerate() {
-        if !byte.is_ascii_alphanumeric() && *byte != b'_' {
-            return at;
-        }
-    }
-    bytes.len()
-}
-
-/// How many digits stand at the front of the bytes.
-fn digits_length(bytes: &[u8]) -> usize
-    ensures value { result ≡ prefix_len is_ascii_digit bytes.now }
-    ensures within { result ≤ length bytes.now }
-{
-    for (at, byte) in bytes.iter().enumerate() {
-        if !byte.is_ascii_digit() {
-            return at;
-        }
-    }
-    bytes.len()
 }
 
 /// How many bytes end a string, up to and with its closing quotation mark, which stands before its line end.

@@ -4,14 +4,13 @@
 
 mod fronts;
 mod laws;
-mod numbers;
 mod scanner;
 mod spelling;
 
 pub use laws::{added_separators_change_no_token, tokens_cover, tokens_stand_in_order};
-pub use numbers::{is_number, number_of};
 pub use scanner::scan;
 pub use spelling::{is_name, is_quoted, is_same, is_string};
+pub use token_spans::{is_number, number_of};
 
 #[cfg(test)]
 mod tests;

@@ -2,3 +2,4 @@ pub mod Kinds
 pub mod Checked
 pub mod File
 pub mod Lowered
+pub mod SourceParts

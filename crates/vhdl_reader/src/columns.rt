@@ -9,28 +9,44 @@ ghost use Rattle.vhdl_text.specs.VhdlNames as spec;
 
 use crate::declarations::Declarations;
 use crate::language::Vhdl;
-use crate::names::{input_of, is_listed, list_end};
+use crate::listed::Listed;
+use crate::names::{input_of, list_end};
 use crate::scope::width_at;
 use crate::words::is_number_token;
 use rule_readers::{Cursor, Refusal, Stop};
-use sqlite_items::Items;
 use std::alloc::Global;
+use std::marker::Model;
 use vhdl_text::Columns;
 use vhdl_tokens::is_name;
 
+/// The columns of a table, with inputs of which each is found at once. Contracts see them as `Columns`.
+#[derive(Drop)]
+struct ListedColumns {
+    violation: bool,
+    inputs: Listed,
+}
+
+impl Model for ListedColumns {
+    ghost use Rattle.vhdl_text.specs.declared.scope.Columns.{Columns};
+
+    ghost Value = { Columns };
+
+    ghost view = { λ c. record { violation = c.violation; inputs = c.inputs } };
+}
+
 /// How many columns there are.
-fn column_count(columns: &Columns) -> usize
+fn column_count(columns: &ListedColumns) -> usize
     ensures { result ≡ spec.column_count columns.now }
 {
     if columns.violation {
-        columns.inputs.as_slice().len() + 1
+        columns.inputs.len() + 1
     } else {
-        columns.inputs.as_slice().len()
+        columns.inputs.len()
     }
 }
 
 /// Whether the violation may stand behind these columns.
-fn takes_violation(scope: &Declarations, columns: &Columns) -> bool
+fn takes_violation(scope: &Declarations, columns: &ListedColumns) -> bool
     ensures { result ≡ spec.takes_violation scope.now columns.now }
 {
     scope.variables().periods.len() > 0 && column_count(columns) == 0
@@ -42,15 +58,15 @@ fn next_column(
     cursor: &mut Cursor<'_, Vhdl>,
     alloc: Global,
     scope: &Declarations,
-    mut columns: Columns,
-) -> Result<Columns, Stop>
+    columns: ListedColumns,
+) -> Result<ListedColumns, Stop>
     ensures { Reads (read (spec.next_column scope.now columns) cursor.old) result cursor.new }
 {
     if takes_violation(scope, &columns) && cursor.is_next(b"viol") {
         cursor.skip();
-        return Ok(Columns {
+        return Ok(ListedColumns {
             violation: true,
-            inputs: Items::new(alloc),
+            inputs: Listed::new(alloc),
         });
     }
     let token = cursor.bytes();
@@ -60,12 +76,15 @@ fn next_column(
     let Some(port) = input_of(scope.ports(), token)? else {
         return Err(Stop::Refused(Refusal::Undefined));
     };
-    if is_listed(columns.inputs.as_slice(), port) {
+    if columns.inputs.has(port) {
         return Err(Stop::Refused(Refusal::Twice));
     }
     cursor.skip();
-    columns.inputs.push(port)?;
-    Ok(columns)
+    let ListedColumns { violation, inputs } = columns;
+    Ok(ListedColumns {
+        violation,
+        inputs: inputs.with(port)?,
+    })
 }
 
 /// The columns behind these.
@@ -74,8 +93,8 @@ fn more_columns(
     cursor: &mut Cursor<'_, Vhdl>,
     alloc: Global,
     scope: &Declarations,
-    mut columns: Columns,
-) -> Result<Columns, Stop>
+    mut columns: ListedColumns,
+) -> Result<ListedColumns, Stop>
     ensures { Reads (read (Many (λ _. rules.begins (codes ",")) (λ found _. spec.next_column scope.now found) columns) cursor.old) result cursor.new }
 {
     for _turn in 0..cursor.left() {
@@ -94,8 +113,8 @@ fn several_columns(
     cursor: &mut Cursor<'_, Vhdl>,
     alloc: Global,
     scope: &Declarations,
-    none: Columns,
-) -> Result<Columns, Stop>
+    none: ListedColumns,
+) -> Result<ListedColumns, Stop>
     ensures { Reads (read (rules.several_elements (spec.next_column scope.now) none) cursor.old) result cursor.new }
 {
     let first = next_column(cursor, alloc, scope, none)?;
@@ -110,8 +129,8 @@ fn listed_columns(
     cursor: &mut Cursor<'_, Vhdl>,
     alloc: Global,
     scope: &Declarations,
-    none: Columns,
-) -> Result<Columns, Stop>
+    none: ListedColumns,
+) -> Result<ListedColumns, Stop>
     ensures { Reads (read (rules.elements (spec.next_column scope.now) none) cursor.old) result cursor.new }
 {
     if !is_number_token(0, cursor.bytes()) {
@@ -132,9 +151,9 @@ pub fn columns_of(
 ) -> Result<Columns, Stop>
     ensures { Reads (read (spec.columns_of scope.now state) cursor.old) result cursor.new }
 {
-    let none = Columns {
+    let none = ListedColumns {
         violation: false,
-        inputs: Items::new(alloc),
+        inputs: Listed::new(alloc),
     };
     let columns = listed_columns(cursor, alloc, scope, none)?;
     list_end(
@@ -142,5 +161,9 @@ pub fn columns_of(
         width_at(scope.tables(), state),
         column_count(&columns),
     )?;
-    Ok(columns)
+    let ListedColumns { violation, inputs } = columns;
+    Ok(Columns {
+        violation,
+        inputs: inputs.into_items(),
+    })
 }

@@ -1,7 +1,18 @@
 //! How VHDL spells names and words. (IEEE 1076-1993, 13.3 and 13.9.)
 
+ghost use Rattle.std.specs.Prelude.{◌≡◌};
+ghost use Rattle.vhdl_tokens.specs.Spelling as spelling;
+
 use rule_readers::Language;
 use vhdl_tokens::{is_name, is_same};
+
+/// Whether a token stands for a word. One that is spelled as the word, as nearly all are, is found by one comparison.
+#[tactic(auto, using(crate::proofs::SameBytes::same_bytes))]
+fn stands_for(token: &[u8], word: &[u8]) -> bool
+    ensures { result ≡ spelling.is_same token.now word.now }
+{
+    token == word || is_same(token, word)
+}
 
 /// The spelling of VHDL: upper and lower case are alike, but for character literals.
 pub struct Vhdl;
@@ -19,6 +30,6 @@ impl Language for Vhdl {
     }
 
     fn is_same(token: &[u8], word: &[u8]) -> bool {
-        is_same(token, word)
+        stands_for(token, word)
     }
 }

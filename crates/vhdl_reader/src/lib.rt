@@ -14,6 +14,8 @@ mod joined;
 mod language;
 mod limits;
 mod lines;
+mod listed;
+mod listed_sources;
 mod names;
 mod outputs;
 mod paths;

@@ -200,10 +200,8 @@ fn low_word(kind: CheckKind) -> &'static [u8]
 fn expect_low_word(cursor: &mut Cursor<'_, Vhdl>, kind: CheckKind) -> Result<(), Stop>
     ensures { Reads (read (rules.expect_all (codes "," ∷ spec.low_word kind ∷ codes "=>" ∷ [])) cursor.old) result cursor.new }
 {
-    cursor.expect(b",")?;
-    cursor.expect(low_word(kind))?;
-    cursor.expect(b"=>")?;
-    Ok(())
+    let word = low_word(kind);
+    expect_all(cursor, &[b",", word, b"=>"])
 }
 
 /// The limit for a high and for a low signal, which are one.

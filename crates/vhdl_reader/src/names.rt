@@ -1,6 +1,6 @@
 //! The inputs that statements name, and lists of them. (IEEE 1076-1993, 6.2 and 7.3.2.)
 
-ghost use Rattle.std.specs.Prelude.{◌≡◌, ℕ, nat_eq, List, [], true, IfOk, codes};
+ghost use Rattle.std.specs.Prelude.{◌≡◌, ℕ, nat_eq, List, [], true, false, IfOk, codes};
 ghost use Rattle.std.specs.List.{list_any};
 ghost use Rattle.grammar_rules.specs.Rule.{Many};
 ghost use Rattle.grammar_rules.specs.Reading.{read};
@@ -11,8 +11,9 @@ ghost use Rattle.vhdl_text.specs.VhdlRules as rules;
 ghost use Rattle.vhdl_text.specs.VhdlNames as spec;
 
 use crate::language::Vhdl;
+use crate::listed::Listed;
 use crate::ports::Ports;
-use crate::words::{is_number_token, known_number};
+use crate::words::is_number_token;
 use rule_readers::{Cursor, Refusal, Stop};
 use sqlite_items::Items;
 use std::alloc::{AllocError, Global};
@@ -67,38 +68,9 @@ pub fn input_at(
 }
 
 /// The name of an input.
-#[tactic(auto, unfolding(vhdl_text::specs::VhdlNames::an_input), using(crate::proofs::NextWords::known_other))]
+#[tactic(auto, unfolding(vhdl_text::specs::VhdlNames::an_input), using(crate::proofs::NextWords::known_some, crate::proofs::NextWords::known_none, crate::proofs::NextWords::known_other))]
 pub fn an_input(cursor: &mut Cursor<'_, Vhdl>, ports: &Ports) -> Result<usize, Stop>
     ensures { Reads (read (spec.an_input ports.now) cursor.old) result cursor.new }
-{
-    let token = cursor.bytes();
-    if !is_name(token) {
-        return Err(Stop::Refused(Refusal::Syntax));
-    }
-    let found = input_of(ports, token)?;
-    known_number(cursor, found)
-}
-
-/// Whether a number is one of these.
-pub fn is_listed(numbers: &[usize], number: usize) -> bool
-    ensures { result ≡ list_any (nat_eq number) numbers.now }
-{
-    for other in numbers {
-        if number == *other {
-            return true;
-        }
-    }
-    false
-}
-
-/// The name of an input behind these in a list.
-#[tactic(auto, using(crate::proofs::NextWords::named_fits, crate::proofs::NextWords::named_foul, crate::proofs::NextWords::named_misfit, crate::proofs::NextWords::named_other))]
-fn listed_name(
-    cursor: &mut Cursor<'_, Vhdl>,
-    ports: &Ports,
-    inputs: &[usize],
-) -> Result<usize, Stop>
-    ensures { Reads (read (rules.named (spec.input_by ports.now inputs.now)) cursor.old) result cursor.new }
 {
     let token = cursor.bytes();
     if !is_name(token) {
@@ -107,7 +79,24 @@ fn listed_name(
     let Some(port) = input_of(ports, token)? else {
         return Err(Stop::Refused(Refusal::Undefined));
     };
-    if is_listed(inputs, port) {
+    cursor.skip();
+    Ok(port)
+}
+
+/// The name of an input behind these in a list.
+#[tactic(auto, using(crate::proofs::NextWords::named_fits, crate::proofs::NextWords::named_foul, crate::proofs::NextWords::named_misfit, crate::proofs::NextWords::named_other))]
+fn listed_name(cursor: &mut Cursor<'_, Vhdl>, ports: &Ports, inputs: &Listed) -> Result<usize, Stop>
+    ensures reads { Reads (read (rules.named (spec.input_by ports.now inputs.now)) cursor.old) result cursor.new }
+    ensures fresh { IfOk result (λ port. list_any (nat_eq port) inputs.now ≡ false) }
+{
+    let token = cursor.bytes();
+    if !is_name(token) {
+        return Err(Stop::Refused(Refusal::Syntax));
+    }
+    let Some(port) = input_of(ports, token)? else {
+        return Err(Stop::Refused(Refusal::Undefined));
+    };
+    if inputs.has(port) {
         return Err(Stop::Refused(Refusal::Twice));
     }
     cursor.skip();
@@ -119,13 +108,13 @@ fn listed_name(
 fn listed_input(
     cursor: &mut Cursor<'_, Vhdl>,
     ports: &Ports,
-    mut inputs: Items<usize>,
-) -> Result<Items<usize>, Stop>
+    inputs: Listed,
+) -> Result<Listed, Stop>
     ensures { Reads (read (spec.listed_input ports.now inputs) cursor.old) result cursor.new }
 {
-    let port = listed_name(cursor, ports, inputs.as_slice())?;
-    inputs.push(port)?;
-    Ok(inputs)
+    let port = listed_name(cursor, ports, &inputs)?;
+    let more = inputs.with(port)?;
+    Ok(more)
 }
 
 /// The inputs of a list behind these.
@@ -133,8 +122,8 @@ fn listed_input(
 fn more_inputs(
     cursor: &mut Cursor<'_, Vhdl>,
     ports: &Ports,
-    mut inputs: Items<usize>,
-) -> Result<Items<usize>, Stop>
+    mut inputs: Listed,
+) -> Result<Listed, Stop>
     ensures { Reads (read (Many (λ _. rules.begins (codes ",")) (λ found _. spec.listed_input ports.now found) inputs) cursor.old) result cursor.new }
 {
     for _turn in 0..cursor.left() {
@@ -153,22 +142,22 @@ fn several_inputs(
     cursor: &mut Cursor<'_, Vhdl>,
     alloc: Global,
     ports: &Ports,
-) -> Result<Items<usize>, Stop>
+) -> Result<Listed, Stop>
     ensures { Reads (read (rules.several_elements (spec.listed_input ports.now) []) cursor.old) result cursor.new }
 {
-    let first = listed_input(cursor, ports, Items::new(alloc))?;
+    let first = listed_input(cursor, ports, Listed::new(alloc))?;
     cursor.expect(b",")?;
     let second = listed_input(cursor, ports, first)?;
     more_inputs(cursor, ports, second)
 }
 
-/// A list of inputs.
+/// A list of inputs, as a list that finds each at once.
 #[tactic(auto, unfolding(vhdl_text::specs::VhdlRules::elements, vhdl_text::specs::VhdlRules::only_element), using(rule_readers::proofs::Choices::choose_by, rule_readers::proofs::Choices::choose_not_by))]
-pub fn inputs(
+fn listed_inputs(
     cursor: &mut Cursor<'_, Vhdl>,
     alloc: Global,
     ports: &Ports,
-) -> Result<Items<usize>, Stop>
+) -> Result<Listed, Stop>
     ensures { Reads (read (rules.elements (spec.listed_input ports.now) []) cursor.old) result cursor.new }
 {
     if !is_number_token(0, cursor.bytes()) {
@@ -176,7 +165,19 @@ pub fn inputs(
     }
     cursor.skip();
     cursor.expect(b"=>")?;
-    listed_input(cursor, ports, Items::new(alloc))
+    listed_input(cursor, ports, Listed::new(alloc))
+}
+
+/// A list of inputs, in time that grows with its length.
+pub fn inputs(
+    cursor: &mut Cursor<'_, Vhdl>,
+    alloc: Global,
+    ports: &Ports,
+) -> Result<Items<usize>, Stop>
+    ensures { Reads (read (rules.elements (spec.listed_input ports.now) []) cursor.old) result cursor.new }
+{
+    let inputs = listed_inputs(cursor, alloc, ports)?;
+    Ok(inputs.into_items())
 }
 
 /// The end of a list of so many names, which has to have another number of them.

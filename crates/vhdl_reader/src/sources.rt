@@ -1,6 +1,6 @@
 //! The inputs and states that the calls of tables of outputs list. (IEEE 1076.4-2000, VitalTruthTable; IEEE 1076-1993, 7.3.2.)
 
-ghost use Rattle.std.specs.Prelude.{◌≡◌, [], true, IfOk, codes};
+ghost use Rattle.std.specs.Prelude.{◌≡◌, [], true, false, IfOk, codes};
 ghost use Rattle.std.specs.List.{list_any};
 ghost use Rattle.grammar_rules.specs.Rule.{Many};
 ghost use Rattle.grammar_rules.specs.Reading.{read};
@@ -12,6 +12,7 @@ ghost use Rattle.vhdl_text.specs.VhdlNames as names;
 use crate::conditions::place_among;
 use crate::declarations::Declarations;
 use crate::language::Vhdl;
+use crate::listed_sources::ListedSources;
 use crate::names::{input_of, list_end};
 use crate::words::is_number_token;
 use cell_machine::Source;
@@ -19,29 +20,6 @@ use rule_readers::{Cursor, Refusal, Stop};
 use sqlite_items::Items;
 use std::alloc::{AllocError, Global};
 use vhdl_tokens::is_name;
-
-/// Whether two sources are the same.
-fn is_same_source(source: Source, other: Source) -> bool
-    ensures { result ≡ names.same_source source other }
-{
-    match (source, other) {
-        (Source::Pin(port), Source::Pin(other)) => port == other,
-        (Source::State(state), Source::State(other)) => state == other,
-        _ => false,
-    }
-}
-
-/// Whether a source is one of these.
-fn has_source(sources: &[Source], source: Source) -> bool
-    ensures { result ≡ list_any (names.same_source source) sources.now }
-{
-    for other in sources {
-        if is_same_source(source, *other) {
-            return true;
-        }
-    }
-    false
-}
 
 /// The source of a name: an input, or a state. An `Err` comes only where memory is wanting.
 fn source_of(
@@ -67,9 +45,10 @@ fn source_name(
     cursor: &mut Cursor<'_, Vhdl>,
     alloc: Global,
     scope: &Declarations,
-    sources: &[Source],
+    sources: &ListedSources,
 ) -> Result<Source, Stop>
-    ensures { Reads (read (rules.named (λ x. names.listed_by (λ s. list_any (names.same_source s) sources.now) (names.source_of scope.now x))) cursor.old) result cursor.new }
+    ensures reads { Reads (read (rules.named (λ x. names.listed_by (λ s. list_any (names.same_source s) sources.now) (names.source_of scope.now x))) cursor.old) result cursor.new }
+    ensures fresh { IfOk result (λ source. list_any (names.same_source source) sources.now ≡ false) }
 {
     let token = cursor.bytes();
     if !is_name(token) {
@@ -78,7 +57,7 @@ fn source_name(
     let Some(source) = source_of(alloc, scope, token)? else {
         return Err(Stop::Refused(Refusal::Undefined));
     };
-    if has_source(sources, source) {
+    if sources.has(source) {
         return Err(Stop::Refused(Refusal::Twice));
     }
     cursor.skip();
@@ -91,13 +70,13 @@ fn listed_source(
     cursor: &mut Cursor<'_, Vhdl>,
     alloc: Global,
     scope: &Declarations,
-    mut sources: Items<Source>,
-) -> Result<Items<Source>, Stop>
+    sources: ListedSources,
+) -> Result<ListedSources, Stop>
     ensures { Reads (read (names.listed_source scope.now sources) cursor.old) result cursor.new }
 {
-    let source = source_name(cursor, alloc, scope, sources.as_slice())?;
-    sources.push(source)?;
-    Ok(sources)
+    let source = source_name(cursor, alloc, scope, &sources)?;
+    let more = sources.with(source)?;
+    Ok(more)
 }
 
 /// The sources of a list behind these.
@@ -106,8 +85,8 @@ fn more_sources(
     cursor: &mut Cursor<'_, Vhdl>,
     alloc: Global,
     scope: &Declarations,
-    mut sources: Items<Source>,
-) -> Result<Items<Source>, Stop>
+    mut sources: ListedSources,
+) -> Result<ListedSources, Stop>
     ensures { Reads (read (Many (λ _. rules.begins (codes ",")) (λ found _. names.listed_source scope.now found) sources) cursor.old) result cursor.new }
 {
     for _turn in 0..cursor.left() {
@@ -126,10 +105,10 @@ fn several_sources(
     cursor: &mut Cursor<'_, Vhdl>,
     alloc: Global,
     scope: &Declarations,
-) -> Result<Items<Source>, Stop>
+) -> Result<ListedSources, Stop>
     ensures { Reads (read (rules.several_elements (names.listed_source scope.now) []) cursor.old) result cursor.new }
 {
-    let first = listed_source(cursor, alloc, scope, Items::new(alloc))?;
+    let first = listed_source(cursor, alloc, scope, ListedSources::new(alloc))?;
     cursor.expect(b",")?;
     let second = listed_source(cursor, alloc, scope, first)?;
     more_sources(cursor, alloc, scope, second)
@@ -141,7 +120,7 @@ fn sources(
     cursor: &mut Cursor<'_, Vhdl>,
     alloc: Global,
     scope: &Declarations,
-) -> Result<Items<Source>, Stop>
+) -> Result<ListedSources, Stop>
     ensures { Reads (read (rules.elements (names.listed_source scope.now) []) cursor.old) result cursor.new }
 {
     if !is_number_token(0, cursor.bytes()) {
@@ -149,7 +128,7 @@ fn sources(
     }
     cursor.skip();
     cursor.expect(b"=>")?;
-    listed_source(cursor, alloc, scope, Items::new(alloc))
+    listed_source(cursor, alloc, scope, ListedSources::new(alloc))
 }
 
 /// A list of so many sources, and its end.
@@ -163,6 +142,7 @@ pub fn sources_of(
     ensures { Reads (read (names.sources_of scope.now width) cursor.old) result cursor.new }
 {
     let sources = sources(cursor, alloc, scope)?;
-    list_end(cursor, width, sources.len())?;
-    Ok(sources)
+    let all = sources.into_items();
+    list_end(cursor, width, all.len())?;
+    Ok(all)
 }

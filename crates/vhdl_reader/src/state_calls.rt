@@ -100,46 +100,19 @@ pub fn violation(
     any_report(cursor, alloc, checks)
 }
 
-/// The variable of the state with this number, from 0.
-fn state_name(
+/// The name of a word for the state with this number, from 0.
+fn state_word(
     cursor: &mut Cursor<'_, Vhdl>,
     alloc: Global,
     scope: &Declarations,
+    word: &[u8],
     state: usize,
 ) -> Result<(), Stop>
     requires { state < 2 ^ 63 }
-    ensures { Reads (read (rules.this_name (rules.numbered_where (nat_lt state (length scope.now.tables.states)) (codes "s_") (state + 1))) cursor.old) result cursor.new }
+    ensures { Reads (read (rules.this_name (rules.numbered_where (nat_lt state (length scope.now.tables.states)) word.now (state + 1))) cursor.old) result cursor.new }
 {
     let is_there = state < scope.tables().states.len();
-    numbered(cursor, alloc, is_there, b"s_", state + 1)
-}
-
-/// The variable of what the state with this number, from 0, was given before.
-fn previous_name(
-    cursor: &mut Cursor<'_, Vhdl>,
-    alloc: Global,
-    scope: &Declarations,
-    state: usize,
-) -> Result<(), Stop>
-    requires { state < 2 ^ 63 }
-    ensures { Reads (read (rules.this_name (rules.numbered_where (nat_lt state (length scope.now.tables.states)) (codes "p_") (state + 1))) cursor.old) result cursor.new }
-{
-    let is_there = state < scope.tables().states.len();
-    numbered(cursor, alloc, is_there, b"p_", state + 1)
-}
-
-/// The table of the state with this number, from 0.
-fn table_name(
-    cursor: &mut Cursor<'_, Vhdl>,
-    alloc: Global,
-    scope: &Declarations,
-    state: usize,
-) -> Result<(), Stop>
-    requires { state < 2 ^ 63 }
-    ensures { Reads (read (rules.this_name (rules.numbered_where (nat_lt state (length scope.now.tables.states)) (codes "k_") (state + 1))) cursor.old) result cursor.new }
-{
-    let is_there = state < scope.tables().states.len();
-    numbered(cursor, alloc, is_there, b"k_", state + 1)
+    numbered(cursor, alloc, is_there, word, state + 1)
 }
 
 /// The variables and the table of the next state, behind so many calls and the word of this one.
@@ -154,11 +127,11 @@ fn state_call_start(
     ensures { Reads (read (spec.state_call_start scope.now state) cursor.old) result cursor.new }
 {
     expect_all(cursor, &[b"(", b"Result", b"=>"])?;
-    state_name(cursor, alloc, scope, state)?;
+    state_word(cursor, alloc, scope, b"s_", state)?;
     expect_all(cursor, &[b",", b"PreviousDataIn", b"=>"])?;
-    previous_name(cursor, alloc, scope, state)?;
+    state_word(cursor, alloc, scope, b"p_", state)?;
     expect_all(cursor, &[b",", b"StateTable", b"=>"])?;
-    table_name(cursor, alloc, scope, state)?;
+    state_word(cursor, alloc, scope, b"k_", state)?;
     expect_all(cursor, &[b",", b"DataIn", b"=>", b"("])
 }
 

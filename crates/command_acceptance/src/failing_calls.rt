@@ -1,4 +1,5 @@
-//! Calls on the desk that fail, each in turn: what was written then is the front of what is written without.
+//! Calls on the desk that fail, each in turn: what was written then is the front of what is written without, and no call is made
+//! behind it.
 use crate::library_desk::translated;
 use crate::three_cells::{THREE_CELLS, THREE_LINES, TWO_ENTITIES, TWO_MODULES};
 use std::alloc::Global;
@@ -23,9 +24,13 @@ fn has_fronts(desk: &MemoryDesk) -> bool {
 /// The status once no call is left that could fail, where a call moves at most `piece` bytes.
 fn last_status(alloc: Global, piece: usize) -> Result<Status, Fail> {
     for call in 1..10000 {
-        let (status, desk) = translated(alloc, THREE_CELLS.as_bytes(), &[call], piece)?;
+        let failing = [call, call + 1];
+        let (status, desk) = translated(alloc, THREE_CELLS.as_bytes(), &failing, piece)?;
         if !has_fronts(&desk) {
             return Err("something else was written".into());
+        }
+        if desk.faults() > 1 {
+            return Err("a call was made behind one that failed".into());
         }
         if status != Status::Outside {
             return Ok(status);

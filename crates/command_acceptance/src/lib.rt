@@ -10,6 +10,8 @@ mod failing_calls;
 #[cfg(test)]
 mod far_reading;
 #[cfg(test)]
+mod last_calls;
+#[cfg(test)]
 mod library_desk;
 #[cfg(test)]
 mod replays;

@@ -1,4 +1,5 @@
-//! Calls on the desk that fail, each in turn: what was written then is the front of what is written without.
+//! Calls on the desk that fail, each in turn: what was written then is the front of what is written without, and no call is made
+//! behind it.
 use crate::four_files::{Left, Models, own_models, ran};
 use crate::libraries::INVERTER;
 use std::alloc::Global;
@@ -17,7 +18,7 @@ H 5 A 1 : Y=0@0
 equal
 ";
 
-/// Simulates the library beside these models on a desk where this call fails and a call moves at most `piece` bytes.
+/// Simulates the library beside these models on a desk where this call and the next fail and a call moves at most `piece` bytes.
 fn failed_at(alloc: Global, models: &Models, call: u64, piece: usize) -> Result<Left, Fail> {
     ran(
         alloc,
@@ -28,7 +29,7 @@ fn failed_at(alloc: Global, models: &Models, call: u64, piece: usize) -> Result<
             ("in.vhd", models.vital.as_slice()),
             ("in.stim", b"cell INV\n5 A 1\n"),
         ],
-        &[call],
+        &[call, call.saturating_add(1)],
         piece,
     )
 }
@@ -42,6 +43,9 @@ fn last_status(alloc: Global, models: &Models, piece: usize) -> Result<Status, F
         }
         if !left.desk.written(OutSlot::Faults).is_empty() {
             return Err("a fault was told".into());
+        }
+        if left.desk.faults() > 1 {
+            return Err("a call was made behind one that failed".into());
         }
         if left.status != Status::Outside {
             return Ok(left.status);

@@ -1,4 +1,5 @@
-//! Calls on the desk that fail, each in turn: what was printed then is the front of what is printed without.
+//! Calls on the desk that fail, each in turn: what was printed then is the front of what is printed without, and no call is made
+//! behind it.
 use crate::replay_models::{ENTITY, MODULE, STIMULUS, VERILOG_REPORT, VITAL_REPORT};
 use crate::replayed::{Replay, replayed};
 use std::alloc::Global;
@@ -14,7 +15,7 @@ fn last_status(
     piece: usize,
 ) -> Result<Status, Fail> {
     for call in 1..10000 {
-        let left = replayed(alloc, replay, &[call], piece)?;
+        let left = replayed(alloc, replay, &[call, call + 1], piece)?;
         if !report
             .as_bytes()
             .starts_with(left.desk.written(OutSlot::Report))
@@ -23,6 +24,9 @@ fn last_status(
         }
         if !left.desk.written(OutSlot::Faults).is_empty() {
             return Err("a fault was told".into());
+        }
+        if left.desk.faults() > 1 {
+            return Err("a call was made behind one that failed".into());
         }
         if left.status != Status::Outside {
             return Ok(left.status);

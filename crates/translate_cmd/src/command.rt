@@ -1,7 +1,8 @@
 //! The top call: the words' command, over any desk.
 
-ghost use Rattle.std.specs.Prelude.{◌≡◌, ◌≤◌, ◌↔◌, IsTrue, MatchResult};
+ghost use Rattle.std.specs.Prelude.{◌≡◌, ◌≤◌, ◌↔◌, IsTrue, if◌then◌else◌};
 ghost use Rattle.text_io.specs.Desk.{HasCause, Rose};
+ghost use Rattle.text_io.specs.Gate.{failures};
 ghost use Rattle.text_io.specs.Sure.{sure_state};
 ghost use Rattle.command_outcomes.specs.Status.{is_decided, is_unfailed};
 ghost use Rattle.translate_cmd.specs.declared.asked.Command.TheVariants as command;
@@ -16,9 +17,9 @@ use crate::replay::replay;
 use crate::selftest::selftest;
 use crate::simulate::simulate;
 use crate::translate::translate;
-use command_outcomes::Status;
+use command_outcomes::{Status, ended};
 use std::alloc::Global;
-use text_io::{Desk, Failed, OutSlot, SureDesk, write_whole};
+use text_io::{Desk, GatedDesk, OutSlot, SureDesk, write_whole};
 use verilog_writer::write_udp;
 
 /// The line that tells of words without a reading.
@@ -33,7 +34,8 @@ const USAGE: &[u8] = b"lib2sim: usage\n";
 /// It ends with the status of the outcome of the words and the desk's files, and all that the outcome appends was appended,
 /// or with one of two others: `Outside`, only where a call on the desk failed in this call, and `Memory`, where there was
 /// none. After these two what was appended is the first part of what the outcome appends to each output. With every status
-/// but `Outside` no call failed: the count of faults is as it was.
+/// but `Outside` no call failed: the count of faults is as it was. With `Outside` exactly one did: the count rose by one. It was
+/// the last call of the run (`run_gated`).
 ///
 /// However `translate` ends, these two among the ways, all is there that is written for the cells whose closing braces lie
 /// more than 65,536 bytes before the end of the bytes that it read: both whole models of the accepted ones, and their lines.
@@ -96,12 +98,12 @@ pub fn run_sure(alloc: Global, desk: &mut SureDesk) -> Status
     run(alloc, desk)
 }
 
-/// The status of a run whose last writing ended so.
-pub(crate) fn ended(written: Result<(), Failed>, status: Status) -> Status
-    ensures { MatchResult written (λ _. result ≡ status) (λ _. result ≡ Status.Outside) }
+/// As `run`, over a desk behind a gate, through which no call has gone yet that failed. Where the run ends with another status
+/// than `Outside`, the gate counts none; with `Outside` it counts one: the call that failed was the last, and nothing was
+/// bound, read or written behind it.
+pub fn run_gated<D: Desk>(alloc: Global, desk: &mut GatedDesk<D>) -> Status
+    requires { failures desk.old ≡ 0 }
+    ensures last { failures desk.new ≡ (if is_unfailed result then 0 else 1) }
 {
-    match written {
-        Ok(()) => status,
-        Err(Failed) => Status::Outside,
-    }
+    run(alloc, desk)
 }

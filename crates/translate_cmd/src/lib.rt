@@ -19,7 +19,7 @@ mod translate;
 mod verilog;
 mod vital;
 
-pub use command::{run, run_sure};
+pub use command::{run, run_gated, run_sure};
 pub use command_outcomes::Status;
 pub use laws::{
     entities_are_well_formed, libraries_read_back, modules_are_well_formed, own_models_agree,

@@ -8,9 +8,8 @@ ghost use Rattle.cell_reader.specs.LibraryCells.{all_described, cell_names};
 ghost use Rattle.command_outcomes.specs.FileSteps.{FileIsTaken, FileEndsRun, TellsStop, StopsWithStatus};
 ghost use Rattle.translate_cmd.specs.LibraryAnswers.{library_answer, library_stop};
 
-use crate::command::ended;
 use cell_reader::LibraryCell;
-use command_outcomes::Status;
+use command_outcomes::{Status, ended};
 use library_items::{NotWhole, Stop, read_cells};
 use library_report::{write_library_fault, write_library_too_long};
 use std::alloc::Global;

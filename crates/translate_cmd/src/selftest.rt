@@ -6,8 +6,7 @@ ghost use Rattle.translate_cmd.specs.declared.asked.Command.TheVariants as comma
 ghost use Rattle.translate_cmd.specs.Reading.{reading};
 ghost use Rattle.translate_cmd.specs.Runs.{Runs};
 
-use crate::command::ended;
-use command_outcomes::Status;
+use command_outcomes::{Status, ended};
 use selftest_runs::{selftest_counts, write_report};
 use std::alloc::Global;
 use text_io::Desk;

@@ -36,7 +36,7 @@ same-self Zero = refl
 same-self One = refl
 same-self Unknown = refl
 
-cons_path : {X : Type 0} (x y : X) (xs ys : List X) → x ≡ y → xs ≡ ys → x ∷ xs ≡ y ∷ ys
+pub cons_path : {X : Type 0} (x y : X) (xs ys : List X) → x ≡ y → xs ≡ ys → x ∷ xs ≡ y ∷ ys
 cons_path x y xs ys e f = λ i. e i ∷ f i
 
 values-are : (xs ys : List Trit) → same_values xs ys ≡ true → xs ≡ ys
@@ -91,7 +91,7 @@ reports-self : (xs : List Bool) → same_reports xs xs ≡ true
 reports-self [] = refl
 reports-self (x ∷ xs) = and_from (agree x x) (same_reports xs xs) (agree-self x) (reports-self xs)
 
-line-is : (l r : Line) → length l.reports ≡ length r.reports → same_line l r ≡ true → l ≡ r
+pub line-is : (l r : Line) → length l.reports ≡ length r.reports → same_line l r ≡ true → l ≡ r
 line-is l r e h =
     let p = and_parts (same_values l.values r.values) (same_delays l.delays r.delays && same_reports l.reports r.reports) h in
     let q = and_parts (same_delays l.delays r.delays) (same_reports l.reports r.reports) p.1 in
@@ -100,7 +100,7 @@ line-is l r e h =
     let reports = reports-are l.reports r.reports e q.1 in
     λ i. record { values = values i; delays = delays i; reports = reports i }
 
-line-self : (l : Line) → same_line l l ≡ true
+pub line-self : (l : Line) → same_line l l ≡ true
 line-self l =
     and_from (same_values l.values l.values) (same_delays l.delays l.delays && same_reports l.reports l.reports) (values-self l.values)
     (and_from (same_delays l.delays l.delays) (same_reports l.reports l.reports) (delays-self l.delays) (reports-self l.reports))
@@ -109,7 +109,7 @@ no_other : (n : ℕ) (ls : List Line) → difference_from n ls ls ≡ None
 no_other n [] = refl
 no_other n (l ∷ ls) = rw (line-self l) (no_other (n + 1) ls)
 
-none_here : (b : Bool) (n : ℕ) (later : Option ℕ) → (if b then later else Some n) ≡ None → (b ≡ true) × (later ≡ None)
+pub none_here : (b : Bool) (n : ℕ) (later : Option ℕ) → (if b then later else Some n) ≡ None → (b ≡ true) × (later ≡ None)
 none_here true n later e = (refl, e)
 none_here false n later e = absurd cc
 

@@ -1,8 +1,8 @@
 -- A section of three simulators, as the report shows it: of a cell, of its Verilog module and of its VITAL entity (this project's
 -- format).
-use Rattle.std.specs.Prelude.{◌≡◌, ℕ, ◌+◌, Bool, true, false, ◌&&◌, List, [], ◌∷◌, ◌++◌, length, codes, decimal, Option, Some, None, if◌then◌else◌}
+use Rattle.std.specs.Prelude.{◌≡◌, ◌↔◌, ℕ, ◌+◌, Bool, true, false, ◌&&◌, List, [], ◌∷◌, ◌++◌, length, codes, decimal, Option, Some, None, if◌then◌else◌}
 use Rattle.cell_machine.specs.declared.changes.Change.{Change}
-use Rattle.cell_machine.specs.Lines.{Line, Machine}
+use Rattle.cell_machine.specs.Lines.{Line, trace, Machine, IsSized}
 use Rattle.stimulus.specs.declared.ports.Ports.{Ports}
 use Rattle.stimulus.specs.TraceLine.{line_text}
 use Rattle.section_runs.specs.Differences.{same_line}
@@ -64,6 +64,14 @@ unlike_from n (lines ∷ more) = if are_alike lines then unlike_from (n + 1) mor
 -- the number of the first change at which two of the three traces differ, from 1, and 0 for the start
 abbrev pub first_unlike : List Change → (List Change → Lines) → Option ℕ
 first_unlike changes lines = unlike_from 0 (lines [] ∷ all_from lines [] changes)
+
+-- Where three machines run as many checks, no two of them differ exactly where their traces are equal.
+abbrev pub NoneUnlikeIsEqual : Type 0
+NoneUnlikeIsEqual =
+    (liberty verilog vital : Machine) (cs : List Change) → IsSized liberty → IsSized verilog → IsSized vital
+    → liberty.checks ≡ verilog.checks → liberty.checks ≡ vital.checks
+    → (first_unlike cs (three_lines liberty verilog vital) ≡ None)
+    ↔ ((trace liberty.line cs ≡ trace verilog.line cs) × (trace liberty.line cs ≡ trace vital.line cs))
 
 -- the line with which such a section ends
 unfoldable pub verdict_text : Option ℕ → List ℕ

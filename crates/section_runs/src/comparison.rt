@@ -6,7 +6,7 @@ ghost use Rattle.cell_machine.specs.History.{IsProperFrom, ComesAfter};
 ghost use Rattle.text_io.specs.declared.slots.OutSlot.TheVariants.{Report};
 ghost use Rattle.text_io.specs.Desk.{WritesText, HasCause as HasCauseOf};
 ghost use Rattle.stimulus.specs.TraceLine.{line_text};
-ghost use Rattle.section_runs.specs.Comparison.{three_lines, HavePorts, are_alike, lines_text, compared_text, first_of, first_unlike, verdict_text};
+ghost use Rattle.section_runs.specs.Comparison.{three_lines, HavePorts, are_alike, lines_text, compared_text, first_of, first_unlike, verdict_text, NoneUnlikeIsEqual};
 ghost use Rattle.section_runs.specs.Writes.{WritesTrace, PutsTrace, HasCause};
 
 use crate::differences::same_line;
@@ -143,3 +143,9 @@ pub fn write_verdict<D: Desk>(desk: &mut D, first: Option<usize>) -> Result<(), 
         }
     }
 }
+
+/// A law: where three simulators run as many checks, no two of them are found to differ exactly where their traces are equal.
+#[tactic(auto, using(crate::proofs::ThreeTraces::none_unlike_is_equal))]
+pub fn none_unlike_is_equal()
+    ensures { NoneUnlikeIsEqual }
+{}

@@ -1,4 +1,4 @@
-use Rattle.std.proofs.Common.{[], ◌∙◌, ap, refl, arith}
+use Rattle.std.proofs.Common.{[], ◌∙◌, ap, refl}
 use Rattle.std.proofs.lemmas.List.{get_or_default}
 use Rattle.section_runs.proofs.Runs.{one_shown, begins, goes_on, one_put, stops_in, flushed, written_part, trace_text-is}
 use Rattle.section_runs.proofs.trace.write_trace.Goals as goal

@@ -29,7 +29,7 @@ pub fn trace_line<S: CellSim>(
     requires pin { IfSome change (λ change. change.now.pin < (S.machine sim.now).inputs) }
     ensures { IfOk result (λ text. (h : List ChangeOf) → S.stands sim.now h → text.items ≡ line_text tag (option_copied change.entry) inputs.now outputs.now ((S.machine sim.now).line h)) }
 {
-    let mut text = Vec::new(alloc);
+    let mut text = Vec::with_capacity(alloc, 64)?;
     text.push(tag)?;
     push_head(&mut text, change, inputs)?;
     push_outputs(&mut text, outputs, sim)?;

@@ -3,6 +3,7 @@ ghost use Rattle.std.specs.Prelude.{◌≡◌, ◌≤◌, ◌++◌, OnOk, IfOk, 
 ghost use Rattle.timing_arcs.specs.Timing.{least};
 ghost use Rattle.cell_parts.specs.Building.{FitsText, output_pin as output_pin_of, output_in as output_in_of, outputs_from};
 ghost use Rattle.cell_parts.specs.Limits.{wide_text as wide_text_of, wide_function as wide_function_of, wide_output as wide_output_of};
+ghost use Rattle.cell_parts.specs.Outputs.{pin_text as pin_text_of};
 ghost use Rattle.cell_parts.specs.Shown.{shown_vocabulary};
 
 use crate::sources::sources_of;
@@ -136,6 +137,24 @@ fn wide_text(
     }
 }
 
+/// Where the text of the pins of a group has more than 10 names in its support.
+fn wide_pin_text(
+    alloc: Global,
+    vocabulary: &Vocabulary<'_>,
+    groups: &[StateGroup],
+    to: &[usize],
+    pins: usize,
+    owner: &Group,
+) -> Result<Option<usize>, Memory>
+    requires pins { pins ≤ 64 }
+    requires groups { length groups.now ≤ 16 }
+    requires numbers { length to.now ≡ length vocabulary.now.classes.items }
+    ensures { IfOk result (λ wide. wide ≡ least (wide_text_of pins groups.now to.now (pin_text_of (shown_vocabulary vocabulary.now) owner.now))) }
+{
+    let text = pin_text(alloc, vocabulary, owner)?;
+    wide_text(alloc, pins, groups, to, &text)
+}
+
 /// Where the outputs of a group have more than 10 names in their support.
 #[tactic(auto, unfolding(cell_parts::specs::Limits::wide_output))]
 fn wide_output(
@@ -154,8 +173,7 @@ fn wide_output(
     if direction_of(owner) != Some(Direction::Output) {
         return Ok(None);
     }
-    let text = pin_text(alloc, vocabulary, owner)?;
-    wide_text(alloc, pins, groups, to, &text)
+    wide_pin_text(alloc, vocabulary, groups, to, pins, owner)
 }
 
 /// Where an output has more than 10 names in its support.

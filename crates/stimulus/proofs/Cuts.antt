@@ -57,7 +57,7 @@ split_nowhere p xs e =
     unsplit p xs le
 
 -- a line that ends with a line feed, ahead of the others
-ended_on : (line text : List ℕ) → ended (line ∷ slice_split is_line_feed text) ≡ without_return line ∷ ended (slice_split is_line_feed text)
+pub ended_on : (line text : List ℕ) → ended (line ∷ slice_split is_line_feed text) ≡ without_return line ∷ ended (slice_split is_line_feed text)
 ended_on line text =
     subst (λ parts. ended (line ∷ parts) ≡ without_return line ∷ ended parts) (sym (parted is_line_feed text)) refl
 

@@ -7,3 +7,4 @@ pub mod Entries
 pub mod Properness
 pub mod BadLines
 pub mod NameSearch
+pub mod PlainLines

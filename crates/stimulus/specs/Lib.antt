@@ -11,3 +11,4 @@ pub mod Sections
 pub mod Stimulus
 pub mod TraceLine
 pub mod Laws
+pub mod NextLine

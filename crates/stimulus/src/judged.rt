@@ -1,23 +1,28 @@
 //! What a line says, after the lines before it.
 ghost use Rattle.std.specs.Prelude.{◌≡◌};
-ghost use Rattle.stimulus.specs.Judged.{judged as judged_of, begun as begun_of, changed as changed_of, input_of as input_of_answer, value_of as value_of_word, is_later as is_later_of};
+ghost use Rattle.stimulus.specs.Written.{shown};
+ghost use Rattle.stimulus.specs.Judged.{judged_as, begun as begun_of, changed as changed_of, input_of as input_of_answer, value_of as value_of_word, is_later as is_later_of};
 
 use crate::catalog::{Catalog, CellFound, PinFound};
 use crate::context::{Context, Said};
 use crate::faults::Cause;
 use crate::times::time_of;
-use crate::written::{Written, written_in};
+use crate::written::Written;
 use cell_machine::Change;
 use trit_cubes::Trit;
 
 /// The greatest number of changes in a stimulus.
 pub const MAX_CHANGES: usize = 1_000_000;
 
-/// What a line says, or the first of the causes for which it is bad.
-pub(crate) fn judged<C: Catalog>(catalog: &C, context: Context, line: &[u8]) -> Result<Said, Cause>
-    ensures { result ≡ judged_of (C.listing catalog.now) context line.now }
+/// What a line says in which this is written, or the first of the causes for which it is bad.
+pub(crate) fn judged<C: Catalog>(
+    catalog: &C,
+    context: Context,
+    written: Written<'_>,
+) -> Result<Said, Cause>
+    ensures { result ≡ judged_as (C.listing catalog.now) context (shown written.entry) }
 {
-    match written_in(line) {
+    match written {
         Written::Nothing => Ok(Said::Nothing),
         Written::Cell(name) => begun(catalog.cell(name)),
         Written::Change { time, pin, value } => changed(catalog, context, time, pin, value),

@@ -7,6 +7,7 @@ mod faults;
 mod judged;
 mod laws;
 mod lines;
+mod next_line;
 mod ports;
 mod read;
 mod sections;

@@ -6,7 +6,7 @@ use crate::catalog::Catalog;
 use crate::context::Context;
 use crate::faults::{Cause, StimulusFault};
 use crate::judged::judged;
-use crate::lines::first_line;
+use crate::next_line::next_line;
 use crate::sections::{Section, Sections};
 use std::alloc::Global;
 
@@ -27,8 +27,8 @@ pub fn read_stimulus<C: Catalog>(
     let mut before = 0;
     let mut rest = Some(bytes);
     while let Some(text) = rest {
-        let (line, more) = first_line(text);
-        let said = at_line(before + 1, judged(catalog, context, line))?;
+        let (written, more) = next_line(text);
+        let said = at_line(before + 1, judged(catalog, context, written))?;
         sections.take(alloc, said)?;
         context = context.after(said);
         before += 1;

@@ -34,8 +34,8 @@ const USAGE: &[u8] = b"lib2sim: usage\n";
 /// It ends with the status of the outcome of the words and the desk's files, and all that the outcome appends was appended,
 /// or with one of two others: `Outside`, only where a call on the desk failed in this call, and `Memory`, where there was
 /// none. After these two what was appended is the first part of what the outcome appends to each output. With every status
-/// but `Outside` no call failed: the count of faults is as it was. With `Outside` exactly one did: the count rose by one. It was
-/// the last call of the run (`run_gated`).
+/// but `Outside` no call failed: the count of faults is as it was. With `Outside` exactly one did: the count rose by one. Over a
+/// desk behind a gate it is shown to be the last call of the run (`run_gated`).
 ///
 /// However `translate` ends, these two among the ways, all is there that is written for the cells whose closing braces lie
 /// more than 65,536 bytes before the end of the bytes that it read: both whole models of the accepted ones, and their lines.

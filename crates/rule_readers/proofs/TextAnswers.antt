@@ -17,8 +17,8 @@ use Rattle.rule_readers.specs.Texts.{Texts, text_tokens, lexical_place, IsText, 
 
 -- What must be known of a language: a fault stands where it says, and nothing stands behind a text.
 pub record Known {A F : Type 0} (lang : Texts A F) : Type 0 where
-  pub place_of_lexical : (at : ℕ) → lang.fault_place (lang.lexical at) ≡ at
-  pub place_of_fault : (k : Refusal) (at : ℕ) → lang.fault_place (lang.fault_at k at) ≡ at
+  pub place_of_lexical : (at : ℕ) → lang.faults.place (lang.faults.lexical at) ≡ at
+  pub place_of_fault : (k : Refusal) (at : ℕ) → lang.faults.place (lang.faults.of_refusal k at) ≡ at
   pub file_ends : (s : List (List ℕ)) (a : A) (r : List (List ℕ)) → Takes lang.file s a r → r ≡ []
 
 -- how many tokens are left at a place
@@ -46,13 +46,13 @@ module _ {A F : Type 0} (lang : Texts A F) (known : Known lang) where
 
   -- the second fault is the first one, or stands behind it
   abbrev pub IsOrBehind : F → F → Type 0
-  IsOrBehind g h = (h ≡ g) ⊎ (lang.fault_place g < lang.fault_place h)
+  IsOrBehind g h = (h ≡ g) ⊎ (lang.faults.place g < lang.faults.place h)
 
   is-fault : (bytes : List ℕ) (g : F) → MeetsFault lang bytes g → ((h : F) → MeetsFault lang bytes h → IsOrBehind g h) → IsFault lang bytes g
   is-fault bytes g met all = record { met = met; first = λ h m. counts h (all h m) }
     where
       counts : (h : F) → IsOrBehind g h → CountsBefore lang g h
-      counts h (inl e) = inr (ap lang.fault_place (sym e), let d = ap lang.fault_rank e in omega arith)
+      counts h (inl e) = inr (ap lang.faults.place (sym e), let d = ap lang.faults.rank e in omega arith)
       counts h (inr l) = inl l
 
   only-fault : (bytes : List ℕ) (g f : F) → MeetsFault lang bytes g → ((h : F) → MeetsFault lang bytes h → IsOrBehind g h) → IsFault lang bytes f → f ≡ g
@@ -106,11 +106,11 @@ module _ {A F : Type 0} (lang : Texts A F) (known : Known lang) where
       )
   taken_decided bytes a h (Some at) l =
       inr (
-        lang.lexical at,
+        lang.faults.lexical at,
         inl (at, l, refl),
         λ f met.
             elim met [
-              | inl (p, e, i) ↦ inl (i ∙ ap lang.lexical (let d = sym e ∙ l in cc))
+              | inl (p, e, i) ↦ inl (i ∙ ap lang.faults.lexical (let d = sym e ∙ l in cc))
               | inr (inl (k, m, c, i)) ↦ absurd (no-foul bytes a h k m c)
               | inr (inr (inl (k, x, m, c, i))) ↦ absurd (no-refusal bytes a h k (x ∷ m) c)
               | inr (inr (inr (e, k, c, i))) ↦ absurd (no-refusal bytes a h k [] c)
@@ -122,19 +122,19 @@ module _ {A F : Type 0} (lang : Texts A F) (known : Known lang) where
 
   -- the fault of a refusal at a token, where each fault that is met is the same or stands behind it
   token_decided : (bytes : List ℕ) (k : Refusal) (x : List ℕ) (r : List (List ℕ)) → Refuses lang.file (text_tokens lang.lexis bytes) k (x ∷ r) →
-      MeetsFault lang bytes (lang.fault_at k (token_place lang.lexis bytes (x ∷ r))) →
-      ((f : F) → MeetsFault lang bytes f → (f ≡ lang.fault_at k (token_place lang.lexis bytes (x ∷ r))) ⊎ (token_place lang.lexis bytes (x ∷ r) < lang.fault_place f)) → Decided bytes
+      MeetsFault lang bytes (lang.faults.of_refusal k (token_place lang.lexis bytes (x ∷ r))) →
+      ((f : F) → MeetsFault lang bytes f → (f ≡ lang.faults.of_refusal k (token_place lang.lexis bytes (x ∷ r))) ⊎ (token_place lang.lexis bytes (x ∷ r) < lang.faults.place f)) → Decided bytes
   token_decided bytes k x r h met all =
       inr (
-        lang.fault_at k (token_place lang.lexis bytes (x ∷ r)),
+        lang.faults.of_refusal k (token_place lang.lexis bytes (x ∷ r)),
         met,
         λ f m. elim (all f m) [ inl e ↦ inl e | inr l ↦ inr (let d = known.place_of_fault k (token_place lang.lexis bytes (x ∷ r)) in omega arith) ],
         answer_is bytes
             ∙ ap (answer_of lang (length bytes) (scan_of lang.lexis bytes).0 (lexical_place lang.lexis bytes)) (refuses lang.file (text_tokens lang.lexis bytes) k (x ∷ r) h),
       )
 
-  fault_as : (k j : Refusal) (m n : ℕ) → k ≡ j → m ≡ n → lang.fault_at j n ≡ lang.fault_at k m
-  fault_as k j m n e i = ap (λ (j : Refusal). lang.fault_at j n) (sym e) ∙ ap (lang.fault_at k) (sym i)
+  fault_as : (k j : Refusal) (m n : ℕ) → k ≡ j → m ≡ n → lang.faults.of_refusal j n ≡ lang.faults.of_refusal k m
+  fault_as k j m n e i = ap (λ (j : Refusal). lang.faults.of_refusal j n) (sym e) ∙ ap (lang.faults.of_refusal k) (sym i)
 
   refusal_inside : (bytes : List ℕ) (k : Refusal) (m : List (List ℕ)) → Refuses (loose lang.file) (text_tokens lang.lexis bytes) k m → length m ≤ length (text_tokens lang.lexis bytes)
   refusal_inside bytes k m h =
@@ -146,8 +146,8 @@ module _ {A F : Type 0} (lang : Texts A F) (known : Known lang) where
       let e = ap length f.4 in
       (left_of f.0 m (text_tokens lang.lexis bytes) (f.3 ∙ ap (λ (r : List (List ℕ)). f.0 ++ r) (sym f.4)), omega arith)
 
-  place-at : (bytes : List ℕ) (f : F) (j : Refusal) (n : ℕ) → f ≡ lang.fault_at j n → lang.fault_place f ≡ n
-  place-at bytes f j n e = ap lang.fault_place e ∙ known.place_of_fault j n
+  place-at : (bytes : List ℕ) (f : F) (j : Refusal) (n : ℕ) → f ≡ lang.faults.of_refusal j n → lang.faults.place f ≡ n
+  place-at bytes f j n e = ap lang.faults.place e ∙ known.place_of_fault j n
 
   -- the first token that breaks a strict rule
   foul_decided : (bytes : List ℕ) (k : Refusal) (x : List ℕ) (r : List (List ℕ)) → Refuses lang.file (text_tokens lang.lexis bytes) k (x ∷ r) → Fouls lang.file (text_tokens lang.lexis bytes) k (x ∷ r) →
@@ -169,27 +169,27 @@ module _ {A F : Type 0} (lang : Texts A F) (known : Known lang) where
       below : token_place lang.lexis bytes (x ∷ r) < stop_of (length bytes) (lexical_place lang.lexis bytes)
       below = (places_of bytes).within (x ∷ r) inside.0 inside.1
 
-      before_lexical : (f : F) (at : ℕ) → lexical_place lang.lexis bytes ≡ Some at → f ≡ lang.lexical at → token_place lang.lexis bytes (x ∷ r) < lang.fault_place f
+      before_lexical : (f : F) (at : ℕ) → lexical_place lang.lexis bytes ≡ Some at → f ≡ lang.faults.lexical at → token_place lang.lexis bytes (x ∷ r) < lang.faults.place f
       before_lexical f at e i =
           let d : stop_of (length bytes) (lexical_place lang.lexis bytes) ≡ at = ap (stop_of (length bytes)) e in
-          let p : lang.fault_place f ≡ at = ap lang.fault_place i ∙ known.place_of_lexical at in
+          let p : lang.faults.place f ≡ at = ap lang.faults.place i ∙ known.place_of_lexical at in
           omega (arith, below)
 
-      before_end : (f : F) (j : Refusal) → lexical_place lang.lexis bytes ≡ None → f ≡ lang.fault_at j (length bytes) → token_place lang.lexis bytes (x ∷ r) < lang.fault_place f
+      before_end : (f : F) (j : Refusal) → lexical_place lang.lexis bytes ≡ None → f ≡ lang.faults.of_refusal j (length bytes) → token_place lang.lexis bytes (x ∷ r) < lang.faults.place f
       before_end f j e i =
           let d : stop_of (length bytes) (lexical_place lang.lexis bytes) ≡ length bytes = ap (stop_of (length bytes)) e in
           let p = place-at bytes f j (length bytes) i in
           omega (arith, below)
 
       before_refusal : (f : F) (j : Refusal) (y : List ℕ) (n : List (List ℕ)) → Refuses (loose lang.file) (text_tokens lang.lexis bytes) j (y ∷ n) →
-          f ≡ lang.fault_at j (token_place lang.lexis bytes (y ∷ n)) → token_place lang.lexis bytes (x ∷ r) < lang.fault_place f
+          f ≡ lang.faults.of_refusal j (token_place lang.lexis bytes (y ∷ n)) → token_place lang.lexis bytes (x ∷ r) < lang.faults.place f
       before_refusal f j y n d i =
           let l = (places_of bytes).later (x ∷ r) (y ∷ n) inside.0 (omega arith) ((fouls_in_fronts lang.file).earlier (text_tokens lang.lexis bytes) k j (x ∷ r) (y ∷ n) c d) in
           let p = place-at bytes f j (token_place lang.lexis bytes (y ∷ n)) i in
           omega arith
 
-      another : (f : F) (j : Refusal) (n : List (List ℕ)) → Fouls lang.file (text_tokens lang.lexis bytes) j n → f ≡ lang.fault_at j (token_place lang.lexis bytes n) →
-          (f ≡ lang.fault_at k (token_place lang.lexis bytes (x ∷ r))) ⊎ (token_place lang.lexis bytes (x ∷ r) < lang.fault_place f)
+      another : (f : F) (j : Refusal) (n : List (List ℕ)) → Fouls lang.file (text_tokens lang.lexis bytes) j n → f ≡ lang.faults.of_refusal j (token_place lang.lexis bytes n) →
+          (f ≡ lang.faults.of_refusal k (token_place lang.lexis bytes (x ∷ r))) ⊎ (token_place lang.lexis bytes (x ∷ r) < lang.faults.place f)
       another f j n d i =
           elim (less_or_same (length n) (length (x ∷ r)) (first j n d)) [
             | inl e ↦
@@ -221,14 +221,14 @@ module _ {A F : Type 0} (lang : Texts A F) (known : Known lang) where
       below : token_place lang.lexis bytes (x ∷ r) < stop_of (length bytes) (lexical_place lang.lexis bytes)
       below = (places_of bytes).within (x ∷ r) (refusal_inside bytes k (x ∷ r) c) (omega arith)
 
-      before_lexical : (f : F) (at : ℕ) → lexical_place lang.lexis bytes ≡ Some at → f ≡ lang.lexical at → token_place lang.lexis bytes (x ∷ r) < lang.fault_place f
+      before_lexical : (f : F) (at : ℕ) → lexical_place lang.lexis bytes ≡ Some at → f ≡ lang.faults.lexical at → token_place lang.lexis bytes (x ∷ r) < lang.faults.place f
       before_lexical f at e i =
           let d : stop_of (length bytes) (lexical_place lang.lexis bytes) ≡ at = ap (stop_of (length bytes)) e in
-          let p : lang.fault_place f ≡ at = ap lang.fault_place i ∙ known.place_of_lexical at in
+          let p : lang.faults.place f ≡ at = ap lang.faults.place i ∙ known.place_of_lexical at in
           omega (arith, below)
 
       same : (f : F) (j : Refusal) (y : List ℕ) (n : List (List ℕ)) → Refuses (loose lang.file) (text_tokens lang.lexis bytes) j (y ∷ n) →
-          f ≡ lang.fault_at j (token_place lang.lexis bytes (y ∷ n)) → (f ≡ lang.fault_at k (token_place lang.lexis bytes (x ∷ r))) ⊎ (token_place lang.lexis bytes (x ∷ r) < lang.fault_place f)
+          f ≡ lang.faults.of_refusal j (token_place lang.lexis bytes (y ∷ n)) → (f ≡ lang.faults.of_refusal k (token_place lang.lexis bytes (x ∷ r))) ⊎ (token_place lang.lexis bytes (x ∷ r) < lang.faults.place f)
       same f j y n d i =
           let z = one-refusal (text_tokens lang.lexis bytes) k j (x ∷ r) (y ∷ n) c d in
           inl (i ∙ fault_as k j (token_place lang.lexis bytes (x ∷ r)) (token_place lang.lexis bytes (y ∷ n)) z.0 (ap (token_place lang.lexis bytes) z.1))
@@ -238,7 +238,7 @@ module _ {A F : Type 0} (lang : Texts A F) (known : Known lang) where
       Refuses (loose lang.file) (text_tokens lang.lexis bytes) k [] → (lexical : Option ℕ) → lexical_place lang.lexis bytes ≡ lexical → Decided bytes
   end_decided bytes k h clean c None l =
       inr (
-        lang.fault_at k (length bytes),
+        lang.faults.of_refusal k (length bytes),
         inr (inr (inr (l, k, c, refl))),
         λ f met.
             elim met [
@@ -250,22 +250,22 @@ module _ {A F : Type 0} (lang : Texts A F) (known : Known lang) where
             ],
         answer_is bytes
             ∙ ap (answer_of lang (length bytes) (scan_of lang.lexis bytes).0 (lexical_place lang.lexis bytes)) (refuses lang.file (text_tokens lang.lexis bytes) k [] h)
-            ∙ ap (λ (o : Option ℕ). Err (end_fault lang (length bytes) k o)) l,
+            ∙ ap (λ (o : Option ℕ). Err (end_fault lang.faults (length bytes) k o)) l,
       )
   end_decided bytes k h clean c (Some at) l =
       inr (
-        lang.lexical at,
+        lang.faults.lexical at,
         inl (at, l, refl),
         λ f met.
             elim met [
-              | inl (p, e, i) ↦ inl (i ∙ ap lang.lexical (let d = sym e ∙ l in cc))
+              | inl (p, e, i) ↦ inl (i ∙ ap lang.faults.lexical (let d = sym e ∙ l in cc))
               | inr (inl (j, n, d, i)) ↦ absurd (clean j n d)
               | inr (inr (inl (j, y, n, d, i))) ↦ absurd (let z = (one-refusal (text_tokens lang.lexis bytes) k j [] (y ∷ n) c d).1 in cc)
               | inr (inr (inr (e, j, d, i))) ↦ absurd (let z = sym l ∙ e in cc)
             ],
         answer_is bytes
             ∙ ap (answer_of lang (length bytes) (scan_of lang.lexis bytes).0 (lexical_place lang.lexis bytes)) (refuses lang.file (text_tokens lang.lexis bytes) k [] h)
-            ∙ ap (λ (o : Option ℕ). Err (end_fault lang (length bytes) k o)) l,
+            ∙ ap (λ (o : Option ℕ). Err (end_fault lang.faults (length bytes) k o)) l,
       )
 
   decided : (bytes : List ℕ) → Decided bytes

@@ -8,15 +8,19 @@ use Rattle.token_spans.specs.Places.{place_from}
 use Rattle.rule_readers.specs.declared.refusal.Refusal.{Refusal}
 use Rattle.rule_readers.specs.Words.{Grammar}
 
--- A language whose texts stand for values: its tokens and its grammar; its fault at an offset where no token begins, and that of a
--- refusal at an offset; and of a fault its offset, and the number of its kind, in the order in which kinds count at one offset.
+-- The faults of texts: that at an offset where no token begins, and that of a refusal at an offset; and of a fault its offset, and the
+-- number of its kind, in the order in which kinds count at one offset.
+pub record Faults (F : Type 0) : Type 0 where
+  pub lexical : ℕ → F
+  pub of_refusal : Refusal → ℕ → F
+  pub place : F → ℕ
+  pub rank : F → ℕ
+
+-- A language whose texts stand for values: its tokens, its grammar and its faults.
 pub record Texts (A F : Type 0) : Type 1 where
   pub lexis : Lexis
   pub file : Grammar A
-  pub lexical : ℕ → F
-  pub fault_at : Refusal → ℕ → F
-  pub fault_place : F → ℕ
-  pub fault_rank : F → ℕ
+  pub faults : Faults F
 
 -- the tokens of a text before its lexical fault, by their spelling
 abbrev pub text_tokens : Lexis → List ℕ → List (List ℕ)
@@ -39,15 +43,15 @@ token_place lexis bytes left = place_from (length bytes) (scan_of lexis bytes).0
 -- first token with which the tokens so far are no front of the loose subset; or the end of the text where it is a front and no text.
 abbrev pub MeetsFault : {A F : Type 0} → Texts A F → List ℕ → F → Type 0
 MeetsFault l bytes f =
-    ((at : ℕ) × (lexical_place l.lexis bytes ≡ Some at) × (f ≡ l.lexical at))
-    ⊎ (((k : Refusal) × (m : List (List ℕ)) × Fouls l.file (text_tokens l.lexis bytes) k m × (f ≡ l.fault_at k (token_place l.lexis bytes m)))
+    ((at : ℕ) × (lexical_place l.lexis bytes ≡ Some at) × (f ≡ l.faults.lexical at))
+    ⊎ (((k : Refusal) × (m : List (List ℕ)) × Fouls l.file (text_tokens l.lexis bytes) k m × (f ≡ l.faults.of_refusal k (token_place l.lexis bytes m)))
     ⊎ (((k : Refusal) × (x : List ℕ) × (m : List (List ℕ)) × Refuses (loose l.file) (text_tokens l.lexis bytes) k (x ∷ m)
-    × (f ≡ l.fault_at k (token_place l.lexis bytes (x ∷ m))))
-    ⊎ ((lexical_place l.lexis bytes ≡ None) × (k : Refusal) × Refuses (loose l.file) (text_tokens l.lexis bytes) k [] × (f ≡ l.fault_at k (length bytes)))))
+    × (f ≡ l.faults.of_refusal k (token_place l.lexis bytes (x ∷ m))))
+    ⊎ ((lexical_place l.lexis bytes ≡ None) × (k : Refusal) × Refuses (loose l.file) (text_tokens l.lexis bytes) k [] × (f ≡ l.faults.of_refusal k (length bytes)))))
 
 -- the least offset counts, and at one offset the first kind
 abbrev pub CountsBefore : {A F : Type 0} → Texts A F → F → F → Type 0
-CountsBefore l f g = (l.fault_place f < l.fault_place g) ⊎ ((l.fault_place f ≡ l.fault_place g) × (l.fault_rank f ≤ l.fault_rank g))
+CountsBefore l f g = (l.faults.place f < l.faults.place g) ⊎ ((l.faults.place f ≡ l.faults.place g) × (l.faults.rank f ≤ l.faults.rank g))
 
 -- This is the fault of a text: of those that it meets, the first.
 pub record IsFault {A F : Type 0} (l : Texts A F) (bytes : List ℕ) (f : F) : Type 0 where
@@ -56,22 +60,22 @@ pub record IsFault {A F : Type 0} (l : Texts A F) (bytes : List ℕ) (f : F) : T
 
 -- Below: the same as a function of the bytes.
 
-abbrev pub end_fault : {A F : Type 0} → Texts A F → ℕ → Refusal → Option ℕ → F
-end_fault l len k None = l.fault_at k len
-end_fault l len k (Some at) = l.lexical at
+abbrev pub end_fault : {F : Type 0} → Faults F → ℕ → Refusal → Option ℕ → F
+end_fault faults len k None = faults.of_refusal k len
+end_fault faults len k (Some at) = faults.lexical at
 
 -- the fault of a refusal before these tokens, in a text of this length with these tokens and this lexical fault
-abbrev pub refusal_fault : {A F : Type 0} → Texts A F → ℕ → List Token → Option ℕ → Refusal → List (List ℕ) → F
-refusal_fault l len tokens lexical k [] = end_fault l len k lexical
-refusal_fault l len tokens lexical k (x ∷ m) = l.fault_at k (place_from len tokens (length (x ∷ m)))
+abbrev pub refusal_fault : {F : Type 0} → Faults F → ℕ → List Token → Option ℕ → Refusal → List (List ℕ) → F
+refusal_fault faults len tokens lexical k [] = end_fault faults len k lexical
+refusal_fault faults len tokens lexical k (x ∷ m) = faults.of_refusal k (place_from len tokens (length (x ∷ m)))
 
 abbrev pub unless_lexical : {A F : Type 0} → Texts A F → Option ℕ → A → Result A F
 unless_lexical l None a = Ok a
-unless_lexical l (Some at) a = Err (l.lexical at)
+unless_lexical l (Some at) a = Err (l.faults.lexical at)
 
 abbrev pub answer_of : {A F : Type 0} → Texts A F → ℕ → List Token → Option ℕ → Outcome (List ℕ) Refusal A → Result A F
 answer_of l len tokens lexical (Ok p) = unless_lexical l lexical p.0
-answer_of l len tokens lexical (Err e) = Err (refusal_fault l len tokens lexical e.0 e.1)
+answer_of l len tokens lexical (Err e) = Err (refusal_fault l.faults len tokens lexical e.0 e.1)
 
 -- the value of a text, or its fault
 abbrev pub text : {A F : Type 0} → Texts A F → List ℕ → Result A F

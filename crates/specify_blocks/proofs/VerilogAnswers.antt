@@ -1,27 +1,16 @@
 -- A text is modules or has a fault, as the definitions say and as the function of its bytes says.
 use Rattle.std.proofs.Common.{◌≡◌, ℕ, List, [], refl}
 use Rattle.grammar_rules.specs.Rule.{Takes}
-use Rattle.rule_readers.specs.declared.refusal.Refusal.TheVariants as rules
-use Rattle.rule_readers.specs.declared.refusal.Refusal.{Refusal}
 use Rattle.rule_readers.proofs.TextAnswers as answers
 use Rattle.rule_readers.proofs.TextAnswers.{Known}
-use Rattle.udp_tables.specs.VerilogRules.{fault_at}
+use Rattle.udp_tables.proofs.ModelFaultPlaces.{place_of_fault}
 use Rattle.specify_blocks.specs.declared.model.VModule.{VModule}
-use Rattle.specify_blocks.specs.VerilogText.{file, fault_place, language, IsVerilogAnswer, verilog_text}
+use Rattle.specify_blocks.specs.VerilogText.{file, language, IsVerilogAnswer, verilog_text}
 
 -- nothing stands behind a text
 file_ends : (s : List (List ℕ)) (a : List VModule) (r : List (List ℕ)) → Takes file s a r → r ≡ []
 unfolding file
 file_ends s a r (u, m, h, (all, n, i, (e, j, k))) = k
-
-place_of_fault : (k : Refusal) (at : ℕ) → fault_place (fault_at k at) ≡ at
-place_of_fault rules.Syntax at = refl
-place_of_fault rules.TwoEdges at = refl
-place_of_fault rules.Width at = refl
-place_of_fault rules.Undefined at = refl
-place_of_fault rules.Twice at = refl
-place_of_fault rules.Undriven at = refl
-place_of_fault rules.Unequal at = refl
 
 known : Known language
 known = record { place_of_lexical = λ at. refl; place_of_fault = place_of_fault; file_ends = file_ends }

@@ -5,14 +5,14 @@ use Rattle.std.specs.Str.{bytes_eq}
 use Rattle.grammar_rules.specs.Rule as r
 use Rattle.udp_tables.specs.declared.table.Udp.{Udp}
 use Rattle.udp_tables.specs.declared.models.ModelFault.{ModelFault}
-use Rattle.udp_tables.specs.declared.models.ModelFault.TheVariants as fault
 use Rattle.specify_blocks.specs.declared.model.VModule.{VModule}
 use Rattle.verilog_tokens.specs.Tokens.{lexis}
 use Rattle.rule_readers.specs.declared.refusal.Refusal.TheVariants.{Syntax, Undriven}
 use Rattle.rule_readers.specs.Texts.{Texts, IsText, IsFault, text}
 use Rattle.rule_readers.specs.Texts as texts
 use Rattle.rule_readers.specs.Words.{Grammar, ◌>>=◌, begins_by}
-use Rattle.udp_tables.specs.VerilogRules.{fault_at, expect, expect_where, begins, new_name}
+use Rattle.udp_tables.specs.ModelFaults.{model_faults}
+use Rattle.udp_tables.specs.VerilogRules.{expect, expect_where, begins, new_name}
 use Rattle.udp_tables.specs.VerilogPrimitives.{primitive}
 use Rattle.specify_blocks.specs.VerilogModules.{declarations, instances, are_all_driven}
 use Rattle.specify_blocks.specs.VerilogBlocks.{specify}
@@ -99,39 +99,12 @@ file = do
   all ← designs
   r.Last (λ _. Syntax) all.modules
 
--- the offset of a fault
-abbrev pub fault_place : ModelFault → ℕ
-fault_place (fault.Lexical at) = at
-fault_place (fault.Syntax at) = at
-fault_place (fault.TwoEdges at) = at
-fault_place (fault.Width at) = at
-fault_place (fault.Undefined at) = at
-fault_place (fault.Twice at) = at
-fault_place (fault.Undriven at) = at
-fault_place (fault.Unequal at) = at
-fault_place fault.Memory = 0
-
--- the number of a kind of fault, in the order in which they count at one offset
-abbrev pub fault_rank : ModelFault → ℕ
-fault_rank (fault.Lexical at) = 0
-fault_rank (fault.Syntax at) = 1
-fault_rank (fault.TwoEdges at) = 2
-fault_rank (fault.Width at) = 3
-fault_rank (fault.Undefined at) = 4
-fault_rank (fault.Twice at) = 5
-fault_rank (fault.Undriven at) = 6
-fault_rank (fault.Unequal at) = 7
-fault_rank fault.Memory = 8
-
 -- the tokens of Verilog, its grammar and its faults
 abbrev pub language : Texts (List VModule) ModelFault
 language = record {
   lexis = lexis;
   file = file;
-  lexical = fault.Lexical;
-  fault_at = fault_at;
-  fault_place = fault_place;
-  fault_rank = fault_rank;
+  faults = model_faults;
 }
 
 -- the tokens of a text before its lexical fault, by their spelling

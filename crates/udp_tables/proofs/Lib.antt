@@ -17,3 +17,4 @@ pub mod TableLemmas
 pub mod GenerationLemmas
 pub mod RowLemmas
 pub mod SequentialRows
+pub mod ModelFaultPlaces

@@ -9,5 +9,6 @@ pub mod Pairs
 pub mod Conditions
 pub mod CellPrimitives
 pub mod Laws
+pub mod ModelFaults
 pub mod VerilogRules
 pub mod VerilogPrimitives

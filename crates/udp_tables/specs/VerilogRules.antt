@@ -3,24 +3,11 @@
 use Rattle.std.specs.Prelude.{ℕ, Bool, List, Option, drop}
 use Rattle.std.specs.List.{position_from}
 use Rattle.std.specs.Str.{bytes_eq}
-use Rattle.udp_tables.specs.declared.models.ModelFault.{ModelFault}
-use Rattle.udp_tables.specs.declared.models.ModelFault.TheVariants as fault
 use Rattle.grammar_rules.specs.Rule.{Verdict}
 use Rattle.rule_readers.specs.declared.refusal.Refusal.{Refusal}
-use Rattle.rule_readers.specs.declared.refusal.Refusal.TheVariants.{Syntax, TwoEdges, Width, Undefined, Twice, Undriven, Unequal}
 use Rattle.rule_readers.specs.Words.{Grammar}
 use Rattle.rule_readers.specs.Words as words
 use Rattle.verilog_tokens.specs.Tokens.{is_name}
-
--- the fault of a refusal at an offset
-abbrev pub fault_at : Refusal → ℕ → ModelFault
-fault_at Syntax at = fault.Syntax at
-fault_at TwoEdges at = fault.TwoEdges at
-fault_at Width at = fault.Width at
-fault_at Undefined at = fault.Undefined at
-fault_at Twice at = fault.Twice at
-fault_at Undriven at = fault.Undriven at
-fault_at Unequal at = fault.Unequal at
 
 -- a token that must stand here
 abbrev pub expect : List ℕ → Grammar (Unit {0})

@@ -2,55 +2,19 @@
 
 ghost use Rattle.std.specs.Prelude.{◌≡◌, length, IfOk, IfErr, Ok};
 ghost use Rattle.grammar_rules.specs.Reading.{read};
-ghost use Rattle.udp_tables.specs.VerilogRules.{fault_at};
 ghost use Rattle.specify_blocks.specs.VerilogText.{verilog_text, language};
-ghost use Rattle.rule_readers.specs.Texts.{refusal_fault};
 ghost use Rattle.specify_blocks.specs.WellFormed.{AreWellFormed};
 ghost use Rattle.token_spans.specs.Spans.{tokens_of, spelled};
 ghost use Rattle.verilog_reader.specs.File.{IsFaultOf};
 
 use crate::file::{Before, file};
-use rule_readers::{Cursor, Refusal, Stop};
+use rule_readers::{Cursor, Stop};
 use specify_blocks::VModule;
 use std::alloc::Global;
-use token_spans::{Scan, Span, place_of};
+use token_spans::Scan;
 use udp_reader::Verilog;
-use udp_tables::ModelFault;
+use udp_tables::{ModelFault, refusal_fault};
 use verilog_tokens::scan;
-
-/// The fault of a refusal at an offset.
-fn fault_at(refusal: Refusal, at: usize) -> ModelFault
-    ensures { result ≡ fault_at refusal at }
-{
-    match refusal {
-        Refusal::Syntax => ModelFault::Syntax(at),
-        Refusal::TwoEdges => ModelFault::TwoEdges(at),
-        Refusal::Width => ModelFault::Width(at),
-        Refusal::Undefined => ModelFault::Undefined(at),
-        Refusal::Twice => ModelFault::Twice(at),
-        Refusal::Undriven => ModelFault::Undriven(at),
-        Refusal::Unequal => ModelFault::Unequal(at),
-    }
-}
-
-/// The fault of a refusal before so many tokens.
-fn refusal_fault_of(
-    text: &[u8],
-    tokens: &[Span],
-    lexical: Option<usize>,
-    refusal: Refusal,
-    left: &Cursor<'_, Verilog>,
-) -> ModelFault
-    ensures { result ≡ refusal_fault language (length text.now) (tokens_of text.now tokens.now) lexical refusal left.now }
-{
-    if left.left() > 0 {
-        return fault_at(refusal, place_of(text, tokens, left.left()));
-    }
-    match lexical {
-        None => fault_at(refusal, text.len()),
-        Some(at) => ModelFault::Lexical(at),
-    }
-}
 
 /// The modules of a Verilog text, or its first fault.
 #[tactic(auto, unfolding(specify_blocks::specs::VerilogText::verilog_text), using(token_spans::proofs::Spelled::spelled))]
@@ -68,9 +32,7 @@ fn models_of(alloc: Global, text: &[u8]) -> Result<Vec<VModule>, ModelFault>
             Some(at) => Err(ModelFault::Lexical(at)),
         },
         Err(Stop::Memory) => Err(ModelFault::Memory),
-        Err(Stop::Refused(refusal)) => Err(refusal_fault_of(
-            text, &tokens, fault, refusal, &cursor,
-        )),
+        Err(Stop::Refused(refusal)) => Err(refusal_fault(text, &tokens, fault, refusal, &cursor)),
     }
 }
 

@@ -3,8 +3,7 @@
 use Rattle.std.specs.Prelude.{◌≡◌, ◌↔◌, ℕ, nat_eq, Bool, List, [], ◌∷◌, ◌++◌, length, map, Option, Result, Ok, Err, codes}
 use Rattle.grammar_rules.specs.Rule as r
 use Rattle.udp_tables.specs.declared.models.ModelFault.{ModelFault}
-use Rattle.udp_tables.specs.declared.models.ModelFault.TheVariants as fault
-use Rattle.udp_tables.specs.VerilogRules.{fault_at}
+use Rattle.udp_tables.specs.ModelFaults.{model_faults}
 use Rattle.vital_models.specs.declared.table.TruthTable.{TruthTable}
 use Rattle.vital_models.specs.declared.table.VStateTable.{VStateTable}
 use Rattle.vital_models.specs.declared.model.VState.{VState}
@@ -121,39 +120,12 @@ file = do
   entities ← r.Many (λ _. begins (codes "library")) (λ found _. next_entity found) []
   r.Last (λ _. Syntax) entities
 
--- the offset of a fault
-abbrev pub fault_place : ModelFault → ℕ
-fault_place (fault.Lexical at) = at
-fault_place (fault.Syntax at) = at
-fault_place (fault.TwoEdges at) = at
-fault_place (fault.Width at) = at
-fault_place (fault.Undefined at) = at
-fault_place (fault.Twice at) = at
-fault_place (fault.Undriven at) = at
-fault_place (fault.Unequal at) = at
-fault_place fault.Memory = 0
-
--- the number of a kind of fault, in the order in which they count at one offset
-abbrev pub fault_rank : ModelFault → ℕ
-fault_rank (fault.Lexical at) = 0
-fault_rank (fault.Syntax at) = 1
-fault_rank (fault.TwoEdges at) = 2
-fault_rank (fault.Width at) = 3
-fault_rank (fault.Undefined at) = 4
-fault_rank (fault.Twice at) = 5
-fault_rank (fault.Undriven at) = 6
-fault_rank (fault.Unequal at) = 7
-fault_rank fault.Memory = 8
-
 -- the tokens of VHDL, its grammar and its faults
 abbrev pub language : Texts (List VEntity) ModelFault
 language = record {
   lexis = lexis;
   file = file;
-  lexical = fault.Lexical;
-  fault_at = fault_at;
-  fault_place = fault_place;
-  fault_rank = fault_rank;
+  faults = model_faults;
 }
 
 -- the tokens of a text before its lexical fault, by their spelling

@@ -1,6 +1,6 @@
 -- How a scan goes on from one offset to the next.
-use Rattle.std.proofs.Common.{◌≡◌, ℕ, zero, suc, ◌+◌, ◌-◌, ◌≤◌, ◌<◌, Bool, List, [], ◌∷◌, ◌++◌, length, take, drop, get_or, Option, Some, refl, sym, ap, subst, ◌∙◌, arith, add-one, drop-cons, append_assoc}
-use Rattle.std.proofs.lemmas.List.{map-append, append-nil}
+use Rattle.std.proofs.Common.{◌≡◌, ℕ, zero, suc, ◌+◌, ◌-◌, ◌≤◌, ◌<◌, Bool, List, [], ◌∷◌, ◌++◌, length, take, drop, get_or, Option, Some, None, refl, sym, ap, subst, ◌∙◌, arith, add-one, drop-cons, append_assoc}
+use Rattle.std.proofs.lemmas.List.{map-append, append-nil, drop_all}
 use Rattle.token_spans.specs.Tokens.{Token, Lexis, scan, at_front, after}
 use Rattle.token_spans.specs.declared.span.Span.{Span}
 use Rattle.token_spans.specs.Spans.{LieInside, token_of, tokens_of, after_tokens, from_here}
@@ -32,6 +32,14 @@ module _ (l : Lexis) where
   inside text spans t next at h k =
       let e : next - at ≡ suc (next - (at + 1)) = omega arith in
       ap (after_tokens (tokens_of text spans)) (sym (ap (λ (n : ℕ). scan l t at n (drop at text)) e ∙ scan_step t at (next - (at + 1)) text h))
+
+  -- the bytes before the place where the next token may begin are passed over
+  passed : (text : List ℕ) (spans : List Span) (t : Bool) (n at : ℕ) → at + n ≤ length text → from_here l text spans t (at + n) at ≡ from_here l text spans t (at + n) (at + n)
+  passed text spans t zero at h = let e : at ≡ at + 0 = omega arith in ap (from_here l text spans t (at + 0)) e
+  passed text spans t (suc n) at h =
+      let e : at + 1 + n ≡ at + suc n = omega arith in
+      sym (inside text spans t (at + suc n) at (omega (arith, h)) (omega arith))
+      ∙ subst (λ (m : ℕ). from_here l text spans t m (at + 1) ≡ from_here l text spans t m m) e (passed text spans t n (at + 1) (omega (arith, h)))
 
   -- a separator begins
   pub separator : (text : List ℕ) (spans : List Span) (t : Bool) (next at n : ℕ) → at < length text → next ≤ at → 0 < n → n ≡ l.separator_length (drop at text) →
@@ -78,3 +86,31 @@ module _ (l : Lexis) where
       ∙ joined (tokens_of text spans) (token_of text s) r
       ∙ ap (λ (m : ℕ). after_tokens (tokens_of text spans) (after (record { at = at; bytes = take m (drop at text) }) r)) d
       ∙ ap (after_tokens (tokens_of text spans)) (sym (ap (λ (m : ℕ). scan l t at m (drop at text)) a ∙ nothing_of t at text h e (suc n) f))
+
+  -- at the end of the text
+  pub ended : (text : List ℕ) (spans : List Span) (t : Bool) (next at : ℕ) → length text ≤ at → from_here l text spans t next at ≡ (tokens_of text spans, None)
+  ended text spans t next at h =
+      ap (λ (s : List ℕ). after_tokens (tokens_of text spans) (scan l t at (next - at) s)) (drop_all at text h)
+      ∙ ap (λ (ts : List Token). (ts, None)) (append-nil (tokens_of text spans))
+
+  -- behind a separator
+  pub behind_separator : (text : List ℕ) (spans : List Span) (t : Bool) (at n : ℕ) → at + n ≤ length text → 0 < n → n ≡ l.separator_length (drop at text) →
+      from_here l text spans t (at + n) (at + n) ≡ from_here l text spans t at at
+  behind_separator text spans t at zero h z e = absurd (omega arith)
+  behind_separator text spans t at (suc n) h z e =
+      sym (passed text spans t (suc n) at h) ∙ inside_first
+      ∙ separator text spans t at at (suc n) (omega (arith, h)) (omega arith) z e
+    where
+      inside_first : from_here l text spans t (at + suc n) at ≡ from_here l text spans t (at + suc n) (at + 1)
+      inside_first = sym (inside text spans t (at + suc n) at (omega (arith, h)) (omega arith))
+
+  -- behind a token
+  pub behind_token : (text : List ℕ) (spans : List Span) (t : Bool) (at n : ℕ) → at + n ≤ length text → 0 ≡ l.separator_length (drop at text) → n ≡ l.token_length t (drop at text) → 0 < n →
+      from_here l text (spans ++ record { at = at; end = at + n } ∷ []) (l.flag_after t (take n (drop at text))) (at + n) (at + n) ≡ from_here l text spans t at at
+  behind_token text spans t at zero h e f z = absurd (omega arith)
+  behind_token text spans t at (suc n) h e f z =
+      let more : List Span = spans ++ record { at = at; end = at + suc n } ∷ [] in
+      let o : Bool = l.flag_after t (take (suc n) (drop at text)) in
+      sym (passed text more o (suc n) at h)
+      ∙ sym (inside text more o (at + suc n) at (omega (arith, h)) (omega arith))
+      ∙ token text spans t at at (suc n) (omega (arith, h)) (omega arith) e f z

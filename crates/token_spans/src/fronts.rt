@@ -6,6 +6,7 @@ ghost use Rattle.std.specs.Char.{is_ascii_digit};
 ghost use Rattle.token_spans.specs.Tokens as spec;
 
 /// Whether a byte is a space, a tab or a line end.
+#[inline(always)]
 pub fn is_blank(byte: u8) -> bool
     ensures { result ≡ spec.is_blank byte }
 {
@@ -25,13 +26,30 @@ pub fn line_length(bytes: &[u8]) -> usize
     bytes.len()
 }
 
+/// Whether a byte is a letter, a digit or `_`, by one table.
+#[inline(always)]
+fn is_name_byte(byte: u8) -> bool
+    ensures { result ≡ spec.is_name_byte byte }
+{
+    match byte {
+        b'0' | b'1' | b'2' | b'3' | b'4' | b'5' | b'6' | b'7' | b'8' | b'9' => true,
+        b'A' | b'B' | b'C' | b'D' | b'E' | b'F' | b'G' | b'H' | b'I' | b'J' => true,
+        b'K' | b'L' | b'M' | b'N' | b'O' | b'P' | b'Q' | b'R' | b'S' | b'T' => true,
+        b'U' | b'V' | b'W' | b'X' | b'Y' | b'Z' | b'_' => true,
+        b'a' | b'b' | b'c' | b'd' | b'e' | b'f' | b'g' | b'h' | b'i' | b'j' => true,
+        b'k' | b'l' | b'm' | b'n' | b'o' | b'p' | b'q' | b'r' | b's' | b't' => true,
+        b'u' | b'v' | b'w' | b'x' | b'y' | b'z' => true,
+        _ => false,
+    }
+}
+
 /// How many letters, digits and `_` stand at the front of the bytes.
 pub fn name_length(bytes: &[u8]) -> usize
     ensures value { result ≡ prefix_len spec.is_name_byte bytes.now }
     ensures within { result ≤ length bytes.now }
 {
     for (at, byte) in bytes.iter().enumerate() {
-        if !byte.is_ascii_alphanumeric() && *byte != b'_' {
+        if !is_name_byte(*byte) {
             return at;
         }
     }

@@ -1,6 +1,6 @@
 //! What begins at the front of bytes of a Verilog text.
 
-ghost use Rattle.std.specs.Prelude.{◌≡◌, ◌≤◌, length, false, IfSome};
+ghost use Rattle.std.specs.Prelude.{◌≡◌, ◌≤◌, length, false, codes, ◌||◌, IfSome};
 ghost use Rattle.std.specs.List.{prefix_len};
 ghost use Rattle.std.specs.Char.{is_ascii_alphabetic};
 ghost use Rattle.verilog_tokens.specs.Tokens as spec;
@@ -8,6 +8,7 @@ ghost use Rattle.verilog_tokens.specs.Tokens as spec;
 use token_spans::{digits_length, is_blank, line_length, name_length};
 
 /// Whether a byte is a mark of one byte.
+#[inline(always)]
 fn is_mark(byte: u8) -> bool
     ensures { result ≡ spec.is_mark byte }
 {
@@ -15,6 +16,7 @@ fn is_mark(byte: u8) -> bool
 }
 
 /// Whether a byte is a symbol of a table.
+#[inline(always)]
 fn is_symbol(byte: u8) -> bool
     ensures { result ≡ spec.is_symbol byte }
 {
@@ -69,6 +71,7 @@ fn letters_length(bytes: &[u8]) -> usize
 }
 
 /// How many bytes of a separator stand at the front of these: a blank or a comment.
+#[inline(always)]
 pub fn separator_length(bytes: &[u8]) -> usize
     ensures value { result ≡ spec.separator_length bytes.now }
     ensures within { result ≤ length bytes.now }
@@ -78,6 +81,8 @@ pub fn separator_length(bytes: &[u8]) -> usize
     };
     if is_blank(*first) {
         1
+    } else if *first != b'/' {
+        0
     } else if bytes.starts_with(b"//") {
         line_length(bytes)
     } else if bytes.starts_with(b"/*") {
@@ -92,19 +97,30 @@ fn sign_length(bytes: &[u8]) -> usize
     ensures value { result ≡ spec.sign_length bytes.now }
     ensures within { result ≤ length bytes.now }
 {
-    if bytes.starts_with(b"&&&") {
-        3
-    } else if bytes.starts_with(b"=>") {
-        2
-    } else if bytes.starts_with(b"=") {
-        1
-    } else if bytes.starts_with(b"//") || bytes.starts_with(b"/*") {
-        0
-    } else if bytes.starts_with(b"/") {
-        1
-    } else {
-        0
+    match bytes {
+        [b'&', b'&', b'&', ..] => 3,
+        [b'=', b'>', ..] => 2,
+        [b'=', ..] => 1,
+        [b'/', b'/' | b'*', ..] => 0,
+        [b'/', ..] => 1,
+        _ => 0,
     }
+}
+
+/// Whether the time of a unit stands at the front of the bytes.
+#[inline(always)]
+fn begins_unit(bytes: &[u8]) -> bool
+    ensures { result ≡ spec.begins_with bytes.now (codes "1ps") }
+{
+    matches!(bytes, [b'1', b'p', b's', ..])
+}
+
+/// Whether a bit stands at the front of the bytes.
+#[inline(always)]
+fn begins_bit(bytes: &[u8]) -> bool
+    ensures { result ≡ (spec.begins_with bytes.now (codes "1'b0") || spec.begins_with bytes.now (codes "1'b1")) }
+{
+    matches!(bytes, [b'1', b'\'', b'b', b'0' | b'1', ..])
 }
 
 /// How many bytes of a number stand at the front of these.
@@ -112,10 +128,10 @@ fn number_length(bytes: &[u8]) -> usize
     ensures value { result ≡ spec.number_length bytes.now }
     ensures within { result ≤ length bytes.now }
 {
-    if bytes.starts_with(b"1ps") {
+    if begins_unit(bytes) {
         return 3;
     }
-    if bytes.starts_with(b"1'b0") || bytes.starts_with(b"1'b1") {
+    if begins_bit(bytes) {
         return 4;
     }
     let length = digits_length(bytes);
@@ -129,12 +145,29 @@ fn word_length(bytes: &[u8]) -> usize
 {
     match bytes.split_first() {
         None => 0,
-        Some((first, rest)) if b"$`".contains(first) => 1 + letters_length(rest),
+        Some((b'$' | b'`', rest)) => 1 + letters_length(rest),
         Some((_, rest)) => 1 + name_length(rest),
     }
 }
 
+/// Whether a byte begins a word.
+#[inline(always)]
+fn begins_word(byte: u8) -> bool
+    ensures { result ≡ spec.begins_word byte }
+{
+    match byte {
+        b'A' | b'B' | b'C' | b'D' | b'E' | b'F' | b'G' | b'H' | b'I' | b'J' => true,
+        b'K' | b'L' | b'M' | b'N' | b'O' | b'P' | b'Q' | b'R' | b'S' | b'T' => true,
+        b'U' | b'V' | b'W' | b'X' | b'Y' | b'Z' | b'_' => true,
+        b'a' | b'b' | b'c' | b'd' | b'e' | b'f' | b'g' | b'h' | b'i' | b'j' => true,
+        b'k' | b'l' | b'm' | b'n' | b'o' | b'p' | b'q' | b'r' | b's' | b't' => true,
+        b'u' | b'v' | b'w' | b'x' | b'y' | b'z' | b'$' | b'`' => true,
+        _ => false,
+    }
+}
+
 /// How many bytes of the longest token stand at the front of these, in a table or outside. None where no token begins.
+#[inline(always)]
 pub fn token_length(in_table: bool, bytes: &[u8]) -> usize
     ensures value { result ≡ spec.token_length in_table bytes.now }
     ensures within { result ≤ length bytes.now }
@@ -146,7 +179,7 @@ pub fn token_length(in_table: bool, bytes: &[u8]) -> usize
         1
     } else if is_mark(*first) {
         1
-    } else if first.is_ascii_alphabetic() || b"_$`".contains(first) {
+    } else if begins_word(*first) {
         word_length(bytes)
     } else if first.is_ascii_digit() {
         number_length(bytes)

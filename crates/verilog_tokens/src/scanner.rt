@@ -1,6 +1,6 @@
 //! Verilog text to tokens.
 
-ghost use Rattle.std.specs.Prelude.{◌≡◌, ◌+◌, ◌<◌, length, true, false, IfOk, Some};
+ghost use Rattle.std.specs.Prelude.{◌≡◌, ◌+◌, ◌<◌, ◌≤◌, length, true, false, IfOk, Some};
 ghost use Rattle.verilog_tokens.specs.Tokens.{scan_of};
 ghost use Rattle.token_spans.specs.Spans.{LieInside};
 ghost use Rattle.verilog_tokens.specs.Spans.{tokens_of, from_here};
@@ -9,7 +9,7 @@ use crate::fronts::{is_open_after, separator_length, token_length};
 use std::alloc::Global;
 use token_spans::{Memory, Scan, Span};
 
-/// The tokens that were found so far. None begins before the offset `next`.
+/// The tokens that were found so far. All that stands before the offset `next` is read.
 #[derive(Drop)]
 struct Scanner {
     tokens: Vec<Span>,
@@ -18,17 +18,18 @@ struct Scanner {
 }
 
 impl Scanner {
-    /// Goes on with the byte at an offset. False says that neither a separator nor a token begins there.
-    fn step(&mut self, text: &[u8], at: usize) -> Result<bool, Memory>
-        requires here { at < length text.now }
+    /// Goes behind the separator or the token that stands next. False says that neither does.
+    #[inline(always)]
+    fn step(&mut self, text: &[u8]) -> Result<bool, Memory>
+        requires here { self.old.next < length text.now }
         requires inside { LieInside text.now self.old.tokens.items }
-        ensures goes_on { IfOk result (λ good. good ≡ true → from_here text.now self.new.tokens.items self.new.in_table self.new.next (at + 1) ≡ from_here text.now self.old.tokens.items self.old.in_table self.old.next at) }
-        ensures stops { IfOk result (λ good. good ≡ false → from_here text.now self.old.tokens.items self.old.in_table self.old.next at ≡ (tokens_of text.now self.new.tokens.items, Some at)) }
+        ensures goes_on { IfOk result (λ good. good ≡ true → from_here text.now self.new.tokens.items self.new.in_table self.new.next self.new.next ≡ from_here text.now self.old.tokens.items self.old.in_table self.old.next self.old.next) }
+        ensures onwards { IfOk result (λ good. good ≡ true → self.old.next < self.new.next) }
+        ensures within { IfOk result (λ good. self.new.next ≤ length text.now) }
+        ensures stops { IfOk result (λ good. good ≡ false → from_here text.now self.old.tokens.items self.old.in_table self.old.next self.old.next ≡ (tokens_of text.now self.new.tokens.items, Some self.new.next)) }
         ensures inside { IfOk result (λ good. LieInside text.now self.new.tokens.items) }
     {
-        if at < self.next {
-            return Ok(true);
-        }
+        let at = self.next;
         let (_, rest) = text.split_at(at);
         let skipped = separator_length(rest);
         if skipped > 0 {
@@ -39,12 +40,10 @@ impl Scanner {
         if length == 0 {
             return Ok(false);
         }
-        self.tokens.push(Span {
-            at,
-            end: at + length,
-        })?;
+        let end = at + length;
+        self.tokens.push(Span { at, end })?;
         self.in_table = is_open_after(self.in_table, &rest[..length]);
-        self.next = at + length;
+        self.next = end;
         Ok(true)
     }
 }
@@ -60,11 +59,11 @@ pub fn scan(alloc: Global, text: &[u8]) -> Result<Scan, Memory>
         in_table: false,
         next: 0,
     };
-    for at in 0..text.len() {
-        if !scanner.step(text, at)? {
+    while scanner.next < text.len() {
+        if !scanner.step(text)? {
             return Ok(Scan {
                 tokens: scanner.tokens,
-                fault: Some(at),
+                fault: Some(scanner.next),
             });
         }
     }

@@ -1,7 +1,8 @@
 -- How the keys of an index set are seen as a list of names.
-use Rattle.std.proofs.Common.{◌≡◌, ℕ, suc, ◌+◌, ◌<◌, Bool, true, false, not, cond, ◌||◌, nat_lt, List, [], ◌∷◌, ◌++◌, map, length, position, None, Some, refl, ap, ◌∙◌, arith}
+use Rattle.std.proofs.Common.{◌≡◌, ℕ, suc, ◌+◌, ◌<◌, Bool, true, false, not, cond, ◌||◌, nat_lt, List, [], ◌∷◌, ◌++◌, map, length, position, None, Some, refl, sym, ap, ◌∙◌, arith, bytes_eq, if◌then◌else◌}
 use Rattle.std.proofs.lemmas.List.{length-map}
 use Rattle.std.proofs.lemmas.Bool.Decides.{nat_tests}
+use Rattle.bool_functions.specs.NameList.{Adds}
 use Rattle.std.specs.List.{IsDistinct, AllByRecursion, position_or_len, prefix_len, list_any}
 
 pub prefix_len-map : {X Y : Type 0} (f : X → Y) (p : Y → Bool) (xs : List X) → prefix_len p (map f xs) ≡ prefix_len (λ x. p (f x)) xs
@@ -60,3 +61,43 @@ IsDistinct-map f e (x ∷ xs) h = (AllByRecursion-map f (λ y. e (f x) y ≡ fal
 pub map-push : {X Y : Type 0} (f : X → Y) (xs : List X) (x : X) → map f (xs ++ x ∷ []) ≡ map f xs ++ f x ∷ []
 map-push f [] x = refl
 map-push f (y ∷ xs) x = ap (λ ys. f y ∷ ys) (map-push f xs x)
+
+told_absent : (b is_new : Bool) → is_new ≡ not b → is_new ≡ true → b ≡ false
+told_absent true is_new e t = absurd cc
+told_absent false is_new e t = refl
+
+told_present : (b is_new : Bool) → is_new ≡ not b → is_new ≡ false → b ≡ true
+told_present true is_new e t = refl
+told_present false is_new e t = absurd cc
+
+-- whether a name is among the names is whether its key is among the keys
+among : {X : Type 0} (f : X → List ℕ) (keys : List X) (x : X) (names : List (List ℕ)) (name : List ℕ) → map f keys ≡ names → f x ≡ name
+    → list_any (bytes_eq name) names ≡ list_any (λ k. bytes_eq (f x) (f k)) keys
+among f keys x names name p q =
+    sym (ap (list_any (bytes_eq name)) p)
+    ∙ list_any-map f (bytes_eq name) keys
+    ∙ ap (λ bytes. list_any (λ k. bytes_eq bytes (f k)) keys) (sym q)
+
+-- a key that is new is the last one
+pub adds_new : {X : Type 0} (f : X → List ℕ) (keys new : List X) (x : X) (names : List (List ℕ)) (name : List ℕ) (number : ℕ) (is_new : Bool) → map f keys ≡ names
+    → f x ≡ name → number ≡ length keys → new ≡ (if list_any (λ k. bytes_eq (f x) (f k)) keys then keys else keys ++ x ∷ [])
+    → is_new ≡ not (list_any (λ k. bytes_eq (f x) (f k)) keys) → is_new ≡ true → Adds names name (Some number) (map f new)
+adds_new f keys new x names name number is_new p q n e is t =
+    let absent = told_absent (list_any (λ k. bytes_eq (f x) (f k)) keys) is_new is t in (
+      position-none (bytes_eq name) names (among f keys x names name p q ∙ absent),
+      n ∙ sym (length-map keys f) ∙ ap length p,
+      ap (map f) (e ∙ ap (λ b. if b then keys else (keys ++ x ∷ [])) absent)
+          ∙ map-push f keys x
+          ∙ ap (λ bytes. map f keys ++ bytes ∷ []) q
+          ∙ ap (λ ns. ns ++ name ∷ []) p,
+    )
+
+-- one that is there stays where it is
+pub adds_none : {X : Type 0} (f : X → List ℕ) (keys new : List X) (x : X) (names : List (List ℕ)) (name : List ℕ) (is_new : Bool) → map f keys ≡ names
+    → f x ≡ name → new ≡ (if list_any (λ k. bytes_eq (f x) (f k)) keys then keys else keys ++ x ∷ [])
+    → is_new ≡ not (list_any (λ k. bytes_eq (f x) (f k)) keys) → is_new ≡ false → Adds names name None (map f new)
+adds_none f keys new x names name is_new p q e is t =
+    let present = told_present (list_any (λ k. bytes_eq (f x) (f k)) keys) is_new is t in (
+      position-some (bytes_eq name) names (among f keys x names name p q ∙ present),
+      ap (map f) (e ∙ ap (λ b. if b then keys else (keys ++ x ∷ [])) present) ∙ p,
+    )

@@ -7,13 +7,14 @@ ghost use Rattle.bool_functions.specs.SameTrees.{same_tree};
 ghost use Rattle.bool_functions.specs.Point.{IsTable, HasValues};
 ghost use Rattle.bool_functions.specs.declared.tree.Node.{Node};
 ghost use Rattle.bool_functions.specs.declared.tree.Node.TheVariants as tree;
+ghost use Rattle.bool_functions.specs.declared.functions.Form.TheVariants as form;
 ghost use Rattle.bool_functions.specs.Code.{is_long};
 
 use crate::blocks::table;
 use crate::faults::Memory;
 use crate::keys::key;
-use crate::lines::Line;
-use crate::tree::{Node, has, renamed, room, same, support, value};
+use crate::postfix::Postfix;
+use crate::tree::{Node, copied, has, renamed, room, same, support, value};
 use std::alloc::Global;
 use std::marker::Model;
 
@@ -24,7 +25,33 @@ const LONG: usize = 16;
 #[derive(Debug, Drop)]
 enum Form {
     Short(Node),
-    Long(Line),
+    Long(Postfix),
+}
+
+impl Form {
+    /// A tree of its own, held as this one is.
+    fn copied(&self, alloc: Global) -> Result<Form, Memory>
+        ensures { IfOk result (λ f. f ≡ self.now) }
+    {
+        match self {
+            Form::Short(node) => Form::short_copied(alloc, node),
+            Form::Long(codes) => Form::long_copied(alloc, codes),
+        }
+    }
+
+    /// A short tree of its own.
+    fn short_copied(alloc: Global, node: &Node) -> Result<Form, Memory>
+        ensures { IfOk result (λ f. f ≡ form.Short node.now) }
+    {
+        Ok(Form::Short(copied(node, alloc)?))
+    }
+
+    /// A long tree of its own.
+    fn long_copied(alloc: Global, codes: &Postfix) -> Result<Form, Memory>
+        ensures { IfOk result (λ f. f ≡ form.Long codes.now) }
+    {
+        Ok(Form::Long(codes.copied(alloc)?))
+    }
 }
 
 /// A function of numbered names, which contracts see as its tree.
@@ -74,9 +101,9 @@ impl Function {
         if room(&node, LONG) > 0 {
             return Ok(Function::short(node));
         }
-        match Line::new(alloc, &node)? {
-            Some(line) => Ok(Function {
-                form: Form::Long(line),
+        match Postfix::new(alloc, &node)? {
+            Some(codes) => Ok(Function {
+                form: Form::Long(codes),
                 key: key(&node),
             }),
             None => Ok(Function::short(node)),
@@ -97,7 +124,7 @@ impl Function {
     {
         match &self.form {
             Form::Short(node) => value(node, bits),
-            Form::Long(line) => line.value(bits),
+            Form::Long(codes) => codes.value(bits),
         }
     }
 
@@ -111,7 +138,7 @@ impl Function {
         }
         match (&self.form, &other.form) {
             (Form::Short(node), Form::Short(other)) => same(node, other),
-            (Form::Long(line), Form::Long(other)) => line.same(other),
+            (Form::Long(codes), Form::Long(other)) => codes.same(other),
             _ => false,
         }
     }
@@ -122,8 +149,19 @@ impl Function {
     {
         match &self.form {
             Form::Short(node) => has(node, i),
-            Form::Long(line) => line.has(i),
+            Form::Long(codes) => codes.has(i),
         }
+    }
+
+    /// The same tree in a function of its own. `Memory` comes only where memory is wanting.
+    pub fn copied(&self, alloc: Global) -> Result<Function, Memory>
+        ensures { IfOk result (λ f. f ≡ self.now) }
+    {
+        let form = self.form.copied(alloc)?;
+        Ok(Function {
+            form,
+            key: self.key,
+        })
     }
 
     /// The tree in which `to[i]` stands for each name `i`. Needs an entry for each name. `Memory` comes only where
@@ -134,7 +172,7 @@ impl Function {
     {
         let node = match &self.form {
             Form::Short(node) => renamed(node, alloc, to)?,
-            Form::Long(line) => line.renamed(alloc, to)?,
+            Form::Long(codes) => codes.renamed(alloc, to)?,
         };
         Function::new(alloc, node)
     }
@@ -147,7 +185,7 @@ impl Function {
     {
         match &self.form {
             Form::Short(node) => support(node, alloc),
-            Form::Long(line) => line.support(alloc),
+            Form::Long(codes) => codes.support(alloc),
         }
     }
 
@@ -163,7 +201,7 @@ impl Function {
     {
         match &self.form {
             Form::Short(node) => table(node, alloc, places),
-            Form::Long(line) => line.table(alloc, places),
+            Form::Long(codes) => codes.table(alloc, places),
         }
     }
 }

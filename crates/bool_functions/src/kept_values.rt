@@ -3,6 +3,7 @@ ghost use Rattle.std.specs.Prelude.{◌≡◌, ◌≤◌, ◌<◌, ◌^◌, ◌�
 ghost use Rattle.bool_functions.specs.declared.tree.Node.{Node};
 ghost use Rattle.bool_functions.specs.Tree.{value_of};
 ghost use Rattle.bool_functions.specs.Point.{number, bits_at, HasValues};
+ghost use Rattle.bool_functions.specs.Kept.{AreOfTree};
 
 use crate::blocks::table;
 use crate::faults::Memory;
@@ -22,8 +23,6 @@ pub(crate) struct KeptValues {
 }
 
 impl KeptValues {
-    ghost use Rattle.bool_functions.specs.Kept.{AreOfTree};
-
     /// The values of a tree, where it names few names.
     pub(crate) fn of(alloc: Global, node: &Node) -> Result<Option<KeptValues>, Memory>
         ensures { IfOk result (AreOfTree node.now) }
@@ -43,8 +42,18 @@ impl KeptValues {
         self.names.as_slice() == places
     }
 
+    /// The same names and values in lists of their own.
+    fn copied(&self, alloc: Global) -> Result<KeptValues, Memory>
+        ensures names { IfOk result (λ k. k.names.items ≡ self.now.names.items) }
+        ensures values { IfOk result (λ k. k.values.items ≡ self.now.values.items) }
+    {
+        let names = Vec::from_slice(alloc, self.names.as_slice())?;
+        let values = Vec::from_slice(alloc, self.values.as_slice())?;
+        Ok(KeptValues { names, values })
+    }
+
     /// The values in a list of their own.
-    pub(crate) fn copied(&self, alloc: Global) -> Result<Vec<bool>, Memory>
+    pub(crate) fn list(&self, alloc: Global) -> Result<Vec<bool>, Memory>
         ensures { IfOk result (λ v. v.items ≡ self.now.values.items) }
     {
         Ok(Vec::from_slice(alloc, self.values.as_slice())?)
@@ -59,6 +68,16 @@ impl KeptValues {
             Some(value) => *value,
             None => false,
         }
+    }
+}
+
+/// Kept values in lists of their own, where there are any.
+pub(crate) fn copied(kept: &Option<KeptValues>, alloc: Global) -> Result<Option<KeptValues>, Memory>
+    ensures { (f : Node) → AreOfTree f kept.now → IfOk result (AreOfTree f) }
+{
+    match kept {
+        Some(kept) => Ok(Some(kept.copied(alloc)?)),
+        None => Ok(None),
     }
 }
 

@@ -1,11 +1,14 @@
 //! An ordered list of distinct names.
-ghost use Rattle.std.specs.Prelude.{◌≡◌, [], ◌∷◌, ◌++◌, ◌<◌, length, slice_get, IfOk, OnErr};
+ghost use Rattle.std.specs.Prelude.{◌≡◌, [], ◌∷◌, ◌++◌, ◌<◌, length, slice_get, position, bytes_eq, IfOk, OnErr};
 ghost use Rattle.bool_functions.specs.NameList.{number_of, Adds, AreDistinct};
 
 use crate::faults::Memory;
 use indexmap::IndexSet;
 use std::alloc::Global;
 use std::marker::Model;
+
+/// The most names that are compared one by one, which takes less time than a look-up by a hash.
+const FEW: usize = 16;
 
 /// Distinct names, numbered from 0 in the order in which they were added. Contracts see the list of their bytes. The
 /// list keeps its allocator.
@@ -59,6 +62,10 @@ impl Names {
     pub fn number(&self, name: &[u8]) -> Option<usize>
         ensures { result ≡ number_of self.now name.now }
     {
+        let names = self.set.as_slice();
+        if names.len() <= FEW {
+            return compared(names, name);
+        }
         self.set.get_index_of(name)
     }
 
@@ -69,12 +76,19 @@ impl Names {
         ensures err { OnErr result (self.new ≡ self.old) }
         ensures distinct { AreDistinct self.new }
     {
-        if self.set.contains(name) {
-            return Ok(None);
-        }
         let number = self.set.len();
         let kept = Vec::from_slice(self.alloc, name)?;
-        self.set.insert(kept)?;
-        Ok(Some(number))
+        let is_new = self.set.insert(kept)?;
+        if is_new {
+            return Ok(Some(number));
+        }
+        Ok(None)
     }
+}
+
+/// The place of a name among kept ones, which are compared one by one.
+fn compared(names: &[Vec<u8>], name: &[u8]) -> Option<usize>
+    ensures { result ≡ position (λ kept. bytes_eq name.now kept.items) names.now }
+{
+    names.iter().position(|kept| name == kept.as_slice())
 }

@@ -72,6 +72,30 @@ pub(crate) fn has(node: &Node, i: usize) -> bool
     }
 }
 
+/// The same tree in boxes of its own.
+pub(crate) fn copied(node: &Node, alloc: Global) -> Result<Node, AllocError>
+    ensures { IfOk result (λ f. f ≡ node.now) }
+{
+    Ok(match node {
+        Node::Zero => Node::Zero,
+        Node::One => Node::One,
+        Node::Name(i) => Node::Name(*i),
+        Node::Not(part) => Node::Not(Boxed::new(alloc, copied(part.get(), alloc)?)?),
+        Node::Xor(left, right) => Node::Xor(
+            Boxed::new(alloc, copied(left.get(), alloc)?)?,
+            Boxed::new(alloc, copied(right.get(), alloc)?)?,
+        ),
+        Node::And(left, right) => Node::And(
+            Boxed::new(alloc, copied(left.get(), alloc)?)?,
+            Boxed::new(alloc, copied(right.get(), alloc)?)?,
+        ),
+        Node::Or(left, right) => Node::Or(
+            Boxed::new(alloc, copied(left.get(), alloc)?)?,
+            Boxed::new(alloc, copied(right.get(), alloc)?)?,
+        ),
+    })
+}
+
 /// A copy of a tree with other numbers for its names.
 pub(crate) fn renamed(node: &Node, alloc: Global, to: &[usize]) -> Result<Node, AllocError>
     requires { name_bound node.now ≤ length to.now }

@@ -20,7 +20,7 @@ returns-in-Short-Short-clause-test c =
 
 pub returns-in-Long-Long-clause-test : goal.returns-in-Long-Long-clause-test
 returns-in-Long-Long-clause-test c =
-    told_same c.same-in-Long-Long.result c.in-Long-Long.line c.in-Long-Long.other c.same-in-Long-Long.ensures
+    told_same c.same-in-Long-Long.result c.in-Long-Long.codes c.in-Long-Long.other c.same-in-Long-Long.ensures
     ∙ ap (λ f. same_tree f c.in-Long-Long.other) (ap shown (sym c.in-Long-Long.is-0) ∙ c.self.view_is)
     ∙ ap (same_tree c.args.self.now) (ap shown (sym c.in-Long-Long.is-1) ∙ c.other.view_is)
 

@@ -20,12 +20,12 @@ returns-in-Short-clause-values c =
 pub returns-in-Long-clause-points : goal.returns-in-Long-clause-points
 returns-in-Long-clause-points c =
     let points = subst (λ f. IfOk c.table-in-Long.result (λ v. IsTable c.args.places.now f v.items)) (ap shown (sym c.in-Long.is) ∙ c.self.view_is)
-    (IfOk-both _ _ _ (λ v len each. entries_points c.args.places.now c.in-Long.line v.items len each) c.table-in-Long.result c.table-in-Long.ensures.len c.table-in-Long.ensures.entries) in
+    (IfOk-both _ _ _ (λ v len each. entries_points c.args.places.now c.in-Long.codes v.items len each) c.table-in-Long.result c.table-in-Long.ensures.len c.table-in-Long.ensures.entries) in
     points
 
 pub returns-in-Long-clause-values : goal.returns-in-Long-clause-values
 returns-in-Long-clause-values c =
     let points = subst (λ f. IfOk c.table-in-Long.result (λ v. IsTable c.args.places.now f v.items)) (ap shown (sym c.in-Long.is) ∙ c.self.view_is)
-    (IfOk-both _ _ _ (λ v len each. entries_points c.args.places.now c.in-Long.line v.items len each) c.table-in-Long.result c.table-in-Long.ensures.len c.table-in-Long.ensures.entries) in
+    (IfOk-both _ _ _ (λ v len each. entries_points c.args.places.now c.in-Long.codes v.items len each) c.table-in-Long.result c.table-in-Long.ensures.len c.table-in-Long.ensures.entries) in
     IfOk-both _ _ (λ v. HasValues c.args.places.now c.args.self.now v.items)
     (λ v at _. points_values c.args.places.now c.args.self.now v.items c.requires.inside at) c.table-in-Long.result points points

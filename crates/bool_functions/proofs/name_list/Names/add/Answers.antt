@@ -1,42 +1,26 @@
-use Rattle.std.proofs.Common.{if◌then◌else◌, ◌≡◌, ◌∙◌, sym, ap, refl, bytes_eq, ◌++◌, ◌∷◌, [], length, map, false}
-use Rattle.std.specs.List.{list_any}
+use Rattle.std.proofs.Common.{bytes_eq}
 use Rattle.bool_functions.specs.NameBytes.{bytes_of}
-use Rattle.bool_functions.specs.NameList.{number_of}
-use Rattle.bool_functions.proofs.NameLists.{IsDistinct-map, list_any-map, position-none, position-some, map-push}
-use Rattle.std.proofs.lemmas.List.{length-map}
+use Rattle.bool_functions.proofs.NameLists.{IsDistinct-map, adds_new, adds_none}
 use Rattle.bool_functions.proofs.name_list.Names.add.Goals as goal
-use Rattle.bool_functions.proofs.name_list.Names.add.Goals.{In_ok-insert}
 
-pub returns-then-contains-clause-added : goal.returns-then-contains-clause-added
-returns-then-contains-clause-added c = (
-  position-some (bytes_eq c.args.name.now) c.args.self.now
-      (sym (ap (list_any (bytes_eq c.args.name.now)) c.self.view_is) ∙ list_any-map bytes_of (bytes_eq c.args.name.now) c.self.inside.set.keys ∙ sym c.contains.ensures ∙ c.if-contains.true),
-  refl,
-)
+pub returns-then-is_new-clause-added : goal.returns-then-is_new-clause-added
+returns-then-is_new-clause-added c =
+    adds_new bytes_of c.self.inside.set.keys c.insert.new.self.keys c.in_ok-kept.kept c.args.self.now c.args.name.now c.len-number.result c.in_ok-is_new.is_new
+    c.self.view_is c.in_ok-kept.ensures.items c.len-number.ensures.len c.in_ok-is_new.ensures.keys c.in_ok-is_new.ensures.added c.if-is_new.true
+
+pub returns-clause-added : goal.returns-clause-added
+returns-clause-added c =
+    adds_none bytes_of c.self.inside.set.keys c.insert.new.self.keys c.in_ok-kept.kept c.args.self.now c.args.name.now c.in_ok-is_new.is_new
+    c.self.view_is c.in_ok-kept.ensures.items c.in_ok-is_new.ensures.keys c.in_ok-is_new.ensures.added c.if-is_new.false
 
 pub invariant_of-self-2 : goal.invariant_of-self-2
 invariant_of-self-2 c = IsDistinct-map bytes_of bytes_eq _ c.insert.ensures.unique
 
--- what is absent from the keys has no number
-absent : (c : In_ok-insert) → list_any (bytes_eq c.args.name.now) (map bytes_of c.self.inside.set.keys) ≡ false
-absent c = list_any-map bytes_of (bytes_eq c.args.name.now) c.self.inside.set.keys ∙ sym c.contains.ensures ∙ c.if-contains.false
-
--- the new keys are the old ones with the name after them
-grown : (c : In_ok-insert) → c.insert.new.self.keys ≡ c.self.inside.set.keys ++ c.in_ok-kept.kept ∷ []
-grown c =
-    c.in_ok-insert.ensures.keys
-    ∙ ap (λ b. if b then c.self.inside.set.keys else (c.self.inside.set.keys ++ c.in_ok-kept.kept ∷ []))
-    (ap (λ bytes. list_any (λ k. bytes_eq bytes k.items) c.self.inside.set.keys) c.in_ok-kept.ensures.items
-    ∙ sym (list_any-map bytes_of (bytes_eq c.args.name.now) c.self.inside.set.keys) ∙ absent c)
-
-pub returns-clause-added : goal.returns-clause-added
-returns-clause-added c = (
-  ap (λ names. number_of names c.args.name.now) (sym c.self.view_is) ∙ position-none (bytes_eq c.args.name.now) _ (absent c),
-  c.len-number.ensures.len ∙ sym (length-map c.self.inside.set.keys bytes_of) ∙ ap length c.self.view_is,
-  ap (map bytes_of) (grown c) ∙ map-push bytes_of c.self.inside.set.keys c.in_ok-kept.kept
-      ∙ ap (λ bytes. map bytes_of c.self.inside.set.keys ++ bytes ∷ []) c.in_ok-kept.ensures.items
-      ∙ ap (λ names. names ++ c.args.name.now ∷ []) c.self.view_is,
-)
-
 pub returns-clause-distinct : goal.returns-clause-distinct
 returns-clause-distinct c = IsDistinct-map bytes_of bytes_eq _ c.insert.ensures.unique
+
+pub invariant_of-self-then-is_new : goal.invariant_of-self-then-is_new
+invariant_of-self-then-is_new c = IsDistinct-map bytes_of bytes_eq _ c.insert.ensures.unique
+
+pub returns-then-is_new-clause-distinct : goal.returns-then-is_new-clause-distinct
+returns-then-is_new-clause-distinct c = IsDistinct-map bytes_of bytes_eq _ c.insert.ensures.unique

@@ -1,7 +1,7 @@
 use Rattle.std.proofs.Common.{◌∙◌, ap}
 use Rattle.bool_functions.specs.Code.{same_codes}
 use Rattle.bool_functions.proofs.CodeLists.{same_lines}
-use Rattle.bool_functions.proofs.lines.Line.same.Goals as goal
+use Rattle.bool_functions.proofs.postfix.Postfix.same.Goals as goal
 
 pub returns : goal.returns
 returns c =

@@ -1,4 +1,4 @@
-//! The tree of a long function, held as its codes.
+//! The tree of a long function, held as its codes, of which an operator's stands behind those of its parts.
 ghost use Rattle.std.specs.Prelude.{◌≡◌, ◌≤◌, ◌^◌, ◌↔◌, ℕ, false, true, Some, IsTrue, IfOk, MatchOption, EachIndex, length, slice_get};
 ghost use Rattle.bool_functions.specs.Tree.{value_of, value_by, name_bound, renamed_by, Has};
 ghost use Rattle.bool_functions.specs.Point.{entry_of};
@@ -8,19 +8,19 @@ ghost use Rattle.bool_functions.specs.Code.{fits};
 use crate::blocks::table;
 use crate::codes::{Code, add_codes, has, same, support, tree, value};
 use crate::faults::Memory;
-use crate::kept_values::KeptValues;
+use crate::kept_values::{KeptValues, copied};
 use crate::tree::{Node, renamed};
 use std::alloc::{AllocError, Global};
 use std::marker::Model;
 
 /// A tree as its codes, with its values where it names few names. Contracts see the tree.
 #[derive(Debug, Drop)]
-pub(crate) struct Line {
+pub(crate) struct Postfix {
     spelled: Vec<Code>,
     kept: Option<KeptValues>,
 }
 
-impl Model for Line {
+impl Model for Postfix {
     ghost use Rattle.std.specs.Prelude.{◌≡◌};
     ghost use Rattle.bool_functions.specs.declared.tree.Node.{Node};
     ghost use Rattle.bool_functions.specs.Code.{codes_of, tree_of};
@@ -38,10 +38,10 @@ impl Model for Line {
     ghost invariant = { λ l. (l.spelled.items ≡ codes_of (tree_of l.spelled.items)) × AreOfTree (tree_of l.spelled.items) l.kept };
 }
 
-impl Line {
+impl Postfix {
     /// A tree as its codes, where they have room for its numbers.
-    pub(crate) fn new(alloc: Global, node: &Node) -> Result<Option<Line>, Memory>
-        ensures { IfOk result (λ line. MatchOption line (fits node.now ≡ false) (λ l. (l ≡ node.now) × (fits node.now ≡ true))) }
+    pub(crate) fn new(alloc: Global, node: &Node) -> Result<Option<Postfix>, Memory>
+        ensures { IfOk result (λ codes. MatchOption codes (fits node.now ≡ false) (λ c. (c ≡ node.now) × (fits node.now ≡ true))) }
     {
         let mut spelled = Vec::new(alloc);
         if !add_codes(node, &mut spelled)? {
@@ -49,7 +49,16 @@ impl Line {
         }
         spelled.shrink_to_fit();
         let kept = KeptValues::of(alloc, node)?;
-        Ok(Some(Line { spelled, kept }))
+        Ok(Some(Postfix { spelled, kept }))
+    }
+
+    /// The same codes and values in lists of their own.
+    pub(crate) fn copied(&self, alloc: Global) -> Result<Postfix, Memory>
+        ensures { IfOk result (λ f. f ≡ self.now) }
+    {
+        let spelled = Vec::from_slice(alloc, self.spelled.as_slice())?;
+        let kept = copied(&self.kept, alloc)?;
+        Ok(Postfix { spelled, kept })
     }
 
     /// The tree itself.
@@ -76,7 +85,7 @@ impl Line {
     {
         if let Some(kept) = &self.kept {
             if kept.are_over(places) {
-                return kept.copied(alloc);
+                return kept.list(alloc);
             }
         }
         let node = self.tree(alloc)?;
@@ -94,7 +103,7 @@ impl Line {
     }
 
     /// Whether the two trees are equal.
-    pub(crate) fn same(&self, other: &Line) -> bool
+    pub(crate) fn same(&self, other: &Postfix) -> bool
         ensures { IsTrue result ↔ (self.now ≡ other.now) }
     {
         same(self.spelled.as_slice(), other.spelled.as_slice())

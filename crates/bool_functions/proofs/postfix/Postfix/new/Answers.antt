@@ -2,7 +2,7 @@ use Rattle.std.proofs.Common.{◌∙◌, ap, sym, subst}
 use Rattle.bool_functions.specs.Code.{codes_of, tree_of}
 use Rattle.bool_functions.specs.Kept.{AreOfTree}
 use Rattle.bool_functions.proofs.CodeLists.{codes_made, tree_of_codes}
-use Rattle.bool_functions.proofs.lines.Line.new.Goals as goal
+use Rattle.bool_functions.proofs.postfix.Postfix.new.Goals as goal
 
 pub invariant_of-result : goal.invariant_of-result
 invariant_of-result c =

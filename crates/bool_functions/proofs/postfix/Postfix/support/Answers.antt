@@ -2,7 +2,7 @@ use Rattle.std.proofs.Common.{◌≡◌, ◌∙◌, [], ap, subst, IfOk}
 use Rattle.bool_functions.specs.Support.{insert_all}
 use Rattle.bool_functions.specs.Code.{code_names}
 use Rattle.bool_functions.proofs.CodeLists.{line_names}
-use Rattle.bool_functions.proofs.lines.Line.support.Goals as goal
+use Rattle.bool_functions.proofs.postfix.Postfix.support.Goals as goal
 
 pub returns : goal.returns
 returns c =

@@ -4,7 +4,7 @@ use Rattle.bool_functions.specs.Tree.{names_of, Has}
 use Rattle.bool_functions.specs.Code.{is_name_code}
 use Rattle.bool_functions.proofs.Elements.{contains_by_test}
 use Rattle.bool_functions.proofs.CodeLists.{any_name, line_names}
-use Rattle.bool_functions.proofs.lines.Line.has.Goals as goal
+use Rattle.bool_functions.proofs.postfix.Postfix.has.Goals as goal
 
 pub returns : goal.returns
 returns c =

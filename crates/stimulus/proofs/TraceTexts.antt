@@ -29,18 +29,24 @@ outputs_at names values delays place name value delay h lv ld n v d =
 pub grown : (text more piece rest all whole : List ℕ) → more ≡ text ++ piece → all ≡ piece ++ rest → text ++ all ≡ whole → more ++ rest ≡ whole
 grown text more piece rest all whole e s h = ap (λ t. t ++ rest) e ∙ append_assoc text piece rest ∙ ap (λ t. text ++ t) (sym s) ∙ h
 
--- a line, from its parts
-pub put_together : (tag : ℕ) (change : Option Change) (inputs outputs : List (List ℕ)) (line : Line) (t1 t2 t3 t4 t5 : List ℕ)
-    → t1 ≡ tag ∷ []
+-- a text with a line behind it, from the line's parts
+pub put_together : (text : List ℕ) (tag : ℕ) (change : Option Change) (inputs outputs : List (List ℕ)) (line : Line) (t1 t2 t3 t4 t5 : List ℕ)
+    → t1 ≡ text ++ tag ∷ []
     → t2 ≡ t1 ++ head_text inputs change
     → t3 ≡ t2 ++ outputs_text outputs line.values line.delays
     → t4 ≡ t3 ++ reports_text 1 line.reports
     → t5 ≡ t4 ++ 10 ∷ []
-    → t5 ≡ line_text tag change inputs outputs line
+    → t5 ≡ text ++ line_text tag change inputs outputs line
 unfolding line_text
-put_together tag change inputs outputs line t1 t2 t3 t4 t5 e1 e2 e3 e4 e5 =
+put_together text tag change inputs outputs line t1 t2 t3 t4 t5 e1 e2 e3 e4 e5 =
     let a : List ℕ = head_text inputs change in
     let b : List ℕ = outputs_text outputs line.values line.delays in
     let c : List ℕ = reports_text 1 line.reports in
+    let d : List ℕ = tag ∷ [] in
     e5 ∙ ap (λ t. t ++ 10 ∷ []) (e4 ∙ ap (λ t. t ++ c) (e3 ∙ ap (λ t. t ++ b) (e2 ∙ ap (λ t. t ++ a) e1)))
-    ∙ append_assoc (((tag ∷ []) ++ a) ++ b) c (10 ∷ []) ∙ append_assoc ((tag ∷ []) ++ a) b (c ++ 10 ∷ []) ∙ append_assoc (tag ∷ []) a (b ++ (c ++ 10 ∷ []))
+    ∙ append_assoc (((text ++ d) ++ a) ++ b) c (10 ∷ []) ∙ append_assoc ((text ++ d) ++ a) b (c ++ 10 ∷ []) ∙ append_assoc (text ++ d) a (b ++ (c ++ 10 ∷ []))
+    ∙ append_assoc text d (a ++ (b ++ (c ++ 10 ∷ [])))
+
+-- a text that was empty is what was put behind it
+pub alone : (old line new : List ℕ) → old ≡ [] → new ≡ old ++ line → new ≡ line
+alone old line new empty e = e ∙ ap (λ t. t ++ line) empty

@@ -22,4 +22,4 @@ pub use laws::{causes_name_answers, ports_are_inputs, sections_are_proper};
 pub use ports::{PortCatalog, Ports, Standing};
 pub use read::read_stimulus;
 pub use sections::Section;
-pub use trace::trace_line;
+pub use trace::{append_trace_line, trace_line};

@@ -11,6 +11,9 @@ use itoa::Buffer;
 use std::alloc::Global;
 use trit_cubes::Trit;
 
+/// How many bytes a text is given room for ahead of a line: most lines are shorter.
+const ROOM: usize = 64;
+
 /// The line of a trace that a simulator shows after its last change, with the line feed at its end: the tag; `start` or
 /// the change's time in picoseconds, input and value; each output's value, with its delay in picoseconds where it changed
 /// at this change; and the checks that reported, numbered from 1.
@@ -29,13 +32,33 @@ pub fn trace_line<S: CellSim>(
     requires pin { IfSome change (λ change. change.now.pin < (S.machine sim.now).inputs) }
     ensures { IfOk result (λ text. (h : List ChangeOf) → S.stands sim.now h → text.items ≡ line_text tag (option_copied change.entry) inputs.now outputs.now ((S.machine sim.now).line h)) }
 {
-    let mut text = Vec::with_capacity(alloc, 64)?;
-    text.push(tag)?;
-    push_head(&mut text, change, inputs)?;
-    push_outputs(&mut text, outputs, sim)?;
-    push_reports(&mut text, sim)?;
-    text.push(b'\n')?;
+    let mut text = Vec::new(alloc);
+    append_trace_line(&mut text, tag, change, inputs, outputs, sim)?;
     Ok(text)
+}
+
+/// Appends the line that `trace_line` answers to a text. It takes memory only where the text's room does not suffice, so a
+/// text that is cleared after each line takes none for most of them. Without memory a part of the line may be appended.
+pub fn append_trace_line<S: CellSim>(
+    text: &mut Vec<u8>,
+    tag: u8,
+    change: Option<&Change>,
+    inputs: &Names,
+    outputs: &Names,
+    sim: &S,
+) -> Result<(), Memory>
+    requires inputs { length inputs.now ≡ (S.machine sim.now).inputs }
+    requires outputs { length outputs.now ≡ (S.machine sim.now).outputs }
+    requires pin { IfSome change (λ change. change.now.pin < (S.machine sim.now).inputs) }
+    ensures { OnOk result ((h : List ChangeOf) → S.stands sim.now h → text.new.items ≡ text.old.items ++ line_text tag (option_copied change.entry) inputs.now outputs.now ((S.machine sim.now).line h)) }
+{
+    text.reserve(ROOM)?;
+    text.push(tag)?;
+    push_head(text, change, inputs)?;
+    push_outputs(text, outputs, sim)?;
+    push_reports(text, sim)?;
+    text.push(b'\n')?;
+    Ok(())
 }
 
 /// What the line is on.

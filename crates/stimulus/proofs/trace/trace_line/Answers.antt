@@ -1,7 +1,5 @@
-use Rattle.std.proofs.Common.{◌++◌, ◌∷◌, [], ap, ◌∙◌}
-use Rattle.stimulus.proofs.TraceTexts.{put_together}
+use Rattle.stimulus.proofs.TraceTexts.{alone}
 use Rattle.stimulus.proofs.trace.trace_line.Goals as goal
 
 pub returns : goal.returns
-returns g c = λ h s.
-    put_together _ _ _ _ _ _ _ _ _ _ (c.in_ok-push.ensures.items ∙ ap (λ t. t ++ c.args.tag ∷ []) c.in_ok-text.ensures.items) c.in_ok-push_head.ensures (c.in_ok-push_outputs.ensures h s) (c.in_ok-push_reports.ensures h s) c.in_ok-push-2.ensures.items
+returns g c = λ h s. alone _ _ _ c.new-text.ensures.items (c.in_ok-append_trace_line.ensures h s)

@@ -5,9 +5,8 @@ ghost use Rattle.bool_functions.specs.Tree.{value_by};
 ghost use Rattle.bool_functions.specs.Point.{entry_of};
 ghost use Rattle.bool_functions.specs.Block.{word_by, word_at, name_word, named, bits_of};
 
-use crate::faults::Memory;
 use crate::tree::Node;
-use std::alloc::Global;
+use std::alloc::{AllocError, Global};
 
 /// The most points of a table.
 const MOST_POINTS: usize = 1024;
@@ -54,7 +53,7 @@ fn name_word(places: &[usize], start: usize, i: usize) -> u64
 }
 
 /// The values of all places' names at the points of the block from this one on.
-fn name_words(alloc: Global, places: &[usize], start: usize) -> Result<Vec<NameWord>, Memory>
+fn name_words(alloc: Global, places: &[usize], start: usize) -> Result<Vec<NameWord>, AllocError>
     requires { start < 1024 }
     ensures { IfOk result (λ words. words.items ≡ map (named places.now start) places.now) }
 {
@@ -96,7 +95,7 @@ fn node_word(node: &Node, words: &[NameWord]) -> u64
 }
 
 /// Adds the first bits of a word to a list.
-fn push_bits(values: &mut Vec<bool>, word: u64, count: usize) -> Result<(), Memory>
+fn push_bits(values: &mut Vec<bool>, word: u64, count: usize) -> Result<(), AllocError>
     ensures { OnOk result (values.new.items ≡ values.old.items ++ bits_of count word) }
 {
     let mut rest = word;
@@ -115,7 +114,7 @@ fn add_block(
     places: &[usize],
     start: usize,
     count: usize,
-) -> Result<(), Memory>
+) -> Result<(), AllocError>
     requires start { start < 1024 }
     ensures { OnOk result (values.new.items ≡ values.old.items ++ map (λ k. value_by (entry_of places.now k) node.now) (range_with_len start (min (count - start) 64))) }
 {
@@ -139,7 +138,7 @@ fn point_count(places: &[usize]) -> usize
 }
 
 /// The values of a tree at all points over these places.
-pub(crate) fn table(node: &Node, alloc: Global, places: &[usize]) -> Result<Vec<bool>, Memory>
+pub(crate) fn table(node: &Node, alloc: Global, places: &[usize]) -> Result<Vec<bool>, AllocError>
     requires { length places.now ≤ 10 }
     ensures len { IfOk result (λ v. length v.items ≡ 2 ^ length places.now) }
     ensures entries { IfOk result (λ v. EachIndex v.items (λ k. slice_get v.items k ≡ Some (value_by (entry_of places.now k) node.now))) }

@@ -6,7 +6,6 @@ ghost use Rattle.bool_functions.specs.declared.tree.Node.TheVariants as tree;
 ghost use Rattle.bool_functions.specs.Support.{insert_all};
 ghost use Rattle.bool_functions.specs.Code.{code_names, code_of, is_name_code, is_small, operator, same_code, same_codes, AreHalves, IsValue, IsTree, Adds, AddsCode, Closes};
 
-use crate::faults::Memory;
 use crate::kept_values::bit_at;
 use crate::tree::{Node, insert};
 use sqlite_items::Boxed;
@@ -59,7 +58,7 @@ fn small(number: usize) -> Option<u16>
 }
 
 /// Adds a code without a number.
-fn add_plain(codes: &mut Vec<Code>, code: Code) -> Result<bool, Memory>
+fn add_plain(codes: &mut Vec<Code>, code: Code) -> Result<bool, AllocError>
     requires { is_small code ≡ true }
     ensures { IfOk result (λ fits. AddsCode fits codes.old.items codes.new.items code) }
 {
@@ -68,7 +67,7 @@ fn add_plain(codes: &mut Vec<Code>, code: Code) -> Result<bool, Memory>
 }
 
 /// Adds a name, and answers whether its number has room.
-fn add_name(codes: &mut Vec<Code>, i: usize) -> Result<bool, Memory>
+fn add_name(codes: &mut Vec<Code>, i: usize) -> Result<bool, AllocError>
     ensures { IfOk result (λ fits. AddsCode fits codes.old.items codes.new.items (code.Name i)) }
 {
     let Some(number) = small(i) else {
@@ -80,7 +79,7 @@ fn add_name(codes: &mut Vec<Code>, i: usize) -> Result<bool, Memory>
 
 /// Adds an operator whose second part's codes begin at `start`, and answers whether their number has room. Where not all
 /// of the parts' codes had, it adds nothing.
-fn close(codes: &mut Vec<Code>, fits: bool, pair: Pair, start: usize) -> Result<bool, Memory>
+fn close(codes: &mut Vec<Code>, fits: bool, pair: Pair, start: usize) -> Result<bool, AllocError>
     ensures { IfOk result (λ all. Closes fits all codes.old.items codes.new.items (code_of pair (length codes.old.items - start))) }
 {
     if !fits {
@@ -94,7 +93,7 @@ fn close(codes: &mut Vec<Code>, fits: bool, pair: Pair, start: usize) -> Result<
 }
 
 /// Adds the codes of a tree, and answers whether all their numbers have room.
-pub(crate) fn add_codes(node: &Node, codes: &mut Vec<Code>) -> Result<bool, Memory>
+pub(crate) fn add_codes(node: &Node, codes: &mut Vec<Code>) -> Result<bool, AllocError>
     ensures { IfOk result (λ fits. Adds fits codes.old.items codes.new.items node.now) }
 {
     match node {
@@ -268,7 +267,7 @@ pub(crate) fn has(codes: &[Code], i: usize) -> bool
 }
 
 /// The numbers of the names among codes, each once, in ascending order.
-pub(crate) fn support(codes: &[Code], alloc: Global) -> Result<Vec<usize>, Memory>
+pub(crate) fn support(codes: &[Code], alloc: Global) -> Result<Vec<usize>, AllocError>
     ensures { IfOk result (λ v. v.items ≡ insert_all [] (code_names codes.now)) }
 {
     let mut found = Vec::new(alloc);
@@ -277,7 +276,7 @@ pub(crate) fn support(codes: &[Code], alloc: Global) -> Result<Vec<usize>, Memor
 }
 
 /// Puts the names among codes into an ascending list.
-fn collect(codes: &[Code], found: &mut Vec<usize>) -> Result<(), Memory>
+fn collect(codes: &[Code], found: &mut Vec<usize>) -> Result<(), AllocError>
     ensures { OnOk result (found.new.items ≡ insert_all found.old.items (code_names codes.now)) }
 {
     for code in codes {

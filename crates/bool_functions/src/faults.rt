@@ -19,11 +19,6 @@ pub enum FunctionFault {
     Memory,
 }
 
-/// Memory was wanted and not there.
-#[derive(Debug, Drop, Error)]
-#[error("out of memory")]
-pub struct Memory;
-
 impl From<AllocError> for FunctionFault {
     ghost use Rattle.std.specs.Prelude.{◌≡◌};
     ghost use Rattle.bool_functions.specs.declared.faults.FunctionFault.TheVariants as fault;
@@ -43,28 +38,5 @@ impl<T: Drop> From<AllocFailed<T>> for FunctionFault {
 
     fn from(_: AllocFailed<T>) -> FunctionFault {
         FunctionFault::Memory
-    }
-}
-
-impl From<Memory> for FunctionFault {
-    ghost use Rattle.std.specs.Prelude.{◌≡◌};
-    ghost use Rattle.bool_functions.specs.declared.faults.FunctionFault.TheVariants as fault;
-
-    ghost from_gives = { λ _ e. e ≡ fault.Memory };
-
-    fn from(_: Memory) -> FunctionFault {
-        FunctionFault::Memory
-    }
-}
-
-impl From<AllocError> for Memory {
-    fn from(_: AllocError) -> Memory {
-        Memory
-    }
-}
-
-impl<T: Drop> From<AllocFailed<T>> for Memory {
-    fn from(_: AllocFailed<T>) -> Memory {
-        Memory
     }
 }

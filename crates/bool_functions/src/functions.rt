@@ -11,11 +11,10 @@ ghost use Rattle.bool_functions.specs.declared.functions.Form.TheVariants as for
 ghost use Rattle.bool_functions.specs.Code.{is_long};
 
 use crate::blocks::table;
-use crate::faults::Memory;
 use crate::keys::key;
 use crate::postfix::Postfix;
 use crate::tree::{Node, copied, has, renamed, room, same, support, value};
-use std::alloc::Global;
+use std::alloc::{AllocError, Global};
 use std::marker::Model;
 
 /// The least number of nodes of a tree that is held as its codes, since a shorter one's nodes are read as fast.
@@ -30,7 +29,7 @@ enum Form {
 
 impl Form {
     /// A tree of its own, held as this one is.
-    fn copied(&self, alloc: Global) -> Result<Form, Memory>
+    fn copied(&self, alloc: Global) -> Result<Form, AllocError>
         ensures { IfOk result (λ f. f ≡ self.now) }
     {
         match self {
@@ -40,14 +39,14 @@ impl Form {
     }
 
     /// A short tree of its own.
-    fn short_copied(alloc: Global, node: &Node) -> Result<Form, Memory>
+    fn short_copied(alloc: Global, node: &Node) -> Result<Form, AllocError>
         ensures { IfOk result (λ f. f ≡ form.Short node.now) }
     {
         Ok(Form::Short(copied(node, alloc)?))
     }
 
     /// A long tree of its own.
-    fn long_copied(alloc: Global, codes: &Postfix) -> Result<Form, Memory>
+    fn long_copied(alloc: Global, codes: &Postfix) -> Result<Form, AllocError>
         ensures { IfOk result (λ f. f ≡ form.Long codes.now) }
     {
         Ok(Form::Long(codes.copied(alloc)?))
@@ -95,7 +94,7 @@ impl Function {
     }
 
     /// The function of a tree.
-    pub(crate) fn new(alloc: Global, node: Node) -> Result<Function, Memory>
+    pub(crate) fn new(alloc: Global, node: Node) -> Result<Function, AllocError>
         ensures { IfOk result (λ f. f ≡ node) }
     {
         if room(&node, LONG) > 0 {
@@ -153,8 +152,8 @@ impl Function {
         }
     }
 
-    /// The same tree in a function of its own. `Memory` comes only where memory is wanting.
-    pub fn copied(&self, alloc: Global) -> Result<Function, Memory>
+    /// The same tree in a function of its own. `AllocError` comes only where memory is wanting.
+    pub fn copied(&self, alloc: Global) -> Result<Function, AllocError>
         ensures { IfOk result (λ f. f ≡ self.now) }
     {
         let form = self.form.copied(alloc)?;
@@ -164,9 +163,9 @@ impl Function {
         })
     }
 
-    /// The tree in which `to[i]` stands for each name `i`. Needs an entry for each name. `Memory` comes only where
+    /// The tree in which `to[i]` stands for each name `i`. Needs an entry for each name. `AllocError` comes only where
     /// memory is wanting.
-    pub fn renamed(&self, alloc: Global, to: &[usize]) -> Result<Function, Memory>
+    pub fn renamed(&self, alloc: Global, to: &[usize]) -> Result<Function, AllocError>
         requires { name_bound self.now ≤ length to.now }
         ensures { IfOk result (λ f. f ≡ renamed_by to.now self.now) }
     {
@@ -177,8 +176,8 @@ impl Function {
         Function::new(alloc, node)
     }
 
-    /// The numbers of the written names, each once, in ascending order. `Memory` comes only where memory is wanting.
-    pub fn support(&self, alloc: Global) -> Result<Vec<usize>, Memory>
+    /// The numbers of the written names, each once, in ascending order. `AllocError` comes only where memory is wanting.
+    pub fn support(&self, alloc: Global) -> Result<Vec<usize>, AllocError>
         ensures ascending { IfOk result (λ v. IsStrictlyIncreasing v.items) }
         ensures written { IfOk result (λ v. (i : ℕ) → Contains v.items i ↔ Has self.now i) }
         ensures list { IfOk result (λ v. v.items ≡ support_of self.now) }
@@ -191,8 +190,8 @@ impl Function {
 
     /// The value at each point over these places, which are numbers of names, at the point's number, in which place `i`
     /// weighs 2 to the power `i`. Needs each written name among at most 10 places; where a place stands twice, its name
-    /// has the first one's value. `Memory` comes only where memory is wanting.
-    pub fn table(&self, alloc: Global, places: &[usize]) -> Result<Vec<bool>, Memory>
+    /// has the first one's value. `AllocError` comes only where memory is wanting.
+    pub fn table(&self, alloc: Global, places: &[usize]) -> Result<Vec<bool>, AllocError>
         requires few { length places.now ≤ 10 }
         requires inside { (i : ℕ) → Has self.now i → Contains places.now i }
         ensures len { IfOk result (λ v. length v.items ≡ 2 ^ length places.now) }

@@ -6,9 +6,8 @@ ghost use Rattle.bool_functions.specs.Point.{number, bits_at, HasValues};
 ghost use Rattle.bool_functions.specs.Kept.{AreOfTree};
 
 use crate::blocks::table;
-use crate::faults::Memory;
 use crate::tree::{Node, support};
-use std::alloc::Global;
+use std::alloc::{AllocError, Global};
 
 /// The most names of a function whose values are kept.
 const MOST_NAMES: usize = 10;
@@ -24,7 +23,7 @@ pub(crate) struct KeptValues {
 
 impl KeptValues {
     /// The values of a tree, where it names few names.
-    pub(crate) fn of(alloc: Global, node: &Node) -> Result<Option<KeptValues>, Memory>
+    pub(crate) fn of(alloc: Global, node: &Node) -> Result<Option<KeptValues>, AllocError>
         ensures { IfOk result (AreOfTree node.now) }
     {
         let names = support(node, alloc)?;
@@ -43,7 +42,7 @@ impl KeptValues {
     }
 
     /// The same names and values in lists of their own.
-    fn copied(&self, alloc: Global) -> Result<KeptValues, Memory>
+    fn copied(&self, alloc: Global) -> Result<KeptValues, AllocError>
         ensures names { IfOk result (λ k. k.names.items ≡ self.now.names.items) }
         ensures values { IfOk result (λ k. k.values.items ≡ self.now.values.items) }
     {
@@ -53,7 +52,7 @@ impl KeptValues {
     }
 
     /// The values in a list of their own.
-    pub(crate) fn list(&self, alloc: Global) -> Result<Vec<bool>, Memory>
+    pub(crate) fn list(&self, alloc: Global) -> Result<Vec<bool>, AllocError>
         ensures { IfOk result (λ v. v.items ≡ self.now.values.items) }
     {
         Ok(Vec::from_slice(alloc, self.values.as_slice())?)
@@ -72,7 +71,7 @@ impl KeptValues {
 }
 
 /// Kept values in lists of their own, where there are any.
-pub(crate) fn copied(kept: &Option<KeptValues>, alloc: Global) -> Result<Option<KeptValues>, Memory>
+pub(crate) fn copied(kept: &Option<KeptValues>, alloc: Global) -> Result<Option<KeptValues>, AllocError>
     ensures { (f : Node) → AreOfTree f kept.now → IfOk result (AreOfTree f) }
 {
     match kept {

@@ -17,7 +17,7 @@ mod tokens;
 mod tree;
 mod words;
 
-pub use faults::{FunctionFault, Memory};
+pub use faults::FunctionFault;
 pub use functions::Function;
 pub use laws::{bound_is_least, one_tree, own_names, read_by_grammar, renamed_values};
 pub use name_list::Names;

@@ -2,9 +2,8 @@
 ghost use Rattle.std.specs.Prelude.{◌≡◌, [], ◌∷◌, ◌++◌, ◌<◌, length, slice_get, position, bytes_eq, IfOk, OnErr};
 ghost use Rattle.bool_functions.specs.NameList.{number_of, Adds, AreDistinct};
 
-use crate::faults::Memory;
 use indexmap::IndexSet;
-use std::alloc::Global;
+use std::alloc::{AllocError, Global};
 use std::marker::Model;
 
 /// The most names that are compared one by one, which takes less time than a look-up by a hash.
@@ -71,7 +70,7 @@ impl Names {
 
     /// Adds a name at the end and answers its number, which is the length before. Nothing is answered exactly where
     /// the name is in the list already. Then, and where memory is wanting, the list is as before.
-    pub fn add(&mut self, name: &[u8]) -> Result<Option<usize>, Memory>
+    pub fn add(&mut self, name: &[u8]) -> Result<Option<usize>, AllocError>
         ensures added { IfOk result (λ number. Adds self.old name.now number self.new) }
         ensures err { OnErr result (self.new ≡ self.old) }
         ensures distinct { AreDistinct self.new }

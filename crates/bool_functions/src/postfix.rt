@@ -7,7 +7,6 @@ ghost use Rattle.bool_functions.specs.Code.{fits};
 
 use crate::blocks::table;
 use crate::codes::{Code, add_codes, has, same, support, tree, value};
-use crate::faults::Memory;
 use crate::kept_values::{KeptValues, copied};
 use crate::tree::{Node, renamed};
 use std::alloc::{AllocError, Global};
@@ -40,7 +39,7 @@ impl Model for Postfix {
 
 impl Postfix {
     /// A tree as its codes, where they have room for its numbers.
-    pub(crate) fn new(alloc: Global, node: &Node) -> Result<Option<Postfix>, Memory>
+    pub(crate) fn new(alloc: Global, node: &Node) -> Result<Option<Postfix>, AllocError>
         ensures { IfOk result (λ codes. MatchOption codes (fits node.now ≡ false) (λ c. (c ≡ node.now) × (fits node.now ≡ true))) }
     {
         let mut spelled = Vec::new(alloc);
@@ -53,7 +52,7 @@ impl Postfix {
     }
 
     /// The same codes and values in lists of their own.
-    pub(crate) fn copied(&self, alloc: Global) -> Result<Postfix, Memory>
+    pub(crate) fn copied(&self, alloc: Global) -> Result<Postfix, AllocError>
         ensures { IfOk result (λ f. f ≡ self.now) }
     {
         let spelled = Vec::from_slice(alloc, self.spelled.as_slice())?;
@@ -78,7 +77,7 @@ impl Postfix {
     }
 
     /// The values at all points over these places.
-    pub(crate) fn table(&self, alloc: Global, places: &[usize]) -> Result<Vec<bool>, Memory>
+    pub(crate) fn table(&self, alloc: Global, places: &[usize]) -> Result<Vec<bool>, AllocError>
         requires { length places.now ≤ 10 }
         ensures len { IfOk result (λ v. length v.items ≡ 2 ^ length places.now) }
         ensures entries { IfOk result (λ v. EachIndex v.items (λ k. slice_get v.items k ≡ Some (value_by (entry_of places.now k) self.now))) }
@@ -117,7 +116,7 @@ impl Postfix {
     }
 
     /// The names of the tree, each once, in ascending order.
-    pub(crate) fn support(&self, alloc: Global) -> Result<Vec<usize>, Memory>
+    pub(crate) fn support(&self, alloc: Global) -> Result<Vec<usize>, AllocError>
         ensures { IfOk result (λ v. v.items ≡ support_of self.now) }
     {
         if let Some(kept) = &self.kept {

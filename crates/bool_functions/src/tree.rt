@@ -5,7 +5,6 @@ ghost use Rattle.bool_functions.specs.Tree.{value_of, name_bound, names_of, rena
 ghost use Rattle.bool_functions.specs.Support.{inserted, insert_all, support_of};
 ghost use Rattle.bool_functions.specs.Code.{room_after};
 
-use crate::faults::Memory;
 use sqlite_items::Boxed;
 use std::alloc::{AllocError, Global};
 
@@ -122,7 +121,7 @@ pub(crate) fn renamed(node: &Node, alloc: Global, to: &[usize]) -> Result<Node, 
 }
 
 /// The names of a tree, each once, in ascending order.
-pub(crate) fn support(node: &Node, alloc: Global) -> Result<Vec<usize>, Memory>
+pub(crate) fn support(node: &Node, alloc: Global) -> Result<Vec<usize>, AllocError>
     ensures { IfOk result (λ v. v.items ≡ support_of node.now) }
 {
     let mut found = Vec::new(alloc);
@@ -132,7 +131,7 @@ pub(crate) fn support(node: &Node, alloc: Global) -> Result<Vec<usize>, Memory>
 
 /// Puts the names of a tree into an ascending list.
 #[tactic(auto, using(crate::proofs::Trees::names_by_top))]
-fn collect(node: &Node, found: &mut Vec<usize>) -> Result<(), Memory>
+fn collect(node: &Node, found: &mut Vec<usize>) -> Result<(), AllocError>
     ensures { OnOk result (found.new.items ≡ insert_all found.old.items (names_of node.now)) }
 {
     match node {
@@ -147,7 +146,7 @@ fn collect(node: &Node, found: &mut Vec<usize>) -> Result<(), Memory>
 }
 
 /// Puts a number into an ascending list, unless it is there.
-pub(crate) fn insert(found: &mut Vec<usize>, i: usize) -> Result<(), Memory>
+pub(crate) fn insert(found: &mut Vec<usize>, i: usize) -> Result<(), AllocError>
     ensures { OnOk result (found.new.items ≡ inserted i found.old.items) }
 {
     for at in 0..found.len() {

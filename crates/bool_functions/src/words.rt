@@ -3,13 +3,12 @@ ghost use Rattle.std.specs.Prelude.{◌≡◌, ◌≤◌, length, IfOk};
 ghost use Rattle.bool_functions.specs.Token.{is_name, bytes_at, words_of, LieIn};
 ghost use Rattle.bool_functions.specs.FunctionText.{first_unknown, first_appearances};
 
-use crate::faults::Memory;
 use crate::name_list::Names;
 use crate::tokens::{Span, is_word_byte};
-use std::alloc::Global;
+use std::alloc::{AllocError, Global};
 
 /// The names among these tokens, in the order of their first appearances.
-pub(crate) fn names_in(alloc: Global, text: &[u8], tokens: &[Span]) -> Result<Names, Memory>
+pub(crate) fn names_in(alloc: Global, text: &[u8], tokens: &[Span]) -> Result<Names, AllocError>
     requires { LieIn text.now tokens.now }
     ensures { IfOk result (λ names. names ≡ first_appearances (words_of text.now tokens.now)) }
 {

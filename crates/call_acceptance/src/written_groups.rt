@@ -3,13 +3,13 @@
 ghost use Rattle.std.specs.Prelude.{IfOk, IsTrue};
 ghost use Rattle.liberty_groups.specs.Writing.{is_writable};
 
-use liberty_groups::{Group, Item, Memory, Value, write_group};
+use liberty_groups::{Group, Item, Value, write_group};
 use sqlite_items::Items;
-use std::alloc::Global;
+use std::alloc::{AllocError, Global};
 use std::test::Fail;
 
 /// A cell with one attribute, and a quote in its name.
-fn cell(alloc: Global) -> Result<Group, Memory>
+fn cell(alloc: Global) -> Result<Group, AllocError>
     ensures { IfOk result (λ group. IsTrue (is_writable 32 group)) }
 {
     let mut value = Items::new(alloc);

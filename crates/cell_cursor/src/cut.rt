@@ -3,13 +3,12 @@
 ghost use Rattle.std.specs.Prelude.{◌≡◌, ◌<◌, ◌≤◌, ◌+◌, ◌^◌, [], length, IfOk, IfSome};
 ghost use Rattle.cell_cursor.specs.Cut.{IsCut};
 
-use crate::fault::Memory;
 use crate::item::LibraryItem;
 use crate::part::{Part, Place, scanned_part};
 use crate::statements::reach_rest;
 use liberty_groups::Cursor;
 use liberty_text::{Kept, TokenKind};
-use std::alloc::Global;
+use std::alloc::{AllocError, Global};
 
 /// The part behind the statements of this part that have ended before the name that ended last, if they have, and their items.
 pub(crate) fn part_behind(
@@ -17,7 +16,7 @@ pub(crate) fn part_behind(
     part: &Part,
     place: Place,
     items: &mut Vec<LibraryItem>,
-) -> Result<Option<Part>, Memory>
+) -> Result<Option<Part>, AllocError>
     requires none { items.old.items ≡ [] }
     requires fits { part.now.before + length part.now.bytes < 2 ^ 64 }
     ensures { IfOk result (λ found. IfSome found (λ rest. IsCut place part.now rest items.new.items)) }

@@ -4,8 +4,7 @@ ghost use Rattle.std.specs.Prelude.{◌≡◌};
 ghost use Rattle.cell_cursor.specs.declared.fault.CursorFault.TheVariants as fault;
 
 use liberty_groups::LibraryFault;
-use liberty_text::Memory as NoTokens;
-use std::alloc::{AllocError, AllocFailed};
+use std::alloc::AllocError;
 use text_io::Failed;
 use thiserror::Error;
 
@@ -23,33 +22,10 @@ pub enum CursorFault {
     Memory,
 }
 
-/// There was no memory for a cursor.
-#[derive(Clone, Copy, Debug, PartialEq, Eq, Error)]
-#[error("out of memory")]
-pub struct Memory;
-
-impl From<AllocError> for Memory {
-    fn from(_e: AllocError) -> Memory {
-        Memory
-    }
-}
-
-impl From<NoTokens> for Memory {
-    fn from(_e: NoTokens) -> Memory {
-        Memory
-    }
-}
-
-impl<T: Drop> From<AllocFailed<T>> for Memory {
-    fn from(_e: AllocFailed<T>) -> Memory {
-        Memory
-    }
-}
-
-impl From<Memory> for CursorFault {
+impl From<AllocError> for CursorFault {
     ghost from_gives = { λ _ e. e ≡ fault.Memory };
 
-    fn from(_e: Memory) -> CursorFault {
+    fn from(_e: AllocError) -> CursorFault {
         CursorFault::Memory
     }
 }

@@ -16,6 +16,6 @@ mod taking;
 mod watch;
 
 pub use cursor::CellCursor;
-pub use fault::{CursorFault, Memory};
+pub use fault::CursorFault;
 pub use item::{LibraryItem, Next};
 pub use laws::{items_are_found, items_ascend};

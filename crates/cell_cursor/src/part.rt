@@ -7,11 +7,10 @@ ghost use Rattle.liberty_text.specs.Runs.{mode_behind, tokens_ended};
 ghost use Rattle.cell_cursor.specs.Braces.{depth_behind, is_outer, has_outer, ShowsOuter, kinds_of};
 ghost use Rattle.cell_cursor.specs.Scanned.{AreScanned, NoneEnds, ends_by, last_kind};
 
-use crate::fault::Memory;
 use crate::watch::{Sight, Watch};
 use liberty_groups::Standing;
 use liberty_text::{Kept, Scanner, TokenKind};
-use std::alloc::Global;
+use std::alloc::{AllocError, Global};
 use std::marker::Model;
 
 /// How far the library has come at the beginning of a part.
@@ -122,7 +121,12 @@ impl Part {
 
     /// Scans the next bytes, up to the first one with which a token ends, and that one too. A group of the library does not end
     /// where no statement may have ended. Without memory the part is lost.
-    pub(crate) fn scan(&mut self, alloc: Global, place: Place, bytes: &[u8]) -> Result<Run, Memory>
+    pub(crate) fn scan(
+        &mut self,
+        alloc: Global,
+        place: Place,
+        bytes: &[u8],
+    ) -> Result<Run, AllocError>
         requires { length self.old.bytes + length bytes.now < 2 ^ 64 }
         ensures before { self.new.before ≡ self.old.before }
         ensures count { IfOk result (λ run. run.count ≤ length bytes.now) }
@@ -169,7 +173,7 @@ pub(crate) fn scanned_part(
     before: usize,
     place: Place,
     bytes: &[u8],
-) -> Result<Option<Part>, Memory>
+) -> Result<Option<Part>, AllocError>
     ensures before { IfOk result (λ found. IfSome found (λ part. part.before ≡ before)) }
     ensures bytes { IfOk result (λ found. IfSome found (λ part. part.bytes ≡ bytes.now)) }
     ensures inner { IfOk result (λ found. IfSome found (λ part. has_outer place (kinds_of part.tokens) ≡ false)) }
@@ -225,7 +229,7 @@ fn scan_run(
     bytes: &mut Vec<u8>,
     scanner: &mut Scanner,
     more: &[u8],
-) -> Result<(usize, Option<TokenKind>), Memory>
+) -> Result<(usize, Option<TokenKind>), AllocError>
     requires { length bytes.old.items + length more.now < 2 ^ 64 }
     ensures count { IfOk result (λ run. run.0 ≤ length more.now) }
     ensures some { IfOk result (λ run. 0 < length more.now → 0 < run.0) }

@@ -10,26 +10,26 @@ ghost use Rattle.cell_cursor.specs.Leads.{is_start};
 ghost use Rattle.cell_cursor.specs.Scanned.{stop_behind};
 
 use crate::cursor::Answer;
-use crate::fault::{CursorFault, Memory};
+use crate::fault::CursorFault;
 use crate::item::LibraryItem;
 use crate::part::Place;
 use crate::statements::read_rest;
 use liberty_groups::{Cursor, Halt, LibraryFault, Stop, fault_of};
 use liberty_text::{KeptScan, Stop as TextStop, scan_kept};
-use std::alloc::Global;
+use std::alloc::{AllocError, Global};
 
 /// An offset in bytes that so many others stand before. Where that is no machine number, there is no memory for the bytes.
-fn moved(before: usize, at: usize) -> Result<usize, Memory>
+fn moved(before: usize, at: usize) -> Result<usize, AllocError>
     ensures { IfOk result (λ all. all ≡ at + before) }
 {
     match at.checked_add(before) {
         Some(all) => Ok(all),
-        None => Err(Memory),
+        None => Err(AllocError),
     }
 }
 
 /// A stop in bytes that so many others stand before.
-fn stop_behind(before: usize, stop: TextStop) -> Result<TextStop, Memory>
+fn stop_behind(before: usize, stop: TextStop) -> Result<TextStop, AllocError>
     ensures { IfOk result (λ moved. moved ≡ stop_behind before stop) }
 {
     Ok(match stop {
@@ -48,14 +48,14 @@ fn halt_of(
     place: Place,
     end: usize,
     items: &mut Vec<LibraryItem>,
-) -> Result<Halt, Memory>
+) -> Result<Halt, AllocError>
     ensures halt { IfOk result (λ halt. halt ≡ halt_in end (is_start place && is_last cursor.old) (read (rest_at place items.old.items) cursor.old)) }
     ensures items { OnOk result (items.new.items ≡ items_in (read (rest_at place items.old.items) cursor.old)) }
 {
     let is_only = place == Place::Start && cursor.is_last();
     let refusal = match read_rest(cursor, alloc, place, items) {
         Ok(()) => return Ok(Halt::Whole),
-        Err(Stop::Memory) => return Err(Memory),
+        Err(Stop::Memory) => return Err(AllocError),
         Err(Stop::Refused(refusal)) => refusal,
     };
     Ok(match cursor.peek() {
@@ -70,7 +70,12 @@ fn halt_of(
 
 /// Whether some library goes on with a part that ends in an open text, once that is closed.
 #[tactic(auto, using(liberty_groups::proofs::Inside::lie_inside), unfolding(crate::specs::Finish::part_outcome))]
-fn goes_on_closed(alloc: Global, before: usize, bytes: &[u8], place: Place) -> Result<bool, Memory>
+fn goes_on_closed(
+    alloc: Global,
+    before: usize,
+    bytes: &[u8],
+    place: Place,
+) -> Result<bool, AllocError>
     ensures { IfOk result (λ does. does ≡ goes_on_closed place before bytes.now) }
 {
     let mut closed = Vec::from_slice(alloc, bytes)?;
@@ -80,7 +85,7 @@ fn goes_on_closed(alloc: Global, before: usize, bytes: &[u8], place: Place) -> R
     let mut cursor = Cursor::behind(before, &closed, &tokens);
     let mut items = Vec::new(alloc);
     if let Err(Stop::Memory) = read_rest(&mut cursor, alloc, place, &mut items) {
-        return Err(Memory);
+        return Err(AllocError);
     }
     Ok(cursor.peek().is_none())
 }
@@ -93,7 +98,7 @@ fn may_go_on(
     place: Place,
     halt: Halt,
     stop: TextStop,
-) -> Result<bool, Memory>
+) -> Result<bool, AllocError>
     ensures { IfOk result (λ may. may ≡ may_go_on place before bytes.now halt stop) }
 {
     if let Halt::Refused { unfinished, .. } = halt {
@@ -127,7 +132,7 @@ pub(crate) fn read_end(
     place: Place,
     whole: bool,
     items: &mut Vec<LibraryItem>,
-) -> Result<Answer, Memory>
+) -> Result<Answer, AllocError>
     requires fits { before + length bytes.now < 2 ^ 64 }
     requires nothing { items.old.items ≡ [] }
     ensures answer { IfOk result (λ answer. answer ≡ answer_at place before bytes.now whole) }

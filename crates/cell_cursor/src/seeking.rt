@@ -10,12 +10,12 @@ ghost use Rattle.cell_cursor.specs.declared.item.LibraryItem.{LibraryItem as Giv
 ghost use Rattle.cell_cursor.specs.Stands.{answered, given_by, is_going, is_failed, is_failure, tells_failure, is_ended, is_library, Goes, GoesBy, Stands, Advances, Moves, IsSettled, IsAnswered, StaysSettled};
 
 use crate::cursor::{Answer, CellCursor};
-use crate::fault::{CursorFault, Memory};
+use crate::fault::CursorFault;
 use crate::item::{LibraryItem, Next, next_of};
 use crate::part::{Part, Place};
 use crate::piece::Piece;
 use crate::watch::Sight;
-use std::alloc::Global;
+use std::alloc::{AllocError, Global};
 use text_io::{Desk, InSlot};
 
 /// Why scanning went no further.
@@ -33,7 +33,7 @@ pub(crate) enum Scanned {
 
 impl CellCursor {
     /// A cursor that has read nothing. It will read at most `limit` bytes of the library, and one more. So far it takes no memory.
-    pub fn new(alloc: Global, limit: usize) -> Result<CellCursor, Memory>
+    pub fn new(alloc: Global, limit: usize) -> Result<CellCursor, AllocError>
         ensures made { IsOk result }
         ensures stands { IfOk result (λ cursor. Stands cursor [] []) }
         ensures going { IfOk result (λ cursor. cursor.answer ≡ None) }
@@ -51,7 +51,7 @@ impl CellCursor {
     }
 
     /// Scans what was read, up to a token with which a statement may end or with which no library text goes on. Which it was.
-    fn scan_on(&mut self) -> Result<Scanned, Memory>
+    fn scan_on(&mut self) -> Result<Scanned, AllocError>
         ensures limit { self.new.limit ≡ self.old.limit }
         ensures answer { self.new.answer ≡ self.old.answer }
         ensures waiting { self.new.waiting.items ≡ self.old.waiting.items }

@@ -12,7 +12,6 @@ ghost use Rattle.cell_cursor.specs.declared.item.LibraryItem.{LibraryItem as Giv
 ghost use Rattle.cell_cursor.specs.Braces.{has_outer, LastIsNotOuter, lexeme_kinds};
 ghost use Rattle.cell_cursor.specs.Reached.{ReadsOn, ReadsUpTo, Comes, ComesSo, EndsInner, is_final};
 
-use crate::fault::Memory;
 use crate::item::{LibraryItem, item_of};
 use crate::part::Place;
 use liberty_groups::{
@@ -101,13 +100,13 @@ fn statement_ends(
     cursor: &mut Cursor<'_>,
     alloc: Global,
     items: &mut Vec<LibraryItem>,
-) -> Result<bool, Memory>
+) -> Result<bool, AllocError>
     ensures { IfOk result (λ ends. ends ≡ true → (more : List Lexeme) → read (item_statement items.old.items (next_bytes cursor.old) (next_at cursor.old)) (rest cursor.old ++ more) ≡ Ok (items.new.items, cursor.new ++ more)) }
 {
     match read_statement(cursor, alloc, items) {
         Ok(ended) => Ok(ended),
         Err(Stop::Refused(_)) => Ok(false),
-        Err(Stop::Memory) => Err(Memory),
+        Err(Stop::Memory) => Err(AllocError),
     }
 }
 
@@ -117,7 +116,7 @@ pub(crate) fn reach_rest(
     alloc: Global,
     left: usize,
     items: &mut Vec<LibraryItem>,
-) -> Result<bool, Memory>
+) -> Result<bool, AllocError>
     ensures { IfOk result (λ ends. ends ≡ true → ReadsUpTo items.old.items cursor.old items.new.items left) }
 {
     for _turn in 0..cursor.left() {
@@ -257,12 +256,12 @@ pub(crate) fn reach(
     place: Place,
     end: usize,
     items: &mut Vec<LibraryItem>,
-) -> Result<Reached, Memory>
+) -> Result<Reached, AllocError>
     ensures { IfOk result (λ reached. Comes reached place items.old.items cursor.old items.new.items end) }
 {
     let refusal = match come_from(cursor, alloc, place, items) {
         Ok(reached) => return Ok(reached),
-        Err(Stop::Memory) => return Err(Memory),
+        Err(Stop::Memory) => return Err(AllocError),
         Err(Stop::Refused(refusal)) => refusal,
     };
     Ok(match cursor.peek() {

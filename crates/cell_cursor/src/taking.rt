@@ -10,12 +10,12 @@ ghost use Rattle.cell_cursor.specs.Stands.{is_failed, is_ended, Goes, MayTake, S
 
 use crate::cursor::{Answer, CellCursor};
 use crate::cut::part_behind;
-use crate::fault::Memory;
 use crate::item::LibraryItem;
 use crate::part::{Part, Place};
 use crate::reading::read_end;
 use crate::statements::{Reached, reach};
 use liberty_groups::{Cursor, LibraryFault};
+use std::alloc::AllocError;
 use std::mem::replace;
 
 /// The memory of a part of more bytes than these is given back when its statements were taken.
@@ -23,7 +23,7 @@ const MOST_KEPT: usize = 1_048_576;
 
 impl CellCursor {
     /// Sees which token of the part is refused, if one is.
-    pub(crate) fn refuse_part(&mut self) -> Result<(), Memory>
+    pub(crate) fn refuse_part(&mut self) -> Result<(), AllocError>
         requires none_waits { self.old.waiting.items ≡ [] }
         requires going { self.old.answer ≡ None }
         ensures stands { OnOk result ((bytes : List ℕ) (items : List Given) → Goes self.old bytes items → Stands self.new bytes items) }
@@ -47,7 +47,7 @@ impl CellCursor {
     }
 
     /// Takes the statements of the part, if they have all ended.
-    pub(crate) fn take_part(&mut self) -> Result<(), Memory>
+    pub(crate) fn take_part(&mut self) -> Result<(), AllocError>
         requires none_waits { self.old.waiting.items ≡ [] }
         requires going { self.old.answer ≡ None }
         requires mode { self.old.part.mode ≡ Between false }
@@ -76,7 +76,7 @@ impl CellCursor {
     }
 
     /// Takes the statements of the part before the name that ended last, if they have ended.
-    pub(crate) fn take_before_name(&mut self) -> Result<(), Memory>
+    pub(crate) fn take_before_name(&mut self) -> Result<(), AllocError>
         requires none_waits { self.old.waiting.items ≡ [] }
         requires going { self.old.answer ≡ None }
         ensures stands { OnOk result ((bytes : List ℕ) (items : List Given) → Goes self.old bytes items → Stands self.new bytes items) }
@@ -149,7 +149,7 @@ impl CellCursor {
 
     /// Takes what there is of a library that has ended or, where that is not `whole`, has come to the limit. The tokens of the
     /// part go first, since all its bytes are scanned again.
-    pub(crate) fn take_end(&mut self, whole: bool) -> Result<(), Memory>
+    pub(crate) fn take_end(&mut self, whole: bool) -> Result<(), AllocError>
         ensures err { OnErr result (self.new.waiting.items ≡ self.old.waiting.items) }
         ensures limit { self.new.limit ≡ self.old.limit }
         ensures answer { OnOk result (self.new.answer ≡ Some (answer_at self.old.place self.old.part.before self.old.part.bytes whole)) }

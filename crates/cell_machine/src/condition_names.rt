@@ -4,13 +4,12 @@ ghost use Rattle.cell_machine.specs.CellData.{data_of};
 ghost use Rattle.cell_machine.specs.CellTrace.{condition_names, check_names, arc_names};
 
 use crate::cells::Cell;
-use crate::faults::Memory;
 use bool_functions::Function;
 use sqlite_items::Items;
-use std::alloc::Global;
+use std::alloc::{AllocError, Global};
 
 /// The pins that a condition names, none where there is no condition.
-fn condition_names(alloc: Global, condition: &Option<Function>) -> Result<Items<usize>, Memory>
+fn condition_names(alloc: Global, condition: &Option<Function>) -> Result<Items<usize>, AllocError>
     ensures { IfOk result (λ names. names ≡ condition_names condition.now) }
 {
     match condition {
@@ -23,7 +22,7 @@ fn condition_names(alloc: Global, condition: &Option<Function>) -> Result<Items<
 }
 
 /// The pins that the conditions of a cell's checks name.
-pub fn check_names(alloc: Global, cell: &Cell) -> Result<Items<Items<usize>>, Memory>
+pub fn check_names(alloc: Global, cell: &Cell) -> Result<Items<Items<usize>>, AllocError>
     ensures { IfOk result (λ names. names ≡ check_names (data_of cell.now)) }
 {
     let mut all = Items::new(alloc);
@@ -35,7 +34,7 @@ pub fn check_names(alloc: Global, cell: &Cell) -> Result<Items<Items<usize>>, Me
 }
 
 /// The pins that the conditions of a cell's arcs name.
-pub fn arc_names(alloc: Global, cell: &Cell) -> Result<Items<Items<usize>>, Memory>
+pub fn arc_names(alloc: Global, cell: &Cell) -> Result<Items<Items<usize>>, AllocError>
     ensures { IfOk result (λ names. names ≡ arc_names (data_of cell.now)) }
 {
     let mut all = Items::new(alloc);

@@ -10,7 +10,6 @@ mod condition_names;
 mod delays;
 mod edges;
 mod evaluation;
-mod faults;
 mod fillings;
 mod group_steps;
 mod groups;
@@ -35,7 +34,6 @@ pub use checks::{Check, CheckKind, Edge, Event};
 pub use delays::lesser;
 pub use edges::{edge_of, is_fall, is_rise, moves};
 pub use evaluation::output_at;
-pub use faults::Memory;
 pub use group_steps::{boolean_step, forced};
 pub use groups::{Both, Clocked, Gated, GroupKind, StateGroup};
 pub use laws::{

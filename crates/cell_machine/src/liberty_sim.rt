@@ -7,7 +7,6 @@ ghost use Rattle.cell_machine.specs.CellTrace.{inputs_of};
 use crate::cells::Cell;
 use crate::changes::Change;
 use crate::condition_names::{arc_names, check_names};
-use crate::faults::Memory;
 use crate::pin_values::input_number;
 use crate::reports::report_all;
 use crate::shown::{Shown, show_all, show_start};
@@ -15,7 +14,7 @@ use crate::simulators::CellSim;
 use crate::states::change_states;
 use crate::times::Times;
 use sqlite_items::Items;
-use std::alloc::Global;
+use std::alloc::{AllocError, Global};
 use trit_cubes::Trit;
 
 /// A cell run by its own machine. It keeps the values of the inputs, the states and what the outputs show, and for each
@@ -42,7 +41,7 @@ impl<'a> LibertySim<'a> {
     ghost use Rattle.cell_machine.specs.CellTrace.{cell_machine_of};
 
     /// The simulator of a cell before any change: all inputs and all states are unknown.
-    pub fn start(alloc: Global, cell: &'a Cell) -> Result<LibertySim<'a>, Memory>
+    pub fn start(alloc: Global, cell: &'a Cell) -> Result<LibertySim<'a>, AllocError>
         ensures machine { IfOk result (λ sim. ⟦<LibertySim<'a> as CellSim>⟧.machine sim ≡ cell_machine_of (data_of cell.now)) }
         ensures stands { IfOk result (λ sim. ⟦<LibertySim<'a> as CellSim>⟧.stands sim []) }
     {

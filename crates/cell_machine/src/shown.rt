@@ -10,9 +10,8 @@ use crate::cells::Cell;
 use crate::changes::Change;
 use crate::delays::{OutputChange, least_delay};
 use crate::evaluation::output_value;
-use crate::faults::Memory;
 use sqlite_items::Items;
-use std::alloc::Global;
+use std::alloc::{AllocError, Global};
 use trit_cubes::Trit;
 
 /// What an output shows: its value, and its delay in picoseconds where it changed at the last change.
@@ -90,7 +89,7 @@ pub fn show_start(
     cell: &Cell,
     inputs: &[Trit],
     states: &[Trit],
-) -> Result<Items<Shown>, Memory>
+) -> Result<Items<Shown>, AllocError>
     ensures { IfOk result (λ shown. shown ≡ map (shown_first cell.now.pins cell.now.groups inputs.now states.now) cell.now.outputs) }
 {
     let mut shown = Items::new(alloc);

@@ -8,7 +8,6 @@ ghost use Rattle.cell_parts.specs.KnownNames.{clash_in, IsAgainst, IsKnown};
 ghost use Rattle.cell_parts.specs.States.{states_in as states_in_of};
 ghost use Rattle.cell_parts.specs.Shown.{shown_name, shown_state};
 
-use crate::fault::Memory;
 use crate::groups::{is_pin, is_state};
 use crate::least::lesser;
 use crate::pins::direction_of;
@@ -154,7 +153,7 @@ pub struct Known {
 }
 
 /// Adds a name to those with which a name of this role clashes, unless the two may share it.
-fn keep(names: &mut Names, role: Role, one: &Declared<'_>) -> Result<(), Memory>
+fn keep(names: &mut Names, role: Role, one: &Declared<'_>) -> Result<(), AllocError>
     ensures { OnOk result ((earlier : List DeclaredName) → IsAgainst role earlier names.old → IsAgainst role (earlier ++ shown_name one.now ∷ []) names.new) }
 {
     if !may_share(role, one.role) {
@@ -164,7 +163,7 @@ fn keep(names: &mut Names, role: Role, one: &Declared<'_>) -> Result<(), Memory>
 }
 
 /// Adds a declared name.
-fn add(known: &mut Known, one: &Declared<'_>) -> Result<(), Memory>
+fn add(known: &mut Known, one: &Declared<'_>) -> Result<(), AllocError>
     ensures { OnOk result ((earlier : List DeclaredName) → IsKnown earlier known.old → IsKnown (earlier ++ shown_name one.now ∷ []) known.new) }
 {
     keep(&mut known.plain, Role::Plain, one)?;
@@ -196,7 +195,7 @@ fn clash_at(known: &Known, one: &Declared<'_>) -> Option<usize>
 
 /// The least offset of a name that clashes with an earlier one.
 #[tactic(auto, using(crate::proofs::LeastLemmas::lesser_none))]
-pub fn first_clash(alloc: Global, declared: &[Declared<'_>]) -> Result<Option<usize>, Memory>
+pub fn first_clash(alloc: Global, declared: &[Declared<'_>]) -> Result<Option<usize>, AllocError>
     ensures { IfOk result (λ at. at ≡ least (clashes_after [] (map shown_name declared.now))) }
 {
     let mut known = Known {

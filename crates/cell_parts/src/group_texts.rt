@@ -8,12 +8,11 @@ ghost use Rattle.cell_parts.specs.StateReadings.{own_scope as own_scope_of};
 ghost use Rattle.cell_parts.specs.Texts.{text_as as text_as_of};
 ghost use Rattle.cell_parts.specs.Shown.{shown_vocabulary, shown_arguments};
 
-use crate::fault::Memory;
 use crate::states::{Arguments, arguments_of};
 use crate::texts::{Scope, Text, text_as};
 use crate::vocabulary::Vocabulary;
 use liberty_groups::Group;
-use std::alloc::Global;
+use std::alloc::{AllocError, Global};
 use timing_arcs::last_attribute;
 
 /// What the texts of a group may name that may name its own variables.
@@ -38,7 +37,7 @@ fn own_text(
     vocabulary: &Vocabulary<'_>,
     group: &Group,
     name: &[u8],
-) -> Result<Text, Memory>
+) -> Result<Text, AllocError>
     ensures { IfOk result (λ text. text ≡ text_as_of (shown_vocabulary vocabulary.now) (own_scope_of (shown_vocabulary vocabulary.now) (arguments_of_group group.now)) (attribute_of group.now name.now)) }
 {
     let own = own_scope(vocabulary, arguments_of(group));
@@ -51,7 +50,7 @@ fn other_text(
     vocabulary: &Vocabulary<'_>,
     group: &Group,
     name: &[u8],
-) -> Result<Text, Memory>
+) -> Result<Text, AllocError>
     ensures { IfOk result (λ text. text ≡ text_as_of (shown_vocabulary vocabulary.now) scope_of.Control (attribute_of group.now name.now)) }
 {
     text_as(
@@ -78,7 +77,7 @@ pub(crate) fn driving_texts(
     group: &Group,
     data_name: &[u8],
     control_name: &[u8],
-) -> Result<DrivingTexts, Memory>
+) -> Result<DrivingTexts, AllocError>
     ensures data_text { IfOk result (λ texts. texts.data_text ≡ text_as_of (shown_vocabulary vocabulary.now) (own_scope_of (shown_vocabulary vocabulary.now) (arguments_of_group group.now)) (attribute_of group.now data_name.now)) }
     ensures control { IfOk result (λ texts. texts.control ≡ text_as_of (shown_vocabulary vocabulary.now) scope_of.Control (attribute_of group.now control_name.now)) }
 {
@@ -99,7 +98,7 @@ pub(crate) fn forcing_texts(
     alloc: Global,
     vocabulary: &Vocabulary<'_>,
     group: &Group,
-) -> Result<ForcingTexts, Memory>
+) -> Result<ForcingTexts, AllocError>
     ensures clear { IfOk result (λ texts. texts.clear ≡ text_as_of (shown_vocabulary vocabulary.now) scope_of.Control (attribute_of group.now (codes "clear"))) }
     ensures preset { IfOk result (λ texts. texts.preset ≡ text_as_of (shown_vocabulary vocabulary.now) scope_of.Control (attribute_of group.now (codes "preset"))) }
 {

@@ -2,7 +2,6 @@
 #![tactic(auto)]
 
 pub mod declarations;
-pub mod fault;
 mod group_texts;
 pub mod groups;
 mod laws;

@@ -5,14 +5,13 @@ ghost use Rattle.timing_arcs.specs.Shown.{shown};
 ghost use Rattle.cell_parts.specs.Outputs.{node_as as node_as_of, function_or as function_or_of, output_text as output_text_of, pin_text as pin_text_of};
 ghost use Rattle.cell_parts.specs.Shown.{shown_vocabulary};
 
-use crate::fault::Memory;
 use crate::pins::direction_of;
 use crate::texts::{Scope, Text, node_text, text_as};
 use crate::vocabulary::Vocabulary;
 use cell_machine::Direction;
 use liberty_groups::Group;
 use sqlite_items::Items;
-use std::alloc::Global;
+use std::alloc::{AllocError, Global};
 use timing_arcs::{Attribute, last_attribute};
 
 /// The node that an internal pin names, if it names one.
@@ -31,7 +30,7 @@ fn function_or(
     vocabulary: &Vocabulary<'_>,
     node: Option<Attribute<'_>>,
     function: Option<Attribute<'_>>,
-) -> Result<Text, Memory>
+) -> Result<Text, AllocError>
     ensures { IfOk result (λ text. text ≡ function_or_of (shown_vocabulary vocabulary.now) (option_map shown node.entry) (option_map shown function.entry)) }
 {
     match node {
@@ -41,7 +40,11 @@ fn function_or(
 }
 
 /// The text of an output: its `state_function` where it has one, else its `internal_node`, else its `function`.
-fn output_text(alloc: Global, vocabulary: &Vocabulary<'_>, group: &Group) -> Result<Text, Memory>
+fn output_text(
+    alloc: Global,
+    vocabulary: &Vocabulary<'_>,
+    group: &Group,
+) -> Result<Text, AllocError>
     ensures { IfOk result (λ text. text ≡ output_text_of (shown_vocabulary vocabulary.now) group.now) }
 {
     let state = last_attribute(group, b"state_function");
@@ -55,7 +58,11 @@ fn output_text(alloc: Global, vocabulary: &Vocabulary<'_>, group: &Group) -> Res
 }
 
 /// The text that the pins of a group have.
-pub fn pin_text(alloc: Global, vocabulary: &Vocabulary<'_>, group: &Group) -> Result<Text, Memory>
+pub fn pin_text(
+    alloc: Global,
+    vocabulary: &Vocabulary<'_>,
+    group: &Group,
+) -> Result<Text, AllocError>
     ensures { IfOk result (λ text. text ≡ pin_text_of (shown_vocabulary vocabulary.now) group.now) }
 {
     match direction_of(group) {
@@ -73,7 +80,7 @@ pub fn pin_texts(
     alloc: Global,
     vocabulary: &Vocabulary<'_>,
     pins: &[&Group],
-) -> Result<Items<Text>, Memory>
+) -> Result<Items<Text>, AllocError>
     ensures { IfOk result (λ texts. texts ≡ map (pin_text_of (shown_vocabulary vocabulary.now)) (map (λ group. group.now) pins.now)) }
 {
     let mut texts = Items::new(alloc);

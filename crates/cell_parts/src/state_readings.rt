@@ -3,7 +3,6 @@ ghost use Rattle.std.specs.Prelude.{◌≡◌, IfOk, map};
 ghost use Rattle.cell_parts.specs.StateReadings.{is_ff as is_ff_of, data_name as data_name_of, control_name as control_name_of, lacks_attribute as lacks_attribute_of, group_malformed as group_malformed_of, place_if as place_if_of, holds_state as holds_state_of, reading_of_texts as reading_of_texts_of, reading_of_table as reading_of_table_of, state_reading as state_reading_of};
 ghost use Rattle.cell_parts.specs.Shown.{shown_vocabulary};
 
-use crate::fault::Memory;
 use crate::group_texts::{driving_texts, forcing_texts};
 use crate::groups::{is_called, is_missing};
 use crate::states::{arguments_of, is_table, states_in};
@@ -14,7 +13,7 @@ use crate::texts::Text;
 use crate::vocabulary::Vocabulary;
 use liberty_groups::Group;
 use sqlite_items::Items;
-use std::alloc::Global;
+use std::alloc::{AllocError, Global};
 use timing_arcs::last_attribute;
 
 /// What a group that holds states says.
@@ -88,7 +87,7 @@ fn lacks_attribute(group: &Group) -> bool
 }
 
 /// Whether the group holds a state.
-fn holds_state(alloc: Global, group: &Group) -> Result<bool, Memory>
+fn holds_state(alloc: Global, group: &Group) -> Result<bool, AllocError>
     ensures { IfOk result (λ holds. holds ≡ holds_state_of group.now) }
 {
     let states = states_in(alloc, group)?;
@@ -118,7 +117,7 @@ fn reading_of_texts(
     vocabulary: &Vocabulary<'_>,
     pins: usize,
     group: &Group,
-) -> Result<StateReading, Memory>
+) -> Result<StateReading, AllocError>
     ensures { IfOk result (λ reading. reading ≡ reading_of_texts_of (shown_vocabulary vocabulary.now) pins group.now) }
 {
     let holds = holds_state(alloc, group)?;
@@ -154,7 +153,7 @@ fn reading_of_table(
     vocabulary: &Vocabulary<'_>,
     pins: usize,
     group: &Group,
-) -> Result<StateReading, Memory>
+) -> Result<StateReading, AllocError>
     ensures { IfOk result (λ reading. reading ≡ reading_of_table_of (shown_vocabulary vocabulary.now) pins group.now) }
 {
     let holds = holds_state(alloc, group)?;
@@ -184,7 +183,7 @@ fn state_reading(
     vocabulary: &Vocabulary<'_>,
     pins: usize,
     group: &Group,
-) -> Result<StateReading, Memory>
+) -> Result<StateReading, AllocError>
     ensures { IfOk result (λ reading. reading ≡ state_reading_of (shown_vocabulary vocabulary.now) pins group.now) }
 {
     if is_table(group) {
@@ -200,7 +199,7 @@ pub fn state_readings(
     vocabulary: &Vocabulary<'_>,
     pins: usize,
     groups: &[&Group],
-) -> Result<Items<StateReading>, Memory>
+) -> Result<Items<StateReading>, AllocError>
     ensures { IfOk result (λ readings. readings ≡ map (state_reading_of (shown_vocabulary vocabulary.now) pins) (map (λ group. group.now) groups.now)) }
 {
     let mut readings = Items::new(alloc);

@@ -4,13 +4,12 @@ ghost use Rattle.bool_functions.specs.Support.{inserted, insert_all};
 ghost use Rattle.cell_parts.specs.Texts.{text_support};
 ghost use Rattle.cell_parts.specs.StateReadings.{pins_among as pins_among_of, names_read};
 
-use crate::fault::Memory;
 use crate::texts::Text;
 use sqlite_items::Items;
-use std::alloc::Global;
+use std::alloc::{AllocError, Global};
 
 /// Puts a number at its place in an ascending list, unless it is there.
-pub fn insert(found: &mut Vec<usize>, i: usize) -> Result<(), Memory>
+pub fn insert(found: &mut Vec<usize>, i: usize) -> Result<(), AllocError>
     ensures { OnOk result (found.new.items ≡ inserted i found.old.items) }
 {
     for at in 0..found.len() {
@@ -27,7 +26,7 @@ pub fn insert(found: &mut Vec<usize>, i: usize) -> Result<(), Memory>
 }
 
 /// Puts those of some numbers that are below a bound at their places in an ascending list.
-fn insert_below(found: &mut Vec<usize>, bound: usize, numbers: &[usize]) -> Result<(), Memory>
+fn insert_below(found: &mut Vec<usize>, bound: usize, numbers: &[usize]) -> Result<(), AllocError>
     ensures { OnOk result (found.new.items ≡ insert_all found.old.items (filter (λ i. nat_lt i bound) numbers.now)) }
 {
     for i in numbers {
@@ -44,7 +43,7 @@ fn insert_text(
     found: &mut Vec<usize>,
     pins: usize,
     text: &Text,
-) -> Result<(), Memory>
+) -> Result<(), AllocError>
     ensures { OnOk result (found.new.items ≡ insert_all found.old.items (filter (λ i. nat_lt i pins) (text_support text.now))) }
 {
     let Text::Reads { function, .. } = text else {
@@ -63,7 +62,7 @@ pub(crate) fn support_of(
     control: &Text,
     clear: &Text,
     preset: &Text,
-) -> Result<Items<usize>, Memory>
+) -> Result<Items<usize>, AllocError>
     ensures { IfOk result (λ support. support ≡ pins_among_of pins (names_read first.now control.now clear.now preset.now)) }
 {
     let mut found = Vec::new(alloc);
@@ -79,7 +78,7 @@ pub(crate) fn pins_among(
     alloc: Global,
     pins: usize,
     numbers: &[usize],
-) -> Result<Items<usize>, Memory>
+) -> Result<Items<usize>, AllocError>
     ensures { IfOk result (λ support. support ≡ pins_among_of pins numbers.now) }
 {
     let mut found = Vec::new(alloc);

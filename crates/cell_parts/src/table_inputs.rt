@@ -4,17 +4,16 @@ ghost use Rattle.std.specs.Option.{option_map};
 ghost use Rattle.cell_parts.specs.StateReadings.{word_use as word_use_of, has_unknown_word as has_unknown_word_of, has_coupled_word as has_coupled_word_of, input_words as input_words_of, number_in as number_in_names, numbers_of as numbers_of_words};
 ghost use Rattle.cell_parts.specs.Shown.{shown_vocabulary, shown_arguments};
 
-use crate::fault::Memory;
 use crate::states::{Arguments, names_in};
 use crate::texts::{Use, class_at, control_use};
 use crate::vocabulary::Vocabulary;
-use std::alloc::Global;
+use std::alloc::{AllocError, Global};
 
 /// The names of the inputs of a table.
 pub(crate) fn input_words(
     alloc: Global,
     arguments: Option<Arguments<'_>>,
-) -> Result<Vec<&[u8]>, Memory>
+) -> Result<Vec<&[u8]>, AllocError>
     ensures { IfOk result (λ words. map (λ word. word.now) words.items ≡ input_words_of (option_map shown_arguments arguments.entry)) }
 {
     match arguments {
@@ -71,7 +70,7 @@ pub(crate) fn numbers_of(
     alloc: Global,
     vocabulary: &Vocabulary<'_>,
     words: &[&[u8]],
-) -> Result<Vec<usize>, Memory>
+) -> Result<Vec<usize>, AllocError>
     ensures { IfOk result (λ numbers. numbers.items ≡ numbers_of_words (shown_vocabulary vocabulary.now) (map (λ word. word.now) words.now)) }
 {
     let mut numbers = Vec::new(alloc);

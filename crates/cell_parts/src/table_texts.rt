@@ -7,11 +7,10 @@ ghost use Rattle.timing_arcs.specs.Shown.{shown};
 ghost use Rattle.cell_parts.specs.StateReadings.{is_uncoupled as is_uncoupled_of, table_text as table_text_of, table_with as table_with_of};
 ghost use Rattle.cell_parts.specs.Shown.{shown_arguments};
 
-use crate::fault::Memory;
 use crate::states::{Arguments, names_in};
 use crate::texts::Text;
 use statetables::{CurrentSymbol, StateTable, TableFault, TableRow, read_table};
-use std::alloc::Global;
+use std::alloc::{AllocError, Global};
 use timing_arcs::Attribute;
 
 /// Whether a current symbol is `-`.
@@ -61,7 +60,7 @@ fn table_text(
     inputs: usize,
     nodes: usize,
     attribute: Option<Attribute<'_>>,
-) -> Result<Text, Memory>
+) -> Result<Text, AllocError>
     ensures { IfOk result (λ text. text ≡ table_text_of inputs nodes (option_map shown attribute.entry)) }
 {
     let Some(attribute) = attribute else {
@@ -77,7 +76,7 @@ fn table_text(
         }
         Err(TableFault::RowWidth(_)) => Ok(Text::Malformed(attribute.at)),
         Err(TableFault::BadSymbol { .. }) => Ok(Text::Malformed(attribute.at)),
-        Err(TableFault::Memory) => Err(Memory),
+        Err(TableFault::Memory) => Err(AllocError),
     }
 }
 
@@ -86,7 +85,7 @@ pub(crate) fn table_with(
     alloc: Global,
     arguments: Option<Arguments<'_>>,
     attribute: Option<Attribute<'_>>,
-) -> Result<Text, Memory>
+) -> Result<Text, AllocError>
     ensures { IfOk result (λ text. text ≡ table_with_of (option_map shown_arguments arguments.entry) (option_map shown attribute.entry)) }
 {
     let Some(arguments) = arguments else {

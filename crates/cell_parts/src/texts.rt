@@ -7,10 +7,9 @@ ghost use Rattle.timing_arcs.specs.Shown.{shown};
 ghost use Rattle.cell_parts.specs.Texts.{control_use as control_use_of, own_use as own_use_of, function_use as function_use_of, state_function_use as state_function_use_of, use_of as use_of_name, use_at as use_at_place, is_unknown as is_unknown_use, is_coupled as is_coupled_use, class_at as class_at_place, is_number as is_number_of, judged_tree, text_as as text_of, is_node_class as is_node_class_of, node_text as node_text_of, malformed_at as malformed_at_of, unknown_at as unknown_at_of, coupled_at as coupled_at_of};
 ghost use Rattle.cell_parts.specs.Shown.{shown_vocabulary};
 
-use crate::fault::Memory;
 use crate::vocabulary::{Class, Vocabulary};
 use bool_functions::{Function, FunctionFault, read_function};
-use std::alloc::Global;
+use std::alloc::{AllocError, Global};
 use timing_arcs::Attribute;
 
 /// What a name is to a text that has it.
@@ -170,7 +169,7 @@ fn judge(
     scope: Scope,
     at: usize,
     function: Function,
-) -> Result<Text, Memory>
+) -> Result<Text, AllocError>
     ensures { IfOk result (λ text. text ≡ judged_tree classes.now scope at function) }
 {
     let support = function.support(alloc)?;
@@ -189,7 +188,7 @@ pub fn text_as(
     vocabulary: &Vocabulary<'_>,
     scope: Scope,
     attribute: Option<Attribute<'_>>,
-) -> Result<Text, Memory>
+) -> Result<Text, AllocError>
     ensures { IfOk result (λ text. text ≡ text_of (shown_vocabulary vocabulary.now) scope (option_map shown attribute.entry)) }
 {
     let Some(attribute) = attribute else {
@@ -201,7 +200,7 @@ pub fn text_as(
             Ok(Text::Malformed(attribute.at))
         }
         Err(FunctionFault::UnknownName(_)) => Ok(Text::Unknown(attribute.at)),
-        Err(FunctionFault::Memory) => Err(Memory),
+        Err(FunctionFault::Memory) => Err(AllocError),
     }
 }
 

@@ -6,7 +6,6 @@ ghost use Rattle.timing_arcs.specs.Shown.{shown};
 ghost use Rattle.cell_parts.specs.Pins.{direction_of as direction_of_group};
 ghost use Rattle.cell_parts.specs.Shown.{shown_state, shown_entry};
 
-use crate::fault::Memory;
 use crate::pins::direction_of;
 use crate::states::StateName;
 use bool_functions::Names;
@@ -202,7 +201,7 @@ pub fn read_vocabulary<'a>(
     alloc: Global,
     states: &[StateName<'a>],
     pins: &[&'a Group],
-) -> Result<Vocabulary<'a>, Memory>
+) -> Result<Vocabulary<'a>, AllocError>
     ensures names { IfOk result (λ v. v.names ≡ entry_names (vocabulary_of (map shown_state states.now) (map (λ group. group.now) pins.now))) }
     ensures classes { IfOk result (λ v. v.classes.items ≡ entry_classes (vocabulary_of (map shown_state states.now) (map (λ group. group.now) pins.now))) }
     ensures targets { IfOk result (λ v. map (λ name. name.now) v.targets.items ≡ entry_targets (vocabulary_of (map shown_state states.now) (map (λ group. group.now) pins.now))) }

@@ -4,9 +4,8 @@ ghost use Rattle.timing_arcs.specs.Timing.{reading_answer, held_answer, Gives};
 ghost use Rattle.cell_parts.specs.Pins.{owners_in};
 ghost use Rattle.cell_reader.specs.Held.{cell_room, left_room, next_answer, room_after, held_from, AreSharedTexts};
 
-use cell_parts::fault::Memory;
 use liberty_groups::Group;
-use std::alloc::Global;
+use std::alloc::{AllocError, Global};
 use timing_arcs::{PinTiming, Room, Subject, TimingFault, TimingTexts, read_timing};
 
 /// What the timing of a pin group says, where it has several pins: then it is read once for all of them. That of a single
@@ -15,7 +14,7 @@ fn shared_texts<'a>(
     alloc: Global,
     subject: &Subject,
     owner: &'a Group,
-) -> Result<Option<TimingTexts<'a>>, Memory>
+) -> Result<Option<TimingTexts<'a>>, AllocError>
     ensures { IfOk result (AreSharedTexts subject.now owner.now) }
 {
     if owner.arguments.len() < 2 {
@@ -23,7 +22,7 @@ fn shared_texts<'a>(
     }
     match TimingTexts::read(alloc, owner, subject) {
         Ok(texts) => Ok(Some(texts)),
-        Err(_) => Err(Memory),
+        Err(_) => Err(AllocError),
     }
 }
 
@@ -51,7 +50,7 @@ fn timing_answer(
     owner: &Group,
     texts: &Option<TimingTexts<'_>>,
     room: Room,
-) -> Result<Result<PinTiming, TimingFault>, Memory>
+) -> Result<Result<PinTiming, TimingFault>, AllocError>
     requires { AreSharedTexts subject.now owner.now texts.now }
     ensures { IfOk result (λ answer. answer ≡ held_answer room (reading_answer subject.now owner.now)) }
 {
@@ -61,7 +60,7 @@ fn timing_answer(
         Err(TimingFault::UnknownName(at)) => Ok(Err(TimingFault::UnknownName(at))),
         Err(TimingFault::OwnCondition(at)) => Ok(Err(TimingFault::OwnCondition(at))),
         Err(TimingFault::Number(at)) => Ok(Err(TimingFault::Number(at))),
-        Err(TimingFault::Memory) => Err(Memory),
+        Err(TimingFault::Memory) => Err(AllocError),
     }
 }
 
@@ -106,7 +105,7 @@ impl HeldAnswers {
         subject: &mut Subject,
         owner: &Group,
         texts: &Option<TimingTexts<'_>>,
-    ) -> Result<(), Memory>
+    ) -> Result<(), AllocError>
         requires { AreSharedTexts subject.old owner.now texts.now }
         ensures answers { OnOk result (self.new.answers.items ≡ self.old.answers.items ++ next_answer self.old.room subject.old (length self.old.answers.items) owner.now ∷ []) }
         ensures room { OnOk result (self.new.room ≡ left_room self.old.room (next_answer self.old.room subject.old (length self.old.answers.items) owner.now)) }
@@ -127,7 +126,7 @@ impl HeldAnswers {
         alloc: Global,
         subject: &mut Subject,
         owner: &Group,
-    ) -> Result<(), Memory>
+    ) -> Result<(), AllocError>
         ensures answers { OnOk result (self.new.answers.items ≡ self.old.answers.items ++ held_from self.old.room subject.old (length self.old.answers.items) (owners_in owner.now)) }
         ensures room { OnOk result (self.new.room ≡ room_after self.old.room subject.old (length self.old.answers.items) (owners_in owner.now)) }
         ensures names { OnOk result (subject.new.names ≡ subject.old.names) }
@@ -148,7 +147,7 @@ pub(crate) fn timing_answers(
     alloc: Global,
     subject: &mut Subject,
     groups: &[&Group],
-) -> Result<Vec<Result<PinTiming, TimingFault>>, Memory>
+) -> Result<Vec<Result<PinTiming, TimingFault>>, AllocError>
     ensures { IfOk result (λ answers. answers.items ≡ held_from (cell_room (length subject.old.pins)) subject.old 0 (flat_map owners_in (map (λ group. group.now) groups.now))) }
 {
     let mut held = HeldAnswers {

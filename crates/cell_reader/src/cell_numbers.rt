@@ -4,11 +4,10 @@ ghost use Rattle.std.specs.Option.{option_map};
 ghost use Rattle.cell_parts.specs.Building.{is_second_name as is_second_name_of, number_in as number_in_of, number_as as number_as_of, cell_numbers as cell_numbers_of};
 ghost use Rattle.cell_parts.specs.Shown.{shown_state, shown_vocabulary};
 
-use cell_parts::fault::Memory;
 use cell_parts::states::StateName;
 use cell_parts::texts::class_at;
 use cell_parts::vocabulary::{Class, Vocabulary};
-use std::alloc::Global;
+use std::alloc::{AllocError, Global};
 
 /// Whether this is the name of a second variable.
 fn is_second_name(name: &[u8], second: Option<&[u8]>) -> bool
@@ -57,7 +56,7 @@ pub(crate) fn cell_numbers(
     states: &[StateName<'_>],
     pins: usize,
     vocabulary: &Vocabulary<'_>,
-) -> Result<Vec<usize>, Memory>
+) -> Result<Vec<usize>, AllocError>
     requires pins { pins ≤ 64 }
     requires states { length states.now ≤ 16 }
     ensures { IfOk result (λ numbers. numbers.items ≡ cell_numbers_of (map shown_state states.now) pins (shown_vocabulary vocabulary.now)) }

@@ -11,10 +11,9 @@ use crate::refusal::{Reason, Refusal};
 use crate::scans::{banks, clear_presets, directions, left_out_states, three_states};
 use bool_functions::Names;
 use cell_parts::declarations::{declared_of, first_clash};
-use cell_parts::fault::Memory;
 use cell_parts::least::lesser;
 use liberty_groups::Group;
-use std::alloc::Global;
+use std::alloc::{AllocError, Global};
 
 /// Where a name is declared twice, or an earlier cell has the name of this one.
 #[tactic(auto, using(cell_parts::proofs::LeastLemmas::least_append))]
@@ -23,7 +22,7 @@ fn duplicates(
     earlier: &Names,
     cell: &Group,
     groups: &[&Group],
-) -> Result<Option<usize>, Memory>
+) -> Result<Option<usize>, AllocError>
     requires { map (λ group. group.now) groups.now ≡ inner_groups cell.now.items }
     ensures { IfOk result (λ at. at ≡ least (duplicates_of earlier.now cell.now)) }
 {
@@ -65,7 +64,7 @@ pub(crate) fn early_refusal(
     groups: &[&Group],
     pins: &[&Group],
     states: &[&Group],
-) -> Result<Option<Refusal>, Memory>
+) -> Result<Option<Refusal>, AllocError>
     requires groups { map (λ group. group.now) groups.now ≡ inner_groups cell.now.items }
     requires pins { map (λ group. group.now) pins.now ≡ pin_groups cell.now }
     requires states { map (λ group. group.now) states.now ≡ state_groups cell.now }

@@ -1,6 +1,5 @@
 //! Why no cell is read.
 use crate::refusal::Refusal;
-use cell_parts::fault::Memory;
 use std::alloc::AllocError;
 use thiserror::Error;
 
@@ -22,17 +21,6 @@ impl From<AllocError> for CellFault {
     ghost from_gives = { λ _ e. e ≡ fault.Memory };
 
     fn from(_: AllocError) -> CellFault {
-        CellFault::Memory
-    }
-}
-
-impl From<Memory> for CellFault {
-    ghost use Rattle.std.specs.Prelude.{◌≡◌};
-    ghost use Rattle.cell_reader.specs.declared.fault.CellFault.TheVariants as fault;
-
-    ghost from_gives = { λ _ e. e ≡ fault.Memory };
-
-    fn from(_: Memory) -> CellFault {
         CellFault::Memory
     }
 }

@@ -17,9 +17,8 @@ use crate::text_faults::{
 };
 use crate::timing_faults::{malformed_timings, number_timings, own_timings, unknown_timings};
 use cell_parts::declarations::{declared_of, first_bad_name};
-use cell_parts::fault::Memory;
 use cell_parts::least::lesser;
-use std::alloc::Global;
+use std::alloc::{AllocError, Global};
 
 /// Where a text or a table of the cell does not read.
 #[tactic(auto, using(cell_parts::proofs::LeastLemmas::least_append))]
@@ -45,7 +44,7 @@ fn unknown_names(parts: &Parts<'_>) -> Option<usize>
 
 /// Where a name of the cell is none.
 #[tactic(auto, using(cell_parts::proofs::LeastLemmas::least_append))]
-fn bad_names(alloc: Global, parts: &Parts<'_>) -> Result<Option<usize>, Memory>
+fn bad_names(alloc: Global, parts: &Parts<'_>) -> Result<Option<usize>, AllocError>
     requires { AreParts parts.now }
     ensures { IfOk result (λ at. at ≡ least (bad_names_of parts.now.cell.now)) }
 {
@@ -55,7 +54,7 @@ fn bad_names(alloc: Global, parts: &Parts<'_>) -> Result<Option<usize>, Memory>
 
 /// Where a limit of the cell is passed.
 #[tactic(auto, using(cell_parts::proofs::LeastLemmas::least_append))]
-fn limits(alloc: Global, parts: &Parts<'_>) -> Result<Option<usize>, Memory>
+fn limits(alloc: Global, parts: &Parts<'_>) -> Result<Option<usize>, AllocError>
     requires { AreParts parts.now }
     ensures { IfOk result (λ at. at ≡ least (limits_told (subject_in parts.now) parts.now.cell.now)) }
 {
@@ -75,7 +74,7 @@ fn limits(alloc: Global, parts: &Parts<'_>) -> Result<Option<usize>, Memory>
 
 /// The first of the reasons that are tried after the texts are read, but for the last of all, where of each pin's timing the
 /// kind that is wrong first is known.
-fn told_refusal(alloc: Global, parts: &Parts<'_>) -> Result<Option<Refusal>, Memory>
+fn told_refusal(alloc: Global, parts: &Parts<'_>) -> Result<Option<Refusal>, AllocError>
     requires { AreParts parts.now }
     ensures { IfOk result (λ refusal. refusal ≡ first_refusal (told_reasons (subject_in parts.now) parts.now.cell.now)) }
 {
@@ -91,7 +90,10 @@ fn told_refusal(alloc: Global, parts: &Parts<'_>) -> Result<Option<Refusal>, Mem
 }
 
 /// The first of the reasons that are tried after the texts are read, but for the last of all.
-pub(crate) fn middle_refusal(alloc: Global, parts: &Parts<'_>) -> Result<Option<Refusal>, Memory>
+pub(crate) fn middle_refusal(
+    alloc: Global,
+    parts: &Parts<'_>,
+) -> Result<Option<Refusal>, AllocError>
     requires { AreParts parts.now }
     ensures { IfOk result (λ refusal. refusal ≡ first_refusal (middle_reasons (subject_in parts.now) parts.now.cell.now)) }
 {

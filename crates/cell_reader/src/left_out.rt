@@ -3,10 +3,9 @@ ghost use Rattle.std.specs.Prelude.{◌≡◌, ◌++◌, ◌<◌, OnOk, IfOk, le
 ghost use Rattle.std.specs.Option.{option_copied};
 ghost use Rattle.cell_reader.specs.PinTimings.{type_text as type_text_of, type_at as type_at_of, left_out_as, left_out_in, left_out_from};
 
-use cell_parts::fault::Memory;
 use liberty_groups::{Group, Item};
 use sqlite_items::Items;
-use std::alloc::Global;
+use std::alloc::{AllocError, Global};
 use timing_arcs::{PinTiming, TimingFault, inner_group, last_attribute};
 
 /// A timing group that makes no check and no arc of its type.
@@ -48,7 +47,7 @@ fn add_left_out(
     pin: usize,
     owner: &Group,
     places: &[usize],
-) -> Result<(), Memory>
+) -> Result<(), AllocError>
     ensures { OnOk result (found.new ≡ found.old ++ map (left_out_as pin owner.now) places.now) }
 {
     for place in places {
@@ -65,7 +64,7 @@ fn add_answer(
     pin: usize,
     owner: &Group,
     answer: &Result<PinTiming, TimingFault>,
-) -> Result<(), Memory>
+) -> Result<(), AllocError>
     ensures { OnOk result (found.new ≡ found.old ++ left_out_in pin owner.now answer.now) }
 {
     match answer {
@@ -79,7 +78,7 @@ pub(crate) fn left_out_of(
     alloc: Global,
     owners: &[&Group],
     answers: &[Result<PinTiming, TimingFault>],
-) -> Result<Items<LeftOut>, Memory>
+) -> Result<Items<LeftOut>, AllocError>
     requires { length owners.now ≡ length answers.now }
     ensures { IfOk result (λ found. found ≡ left_out_from 0 (map (λ group. group.now) owners.now) answers.now) }
 {

@@ -24,7 +24,6 @@ mod text_kinds;
 mod timing_faults;
 mod timings;
 
-pub use cell_parts::fault::Memory;
 pub use fault::CellFault;
 pub use laws::{
     accepted_cells_are_sound, accepted_meets_none, accepted_pins_are_sound, accepted_states_are_few,

@@ -15,10 +15,9 @@ use crate::output_pins::wide_outputs;
 use crate::parts::Parts;
 use crate::state_groups::state_groups;
 use cell_machine::StateGroup;
-use cell_parts::fault::Memory;
 use cell_parts::least::lesser;
 use sqlite_items::Items;
-use std::alloc::Global;
+use std::alloc::{AllocError, Global};
 
 /// The numbers in a cell of the names that its texts name, and its state groups.
 #[derive(Drop)]
@@ -28,7 +27,7 @@ pub struct Numbered {
 }
 
 /// The numbers of the names of a cell, and its state groups.
-pub(crate) fn number_names(alloc: Global, parts: &Parts<'_>) -> Result<Numbered, Memory>
+pub(crate) fn number_names(alloc: Global, parts: &Parts<'_>) -> Result<Numbered, AllocError>
     requires parts { AreParts parts.now }
     requires unmet { first_refusal (middle_reasons (subject_in parts.now) parts.now.cell.now) ≡ None }
     ensures { IfOk result (λ made. AreNumbered parts.now.cell.now made) }
@@ -68,7 +67,7 @@ pub(crate) fn udp_inputs(
     alloc: Global,
     parts: &Parts<'_>,
     numbered: &Numbered,
-) -> Result<Option<usize>, Memory>
+) -> Result<Option<usize>, AllocError>
     requires parts { AreParts parts.now }
     requires numbered { AreNumbered parts.now.cell.now numbered.now }
     requires unmet { first_refusal (middle_reasons (subject_in parts.now) parts.now.cell.now) ≡ None }

@@ -3,16 +3,15 @@ ghost use Rattle.std.specs.Prelude.{◌≡◌, IfOk, flat_map};
 ghost use Rattle.timing_arcs.specs.Timing.{least};
 ghost use Rattle.cell_reader.specs.PinTimings.{check_at_in, arc_at_in, wide_in};
 
-use cell_parts::fault::Memory;
 use cell_parts::least::lesser;
-use std::alloc::Global;
+use std::alloc::{AllocError, Global};
 use timing_arcs::{PinTiming, TimingFault};
 
 /// For each check the offset of what makes it.
 pub(crate) fn check_offsets(
     alloc: Global,
     answers: &[Result<PinTiming, TimingFault>],
-) -> Result<Vec<usize>, Memory>
+) -> Result<Vec<usize>, AllocError>
     ensures { IfOk result (λ offsets. offsets.items ≡ flat_map check_at_in answers.now) }
 {
     let mut offsets = Vec::new(alloc);
@@ -28,7 +27,7 @@ pub(crate) fn check_offsets(
 pub(crate) fn arc_offsets(
     alloc: Global,
     answers: &[Result<PinTiming, TimingFault>],
-) -> Result<Vec<usize>, Memory>
+) -> Result<Vec<usize>, AllocError>
     ensures { IfOk result (λ offsets. offsets.items ≡ flat_map arc_at_in answers.now) }
 {
     let mut offsets = Vec::new(alloc);

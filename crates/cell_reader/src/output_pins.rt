@@ -9,7 +9,6 @@ ghost use Rattle.cell_parts.specs.Shown.{shown_vocabulary};
 use crate::sources::sources_of;
 use crate::text_kinds::function_of;
 use cell_machine::{Direction, OutputPin, StateGroup};
-use cell_parts::fault::Memory;
 use cell_parts::least::lesser;
 use cell_parts::outputs::pin_text;
 use cell_parts::pins::direction_of;
@@ -17,7 +16,7 @@ use cell_parts::texts::Text;
 use cell_parts::vocabulary::Vocabulary;
 use liberty_groups::Group;
 use sqlite_items::Items;
-use std::alloc::Global;
+use std::alloc::{AllocError, Global};
 
 /// An output pin with its function, over the numbers that `to` has for the names of its text.
 fn output_pin(
@@ -27,7 +26,7 @@ fn output_pin(
     to: &[usize],
     pin: usize,
     text: &Text,
-) -> Result<OutputPin, Memory>
+) -> Result<OutputPin, AllocError>
     requires pins { pins ≤ 64 }
     requires groups { length groups.now ≤ 16 }
     requires fits { FitsText (length to.now) text.now }
@@ -52,7 +51,7 @@ fn add_output(
     pins: usize,
     pin: usize,
     owner: &Group,
-) -> Result<(), Memory>
+) -> Result<(), AllocError>
     requires pins { pins ≤ 64 }
     requires groups { length groups.now ≤ 16 }
     requires numbers { length to.now ≡ length vocabulary.now.classes.items }
@@ -73,7 +72,7 @@ pub(crate) fn outputs_of(
     to: &[usize],
     pins: usize,
     owners: &[&Group],
-) -> Result<Items<OutputPin>, Memory>
+) -> Result<Items<OutputPin>, AllocError>
     requires pins { pins ≤ 64 }
     requires groups { length groups.now ≤ 16 }
     requires numbers { length to.now ≡ length vocabulary.now.classes.items }
@@ -103,7 +102,7 @@ fn wide_function(
     to: &[usize],
     text: &Text,
     at: usize,
-) -> Result<Option<usize>, Memory>
+) -> Result<Option<usize>, AllocError>
     requires pins { pins ≤ 64 }
     requires groups { length groups.now ≤ 16 }
     requires fits { FitsText (length to.now) text.now }
@@ -125,7 +124,7 @@ fn wide_text(
     groups: &[StateGroup],
     to: &[usize],
     text: &Text,
-) -> Result<Option<usize>, Memory>
+) -> Result<Option<usize>, AllocError>
     requires pins { pins ≤ 64 }
     requires groups { length groups.now ≤ 16 }
     requires fits { FitsText (length to.now) text.now }
@@ -145,7 +144,7 @@ fn wide_pin_text(
     to: &[usize],
     pins: usize,
     owner: &Group,
-) -> Result<Option<usize>, Memory>
+) -> Result<Option<usize>, AllocError>
     requires pins { pins ≤ 64 }
     requires groups { length groups.now ≤ 16 }
     requires numbers { length to.now ≡ length vocabulary.now.classes.items }
@@ -164,7 +163,7 @@ fn wide_output(
     to: &[usize],
     pins: usize,
     owner: &Group,
-) -> Result<Option<usize>, Memory>
+) -> Result<Option<usize>, AllocError>
     requires pins { pins ≤ 64 }
     requires groups { length groups.now ≤ 16 }
     requires numbers { length to.now ≡ length vocabulary.now.classes.items }
@@ -184,7 +183,7 @@ pub(crate) fn wide_outputs(
     to: &[usize],
     pins: usize,
     owners: &[&Group],
-) -> Result<Option<usize>, Memory>
+) -> Result<Option<usize>, AllocError>
     requires pins { pins ≤ 64 }
     requires groups { length groups.now ≤ 16 }
     requires numbers { length to.now ≡ length vocabulary.now.classes.items }

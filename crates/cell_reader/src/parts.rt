@@ -10,7 +10,6 @@ ghost use Rattle.cell_reader.specs.Parts.{AreParts};
 use crate::answers::timing_answers;
 use bool_functions::Names;
 use cell_machine::Pin;
-use cell_parts::fault::Memory;
 use cell_parts::outputs::pin_texts;
 use cell_parts::pins::{owners_of, pins_of};
 use cell_parts::state_readings::{StateReading, state_readings};
@@ -20,7 +19,7 @@ use cell_parts::vocabulary::{Vocabulary, read_vocabulary};
 use liberty_groups::Group;
 use liberty_text::Unit;
 use sqlite_items::Items;
-use std::alloc::Global;
+use std::alloc::{AllocError, Global};
 use timing_arcs::{PinTiming, Subject, TimingFault};
 
 /// What a cell is made from.
@@ -47,7 +46,7 @@ pub struct Parts<'a> {
 }
 
 /// The names of the pins of a cell, which are distinct.
-fn names_of(alloc: Global, pins: &[Pin]) -> Result<Names, Memory>
+fn names_of(alloc: Global, pins: &[Pin]) -> Result<Names, AllocError>
     requires { IsTrue (are_distinct (pin_names pins.now)) }
     ensures { IfOk result (λ names. names ≡ pin_names pins.now) }
 {
@@ -63,7 +62,7 @@ fn answers_of(
     alloc: Global,
     unit: Option<Unit>,
     groups: &[&Group],
-) -> Result<Vec<Result<PinTiming, TimingFault>>, Memory>
+) -> Result<Vec<Result<PinTiming, TimingFault>>, AllocError>
     requires { IsTrue (are_distinct (pin_names (flat_map pins_in (map (λ group. group.now) groups.now)))) }
     ensures { IfOk result (λ answers. AreHeld (subject_with unit (flat_map pins_in (map (λ group. group.now) groups.now))) (flat_map owners_in (map (λ group. group.now) groups.now)) answers.items) }
 {
@@ -87,7 +86,7 @@ pub(crate) fn read_parts<'a>(
     groups: Vec<&'a Group>,
     pin_groups: Vec<&'a Group>,
     state_groups: Vec<&'a Group>,
-) -> Result<Parts<'a>, Memory>
+) -> Result<Parts<'a>, AllocError>
     requires groups { map (λ group. group.now) groups.items ≡ inner_groups_of cell.now.items }
     requires pins { map (λ group. group.now) pin_groups.items ≡ pin_groups_of cell.now }
     requires states { map (λ group. group.now) state_groups.items ≡ state_groups_of cell.now }

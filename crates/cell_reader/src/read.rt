@@ -15,12 +15,11 @@ use crate::refusal::{Reason, Refusal};
 use crate::timings::cell_timing;
 use bool_functions::Names;
 use cell_machine::Cell;
-use cell_parts::fault::Memory;
 use cell_parts::groups::{cell_name, inner_groups, pins_among, states_among};
 use liberty_groups::Group;
 use liberty_text::Unit;
 use sqlite_items::Items;
-use std::alloc::Global;
+use std::alloc::{AllocError, Global};
 
 /// A cell, and what of its group it leaves out.
 #[derive(Debug, Drop)]
@@ -36,7 +35,7 @@ fn make_cell(
     parts: Parts<'_>,
     numbered: Numbered,
     number: usize,
-) -> Result<ReadCell, Memory>
+) -> Result<ReadCell, AllocError>
     requires parts { AreParts parts }
     requires numbered { AreNumbered parts.cell.now numbered }
     requires unmet { IsUnmet (subject_in parts) parts.cell.now }

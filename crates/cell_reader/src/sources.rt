@@ -5,13 +5,12 @@ ghost use Rattle.cell_parts.specs.Building.{supports_of_both, second_support, st
 
 use bool_functions::Function;
 use cell_machine::{GroupKind, Source, StateGroup};
-use cell_parts::fault::Memory;
 use cell_parts::supports::insert;
 use sqlite_items::Items;
-use std::alloc::Global;
+use std::alloc::{AllocError, Global};
 
 /// Puts some numbers at their places in an ascending list.
-fn insert_all(found: &mut Vec<usize>, numbers: &[usize]) -> Result<(), Memory>
+fn insert_all(found: &mut Vec<usize>, numbers: &[usize]) -> Result<(), AllocError>
     ensures { OnOk result (found.new.items ≡ insert_all found.old.items numbers.now) }
 {
     for i in numbers {
@@ -27,7 +26,7 @@ fn insert_both(
     found: &mut Vec<usize>,
     clear: &Option<Function>,
     preset: &Option<Function>,
-) -> Result<(), Memory>
+) -> Result<(), AllocError>
     ensures { OnOk result (found.new.items ≡ insert_all found.old.items (supports_of_both clear.now preset.now)) }
 {
     let Some(clear) = clear else {
@@ -48,7 +47,7 @@ fn insert_second(
     found: &mut Vec<usize>,
     name: usize,
     kind: &GroupKind,
-) -> Result<(), Memory>
+) -> Result<(), AllocError>
     requires { name < 128 }
     ensures { OnOk result (found.new.items ≡ insert_all found.old.items (second_support name kind.now)) }
 {
@@ -72,7 +71,7 @@ fn insert_behind(
     pins: usize,
     groups: &[StateGroup],
     i: usize,
-) -> Result<(), Memory>
+) -> Result<(), AllocError>
     requires pins { pins ≤ 64 }
     requires groups { length groups.now ≤ 16 }
     ensures { OnOk result (found.new.items ≡ insert_all found.old.items (stands_for pins groups.now i)) }
@@ -104,7 +103,7 @@ fn behind(
     pins: usize,
     groups: &[StateGroup],
     names: &[usize],
-) -> Result<Vec<usize>, Memory>
+) -> Result<Vec<usize>, AllocError>
     requires pins { pins ≤ 64 }
     requires groups { length groups.now ≤ 16 }
     ensures { IfOk result (λ found. found.items ≡ insert_all [] (flat_map (stands_for pins groups.now) names.now)) }
@@ -122,7 +121,7 @@ pub(crate) fn sources_of(
     pins: usize,
     groups: &[StateGroup],
     function: &Function,
-) -> Result<Items<Source>, Memory>
+) -> Result<Items<Source>, AllocError>
     requires pins { pins ≤ 64 }
     requires groups { length groups.now ≤ 16 }
     ensures { IfOk result (λ sources. sources ≡ sources_of_function pins groups.now function.now) }

@@ -9,13 +9,12 @@ ghost use Rattle.cell_parts.specs.Shown.{shown_arguments};
 
 use crate::text_kinds::text_kind;
 use cell_machine::{GroupKind, StateGroup};
-use cell_parts::fault::Memory;
 use cell_parts::state_readings::StateReading;
 use cell_parts::states::{Arguments, arguments_of, is_table, names_in};
 use liberty_groups::Group;
 use sqlite_items::Items;
 use statetables::{StateTable, TableFault, read_table};
-use std::alloc::Global;
+use std::alloc::{AllocError, Global};
 use timing_arcs::{Attribute, last_attribute};
 
 /// The state of an `ff` or `latch`.
@@ -24,7 +23,7 @@ fn text_group(
     to: &[usize],
     group: &Group,
     reading: &StateReading,
-) -> Result<StateGroup, Memory>
+) -> Result<StateGroup, AllocError>
     requires { FitsReading (length to.now) reading.now }
     ensures { IfOk result (λ g. g ≡ record { kind = kind_of_texts_of to.now group.now reading.now; support = reading.now.support }) }
 {
@@ -39,7 +38,7 @@ fn table_in(
     inputs: usize,
     nodes: usize,
     attribute: Option<Attribute<'_>>,
-) -> Result<StateTable, Memory>
+) -> Result<StateTable, AllocError>
     ensures { IfOk result (λ table. table ≡ table_in_of inputs nodes (option_map shown attribute.entry)) }
 {
     let rows = Items::new(alloc);
@@ -55,7 +54,7 @@ fn table_in(
         Ok(table) => Ok(table),
         Err(TableFault::RowWidth(_)) => Ok(none),
         Err(TableFault::BadSymbol { .. }) => Ok(none),
-        Err(TableFault::Memory) => Err(Memory),
+        Err(TableFault::Memory) => Err(AllocError),
     }
 }
 
@@ -65,7 +64,7 @@ fn node_group(
     table: StateTable,
     node: usize,
     reading: &StateReading,
-) -> Result<StateGroup, Memory>
+) -> Result<StateGroup, AllocError>
     ensures { IfOk result (λ g. g ≡ record { kind = kind_of.Table table node reading.now.inputs; support = reading.now.support }) }
 {
     let inputs = Items::from_slice(alloc, reading.inputs.as_slice())?;
@@ -85,7 +84,7 @@ fn node_groups_of(
     nodes: &[&[u8]],
     group: &Group,
     reading: &StateReading,
-) -> Result<Items<StateGroup>, Memory>
+) -> Result<Items<StateGroup>, AllocError>
     ensures { IfOk result (λ groups. groups ≡ node_groups (table_in_of inputs (length nodes.now) (attribute_of group.now (codes "table"))) reading.now 0 (map (λ name. name.now) nodes.now)) }
 {
     let mut groups = Items::new(alloc);
@@ -103,7 +102,7 @@ fn table_groups(
     group: &Group,
     reading: &StateReading,
     arguments: Arguments<'_>,
-) -> Result<Items<StateGroup>, Memory>
+) -> Result<Items<StateGroup>, AllocError>
     ensures { IfOk result (λ groups. groups ≡ table_groups_of group.now reading.now (shown_arguments arguments.entry)) }
 {
     let inputs = names_in(alloc, arguments.first)?;
@@ -117,7 +116,7 @@ fn groups_in(
     to: &[usize],
     group: &Group,
     reading: &StateReading,
-) -> Result<Items<StateGroup>, Memory>
+) -> Result<Items<StateGroup>, AllocError>
     requires { FitsReading (length to.now) reading.now }
     ensures { IfOk result (λ groups. groups ≡ groups_in_of to.now group.now reading.now) }
 {
@@ -138,7 +137,7 @@ pub(crate) fn state_groups(
     to: &[usize],
     groups: &[&Group],
     readings: &[StateReading],
-) -> Result<Items<StateGroup>, Memory>
+) -> Result<Items<StateGroup>, AllocError>
     requires lengths { length readings.now ≡ length groups.now }
     requires fit { All (FitsReading (length to.now)) readings.now }
     ensures { IfOk result (λ states. states ≡ groups_from_of to.now (map (λ group. group.now) groups.now) readings.now) }

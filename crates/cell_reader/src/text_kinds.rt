@@ -6,16 +6,15 @@ ghost use Rattle.cell_machine.specs.declared.groups.Both.TheVariants as both;
 
 use bool_functions::Function;
 use cell_machine::{Both, Clocked, Gated, GroupKind};
-use cell_parts::fault::Memory;
 use cell_parts::state_readings::{StateReading, is_ff};
 use cell_parts::states::both_named;
 use cell_parts::texts::Text;
 use liberty_groups::Group;
-use std::alloc::Global;
+use std::alloc::{AllocError, Global};
 use timing_arcs::last_attribute;
 
 /// The function of a text, where `to` has the number in the cell for each of its names.
-fn function_in(alloc: Global, to: &[usize], text: &Text) -> Result<Option<Function>, Memory>
+fn function_in(alloc: Global, to: &[usize], text: &Text) -> Result<Option<Function>, AllocError>
     requires { FitsText (length to.now) text.now }
     ensures { IfOk result (λ f. f ≡ function_in_of to.now text.now) }
 {
@@ -26,7 +25,7 @@ fn function_in(alloc: Global, to: &[usize], text: &Text) -> Result<Option<Functi
 }
 
 /// The same of a text that is there.
-pub(crate) fn function_of(alloc: Global, to: &[usize], text: &Text) -> Result<Function, Memory>
+pub(crate) fn function_of(alloc: Global, to: &[usize], text: &Text) -> Result<Function, AllocError>
     requires { FitsText (length to.now) text.now }
     ensures { IfOk result (λ f. f ≡ function_of_text to.now text.now) }
 {
@@ -72,7 +71,7 @@ fn written_pair(
     to: &[usize],
     first: &Text,
     second: &Text,
-) -> Result<WrittenPair, Memory>
+) -> Result<WrittenPair, AllocError>
     requires first { FitsText (length to.now) first.now }
     requires second { FitsText (length to.now) second.now }
     ensures first { IfOk result (λ pair. pair.first ≡ function_in_of to.now first.now) }
@@ -96,7 +95,7 @@ fn needed_pair(
     to: &[usize],
     first: &Text,
     second: &Text,
-) -> Result<NeededPair, Memory>
+) -> Result<NeededPair, AllocError>
     requires first { FitsText (length to.now) first.now }
     requires second { FitsText (length to.now) second.now }
     ensures first { IfOk result (λ pair. pair.first ≡ function_of_text to.now first.now) }
@@ -113,7 +112,7 @@ fn clocked(
     to: &[usize],
     group: &Group,
     reading: &StateReading,
-) -> Result<Clocked, Memory>
+) -> Result<Clocked, AllocError>
     requires { FitsReading (length to.now) reading.now }
     ensures { IfOk result (λ k. k ≡ clocked_of to.now group.now reading.now) }
 {
@@ -135,7 +134,7 @@ fn gated(
     to: &[usize],
     group: &Group,
     reading: &StateReading,
-) -> Result<Gated, Memory>
+) -> Result<Gated, AllocError>
     requires { FitsReading (length to.now) reading.now }
     ensures { IfOk result (λ k. k ≡ gated_of to.now group.now reading.now) }
 {
@@ -157,7 +156,7 @@ pub(crate) fn text_kind(
     to: &[usize],
     group: &Group,
     reading: &StateReading,
-) -> Result<GroupKind, Memory>
+) -> Result<GroupKind, AllocError>
     requires { FitsReading (length to.now) reading.now }
     ensures { IfOk result (λ kind. kind ≡ kind_of_texts_of to.now group.now reading.now) }
 {

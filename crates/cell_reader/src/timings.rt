@@ -3,9 +3,8 @@ ghost use Rattle.std.specs.Prelude.{◌≡◌, ◌++◌, OnOk, IfOk, flat_map};
 ghost use Rattle.cell_reader.specs.PinTimings.{checks_in, arcs_in};
 
 use cell_machine::{Arc, Check};
-use cell_parts::fault::Memory;
 use sqlite_items::Items;
-use std::alloc::Global;
+use std::alloc::{AllocError, Global};
 use timing_arcs::{PinTiming, TimingFault};
 
 /// The checks and the delay arcs of a cell, in the order of its pins.
@@ -17,7 +16,7 @@ pub(crate) struct CellTiming {
 
 impl CellTiming {
     /// Adds the checks and the arcs of a pin.
-    fn add(&mut self, answer: Result<PinTiming, TimingFault>) -> Result<(), Memory>
+    fn add(&mut self, answer: Result<PinTiming, TimingFault>) -> Result<(), AllocError>
         ensures checks { OnOk result (self.new.checks ≡ self.old.checks ++ checks_in answer) }
         ensures arcs { OnOk result (self.new.arcs ≡ self.old.arcs ++ arcs_in answer) }
     {
@@ -34,7 +33,7 @@ impl CellTiming {
 pub(crate) fn cell_timing(
     alloc: Global,
     answers: Vec<Result<PinTiming, TimingFault>>,
-) -> Result<CellTiming, Memory>
+) -> Result<CellTiming, AllocError>
     ensures checks { IfOk result (λ timing. timing.checks ≡ flat_map checks_in answers.items) }
     ensures arcs { IfOk result (λ timing. timing.arcs ≡ flat_map arcs_in answers.items) }
 {

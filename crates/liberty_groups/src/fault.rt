@@ -4,7 +4,7 @@ ghost use Rattle.std.specs.Prelude.{◌≡◌, Some};
 ghost use Rattle.liberty_groups.specs.Fault.{expected_text, fault_text, fault_place, fault_at, lexical_fault};
 ghost use Rattle.liberty_groups.specs.declared.fault.Stop.TheVariants.{Memory as NoMemory};
 
-use liberty_text::{Memory as NoTokens, Stop as TextStop};
+use liberty_text::Stop as TextStop;
 use std::alloc::{AllocError, AllocFailed};
 use std::fmt;
 use thiserror::Error;
@@ -90,29 +90,6 @@ impl LibraryFault {
     }
 }
 
-/// There was no memory for the groups.
-#[derive(Clone, Copy, Debug, PartialEq, Eq, Error)]
-#[error("out of memory")]
-pub struct Memory;
-
-impl From<NoTokens> for Memory {
-    fn from(_e: NoTokens) -> Memory {
-        Memory
-    }
-}
-
-impl From<AllocError> for Memory {
-    fn from(_e: AllocError) -> Memory {
-        Memory
-    }
-}
-
-impl<T: Drop> From<AllocFailed<T>> for Memory {
-    fn from(_e: AllocFailed<T>) -> Memory {
-        Memory
-    }
-}
-
 /// The fault of a refusal at an offset.
 pub fn fault_at(refusal: Refusal, at: usize) -> LibraryFault
     ensures { result ≡ fault_at refusal at }
@@ -150,14 +127,6 @@ pub enum Stop {
     /// At the next token, or at the end of the tokens.
     Refused(Refusal),
     Memory,
-}
-
-impl From<NoTokens> for Stop {
-    ghost from_gives = { λ _ e. e ≡ NoMemory };
-
-    fn from(_e: NoTokens) -> Stop {
-        Stop::Memory
-    }
 }
 
 impl From<AllocError> for Stop {

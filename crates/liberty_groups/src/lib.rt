@@ -15,7 +15,7 @@ mod write;
 
 pub use contents::{UnitLine, one_text};
 pub use cursor::Cursor;
-pub use fault::{Expected, LibraryFault, Memory, Refusal, Stop, fault_at, lexical_fault};
+pub use fault::{Expected, LibraryFault, Refusal, Stop, fault_at, lexical_fault};
 pub use library::LEVELS_INSIDE;
 pub use outline::{Standing, next_standing};
 pub use read::{End, Halt, Reading, fault_of, faults_are_first, one_reading, read_library};

@@ -11,10 +11,10 @@ ghost use Rattle.liberty_groups.specs.FirstMisfit.{FaultsAreFirst};
 
 use crate::contents::{Contents, UnitLine};
 use crate::cursor::Cursor;
-use crate::fault::{LibraryFault, Memory, Refusal, Stop, fault_at, lexical_fault};
+use crate::fault::{LibraryFault, Refusal, Stop, fault_at, lexical_fault};
 use crate::tree::Group;
 use liberty_text::{Kept, KeptScan, Stop as TextStop, TokenKind, scan_kept};
-use std::alloc::Global;
+use std::alloc::{AllocError, Global};
 
 /// What is kept of a library text.
 #[derive(Debug, Drop)]
@@ -84,7 +84,7 @@ fn read_tokens(
     bytes: &[u8],
     tokens: &[Kept],
     found: &mut Contents,
-) -> Result<Halt, Memory>
+) -> Result<Halt, AllocError>
     requires inside { LieInside bytes.now tokens.now }
     requires nothing { found_of found.old ≡ nothing_found }
     ensures halt { IfOk result (λ halt. halt ≡ halt_of (length bytes.now) (is_last (lexemes_of bytes.now tokens.now)) (read library (lexemes_of bytes.now tokens.now))) }
@@ -94,7 +94,7 @@ fn read_tokens(
     let is_only = cursor.is_last();
     let refusal = match cursor.library(alloc, found) {
         Ok(()) => return Ok(Halt::Whole),
-        Err(Stop::Memory) => return Err(Memory),
+        Err(Stop::Memory) => return Err(AllocError),
         Err(Stop::Refused(refusal)) => refusal,
     };
     Ok(match cursor.peek() {
@@ -109,7 +109,7 @@ fn read_tokens(
 
 /// The tokens of a text up to the place where it stops, and what stops it there.
 #[tactic(auto, using(crate::proofs::Inside::lie_inside))]
-fn tokens_of(alloc: Global, bytes: &[u8]) -> Result<KeptScan, Memory>
+fn tokens_of(alloc: Global, bytes: &[u8]) -> Result<KeptScan, AllocError>
     ensures tokens { IfOk result (λ found. found.tokens.items ≡ (scan_of bytes.now).0) }
     ensures stop { IfOk result (λ found. found.stop ≡ (scan_of bytes.now).1) }
     ensures inside { IfOk result (λ found. LieInside bytes.now found.tokens.items) }
@@ -118,7 +118,7 @@ fn tokens_of(alloc: Global, bytes: &[u8]) -> Result<KeptScan, Memory>
 }
 
 /// Whether the bytes, which end in an open text, are the front of a library once it is closed.
-fn closed_has_outline(alloc: Global, bytes: &[u8]) -> Result<bool, Memory>
+fn closed_has_outline(alloc: Global, bytes: &[u8]) -> Result<bool, AllocError>
     ensures { IfOk result (λ is. is ≡ closed_has_outline bytes.now) }
 {
     let mut closed = Vec::from_slice(alloc, bytes)?;
@@ -128,7 +128,7 @@ fn closed_has_outline(alloc: Global, bytes: &[u8]) -> Result<bool, Memory>
 }
 
 /// Whether some library text begins with bytes whose tokens are the front of a library.
-fn goes_on_after(alloc: Global, bytes: &[u8], stop: TextStop) -> Result<bool, Memory>
+fn goes_on_after(alloc: Global, bytes: &[u8], stop: TextStop) -> Result<bool, AllocError>
     ensures { IfOk result (λ does. does ≡ goes_on_after bytes.now stop) }
 {
     match stop {
@@ -139,7 +139,7 @@ fn goes_on_after(alloc: Global, bytes: &[u8], stop: TextStop) -> Result<bool, Me
 }
 
 /// Whether some library text begins with the bytes.
-fn may_go_on(alloc: Global, bytes: &[u8], halt: Halt, stop: TextStop) -> Result<bool, Memory>
+fn may_go_on(alloc: Global, bytes: &[u8], halt: Halt, stop: TextStop) -> Result<bool, AllocError>
     ensures { IfOk result (λ may. may ≡ may_go_on bytes.now halt stop) }
 {
     match halt {
@@ -166,7 +166,7 @@ fn end_of(
     whole: bool,
     halt: Halt,
     stop: TextStop,
-) -> Result<End, Memory>
+) -> Result<End, AllocError>
     ensures { IfOk result (λ end. end ≡ end_of bytes.now whole halt stop) }
 {
     if !whole && may_go_on(alloc, bytes, halt, stop)? {
@@ -180,7 +180,7 @@ fn end_of(
 
 /// `read_library`, step by step.
 #[tactic(auto, unfolding(crate::specs::Answer::outcome_of))]
-fn read_exactly(alloc: Global, bytes: &[u8], whole: bool) -> Result<Reading, Memory>
+fn read_exactly(alloc: Global, bytes: &[u8], whole: bool) -> Result<Reading, AllocError>
     ensures found { IfOk result (λ r. found_in_reading r ≡ found_of_bytes bytes.now) }
     ensures end { IfOk result (λ r. r.end ≡ end_of_bytes bytes.now whole) }
 {
@@ -207,7 +207,7 @@ fn read_exactly(alloc: Global, bytes: &[u8], whole: bool) -> Result<Reading, Mem
 ///
 /// The fault is the first token with which no library text goes on, the byte, text or comment that
 /// stops the tokens, or the end of the bytes, whichever comes first.
-pub fn read_library(alloc: Global, bytes: &[u8], whole: bool) -> Result<Reading, Memory>
+pub fn read_library(alloc: Global, bytes: &[u8], whole: bool) -> Result<Reading, AllocError>
     // What is answered is what the definition relates to the bytes.
     ensures reading { IfOk result (λ r. IsReading bytes.now whole (found_in_reading r) r.end) }
     // What the definition relates to the bytes is answered, unless memory runs out.

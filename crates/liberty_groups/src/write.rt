@@ -4,12 +4,11 @@ ghost use Rattle.std.specs.Prelude.{◌≡◌, ◌++◌, true, OnOk, IfOk, IsTru
 ghost use Rattle.liberty_text.specs.TextValue.{quoted};
 ghost use Rattle.liberty_groups.specs.Writing.{value_text, values_text, simple_text, complex_text, head_text, item_text, items_text, group_text, is_writable, WritingReadsBack, WritableParts};
 
-use crate::fault::Memory;
 use crate::tree::{Group, Item, Value};
-use std::alloc::Global;
+use std::alloc::{AllocError, Global};
 
 /// The text of a value between quotes, with a backslash before each quote in it.
-fn push_value(out: &mut Vec<u8>, value: &Value) -> Result<(), Memory>
+fn push_value(out: &mut Vec<u8>, value: &Value) -> Result<(), AllocError>
     ensures { OnOk result (out.new.items ≡ out.old.items ++ value_text value.now) }
 {
     out.push(b'"')?;
@@ -24,7 +23,7 @@ fn push_value(out: &mut Vec<u8>, value: &Value) -> Result<(), Memory>
 }
 
 /// Appends values with commas between them.
-fn push_values(out: &mut Vec<u8>, values: &[Value]) -> Result<(), Memory>
+fn push_values(out: &mut Vec<u8>, values: &[Value]) -> Result<(), AllocError>
     ensures { OnOk result (out.new.items ≡ out.old.items ++ values_text true values.now) }
 {
     let mut first = true;
@@ -39,7 +38,7 @@ fn push_values(out: &mut Vec<u8>, values: &[Value]) -> Result<(), Memory>
 }
 
 /// Appends a simple statement.
-fn push_simple(out: &mut Vec<u8>, name: &[u8], value: &[Value]) -> Result<(), Memory>
+fn push_simple(out: &mut Vec<u8>, name: &[u8], value: &[Value]) -> Result<(), AllocError>
     ensures { OnOk result (out.new.items ≡ out.old.items ++ simple_text name.now value.now) }
 {
     out.extend_from_slice(name)?;
@@ -50,7 +49,7 @@ fn push_simple(out: &mut Vec<u8>, name: &[u8], value: &[Value]) -> Result<(), Me
 }
 
 /// Appends a complex statement.
-fn push_complex(out: &mut Vec<u8>, name: &[u8], arguments: &[Value]) -> Result<(), Memory>
+fn push_complex(out: &mut Vec<u8>, name: &[u8], arguments: &[Value]) -> Result<(), AllocError>
     ensures { OnOk result (out.new.items ≡ out.old.items ++ complex_text name.now arguments.now) }
 {
     out.extend_from_slice(name)?;
@@ -61,7 +60,7 @@ fn push_complex(out: &mut Vec<u8>, name: &[u8], arguments: &[Value]) -> Result<(
 }
 
 /// Appends a group's name and arguments.
-fn push_head(out: &mut Vec<u8>, name: &[u8], arguments: &[Value]) -> Result<(), Memory>
+fn push_head(out: &mut Vec<u8>, name: &[u8], arguments: &[Value]) -> Result<(), AllocError>
     ensures { OnOk result (out.new.items ≡ out.old.items ++ head_text name.now arguments.now) }
 {
     out.extend_from_slice(name)?;
@@ -73,7 +72,7 @@ fn push_head(out: &mut Vec<u8>, name: &[u8], arguments: &[Value]) -> Result<(), 
 
 /// Appends one statement.
 #[cycle(writing)]
-fn push_item(out: &mut Vec<u8>, item: &Item) -> Result<(), Memory>
+fn push_item(out: &mut Vec<u8>, item: &Item) -> Result<(), AllocError>
     ensures { OnOk result (out.new.items ≡ out.old.items ++ item_text item.now) }
 {
     match item {
@@ -89,7 +88,7 @@ fn push_item(out: &mut Vec<u8>, item: &Item) -> Result<(), Memory>
 
 /// Appends statements in order.
 #[cycle(writing)]
-fn push_items(out: &mut Vec<u8>, items: &[Item]) -> Result<(), Memory>
+fn push_items(out: &mut Vec<u8>, items: &[Item]) -> Result<(), AllocError>
     ensures { OnOk result (out.new.items ≡ out.old.items ++ items_text items.now) }
 {
     for item in items {
@@ -100,7 +99,7 @@ fn push_items(out: &mut Vec<u8>, items: &[Item]) -> Result<(), Memory>
 
 /// Appends a group with all that stands in it.
 #[cycle(writing)]
-fn push_group(out: &mut Vec<u8>, group: &Group) -> Result<(), Memory>
+fn push_group(out: &mut Vec<u8>, group: &Group) -> Result<(), AllocError>
     ensures { OnOk result (out.new.items ≡ out.old.items ++ group_text group.now) }
 {
     push_head(out, group.name.as_slice(), group.arguments.as_slice())?;
@@ -114,7 +113,7 @@ fn push_group(out: &mut Vec<u8>, group: &Group) -> Result<(), Memory>
 ///
 /// It needs names that are Words, values that hold no line feed and do not end in a backslash, and at
 /// most 32 groups open inside one another: then `writing_reads_back` holds of the text.
-pub fn write_group(alloc: Global, group: &Group) -> Result<Vec<u8>, Memory>
+pub fn write_group(alloc: Global, group: &Group) -> Result<Vec<u8>, AllocError>
     requires { IsTrue (is_writable 32 group.now) }
     ensures { IfOk result (λ text. text.items ≡ group_text group.now) }
 {

@@ -4,7 +4,8 @@ ghost use Rattle.std.specs.Prelude.{◌≡◌, ◌<◌, ◌≤◌, ◌^◌, IfOk
 ghost use Rattle.liberty_text.specs.Scanner.{token};
 ghost use Rattle.liberty_text.specs.Kept.{kind_by, size_by, token_by};
 
-use crate::token::{Memory, Stop, Token, TokenKind};
+use crate::token::{Stop, Token, TokenKind};
+use std::alloc::AllocError;
 use std::marker::Model;
 
 /// The farthest offset of a token that is kept.
@@ -95,18 +96,18 @@ impl Kept {
         at: usize,
         end: usize,
         line_before: bool,
-    ) -> Result<Kept, Memory>
+    ) -> Result<Kept, AllocError>
         ensures { IfOk result (λ kept. kept ≡ token kind at end line_before) }
     {
         if end < at || at > FARTHEST || end - at > LONGEST {
-            return Err(Memory);
+            return Err(AllocError);
         }
         let size = (end - at) as u32;
         let at = at as u32;
         match kind {
             TokenKind::Word => Ok(Kept::packed(at, 0, size, line_before)),
             TokenKind::Text => Ok(Kept::packed(at, 1, size, line_before)),
-            _ if size != 1 => Err(Memory),
+            _ if size != 1 => Err(AllocError),
             TokenKind::Brace(byte) => Ok(Kept::packed(at, 2, u32::from(byte), line_before)),
             TokenKind::Colon => Ok(Kept::packed(at, 3, 0, line_before)),
             TokenKind::Semicolon => Ok(Kept::packed(at, 4, 0, line_before)),

@@ -22,5 +22,5 @@ pub use number::fixed;
 pub use scanner::{Mode, Scanner};
 pub use text::{one_value, quotes_read_back, text_value};
 pub use time::{Unit, picoseconds};
-pub use token::{Memory, Scan, Stop, TextFault, Token, TokenKind};
+pub use token::{Scan, Stop, TextFault, Token, TokenKind};
 pub use whole_texts::{scan, scan_kept, tokens};

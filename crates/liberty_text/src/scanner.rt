@@ -10,8 +10,8 @@ use crate::bytes_after::{after_comment_byte, after_continuation_byte, slash_at};
 use crate::class::{Class, class_of};
 use crate::idle::idle_run;
 use crate::kept::{Kept, KeptScan};
-use crate::token::{Memory, Stop, TokenKind};
-use std::alloc::Global;
+use crate::token::{Stop, TokenKind};
+use std::alloc::{AllocError, Global};
 
 /// What stands open at a place of the text. `line_before` is that of the token to come.
 #[derive(Clone, Copy, Debug, PartialEq, Eq)]
@@ -91,7 +91,7 @@ impl Scanner {
         at: usize,
         end: usize,
         line_before: bool,
-    ) -> Result<(), Memory>
+    ) -> Result<(), AllocError>
         ensures tokens { OnOk result (self.new.tokens.items ≡ self.old.tokens.items ++ token kind at end line_before ∷ []) }
         ensures mode { self.new.mode ≡ self.old.mode }
     {
@@ -100,7 +100,7 @@ impl Scanner {
     }
 
     /// A byte between tokens.
-    fn open(&mut self, line_before: bool, at: usize, byte: u8) -> Result<(), Memory>
+    fn open(&mut self, line_before: bool, at: usize, byte: u8) -> Result<(), AllocError>
         requires { at + 1 < 2 ^ 64 }
         ensures mode { OnOk result (self.new.mode ≡ (opened line_before at byte).0) }
         ensures tokens { OnOk result (self.new.tokens.items ≡ self.old.tokens.items ++ (opened line_before at byte).1) }
@@ -129,7 +129,13 @@ impl Scanner {
     }
 
     /// A byte after those of the word that begins at `begun`.
-    fn go_on(&mut self, begun: usize, line_before: bool, at: usize, byte: u8) -> Result<(), Memory>
+    fn go_on(
+        &mut self,
+        begun: usize,
+        line_before: bool,
+        at: usize,
+        byte: u8,
+    ) -> Result<(), AllocError>
         requires { at + 1 < 2 ^ 64 }
         ensures mode { OnOk result (self.new.mode ≡ (in_word_by begun line_before at byte (class_of byte)).0) }
         ensures tokens { OnOk result (self.new.tokens.items ≡ self.old.tokens.items ++ (in_word_by begun line_before at byte (class_of byte)).1) }
@@ -147,7 +153,12 @@ impl Scanner {
     }
 
     /// The word that begins at `begun` ends before the slash of a comment.
-    fn begin_comment(&mut self, begun: usize, line_before: bool, slash: usize) -> Result<(), Memory>
+    fn begin_comment(
+        &mut self,
+        begun: usize,
+        line_before: bool,
+        slash: usize,
+    ) -> Result<(), AllocError>
         ensures mode { OnOk result (self.new.mode ≡ (comment_in_word begun line_before slash).0) }
         ensures tokens { OnOk result (self.new.tokens.items ≡ self.old.tokens.items ++ (comment_in_word begun line_before slash).1) }
     {
@@ -171,7 +182,7 @@ impl Scanner {
         escaped: bool,
         at: usize,
         byte: u8,
-    ) -> Result<(), Memory>
+    ) -> Result<(), AllocError>
         requires { at + 1 < 2 ^ 64 }
         ensures mode { OnOk result (self.new.mode ≡ (in_text begun line_before escaped at byte).0) }
         ensures tokens { OnOk result (self.new.tokens.items ≡ self.old.tokens.items ++ (in_text begun line_before escaped at byte).1) }
@@ -190,7 +201,7 @@ impl Scanner {
     }
 
     /// The byte at an offset, after those before it.
-    pub(crate) fn step(&mut self, at: usize, byte: u8) -> Result<(), Memory>
+    pub(crate) fn step(&mut self, at: usize, byte: u8) -> Result<(), AllocError>
         requires { at + 1 < 2 ^ 64 }
         ensures mode { OnOk result (self.new.mode ≡ (step self.old.mode at byte).0) }
         ensures tokens { OnOk result (self.new.tokens.items ≡ self.old.tokens.items ++ (step self.old.mode at byte).1) }
@@ -228,7 +239,7 @@ impl Scanner {
 
     /// Reads bytes that begin at an offset, up to the first one with which a token ends, and that one too. How many they are:
     /// all of them, where no token ends with them.
-    pub fn step_on(&mut self, at: usize, bytes: &[u8]) -> Result<usize, Memory>
+    pub fn step_on(&mut self, at: usize, bytes: &[u8]) -> Result<usize, AllocError>
         requires { at + length bytes.now < 2 ^ 64 }
         ensures count { IfOk result (λ count. count ≤ length bytes.now) }
         ensures mode { IfOk result (λ count. self.new.mode ≡ mode_behind self.old.mode at (take count bytes.now)) }
@@ -253,7 +264,7 @@ impl Scanner {
     }
 
     /// What there is where the bytes end, at an offset.
-    pub fn finish(mut self, at: usize) -> Result<KeptScan, Memory>
+    pub fn finish(mut self, at: usize) -> Result<KeptScan, AllocError>
         ensures tokens { IfOk result (λ found. found.tokens.items ≡ self.tokens.items ++ (closing self.mode at).0) }
         ensures stop { IfOk result (λ found. found.stop ≡ (closing self.mode at).1) }
     {

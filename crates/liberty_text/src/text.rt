@@ -6,10 +6,9 @@ ghost use Rattle.liberty_text.specs.Idle.{stands_for_itself};
 ghost use Rattle.liberty_text.specs.TextValue.{blank_line, piece, behind_backslash, begins_with_quote, value_of, HaveOneValue, QuotesReadBack};
 
 use crate::class::{Class, class_of};
-use crate::token::Memory;
 use memchr::memchr2;
 use sqlite_items::Items;
-use std::alloc::Global;
+use std::alloc::{AllocError, Global};
 
 /// How many bytes blanks and the line end behind them are, where these bytes begin with such.
 fn blank_line(bytes: &[u8]) -> Option<usize>
@@ -27,7 +26,7 @@ fn blank_line(bytes: &[u8]) -> Option<usize>
 }
 
 /// Appends what a byte before these stands for, and answers how many of them go with it.
-fn push_piece(value: &mut Items<u8>, byte: u8, behind: &[u8]) -> Result<usize, Memory>
+fn push_piece(value: &mut Items<u8>, byte: u8, behind: &[u8]) -> Result<usize, AllocError>
     ensures value { OnOk result (value.new ≡ value.old ++ (piece byte behind.now).0) }
     ensures taken { IfOk result (λ taken. taken ≡ (piece byte behind.now).1) }
     ensures within { IfOk result (λ taken. taken ≤ length behind.now) }
@@ -46,7 +45,7 @@ fn push_piece(value: &mut Items<u8>, byte: u8, behind: &[u8]) -> Result<usize, M
 }
 
 /// The same for a backslash.
-fn push_escape(value: &mut Items<u8>, behind: &[u8]) -> Result<usize, Memory>
+fn push_escape(value: &mut Items<u8>, behind: &[u8]) -> Result<usize, AllocError>
     ensures value { OnOk result (value.new ≡ value.old ++ (behind_backslash (blank_line behind.now) (begins_with_quote behind.now)).0) }
     ensures taken { IfOk result (λ taken. taken ≡ (behind_backslash (blank_line behind.now) (begins_with_quote behind.now)).1) }
     ensures within { IfOk result (λ taken. taken ≤ length behind.now) }
@@ -77,7 +76,7 @@ fn is_plain(bytes: &[u8]) -> bool
 /// end behind it vanishes, a line end without one stands for a space, `\"` for a double quote, and
 /// any other byte for itself.
 #[tactic(auto, using(crate::proofs::TextValues::value_of_plain))]
-pub fn text_value(alloc: Global, bytes: &[u8]) -> Result<Items<u8>, Memory>
+pub fn text_value(alloc: Global, bytes: &[u8]) -> Result<Items<u8>, AllocError>
     ensures { IfOk result (λ value. value ≡ value_of bytes.now) }
 {
     if is_plain(bytes) {

@@ -3,7 +3,7 @@
 ghost use Rattle.std.specs.Prelude.{◌≡◌};
 ghost use Rattle.liberty_text.specs.declared.token.TextFault.TheVariants.{Memory as NoMemory};
 
-use std::alloc::{AllocError, AllocFailed};
+use std::alloc::AllocError;
 use thiserror::Error;
 
 /// What a token is.
@@ -53,11 +53,6 @@ pub struct Scan {
     pub stop: Stop,
 }
 
-/// There was no memory for the tokens.
-#[derive(Clone, Copy, Debug, PartialEq, Eq, Error)]
-#[error("out of memory")]
-pub struct Memory;
-
 /// Why a text has no list of tokens: its first fault. An offset counts bytes from 0.
 #[derive(Debug, Drop, Error)]
 pub enum TextFault {
@@ -75,22 +70,10 @@ pub enum TextFault {
     Memory,
 }
 
-impl From<Memory> for TextFault {
+impl From<AllocError> for TextFault {
     ghost from_gives = { λ _ e. e ≡ NoMemory };
 
-    fn from(_e: Memory) -> TextFault {
+    fn from(_e: AllocError) -> TextFault {
         TextFault::Memory
-    }
-}
-
-impl From<AllocError> for Memory {
-    fn from(_e: AllocError) -> Memory {
-        Memory
-    }
-}
-
-impl<T: Drop> From<AllocFailed<T>> for Memory {
-    fn from(_e: AllocFailed<T>) -> Memory {
-        Memory
     }
 }

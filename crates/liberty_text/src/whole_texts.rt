@@ -8,12 +8,12 @@ ghost use Rattle.liberty_text.specs.Tokens.{Reads, AreTokensOf, IsFaultOf};
 
 use crate::kept::{Kept, KeptScan};
 use crate::scanner::Scanner;
-use crate::token::{Memory, Scan, Stop, TextFault, Token};
-use std::alloc::Global;
+use crate::token::{Scan, Stop, TextFault, Token};
+use std::alloc::{AllocError, Global};
 
 /// The tokens of a text up to the place where it stops, and what stops it there.
 #[tactic(auto, using(crate::proofs::Sound::reads, crate::proofs::Places::all_inside, crate::proofs::Places::all_in_order))]
-pub fn scan(alloc: Global, bytes: &[u8]) -> Result<Scan, Memory>
+pub fn scan(alloc: Global, bytes: &[u8]) -> Result<Scan, AllocError>
     ensures grammar { IfOk result (λ found. Reads bytes.now found.tokens.items found.stop) }
     ensures tokens { IfOk result (λ found. found.tokens.items ≡ (scan_of bytes.now).0) }
     ensures stop { IfOk result (λ found. found.stop ≡ (scan_of bytes.now).1) }
@@ -26,7 +26,7 @@ pub fn scan(alloc: Global, bytes: &[u8]) -> Result<Scan, Memory>
 /// The tokens of a text up to the place where it stops, in eight bytes each, and what stops it there. There is no memory for a
 /// token that begins at 4 GiB or later, or has 256 MiB or more.
 #[tactic(auto, using(crate::proofs::Places::all_inside))]
-pub fn scan_kept(alloc: Global, bytes: &[u8]) -> Result<KeptScan, Memory>
+pub fn scan_kept(alloc: Global, bytes: &[u8]) -> Result<KeptScan, AllocError>
     ensures tokens { IfOk result (λ found. found.tokens.items ≡ (scan_of bytes.now).0) }
     ensures stop { IfOk result (λ found. found.stop ≡ (scan_of bytes.now).1) }
     ensures inside { IfOk result (λ found. All (IsInside (length bytes.now)) found.tokens.items) }
@@ -35,7 +35,7 @@ pub fn scan_kept(alloc: Global, bytes: &[u8]) -> Result<KeptScan, Memory>
 }
 
 /// `scan_kept`, step by step.
-fn scan_bytes(alloc: Global, bytes: &[u8]) -> Result<KeptScan, Memory>
+fn scan_bytes(alloc: Global, bytes: &[u8]) -> Result<KeptScan, AllocError>
     ensures tokens { IfOk result (λ found. found.tokens.items ≡ (scan_of bytes.now).0) }
     ensures stop { IfOk result (λ found. found.stop ≡ (scan_of bytes.now).1) }
 {
@@ -47,7 +47,7 @@ fn scan_bytes(alloc: Global, bytes: &[u8]) -> Result<KeptScan, Memory>
 }
 
 /// `scan`, by way of the tokens in eight bytes each.
-fn scan_out(alloc: Global, bytes: &[u8]) -> Result<Scan, Memory>
+fn scan_out(alloc: Global, bytes: &[u8]) -> Result<Scan, AllocError>
     ensures tokens { IfOk result (λ found. found.tokens.items ≡ (scan_of bytes.now).0) }
     ensures stop { IfOk result (λ found. found.stop ≡ (scan_of bytes.now).1) }
 {
@@ -57,7 +57,7 @@ fn scan_out(alloc: Global, bytes: &[u8]) -> Result<Scan, Memory>
 }
 
 /// The tokens that are kept.
-fn tokens_out(alloc: Global, kept: &[Kept]) -> Result<Vec<Token>, Memory>
+fn tokens_out(alloc: Global, kept: &[Kept]) -> Result<Vec<Token>, AllocError>
     ensures { IfOk result (λ tokens. tokens.items ≡ kept.now) }
 {
     let mut tokens = Vec::with_capacity(alloc, kept.len())?;

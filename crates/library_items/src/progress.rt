@@ -3,9 +3,9 @@ ghost use Rattle.std.specs.Prelude.{◌≡◌, ◌+◌, ◌<◌, ◌^◌, IfErr,
 ghost use Rattle.library_items.specs.Progress.{unit_of, no_progress, next_number, names_with, after_cell};
 
 use crate::stop::Stop;
-use bool_functions::{Memory, Names};
+use bool_functions::Names;
 use liberty_text::Unit;
-use std::alloc::Global;
+use std::alloc::{AllocError, Global};
 
 /// What counts for the items of a library that come next.
 #[derive(Drop)]
@@ -61,8 +61,8 @@ impl Progress {
         self.accepted + self.refused + 1
     }
 
-    /// Counts a cell that was refused. `Memory` comes only where memory is wanting.
-    pub fn count_refused(&mut self, name: &[u8]) -> Result<(), Memory>
+    /// Counts a cell that was refused. `AllocError` comes only where memory is wanting.
+    pub fn count_refused(&mut self, name: &[u8]) -> Result<(), AllocError>
         requires { self.old.accepted + self.old.refused + 1 < 2 ^ 64 }
         ensures { OnOk result (self.new ≡ after_cell self.old name.now None) }
     {
@@ -85,8 +85,8 @@ impl Progress {
     }
 }
 
-/// Adds a name to those so far, unless it is there. `Memory` comes only where memory is wanting.
-fn add_name(names: &mut Names, name: &[u8]) -> Result<(), Memory>
+/// Adds a name to those so far, unless it is there. `AllocError` comes only where memory is wanting.
+fn add_name(names: &mut Names, name: &[u8]) -> Result<(), AllocError>
     ensures { OnOk result (names.new ≡ names_with names.old name.now) }
 {
     names.add(name)?;

@@ -40,27 +40,3 @@ impl<T: Drop> From<AllocFailed<T>> for Stop {
         Stop::Memory
     }
 }
-
-impl From<vital_models::Memory> for Stop {
-    ghost from_gives = { λ _ made. made ≡ NoMemory };
-
-    fn from(_error: vital_models::Memory) -> Stop {
-        Stop::Memory
-    }
-}
-
-impl From<bool_functions::Memory> for Stop {
-    ghost from_gives = { λ _ made. made ≡ NoMemory };
-
-    fn from(_error: bool_functions::Memory) -> Stop {
-        Stop::Memory
-    }
-}
-
-impl From<cell_cursor::Memory> for Stop {
-    ghost from_gives = { λ _ made. made ≡ NoMemory };
-
-    fn from(_error: cell_cursor::Memory) -> Stop {
-        Stop::Memory
-    }
-}

@@ -1,10 +1,10 @@
 //! Timing as it stands in libraries. The expected numbers are worked out by hand from the texts.
-use bool_functions::{Memory, Names};
+use bool_functions::Names;
 use cell_machine::{Arc, Check, CheckKind, Direction, Edge, Event, Pin};
 use liberty_groups::{Group, Item, read_library};
 use liberty_text::Unit;
 use sqlite_items::Items;
-use std::alloc::Global;
+use std::alloc::{AllocError, Global};
 use timing_arcs::{PinTiming, Room, Subject, read_timing};
 
 /// The pins CK, SE and D are inputs, Q is an output. These are the numbers of some.
@@ -21,7 +21,7 @@ fn add_pin(
     pins: &mut Items<Pin>,
     name: &[u8],
     direction: Direction,
-) -> Result<(), Memory> {
+) -> Result<(), AllocError> {
     names.add(name)?;
     pins.push(Pin {
         name: Items::from_slice(alloc, name)?,
@@ -30,7 +30,7 @@ fn add_pin(
     Ok(())
 }
 
-fn subject(alloc: Global, place: usize) -> Result<Subject, Memory> {
+fn subject(alloc: Global, place: usize) -> Result<Subject, AllocError> {
     let mut names = Names::new(alloc);
     let mut pins = Items::new(alloc);
     add_pin(alloc, &mut names, &mut pins, b"CK", Direction::Input)?;

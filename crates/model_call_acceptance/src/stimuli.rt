@@ -3,7 +3,7 @@ ghost use Rattle.std.specs.Prelude.{◌<◌, IfSome};
 
 use bool_functions::Names;
 use cell_machine::{CellSim, Change};
-use std::alloc::Global;
+use std::alloc::{AllocError, Global};
 use std::test::Fail;
 use stimulus::{
     Catalog, Cause, PortCatalog, Ports, Section, Standing, StimulusFault, read_stimulus, trace_line,
@@ -11,21 +11,21 @@ use stimulus::{
 use trit_cubes::Trit;
 
 /// A list of one name.
-fn one(alloc: Global, name: &[u8]) -> Result<Names, bool_functions::Memory> {
+fn one(alloc: Global, name: &[u8]) -> Result<Names, AllocError> {
     let mut names = Names::new(alloc);
     names.add(name)?;
     Ok(names)
 }
 
 /// A list of two names.
-fn two(alloc: Global, first: &[u8], second: &[u8]) -> Result<Names, bool_functions::Memory> {
+fn two(alloc: Global, first: &[u8], second: &[u8]) -> Result<Names, AllocError> {
     let mut names = Names::new(alloc);
     names.add(first)?;
     names.add(second)?;
     Ok(names)
 }
 
-fn ports(alloc: Global, standing: Standing) -> Result<Ports, bool_functions::Memory> {
+fn ports(alloc: Global, standing: Standing) -> Result<Ports, AllocError> {
     Ok(Ports {
         standing,
         inputs: two(alloc, b"D", b"CK")?,

@@ -14,8 +14,8 @@ use std::alloc::{AllocError, Global};
 use std::test::Fail;
 use trit_cubes::Trit;
 use vital_models::{
-    Memory, OutValue, Trits, TruthRow, VEntity, VNext, VStateRow, VSymbol, entity_name,
-    vital_model, vital_ports,
+    OutValue, Trits, TruthRow, VEntity, VNext, VStateRow, VSymbol, entity_name, vital_model,
+    vital_ports,
 };
 
 /// A list of one item.
@@ -238,7 +238,7 @@ fn a_flip_flop_has_the_written_tables(rt: HostRuntime) -> Result<(), Fail> {
 }
 
 /// Whether the ports of an entity with these pins have these names.
-fn have_names(alloc: Global, pins: &[Pin], names: [&[u8]; 4]) -> Result<bool, Memory> {
+fn have_names(alloc: Global, pins: &[Pin], names: [&[u8]; 4]) -> Result<bool, AllocError> {
     let ports = vital_ports(alloc, pins, b"E")?;
     match ports.as_slice() {
         [one, two, three, four] => Ok(

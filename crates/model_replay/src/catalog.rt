@@ -3,13 +3,13 @@ ghost use Rattle.std.specs.Prelude.{◌≡◌, IfOk};
 ghost use Rattle.model_replay.specs.ModelPorts.{ports_of, models_named, HasOwnNames, HaveOwnNames};
 
 use crate::language::ModelLanguage;
-use bool_functions::{Memory, Names};
-use std::alloc::Global;
+use bool_functions::Names;
+use std::alloc::{AllocError, Global};
 use stimulus::{PortCatalog, Ports, Standing};
 use udp_tables::VPort;
 
 /// The ports of a model by their names, numbered from 0 among the inputs and among the outputs.
-fn ports_of(alloc: Global, ports: &[VPort]) -> Result<Ports, Memory>
+fn ports_of(alloc: Global, ports: &[VPort]) -> Result<Ports, AllocError>
     ensures { IfOk result (λ named. HasOwnNames ports.now → named ≡ ports_of ports.now) }
 {
     let mut inputs = Names::new(alloc);
@@ -33,7 +33,7 @@ fn ports_of(alloc: Global, ports: &[VPort]) -> Result<Ports, Memory>
 pub fn models_named<L: ModelLanguage>(
     alloc: Global,
     models: &[L::Model],
-) -> Result<PortCatalog, stimulus::Memory>
+) -> Result<PortCatalog, AllocError>
     ensures { IfOk result (λ catalog. HaveOwnNames L.language models.now → catalog ≡ models_named L.language models.now) }
 {
     let mut catalog = PortCatalog::new(alloc);

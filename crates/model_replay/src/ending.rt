@@ -4,6 +4,7 @@ ghost use Rattle.model_replay.specs.declared.ending.Ending.TheVariants as ending
 ghost use Rattle.model_replay.specs.Endings.{status_of, ending_of_read};
 
 use command_outcomes::Status;
+use std::alloc::AllocError;
 use text_io::{Failed, ReadFault};
 use thiserror::Error;
 
@@ -61,10 +62,10 @@ impl From<ReadFault> for Ending {
     }
 }
 
-impl From<stimulus::Memory> for Ending {
+impl From<AllocError> for Ending {
     ghost from_gives = { λ _ made. made ≡ ending.Memory };
 
-    fn from(_memory: stimulus::Memory) -> Ending {
+    fn from(_memory: AllocError) -> Ending {
         Ending::Memory
     }
 }

@@ -3,13 +3,11 @@
 #![tactic(auto)]
 
 mod entities;
-mod faults;
 mod laws;
 mod modules;
 mod numbers;
 mod text_desk;
 
 pub use entities::{entity_read_back, read_back_entity};
-pub use faults::Memory;
 pub use laws::next_cells_have_entity_names;
 pub use modules::{module_read_back, read_back_module};

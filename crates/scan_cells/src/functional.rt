@@ -11,12 +11,11 @@ use crate::test_group::view_group;
 use crate::view_pins::{are_among, numbers_of, same_outline};
 use crate::views::View;
 use cell_machine::Cell;
-use cell_parts::fault::Memory;
 use liberty_groups::Group;
-use std::alloc::Global;
+use std::alloc::{AllocError, Global};
 
 /// The view of a cell that a group describes.
-fn view_of(alloc: Global, cell: &Cell, group: &Group) -> Result<Option<View>, Memory>
+fn view_of(alloc: Global, cell: &Cell, group: &Group) -> Result<Option<View>, AllocError>
     ensures is { IfOk result (λ view. option_map view_data view ≡ view_by (data_of cell.now) group.now (read_group_of cell.now.number group.now)) }
     ensures beside { IfOk result (λ view. IfSome view (λ v. StandsBeside (data_of cell.now) (view_data v))) }
 {
@@ -47,7 +46,7 @@ fn view_of(alloc: Global, cell: &Cell, group: &Group) -> Result<Option<View>, Me
 /// There is no view exactly where the group so read meets a refusal; where a pin of it is not in the cell with the same
 /// direction; where none of its pins is a scan enable by its `signal_type`; and where its number of state groups, or the
 /// set of the names of its outputs, is not that of the cell. (Liberty Reference Manual, `test_cell` group.)
-pub fn functional_cell(alloc: Global, cell: &Cell, test: &Group) -> Result<Option<View>, Memory>
+pub fn functional_cell(alloc: Global, cell: &Cell, test: &Group) -> Result<Option<View>, AllocError>
     ensures is { IfOk result (λ view. option_map view_data view ≡ functional_view (data_of cell.now) test.now) }
     ensures beside { IfOk result (λ view. IfSome view (λ v. StandsBeside (data_of cell.now) (view_data v))) }
 {

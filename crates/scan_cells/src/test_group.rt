@@ -5,11 +5,10 @@ ghost use Rattle.liberty_groups.specs.declared.tree.Item.{out-Item};
 ghost use Rattle.scan_cells.specs.TestGroup.{test_of as test_of_cell, is_time as is_time_name, is_kept, untimed as untimed_group, view_group as view_group_of, name_value as name_value_of, untimed_item};
 ghost use Rattle.cell_parts.specs.Groups.{inner_groups as inner_groups_of};
 
-use cell_parts::fault::Memory;
 use cell_parts::groups::inner_groups;
 use liberty_groups::{Group, Item, Value};
 use sqlite_items::Items;
-use std::alloc::Global;
+use std::alloc::{AllocError, Global};
 use timing_arcs::inner_group;
 
 /// The test cell of a cell: of several the first. (Liberty Reference Manual, `test_cell` group.)
@@ -34,14 +33,14 @@ fn is_time(name: &[u8]) -> bool
 }
 
 /// A copy of some bytes.
-fn copy_bytes(alloc: Global, bytes: &[u8]) -> Result<Items<u8>, Memory>
+fn copy_bytes(alloc: Global, bytes: &[u8]) -> Result<Items<u8>, AllocError>
     ensures { IfOk result (λ copy. copy ≡ bytes.now) }
 {
     Ok(Items::from_slice(alloc, bytes)?)
 }
 
 /// A copy of some values.
-fn copy_values(alloc: Global, values: &[Value]) -> Result<Items<Value>, Memory>
+fn copy_values(alloc: Global, values: &[Value]) -> Result<Items<Value>, AllocError>
     ensures { IfOk result (λ copy. copy ≡ values.now) }
 {
     let mut copy = Items::new(alloc);
@@ -54,7 +53,7 @@ fn copy_values(alloc: Global, values: &[Value]) -> Result<Items<Value>, Memory>
 }
 
 /// Adds a copy of a statement, where it is kept.
-fn add_kept(alloc: Global, kept: &mut Items<Item>, item: &Item) -> Result<(), Memory>
+fn add_kept(alloc: Global, kept: &mut Items<Item>, item: &Item) -> Result<(), AllocError>
     ensures { OnOk result (kept.new ≡ kept.old ++ filter (λ item. is_kept (out-Item item)) (item.now ∷ [])) }
 {
     match item {
@@ -84,7 +83,7 @@ fn add_kept(alloc: Global, kept: &mut Items<Item>, item: &Item) -> Result<(), Me
 }
 
 /// Copies of the statements that are kept.
-fn copy_kept(alloc: Global, items: &[Item]) -> Result<Items<Item>, Memory>
+fn copy_kept(alloc: Global, items: &[Item]) -> Result<Items<Item>, AllocError>
     ensures { IfOk result (λ kept. kept ≡ filter (λ item. is_kept (out-Item item)) items.now) }
 {
     let mut kept = Items::new(alloc);
@@ -95,7 +94,7 @@ fn copy_kept(alloc: Global, items: &[Item]) -> Result<Items<Item>, Memory>
 }
 
 /// A group with what is kept of its statements.
-fn untimed(alloc: Global, group: &Group) -> Result<Group, Memory>
+fn untimed(alloc: Global, group: &Group) -> Result<Group, AllocError>
     ensures { IfOk result (λ kept. kept ≡ untimed_group group.now) }
 {
     Ok(Group {
@@ -107,7 +106,7 @@ fn untimed(alloc: Global, group: &Group) -> Result<Group, Memory>
 }
 
 /// The groups of a test cell, each with what is kept of it.
-fn view_items(alloc: Global, test: &Group) -> Result<Items<Item>, Memory>
+fn view_items(alloc: Global, test: &Group) -> Result<Items<Item>, AllocError>
     ensures { IfOk result (λ items. items ≡ map untimed_item (inner_groups_of test.now.items)) }
 {
     let groups = inner_groups(alloc, test)?;
@@ -119,7 +118,7 @@ fn view_items(alloc: Global, test: &Group) -> Result<Items<Item>, Memory>
 }
 
 /// The arguments of a group with this name.
-fn name_arguments(alloc: Global, name: &[u8]) -> Result<Items<Value>, Memory>
+fn name_arguments(alloc: Global, name: &[u8]) -> Result<Items<Value>, AllocError>
     ensures { IfOk result (λ arguments. arguments ≡ name_value_of name.now ∷ []) }
 {
     let bytes = copy_bytes(alloc, name)?;
@@ -130,7 +129,7 @@ fn name_arguments(alloc: Global, name: &[u8]) -> Result<Items<Value>, Memory>
 }
 
 /// A test cell as the group of a cell with this name.
-pub fn view_group(alloc: Global, name: &[u8], test: &Group) -> Result<Group, Memory>
+pub fn view_group(alloc: Global, name: &[u8], test: &Group) -> Result<Group, AllocError>
     ensures { IfOk result (λ group. group ≡ view_group_of name.now test.now) }
 {
     Ok(Group {

@@ -2,6 +2,7 @@
 ghost use Rattle.std.specs.Prelude.{◌≡◌};
 ghost use Rattle.section_runs.specs.declared.faults.RunFault.TheVariants as fault;
 
+use std::alloc::AllocError;
 use thiserror::Error;
 
 /// Why a section is not printed to its end.
@@ -23,10 +24,10 @@ impl From<text_io::Failed> for RunFault {
     }
 }
 
-impl From<stimulus::Memory> for RunFault {
+impl From<AllocError> for RunFault {
     ghost from_gives = { λ _ made. made ≡ fault.Memory };
 
-    fn from(_memory: stimulus::Memory) -> RunFault {
+    fn from(_memory: AllocError) -> RunFault {
         RunFault::Memory
     }
 }

@@ -2,11 +2,10 @@
 ghost use Rattle.std.specs.Prelude.{◌≡◌, ◌<◌, IfOk};
 ghost use Rattle.selftest_cells.specs.Changes.{value_of, changes_of, ChangesAreProper};
 
-use crate::faults::Memory;
 use cell_machine::Change;
 use selftest_library::{next, pick};
 use sqlite_items::Items;
-use std::alloc::Global;
+use std::alloc::{AllocError, Global};
 use trit_cubes::Trit;
 
 /// How many changes each cell is run on.
@@ -26,7 +25,7 @@ fn value(number: u64) -> Trit
 /// The changes of the cell with a number from 1 on, where it has so many inputs: the oldest first, at times that rise strictly. An
 /// `Err` comes only where memory is wanting.
 #[tactic(auto, unfolding(crate::specs::Changes::changes_of))]
-pub fn cell_changes(alloc: Global, number: u64, inputs: usize) -> Result<Items<Change>, Memory>
+pub fn cell_changes(alloc: Global, number: u64, inputs: usize) -> Result<Items<Change>, AllocError>
     requires number { number < 2147483648 }
     requires inputs { 0 < inputs }
     ensures { IfOk result (λ list. list ≡ changes_of number inputs) }

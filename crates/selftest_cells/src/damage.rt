@@ -2,10 +2,9 @@
 ghost use Rattle.std.specs.Prelude.{◌≡◌, ◌∷◌, IfOk};
 ghost use Rattle.selftest_cells.specs.Damage.{alter_first, alter_second, other_next, damaged_row, damaged_udp, damaged_module, other_state, damaged_state_row, damaged_state, other_value, damaged_truth_row, damaged_value, damaged_output, damaged_entity, DamagedModulesAreSound, DamagedEntitiesAreSound};
 
-use crate::faults::Memory;
 use specify_blocks::VModule;
 use sqlite_items::Items;
-use std::alloc::Global;
+use std::alloc::{AllocError, Global};
 use trit_cubes::Trit;
 use udp_tables::{Next, Udp, UdpRow};
 use vital_models::{
@@ -18,12 +17,12 @@ trait Damage: Drop + Sized {
     ghost damaged: { Self → Self };
 
     /// The part, damaged. An `Err` comes only where memory is wanting.
-    fn damaged(self, alloc: Global) -> Result<Self, Memory>
+    fn damaged(self, alloc: Global) -> Result<Self, AllocError>
         ensures { IfOk result (λ part. part ≡ damaged self) };
 }
 
 /// A list with an item before the others.
-fn with_first<T: Drop>(alloc: Global, first: T, others: Items<T>) -> Result<Items<T>, Memory>
+fn with_first<T: Drop>(alloc: Global, first: T, others: Items<T>) -> Result<Items<T>, AllocError>
     ensures { IfOk result (λ list. list ≡ first ∷ others) }
 {
     let mut list = Items::new(alloc);
@@ -33,7 +32,7 @@ fn with_first<T: Drop>(alloc: Global, first: T, others: Items<T>) -> Result<Item
 }
 
 /// A list, its first part damaged where there is one.
-fn first_damaged<T: Damage>(alloc: Global, mut parts: Items<T>) -> Result<Items<T>, Memory>
+fn first_damaged<T: Damage>(alloc: Global, mut parts: Items<T>) -> Result<Items<T>, AllocError>
     ensures { IfOk result (λ list. list ≡ alter_first T.damaged parts) }
 {
     if parts.is_empty() {
@@ -44,7 +43,7 @@ fn first_damaged<T: Damage>(alloc: Global, mut parts: Items<T>) -> Result<Items<
 }
 
 /// A list, its second part damaged where there is one.
-fn second_damaged<T: Damage>(alloc: Global, mut parts: Items<T>) -> Result<Items<T>, Memory>
+fn second_damaged<T: Damage>(alloc: Global, mut parts: Items<T>) -> Result<Items<T>, AllocError>
     ensures { IfOk result (λ list. list ≡ alter_second T.damaged parts) }
 {
     if parts.is_empty() {
@@ -69,7 +68,7 @@ fn other_next(next: Next) -> Next
 impl Damage for UdpRow {
     ghost damaged = { damaged_row };
 
-    fn damaged(mut self, _alloc: Global) -> Result<UdpRow, Memory> {
+    fn damaged(mut self, _alloc: Global) -> Result<UdpRow, AllocError> {
         self.next = other_next(self.next);
         Ok(self)
     }
@@ -78,7 +77,7 @@ impl Damage for UdpRow {
 impl Damage for Udp {
     ghost damaged = { damaged_udp };
 
-    fn damaged(mut self, alloc: Global) -> Result<Udp, Memory> {
+    fn damaged(mut self, alloc: Global) -> Result<Udp, AllocError> {
         self.rows = first_damaged(alloc, self.rows)?;
         Ok(self)
     }
@@ -86,7 +85,7 @@ impl Damage for Udp {
 
 /// The module in which the first row of the first primitive gives 0 in place of 1, or 1 in place of 0. A row that gives another
 /// thing, and a module without such a row, stay as they are. An `Err` comes only where memory is wanting.
-pub fn damaged_module(alloc: Global, mut model: VModule) -> Result<VModule, Memory>
+pub fn damaged_module(alloc: Global, mut model: VModule) -> Result<VModule, AllocError>
     ensures { IfOk result (λ m. m ≡ damaged_module model) }
 {
     model.udps = first_damaged(alloc, model.udps)?;
@@ -107,7 +106,7 @@ fn other_state(next: VNext) -> VNext
 impl Damage for VStateRow {
     ghost damaged = { damaged_state_row };
 
-    fn damaged(mut self, _alloc: Global) -> Result<VStateRow, Memory> {
+    fn damaged(mut self, _alloc: Global) -> Result<VStateRow, AllocError> {
         self.result = other_state(self.result);
         Ok(self)
     }
@@ -117,7 +116,7 @@ impl Damage for VStateRow {
 impl Damage for VState {
     ghost damaged = { damaged_state };
 
-    fn damaged(mut self, alloc: Global) -> Result<VState, Memory> {
+    fn damaged(mut self, alloc: Global) -> Result<VState, AllocError> {
         self.table = VStateTable {
             rows: second_damaged(alloc, self.table.rows)?,
         };
@@ -139,7 +138,7 @@ fn other_value(value: Trit) -> Trit
 impl Damage for TruthRow {
     ghost damaged = { damaged_truth_row };
 
-    fn damaged(mut self, _alloc: Global) -> Result<TruthRow, Memory> {
+    fn damaged(mut self, _alloc: Global) -> Result<TruthRow, AllocError> {
         self.result = other_value(self.result);
         Ok(self)
     }
@@ -148,7 +147,7 @@ impl Damage for TruthRow {
 impl Damage for OutValue {
     ghost damaged = { damaged_value };
 
-    fn damaged(self, alloc: Global) -> Result<OutValue, Memory> {
+    fn damaged(self, alloc: Global) -> Result<OutValue, AllocError> {
         match self {
             OutValue::Constant(one) => Ok(OutValue::Constant(one)),
             OutValue::Table { table, inputs } => Ok(OutValue::Table {
@@ -164,7 +163,7 @@ impl Damage for OutValue {
 impl Damage for VOutput {
     ghost damaged = { damaged_output };
 
-    fn damaged(mut self, alloc: Global) -> Result<VOutput, Memory> {
+    fn damaged(mut self, alloc: Global) -> Result<VOutput, AllocError> {
         self.value = self.value.damaged(alloc)?;
         Ok(self)
     }
@@ -173,7 +172,7 @@ impl Damage for VOutput {
 /// The entity in which the second row of the first state table, and without states the first row of the first output's table, gives
 /// 0 in place of 1, or 1 in place of 0. A row that gives another thing, and an entity without such a row, stay as they are. An
 /// `Err` comes only where memory is wanting.
-pub fn damaged_entity(alloc: Global, mut model: VEntity) -> Result<VEntity, Memory>
+pub fn damaged_entity(alloc: Global, mut model: VEntity) -> Result<VEntity, AllocError>
     ensures { IfOk result (λ e. e ≡ damaged_entity model) }
 {
     if model.states.is_empty() {

@@ -3,10 +3,8 @@
 
 mod changes;
 mod damage;
-mod faults;
 
 pub use changes::{CHANGES_EACH, cell_changes, changes_are_proper};
 pub use damage::{
     damaged_entities_are_sound, damaged_entity, damaged_module, damaged_modules_are_sound,
 };
-pub use faults::Memory;

@@ -2,13 +2,11 @@
 #![tactic(auto)]
 
 mod draws;
-mod faults;
 mod library;
 mod own_library;
 mod statements;
 mod sums;
 
 pub use draws::{next, pick};
-pub use faults::Memory;
 pub use library::are_writable;
 pub use own_library::OwnLibrary;

@@ -6,30 +6,29 @@ ghost use Rattle.selftest_library.specs.Library.{input as input_of, output as ou
 ghost use Rattle.liberty_groups.specs.Writing.{group_text};
 
 use crate::draws::{next, pick};
-use crate::faults::Memory;
 use crate::statements::{group, one, pin, simple, table, timing, two};
 use crate::sums::function_text;
 use itoa::Buffer;
 use liberty_groups::{Group, Item, write_group};
 use sqlite_items::Items;
-use std::alloc::Global;
+use std::alloc::{AllocError, Global};
 
 /// An input pin with what more stands in it.
-fn input(alloc: Global, name: &[u8], more: Items<Item>) -> Result<Item, Memory>
+fn input(alloc: Global, name: &[u8], more: Items<Item>) -> Result<Item, AllocError>
     ensures { IfOk result (λ item. item ≡ input_of name.now more) }
 {
     pin(alloc, name, b"input", more)
 }
 
 /// An input pin alone.
-fn plain_input(alloc: Global, name: &[u8]) -> Result<Item, Memory>
+fn plain_input(alloc: Global, name: &[u8]) -> Result<Item, AllocError>
     ensures { IfOk result (λ item. item ≡ input_of name.now []) }
 {
     input(alloc, name, Items::new(alloc))
 }
 
 /// An output pin with what more stands in it.
-fn output(alloc: Global, name: &[u8], more: Items<Item>) -> Result<Item, Memory>
+fn output(alloc: Global, name: &[u8], more: Items<Item>) -> Result<Item, AllocError>
     ensures { IfOk result (λ item. item ≡ output_of name.now more) }
 {
     pin(alloc, name, b"output", more)
@@ -37,7 +36,7 @@ fn output(alloc: Global, name: &[u8], more: Items<Item>) -> Result<Item, Memory>
 
 /// The statements of a cell with a function of three inputs.
 #[tactic(auto, unfolding(crate::specs::Library::function_items))]
-fn function_items(alloc: Global, function: &[u8]) -> Result<Items<Item>, Memory>
+fn function_items(alloc: Global, function: &[u8]) -> Result<Items<Item>, AllocError>
     ensures { IfOk result (λ items. items ≡ function_items_of function.now) }
 {
     let value = Items::from_vec(vec![in alloc; simple(alloc, b"function", function)?]?);
@@ -51,7 +50,7 @@ fn function_items(alloc: Global, function: &[u8]) -> Result<Items<Item>, Memory>
 
 /// The setup time of the flip-flop's data.
 #[tactic(auto, unfolding(crate::specs::Library::setup))]
-fn setup(alloc: Global) -> Result<Item, Memory>
+fn setup(alloc: Global) -> Result<Item, AllocError>
     ensures { IfOk result (λ item. item ≡ the_setup) }
 {
     let rise = table(alloc, b"rise_constraint", b"20")?;
@@ -61,7 +60,7 @@ fn setup(alloc: Global) -> Result<Item, Memory>
 
 /// The delays of the flip-flop's output.
 #[tactic(auto, unfolding(crate::specs::Library::arc))]
-fn arc(alloc: Global) -> Result<Item, Memory>
+fn arc(alloc: Global) -> Result<Item, AllocError>
     ensures { IfOk result (λ item. item ≡ the_arc) }
 {
     let rise = table(alloc, b"cell_rise", b"5")?;
@@ -71,7 +70,7 @@ fn arc(alloc: Global) -> Result<Item, Memory>
 
 /// The flip-flop, with a clear.
 #[tactic(auto, unfolding(crate::specs::Library::flip_flop))]
-fn flip_flop(alloc: Global) -> Result<Item, Memory>
+fn flip_flop(alloc: Global) -> Result<Item, AllocError>
     ensures { IfOk result (λ item. item ≡ the_flip_flop) }
 {
     let items = Items::from_vec(vec![in alloc;
@@ -84,7 +83,7 @@ fn flip_flop(alloc: Global) -> Result<Item, Memory>
 
 /// The statements of a cell with a flip-flop.
 #[tactic(auto, unfolding(crate::specs::Library::flip_flop_items))]
-fn flip_flop_items(alloc: Global) -> Result<Items<Item>, Memory>
+fn flip_flop_items(alloc: Global) -> Result<Items<Item>, AllocError>
     ensures { IfOk result (λ items. items ≡ the_flip_flop_items) }
 {
     let check = Items::from_vec(vec![in alloc; setup(alloc)?]?);
@@ -100,7 +99,7 @@ fn flip_flop_items(alloc: Global) -> Result<Items<Item>, Memory>
 
 /// The latch.
 #[tactic(auto, unfolding(crate::specs::Library::latch))]
-fn latch(alloc: Global) -> Result<Item, Memory>
+fn latch(alloc: Global) -> Result<Item, AllocError>
     ensures { IfOk result (λ item. item ≡ the_latch) }
 {
     let items = Items::from_vec(vec![in alloc;
@@ -112,7 +111,7 @@ fn latch(alloc: Global) -> Result<Item, Memory>
 
 /// The statements of a cell with a latch.
 #[tactic(auto, unfolding(crate::specs::Library::latch_items))]
-fn latch_items(alloc: Global) -> Result<Items<Item>, Memory>
+fn latch_items(alloc: Global) -> Result<Items<Item>, AllocError>
     ensures { IfOk result (λ items. items ≡ the_latch_items) }
 {
     let width = Items::from_vec(vec![in alloc; simple(alloc, b"min_pulse_width_high", b"15")?]?);
@@ -127,7 +126,7 @@ fn latch_items(alloc: Global) -> Result<Items<Item>, Memory>
 
 /// The rows of the clock gate's state table.
 #[tactic(auto, unfolding(crate::specs::Library::state_rows))]
-fn state_rows(alloc: Global) -> Result<Items<u8>, Memory>
+fn state_rows(alloc: Global) -> Result<Items<u8>, AllocError>
     ensures { IfOk result (λ text. text ≡ the_state_rows) }
 {
     let mut text = Vec::from_slice(alloc, b"L L L : - : L, L L H : - : H, ")?;
@@ -137,7 +136,7 @@ fn state_rows(alloc: Global) -> Result<Items<u8>, Memory>
 }
 
 /// The state table of the clock gate.
-fn state_table(alloc: Global) -> Result<Item, Memory>
+fn state_table(alloc: Global) -> Result<Item, AllocError>
     ensures { IfOk result (λ item. item ≡ the_state_table) }
 {
     let rows = state_rows(alloc)?;
@@ -147,7 +146,7 @@ fn state_table(alloc: Global) -> Result<Item, Memory>
 
 /// The statements of a cell with a clock gate.
 #[tactic(auto, unfolding(crate::specs::Library::clock_gate_items))]
-fn clock_gate_items(alloc: Global) -> Result<Items<Item>, Memory>
+fn clock_gate_items(alloc: Global) -> Result<Items<Item>, AllocError>
     ensures { IfOk result (λ items. items ≡ the_clock_gate_items) }
 {
     let node = Items::from_vec(vec![in alloc; simple(alloc, b"internal_node", b"IQ")?]?);
@@ -163,7 +162,7 @@ fn clock_gate_items(alloc: Global) -> Result<Items<Item>, Memory>
 }
 
 /// The statements of a cell with a function that is drawn from its number.
-fn drawn_items(alloc: Global, number: u64) -> Result<Items<Item>, Memory>
+fn drawn_items(alloc: Global, number: u64) -> Result<Items<Item>, AllocError>
     requires { number < 2147483648 }
     ensures { IfOk result (λ items. items ≡ function_items_of (function_text_of (pick_of (next_of number) 256))) }
 {
@@ -172,7 +171,7 @@ fn drawn_items(alloc: Global, number: u64) -> Result<Items<Item>, Memory>
 }
 
 /// The name of the cell with a number.
-fn cell_name(alloc: Global, number: u64) -> Result<Vec<u8>, Memory>
+fn cell_name(alloc: Global, number: u64) -> Result<Vec<u8>, AllocError>
     ensures { IfOk result (λ name. name.items ≡ codes "G" ++ decimal number) }
 {
     let mut buffer = Buffer::new();
@@ -182,7 +181,7 @@ fn cell_name(alloc: Global, number: u64) -> Result<Vec<u8>, Memory>
 }
 
 /// The statements of a cell whose number has this remainder.
-fn cell_items(alloc: Global, kind: u64, number: u64) -> Result<Items<Item>, Memory>
+fn cell_items(alloc: Global, kind: u64, number: u64) -> Result<Items<Item>, AllocError>
     requires { number < 2147483648 }
     ensures { IfOk result (λ items. items ≡ items_by_of kind number) }
 {
@@ -196,7 +195,7 @@ fn cell_items(alloc: Global, kind: u64, number: u64) -> Result<Items<Item>, Memo
 
 /// The cell with a number, from 1 on, as a group.
 #[tactic(auto, unfolding(crate::specs::Library::cell_group))]
-fn cell_group(alloc: Global, number: u64) -> Result<Group, Memory>
+fn cell_group(alloc: Global, number: u64) -> Result<Group, AllocError>
     requires { number < 2147483648 }
     ensures { IfOk result (λ group. group ≡ cell_group_of number) }
 {
@@ -206,7 +205,7 @@ fn cell_group(alloc: Global, number: u64) -> Result<Group, Memory>
 }
 
 /// The text of the cell with a number, from 1 on. An `Err` comes only where memory is wanting.
-pub(crate) fn cell_text(alloc: Global, number: u64) -> Result<Vec<u8>, Memory>
+pub(crate) fn cell_text(alloc: Global, number: u64) -> Result<Vec<u8>, AllocError>
     requires { number < 2147483648 }
     ensures { IfOk result (λ text. text.items ≡ group_text (cell_group_of number)) }
 {
@@ -216,7 +215,7 @@ pub(crate) fn cell_text(alloc: Global, number: u64) -> Result<Vec<u8>, Memory>
 
 /// What stands before the cells in the text of the library. An `Err` comes only where memory is wanting.
 #[tactic(auto, unfolding(crate::specs::Library::front_text))]
-pub(crate) fn front(alloc: Global) -> Result<Vec<u8>, Memory>
+pub(crate) fn front(alloc: Global) -> Result<Vec<u8>, AllocError>
     ensures { IfOk result (λ text. text.items ≡ front_text) }
 {
     Ok(Vec::from_slice(alloc, b"library (\"selftest\") {\ntime_unit : \"1ps\";\n")?)

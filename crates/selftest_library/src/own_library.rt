@@ -1,9 +1,8 @@
 //! A desk on which the library that a run makes for itself is read.
 ghost use Rattle.std.specs.Prelude.{◌≡◌, ◌<◌, ◌≤◌, length, min, take};
 
-use crate::faults::Memory;
 use crate::library::{cell_text, front};
-use std::alloc::Global;
+use std::alloc::{AllocError, Global};
 use text_io::{Desk, Failed, InSlot, OutSlot};
 
 /// The library of so many cells, to be read through a desk: its slot is bound from the start, and nothing else can be bound, read or
@@ -34,7 +33,7 @@ impl OwnLibrary {
     ghost use Rattle.selftest_library.specs.Reading.{left_of, reads_library};
 
     /// The library of so many cells, of which nothing is read yet. An `Err` comes only where memory is wanting.
-    pub fn new(alloc: Global, cells: u64) -> Result<OwnLibrary, Memory>
+    pub fn new(alloc: Global, cells: u64) -> Result<OwnLibrary, AllocError>
         requires { cells < 2147483647 }
         ensures state { IfOk result (λ own. ⟦<OwnLibrary as Desk>⟧.state own ≡ reads_library (library_text cells)) }
     {
@@ -60,7 +59,7 @@ impl OwnLibrary {
     }
 
     /// Makes what comes behind a piece that is read, where the end isn't made.
-    fn make_next(&mut self) -> Result<(), Memory>
+    fn make_next(&mut self) -> Result<(), AllocError>
         requires read { self.old.taken ≡ length self.old.piece.items }
         requires going { self.old.is_ended ≡ false }
         ensures left { left_of self.new ≡ left_of self.old }
@@ -79,7 +78,7 @@ impl OwnLibrary {
     }
 
     /// Sees to it that bytes of the piece are left, unless the library is read.
-    fn refill(&mut self) -> Result<(), Memory>
+    fn refill(&mut self) -> Result<(), AllocError>
         ensures left { left_of self.new ≡ left_of self.old }
         ensures ready { OnOk result (self.new.taken ≡ length self.new.piece.items → left_of self.new ≡ []) }
         ensures faults { self.new.faults ≡ self.old.faults }
@@ -141,7 +140,7 @@ impl Desk for OwnLibrary {
         let _library = slot;
         match self.refill() {
             Ok(()) => Ok(self.read_piece(into)),
-            Err(Memory) => Err(self.fault()),
+            Err(AllocError) => Err(self.fault()),
         }
     }
 

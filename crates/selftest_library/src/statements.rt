@@ -2,13 +2,12 @@
 ghost use Rattle.std.specs.Prelude.{◌≡◌, [], ◌∷◌, IfOk};
 ghost use Rattle.selftest_library.specs.Statements.{text as text_of, simple as simple_of, complex as complex_of, group as group_of, pin as pin_of, table as table_of, timing as timing_of};
 
-use crate::faults::Memory;
 use liberty_groups::{Group, Item, Value};
 use sqlite_items::Items;
-use std::alloc::Global;
+use std::alloc::{AllocError, Global};
 
 /// A value between quotes.
-fn text(alloc: Global, bytes: &[u8]) -> Result<Value, Memory>
+fn text(alloc: Global, bytes: &[u8]) -> Result<Value, AllocError>
     ensures { IfOk result (λ value. value ≡ text_of bytes.now) }
 {
     Ok(Value {
@@ -18,21 +17,21 @@ fn text(alloc: Global, bytes: &[u8]) -> Result<Value, Memory>
 }
 
 /// One value.
-pub(crate) fn one(alloc: Global, bytes: &[u8]) -> Result<Items<Value>, Memory>
+pub(crate) fn one(alloc: Global, bytes: &[u8]) -> Result<Items<Value>, AllocError>
     ensures { IfOk result (λ values. values ≡ text_of bytes.now ∷ []) }
 {
     Ok(Items::from_vec(vec![in alloc; text(alloc, bytes)?]?))
 }
 
 /// Two values.
-pub(crate) fn two(alloc: Global, first: &[u8], second: &[u8]) -> Result<Items<Value>, Memory>
+pub(crate) fn two(alloc: Global, first: &[u8], second: &[u8]) -> Result<Items<Value>, AllocError>
     ensures { IfOk result (λ values. values ≡ text_of first.now ∷ text_of second.now ∷ []) }
 {
     Ok(Items::from_vec(vec![in alloc; text(alloc, first)?, text(alloc, second)?]?))
 }
 
 /// A simple attribute.
-pub(crate) fn simple(alloc: Global, name: &[u8], value: &[u8]) -> Result<Item, Memory>
+pub(crate) fn simple(alloc: Global, name: &[u8], value: &[u8]) -> Result<Item, AllocError>
     ensures { IfOk result (λ item. item ≡ simple_of name.now value.now) }
 {
     Ok(Item::Simple {
@@ -43,7 +42,7 @@ pub(crate) fn simple(alloc: Global, name: &[u8], value: &[u8]) -> Result<Item, M
 }
 
 /// A complex attribute.
-fn complex(alloc: Global, name: &[u8], argument: &[u8]) -> Result<Item, Memory>
+fn complex(alloc: Global, name: &[u8], argument: &[u8]) -> Result<Item, AllocError>
     ensures { IfOk result (λ item. item ≡ complex_of name.now argument.now) }
 {
     Ok(Item::Complex {
@@ -59,7 +58,7 @@ pub(crate) fn group(
     name: &[u8],
     arguments: Items<Value>,
     items: Items<Item>,
-) -> Result<Group, Memory>
+) -> Result<Group, AllocError>
     ensures { IfOk result (λ group. group ≡ group_of name.now arguments items) }
 {
     Ok(Group {
@@ -77,7 +76,7 @@ pub(crate) fn pin(
     name: &[u8],
     direction: &[u8],
     more: Items<Item>,
-) -> Result<Item, Memory>
+) -> Result<Item, AllocError>
     ensures { IfOk result (λ item. item ≡ pin_of name.now direction.now more) }
 {
     let mut items = Items::from_vec(vec![in alloc; simple(alloc, b"direction", direction)?]?);
@@ -87,7 +86,7 @@ pub(crate) fn pin(
 
 /// A table with one entry.
 #[tactic(auto, unfolding(crate::specs::Statements::table))]
-pub(crate) fn table(alloc: Global, name: &[u8], entry: &[u8]) -> Result<Item, Memory>
+pub(crate) fn table(alloc: Global, name: &[u8], entry: &[u8]) -> Result<Item, AllocError>
     ensures { IfOk result (λ item. item ≡ table_of name.now entry.now) }
 {
     let items = Items::from_vec(vec![in alloc; complex(alloc, b"values", entry)?]?);
@@ -102,7 +101,7 @@ pub(crate) fn timing(
     kind: &[u8],
     rise: Item,
     fall: Item,
-) -> Result<Item, Memory>
+) -> Result<Item, AllocError>
     ensures { IfOk result (λ item. item ≡ timing_of related.now kind.now rise fall) }
 {
     let items = Items::from_vec(vec![in alloc;

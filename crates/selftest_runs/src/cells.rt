@@ -8,15 +8,14 @@ ghost use Rattle.selftest_runs.specs.Counts.{known_in};
 ghost use Rattle.selftest_runs.specs.CellCounts.{changes_by, counts_on, cell_counts};
 
 use crate::counts::{Counts, known_values, one_if};
-use crate::faults::Memory;
 use crate::models::{is_damaged_entity_caught, is_damaged_module_caught};
 use cell_machine::{Cell, CellSim, Change, LibertySim};
 use selftest_cells::{cell_changes, changes_are_proper};
 use sqlite_items::Items;
-use std::alloc::Global;
+use std::alloc::{AllocError, Global};
 
 /// The changes of the cell with this number, where it has so many inputs: one without inputs is run on none.
-fn drawn_changes(alloc: Global, number: usize, inputs: usize) -> Result<Items<Change>, Memory>
+fn drawn_changes(alloc: Global, number: usize, inputs: usize) -> Result<Items<Change>, AllocError>
     requires { number < 2147483648 }
     ensures changes { IfOk result (λ list. list ≡ changes_by number inputs) }
     ensures proper { IfOk result (λ list. IsProperFrom inputs [] list) }
@@ -29,7 +28,7 @@ fn drawn_changes(alloc: Global, number: usize, inputs: usize) -> Result<Items<Ch
 }
 
 /// How many output values of a cell after these changes are 0 or 1.
-fn known_of(alloc: Global, cell: &Cell, changes: &[Change]) -> Result<u64, Memory>
+fn known_of(alloc: Global, cell: &Cell, changes: &[Change]) -> Result<u64, AllocError>
     requires { IsProperFrom (inputs_of (data_of cell.now)) [] changes.now }
     ensures { IfOk result (λ known. known ≡ known_in (cell_trace (data_of cell.now) changes.now)) }
 {
@@ -44,7 +43,7 @@ fn counts_on(
     cell: &Cell,
     entity: &[u8],
     changes: &[Change],
-) -> Result<Counts, Memory>
+) -> Result<Counts, AllocError>
     requires name { IsNameOfEntity (data_of cell.now) entity.now }
     requires proper { IsProperFrom (inputs_of (data_of cell.now)) [] changes.now }
     ensures { IfOk result (λ counts. counts ≡ counts_on changes.now (data_of cell.now) entity.now) }
@@ -62,7 +61,7 @@ fn counts_on(
 /// What is counted of a cell whose VITAL entity has this name. Its models are written, read back, and run beside it on the changes
 /// that are drawn for its number, and so are the damaged models. The name is one that an entity of the cell has. An `Err` comes
 /// only where memory is wanting or a count comes to 2 to the 64th.
-pub fn count_cell(alloc: Global, cell: &Cell, entity: &[u8]) -> Result<Counts, Memory>
+pub fn count_cell(alloc: Global, cell: &Cell, entity: &[u8]) -> Result<Counts, AllocError>
     requires name { IsNameOfEntity (data_of cell.now) entity.now }
     requires number { cell.now.number < 2147483648 }
     ensures { IfOk result (λ counts. counts ≡ cell_counts (data_of cell.now) entity.now) }

@@ -6,8 +6,8 @@ ghost use Rattle.cell_machine.specs.History.{IsProperFrom};
 ghost use Rattle.cell_machine.specs.Lines.{trace};
 ghost use Rattle.selftest_runs.specs.Counts.{no_counts, plus, one_if, known_values as known_values_of, known_in};
 
-use crate::faults::Memory;
 use cell_machine::{CellSim, Change};
+use std::alloc::AllocError;
 use trit_cubes::Trit;
 
 /// What is counted of cells that are run beside their damaged models.
@@ -34,7 +34,7 @@ impl Counts {
     }
 
     /// These and others together. An `Err` comes only where a count comes to 2 to the 64th.
-    pub fn plus(self, more: Counts) -> Result<Counts, Memory>
+    pub fn plus(self, more: Counts) -> Result<Counts, AllocError>
         ensures { IfOk result (λ sum. sum ≡ plus self more) }
     {
         Ok(Counts {
@@ -46,10 +46,10 @@ impl Counts {
 }
 
 /// The sum of two counts. An `Err` comes only where it is 2 to the 64th or more.
-fn total(one: u64, other: u64) -> Result<u64, Memory>
+fn total(one: u64, other: u64) -> Result<u64, AllocError>
     ensures { IfOk result (λ sum. sum ≡ one + other) }
 {
-    one.checked_add(other).ok_or(Memory)
+    one.checked_add(other).ok_or(AllocError)
 }
 
 /// 1 for a fact that holds, else 0.
@@ -82,7 +82,7 @@ fn known_shown<S: CellSim>(sim: &S) -> usize
 
 /// Gives the changes to a simulator that stands at its start, and answers how many output values after them are 0 or 1. They are
 /// changes of its inputs at times that rise strictly. An `Err` comes only where the count comes to 2 to the 64th.
-pub fn known_values<S: CellSim>(sim: &mut S, changes: &[Change]) -> Result<u64, Memory>
+pub fn known_values<S: CellSim>(sim: &mut S, changes: &[Change]) -> Result<u64, AllocError>
     requires start { S.stands sim.old [] }
     requires proper { IsProperFrom (S.machine sim.old).inputs [] changes.now }
     ensures { IfOk result (λ known. known ≡ known_in (trace (S.machine sim.old).line changes.now)) }

@@ -4,7 +4,6 @@
 
 mod cells;
 mod counts;
-mod faults;
 mod library;
 mod models;
 mod own;
@@ -12,7 +11,6 @@ mod report;
 
 pub use cells::count_cell;
 pub use counts::{Counts, known_values};
-pub use faults::Memory;
 pub use library::count_cells;
 pub use own::selftest_counts;
 pub use report::write_report;

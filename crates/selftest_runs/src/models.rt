@@ -14,7 +14,6 @@ ghost use Rattle.read_back_models.specs.EntityNames.{IsNameOfEntity};
 ghost use Rattle.selftest_cells.specs.Damage.{damaged_module, damaged_entity};
 ghost use Rattle.selftest_runs.specs.Counts.{is_caught};
 
-use crate::faults::Memory;
 use cell_machine::{Cell, Change, LibertySim};
 use model_traces::models_agree;
 use read_back_models::{entity_read_back, module_read_back};
@@ -23,7 +22,7 @@ use selftest_cells::{
     damaged_entities_are_sound, damaged_entity, damaged_module, damaged_modules_are_sound,
 };
 use specify_blocks::VModule;
-use std::alloc::Global;
+use std::alloc::{AllocError, Global};
 use table_interpreters::{VerilogSim, VitalSim};
 use vital_models::VEntity;
 
@@ -33,7 +32,7 @@ fn is_module_caught(
     cell: &Cell,
     model: &VModule,
     changes: &[Change],
-) -> Result<bool, Memory>
+) -> Result<bool, AllocError>
     requires sound { modules_of.IsSound model.now }
     requires inputs { inputs_of (data_of cell.now) ≡ input_count model.now.ports }
     requires outputs { length cell.now.outputs ≡ length (output_ports model.now.ports) }
@@ -51,7 +50,7 @@ fn is_entity_caught(
     cell: &Cell,
     entity: &VEntity,
     changes: &[Change],
-) -> Result<bool, Memory>
+) -> Result<bool, AllocError>
     requires sound { entities_of.IsSound entity.now }
     requires inputs { inputs_of (data_of cell.now) ≡ input_count entity.now.ports }
     requires outputs { length cell.now.outputs ≡ length entity.now.outputs }
@@ -69,7 +68,7 @@ pub(crate) fn is_damaged_module_caught(
     alloc: Global,
     cell: &Cell,
     changes: &[Change],
-) -> Result<bool, Memory>
+) -> Result<bool, AllocError>
     requires { IsProperFrom (inputs_of (data_of cell.now)) [] changes.now }
     ensures { IfOk result (λ caught. caught ≡ is_caught (cell_trace (data_of cell.now) changes.now) (module_trace (damaged_module (module_of (data_of cell.now))) changes.now)) }
 {
@@ -92,7 +91,7 @@ pub(crate) fn is_damaged_entity_caught(
     cell: &Cell,
     name: &[u8],
     changes: &[Change],
-) -> Result<bool, Memory>
+) -> Result<bool, AllocError>
     requires name { IsNameOfEntity (data_of cell.now) name.now }
     requires proper { IsProperFrom (inputs_of (data_of cell.now)) [] changes.now }
     ensures { IfOk result (λ caught. caught ≡ is_caught (cell_trace (data_of cell.now) changes.now) (entity_trace (damaged_entity (entity_of (data_of cell.now) name.now)) changes.now)) }

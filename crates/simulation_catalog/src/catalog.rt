@@ -5,7 +5,6 @@ ghost use Rattle.cell_reader.specs.LibraryCells.{described, all_described, cell_
 ghost use Rattle.simulation_catalog.specs.NamedModels.{shown};
 ghost use Rattle.simulation_catalog.specs.Catalog.{ports_in, numbers_in, simulated_in, simulated_of, HaveOwnNames};
 
-use crate::faults::Memory;
 use crate::model_files::{ModelFiles, lowered_names, module_names};
 use crate::numbers::ModelNumbers;
 use crate::pin_names::named_ports;
@@ -13,7 +12,7 @@ use bool_functions::Names;
 use cell_reader::LibraryCell;
 use specify_blocks::VModule;
 use sqlite_items::Items;
-use std::alloc::Global;
+use std::alloc::{AllocError, Global};
 use stimulus::{PortCatalog, Ports, Standing};
 use vital_models::VEntity;
 
@@ -36,7 +35,7 @@ struct Entry {
 }
 
 /// The entry of a cell.
-fn entry_of(alloc: Global, files: &ModelFiles<'_>, cell: &LibraryCell) -> Result<Entry, Memory>
+fn entry_of(alloc: Global, files: &ModelFiles<'_>, cell: &LibraryCell) -> Result<Entry, AllocError>
     ensures ports { IfOk result (λ entry. entry.ports ≡ ports_in (shown files.now) (described cell.now)) }
     ensures numbers { IfOk result (λ entry. entry.numbers ≡ numbers_in (shown files.now) (described cell.now)) }
 {
@@ -71,7 +70,7 @@ fn simulated_in(
     alloc: Global,
     files: &ModelFiles<'_>,
     cells: &[LibraryCell],
-) -> Result<Simulated, Memory>
+) -> Result<Simulated, AllocError>
     ensures { IfOk result (λ simulated. AreDistinct (cell_names (all_described cells.now)) → simulated ≡ simulated_in (shown files.now) (all_described cells.now)) }
 {
     let mut catalog = PortCatalog::new(alloc);
@@ -97,7 +96,7 @@ pub fn simulation_catalog(
     cells: &[LibraryCell],
     modules: &[VModule],
     entities: &[VEntity],
-) -> Result<Simulated, Memory>
+) -> Result<Simulated, AllocError>
     ensures { IfOk result (λ simulated. HaveOwnNames (all_described cells.now) modules.now entities.now → simulated ≡ simulated_of (all_described cells.now) modules.now entities.now) }
 {
     let files = ModelFiles {

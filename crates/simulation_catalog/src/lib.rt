@@ -4,7 +4,6 @@
 
 mod bad_lines;
 mod catalog;
-mod faults;
 mod laws;
 mod model_files;
 mod numbers;
@@ -14,7 +13,6 @@ mod stimulus_file;
 
 pub use bad_lines::{cause_status, write_cause};
 pub use catalog::{Simulated, simulation_catalog};
-pub use faults::Memory;
 pub use laws::{
     accepted_are_ready, described_are_cells, described_keep_rules, never_model_or_differ,
     no_section_differs, sections_can_be_compared,

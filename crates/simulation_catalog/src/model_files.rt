@@ -6,14 +6,13 @@ ghost use Rattle.specify_blocks.specs.Names.{module_name as module_name_of};
 ghost use Rattle.simulation_catalog.specs.NamedModels.{module_names as module_names_of, lowered_names as lowered_names_of, shown, has_ports, module_ports, entity_ports, verilog_number as verilog_number_of, vital_number as vital_number_of};
 ghost use Rattle.simulation_catalog.specs.declared.same_ports.Spelling.TheVariants as spelling;
 
-use crate::faults::Memory;
 use crate::numbers::Found;
 use crate::same_ports::Spelling;
 use bool_functions::Names;
 use cell_machine::Cell;
 use specify_blocks::{VModule, verilog_ports};
 use sqlite_items::Items;
-use std::alloc::Global;
+use std::alloc::{AllocError, Global};
 use udp_tables::VPort;
 use verilog_tokens::is_kept_cell_name;
 use vhdl_names::numbered_name;
@@ -34,7 +33,12 @@ pub(crate) struct ModelFiles<'a> {
 
 impl<'a> ModelFiles<'a> {
     /// The numbers of the models that are found for a cell whose entity has this name.
-    pub(crate) fn found(&self, alloc: Global, cell: &Cell, entity: &[u8]) -> Result<Found, Memory>
+    pub(crate) fn found(
+        &self,
+        alloc: Global,
+        cell: &Cell,
+        entity: &[u8],
+    ) -> Result<Found, AllocError>
         ensures verilog { IfOk result (λ found. found.verilog ≡ verilog_number_of (shown self.now) (data_of cell.now)) }
         ensures vital { IfOk result (λ found. found.vital ≡ vital_number_of (shown self.now) entity.now (data_of cell.now)) }
     {
@@ -46,7 +50,7 @@ impl<'a> ModelFiles<'a> {
 
     /// The number of the module of a cell, where it is there with the cell's ports.
     #[tactic(auto, unfolding(crate::specs::NamedModels::verilog_number))]
-    fn verilog_number(&self, alloc: Global, cell: &Cell) -> Result<Option<usize>, Memory>
+    fn verilog_number(&self, alloc: Global, cell: &Cell) -> Result<Option<usize>, AllocError>
         ensures { IfOk result (λ number. number ≡ verilog_number_of (shown self.now) (data_of cell.now)) }
     {
         let name = module_name(alloc, cell)?;
@@ -64,7 +68,7 @@ impl<'a> ModelFiles<'a> {
         alloc: Global,
         cell: &Cell,
         entity: &[u8],
-    ) -> Result<Option<usize>, Memory>
+    ) -> Result<Option<usize>, AllocError>
         ensures { IfOk result (λ number. number ≡ vital_number_of (shown self.now) entity.now (data_of cell.now)) }
     {
         let name = entity.to_ascii_lowercase(alloc)?;
@@ -97,7 +101,7 @@ impl<'a> ModelFiles<'a> {
 }
 
 /// The name of the module of a cell: the cell's, or `cell` and its number where Verilog does not keep that.
-fn module_name(alloc: Global, cell: &Cell) -> Result<Items<u8>, Memory>
+fn module_name(alloc: Global, cell: &Cell) -> Result<Items<u8>, AllocError>
     ensures { IfOk result (λ name. name ≡ module_name_of cell.now.number cell.now.name) }
 {
     let name = cell.name.as_slice();
@@ -109,7 +113,7 @@ fn module_name(alloc: Global, cell: &Cell) -> Result<Items<u8>, Memory>
 }
 
 /// The names of modules, in their order, where no two have one name.
-pub(crate) fn module_names(alloc: Global, modules: &[VModule]) -> Result<Names, Memory>
+pub(crate) fn module_names(alloc: Global, modules: &[VModule]) -> Result<Names, AllocError>
     ensures { IfOk result (λ names. AreDistinct (module_names_of modules.now) → names ≡ module_names_of modules.now) }
 {
     let mut names = Names::new(alloc);
@@ -120,7 +124,7 @@ pub(crate) fn module_names(alloc: Global, modules: &[VModule]) -> Result<Names, 
 }
 
 /// The names of entities in lower case, in their order, where no two have one name, whatever the case of its letters.
-pub(crate) fn lowered_names(alloc: Global, entities: &[VEntity]) -> Result<Names, Memory>
+pub(crate) fn lowered_names(alloc: Global, entities: &[VEntity]) -> Result<Names, AllocError>
     ensures { IfOk result (λ names. AreDistinct (lowered_names_of entities.now) → names ≡ lowered_names_of entities.now) }
 {
     let mut names = Names::new(alloc);

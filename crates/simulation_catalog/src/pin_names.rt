@@ -2,14 +2,17 @@
 ghost use Rattle.std.specs.Prelude.{◌≡◌, IfOk};
 ghost use Rattle.simulation_catalog.specs.PinNames.{same_direction as same_direction_of, pin_names as pin_names_of, named_ports as named_ports_of};
 
-use crate::faults::Memory;
 use bool_functions::Names;
 use cell_machine::{Cell, Direction};
-use std::alloc::Global;
+use std::alloc::{AllocError, Global};
 use stimulus::{Ports, Standing};
 
 /// The ports of a cell that stands so, by the names of its pins, numbered as its machine numbers them.
-pub(crate) fn named_ports(alloc: Global, standing: Standing, cell: &Cell) -> Result<Ports, Memory>
+pub(crate) fn named_ports(
+    alloc: Global,
+    standing: Standing,
+    cell: &Cell,
+) -> Result<Ports, AllocError>
     ensures { IfOk result (λ ports. ports ≡ named_ports_of standing cell.now.pins) }
 {
     Ok(Ports {
@@ -20,7 +23,7 @@ pub(crate) fn named_ports(alloc: Global, standing: Standing, cell: &Cell) -> Res
 }
 
 /// The names of the pins of a cell with this direction, in their order.
-fn pin_names(alloc: Global, direction: Direction, cell: &Cell) -> Result<Names, Memory>
+fn pin_names(alloc: Global, direction: Direction, cell: &Cell) -> Result<Names, AllocError>
     ensures { IfOk result (λ names. names ≡ pin_names_of direction cell.now.pins) }
 {
     let mut names = Names::new(alloc);

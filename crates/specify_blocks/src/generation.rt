@@ -3,7 +3,6 @@ ghost use Rattle.std.specs.Prelude.{◌≡◌, IfOk};
 ghost use Rattle.cell_machine.specs.CellData.{data_of};
 ghost use Rattle.specify_blocks.specs.Generated.{wires_of, notifier_of, condition_count, module_of};
 
-use crate::faults::Memory;
 use crate::instances::instances_of;
 use crate::model::VModule;
 use crate::names::{add_numbered, module_name, notifier_name};
@@ -13,12 +12,12 @@ use crate::primitives::primitives_of;
 use crate::timing::{checks_of, paths_of};
 use cell_machine::Cell;
 use sqlite_items::Items;
-use std::alloc::Global;
+use std::alloc::{AllocError, Global};
 use udp_tables::conditions;
 
 /// The Verilog module of a cell, with its primitives: one for each group, condition and output, a path for each arc, and the
 /// checks. Names that Verilog does not keep are replaced. What it answers is sound.
-pub fn verilog_model(alloc: Global, cell: &Cell) -> Result<VModule, Memory>
+pub fn verilog_model(alloc: Global, cell: &Cell) -> Result<VModule, AllocError>
     ensures { IfOk result (λ model. model ≡ module_of (data_of cell.now)) }
 {
     let conditions = conditions(alloc, cell)?;
@@ -35,7 +34,7 @@ pub fn verilog_model(alloc: Global, cell: &Cell) -> Result<VModule, Memory>
 }
 
 /// The names of the wires, where the cell has so many conditions: the states, then the conditions.
-fn wires_of(alloc: Global, cell: &Cell, conditions: usize) -> Result<Items<Items<u8>>, Memory>
+fn wires_of(alloc: Global, cell: &Cell, conditions: usize) -> Result<Items<Items<u8>>, AllocError>
     requires { conditions ≡ condition_count (data_of cell.now) }
     ensures { IfOk result (λ wires. wires ≡ wires_of (data_of cell.now)) }
 {
@@ -46,7 +45,7 @@ fn wires_of(alloc: Global, cell: &Cell, conditions: usize) -> Result<Items<Items
 }
 
 /// The name of the register of the checks, where the cell has some.
-fn notifier_of(alloc: Global, cell: &Cell) -> Result<Option<Items<u8>>, Memory>
+fn notifier_of(alloc: Global, cell: &Cell) -> Result<Option<Items<u8>>, AllocError>
     ensures { IfOk result (λ notifier. notifier ≡ notifier_of (data_of cell.now)) }
 {
     if has_notifier(cell) {

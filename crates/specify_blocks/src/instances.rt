@@ -6,13 +6,12 @@ ghost use Rattle.udp_tables.specs.Conditions.{conditions_of};
 ghost use Rattle.udp_tables.specs.CellPrimitives.{has_sources};
 ghost use Rattle.specify_blocks.specs.Generated.{each_from, group_instance, condition_wire, condition_instance, output_instance, output_instances, instances_of};
 
-use crate::faults::Memory;
 use crate::model::{Instance, VNet};
 use crate::nets::{add_notifier, pin_net, pin_nets, source_nets};
 use bool_functions::Function;
 use cell_machine::{Cell, OutputPin, StateGroup};
 use sqlite_items::Items;
-use std::alloc::Global;
+use std::alloc::{AllocError, Global};
 
 /// The most names of a cell: 64 pins, and two variables for each of 16 groups.
 const NAMES: usize = 96;
@@ -22,7 +21,7 @@ pub(crate) fn instances_of(
     alloc: Global,
     cell: &Cell,
     conditions: &[&Function],
-) -> Result<Items<Instance>, Memory>
+) -> Result<Items<Instance>, AllocError>
     requires { map (λ f. f.now) conditions.now ≡ conditions_of (data_of cell.now) }
     ensures { IfOk result (λ instances. instances ≡ instances_of (data_of cell.now)) }
 {
@@ -39,7 +38,7 @@ pub(crate) fn instances_of(
 }
 
 /// Adds the instances of the groups.
-fn add_groups(alloc: Global, instances: &mut Items<Instance>, cell: &Cell) -> Result<(), Memory>
+fn add_groups(alloc: Global, instances: &mut Items<Instance>, cell: &Cell) -> Result<(), AllocError>
     ensures { OnOk result (instances.new ≡ instances.old ++ each_from (group_instance (data_of cell.now)) 0 cell.now.groups) }
 {
     for (g, group) in cell.groups.as_slice().iter().enumerate() {
@@ -54,7 +53,7 @@ fn group_instance(
     cell: &Cell,
     g: usize,
     group: &StateGroup,
-) -> Result<Instance, Memory>
+) -> Result<Instance, AllocError>
     ensures { IfOk result (λ instance. instance ≡ group_instance (data_of cell.now) g group.now) }
 {
     let mut inputs = pin_nets(alloc, cell.pins.as_slice(), group.support.as_slice())?;
@@ -72,7 +71,7 @@ fn add_conditions(
     instances: &mut Items<Instance>,
     cell: &Cell,
     conditions: &[&Function],
-) -> Result<(), Memory>
+) -> Result<(), AllocError>
     ensures { OnOk result (instances.new ≡ instances.old ++ each_from (condition_instance (data_of cell.now)) 0 (map (λ f. f.now) conditions.now)) }
 {
     for (i, condition) in conditions.iter().enumerate() {
@@ -87,7 +86,7 @@ fn condition_instance(
     cell: &Cell,
     i: usize,
     condition: &Function,
-) -> Result<Instance, Memory>
+) -> Result<Instance, AllocError>
     requires { i < 2 ^ 62 }
     ensures { IfOk result (λ instance. instance ≡ condition_instance (data_of cell.now) i condition.now) }
 {
@@ -107,7 +106,7 @@ fn add_outputs(
     instances: &mut Items<Instance>,
     cell: &Cell,
     first: usize,
-) -> Result<(), Memory>
+) -> Result<(), AllocError>
     requires { first < 2 ^ 62 }
     ensures { OnOk result (instances.new ≡ instances.old ++ output_instances (data_of cell.now) first cell.now.outputs) }
 {
@@ -129,7 +128,7 @@ fn output_instance(
     cell: &Cell,
     next: usize,
     output: &OutputPin,
-) -> Result<Instance, Memory>
+) -> Result<Instance, AllocError>
     requires { name_bound output.now.function ≤ 96 }
     ensures { IfOk result (λ instance. instance ≡ output_instance (data_of cell.now) next output.now) }
 {

@@ -2,7 +2,6 @@
 //! 15.)
 #![tactic(auto)]
 
-mod faults;
 mod generation;
 mod instances;
 mod laws;
@@ -13,7 +12,6 @@ mod ports;
 mod primitives;
 mod timing;
 
-pub use faults::Memory;
 pub use generation::verilog_model;
 pub use laws::{generated_is_sound, texts_are_well_formed};
 pub use model::{Gate, Instance, VCheck, VModule, VNet, VPath};

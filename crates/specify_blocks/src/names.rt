@@ -2,14 +2,17 @@
 ghost use Rattle.std.specs.Prelude.{◌≡◌, ◌++◌, decimal, IfOk, OnOk};
 ghost use Rattle.specify_blocks.specs.Names.{module_name, numbered, notifier_name};
 
-use crate::faults::Memory;
 use itoa::Buffer;
 use sqlite_items::Items;
-use std::alloc::Global;
+use std::alloc::{AllocError, Global};
 use verilog_tokens::is_kept_cell_name;
 
 /// The name of the module of a cell: the cell's, or `cell` and its number where Verilog does not keep that.
-pub(crate) fn module_name(alloc: Global, number: usize, name: &[u8]) -> Result<Items<u8>, Memory>
+pub(crate) fn module_name(
+    alloc: Global,
+    number: usize,
+    name: &[u8],
+) -> Result<Items<u8>, AllocError>
     ensures { IfOk result (λ given. given ≡ module_name number name.now) }
 {
     if is_kept_cell_name(name) {
@@ -20,7 +23,11 @@ pub(crate) fn module_name(alloc: Global, number: usize, name: &[u8]) -> Result<I
 }
 
 /// A word followed by a number.
-pub(crate) fn numbered_name(alloc: Global, word: &[u8], number: usize) -> Result<Items<u8>, Memory>
+pub(crate) fn numbered_name(
+    alloc: Global,
+    word: &[u8],
+    number: usize,
+) -> Result<Items<u8>, AllocError>
     ensures { IfOk result (λ name. name ≡ word.now ++ decimal number) }
 {
     let mut buffer = Buffer::new();
@@ -35,7 +42,7 @@ pub(crate) fn add_numbered(
     names: &mut Items<Items<u8>>,
     word: &[u8],
     count: usize,
-) -> Result<(), Memory>
+) -> Result<(), AllocError>
     ensures { OnOk result (names.new ≡ names.old ++ numbered word.now count) }
 {
     for number in 0..count {
@@ -45,7 +52,7 @@ pub(crate) fn add_numbered(
 }
 
 /// The name of the register that each violation changes.
-pub(crate) fn notifier_name(alloc: Global) -> Result<Items<u8>, Memory>
+pub(crate) fn notifier_name(alloc: Global) -> Result<Items<u8>, AllocError>
     ensures { IfOk result (λ name. name ≡ notifier_name) }
 {
     Ok(Items::from_slice(alloc, b"lib_n")?)

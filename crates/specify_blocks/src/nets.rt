@@ -4,11 +4,10 @@ ghost use Rattle.cell_machine.specs.CellData.{data_of};
 ghost use Rattle.udp_tables.specs.CellPrimitives.{has_notifier};
 ghost use Rattle.specify_blocks.specs.Generated.{pin_net, source_net, notifier_nets};
 
-use crate::faults::Memory;
 use crate::model::VNet;
 use cell_machine::{Cell, Pin, Source};
 use sqlite_items::Items;
-use std::alloc::Global;
+use std::alloc::{AllocError, Global};
 use udp_tables::port_number;
 
 /// The net of a pin.
@@ -33,7 +32,7 @@ pub(crate) fn pin_nets(
     alloc: Global,
     pins: &[Pin],
     support: &[usize],
-) -> Result<Items<VNet>, Memory>
+) -> Result<Items<VNet>, AllocError>
     ensures { IfOk result (λ nets. nets ≡ map (pin_net pins.now) support.now) }
 {
     let mut nets = Items::new(alloc);
@@ -48,7 +47,7 @@ pub(crate) fn source_nets(
     alloc: Global,
     pins: &[Pin],
     support: &[Source],
-) -> Result<Items<VNet>, Memory>
+) -> Result<Items<VNet>, AllocError>
     ensures { IfOk result (λ nets. nets ≡ map (source_net pins.now) support.now) }
 {
     let mut nets = Items::new(alloc);
@@ -59,7 +58,7 @@ pub(crate) fn source_nets(
 }
 
 /// Adds the register of the checks, where the cell has some.
-pub(crate) fn add_notifier(nets: &mut Items<VNet>, cell: &Cell) -> Result<(), Memory>
+pub(crate) fn add_notifier(nets: &mut Items<VNet>, cell: &Cell) -> Result<(), AllocError>
     ensures { OnOk result (nets.new ≡ nets.old ++ notifier_nets (has_notifier (data_of cell.now))) }
 {
     if has_notifier(cell) {

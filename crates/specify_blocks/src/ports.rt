@@ -2,17 +2,16 @@
 ghost use Rattle.std.specs.Prelude.{◌≡◌, IfOk};
 ghost use Rattle.specify_blocks.specs.Ports.{port_name, port_of, ports_of};
 
-use crate::faults::Memory;
 use crate::names::numbered_name;
 use cell_machine::{Direction, Pin};
 use sqlite_items::Items;
-use std::alloc::Global;
+use std::alloc::{AllocError, Global};
 use udp_tables::{VPort, is_port};
 use verilog_tokens::is_kept_port_name;
 
 /// The ports of the module of a cell with these pins: its input and output pins in their order, with the names that Verilog
 /// keeps, and `pin` with the port's number from 1 for the others.
-pub fn verilog_ports(alloc: Global, pins: &[Pin]) -> Result<Items<VPort>, Memory>
+pub fn verilog_ports(alloc: Global, pins: &[Pin]) -> Result<Items<VPort>, AllocError>
     ensures { IfOk result (λ ports. ports ≡ ports_of pins.now) }
 {
     let mut ports = Items::new(alloc);
@@ -25,7 +24,7 @@ pub fn verilog_ports(alloc: Global, pins: &[Pin]) -> Result<Items<VPort>, Memory
 }
 
 /// The port of a pin.
-fn port_of(alloc: Global, number: usize, pin: &Pin) -> Result<VPort, Memory>
+fn port_of(alloc: Global, number: usize, pin: &Pin) -> Result<VPort, AllocError>
     ensures { IfOk result (λ port. port ≡ port_of number pin.now) }
 {
     Ok(VPort {
@@ -35,7 +34,7 @@ fn port_of(alloc: Global, number: usize, pin: &Pin) -> Result<VPort, Memory>
 }
 
 /// The name of a port: the pin's, or one by its number.
-fn port_name(alloc: Global, number: usize, name: &[u8]) -> Result<Items<u8>, Memory>
+fn port_name(alloc: Global, number: usize, name: &[u8]) -> Result<Items<u8>, AllocError>
     ensures { IfOk result (λ port. port ≡ port_name number name.now) }
 {
     if is_kept_port_name(name) {

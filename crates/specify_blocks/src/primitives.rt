@@ -4,12 +4,11 @@ ghost use Rattle.cell_machine.specs.CellData.{data_of};
 ghost use Rattle.udp_tables.specs.Conditions.{conditions_of};
 ghost use Rattle.specify_blocks.specs.Generated.{group_primitives, condition_primitives, output_primitives, primitives_of};
 
-use crate::faults::Memory;
 use crate::instances::has_sources;
 use bool_functions::Function;
 use cell_machine::Cell;
 use sqlite_items::Items;
-use std::alloc::Global;
+use std::alloc::{AllocError, Global};
 use udp_tables::{Part, Udp, part_udp, sequential_udp};
 
 /// The primitives of a cell's module, where these are the cell's conditions: groups, conditions, outputs.
@@ -17,7 +16,7 @@ pub(crate) fn primitives_of(
     alloc: Global,
     cell: &Cell,
     conditions: &[&Function],
-) -> Result<Items<Udp>, Memory>
+) -> Result<Items<Udp>, AllocError>
     requires { map (λ condition. condition.now) conditions.now ≡ conditions_of (data_of cell.now) }
     ensures { IfOk result (λ udps. udps ≡ primitives_of (data_of cell.now)) }
 {
@@ -29,7 +28,7 @@ pub(crate) fn primitives_of(
 }
 
 /// Adds the primitives of the groups.
-fn add_groups(alloc: Global, udps: &mut Items<Udp>, cell: &Cell) -> Result<(), Memory>
+fn add_groups(alloc: Global, udps: &mut Items<Udp>, cell: &Cell) -> Result<(), AllocError>
     ensures { OnOk result (udps.new ≡ udps.old ++ group_primitives (data_of cell.now)) }
 {
     for group in 0..cell.groups.len() {
@@ -44,7 +43,7 @@ fn add_conditions(
     udps: &mut Items<Udp>,
     cell: &Cell,
     conditions: &[&Function],
-) -> Result<(), Memory>
+) -> Result<(), AllocError>
     requires { map (λ condition. condition.now) conditions.now ≡ conditions_of (data_of cell.now) }
     ensures { OnOk result (udps.new ≡ udps.old ++ condition_primitives (data_of cell.now)) }
 {
@@ -60,7 +59,7 @@ fn add_outputs(
     udps: &mut Items<Udp>,
     cell: &Cell,
     conditions: &[&Function],
-) -> Result<(), Memory>
+) -> Result<(), AllocError>
     requires { map (λ condition. condition.now) conditions.now ≡ conditions_of (data_of cell.now) }
     ensures { OnOk result (udps.new ≡ udps.old ++ output_primitives (data_of cell.now) 0 cell.now.outputs) }
 {

@@ -5,12 +5,11 @@ ghost use Rattle.cell_machine.specs.CellData.{data_of};
 ghost use Rattle.udp_tables.specs.Conditions.{conditions_of};
 ghost use Rattle.specify_blocks.specs.Generated.{wire_of, is_conditional, gate_by, path_of, check_of};
 
-use crate::faults::Memory;
 use crate::model::{Gate, VCheck, VPath};
 use bool_functions::Function;
 use cell_machine::{Arc, Cell, Check};
 use sqlite_items::Items;
-use std::alloc::Global;
+use std::alloc::{AllocError, Global};
 use udp_tables::{condition_number, event_of, port_number};
 
 /// The paths of a cell's module, where these are the cell's conditions: one for each arc, in order.
@@ -18,7 +17,7 @@ pub(crate) fn paths_of(
     alloc: Global,
     cell: &Cell,
     conditions: &[&Function],
-) -> Result<Items<VPath>, Memory>
+) -> Result<Items<VPath>, AllocError>
     requires { map (λ f. f.now) conditions.now ≡ conditions_of (data_of cell.now) }
     ensures { IfOk result (λ paths. paths ≡ map (path_of (data_of cell.now)) cell.now.arcs) }
 {
@@ -93,7 +92,7 @@ pub(crate) fn checks_of(
     alloc: Global,
     cell: &Cell,
     conditions: &[&Function],
-) -> Result<Items<VCheck>, Memory>
+) -> Result<Items<VCheck>, AllocError>
     requires { map (λ f. f.now) conditions.now ≡ conditions_of (data_of cell.now) }
     ensures { IfOk result (λ checks. checks ≡ map (check_of (data_of cell.now)) cell.now.checks) }
 {

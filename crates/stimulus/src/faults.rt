@@ -77,11 +77,6 @@ pub enum StimulusFault {
     Memory,
 }
 
-/// Memory was wanted and not there.
-#[derive(Debug, Drop, Error)]
-#[error("out of memory")]
-pub struct Memory;
-
 impl From<AllocError> for StimulusFault {
     ghost use Rattle.std.specs.Prelude.{◌≡◌};
     ghost use Rattle.stimulus.specs.declared.faults.StimulusFault.TheVariants as fault;
@@ -101,23 +96,5 @@ impl<T: Drop> From<AllocFailed<T>> for StimulusFault {
 
     fn from(_: AllocFailed<T>) -> StimulusFault {
         StimulusFault::Memory
-    }
-}
-
-impl From<AllocError> for Memory {
-    fn from(_: AllocError) -> Memory {
-        Memory
-    }
-}
-
-impl<T: Drop> From<AllocFailed<T>> for Memory {
-    fn from(_: AllocFailed<T>) -> Memory {
-        Memory
-    }
-}
-
-impl From<bool_functions::Memory> for Memory {
-    fn from(_: bool_functions::Memory) -> Memory {
-        Memory
     }
 }

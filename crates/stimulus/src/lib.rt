@@ -16,7 +16,7 @@ mod trace;
 mod written;
 
 pub use catalog::{Catalog, CellFound, PinFound};
-pub use faults::{Cause, Memory, StimulusFault};
+pub use faults::{Cause, StimulusFault};
 pub use judged::MAX_CHANGES;
 pub use laws::{causes_name_answers, ports_are_inputs, sections_are_proper};
 pub use ports::{PortCatalog, Ports, Standing};

@@ -4,10 +4,9 @@ ghost use Rattle.bool_functions.specs.NameList.{number_of};
 ghost use Rattle.stimulus.specs.PortPlaces.{port_at};
 
 use crate::catalog::{Catalog, CellFound, PinFound};
-use crate::faults::Memory;
 use bool_functions::Names;
 use sqlite_items::Items;
-use std::alloc::Global;
+use std::alloc::{AllocError, Global};
 use std::marker::Model;
 
 /// The most names that are compared one by one.
@@ -164,7 +163,7 @@ impl PortCatalog {
 
     /// Adds a cell at the end and answers its number, which is the length before. Nothing is answered exactly where a
     /// cell has the name already: that one counts. Then, and where memory is wanting, the catalog is as before.
-    pub fn add(&mut self, name: &[u8], cell: Ports) -> Result<Option<usize>, Memory>
+    pub fn add(&mut self, name: &[u8], cell: Ports) -> Result<Option<usize>, AllocError>
         ensures added { IfOk result (λ number. AddsCell self.old name.now cell number self.new) }
         ensures err { OnErr result (self.new ≡ self.old) }
     {
@@ -177,7 +176,7 @@ impl PortCatalog {
             }
             Err(_) => {
                 self.cells.pop();
-                Err(Memory)
+                Err(AllocError)
             }
         }
     }

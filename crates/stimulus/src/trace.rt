@@ -4,11 +4,10 @@ ghost use Rattle.std.specs.Option.{option_copied};
 ghost use Rattle.cell_machine.specs.declared.changes.Change.{Change as ChangeOf};
 ghost use Rattle.stimulus.specs.TraceLine.{value_text as value_text_of, head_text, change_text, output_text, outputs_text, delay_text, report_text, reports_text, line_text};
 
-use crate::faults::Memory;
 use bool_functions::Names;
 use cell_machine::{CellSim, Change};
 use itoa::Buffer;
-use std::alloc::Global;
+use std::alloc::{AllocError, Global};
 use trit_cubes::Trit;
 
 /// How many bytes a text is given room for ahead of a line: most lines are shorter.
@@ -26,7 +25,7 @@ pub fn trace_line<S: CellSim>(
     inputs: &Names,
     outputs: &Names,
     sim: &S,
-) -> Result<Vec<u8>, Memory>
+) -> Result<Vec<u8>, AllocError>
     requires inputs { length inputs.now ≡ (S.machine sim.now).inputs }
     requires outputs { length outputs.now ≡ (S.machine sim.now).outputs }
     requires pin { IfSome change (λ change. change.now.pin < (S.machine sim.now).inputs) }
@@ -46,7 +45,7 @@ pub fn append_trace_line<S: CellSim>(
     inputs: &Names,
     outputs: &Names,
     sim: &S,
-) -> Result<(), Memory>
+) -> Result<(), AllocError>
     requires inputs { length inputs.now ≡ (S.machine sim.now).inputs }
     requires outputs { length outputs.now ≡ (S.machine sim.now).outputs }
     requires pin { IfSome change (λ change. change.now.pin < (S.machine sim.now).inputs) }
@@ -62,7 +61,7 @@ pub fn append_trace_line<S: CellSim>(
 }
 
 /// What the line is on.
-fn push_head(text: &mut Vec<u8>, change: Option<&Change>, inputs: &Names) -> Result<(), Memory>
+fn push_head(text: &mut Vec<u8>, change: Option<&Change>, inputs: &Names) -> Result<(), AllocError>
     requires { IfSome change (λ change. change.now.pin < length inputs.now) }
     ensures { OnOk result (text.new.items ≡ text.old.items ++ head_text inputs.now (option_copied change.entry)) }
 {
@@ -75,7 +74,7 @@ fn push_head(text: &mut Vec<u8>, change: Option<&Change>, inputs: &Names) -> Res
 
 /// A change.
 #[tactic(auto, unfolding(crate::specs::TraceLine::change_text))]
-fn push_change(text: &mut Vec<u8>, change: &Change, inputs: &Names) -> Result<(), Memory>
+fn push_change(text: &mut Vec<u8>, change: &Change, inputs: &Names) -> Result<(), AllocError>
     requires { change.now.pin < length inputs.now }
     ensures { OnOk result (text.new.items ≡ text.old.items ++ change_text inputs.now change.now) }
 {
@@ -102,7 +101,7 @@ fn value_text(value: Trit) -> &'static [u8]
 }
 
 /// The outputs, in order.
-fn push_outputs<S: CellSim>(text: &mut Vec<u8>, names: &Names, sim: &S) -> Result<(), Memory>
+fn push_outputs<S: CellSim>(text: &mut Vec<u8>, names: &Names, sim: &S) -> Result<(), AllocError>
     requires { length names.now ≡ (S.machine sim.now).outputs }
     ensures { OnOk result ((h : List ChangeOf) → S.stands sim.now h → text.new.items ≡ text.old.items ++ outputs_text names.now ((S.machine sim.now).line h).values ((S.machine sim.now).line h).delays) }
 {
@@ -119,7 +118,7 @@ fn push_output(
     name: &[u8],
     value: Trit,
     delay: Option<u64>,
-) -> Result<(), Memory>
+) -> Result<(), AllocError>
     ensures { OnOk result (text.new.items ≡ text.old.items ++ output_text name.now value delay) }
 {
     text.extend_from_slice(b" ")?;
@@ -130,7 +129,7 @@ fn push_output(
 }
 
 /// The delay of an output that changed.
-fn push_delay(text: &mut Vec<u8>, delay: Option<u64>) -> Result<(), Memory>
+fn push_delay(text: &mut Vec<u8>, delay: Option<u64>) -> Result<(), AllocError>
     ensures { OnOk result (text.new.items ≡ text.old.items ++ delay_text delay) }
 {
     if let Some(delay) = delay {
@@ -142,7 +141,7 @@ fn push_delay(text: &mut Vec<u8>, delay: Option<u64>) -> Result<(), Memory>
 }
 
 /// The checks that reported.
-fn push_reports<S: CellSim>(text: &mut Vec<u8>, sim: &S) -> Result<(), Memory>
+fn push_reports<S: CellSim>(text: &mut Vec<u8>, sim: &S) -> Result<(), AllocError>
     ensures { OnOk result ((h : List ChangeOf) → S.stands sim.now h → text.new.items ≡ text.old.items ++ reports_text 1 ((S.machine sim.now).line h).reports) }
 {
     for check in 0..sim.checks() {
@@ -153,7 +152,7 @@ fn push_reports<S: CellSim>(text: &mut Vec<u8>, sim: &S) -> Result<(), Memory>
 
 /// A check that may have reported, by its number from 1.
 #[tactic(auto, unfolding(crate::specs::TraceLine::report_text))]
-fn push_report(text: &mut Vec<u8>, number: usize, reported: bool) -> Result<(), Memory>
+fn push_report(text: &mut Vec<u8>, number: usize, reported: bool) -> Result<(), AllocError>
     ensures { OnOk result (text.new.items ≡ text.old.items ++ report_text number reported) }
 {
     if reported {

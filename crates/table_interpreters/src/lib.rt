@@ -5,7 +5,6 @@
 mod checks;
 mod delays;
 mod entity_values;
-mod faults;
 mod module_run;
 mod module_values;
 mod net_values;
@@ -23,6 +22,5 @@ mod verilog_sim;
 mod vital_sim;
 mod wiring;
 
-pub use faults::Memory;
 pub use verilog_sim::VerilogSim;
 pub use vital_sim::VitalSim;

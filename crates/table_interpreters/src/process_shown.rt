@@ -7,13 +7,12 @@ ghost use Rattle.table_interpreters.specs.EntitySteps.{output_first, output_step
 
 use crate::delays::OutputChange;
 use crate::entity_values::EntityValues;
-use crate::faults::Memory;
 use crate::process_delays::entity_delay;
 use crate::process_rooms::output_at;
 use crate::process_values::output_value;
 use crate::shown::Shown;
 use sqlite_items::Items;
-use std::alloc::Global;
+use std::alloc::{AllocError, Global};
 use trit_cubes::Trit;
 use vital_models::VOutput;
 
@@ -71,7 +70,7 @@ pub(crate) fn show_first(
     alloc: Global,
     values: &EntityValues,
     room: &mut Items<Trit>,
-) -> Result<Items<Shown>, Memory>
+) -> Result<Items<Shown>, AllocError>
     requires sound { IsSound values.now.model.now }
     requires room { HasRoom (length room.old) values.now.model.now }
     ensures shown { IfOk result (λ shown. shown ≡ map (output_first values.now.model.now values.now.inputs.now values.now.states.now) values.now.model.now.outputs) }

@@ -5,12 +5,11 @@ ghost use Rattle.table_interpreters.specs.Wiring.{is_wired};
 ghost use Rattle.table_interpreters.specs.ShownPorts.{shown_first, shown_step};
 
 use crate::delays::{OutputChange, delay_at};
-use crate::faults::Memory;
 use crate::module_values::ModuleValues;
 use crate::net_values::net_value;
 use specify_blocks::VNet;
 use sqlite_items::Items;
-use std::alloc::Global;
+use std::alloc::{AllocError, Global};
 use trit_cubes::Trit;
 
 /// What an output shows: its value, and its delay in picoseconds where it changed at the last change.
@@ -68,7 +67,7 @@ fn add_first(
     is_input: bool,
     shown: &mut Items<Shown>,
     room: &mut Items<Trit>,
-) -> Result<(), Memory>
+) -> Result<(), AllocError>
     requires { IsTrue (is_wired (length room.old) values.now.model.now) }
     ensures shown { OnOk result (shown.new ≡ shown.old ++ map (shown_first values.now.model.now values.now.inputs.now values.now.states.now) (output_by port is_input)) }
     ensures len { length room.new ≡ length room.old }
@@ -90,7 +89,7 @@ pub(crate) fn show_start(
     alloc: Global,
     values: &ModuleValues,
     room: &mut Items<Trit>,
-) -> Result<Items<Shown>, Memory>
+) -> Result<Items<Shown>, AllocError>
     requires { IsTrue (is_wired (length room.old) values.now.model.now) }
     ensures shown { IfOk result (λ shown. shown ≡ map (shown_first values.now.model.now values.now.inputs.now values.now.states.now) (output_ports values.now.model.now.ports)) }
     ensures len { length room.new ≡ length room.old }

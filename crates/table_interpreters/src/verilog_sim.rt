@@ -3,7 +3,6 @@ ghost use Rattle.std.specs.Prelude.{◌≡◌, [], length, IsTrue};
 ghost use Rattle.table_interpreters.specs.Wiring.{is_wired};
 ghost use Rattle.model_traces.specs.PortNumbers.{input_count, output_ports};
 
-use crate::faults::Memory;
 use crate::module_run::change;
 use crate::module_values::ModuleValues;
 use crate::ports::input_count;
@@ -13,7 +12,7 @@ use cell_machine::{CellSim, Change};
 use model_traces::{ModuleRun, Stamps};
 use specify_blocks::VModule;
 use sqlite_items::Items;
-use std::alloc::Global;
+use std::alloc::{AllocError, Global};
 use trit_cubes::Trit;
 
 /// A Verilog module run by its tables, paths and checks. (IEEE 1364-2005, clauses 8, 14 and 15.)
@@ -38,7 +37,7 @@ impl<'a> VerilogSim<'a> {
     ghost use Rattle.model_traces.specs.ModuleTrace.{module_machine};
 
     /// The simulator of a sound module before any change: all inputs, states and the register of the checks are unknown.
-    pub fn start(alloc: Global, model: &'a VModule) -> Result<VerilogSim<'a>, Memory>
+    pub fn start(alloc: Global, model: &'a VModule) -> Result<VerilogSim<'a>, AllocError>
         requires { IsSound model.now }
         ensures machine { IfOk result (λ sim. ⟦<VerilogSim<'a> as CellSim>⟧.machine sim ≡ module_machine model.now) }
         ensures stands { IfOk result (λ sim. ⟦<VerilogSim<'a> as CellSim>⟧.stands sim []) }

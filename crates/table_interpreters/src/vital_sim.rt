@@ -8,7 +8,6 @@ ghost use Rattle.table_interpreters.specs.EntitySteps.{HasParts};
 ghost use Rattle.model_traces.specs.PortNumbers.{input_count};
 
 use crate::entity_values::EntityValues;
-use crate::faults::Memory;
 use crate::ports::input_count;
 use crate::process_rooms::most_columns;
 use crate::process_run::{ProcessState, take};
@@ -17,7 +16,7 @@ use crate::shown::Shown;
 use cell_machine::{CellSim, Change};
 use model_traces::Stamps;
 use sqlite_items::Items;
-use std::alloc::Global;
+use std::alloc::{AllocError, Global};
 use trit_cubes::Trit;
 use vital_models::VEntity;
 
@@ -44,8 +43,8 @@ impl<'a> VitalSim<'a> {
     ghost use Rattle.model_traces.specs.EntityTrace.{entity_machine};
 
     /// The simulator of a sound entity before any change: all inputs and states, the columns of its tables and the violation are
-    /// unknown. `Memory` comes only where memory is wanted and not there.
-    pub fn start(alloc: Global, model: &'a VEntity) -> Result<VitalSim<'a>, Memory>
+    /// unknown. `AllocError` comes only where memory is wanted and not there.
+    pub fn start(alloc: Global, model: &'a VEntity) -> Result<VitalSim<'a>, AllocError>
         requires { IsSound model.now }
         ensures machine { IfOk result (λ sim. ⟦<VitalSim<'a> as CellSim>⟧.machine sim ≡ entity_machine model.now) }
         ensures stands { IfOk result (λ sim. ⟦<VitalSim<'a> as CellSim>⟧.stands sim []) }

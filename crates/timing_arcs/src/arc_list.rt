@@ -6,11 +6,10 @@ ghost use Rattle.timing_arcs.specs.Merging.{same_condition, same_path};
 ghost use Rattle.timing_arcs.specs.Adding.{joined_with, pushed};
 ghost use Rattle.timing_arcs.specs.Shown.{arc_on};
 
-use crate::fault::Memory;
 use bool_functions::Function;
 use cell_machine::Arc;
 use sqlite_items::Items;
-use std::alloc::Global;
+use std::alloc::{AllocError, Global};
 use std::marker::Model;
 
 /// Arcs, of which those with the same ends and the same condition are one. Contracts see the list of them.
@@ -114,7 +113,7 @@ impl ArcList {
     }
 
     /// Adds an arc of its own at the end, where fewer than so many are there.
-    pub(crate) fn push_within(&mut self, room: usize, arc: Arc) -> Result<(), Memory>
+    pub(crate) fn push_within(&mut self, room: usize, arc: Arc) -> Result<(), AllocError>
         ensures { OnOk result (self.new ≡ pushed room self.old arc) }
     {
         if self.arcs.len() < room {

@@ -7,13 +7,12 @@ ghost use Rattle.cell_machine.specs.CellRules.{is_input_pin};
 ghost use Rattle.timing_arcs.specs.Conditions.{condition_of_tree, condition_in, tree_of, may_hold, is_malformed, has_unknown, named_pins};
 ghost use Rattle.timing_arcs.specs.GroupTexts.{told};
 
-use crate::fault::Memory;
 use crate::subject::Subject;
 use crate::timing_type::is_input_pin;
 use bool_functions::{Function, FunctionFault, bound_is_least, read_function};
 use cell_machine::Pin;
 use sqlite_items::Items;
-use std::alloc::Global;
+use std::alloc::{AllocError, Global};
 
 /// What the `when` of a timing group says.
 #[derive(Debug, Drop)]
@@ -43,7 +42,7 @@ impl Condition {
         alloc: Global,
         subject: &Subject,
         function: Function,
-    ) -> Result<Condition, Memory>
+    ) -> Result<Condition, AllocError>
         ensures { IfOk result (λ condition. condition ≡ condition_of_tree subject.now function) }
     {
         let support = function.support(alloc)?;
@@ -67,7 +66,7 @@ impl Condition {
         alloc: Global,
         subject: &Subject,
         text: &[u8],
-    ) -> Result<Condition, Memory>
+    ) -> Result<Condition, AllocError>
         ensures { IfOk result (λ condition. condition ≡ condition_in subject.now text.now) }
     {
         match read_function(alloc, text, &subject.names) {
@@ -75,7 +74,7 @@ impl Condition {
             Err(FunctionFault::TooLong) => Ok(Condition::Malformed),
             Err(FunctionFault::Malformed(_)) => Ok(Condition::Malformed),
             Err(FunctionFault::UnknownName(_)) => Ok(Condition::Unknown),
-            Err(FunctionFault::Memory) => Err(Memory),
+            Err(FunctionFault::Memory) => Err(AllocError),
         }
     }
 
@@ -84,7 +83,7 @@ impl Condition {
         alloc: Global,
         subject: &Subject,
         text: &Option<Items<u8>>,
-    ) -> Result<Condition, Memory>
+    ) -> Result<Condition, AllocError>
         ensures { IfOk result (λ condition. condition ≡ told subject.now text.now) }
     {
         match text {
@@ -144,7 +143,7 @@ impl Condition {
     }
 
     /// The numbers of the pins that it names, ascending.
-    pub(crate) fn named_pins(&self, alloc: Global) -> Result<Items<usize>, Memory>
+    pub(crate) fn named_pins(&self, alloc: Global) -> Result<Items<usize>, AllocError>
         ensures { IfOk result (λ pins. pins ≡ named_pins self.now) }
     {
         match self {

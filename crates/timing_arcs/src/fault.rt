@@ -1,5 +1,5 @@
 //! Why the timing of a pin is not read.
-use std::alloc::{AllocError, AllocFailed};
+use std::alloc::AllocError;
 use thiserror::Error;
 
 /// Why the timing of a pin is not read. The first of these kinds decides, and of one kind the least offset.
@@ -24,36 +24,13 @@ pub enum TimingFault {
     Memory,
 }
 
-/// There was no memory.
-#[derive(Debug, Drop, Error)]
-#[error("out of memory")]
-pub struct Memory;
-
-impl From<AllocError> for Memory {
-    fn from(_: AllocError) -> Memory {
-        Memory
-    }
-}
-
-impl<T: Drop> From<AllocFailed<T>> for Memory {
-    fn from(_: AllocFailed<T>) -> Memory {
-        Memory
-    }
-}
-
-impl From<bool_functions::Memory> for Memory {
-    fn from(_: bool_functions::Memory) -> Memory {
-        Memory
-    }
-}
-
-impl From<Memory> for TimingFault {
+impl From<AllocError> for TimingFault {
     ghost use Rattle.std.specs.Prelude.{◌≡◌};
     ghost use Rattle.timing_arcs.specs.declared.fault.TimingFault.TheVariants as fault;
 
     ghost from_gives = { λ _ e. e ≡ fault.Memory };
 
-    fn from(_: Memory) -> TimingFault {
+    fn from(_: AllocError) -> TimingFault {
         TimingFault::Memory
     }
 }

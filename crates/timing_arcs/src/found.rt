@@ -5,13 +5,13 @@ ghost use Rattle.timing_arcs.specs.GroupTexts.{is_full};
 ghost use Rattle.timing_arcs.specs.Timing.{Gives};
 
 use crate::arc_list::ArcList;
-use crate::fault::{Memory, TimingFault};
+use crate::fault::TimingFault;
 use crate::offsets::{Offsets, lesser};
 use crate::subject::{PinTiming, Room};
 use crate::timing_type::TimingType;
 use cell_machine::{Arc, Check};
 use sqlite_items::Items;
-use std::alloc::Global;
+use std::alloc::{AllocError, Global};
 
 /// What is found so far.
 #[derive(Debug, Drop)]
@@ -33,7 +33,7 @@ pub(crate) struct Found {
 }
 
 /// Adds one at the end of a list, where fewer than so many are there.
-fn push_within<T: Drop>(items: &mut Items<T>, room: usize, item: T) -> Result<(), Memory>
+fn push_within<T: Drop>(items: &mut Items<T>, room: usize, item: T) -> Result<(), AllocError>
     ensures { OnOk result (items.new ≡ pushed room items.old item) }
 {
     if items.len() < room {
@@ -66,7 +66,7 @@ impl Found {
     }
 
     /// Adds a check that is made at this offset, if its limit is not 0 and there is room.
-    pub(crate) fn add_check(&mut self, at: usize, check: Check) -> Result<(), Memory>
+    pub(crate) fn add_check(&mut self, at: usize, check: Check) -> Result<(), AllocError>
         ensures { OnOk result (self.new ≡ with_check at self.old check) }
     {
         if check.limit == 0 {
@@ -84,7 +84,7 @@ impl Found {
     }
 
     /// Adds an arc of its own that is made at this offset, if there is room.
-    pub(crate) fn push_arc(&mut self, at: usize, arc: Arc) -> Result<(), Memory>
+    pub(crate) fn push_arc(&mut self, at: usize, arc: Arc) -> Result<(), AllocError>
         ensures { OnOk result (self.new ≡ with_own at self.old arc) }
     {
         self.arcs.push_within(self.room.arcs, arc)?;
@@ -108,7 +108,7 @@ impl Found {
     }
 
     /// Lists a left-out group at this place, if they are listed.
-    pub(crate) fn leave_out(&mut self, place: usize) -> Result<(), Memory>
+    pub(crate) fn leave_out(&mut self, place: usize) -> Result<(), AllocError>
         ensures { OnOk result (self.new ≡ with_left_out self.old place) }
     {
         if self.room.left_out {

@@ -4,7 +4,6 @@ ghost use Rattle.std.specs.List.{list_any};
 ghost use Rattle.cell_machine.specs.Names.{has};
 ghost use Rattle.timing_arcs.specs.GroupTexts.{group_text};
 
-use crate::fault::Memory;
 use crate::offsets::lesser;
 use crate::related::RelatedText;
 use crate::subject::Subject;
@@ -12,7 +11,7 @@ use crate::tables::Limit;
 use crate::timing_type::{TimingType, has_table, timing_type};
 use crate::when_text::WhenText;
 use liberty_groups::Group;
-use std::alloc::Global;
+use std::alloc::{AllocError, Global};
 
 /// What the texts of a timing group say.
 #[derive(Debug, Drop)]
@@ -57,7 +56,7 @@ impl GroupText {
         subject: &Subject,
         place: usize,
         group: &Group,
-    ) -> Result<GroupText, Memory>
+    ) -> Result<GroupText, AllocError>
         ensures { IfOk result (λ text. text ≡ group_text subject.now place group.now) }
     {
         let timing_type = timing_type(group);

@@ -22,7 +22,7 @@ mod when_text;
 mod words;
 
 pub use attributes::{Attribute, inner_group, last_attribute, simple_attribute};
-pub use fault::{Memory, TimingFault};
+pub use fault::TimingFault;
 pub use laws::{
     arcs_are_apart, arcs_are_sound, arcs_end_here, checks_are_sound, timings_are_placed,
 };

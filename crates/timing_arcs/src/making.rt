@@ -7,14 +7,13 @@ ghost use Rattle.timing_arcs.specs.GroupTexts.{told, IsTold, with_made, with_all
 
 use crate::arc_list::Path;
 use crate::condition::Condition;
-use crate::fault::Memory;
 use crate::found::Found;
 use crate::group_text::GroupText;
 use crate::subject::Subject;
 use crate::timing_type::TimingType;
 use bool_functions::Function;
 use cell_machine::{Arc, Check, CheckKind, Edge, Event};
-use std::alloc::Global;
+use std::alloc::{AllocError, Global};
 
 /// A check without its condition.
 #[derive(Clone, Copy, Debug)]
@@ -55,7 +54,7 @@ fn event(pin: usize, edge: Edge) -> Event
 
 impl Making<'_> {
     /// The condition of what the group makes. Each check and arc that is held has one of its own, so it is read for each.
-    fn condition(&self, alloc: Global) -> Result<Option<Function>, Memory>
+    fn condition(&self, alloc: Global) -> Result<Option<Function>, AllocError>
         ensures { IfOk result (λ function. function ≡ tree_of (told self.now.subject.now self.now.text.now.when.text)) }
     {
         let condition = Condition::of_told(alloc, self.subject, &self.text.when.text)?;
@@ -63,7 +62,7 @@ impl Making<'_> {
     }
 
     /// Adds a check.
-    fn add_check(&self, alloc: Global, timed: Timed, found: &mut Found) -> Result<(), Memory>
+    fn add_check(&self, alloc: Global, timed: Timed, found: &mut Found) -> Result<(), AllocError>
         ensures { OnOk result (found.new ≡ with_check self.now.text.now.at found.old (check timed.kind timed.first timed.second timed.limit (tree_of (told self.now.subject.now self.now.text.now.when.text)))) }
     {
         if !found.has_check_room() {
@@ -86,7 +85,7 @@ impl Making<'_> {
         related: usize,
         edge: Edge,
         found: &mut Found,
-    ) -> Result<(), Memory>
+    ) -> Result<(), AllocError>
         ensures { OnOk result (found.new ≡ with_checks self.now.text.now.at found.old (checks_with (TimingType.Recovery edge) self.now.subject.now.place related self.now.text.now.rise self.now.text.now.fall (tree_of (told self.now.subject.now self.now.text.now.when.text)))) }
     {
         let own = self.subject.place;
@@ -113,7 +112,7 @@ impl Making<'_> {
         related: usize,
         edge: Edge,
         found: &mut Found,
-    ) -> Result<(), Memory>
+    ) -> Result<(), AllocError>
         ensures { OnOk result (found.new ≡ with_checks self.now.text.now.at found.old (checks_with (TimingType.Removal edge) self.now.subject.now.place related self.now.text.now.rise self.now.text.now.fall (tree_of (told self.now.subject.now self.now.text.now.when.text)))) }
     {
         let own = self.subject.place;
@@ -134,7 +133,7 @@ impl Making<'_> {
     }
 
     /// Adds the checks of a pulse width: of the high pulse, then of the low one.
-    fn add_widths(&self, alloc: Global, found: &mut Found) -> Result<(), Memory>
+    fn add_widths(&self, alloc: Global, found: &mut Found) -> Result<(), AllocError>
         ensures { OnOk result (found.new ≡ with_checks self.now.text.now.at found.old (checks_with TimingType.Width self.now.subject.now.place self.now.subject.now.place self.now.text.now.rise self.now.text.now.fall (tree_of (told self.now.subject.now self.now.text.now.when.text)))) }
     {
         let own = self.subject.place;
@@ -155,7 +154,7 @@ impl Making<'_> {
     }
 
     /// Adds the checks with a pin that the group is related to.
-    fn add_checks(&self, alloc: Global, related: usize, found: &mut Found) -> Result<(), Memory>
+    fn add_checks(&self, alloc: Global, related: usize, found: &mut Found) -> Result<(), AllocError>
         ensures { OnOk result (found.new ≡ with_checks self.now.text.now.at found.old (checks_with self.now.text.now.timing_type self.now.subject.now.place related self.now.text.now.rise self.now.text.now.fall (tree_of (told self.now.subject.now self.now.text.now.when.text)))) }
     {
         let own = self.subject.place;
@@ -194,7 +193,7 @@ impl Making<'_> {
     }
 
     /// Adds the arc from a pin that the group is related to, if the group is one of a delay.
-    fn add_arcs(&self, alloc: Global, related: usize, found: &mut Found) -> Result<(), Memory>
+    fn add_arcs(&self, alloc: Global, related: usize, found: &mut Found) -> Result<(), AllocError>
         requires { IsTold self.now.subject.now self.now.text.now }
         ensures { OnOk result (found.new ≡ with_arcs self.now.text.now.at found.old (arcs_with self.now.text.now.timing_type self.now.subject.now.place related self.now.text.now.rise self.now.text.now.fall (tree_of (told self.now.subject.now self.now.text.now.when.text)))) }
     {
@@ -230,7 +229,7 @@ impl Making<'_> {
         alloc: Global,
         inputs: &[usize],
         found: &mut Found,
-    ) -> Result<(), Memory>
+    ) -> Result<(), AllocError>
         requires { IsTold self.now.subject.now self.now.text.now }
         ensures { OnOk result (found.new ≡ with_all_made self.now.subject.now self.now.text.now found.old inputs.now) }
     {

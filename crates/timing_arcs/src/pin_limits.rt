@@ -6,7 +6,6 @@ ghost use Rattle.timing_arcs.specs.PinLimits.{limit_as, pin_limit, pin_limits, l
 ghost use Rattle.timing_arcs.specs.Shown.{shown};
 
 use crate::attributes::{Attribute, last_attribute};
-use crate::fault::Memory;
 use crate::found::Found;
 use crate::subject::Subject;
 use crate::tables::time;
@@ -14,6 +13,7 @@ use crate::timing_type::is_input_pin;
 use cell_machine::{Check, CheckKind, Edge, Event};
 use liberty_groups::Group;
 use liberty_text::Unit;
+use std::alloc::AllocError;
 
 /// The limit that an attribute gives.
 #[derive(Clone, Copy, Debug)]
@@ -82,7 +82,7 @@ fn add_limit(
     between: Between,
     limit: Option<PinLimit>,
     found: &mut Found,
-) -> Result<(), Memory>
+) -> Result<(), AllocError>
     ensures { OnOk result (found.new ≡ with_pin_limit subject.now between.kind between.first between.second found.old limit) }
 {
     let Some(limit) = limit else {
@@ -121,7 +121,7 @@ impl PinLimits {
     }
 
     /// Adds the checks of a pin that the limits give: of the high pulse, of the low pulse, and of the period.
-    pub(crate) fn add(self, subject: &Subject, found: &mut Found) -> Result<(), Memory>
+    pub(crate) fn add(self, subject: &Subject, found: &mut Found) -> Result<(), AllocError>
         ensures { OnOk result (found.new ≡ with_pin_limits subject.now found.old self) }
     {
         let high = Between {

@@ -4,13 +4,13 @@ ghost use Rattle.timing_arcs.specs.Adding.{with_group, with_items};
 ghost use Rattle.timing_arcs.specs.Timing.{reading_answer, held_answer, Gives};
 
 use crate::attributes::inner_group;
-use crate::fault::{Memory, TimingFault};
+use crate::fault::TimingFault;
 use crate::found::Found;
 use crate::group_text::GroupText;
 use crate::pin_limits::PinLimits;
 use crate::subject::{PinTiming, Room, Subject};
 use liberty_groups::{Group, Item};
-use std::alloc::Global;
+use std::alloc::{AllocError, Global};
 
 /// Adds what a timing group at this place among the pin's items gives.
 #[tactic(auto, using(crate::proofs::TextLemmas::group_is_told, crate::proofs::TextLemmas::with_its_text))]
@@ -20,7 +20,7 @@ fn add_group(
     place: usize,
     group: &Group,
     found: &mut Found,
-) -> Result<(), Memory>
+) -> Result<(), AllocError>
     ensures { OnOk result (found.new ≡ with_group subject.now place found.old group.now) }
 {
     let text = GroupText::of_group(alloc, subject, place, group)?;
@@ -33,7 +33,7 @@ fn add_groups(
     subject: &Subject,
     items: &[Item],
     found: &mut Found,
-) -> Result<(), Memory>
+) -> Result<(), AllocError>
     ensures { OnOk result (found.new ≡ with_items subject.now 0 found.old items.now) }
 {
     for (place, item) in items.iter().enumerate() {

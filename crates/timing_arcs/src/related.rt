@@ -6,7 +6,6 @@ ghost use Rattle.timing_arcs.specs.GroupTexts.{named_related, related_text};
 ghost use Rattle.timing_arcs.specs.Attributes.{words_between};
 
 use crate::attributes::{last_attribute, statement_at};
-use crate::fault::Memory;
 use crate::subject::Subject;
 use crate::timing_type::is_input_pin;
 use crate::words::pin_names;
@@ -83,7 +82,7 @@ fn all_related(
 }
 
 /// What the names in a text are, in order.
-fn related_in(alloc: Global, subject: &Subject, text: &[u8]) -> Result<Vec<Related>, Memory>
+fn related_in(alloc: Global, subject: &Subject, text: &[u8]) -> Result<Vec<Related>, AllocError>
     ensures { IfOk result (λ related. related.items ≡ map (related_as subject.now) (words_between is_space text.now)) }
 {
     let names = pin_names(alloc, text)?;
@@ -92,7 +91,11 @@ fn related_in(alloc: Global, subject: &Subject, text: &[u8]) -> Result<Vec<Relat
 }
 
 /// What the names in the `related_pin` of a timing group are, in order.
-fn named_related(alloc: Global, subject: &Subject, group: &Group) -> Result<Items<Related>, Memory>
+fn named_related(
+    alloc: Global,
+    subject: &Subject,
+    group: &Group,
+) -> Result<Items<Related>, AllocError>
     ensures { IfOk result (λ related. related ≡ named_related subject.now group.now) }
 {
     match last_attribute(group, b"related_pin") {
@@ -123,7 +126,7 @@ fn has_unknown(related: &[Related]) -> bool
 }
 
 /// The input pins among them, in order.
-fn inputs(alloc: Global, related: &[Related]) -> Result<Items<usize>, Memory>
+fn inputs(alloc: Global, related: &[Related]) -> Result<Items<usize>, AllocError>
     ensures { IfOk result (λ inputs. inputs ≡ filter_map input_of related.now) }
 {
     let mut inputs = Items::new(alloc);
@@ -158,7 +161,7 @@ impl RelatedText {
         alloc: Global,
         subject: &Subject,
         group: &Group,
-    ) -> Result<RelatedText, Memory>
+    ) -> Result<RelatedText, AllocError>
         ensures { IfOk result (λ text. text ≡ related_text subject.now group.now) }
     {
         let related = named_related(alloc, subject, group)?;

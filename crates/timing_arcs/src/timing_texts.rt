@@ -5,14 +5,14 @@ ghost use Rattle.timing_arcs.specs.TimingTexts.{AreTexts};
 ghost use Rattle.timing_arcs.specs.Timing.{reading_answer, held_answer, Gives};
 
 use crate::attributes::inner_group;
-use crate::fault::{Memory, TimingFault};
+use crate::fault::TimingFault;
 use crate::found::Found;
 use crate::group_text::GroupText;
 use crate::pin_limits::PinLimits;
 use crate::subject::{PinTiming, Room, Subject};
 use liberty_groups::{Group, Item};
 use sqlite_items::Items;
-use std::alloc::Global;
+use std::alloc::{AllocError, Global};
 
 /// What the timing of a pin group says, whichever of its pins it is read for.
 #[derive(Drop)]
@@ -23,7 +23,11 @@ pub struct TimingTexts<'a> {
 }
 
 /// What the timing groups among these items say.
-fn group_texts(alloc: Global, subject: &Subject, items: &[Item]) -> Result<Items<GroupText>, Memory>
+fn group_texts(
+    alloc: Global,
+    subject: &Subject,
+    items: &[Item],
+) -> Result<Items<GroupText>, AllocError>
     ensures { IfOk result (λ texts. texts ≡ texts_from subject.now 0 items.now) }
 {
     let mut texts = Items::new(alloc);
@@ -41,7 +45,7 @@ fn add_texts(
     subject: &Subject,
     texts: &[GroupText],
     found: &mut Found,
-) -> Result<(), Memory>
+) -> Result<(), AllocError>
     requires { All (IsTold subject.now) texts.now }
     ensures { OnOk result (found.new ≡ with_texts subject.now found.old texts.now) }
 {
@@ -53,7 +57,11 @@ fn add_texts(
 
 impl<'a> TimingTexts<'a> {
     /// What the timing of a pin group says, in the cell of the subject's pin.
-    pub fn read(alloc: Global, pin: &'a Group, subject: &Subject) -> Result<TimingTexts<'a>, Memory>
+    pub fn read(
+        alloc: Global,
+        pin: &'a Group,
+        subject: &Subject,
+    ) -> Result<TimingTexts<'a>, AllocError>
         ensures texts { IfOk result (AreTexts subject.now) }
         ensures pin { IfOk result (λ texts. texts.pin.now ≡ pin.now) }
     {

@@ -3,14 +3,13 @@ ghost use Rattle.std.specs.Prelude.{◌≡◌, OnOk};
 ghost use Rattle.timing_arcs.specs.Adding.{with_left_out};
 ghost use Rattle.timing_arcs.specs.GroupTexts.{IsTold, names_pin, used_under, read_under, left_out_under, made_under, unknown_under, own_under, read_offsets, offsets_under, with_text_noted, with_text};
 
-use crate::fault::Memory;
 use crate::found::Found;
 use crate::group_text::GroupText;
 use crate::making::Making;
 use crate::offsets::{Offsets, where_so};
 use crate::subject::Subject;
 use crate::timing_type::stands_at;
-use std::alloc::Global;
+use std::alloc::{AllocError, Global};
 
 /// The greatest number of names in the support of a condition.
 const MAX_NAMES: usize = 10;
@@ -97,7 +96,7 @@ impl GroupText {
     }
 
     /// Notes what is noted in the group under the pin, and whether it is left out.
-    fn note(&self, subject: &Subject, found: &mut Found) -> Result<(), Memory>
+    fn note(&self, subject: &Subject, found: &mut Found) -> Result<(), AllocError>
         ensures { OnOk result (found.new ≡ with_text_noted subject.now found.old self.now) }
     {
         found.offsets = found.offsets.joined(self.offsets(subject));
@@ -113,7 +112,7 @@ impl GroupText {
         alloc: Global,
         subject: &Subject,
         found: &mut Found,
-    ) -> Result<(), Memory>
+    ) -> Result<(), AllocError>
         requires { IsTold subject.now self.now }
         ensures { OnOk result (found.new ≡ with_text subject.now found.old self.now) }
     {

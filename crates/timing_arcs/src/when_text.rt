@@ -4,11 +4,10 @@ ghost use Rattle.timing_arcs.specs.GroupTexts.{when_text};
 
 use crate::attributes::last_attribute;
 use crate::condition::Condition;
-use crate::fault::Memory;
 use crate::subject::Subject;
 use liberty_groups::Group;
 use sqlite_items::Items;
-use std::alloc::Global;
+use std::alloc::{AllocError, Global};
 
 /// What the `when` of a timing group says.
 #[derive(Debug, Drop)]
@@ -29,7 +28,7 @@ impl WhenText {
         alloc: Global,
         subject: &Subject,
         group: &Group,
-    ) -> Result<WhenText, Memory>
+    ) -> Result<WhenText, AllocError>
         ensures { IfOk result (λ text. text ≡ when_text subject.now group.now) }
     {
         let Some(attribute) = last_attribute(group, b"when") else {

@@ -9,4 +9,4 @@ mod span;
 pub use fronts::{digits_length, is_blank, line_length, name_length};
 pub use numbers::{is_number, number_of};
 pub use place::place_of;
-pub use span::{Memory, Scan, Span};
+pub use span::{Scan, Span};

@@ -1,8 +1,5 @@
 //! What a scan of a text gives.
 
-use std::alloc::{AllocError, AllocFailed};
-use thiserror::Error;
-
 /// Where a token stands: its bytes are those from offset `at` up to, but not including, `end`.
 #[derive(Clone, Copy, Debug, PartialEq, Eq)]
 pub struct Span {
@@ -19,21 +16,4 @@ pub struct Scan {
     pub tokens: Vec<Span>,
     /// Where no token begins and nothing separates tokens.
     pub fault: Option<usize>,
-}
-
-/// There was no memory for the tokens.
-#[derive(Clone, Copy, Debug, PartialEq, Eq, Error)]
-#[error("out of memory")]
-pub struct Memory;
-
-impl From<AllocError> for Memory {
-    fn from(_: AllocError) -> Memory {
-        Memory
-    }
-}
-
-impl<T: Drop> From<AllocFailed<T>> for Memory {
-    fn from(_: AllocFailed<T>) -> Memory {
-        Memory
-    }
 }

@@ -12,12 +12,11 @@ ghost use Rattle.scan_cells.specs.TestLines.{digit as digit_of, difference_text,
 ghost use Rattle.translate_cmd.specs.Cells.{test_lines};
 
 use cell_machine::Cell;
-use cell_parts::fault::Memory;
 use itoa::Buffer;
 use liberty_groups::Group;
 use library_items::Stop;
 use scan_cells::{Agreement, agrees, functional_cell, test_of};
-use std::alloc::Global;
+use std::alloc::{AllocError, Global};
 use text_io::{Desk, Failed, OutSlot, write_pieces};
 
 /// A state as a digit.
@@ -108,7 +107,7 @@ fn write_agreement<D: Desk>(
 }
 
 /// Whether the view that a test cell gives does what the cell does; none where it gives no view.
-fn agreement(alloc: Global, cell: &Cell, test: &Group) -> Result<Option<Agreement>, Memory>
+fn agreement(alloc: Global, cell: &Cell, test: &Group) -> Result<Option<Agreement>, AllocError>
     ensures { IfOk result (λ found. found ≡ option_map (agreement_with (data_of cell.now)) (functional_view (data_of cell.now) test.now)) }
 {
     match functional_cell(alloc, cell, test)? {

@@ -4,7 +4,6 @@
 mod covering;
 mod cubes;
 pub mod laws;
-mod memory;
 mod merging;
 mod resolution;
 mod splitting;
@@ -19,7 +18,6 @@ mod word_primes;
 
 pub use covering::covers;
 pub use cubes::Cube;
-pub use memory::Memory;
 pub use merging::merge_primes;
 pub use resolution::resolve;
 pub use splitting::primes;

@@ -7,9 +7,8 @@ ghost use Rattle.trit_cubes.specs.Prime.{prime_list, any_covers, uncovered, merg
 
 use crate::covering::covers;
 use crate::cubes::Cube;
-use crate::memory::Memory;
 use crate::trits::Trit;
-use std::alloc::Global;
+use std::alloc::{AllocError, Global};
 
 /// From the primes of two sets of points of n places, and of the points in both, the primes of the set of one more place in
 /// front whose points with 0 there are the first set and with 1 the second.
@@ -18,7 +17,7 @@ pub fn merge_primes(
     zero: &[Cube],
     one: &[Cube],
     both: &[Cube],
-) -> Result<Vec<Cube>, Memory>
+) -> Result<Vec<Cube>, AllocError>
     requires { (n : ℕ) × (f : List Bool → Bool) × (g : List Bool → Bool) × (n < 10) × AreHalves n f g zero.now one.now both.now }
     ensures { IfOk result (λ found. (n : ℕ) (f g : List Bool → Bool) → AreHalves n f g zero.now one.now both.now → found.items ≡ prime_list (n + 1) (joined f g)) }
 {
@@ -32,7 +31,7 @@ pub(crate) fn merge(
     zero: &[Cube],
     one: &[Cube],
     both: &[Cube],
-) -> Result<Vec<Cube>, Memory>
+) -> Result<Vec<Cube>, AllocError>
     requires zero_short { All (λ cube. length cube < 10) zero.now }
     requires one_short { All (λ cube. length cube < 10) one.now }
     requires both_short { All (λ cube. length cube < 10) both.now }
@@ -46,7 +45,7 @@ pub(crate) fn merge(
 }
 
 /// Adds the cubes with one more place in front.
-pub(crate) fn add_all(found: &mut Vec<Cube>, first: Trit, cubes: &[Cube]) -> Result<(), Memory>
+pub(crate) fn add_all(found: &mut Vec<Cube>, first: Trit, cubes: &[Cube]) -> Result<(), AllocError>
     requires { All (λ cube. length cube < 10) cubes.now }
     ensures { OnOk result (found.new.items ≡ found.old.items ++ map (λ cube. first ∷ cube) cubes.now) }
 {
@@ -62,7 +61,7 @@ fn add_uncovered(
     first: Trit,
     cubes: &[Cube],
     cover: &[Cube],
-) -> Result<(), Memory>
+) -> Result<(), AllocError>
     requires { All (λ cube. length cube < 10) cubes.now }
     ensures { OnOk result (found.new.items ≡ found.old.items ++ map (λ cube. first ∷ cube) (uncovered cover.now cubes.now)) }
 {

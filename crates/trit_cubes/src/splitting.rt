@@ -5,14 +5,13 @@ ghost use Rattle.trit_cubes.specs.Sets.{has, common};
 ghost use Rattle.trit_cubes.specs.Prime.{prime_list};
 
 use crate::cubes::Cube;
-use crate::memory::Memory;
 use crate::merging::merge;
 use crate::word_primes::primes_by_words;
-use std::alloc::Global;
+use std::alloc::{AllocError, Global};
 
 /// The primes over `n` places of the set that the table tells, ordered place by place with 0 before 1 before free. Entry k
 /// of the table says whether the point with the number k is in the set, place i weighing 2 to the power i.
-pub fn primes(alloc: Global, n: usize, set: &[bool]) -> Result<Vec<Cube>, Memory>
+pub fn primes(alloc: Global, n: usize, set: &[bool]) -> Result<Vec<Cube>, AllocError>
     requires short { n ≤ 10 }
     requires entries { length set.now ≡ 2 ^ n }
     ensures { IfOk result (λ found. found.items ≡ prime_list n (has set.now)) }
@@ -49,7 +48,7 @@ fn common_entry(set: &[bool]) -> Option<bool>
 }
 
 /// The primes of the set of all points, or of the empty set.
-fn of_all_or_none(alloc: Global, n: usize, all: bool) -> Result<Vec<Cube>, Memory>
+fn of_all_or_none(alloc: Global, n: usize, all: bool) -> Result<Vec<Cube>, AllocError>
     requires { n ≤ 10 }
     ensures { IfOk result (λ found. found.items ≡ prime_list n (λ _. all)) }
 {
@@ -62,7 +61,7 @@ fn of_all_or_none(alloc: Global, n: usize, all: bool) -> Result<Vec<Cube>, Memor
 }
 
 /// The points with this value at place 0, without that place.
-fn half(alloc: Global, set: &[bool], first: bool) -> Result<Vec<bool>, Memory>
+fn half(alloc: Global, set: &[bool], first: bool) -> Result<Vec<bool>, AllocError>
     ensures entries { IfOk result (λ points. vec_len points ≡ length set.now / 2) }
     ensures values { IfOk result (λ points. (p : List Bool) → 2 * vec_len points ≡ length set.now → has points.items p ≡ has set.now (first ∷ p)) }
 {
@@ -75,7 +74,7 @@ fn half(alloc: Global, set: &[bool], first: bool) -> Result<Vec<bool>, Memory>
 }
 
 /// The points in both sets.
-fn common(alloc: Global, one: &[bool], other: &[bool]) -> Result<Vec<bool>, Memory>
+fn common(alloc: Global, one: &[bool], other: &[bool]) -> Result<Vec<bool>, AllocError>
     requires { length one.now ≡ length other.now }
     ensures entries { IfOk result (λ points. vec_len points ≡ length one.now) }
     ensures values { IfOk result (λ points. (p : List Bool) → has points.items p ≡ common (has one.now) (has other.now) p) }

@@ -4,8 +4,7 @@ ghost use Rattle.std.specs.Prelude.{◌≡◌, ◌^◌, ◌≤◌, Bool, List, l
 ghost use Rattle.std.specs.Fn.{FnReturnsAt};
 ghost use Rattle.trit_cubes.specs.Sets.{Tests, IsTableOf, point_of};
 
-use crate::memory::Memory;
-use std::alloc::Global;
+use std::alloc::{AllocError, Global};
 
 /// The table of the points of these places at which the test holds: entry k is its answer at the point with the number k,
 /// in which place i weighs 2 to the power i.
@@ -13,7 +12,7 @@ pub fn table_of<F: Fn(&[bool]) -> bool>(
     alloc: Global,
     places: usize,
     test: &F,
-) -> Result<Vec<bool>, Memory>
+) -> Result<Vec<bool>, AllocError>
     requires callable { F.IsAlwaysCallable test.now }
     requires few { places ≤ 10 }
     ensures entries { IfOk result (λ table. length table.items ≡ 2 ^ places) }

@@ -7,14 +7,13 @@ ghost use Rattle.trit_cubes.specs.Sets.{has};
 ghost use Rattle.trit_cubes.specs.Prime.{is_inside, is_prime, cubes_of, prime_list};
 
 use crate::cubes::Cube;
-use crate::memory::Memory;
 use crate::merging::add_all;
 use crate::resolution::resolve;
 use crate::trits::Trit;
-use std::alloc::Global;
+use std::alloc::{AllocError, Global};
 
 /// As `primes`.
-pub fn primes_by_trying(alloc: Global, n: usize, set: &[bool]) -> Result<Vec<Cube>, Memory>
+pub fn primes_by_trying(alloc: Global, n: usize, set: &[bool]) -> Result<Vec<Cube>, AllocError>
     requires short { n ≤ 10 }
     requires entries { length set.now ≡ 2 ^ n }
     ensures { IfOk result (λ found. found.items ≡ prime_list n (has set.now)) }
@@ -30,7 +29,7 @@ pub fn primes_by_trying(alloc: Global, n: usize, set: &[bool]) -> Result<Vec<Cub
 }
 
 /// All lists of n trits, in order.
-fn all_cubes(alloc: Global, n: usize) -> Result<Vec<Cube>, Memory>
+fn all_cubes(alloc: Global, n: usize) -> Result<Vec<Cube>, AllocError>
     requires { n ≤ 10 }
     ensures { IfOk result (λ cubes. cubes.items ≡ cubes_of n) }
 {

@@ -8,11 +8,10 @@ ghost use Rattle.trit_cubes.specs.Sets.{Gives, AreValuesOf, gives};
 ghost use Rattle.trit_cubes.specs.Prime.{prime_list};
 
 use crate::cubes::Cube;
-use crate::memory::Memory;
 use crate::splitting::primes;
 use crate::tabulation::point_of;
 use crate::trits::Trit;
-use std::alloc::Global;
+use std::alloc::{AllocError, Global};
 
 /// The values of a function at the points of these places: entry k is its value at the point with the number k, in which
 /// place i weighs 2 to the power i.
@@ -20,7 +19,7 @@ pub fn values_of<F: Fn(&[bool]) -> Trit>(
     alloc: Global,
     places: usize,
     function: &F,
-) -> Result<Vec<Trit>, Memory>
+) -> Result<Vec<Trit>, AllocError>
     requires callable { F.IsAlwaysCallable function.now }
     requires few { places ≤ 10 }
     ensures entries { IfOk result (λ values. length values.items ≡ 2 ^ places) }
@@ -40,7 +39,7 @@ pub fn primes_where(
     n: usize,
     values: &[Trit],
     value: Trit,
-) -> Result<Vec<Cube>, Memory>
+) -> Result<Vec<Cube>, AllocError>
     requires short { n ≤ 10 }
     requires entries { length values.now ≡ 2 ^ n }
     ensures { IfOk result (λ found. (f : List Bool → Trit) → AreValuesOf n f values.now → found.items ≡ prime_list n (gives value f)) }
@@ -51,7 +50,7 @@ pub fn primes_where(
 }
 
 /// Which entries are this value.
-fn points_with(alloc: Global, values: &[Trit], value: Trit) -> Result<Vec<bool>, Memory>
+fn points_with(alloc: Global, values: &[Trit], value: Trit) -> Result<Vec<bool>, AllocError>
     ensures { IfOk result (λ set. set.items ≡ map (same value) values.now) }
 {
     let mut set = Vec::with_capacity(alloc, values.len())?;

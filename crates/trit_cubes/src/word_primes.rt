@@ -9,9 +9,8 @@ ghost use Rattle.trit_cubes.specs.Prime.{prime_list};
 ghost use Rattle.trit_cubes.specs.InWords.{in_word, word_part, primes_outside};
 
 use crate::cubes::Cube;
-use crate::memory::Memory;
 use crate::trits::Trit;
-use std::alloc::Global;
+use std::alloc::{AllocError, Global};
 
 /// The most places of a set in a word.
 const MOST: usize = 6;
@@ -20,7 +19,11 @@ const MOST: usize = 6;
 const USUAL: usize = 12;
 
 /// As `primes`, over at most six places.
-pub(crate) fn primes_by_words(alloc: Global, n: usize, set: &[bool]) -> Result<Vec<Cube>, Memory>
+pub(crate) fn primes_by_words(
+    alloc: Global,
+    n: usize,
+    set: &[bool],
+) -> Result<Vec<Cube>, AllocError>
     requires short { n ≤ 6 }
     requires entries { length set.now ≡ 2 ^ n }
     ensures { IfOk result (λ found. found.items ≡ prime_list n (has set.now)) }
@@ -71,7 +74,7 @@ fn add_primes(
     left: usize,
     set: u64,
     others: &[u64],
-) -> Result<(), Memory>
+) -> Result<(), AllocError>
     requires few { left + length others.now ≤ 6 }
     requires front { length front + left ≤ 10 }
     requires below { set < 2 ^ 2 ^ left }

@@ -6,14 +6,13 @@ ghost use Rattle.bool_functions.specs.SameTrees.{same_tree};
 ghost use Rattle.cell_machine.specs.CellData.{data_of};
 ghost use Rattle.udp_tables.specs.Conditions.{condition_list, conditions_beside, arc_conditions, added, added_all, conditions_of, condition_place};
 
-use crate::faults::Memory;
 use bool_functions::Function;
 use cell_machine::{Arc, Cell};
-use std::alloc::Global;
+use std::alloc::{AllocError, Global};
 
 /// The conditions of a cell by first use, checks before arcs, equal trees once. An arc without condition uses, at its
-/// place, those of all arcs of its two pins in their order. `Memory` comes only where memory is wanting.
-pub fn conditions(alloc: Global, cell: &Cell) -> Result<Vec<&Function>, Memory>
+/// place, those of all arcs of its two pins in their order. `AllocError` comes only where memory is wanting.
+pub fn conditions(alloc: Global, cell: &Cell) -> Result<Vec<&Function>, AllocError>
     ensures { IfOk result (λ found. map (λ condition. condition.now) found.items ≡ conditions_of (data_of cell.now)) }
 {
     let mut found = Vec::new(alloc);
@@ -48,7 +47,7 @@ fn holds(conditions: &[&Function], condition: &Function) -> bool
 }
 
 /// Adds a condition, unless it is there.
-fn add<'a>(found: &mut Vec<&'a Function>, condition: &'a Function) -> Result<(), Memory>
+fn add<'a>(found: &mut Vec<&'a Function>, condition: &'a Function) -> Result<(), AllocError>
     ensures { OnOk result (map (λ other. other.now) found.new.items ≡ added (map (λ other. other.now) found.old.items) condition.now) }
 {
     if !holds(found, condition) {
@@ -61,7 +60,7 @@ fn add<'a>(found: &mut Vec<&'a Function>, condition: &'a Function) -> Result<(),
 fn add_if_there<'a>(
     found: &mut Vec<&'a Function>,
     condition: &'a Option<Function>,
-) -> Result<(), Memory>
+) -> Result<(), AllocError>
     ensures { OnOk result (map (λ other. other.now) found.new.items ≡ added_all (map (λ other. other.now) found.old.items) (condition_list condition.now)) }
 {
     match condition {
@@ -71,7 +70,7 @@ fn add_if_there<'a>(
 }
 
 /// Adds those of all checks.
-fn add_of_checks<'a>(found: &mut Vec<&'a Function>, cell: &'a Cell) -> Result<(), Memory>
+fn add_of_checks<'a>(found: &mut Vec<&'a Function>, cell: &'a Cell) -> Result<(), AllocError>
     ensures { OnOk result (map (λ other. other.now) found.new.items ≡ added_all (map (λ other. other.now) found.old.items) (flat_map (λ (check : Check). condition_list check.condition) cell.now.checks)) }
 {
     for check in cell.checks.as_slice() {
@@ -81,7 +80,7 @@ fn add_of_checks<'a>(found: &mut Vec<&'a Function>, cell: &'a Cell) -> Result<()
 }
 
 /// Adds those of all arcs.
-fn add_of_arcs<'a>(found: &mut Vec<&'a Function>, arcs: &'a [Arc]) -> Result<(), Memory>
+fn add_of_arcs<'a>(found: &mut Vec<&'a Function>, arcs: &'a [Arc]) -> Result<(), AllocError>
     ensures { OnOk result (map (λ other. other.now) found.new.items ≡ added_all (map (λ other. other.now) found.old.items) (flat_map (arc_conditions arcs.now) arcs.now)) }
 {
     for arc in arcs {
@@ -95,7 +94,7 @@ fn add_of_arc<'a>(
     found: &mut Vec<&'a Function>,
     arcs: &'a [Arc],
     arc: &'a Arc,
-) -> Result<(), Memory>
+) -> Result<(), AllocError>
     ensures { OnOk result (map (λ other. other.now) found.new.items ≡ added_all (map (λ other. other.now) found.old.items) (arc_conditions arcs.now arc.now)) }
 {
     match &arc.condition {
@@ -105,7 +104,11 @@ fn add_of_arc<'a>(
 }
 
 /// Adds those of all arcs that have the two pins of an arc.
-fn add_beside<'a>(found: &mut Vec<&'a Function>, arcs: &'a [Arc], arc: &Arc) -> Result<(), Memory>
+fn add_beside<'a>(
+    found: &mut Vec<&'a Function>,
+    arcs: &'a [Arc],
+    arc: &Arc,
+) -> Result<(), AllocError>
     ensures { OnOk result (map (λ other. other.now) found.new.items ≡ added_all (map (λ other. other.now) found.old.items) (conditions_beside arcs.now arc.now)) }
 {
     for other in arcs {

@@ -6,14 +6,13 @@ ghost use Rattle.udp_tables.specs.CellPrimitives.{group_inputs, group_primitive,
 
 use crate::cell_conditions::conditions;
 use crate::combinational_rows::{condition_rows, output_rows};
-use crate::faults::Memory;
 use crate::group_rows::group_rows;
 use crate::port_names::{input_names, output_name, primitive_name};
 use crate::table::Udp;
 use bool_functions::Function;
 use cell_machine::{Cell, OutputPin};
 use sqlite_items::Items;
-use std::alloc::Global;
+use std::alloc::{AllocError, Global};
 
 /// A part of a cell whose value takes no state of its own.
 #[derive(Clone, Copy, Debug, PartialEq, Eq)]
@@ -25,8 +24,8 @@ pub enum Part {
 }
 
 /// The primitive of a group, of which the cell has one with this number from 0. Its inputs are the pins of the group's
-/// support, and last the notifier exactly where the cell has checks. `Memory` comes only where memory is wanting.
-pub fn sequential_udp(alloc: Global, cell: &Cell, group: usize) -> Result<Udp, Memory>
+/// support, and last the notifier exactly where the cell has checks. `AllocError` comes only where memory is wanting.
+pub fn sequential_udp(alloc: Global, cell: &Cell, group: usize) -> Result<Udp, AllocError>
     requires { group < length cell.now.groups }
     ensures { IfOk result (λ udp. udp ≡ group_primitive (data_of cell.now) group) }
 {
@@ -53,8 +52,8 @@ fn group_inputs(cell: &Cell, group: usize) -> usize
 }
 
 /// The primitive of an output or a condition that the cell has, of an output one that depends on anything. Its inputs are
-/// the pins, and then the states, of the support. `Memory` comes only where memory is wanting.
-pub fn combinational_udp(alloc: Global, cell: &Cell, part: Part) -> Result<Udp, Memory>
+/// the pins, and then the states, of the support. `AllocError` comes only where memory is wanting.
+pub fn combinational_udp(alloc: Global, cell: &Cell, part: Part) -> Result<Udp, AllocError>
     requires { IsPart (data_of cell.now) part }
     ensures { IfOk result (λ udp. udp ≡ part_primitive (data_of cell.now) part) }
 {
@@ -69,7 +68,7 @@ pub fn part_udp(
     cell: &Cell,
     conditions: &[&Function],
     part: Part,
-) -> Result<Udp, Memory>
+) -> Result<Udp, AllocError>
     requires part { IsPart (data_of cell.now) part }
     requires conditions { map (λ condition. condition.now) conditions.now ≡ conditions_of (data_of cell.now) }
     ensures { IfOk result (λ udp. udp ≡ part_primitive (data_of cell.now) part) }
@@ -86,7 +85,7 @@ fn output_udp(
     cell: &Cell,
     conditions: &[&Function],
     output: usize,
-) -> Result<Udp, Memory>
+) -> Result<Udp, AllocError>
     requires output { output < length cell.now.outputs }
     requires conditions { map (λ condition. condition.now) conditions.now ≡ conditions_of (data_of cell.now) }
     ensures { IfOk result (λ udp. udp ≡ output_primitive (data_of cell.now) output) }
@@ -139,7 +138,7 @@ fn condition_udp(
     cell: &Cell,
     conditions: &[&Function],
     number: usize,
-) -> Result<Udp, Memory>
+) -> Result<Udp, AllocError>
     requires number { number < length (conditions_of (data_of cell.now)) }
     requires conditions { map (λ condition. condition.now) conditions.now ≡ conditions_of (data_of cell.now) }
     ensures { IfOk result (λ udp. udp ≡ condition_primitive (data_of cell.now) number) }
@@ -151,7 +150,7 @@ fn condition_udp(
 }
 
 /// The primitive of a condition with this name.
-fn udp_of_condition(alloc: Global, name: Items<u8>, condition: &Function) -> Result<Udp, Memory>
+fn udp_of_condition(alloc: Global, name: Items<u8>, condition: &Function) -> Result<Udp, AllocError>
     requires { IsSmall condition.now }
     ensures { IfOk result (λ udp. udp ≡ condition_udp name condition.now) }
 {

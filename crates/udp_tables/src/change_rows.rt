@@ -13,12 +13,11 @@ ghost use Rattle.udp_tables.specs.Pairs.{AreNumbers};
 
 use crate::cube_index::CubeIndex;
 use crate::entries::{change_entries, noted};
-use crate::faults::Memory;
 use crate::points::value_at;
 use crate::table::{Entry, Level, Next, UdpRow};
 use cell_machine::Cell;
 use sqlite_items::Items;
-use std::alloc::Global;
+use std::alloc::{AllocError, Global};
 use trit_cubes::{Cube, Trit, primes_where, values_of};
 
 /// Adds the rows of the changes of one input: those that give 1 or keep the state, and then those that give 0. What the step
@@ -31,7 +30,7 @@ pub(crate) fn add_rows_of_input(
     notifier: bool,
     still: &[Trit],
     place: usize,
-) -> Result<(), Memory>
+) -> Result<(), AllocError>
     requires group { group < length cell.now.groups }
     requires still { AreValuesOf (suc (length (support_at (data_of cell.now) group))) (still_value (step_at (data_of cell.now) group)) still.now }
     requires place { place < length (support_at (data_of cell.now) group) }
@@ -52,7 +51,7 @@ fn change_values(
     group: usize,
     still: &[Trit],
     place: usize,
-) -> Result<Vec<Trit>, Memory>
+) -> Result<Vec<Trit>, AllocError>
     requires group { group < length cell.now.groups }
     requires still { AreValuesOf (suc (length (support_at (data_of cell.now) group))) (still_value (step_at (data_of cell.now) group)) still.now }
     requires place { place < length (support_at (data_of cell.now) group) }
@@ -76,7 +75,7 @@ fn edge_cubes(
     place: usize,
     values: &[Trit],
     value: Trit,
-) -> Result<Vec<Cube>, Memory>
+) -> Result<Vec<Cube>, AllocError>
     requires group { group < length cell.now.groups }
     requires place { place < length (support_at (data_of cell.now) group) }
     requires values { AreValuesOf (suc (suc (length (support_at (data_of cell.now) group)))) (edge_value (step_at (data_of cell.now) group) place) values.now }
@@ -96,7 +95,7 @@ fn change_primes(
     place: usize,
     values: &[Trit],
     value: Trit,
-) -> Result<Vec<Cube>, Memory>
+) -> Result<Vec<Cube>, AllocError>
     requires group { group < length cell.now.groups }
     requires place { place < length (support_at (data_of cell.now) group) }
     requires values { AreValuesOf (suc (suc (length (support_at (data_of cell.now) group)))) (edge_value (step_at (data_of cell.now) group) place) values.now }
@@ -109,7 +108,7 @@ fn change_primes(
 }
 
 /// The cubes of changes that have points that change.
-fn moving_cubes(alloc: Global, cubes: &[Cube]) -> Result<Vec<Cube>, Memory>
+fn moving_cubes(alloc: Global, cubes: &[Cube]) -> Result<Vec<Cube>, AllocError>
     requires { All (λ cube. 2 ≤ length cube) cubes.now }
     ensures { IfOk result (λ moving. moving.items ≡ filter moves cubes.now) }
 {
@@ -139,7 +138,7 @@ fn add_rows_of_ones(
     place: usize,
     ones: &[Cube],
     zeros: &[Cube],
-) -> Result<(), Memory>
+) -> Result<(), AllocError>
     requires ones { All (λ cube. place + 3 ≤ length cube) ones.now }
     requires zeros { All (λ cube. place + 3 ≤ length cube) zeros.now }
     ensures { OnOk result (rows.new ≡ rows.old ++ map (kept_or_one (edge_row notifier place) (keep_row notifier place) zeros.now) ones.now) }
@@ -158,7 +157,7 @@ fn kept_or_one(
     place: usize,
     zeros: &CubeIndex,
     cube: &Cube,
-) -> Result<UdpRow, Memory>
+) -> Result<UdpRow, AllocError>
     requires { place + 3 ≤ length cube.now }
     ensures { (cubes : List (List Trit)) → AreNumbers cubes zeros.now.numbers.items → IfOk result (λ row. row ≡ kept_or_one (edge_row notifier place) (keep_row notifier place) cubes cube.now) }
 {
@@ -177,7 +176,7 @@ fn add_rows_of_zeros(
     place: usize,
     zeros: &[Cube],
     ones: &[Cube],
-) -> Result<(), Memory>
+) -> Result<(), AllocError>
     requires zeros { All (λ cube. place + 3 ≤ length cube) zeros.now }
     requires ones { All (λ cube. place + 3 ≤ length cube) ones.now }
     ensures { OnOk result (rows.new ≡ rows.old ++ map (edge_row notifier place trit.Zero) (filter (λ c. not (is_paired trit.Zero trit.One ones.now c)) zeros.now)) }
@@ -198,7 +197,7 @@ fn edge_row(
     place: usize,
     value: Trit,
     cube: &Cube,
-) -> Result<UdpRow, Memory>
+) -> Result<UdpRow, AllocError>
     requires { place + 3 ≤ length cube.now }
     ensures { IfOk result (λ row. row ≡ edge_row notifier place value cube.now) }
 {
@@ -213,7 +212,7 @@ fn edge_row(
 }
 
 /// The row that keeps the state there, whatever it is.
-fn keep_row(alloc: Global, notifier: bool, place: usize, cube: &Cube) -> Result<UdpRow, Memory>
+fn keep_row(alloc: Global, notifier: bool, place: usize, cube: &Cube) -> Result<UdpRow, AllocError>
     requires { place + 3 ≤ length cube.now }
     ensures { IfOk result (λ row. row ≡ keep_row notifier place cube.now) }
 {

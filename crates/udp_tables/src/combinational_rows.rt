@@ -9,13 +9,12 @@ ghost use Rattle.cell_machine.specs.CellData.{data_of};
 ghost use Rattle.cell_machine.specs.CellTrace.{sources_at, output_value_at};
 
 use crate::cell_values::output_value;
-use crate::faults::Memory;
 use crate::generation::{cube_rows, table_rows};
 use crate::table::UdpRow;
 use bool_functions::Function;
 use cell_machine::Cell;
 use sqlite_items::Items;
-use std::alloc::Global;
+use std::alloc::{AllocError, Global};
 use trit_cubes::{Trit, primes_where, values_of};
 
 /// The rows of a condition over the pins that it names, which are `names`.
@@ -23,7 +22,7 @@ pub(crate) fn condition_rows(
     alloc: Global,
     condition: &Function,
     names: &[usize],
-) -> Result<Items<UdpRow>, Memory>
+) -> Result<Items<UdpRow>, AllocError>
     requires small { IsSmall condition.now }
     requires names { names.now ≡ support_of condition.now }
     ensures { IfOk result (λ rows. rows ≡ function_rows (length (support_of condition.now)) (condition_at (support_of condition.now) condition.now)) }
@@ -38,7 +37,7 @@ pub(crate) fn output_rows(
     alloc: Global,
     cell: &Cell,
     output: usize,
-) -> Result<Items<UdpRow>, Memory>
+) -> Result<Items<UdpRow>, AllocError>
     requires { output < length cell.now.outputs }
     ensures { IfOk result (λ rows. rows ≡ function_rows (length (sources_at (data_of cell.now) output)) (output_value_at (data_of cell.now) output)) }
 {
@@ -51,7 +50,7 @@ pub(crate) fn output_rows(
 }
 
 /// The values of an output at all points of its support.
-fn output_values(alloc: Global, cell: &Cell, output: usize) -> Result<Vec<Trit>, Memory>
+fn output_values(alloc: Global, cell: &Cell, output: usize) -> Result<Vec<Trit>, AllocError>
     requires { output < length cell.now.outputs }
     ensures { IfOk result (λ values. AreValuesOf (length (sources_at (data_of cell.now) output)) (output_value_at (data_of cell.now) output) values.items) }
 {

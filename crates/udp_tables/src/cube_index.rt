@@ -8,8 +8,7 @@ ghost use Rattle.cell_machine.specs.Machine.{last};
 ghost use Rattle.udp_tables.specs.Edges.{with_last, is_paired};
 ghost use Rattle.udp_tables.specs.Pairs.{digit, number_of, Ascends, AreNumbers};
 
-use crate::faults::Memory;
-use std::alloc::Global;
+use std::alloc::{AllocError, Global};
 use trit_cubes::{Cube, Trit};
 
 /// The cubes of a list, to be looked up: their numbers, ascending.
@@ -20,7 +19,7 @@ pub(crate) struct CubeIndex {
 
 impl CubeIndex {
     /// The index of these cubes.
-    pub(crate) fn of(alloc: Global, cubes: &[Cube]) -> Result<CubeIndex, Memory>
+    pub(crate) fn of(alloc: Global, cubes: &[Cube]) -> Result<CubeIndex, AllocError>
         requires { All (λ cube. 1 ≤ length cube) cubes.now }
         ensures { IfOk result (λ index. AreNumbers cubes.now index.numbers.items) }
     {
@@ -40,7 +39,7 @@ impl CubeIndex {
 }
 
 /// The numbers of these cubes.
-fn cube_numbers(alloc: Global, cubes: &[Cube]) -> Result<Vec<u32>, Memory>
+fn cube_numbers(alloc: Global, cubes: &[Cube]) -> Result<Vec<u32>, AllocError>
     requires { All (λ cube. 1 ≤ length cube) cubes.now }
     ensures { IfOk result (λ numbers. numbers.items ≡ map number_of cubes.now) }
 {

@@ -5,13 +5,12 @@ ghost use Rattle.cell_machine.specs.Machine.{init};
 ghost use Rattle.udp_tables.specs.Generated.{level_entry, next_to};
 ghost use Rattle.udp_tables.specs.Sequential.{level_symbol, edge_entry, edge_inputs, noted};
 
-use crate::faults::Memory;
 use crate::table::{Entry, Level, Next};
-use std::alloc::Global;
+use std::alloc::{AllocError, Global};
 use trit_cubes::{Cube, Trit};
 
 /// The levels for the places of a cube.
-pub(crate) fn level_entries(alloc: Global, cube: &Cube) -> Result<Vec<Entry>, Memory>
+pub(crate) fn level_entries(alloc: Global, cube: &Cube) -> Result<Vec<Entry>, AllocError>
     ensures { IfOk result (λ entries. entries.items ≡ map level_entry cube.now) }
 {
     let mut entries = Vec::with_capacity(alloc, cube.len() + 1)?;
@@ -22,7 +21,7 @@ pub(crate) fn level_entries(alloc: Global, cube: &Cube) -> Result<Vec<Entry>, Me
 }
 
 /// The levels for so many free places.
-pub(crate) fn free_entries(alloc: Global, places: usize) -> Result<Vec<Entry>, Memory>
+pub(crate) fn free_entries(alloc: Global, places: usize) -> Result<Vec<Entry>, AllocError>
     ensures { IfOk result (λ entries. entries.items ≡ map level_entry (replicate places trit.Unknown)) }
 {
     Ok(vec![in alloc; Entry::Level(Level::Any); places]?)
@@ -30,7 +29,11 @@ pub(crate) fn free_entries(alloc: Global, places: usize) -> Result<Vec<Entry>, M
 
 /// The entries of the inputs for the cube of a change of the one at `place`. Its places are the value before, the value
 /// after, the other inputs and the state.
-pub(crate) fn change_entries(alloc: Global, place: usize, cube: &Cube) -> Result<Vec<Entry>, Memory>
+pub(crate) fn change_entries(
+    alloc: Global,
+    place: usize,
+    cube: &Cube,
+) -> Result<Vec<Entry>, AllocError>
     requires { place + 3 ≤ length cube.now }
     ensures { IfOk result (λ entries. entries.items ≡ edge_inputs place cube.now) }
 {
@@ -41,7 +44,7 @@ pub(crate) fn change_entries(alloc: Global, place: usize, cube: &Cube) -> Result
 }
 
 /// The levels of the inputs that do not change.
-fn other_entries(alloc: Global, cube: &Cube) -> Result<Vec<Entry>, Memory>
+fn other_entries(alloc: Global, cube: &Cube) -> Result<Vec<Entry>, AllocError>
     requires { 3 ≤ length cube.now }
     ensures { IfOk result (λ entries. entries.items ≡ map level_entry (drop 2 (init cube.now))) }
 {
@@ -68,7 +71,11 @@ fn change_entry(old: Trit, new: Trit) -> Entry
 }
 
 /// The entries with that of the notifier last, where there is one.
-pub(crate) fn noted(entries: Vec<Entry>, notifier: bool, note: Entry) -> Result<Vec<Entry>, Memory>
+pub(crate) fn noted(
+    entries: Vec<Entry>,
+    notifier: bool,
+    note: Entry,
+) -> Result<Vec<Entry>, AllocError>
     ensures { IfOk result (λ all. all.items ≡ noted notifier note entries.items) }
 {
     let mut entries = entries;

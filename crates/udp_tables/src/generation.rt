@@ -9,12 +9,11 @@ ghost use Rattle.udp_tables.specs.Tables.{value_rows, or_row};
 ghost use Rattle.udp_tables.specs.Generated.{level_row, function_primitive, function_rows, tree_value, numbers_below};
 
 use crate::entries::{free_entries, level_entries};
-use crate::faults::Memory;
 use crate::port_names::{input_names, output_name};
 use crate::table::{Level, Next, Udp, UdpRow};
 use bool_functions::Function;
 use sqlite_items::Items;
-use std::alloc::Global;
+use std::alloc::{AllocError, Global};
 use trit_cubes::{Cube, Trit, primes};
 
 /// The primitive of a function of `names` names: its ports are `q` and `i1`, `i2` and so on, input k standing for the name
@@ -25,7 +24,7 @@ pub fn function_udp(
     name: &[u8],
     function: &Function,
     names: usize,
-) -> Result<Udp, Memory>
+) -> Result<Udp, AllocError>
     requires some { 1 ≤ names }
     requires few { names ≤ 10 }
     requires numbered { (i : ℕ) → Has function.now i → i < names }
@@ -41,7 +40,11 @@ pub fn function_udp(
 }
 
 /// The rows of the function over its first names.
-fn function_rows(alloc: Global, function: &Function, names: usize) -> Result<Items<UdpRow>, Memory>
+fn function_rows(
+    alloc: Global,
+    function: &Function,
+    names: usize,
+) -> Result<Items<UdpRow>, AllocError>
     requires few { names ≤ 10 }
     requires numbered { (i : ℕ) → Has function.now i → i < names }
     ensures { IfOk result (λ rows. rows ≡ function_rows names (tree_value function.now)) }
@@ -57,7 +60,7 @@ pub(crate) fn table_rows(
     alloc: Global,
     places: usize,
     values: &[bool],
-) -> Result<Items<UdpRow>, Memory>
+) -> Result<Items<UdpRow>, AllocError>
     requires few { places ≤ 10 }
     requires entries { length values.now ≡ 2 ^ places }
     ensures { IfOk result (λ rows. rows ≡ or_row (level_row trit.Unknown (replicate places trit.Unknown)) (value_rows level_row (prime_list places (has values.now)) (prime_list places (has (map not values.now))))) }
@@ -70,7 +73,7 @@ pub(crate) fn table_rows(
 }
 
 /// The values of the function at all points over its first names.
-fn value_table(alloc: Global, function: &Function, names: usize) -> Result<Vec<bool>, Memory>
+fn value_table(alloc: Global, function: &Function, names: usize) -> Result<Vec<bool>, AllocError>
     requires few { names ≤ 10 }
     requires numbered { (i : ℕ) → Has function.now i → i < names }
     ensures entries { IfOk result (λ values. length values.items ≡ 2 ^ names) }
@@ -82,7 +85,7 @@ fn value_table(alloc: Global, function: &Function, names: usize) -> Result<Vec<b
 }
 
 /// The numbers from 0 on.
-fn first_numbers(alloc: Global, count: usize) -> Result<Vec<usize>, Memory>
+fn first_numbers(alloc: Global, count: usize) -> Result<Vec<usize>, AllocError>
     ensures { IfOk result (λ numbers. numbers.items ≡ numbers_below count) }
 {
     let mut numbers = Vec::new(alloc);
@@ -93,7 +96,7 @@ fn first_numbers(alloc: Global, count: usize) -> Result<Vec<usize>, Memory>
 }
 
 /// Each value inverted.
-fn inverted(alloc: Global, values: &[bool]) -> Result<Vec<bool>, Memory>
+fn inverted(alloc: Global, values: &[bool]) -> Result<Vec<bool>, AllocError>
     ensures { IfOk result (λ inverses. inverses.items ≡ map not values.now) }
 {
     Ok(values.iter().map(|value| !*value).collect(alloc)?)
@@ -105,7 +108,7 @@ pub(crate) fn cube_rows(
     places: usize,
     ones: &[Cube],
     zeros: &[Cube],
-) -> Result<Items<UdpRow>, Memory>
+) -> Result<Items<UdpRow>, AllocError>
     ensures { IfOk result (λ rows. rows ≡ or_row (level_row trit.Unknown (replicate places trit.Unknown)) (value_rows level_row ones.now zeros.now)) }
 {
     let mut rows = Items::new(alloc);
@@ -123,7 +126,7 @@ fn add_rows(
     rows: &mut Items<UdpRow>,
     value: Trit,
     cubes: &[Cube],
-) -> Result<(), Memory>
+) -> Result<(), AllocError>
     ensures { OnOk result (rows.new ≡ rows.old ++ map (level_row value) cubes.now) }
 {
     for cube in cubes {
@@ -133,7 +136,7 @@ fn add_rows(
 }
 
 /// The row of a prime.
-fn level_row(alloc: Global, value: Trit, cube: &Cube) -> Result<UdpRow, Memory>
+fn level_row(alloc: Global, value: Trit, cube: &Cube) -> Result<UdpRow, AllocError>
     ensures { IfOk result (λ row. row ≡ level_row value cube.now) }
 {
     let inputs = level_entries(alloc, cube)?;
@@ -145,7 +148,7 @@ fn level_row(alloc: Global, value: Trit, cube: &Cube) -> Result<UdpRow, Memory>
 }
 
 /// The row of free places that gives x.
-fn free_row(alloc: Global, places: usize) -> Result<UdpRow, Memory>
+fn free_row(alloc: Global, places: usize) -> Result<UdpRow, AllocError>
     ensures { IfOk result (λ row. row ≡ level_row trit.Unknown (replicate places trit.Unknown)) }
 {
     let inputs = free_entries(alloc, places)?;

@@ -13,17 +13,20 @@ ghost use Rattle.udp_tables.specs.CellPrimitives.{has_notifier};
 
 use crate::change_rows::add_rows_of_input;
 use crate::entries::{free_entries, level_entries, noted};
-use crate::faults::Memory;
 use crate::points::{forced_at, still_at};
 use crate::table::{Entry, Level, Next, UdpRow};
 use cell_machine::Cell;
 use sqlite_items::Items;
-use std::alloc::Global;
+use std::alloc::{AllocError, Global};
 use trit_cubes::{Cube, Trit, primes_where, values_of};
 
 /// The rows of a group: the points that force its state, the notifier where the cell has checks, and then the changes of
 /// each input, of which two that hold the state are one.
-pub(crate) fn group_rows(alloc: Global, cell: &Cell, group: usize) -> Result<Items<UdpRow>, Memory>
+pub(crate) fn group_rows(
+    alloc: Global,
+    cell: &Cell,
+    group: usize,
+) -> Result<Items<UdpRow>, AllocError>
     requires { group < length cell.now.groups }
     ensures { IfOk result (λ rows. rows ≡ compact_rows (has_notifier (data_of cell.now)) (length (support_at (data_of cell.now) group)) (step_at (data_of cell.now) group)) }
 {
@@ -43,7 +46,7 @@ fn or_free_row(
     rows: Items<UdpRow>,
     notifier: bool,
     pins: usize,
-) -> Result<Items<UdpRow>, Memory>
+) -> Result<Items<UdpRow>, AllocError>
     ensures { IfOk result (λ all. all ≡ or_row (state_row notifier trit.Unknown (replicate pins trit.Unknown)) rows) }
 {
     let mut rows = rows;
@@ -65,7 +68,7 @@ fn add_notifier_row(
     rows: &mut Items<UdpRow>,
     notifier: bool,
     pins: usize,
-) -> Result<(), Memory>
+) -> Result<(), AllocError>
     ensures { OnOk result (rows.new ≡ rows.old ++ notifier_rows notifier pins) }
 {
     if notifier {
@@ -87,7 +90,7 @@ fn add_forced_rows(
     cell: &Cell,
     group: usize,
     notifier: bool,
-) -> Result<(), Memory>
+) -> Result<(), AllocError>
     requires { group < length cell.now.groups }
     ensures { OnOk result (rows.new ≡ rows.old ++ forced_rows (state_row notifier) (length (support_at (data_of cell.now) group)) (step_at (data_of cell.now) group)) }
 {
@@ -100,7 +103,7 @@ fn add_forced_rows(
 }
 
 /// The values to which the points force the state of a group.
-fn forced_values(alloc: Global, cell: &Cell, group: usize) -> Result<Vec<Trit>, Memory>
+fn forced_values(alloc: Global, cell: &Cell, group: usize) -> Result<Vec<Trit>, AllocError>
     requires { group < length cell.now.groups }
     ensures { IfOk result (λ values. AreValuesOf (length (support_at (data_of cell.now) group)) (forced_at (step_at (data_of cell.now) group)) values.items) }
 {
@@ -120,7 +123,7 @@ fn forced_primes(
     group: usize,
     values: &[Trit],
     value: Trit,
-) -> Result<Vec<Cube>, Memory>
+) -> Result<Vec<Cube>, AllocError>
     requires group { group < length cell.now.groups }
     requires values { AreValuesOf (length (support_at (data_of cell.now) group)) (forced_at (step_at (data_of cell.now) group)) values.now }
     ensures { IfOk result (λ cubes. cubes.items ≡ prime_list (length (support_at (data_of cell.now) group)) (gives value (forced_at (step_at (data_of cell.now) group)))) }
@@ -137,7 +140,7 @@ fn add_state_rows(
     notifier: bool,
     value: Trit,
     cubes: &[Cube],
-) -> Result<(), Memory>
+) -> Result<(), AllocError>
     ensures { OnOk result (rows.new ≡ rows.old ++ map (state_row notifier value) cubes.now) }
 {
     for cube in cubes {
@@ -147,7 +150,7 @@ fn add_state_rows(
 }
 
 /// The level row of a prime at whose points the state is forced.
-fn state_row(alloc: Global, notifier: bool, value: Trit, cube: &Cube) -> Result<UdpRow, Memory>
+fn state_row(alloc: Global, notifier: bool, value: Trit, cube: &Cube) -> Result<UdpRow, AllocError>
     ensures { IfOk result (λ row. row ≡ state_row notifier value cube.now) }
 {
     let entries = level_entries(alloc, cube)?;
@@ -166,7 +169,7 @@ fn add_rows_of_changes(
     cell: &Cell,
     group: usize,
     notifier: bool,
-) -> Result<(), Memory>
+) -> Result<(), AllocError>
     requires { group < length cell.now.groups }
     ensures { OnOk result (rows.new ≡ rows.old ++ each_below (compact_edge_rows (edge_row notifier) (keep_row notifier) (step_at (data_of cell.now) group) (length (support_at (data_of cell.now) group))) (length (support_at (data_of cell.now) group))) }
 {
@@ -178,7 +181,7 @@ fn add_rows_of_changes(
 }
 
 /// What the step of a group gives where no input changes, at all points of its inputs and its state.
-fn still_values(alloc: Global, cell: &Cell, group: usize) -> Result<Vec<Trit>, Memory>
+fn still_values(alloc: Global, cell: &Cell, group: usize) -> Result<Vec<Trit>, AllocError>
     requires { group < length cell.now.groups }
     ensures { IfOk result (λ values. AreValuesOf (suc (length (support_at (data_of cell.now) group))) (still_value (step_at (data_of cell.now) group)) values.items) }
 {

@@ -3,20 +3,19 @@ ghost use Rattle.std.specs.Prelude.{◌≡◌, IfOk};
 ghost use Rattle.udp_tables.specs.PortNames.{output_name, input_name, input_names};
 ghost use Rattle.udp_tables.specs.CellPrimitives.{primitive_name};
 
-use crate::faults::Memory;
 use itoa::Buffer;
 use sqlite_items::Items;
-use std::alloc::Global;
+use std::alloc::{AllocError, Global};
 
 /// The name of the output.
-pub(crate) fn output_name(alloc: Global) -> Result<Items<u8>, Memory>
+pub(crate) fn output_name(alloc: Global) -> Result<Items<u8>, AllocError>
     ensures { IfOk result (λ name. name ≡ output_name) }
 {
     Ok(Items::from_slice(alloc, b"q")?)
 }
 
 /// The names of the first inputs.
-pub(crate) fn input_names(alloc: Global, count: usize) -> Result<Items<Items<u8>>, Memory>
+pub(crate) fn input_names(alloc: Global, count: usize) -> Result<Items<Items<u8>>, AllocError>
     ensures { IfOk result (λ names. names ≡ input_names count) }
 {
     let mut names = Items::new(alloc);
@@ -27,7 +26,7 @@ pub(crate) fn input_names(alloc: Global, count: usize) -> Result<Items<Items<u8>
 }
 
 /// The name of the input with this number from 1.
-fn input_name(alloc: Global, number: usize) -> Result<Items<u8>, Memory>
+fn input_name(alloc: Global, number: usize) -> Result<Items<u8>, AllocError>
     ensures { IfOk result (λ name. name ≡ input_name number) }
 {
     let mut buffer = Buffer::new();
@@ -37,7 +36,11 @@ fn input_name(alloc: Global, number: usize) -> Result<Items<u8>, Memory>
 }
 
 /// The name of primitive `number`, from 1, of the cell with the number `cell`.
-pub(crate) fn primitive_name(alloc: Global, cell: usize, number: usize) -> Result<Items<u8>, Memory>
+pub(crate) fn primitive_name(
+    alloc: Global,
+    cell: usize,
+    number: usize,
+) -> Result<Items<u8>, AllocError>
     ensures { IfOk result (λ name. name ≡ primitive_name cell number) }
 {
     let mut buffer = Buffer::new();

@@ -6,8 +6,8 @@ ghost use Rattle.token_spans.specs.Spans.{LieInside};
 ghost use Rattle.verilog_tokens.specs.Spans.{tokens_of, from_here};
 
 use crate::fronts::{is_open_after, separator_length, token_length};
-use std::alloc::Global;
-use token_spans::{Memory, Scan, Span};
+use std::alloc::{AllocError, Global};
+use token_spans::{Scan, Span};
 
 /// The tokens that were found so far. All that stands before the offset `next` is read.
 #[derive(Drop)]
@@ -20,7 +20,7 @@ struct Scanner {
 impl Scanner {
     /// Goes behind the separator or the token that stands next. False says that neither does.
     #[inline(always)]
-    fn step(&mut self, text: &[u8]) -> Result<bool, Memory>
+    fn step(&mut self, text: &[u8]) -> Result<bool, AllocError>
         requires here { self.old.next < length text.now }
         requires inside { LieInside text.now self.old.tokens.items }
         ensures goes_on { IfOk result (λ good. good ≡ true → from_here text.now self.new.tokens.items self.new.in_table self.new.next self.new.next ≡ from_here text.now self.old.tokens.items self.old.in_table self.old.next self.old.next) }
@@ -49,7 +49,7 @@ impl Scanner {
 }
 
 /// The tokens of a Verilog text before its lexical fault, and the offset of the fault, if there is one.
-pub fn scan(alloc: Global, text: &[u8]) -> Result<Scan, Memory>
+pub fn scan(alloc: Global, text: &[u8]) -> Result<Scan, AllocError>
     ensures tokens { IfOk result (λ found. tokens_of text.now found.tokens.items ≡ (scan_of text.now).0) }
     ensures fault { IfOk result (λ found. found.fault ≡ (scan_of text.now).1) }
     ensures inside { IfOk result (λ found. LieInside text.now found.tokens.items) }

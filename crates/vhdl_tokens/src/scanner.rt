@@ -6,8 +6,8 @@ ghost use Rattle.token_spans.specs.Spans.{LieInside};
 ghost use Rattle.vhdl_tokens.specs.Spans.{tokens_of, from_here};
 
 use crate::fronts::{separator_length, token_length};
-use std::alloc::Global;
-use token_spans::{Memory, Scan, Span};
+use std::alloc::{AllocError, Global};
+use token_spans::{Scan, Span};
 
 /// The tokens that were found so far, and the bytes of the last of them. None begins before the offset `next`.
 #[derive(Drop)]
@@ -19,7 +19,7 @@ struct Scanner<'a> {
 
 impl<'a> Scanner<'a> {
     /// Goes on with the byte at an offset. False says that neither a separator nor a token begins there.
-    fn step(&mut self, text: &'a [u8], at: usize) -> Result<bool, Memory>
+    fn step(&mut self, text: &'a [u8], at: usize) -> Result<bool, AllocError>
         requires here { at < length text.now }
         requires inside { LieInside text.now self.old.tokens.items }
         ensures goes_on { IfOk result (λ good. good ≡ true → from_here text.now self.new.tokens.items (is_name self.new.last.now) self.new.next (at + 1) ≡ from_here text.now self.old.tokens.items (is_name self.old.last.now) self.old.next at) }
@@ -50,7 +50,7 @@ impl<'a> Scanner<'a> {
 }
 
 /// The tokens of a VHDL text before its lexical fault, and the offset of the fault, if there is one.
-pub fn scan(alloc: Global, text: &[u8]) -> Result<Scan, Memory>
+pub fn scan(alloc: Global, text: &[u8]) -> Result<Scan, AllocError>
     ensures tokens { IfOk result (λ found. tokens_of text.now found.tokens.items ≡ (scan_of text.now).0) }
     ensures fault { IfOk result (λ found. found.fault ≡ (scan_of text.now).1) }
     ensures inside { IfOk result (λ found. LieInside text.now found.tokens.items) }

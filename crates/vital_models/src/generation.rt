@@ -6,7 +6,6 @@ ghost use Rattle.udp_tables.specs.Conditions.{conditions_of};
 ghost use Rattle.udp_tables.specs.CellPrimitives.{condition_tree, has_sources};
 ghost use Rattle.vital_models.specs.Generated.{ports_at, state_of, states_of, condition_of, source_at, value_of_output, output_of, entity_of};
 
-use crate::faults::Memory;
 use crate::model::{OutValue, VEntity, VOutput, VState, VTruth};
 use crate::ports::vital_ports;
 use crate::tables::{condition_table, has_violation, output_table, state_table};
@@ -14,16 +13,16 @@ use crate::timing::{checks_of, paths_to};
 use bool_functions::Function;
 use cell_machine::{Cell, OutputPin, Pin, Source};
 use sqlite_items::Items;
-use std::alloc::Global;
+use std::alloc::{AllocError, Global};
 use udp_tables::{conditions, port_number};
 
 /// The most names of a cell: 64 pins, and two variables for each of 16 groups.
 const NAMES: usize = 96;
 
 /// The entity of a cell, with this name: a state for each group, a truth table for each condition and for each output that
-/// depends on something, a path for each arc, and the checks. What it answers is sound. `Memory` comes only where memory is
+/// depends on something, a path for each arc, and the checks. What it answers is sound. `AllocError` comes only where memory is
 /// wanting.
-pub fn vital_model(alloc: Global, cell: &Cell, name: &[u8]) -> Result<VEntity, Memory>
+pub fn vital_model(alloc: Global, cell: &Cell, name: &[u8]) -> Result<VEntity, AllocError>
     ensures { IfOk result (λ entity. entity ≡ entity_of (data_of cell.now) name.now) }
 {
     let conditions = conditions(alloc, cell)?;
@@ -38,7 +37,7 @@ pub fn vital_model(alloc: Global, cell: &Cell, name: &[u8]) -> Result<VEntity, M
 }
 
 /// The states of the groups.
-fn states_of(alloc: Global, cell: &Cell) -> Result<Items<VState>, Memory>
+fn states_of(alloc: Global, cell: &Cell) -> Result<Items<VState>, AllocError>
     ensures { IfOk result (λ states. states ≡ states_of (data_of cell.now)) }
 {
     let mut states = Items::new(alloc);
@@ -49,7 +48,7 @@ fn states_of(alloc: Global, cell: &Cell) -> Result<Items<VState>, Memory>
 }
 
 /// The state of a group, with its table.
-fn state_of(alloc: Global, cell: &Cell, group: usize) -> Result<VState, Memory>
+fn state_of(alloc: Global, cell: &Cell, group: usize) -> Result<VState, AllocError>
     requires { group < length cell.now.groups }
     ensures { IfOk result (λ state. state ≡ state_of (data_of cell.now) group) }
 {
@@ -62,7 +61,7 @@ fn state_of(alloc: Global, cell: &Cell, group: usize) -> Result<VState, Memory>
 }
 
 /// The ports of these pins.
-fn ports_at(alloc: Global, pins: &[Pin], support: &[usize]) -> Result<Items<usize>, Memory>
+fn ports_at(alloc: Global, pins: &[Pin], support: &[usize]) -> Result<Items<usize>, AllocError>
     ensures { IfOk result (λ ports. ports ≡ ports_at pins.now support.now) }
 {
     let mut ports = Items::new(alloc);
@@ -77,7 +76,7 @@ fn conditions_of(
     alloc: Global,
     cell: &Cell,
     conditions: &[&Function],
-) -> Result<Items<VTruth>, Memory>
+) -> Result<Items<VTruth>, AllocError>
     requires { map (λ f. f.now) conditions.now ≡ conditions_of (data_of cell.now) }
     ensures { IfOk result (λ truths. truths ≡ map (condition_of cell.now.pins) (map (λ f. f.now) conditions.now)) }
 {
@@ -95,7 +94,7 @@ fn condition_of(
     conditions: &[&Function],
     number: usize,
     condition: &Function,
-) -> Result<VTruth, Memory>
+) -> Result<VTruth, AllocError>
     requires all { map (λ f. f.now) conditions.now ≡ conditions_of (data_of cell.now) }
     requires number { number < length (conditions_of (data_of cell.now)) }
     requires is { condition_tree (data_of cell.now) number ≡ condition.now }
@@ -113,7 +112,7 @@ fn outputs_of(
     alloc: Global,
     cell: &Cell,
     conditions: &[&Function],
-) -> Result<Items<VOutput>, Memory>
+) -> Result<Items<VOutput>, AllocError>
     requires { map (λ f. f.now) conditions.now ≡ conditions_of (data_of cell.now) }
     ensures { IfOk result (λ outputs. outputs ≡ map (output_of (data_of cell.now)) cell.now.outputs) }
 {
@@ -132,7 +131,7 @@ fn output_of(
     conditions: &[&Function],
     number: usize,
     output: &OutputPin,
-) -> Result<VOutput, Memory>
+) -> Result<VOutput, AllocError>
     requires all { map (λ f. f.now) conditions.now ≡ conditions_of (data_of cell.now) }
     requires is { slice_get cell.now.outputs number ≡ Some output.now }
     requires bounded { name_bound output.now.function ≤ 96 }
@@ -153,7 +152,7 @@ fn value_of(
     conditions: &[&Function],
     number: usize,
     output: &OutputPin,
-) -> Result<OutValue, Memory>
+) -> Result<OutValue, AllocError>
     requires all { map (λ f. f.now) conditions.now ≡ conditions_of (data_of cell.now) }
     requires is { slice_get cell.now.outputs number ≡ Some output.now }
     requires bounded { name_bound output.now.function ≤ 96 }
@@ -177,7 +176,7 @@ fn has_sources(output: &OutputPin) -> bool
 }
 
 /// The sources with the ports of their pins.
-fn sources_at(alloc: Global, pins: &[Pin], support: &[Source]) -> Result<Items<Source>, Memory>
+fn sources_at(alloc: Global, pins: &[Pin], support: &[Source]) -> Result<Items<Source>, AllocError>
     ensures { IfOk result (λ sources. sources ≡ map (source_at pins.now) support.now) }
 {
     let mut sources = Items::new(alloc);

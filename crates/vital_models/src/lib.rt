@@ -1,7 +1,6 @@
 //! VHDL models of cells by VITAL (IEEE 1076.4-2000): truth tables, state tables, and the entities that they stand in.
 #![tactic(auto)]
 
-mod faults;
 mod generation;
 mod kept;
 pub mod laws;
@@ -15,7 +14,6 @@ mod tables;
 mod timing;
 mod translation;
 
-pub use faults::Memory;
 pub use generation::vital_model;
 pub use lookups::{lookup_state, lookup_truth};
 pub use model::{HCheck, HGate, HPath, OutValue, VEntity, VOutput, VState, VTruth};

@@ -3,19 +3,18 @@ ghost use Rattle.std.specs.Prelude.{◌≡◌, IfOk};
 ghost use Rattle.vital_models.specs.Kept.{port_name};
 ghost use Rattle.vital_models.specs.Ports.{port_after, ports_of};
 
-use crate::faults::Memory;
 use crate::kept::is_kept_port_name;
 use cell_machine::{Direction, Pin};
 use sqlite_items::Items;
-use std::alloc::Global;
+use std::alloc::{AllocError, Global};
 use udp_tables::{VPort, is_port};
 use vhdl_names::numbered_name;
 
 /// The ports of the entity with this name, of a cell with these pins: its input and output pins in their order, with the names
 /// that VHDL keeps, and `pin` with the port's number from 1 for the others. A name is kept where it is a letter followed by
 /// letters and digits and, whatever the case of its letters, no word of VHDL or of an entity's text, not begun with `vital`, not
-/// `pin` followed by a number, and neither the entity's nor an earlier port's. `Memory` comes only where memory is wanting.
-pub fn vital_ports(alloc: Global, pins: &[Pin], entity: &[u8]) -> Result<Items<VPort>, Memory>
+/// `pin` followed by a number, and neither the entity's nor an earlier port's. `AllocError` comes only where memory is wanting.
+pub fn vital_ports(alloc: Global, pins: &[Pin], entity: &[u8]) -> Result<Items<VPort>, AllocError>
     ensures { IfOk result (λ ports. ports ≡ ports_of entity.now pins.now) }
 {
     let mut ports = Items::new(alloc);
@@ -29,7 +28,7 @@ pub fn vital_ports(alloc: Global, pins: &[Pin], entity: &[u8]) -> Result<Items<V
 }
 
 /// The port of a pin, after these ports.
-fn port_after(alloc: Global, entity: &[u8], ports: &[VPort], pin: &Pin) -> Result<VPort, Memory>
+fn port_after(alloc: Global, entity: &[u8], ports: &[VPort], pin: &Pin) -> Result<VPort, AllocError>
     ensures { IfOk result (λ port. port ≡ port_after entity.now ports.now pin.now) }
 {
     Ok(VPort {
@@ -44,7 +43,7 @@ fn port_name(
     entity: &[u8],
     ports: &[VPort],
     name: &[u8],
-) -> Result<Items<u8>, Memory>
+) -> Result<Items<u8>, AllocError>
     ensures { IfOk result (λ port. port ≡ port_name entity.now ports.now name.now) }
 {
     if is_kept_port_name(entity, ports, name) {

@@ -6,13 +6,12 @@ ghost use Rattle.udp_tables.specs.CellPrimitives.{condition_tree};
 ghost use Rattle.vital_models.specs.Rows.{violated, steady_row, closing_row};
 ghost use Rattle.vital_models.specs.Generated.{has_violation, state_table, condition_table, output_table};
 
-use crate::faults::Memory;
 use crate::table::{Trits, TruthTable, VNext, VStateRow, VStateTable, VSymbol};
 use crate::translation::{add_state_rows, truth_rows_from};
 use bool_functions::Function;
 use cell_machine::{Cell, OutputPin};
 use sqlite_items::Items;
-use std::alloc::Global;
+use std::alloc::{AllocError, Global};
 use udp_tables::{Part, part_udp, sequential_udp};
 
 /// Whether state tables have a column of the violation: the cell has checks.
@@ -23,7 +22,11 @@ pub(crate) fn has_violation(cell: &Cell) -> bool
 }
 
 /// The state table of a group over its support.
-pub(crate) fn state_table(alloc: Global, cell: &Cell, group: usize) -> Result<VStateTable, Memory>
+pub(crate) fn state_table(
+    alloc: Global,
+    cell: &Cell,
+    group: usize,
+) -> Result<VStateTable, AllocError>
     requires { group < length cell.now.groups }
     ensures { IfOk result (λ table. table ≡ state_table (data_of cell.now) group) }
 {
@@ -38,7 +41,7 @@ pub(crate) fn state_table(alloc: Global, cell: &Cell, group: usize) -> Result<VS
 }
 
 /// The row that keeps the state where there is no violation and no pin changes.
-fn steady_row(alloc: Global, violation: bool, pins: usize) -> Result<VStateRow, Memory>
+fn steady_row(alloc: Global, violation: bool, pins: usize) -> Result<VStateRow, AllocError>
     ensures { IfOk result (λ row. row ≡ steady_row violation pins) }
 {
     Ok(VStateRow {
@@ -55,7 +58,7 @@ fn steady_row(alloc: Global, violation: bool, pins: usize) -> Result<VStateRow, 
 }
 
 /// The row that makes the state unknown where no other one matches.
-fn closing_row(alloc: Global, violation: bool, pins: usize) -> Result<VStateRow, Memory>
+fn closing_row(alloc: Global, violation: bool, pins: usize) -> Result<VStateRow, AllocError>
     ensures { IfOk result (λ row. row ≡ closing_row violation pins) }
 {
     let any = VSymbol::Level(Trits::Any);
@@ -73,7 +76,7 @@ fn columns(
     first: VSymbol,
     others: VSymbol,
     pins: usize,
-) -> Result<Items<VSymbol>, Memory>
+) -> Result<Items<VSymbol>, AllocError>
     ensures { IfOk result (λ columns. columns ≡ violated violation first (replicate pins others)) }
 {
     let mut columns = Vec::new(alloc);
@@ -91,7 +94,7 @@ pub(crate) fn condition_table(
     cell: &Cell,
     conditions: &[&Function],
     number: usize,
-) -> Result<TruthTable, Memory>
+) -> Result<TruthTable, AllocError>
     requires all { map (λ f. f.now) conditions.now ≡ conditions_of (data_of cell.now) }
     requires number { number < length (conditions_of (data_of cell.now)) }
     ensures { IfOk result (λ table. table ≡ condition_table (condition_tree (data_of cell.now) number)) }
@@ -110,7 +113,7 @@ pub(crate) fn output_table(
     conditions: &[&Function],
     number: usize,
     output: &OutputPin,
-) -> Result<TruthTable, Memory>
+) -> Result<TruthTable, AllocError>
     requires all { map (λ f. f.now) conditions.now ≡ conditions_of (data_of cell.now) }
     requires is { slice_get cell.now.outputs number ≡ Some output.now }
     requires some { 0 < length output.now.support }

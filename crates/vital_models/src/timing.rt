@@ -5,12 +5,11 @@ ghost use Rattle.cell_machine.specs.CellData.{data_of};
 ghost use Rattle.udp_tables.specs.Conditions.{conditions_of, conditions_beside};
 ghost use Rattle.vital_models.specs.Generated.{place_of, all_zero, gate_by, path_of, paths_to, check_of};
 
-use crate::faults::Memory;
 use crate::model::{HCheck, HGate, HPath};
 use bool_functions::Function;
 use cell_machine::{Arc, Cell, Check};
 use sqlite_items::Items;
-use std::alloc::Global;
+use std::alloc::{AllocError, Global};
 use udp_tables::{condition_number, event_of, port_number};
 
 /// The paths of a cell's entity to an output pin, where these are the cell's conditions: one for each arc that ends there.
@@ -19,7 +18,7 @@ pub(crate) fn paths_to(
     cell: &Cell,
     conditions: &[&Function],
     pin: usize,
-) -> Result<Items<HPath>, Memory>
+) -> Result<Items<HPath>, AllocError>
     requires { map (λ f. f.now) conditions.now ≡ conditions_of (data_of cell.now) }
     ensures { IfOk result (λ paths. paths ≡ paths_to (data_of cell.now) pin) }
 {
@@ -40,7 +39,12 @@ fn ends_at(arc: &Arc, pin: usize) -> bool
 }
 
 /// The path of an arc.
-fn path_of(alloc: Global, cell: &Cell, conditions: &[&Function], arc: &Arc) -> Result<HPath, Memory>
+fn path_of(
+    alloc: Global,
+    cell: &Cell,
+    conditions: &[&Function],
+    arc: &Arc,
+) -> Result<HPath, AllocError>
     requires { map (λ f. f.now) conditions.now ≡ conditions_of (data_of cell.now) }
     ensures { IfOk result (λ path. path ≡ path_of (data_of cell.now) arc.now) }
 {
@@ -53,7 +57,12 @@ fn path_of(alloc: Global, cell: &Cell, conditions: &[&Function], arc: &Arc) -> R
 }
 
 /// When the path of an arc counts.
-fn gate_of(alloc: Global, cell: &Cell, conditions: &[&Function], arc: &Arc) -> Result<HGate, Memory>
+fn gate_of(
+    alloc: Global,
+    cell: &Cell,
+    conditions: &[&Function],
+    arc: &Arc,
+) -> Result<HGate, AllocError>
     requires { map (λ f. f.now) conditions.now ≡ conditions_of (data_of cell.now) }
     ensures { IfOk result (λ gate. gate ≡ gate_by (data_of cell.now) arc.now arc.now.condition) }
 {
@@ -83,7 +92,7 @@ fn places_beside(
     cell: &Cell,
     conditions: &[&Function],
     arc: &Arc,
-) -> Result<Items<usize>, Memory>
+) -> Result<Items<usize>, AllocError>
     requires { map (λ f. f.now) conditions.now ≡ conditions_of (data_of cell.now) }
     ensures { IfOk result (λ places. places ≡ map (place_of (data_of cell.now)) (conditions_beside cell.now.arcs arc.now)) }
 {
@@ -111,7 +120,7 @@ pub(crate) fn checks_of(
     alloc: Global,
     cell: &Cell,
     conditions: &[&Function],
-) -> Result<Items<HCheck>, Memory>
+) -> Result<Items<HCheck>, AllocError>
     requires { map (λ f. f.now) conditions.now ≡ conditions_of (data_of cell.now) }
     ensures { IfOk result (λ checks. checks ≡ map (check_of (data_of cell.now)) cell.now.checks) }
 {

@@ -5,15 +5,14 @@ ghost use Rattle.udp_tables.specs.declared.table.Level.TheVariants as level;
 ghost use Rattle.udp_tables.specs.declared.table.Entry.TheVariants as entry;
 ghost use Rattle.vital_models.specs.Translation.{level_from, trits_from, truth_row_from, pair_from, symbol_from, violation_from, columns_from, result_from, state_row_from, is_written, state_rows_from};
 
-use crate::faults::Memory;
 use crate::table::{Trits, TruthRow, VNext, VStateRow, VSymbol};
 use sqlite_items::Items;
-use std::alloc::Global;
+use std::alloc::{AllocError, Global};
 use trit_cubes::Trit;
 use udp_tables::{Entry, Level, Next, UdpRow};
 
 /// The rows of a combinational primitive as those of a truth table.
-pub(crate) fn truth_rows_from(alloc: Global, rows: &[UdpRow]) -> Result<Items<TruthRow>, Memory>
+pub(crate) fn truth_rows_from(alloc: Global, rows: &[UdpRow]) -> Result<Items<TruthRow>, AllocError>
     ensures { IfOk result (λ truth. truth ≡ map truth_row_from rows.now) }
 {
     let mut truth = Items::new(alloc);
@@ -24,7 +23,7 @@ pub(crate) fn truth_rows_from(alloc: Global, rows: &[UdpRow]) -> Result<Items<Tr
 }
 
 /// The row of a truth table that a combinational row becomes.
-fn truth_row_from(alloc: Global, row: &UdpRow) -> Result<TruthRow, Memory>
+fn truth_row_from(alloc: Global, row: &UdpRow) -> Result<TruthRow, AllocError>
     ensures { IfOk result (λ truth. truth ≡ truth_row_from row.now) }
 {
     Ok(TruthRow {
@@ -39,7 +38,7 @@ fn truth_row_from(alloc: Global, row: &UdpRow) -> Result<TruthRow, Memory>
 }
 
 /// The symbols of levels alone.
-fn all_trits_from(alloc: Global, entries: &[Entry]) -> Result<Items<Trits>, Memory>
+fn all_trits_from(alloc: Global, entries: &[Entry]) -> Result<Items<Trits>, AllocError>
     ensures { IfOk result (λ levels. levels ≡ map trits_from entries.now) }
 {
     let mut levels = Vec::with_capacity(alloc, entries.len())?;
@@ -84,7 +83,7 @@ pub(crate) fn add_state_rows(
     table: &mut Items<VStateRow>,
     checks: bool,
     rows: &[UdpRow],
-) -> Result<(), Memory>
+) -> Result<(), AllocError>
     ensures { OnOk result (table.new ≡ table.old ++ state_rows_from checks rows.now) }
 {
     for row in rows {
@@ -103,7 +102,7 @@ fn is_written(checks: bool, row: &UdpRow) -> bool
 }
 
 /// The row of a state table that a sequential row becomes.
-fn state_row_from(alloc: Global, checks: bool, row: &UdpRow) -> Result<VStateRow, Memory>
+fn state_row_from(alloc: Global, checks: bool, row: &UdpRow) -> Result<VStateRow, AllocError>
     ensures { IfOk result (λ state. state ≡ state_row_from checks row.now) }
 {
     Ok(VStateRow {
@@ -114,7 +113,11 @@ fn state_row_from(alloc: Global, checks: bool, row: &UdpRow) -> Result<VStateRow
 }
 
 /// The input columns, with that of the violation first where there are checks.
-fn columns_from(alloc: Global, checks: bool, entries: &[Entry]) -> Result<Items<VSymbol>, Memory>
+fn columns_from(
+    alloc: Global,
+    checks: bool,
+    entries: &[Entry],
+) -> Result<Items<VSymbol>, AllocError>
     ensures { IfOk result (λ columns. columns ≡ columns_from checks entries.now) }
 {
     let mut columns = Vec::with_capacity(alloc, entries.len())?;
@@ -129,7 +132,7 @@ fn columns_from(alloc: Global, checks: bool, entries: &[Entry]) -> Result<Items<
 }
 
 /// Adds the symbols of the entries.
-fn add_symbols(columns: &mut Vec<VSymbol>, entries: &[Entry]) -> Result<(), Memory>
+fn add_symbols(columns: &mut Vec<VSymbol>, entries: &[Entry]) -> Result<(), AllocError>
     ensures { OnOk result (columns.new.items ≡ columns.old.items ++ map symbol_from entries.now) }
 {
     for entry in entries {

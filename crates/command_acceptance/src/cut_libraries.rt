@@ -1,64 +1,88 @@
 //! A library that is cut at each of its bytes: the cells that ended before the cut are written.
-use crate::library_desk::translated;
+use crate::desks::{Left, TRANSLATE, library_alone, ran};
 use crate::three_cells::{
-    NO_MODULE, ONE_ENTITY, ONE_MODULE, THREE_CELLS, THREE_LINES, TWO_ENTITIES, TWO_MODULES,
+    FIRST_ENTITY, FIRST_MODULE, NO_MODULE, THIRD_ENTITY, THIRD_MODULE, THREE_CELLS, THREE_LINES,
 };
 use std::alloc::Global;
 use std::test::Fail;
 use text_io::OutSlot;
 
-/// The status, the Verilog text, the VHDL text, and how many lines the report has, where the library is cut to this length.
-fn cut_to(length: usize) -> (u8, &'static str, &'static str, usize) {
+/// The status, how many models are written, and how many lines the report has, where the library is cut to this length.
+fn cut_to(length: usize) -> (u8, usize, usize) {
     match length {
-        0..=107 => (2, NO_MODULE, "", 0),
-        108..=219 => (2, ONE_MODULE, ONE_ENTITY, 1),
-        220..=313 => (2, ONE_MODULE, ONE_ENTITY, 2),
-        314..=315 => (2, TWO_MODULES, TWO_ENTITIES, 3),
-        _ => (3, TWO_MODULES, TWO_ENTITIES, 4),
+        0..=107 => (2, 0, 0),
+        108..=219 => (2, 1, 1),
+        220..=313 => (2, 1, 2),
+        314..=315 => (2, 2, 3),
+        _ => (3, 2, 4),
     }
+}
+
+/// Whether the models of so many cells were written.
+fn has_models(left: &Left, count: usize) -> bool {
+    let (verilog, more_verilog, vital, more_vital) = match count {
+        0 => (NO_MODULE, "", "", ""),
+        1 => (FIRST_MODULE, "", FIRST_ENTITY, ""),
+        _ => (FIRST_MODULE, THIRD_MODULE, FIRST_ENTITY, THIRD_ENTITY),
+    };
+    left.wrote(OutSlot::VerilogText, verilog, more_verilog)
+        && left.wrote(OutSlot::VitalText, vital, more_vital)
+}
+
+/// Whether the report is so many lines of the whole one.
+fn has_lines(left: &Left, count: usize) -> bool {
+    let report = left.desk.written(OutSlot::Report);
+    left.wrote_front(OutSlot::Report, THREE_LINES, "")
+        && report.iter().filter(|byte| **byte == b'\n').count() == count
 }
 
 /// Whether the library of three cells, cut to this length, comes to that, where a call moves at most `piece` bytes.
 fn is_cut_well(alloc: Global, length: usize, piece: usize) -> Result<bool, Fail> {
     let library = THREE_CELLS.as_bytes().get(..length).ok_or("too long")?;
-    let (code, verilog, vital, lines) = cut_to(length);
-    let (status, desk) = translated(alloc, library, &[], piece)?;
-    let report = desk.written(OutSlot::Report);
-    Ok(
-        status.code() == code
-            && desk.written(OutSlot::VerilogText) == verilog.as_bytes()
-            && desk.written(OutSlot::VitalText) == vital.as_bytes()
-            && THREE_LINES.as_bytes().starts_with(report)
-            && report.iter().filter(|byte| **byte == b'\n').count() == lines,
-    )
+    let (code, models, lines) = cut_to(length);
+    let left = ran(alloc, &TRANSLATE, library_alone(library), &[], piece)?;
+    Ok(left.status.code() == code && has_models(&left, models) && has_lines(&left, lines))
+}
+
+/// Whether it does at each length.
+fn is_each_cut_well(alloc: Global, piece: usize) -> Result<bool, Fail> {
+    for length in 0..THREE_CELLS.len() + 1 {
+        if !is_cut_well(alloc, length, piece)? {
+            return Ok(false);
+        }
+    }
+    Ok(true)
 }
 
 #[test]
 fn cells_before_a_cut_are_written(rt: HostRuntime) -> Result<(), Fail> {
-    assert_eq!(rt; THREE_CELLS.len(), 317);
-    for length in 0..318 {
-        assert!(rt; is_cut_well(rt.alloc(), length, 1)?, "cut to {length}");
-        assert!(rt; is_cut_well(rt.alloc(), length, 7)?, "cut to {length}");
-        assert!(rt; is_cut_well(rt.alloc(), length, 4096)?, "cut to {length}");
-    }
+    assert!(rt; is_each_cut_well(rt.alloc(), 1)?);
+    assert!(rt; is_each_cut_well(rt.alloc(), 7)?);
+    assert!(rt; is_each_cut_well(rt.alloc(), 4096)?);
     Ok(())
+}
+
+/// Whether a library that is cut to this length, behind its first cell, has this fault.
+fn is_cut_told(alloc: Global, length: usize, fault: &str) -> Result<bool, Fail> {
+    let library = THREE_CELLS.as_bytes().get(..length).ok_or("too long")?;
+    let left = ran(alloc, &TRANSLATE, library_alone(library), &[], usize::MAX)?;
+    let report = left.desk.written(OutSlot::Report);
+    Ok(
+        left.status.code() == 2
+            && report == b"cell 1 INV ok\n".as_slice()
+            && left.wrote(OutSlot::Faults, fault, ""),
+    )
 }
 
 #[test]
 fn a_cut_is_told_where_it_is(rt: HostRuntime) -> Result<(), Fail> {
-    let alloc = rt.alloc();
-    for (length, line) in [
-        (198, "library refused at 196: text not closed\n"),
-        (200, "library refused at 200: expected statement\n"),
-    ] {
-        let library = THREE_CELLS.as_bytes().get(..length).ok_or("too long")?;
-        let (status, desk) = translated(alloc, library, &[], usize::MAX)?;
-        assert_eq!(rt; status.code(), 2);
-        assert_eq!(rt;
-            desk.written(OutSlot::Report),
-            b"cell 1 INV ok\n".as_slice()
-        );
-        assert_eq!(rt; desk.written(OutSlot::Faults), line.as_bytes());
-    }
+    assert!(rt; is_cut_told(rt.alloc(), 198, "library refused at 196: text not closed\n")?);
+    assert!(rt;
+        is_cut_told(
+            rt.alloc(),
+            200,
+            "library refused at 200: expected statement\n"
+        )?
+    );
     Ok(())
 }

@@ -1,63 +1,180 @@
 //! Calls on the desk that fail, each in turn: what was written then is the front of what is written without, and no call is made
 //! behind it.
-use crate::library_desk::translated;
-use crate::three_cells::{THREE_CELLS, THREE_LINES, TWO_ENTITIES, TWO_MODULES};
+use crate::desks::{
+    Files, Left, REPLAY_VERILOG, REPLAY_VITAL, SIMULATE, TRANSLATE, desk_of, library_alone, ran,
+};
+use crate::inverter::{REPORT, VERILOG_REPORT, VITAL_REPORT, four_files};
+use crate::runs_on_test_cells::TWO_CELLS;
+use crate::three_cells::{
+    FIRST_ENTITY, FIRST_MODULE, THIRD_ENTITY, THIRD_MODULE, THREE_CELLS, THREE_LINES,
+};
+use crate::words_and_udp::AND;
 use std::alloc::Global;
 use std::test::Fail;
-use text_io::{MemoryDesk, OutSlot};
-use translate_cmd::Status;
+use text_io::{GatedDesk, OutSlot};
+use translate_cmd::{Status, run_gated};
 
-/// Whether the library of three cells was translated up to some byte of each output.
-fn has_fronts(desk: &MemoryDesk) -> bool {
-    TWO_MODULES
-        .as_bytes()
-        .starts_with(desk.written(OutSlot::VerilogText))
-        && TWO_ENTITIES
-            .as_bytes()
-            .starts_with(desk.written(OutSlot::VitalText))
-        && THREE_LINES
-            .as_bytes()
-            .starts_with(desk.written(OutSlot::Report))
-        && desk.written(OutSlot::Faults).is_empty()
+/// What a run comes to where no call fails: each text in two parts, of which the second may be empty.
+#[derive(Copy, Clone)]
+struct Whole {
+    status: Status,
+    verilog: (&'static str, &'static str),
+    vital: (&'static str, &'static str),
+    report: &'static str,
+    faults: &'static str,
 }
 
-/// The status once no call is left that could fail, where a call moves at most `piece` bytes.
-fn last_status(alloc: Global, piece: usize) -> Result<Status, Fail> {
+/// The library of three cells, translated.
+const THREE_TRANSLATED: Whole = Whole {
+    status: Status::Cells,
+    verilog: (FIRST_MODULE, THIRD_MODULE),
+    vital: (FIRST_ENTITY, THIRD_ENTITY),
+    report: THREE_LINES,
+    faults: "",
+};
+
+/// A run that is done and writes no model, with this report.
+fn done(report: &'static str) -> Whole {
+    Whole {
+        status: Status::Done,
+        verilog: ("", ""),
+        vital: ("", ""),
+        report,
+        faults: "",
+    }
+}
+
+/// Words without a reading.
+const UNREAD: Whole = Whole {
+    status: Status::Usage,
+    verilog: ("", ""),
+    vital: ("", ""),
+    report: "",
+    faults: "lib2sim: usage\n",
+};
+
+/// Whether what was left is a front of the whole, and at most one call failed.
+fn is_front(left: &Left, whole: &Whole) -> bool {
+    let (verilog, more_verilog) = whole.verilog;
+    let (vital, more_vital) = whole.vital;
+    left.wrote_front(OutSlot::VerilogText, verilog, more_verilog)
+        && left.wrote_front(OutSlot::VitalText, vital, more_vital)
+        && left.wrote_front(OutSlot::Report, whole.report, "")
+        && left.wrote_front(OutSlot::Faults, whole.faults, "")
+        && left.desk.faults() <= 1
+}
+
+/// Whether each call that fails in its turn, the next one failing too, leaves a front and is the last, up to the run at which no
+/// call is left that could fail, where a call moves at most `piece` bytes.
+fn leaves_fronts(
+    alloc: Global,
+    words: &[&str],
+    files: Files<'_>,
+    whole: &Whole,
+    piece: usize,
+) -> Result<bool, Fail> {
     for call in 1..10000 {
-        let failing = [call, call + 1];
-        let (status, desk) = translated(alloc, THREE_CELLS.as_bytes(), &failing, piece)?;
-        if !has_fronts(&desk) {
-            return Err("something else was written".into());
+        let left = ran(alloc, words, files, &[call, call + 1], piece)?;
+        if !is_front(&left, whole) {
+            return Ok(false);
         }
-        if desk.faults() > 1 {
-            return Err("a call was made behind one that failed".into());
-        }
-        if status != Status::Outside {
-            return Ok(status);
+        if left.status != Status::Outside {
+            return Ok(left.status == whole.status);
         }
     }
-    Err("there is always one more call".into())
+    Ok(false)
+}
+
+/// Whether that holds of a translation of three cells.
+fn translates_fronts(alloc: Global, piece: usize) -> Result<bool, Fail> {
+    let files = library_alone(THREE_CELLS.as_bytes());
+    leaves_fronts(alloc, &TRANSLATE, files, &THREE_TRANSLATED, piece)
+}
+
+/// Whether it holds of words that read files of the inverter and have this report.
+fn reads_fronts(
+    alloc: Global,
+    words: &[&str],
+    report: &'static str,
+    piece: usize,
+) -> Result<bool, Fail> {
+    leaves_fronts(alloc, words, four_files(), &done(report), piece)
+}
+
+/// Whether it holds of words that name no file.
+fn prints_fronts(alloc: Global, words: &[&str], whole: &Whole) -> Result<bool, Fail> {
+    leaves_fronts(alloc, words, library_alone(b""), whole, 7)
 }
 
 #[test]
-fn each_call_that_fails_leaves_a_front(rt: HostRuntime) -> Result<(), Fail> {
-    for piece in [1, 7, 4096] {
-        assert_eq!(rt; last_status(rt.alloc(), piece)?.code(), 3);
-    }
+fn each_call_of_a_translation_that_fails_leaves_a_front(rt: HostRuntime) -> Result<(), Fail> {
+    assert!(rt; translates_fronts(rt.alloc(), 1)?);
+    assert!(rt; translates_fronts(rt.alloc(), 7)?);
+    assert!(rt; translates_fronts(rt.alloc(), 4096)?);
     Ok(())
 }
 
 #[test]
-fn a_file_that_cannot_be_made_ends_the_run(rt: HostRuntime) -> Result<(), Fail> {
-    let (status, desk) = translated(rt.alloc(), THREE_CELLS.as_bytes(), &[2], usize::MAX)?;
-    assert_eq!(rt; status.code(), 7);
-    for slot in [
-        OutSlot::VerilogText,
-        OutSlot::VitalText,
-        OutSlot::Report,
-        OutSlot::Faults,
-    ] {
-        assert_eq!(rt; desk.written(slot), b"".as_slice());
-    }
+fn each_call_of_a_simulation_that_fails_leaves_a_front(rt: HostRuntime) -> Result<(), Fail> {
+    assert!(rt; reads_fronts(rt.alloc(), &SIMULATE, REPORT, 1)?);
+    assert!(rt; reads_fronts(rt.alloc(), &SIMULATE, REPORT, 7)?);
+    assert!(rt; reads_fronts(rt.alloc(), &SIMULATE, REPORT, 4096)?);
+    Ok(())
+}
+
+#[test]
+fn each_call_of_a_replay_that_fails_leaves_a_front(rt: HostRuntime) -> Result<(), Fail> {
+    assert!(rt; reads_fronts(rt.alloc(), &REPLAY_VERILOG, VERILOG_REPORT, 1)?);
+    assert!(rt; reads_fronts(rt.alloc(), &REPLAY_VERILOG, VERILOG_REPORT, 7)?);
+    assert!(rt; reads_fronts(rt.alloc(), &REPLAY_VERILOG, VERILOG_REPORT, 4096)?);
+    assert!(rt; reads_fronts(rt.alloc(), &REPLAY_VITAL, VITAL_REPORT, 1)?);
+    assert!(rt; reads_fronts(rt.alloc(), &REPLAY_VITAL, VITAL_REPORT, 7)?);
+    assert!(rt; reads_fronts(rt.alloc(), &REPLAY_VITAL, VITAL_REPORT, 4096)?);
+    Ok(())
+}
+
+#[test]
+fn each_call_of_words_without_files_that_fails_leaves_a_front(rt: HostRuntime) -> Result<(), Fail> {
+    assert!(rt; prints_fronts(rt.alloc(), &["udp", "AND2", "A*B"], &done(AND))?);
+    assert!(rt; prints_fronts(rt.alloc(), &["selftest", "2"], &done(TWO_CELLS))?);
+    assert!(rt; prints_fronts(rt.alloc(), &["print"], &UNREAD)?);
+    Ok(())
+}
+
+/// Whether a run at which this call fails leaves nothing written.
+fn leaves_nothing(
+    alloc: Global,
+    words: &[&str],
+    files: Files<'_>,
+    call: u64,
+) -> Result<bool, Fail> {
+    let left = ran(alloc, words, files, &[call], usize::MAX)?;
+    Ok(
+        left.is(Status::Outside, "", "")
+            && left.wrote(OutSlot::VerilogText, "", "")
+            && left.wrote(OutSlot::VitalText, "", ""),
+    )
+}
+
+#[test]
+fn a_file_that_cannot_be_made_or_opened_ends_the_run(rt: HostRuntime) -> Result<(), Fail> {
+    assert!(rt; leaves_nothing(rt.alloc(), &TRANSLATE, four_files(), 2)?);
+    assert!(rt; leaves_nothing(rt.alloc(), &SIMULATE, four_files(), 1)?);
+    assert!(rt; leaves_nothing(rt.alloc(), &SIMULATE, four_files(), 2)?);
+    Ok(())
+}
+
+/// Whether a gate ends with this status and this count where these calls fail.
+fn counts(alloc: Global, failing: &[u64], status: Status, failures: u64) -> Result<bool, Fail> {
+    let words = ["udp", "AND2", "A*B"];
+    let mut gate = GatedDesk::new(desk_of(alloc, &words, library_alone(b""), failing, 1000, 7)?);
+    let ended = run_gated(alloc, &mut gate);
+    Ok(ended == status && gate.failures() == failures)
+}
+
+#[test]
+fn a_gate_counts_the_call_that_failed(rt: HostRuntime) -> Result<(), Fail> {
+    assert!(rt; counts(rt.alloc(), &[3], Status::Outside, 1)?);
+    assert!(rt; counts(rt.alloc(), &[], Status::Done, 0)?);
     Ok(())
 }

@@ -1,9 +1,12 @@
 //! A library with much behind its cells: their models are written before all of it is read.
-use crate::library_desk::translated;
-use crate::three_cells::{THREE_CELLS, THREE_LINES, TWO_ENTITIES, TWO_MODULES};
+use crate::desks::{Left, TRANSLATE, library_alone, ran};
+use crate::three_cells::{
+    FIRST_ENTITY, FIRST_MODULE, THIRD_ENTITY, THIRD_MODULE, THREE_CELLS, THREE_LINES,
+};
 use std::alloc::{AllocError, Global};
 use std::test::Fail;
 use text_io::OutSlot;
+use translate_cmd::Status;
 
 /// The library of three cells, with 200,000 spaces behind it.
 fn spaced(alloc: Global) -> Result<String, AllocError> {
@@ -14,29 +17,46 @@ fn spaced(alloc: Global) -> Result<String, AllocError> {
     Ok(library)
 }
 
+/// What translating this library leaves, where these calls fail and a call moves at most `piece` bytes.
+fn far_translated(alloc: Global, failing: &[u64], piece: usize) -> Result<Left, Fail> {
+    let library = spaced(alloc)?;
+    ran(
+        alloc,
+        &TRANSLATE,
+        library_alone(library.as_bytes()),
+        failing,
+        piece,
+    )
+}
+
+/// Whether the models of both accepted cells were written.
+fn has_both_models(left: &Left) -> bool {
+    left.wrote(OutSlot::VerilogText, FIRST_MODULE, THIRD_MODULE)
+        && left.wrote(OutSlot::VitalText, FIRST_ENTITY, THIRD_ENTITY)
+}
+
+/// Whether the spaces change nothing.
+fn is_as_without_spaces(alloc: Global) -> Result<bool, Fail> {
+    let left = far_translated(alloc, &[], usize::MAX)?;
+    Ok(has_both_models(&left) && left.is(Status::Cells, THREE_LINES, ""))
+}
+
+/// Whether a run at which this call fails, where a call moves at most 50 bytes, wrote both models.
+fn wrote_models_before(alloc: Global, call: u64) -> Result<bool, Fail> {
+    let left = far_translated(alloc, &[call], 50)?;
+    Ok(has_both_models(&left) && left.status == Status::Outside)
+}
+
 #[test]
 fn spaces_behind_a_library_change_nothing(rt: HostRuntime) -> Result<(), Fail> {
-    let library = spaced(rt.alloc())?;
-    let (status, desk) = translated(rt.alloc(), library.as_bytes(), &[], usize::MAX)?;
-    assert_eq!(rt; status.code(), 3);
-    assert_eq!(rt; desk.written(OutSlot::VerilogText), TWO_MODULES.as_bytes());
-    assert_eq!(rt; desk.written(OutSlot::VitalText), TWO_ENTITIES.as_bytes());
-    assert_eq!(rt; desk.written(OutSlot::Report), THREE_LINES.as_bytes());
-    assert_eq!(rt; desk.written(OutSlot::Faults), b"".as_slice());
+    assert!(rt; is_as_without_spaces(rt.alloc())?);
     Ok(())
 }
 
-/// The last cell ends at offset 314. Three files are bound and a write moves a byte at least, so before this call 314 + 65,536
-/// bytes were read, 50 at once. The library is not read to its end by then.
+/// The last cell ends at offset 314. Three files are bound, a write moves a byte at least, and 1,355 bytes are written, so before
+/// this call 314 + 65,536 bytes were read, 50 at once: 3 + 1,355 + 1,318 calls. The library is not read to its end by then.
 #[test]
 fn models_are_written_before_a_later_read(rt: HostRuntime) -> Result<(), Fail> {
-    let library = spaced(rt.alloc())?;
-    let reads = (314 + 65536) / 50 + 1;
-    let texts = TWO_MODULES.len() + TWO_ENTITIES.len() + THREE_LINES.len();
-    let call = 3 + texts + reads + 1;
-    let (status, desk) = translated(rt.alloc(), library.as_bytes(), &[call as u64], 50)?;
-    assert_eq!(rt; status.code(), 7);
-    assert_eq!(rt; desk.written(OutSlot::VerilogText), TWO_MODULES.as_bytes());
-    assert_eq!(rt; desk.written(OutSlot::VitalText), TWO_ENTITIES.as_bytes());
+    assert!(rt; wrote_models_before(rt.alloc(), 2677)?);
     Ok(())
 }

@@ -1,8 +1,15 @@
-//! Whole runs of commands over desks in memory, with the bytes that they have to leave; no product code.
+//! Whole runs of commands over desks in memory, over desks that fail and over files that are cut, with the bytes that they have to
+//! leave; no product code.
 #![tactic(auto)]
 
 #[cfg(test)]
+mod cut_files;
+#[cfg(test)]
 mod cut_libraries;
+#[cfg(test)]
+mod cuts;
+#[cfg(test)]
+mod desks;
 #[cfg(test)]
 mod entity_texts;
 #[cfg(test)]
@@ -10,9 +17,11 @@ mod failing_calls;
 #[cfg(test)]
 mod far_reading;
 #[cfg(test)]
-mod last_calls;
+mod inverter;
 #[cfg(test)]
-mod library_desk;
+mod libraries;
+#[cfg(test)]
+mod refused_files;
 #[cfg(test)]
 mod replays;
 #[cfg(test)]
@@ -21,6 +30,8 @@ mod runs_on_test_cells;
 mod test_cells;
 #[cfg(test)]
 mod three_cells;
+#[cfg(test)]
+mod traces;
 #[cfg(test)]
 mod translations;
 #[cfg(test)]

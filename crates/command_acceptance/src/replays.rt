@@ -1,38 +1,39 @@
 //! Runs of `replay-verilog` and `replay-vital`.
-use crate::three_cells::TWO_MODULES;
+use crate::desks::{Files, Left, REPLAY_VERILOG, REPLAY_VITAL, ran};
+use crate::three_cells::{FIRST_MODULE, THIRD_MODULE};
 use std::alloc::Global;
 use std::test::Fail;
-use text_io::{MemoryDesk, NamedFile, OutSlot};
-use translate_cmd::{Status, run};
+use translate_cmd::Status;
 
-/// Runs this command on these bytes of a file of models and these of a stimulus.
-fn replayed(
-    alloc: Global,
-    command: &str,
-    models: &str,
-    stimulus: &str,
-) -> Result<(Status, MemoryDesk), Fail> {
-    let mut words = Vec::new(alloc);
-    for word in [command, "in.models", "in.stim"] {
-        words.push(String::from_str(alloc, word)?)?;
-    }
-    let mut folder = Vec::new(alloc);
-    for (name, text) in [("in.models", models), ("in.stim", stimulus)] {
-        folder.push(NamedFile {
-            name: String::from_str(alloc, name)?,
-            bytes: Vec::from_slice(alloc, text.as_bytes())?,
-        })?;
-    }
-    let mut desk = MemoryDesk::new(alloc, words, folder, Vec::new(alloc), 10000)?;
-    let status = run(alloc, &mut desk);
-    Ok((status, desk))
+/// Replays a file of models, in either language, under a stimulus.
+fn replayed(alloc: Global, words: &[&str], models: &str, stimulus: &str) -> Result<Left, Fail> {
+    let files = Files {
+        library: b"",
+        verilog: models.as_bytes(),
+        vital: models.as_bytes(),
+        stimulus: stimulus.as_bytes(),
+    };
+    ran(alloc, words, files, &[], usize::MAX)
 }
 
-#[test]
-fn sections_are_printed_in_the_order_of_the_stimulus(rt: HostRuntime) -> Result<(), Fail> {
-    let alloc = rt.alloc();
-    let stimulus = "cell INV\ncell BUF\n5 A 1\n9 A x\ncell INV\n5 A 1\n";
-    let report = "cell INV
+/// Whether a replay of two modules has this status, report and faults.
+fn replays(
+    alloc: Global,
+    stimulus: &str,
+    status: Status,
+    report: &str,
+    faults: &str,
+) -> Result<bool, Fail> {
+    let models = format!(in alloc; "{FIRST_MODULE}{THIRD_MODULE}")?;
+    let left = replayed(alloc, &REPLAY_VERILOG, models.as_str(), stimulus)?;
+    Ok(left.is(status, report, faults))
+}
+
+/// Sections of two modules, of which the first is run twice.
+const STIMULUS: &str = "cell INV\ncell BUF\n5 A 1\n9 A x\ncell INV\n5 A 1\n";
+
+/// Their report.
+const REPORT: &str = "cell INV
 V start : Y=x
 cell BUF
 V start : Y=x
@@ -42,50 +43,53 @@ cell INV
 V start : Y=x
 V 5 A 1 : Y=0@0
 ";
-    let (status, desk) = replayed(alloc, "replay-verilog", TWO_MODULES, stimulus)?;
-    assert_eq!(rt; status, Status::Done);
-    assert_eq!(rt; desk.written(OutSlot::Report), report.as_bytes());
-    assert_eq!(rt; desk.written(OutSlot::Faults), b"".as_slice());
+
+#[test]
+fn sections_are_printed_in_the_order_of_the_stimulus(rt: HostRuntime) -> Result<(), Fail> {
+    assert!(rt; replays(rt.alloc(), STIMULUS, Status::Done, REPORT, "")?);
     Ok(())
+}
+
+/// Whether a stimulus of two modules has this bad line.
+fn has_bad_line(alloc: Global, stimulus: &str, faults: &str) -> Result<bool, Fail> {
+    replays(alloc, stimulus, Status::Stimulus, "", faults)
+}
+
+/// Whether a replay of a file of no byte ends with this status and these faults.
+fn replays_nothing(
+    alloc: Global,
+    words: &[&str],
+    stimulus: &str,
+    status: Status,
+    faults: &str,
+) -> Result<bool, Fail> {
+    let left = replayed(alloc, words, "", stimulus)?;
+    Ok(left.is(status, "", faults))
 }
 
 #[test]
 fn the_first_fault_of_the_files_is_told(rt: HostRuntime) -> Result<(), Fail> {
-    let alloc = rt.alloc();
-    for (command, models, stimulus, wanted, line) in [
-        (
-            "replay-verilog",
-            "",
-            "cell",
-            Status::Model,
-            "verilog refused at 0: syntax\n",
-        ),
-        (
-            "replay-verilog",
-            TWO_MODULES,
-            "cell INV\n5 A 1\n5 A 0\n",
-            Status::Stimulus,
-            "stimulus line 3: time\n",
-        ),
-        (
-            "replay-verilog",
-            TWO_MODULES,
-            "cell TB\n",
-            Status::Stimulus,
-            "stimulus line 1: unknown cell\n",
-        ),
-        (
-            "replay-vital",
-            "",
+    let (syntax, unknown) = (
+        "verilog refused at 0: syntax\n",
+        "stimulus line 1: unknown cell\n",
+    );
+    assert!(rt; replays_nothing(rt.alloc(), &REPLAY_VERILOG, "cell", Status::Model, syntax)?);
+    assert!(rt;
+        replays_nothing(
+            rt.alloc(),
+            &REPLAY_VITAL,
             "cell DFF",
             Status::Stimulus,
-            "stimulus line 1: unknown cell\n",
-        ),
-    ] {
-        let (status, desk) = replayed(alloc, command, models, stimulus)?;
-        assert_eq!(rt; status, wanted);
-        assert_eq!(rt; desk.written(OutSlot::Report), b"".as_slice());
-        assert_eq!(rt; desk.written(OutSlot::Faults), line.as_bytes());
-    }
+            unknown
+        )?
+    );
+    assert!(rt;
+        has_bad_line(
+            rt.alloc(),
+            "cell INV\n5 A 1\n5 A 0\n",
+            "stimulus line 3: time\n"
+        )?
+    );
+    assert!(rt; has_bad_line(rt.alloc(), "cell TB\n", unknown)?);
     Ok(())
 }

@@ -1,12 +1,11 @@
 //! Runs of `selftest`.
-
+use crate::desks::ran_without_files;
 use std::alloc::Global;
 use std::test::Fail;
-use text_io::{MemoryDesk, OutSlot};
-use translate_cmd::{Status, run};
+use translate_cmd::Status;
 
 /// The report on two test cells.
-const TWO_CELLS: &str = "cells 2
+pub(crate) const TWO_CELLS: &str = "cells 2
 changes 200
 known 117
 caught 2 2
@@ -21,30 +20,30 @@ caught 8 8
 equal
 ";
 
-/// Whether the run on so many test cells ends with this status and this report.
-fn ends(alloc: Global, count: &str, status: Status, report: &str) -> Result<bool, Fail> {
-    let mut words = Vec::new(alloc);
-    words.push(String::from_str(alloc, "selftest")?)?;
-    words.push(String::from_str(alloc, count)?)?;
-    let mut desk = MemoryDesk::new(alloc, words, Vec::new(alloc), Vec::new(alloc), 1000)?;
-    let ended = run(alloc, &mut desk);
-    Ok(ended == status && desk.written(OutSlot::Report) == report.as_bytes())
+/// Whether the run on so many test cells is done, with this report.
+fn is_done(alloc: Global, count: &str, report: &str) -> Result<bool, Fail> {
+    let left = ran_without_files(alloc, &["selftest", count])?;
+    Ok(left.is(Status::Done, report, ""))
+}
+
+/// Whether a count of test cells has no reading.
+fn is_usage(alloc: Global, count: &str) -> Result<bool, Fail> {
+    let left = ran_without_files(alloc, &["selftest", count])?;
+    Ok(left.is(Status::Usage, "", "lib2sim: usage\n"))
 }
 
 #[test]
 fn known_values_and_damaged_models_are_counted(rt: HostRuntime) -> Result<(), Fail> {
-    let alloc = rt.alloc();
-    assert!(rt; ends(alloc, "2", Status::Done, TWO_CELLS)?);
-    assert!(rt; ends(alloc, "00008", Status::Done, EIGHT_CELLS)?);
+    assert!(rt; is_done(rt.alloc(), "2", TWO_CELLS)?);
+    assert!(rt; is_done(rt.alloc(), "00008", EIGHT_CELLS)?);
     Ok(())
 }
 
 #[test]
 fn counts_of_cells_are_within_their_limits(rt: HostRuntime) -> Result<(), Fail> {
-    let alloc = rt.alloc();
-    assert!(rt; ends(alloc, "0", Status::Usage, "")?);
-    assert!(rt; ends(alloc, "10001", Status::Usage, "")?);
-    assert!(rt; ends(alloc, "000002", Status::Usage, "")?);
-    assert!(rt; ends(alloc, "+2", Status::Usage, "")?);
+    assert!(rt; is_usage(rt.alloc(), "0")?);
+    assert!(rt; is_usage(rt.alloc(), "10001")?);
+    assert!(rt; is_usage(rt.alloc(), "000002")?);
+    assert!(rt; is_usage(rt.alloc(), "+2")?);
     Ok(())
 }

@@ -1,5 +1,5 @@
 //! A scan flip-flop that is translated, and the line on its test cell.
-use crate::library_desk::translated;
+use crate::desks::translated;
 use std::alloc::Global;
 use std::test::Fail;
 use text_io::OutSlot;
@@ -18,31 +18,24 @@ fn scan_library(alloc: Global, attribute: &str, next: &str) -> Result<String, Fa
     )?)
 }
 
+/// Whether the scan flip-flop is accepted and its test cell has this line.
+fn has_line(alloc: Global, attribute: &str, next: &str, line: &str) -> Result<bool, Fail> {
+    let library = scan_library(alloc, attribute, next)?;
+    let left = translated(alloc, library.as_str())?;
+    let report = format!(in alloc; "cell 1 SDFFR ok\n{line}accepted 1 refused 0\n")?;
+    Ok(left.status == Status::Done && left.wrote(OutSlot::Report, report.as_str(), ""))
+}
+
+/// The attribute of a scan enable.
+const ENABLE: &str = "signal_type : test_scan_enable;";
+
+/// The line on a test cell that takes the other value.
+const DIFFERS: &str = "test 1 differs part 1 before 8 after 12 state 0\n";
+
 #[test]
 fn test_cells_have_lines(rt: HostRuntime) -> Result<(), Fail> {
-    let alloc = rt.alloc();
-    let enable = "signal_type : test_scan_enable;";
-    for (attribute, next, report) in [
-        (
-            enable,
-            "D",
-            "cell 1 SDFFR ok\ntest 1 same\naccepted 1 refused 0\n",
-        ),
-        (
-            "",
-            "D",
-            "cell 1 SDFFR ok\ntest 1 left-out\naccepted 1 refused 0\n",
-        ),
-        (
-            enable,
-            "!D",
-            "cell 1 SDFFR ok\ntest 1 differs part 1 before 8 after 12 state 0\naccepted 1 refused 0\n",
-        ),
-    ] {
-        let library = scan_library(alloc, attribute, next)?;
-        let (status, desk) = translated(alloc, library.as_bytes(), &[], usize::MAX)?;
-        assert_eq!(rt; status, Status::Done);
-        assert_eq!(rt; desk.written(OutSlot::Report), report.as_bytes());
-    }
+    assert!(rt; has_line(rt.alloc(), ENABLE, "D", "test 1 same\n")?);
+    assert!(rt; has_line(rt.alloc(), "", "D", "test 1 left-out\n")?);
+    assert!(rt; has_line(rt.alloc(), ENABLE, "!D", DIFFERS)?);
     Ok(())
 }

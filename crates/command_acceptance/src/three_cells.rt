@@ -13,7 +13,7 @@ pub(crate) const NO_MODULE: &str = "`timescale 1ps/1ps
 ";
 
 /// The Verilog file with the first cell.
-pub(crate) const ONE_MODULE: &str = "`timescale 1ps/1ps
+pub(crate) const FIRST_MODULE: &str = "`timescale 1ps/1ps
 primitive lib_1_1 (q, i1);
   output q;
   input i1;
@@ -29,22 +29,8 @@ module INV (A, Y);
 endmodule
 ";
 
-/// The Verilog file with the first and the third cell.
-pub(crate) const TWO_MODULES: &str = "`timescale 1ps/1ps
-primitive lib_1_1 (q, i1);
-  output q;
-  input i1;
-  table
-    0 : 1;
-    1 : 0;
-  endtable
-endprimitive
-module INV (A, Y);
-  input A;
-  output Y;
-  lib_1_1 (Y, A);
-endmodule
-primitive lib_3_1 (q, i1);
+/// What the third cell adds to it.
+pub(crate) const THIRD_MODULE: &str = "primitive lib_3_1 (q, i1);
   output q;
   input i1;
   table
@@ -60,7 +46,7 @@ endmodule
 ";
 
 /// The VHDL file with the first cell.
-pub(crate) const ONE_ENTITY: &str = "library IEEE;
+pub(crate) const FIRST_ENTITY: &str = "library IEEE;
 use IEEE.std_logic_1164.all;
 use IEEE.VITAL_Timing.all;
 use IEEE.VITAL_Primitives.all;
@@ -81,27 +67,8 @@ begin
 end vital;
 ";
 
-/// The VHDL file with the first and the third cell.
-pub(crate) const TWO_ENTITIES: &str = "library IEEE;
-use IEEE.std_logic_1164.all;
-use IEEE.VITAL_Timing.all;
-use IEEE.VITAL_Primitives.all;
-entity INV is
-  port (A : in std_ulogic; Y : out std_ulogic);
-end INV;
-architecture vital of INV is
-  constant k_1 : VitalTruthTableType := (
-    ('0', '1'),
-    ('1', '0'));
-begin
-  process (A)
-    variable z_1 : std_logic := 'X';
-  begin
-    z_1 := VitalTruthTable (TruthTable => k_1, DataIn => (0 => A));
-    Y <= z_1;
-  end process;
-end vital;
-library IEEE;
+/// What the third cell adds to it.
+pub(crate) const THIRD_ENTITY: &str = "library IEEE;
 use IEEE.std_logic_1164.all;
 use IEEE.VITAL_Timing.all;
 use IEEE.VITAL_Primitives.all;

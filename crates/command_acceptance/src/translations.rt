@@ -1,26 +1,16 @@
 //! Libraries that are translated, from bytes to bytes.
+use crate::desks::translated;
 use crate::entity_texts::{FLIP_FLOP_ENTITY, LONE_TIE_ENTITY, PORTS_ENTITY, TIE_ENTITY};
-use crate::library_desk::translated;
-use crate::three_cells::{NO_MODULE, THREE_CELLS, THREE_LINES, TWO_ENTITIES, TWO_MODULES};
+use crate::libraries::{CLOCK_GATE, TIMED_FLIP_FLOP};
+use crate::three_cells::{
+    FIRST_ENTITY, FIRST_MODULE, NO_MODULE, THIRD_ENTITY, THIRD_MODULE, THREE_CELLS, THREE_LINES,
+};
+use std::alloc::Global;
 use std::test::Fail;
 use text_io::OutSlot;
 use translate_cmd::Status;
 
-const FLIP_FLOP: &str = "library (L) {
-time_unit : \"1ps\";
-cell (DFFT) {
-ff (IQ, IQN) { next_state : \"D\"; clocked_on : \"CK\"; }
-pin (CK) { direction : input; }
-pin (D) { direction : input;
-timing () { timing_type : setup_rising; related_pin : \"CK\"; rise_constraint (s) { values (\"50\"); } fall_constraint (s) { values (\"50\"); } }
-}
-pin (Q) { direction : output; function : \"IQ\";
-timing () { timing_type : rising_edge; related_pin : \"CK\"; cell_rise (s) { values (\"100\"); } cell_fall (s) { values (\"120\"); } }
-}
-}
-}
-";
-
+/// The Verilog of a flip-flop with a setup of 50 before the rising clock, and delays of 100 and 120.
 const FLIP_FLOP_MODULE: &str = "`timescale 1ps/1ps
 primitive lib_1_1 (q, i1, i2, i3);
   output q;
@@ -62,10 +52,12 @@ module DFFT (CK, D, Q);
 endmodule
 ";
 
+/// Four ports, of which each language keeps some names.
 const PORTS: &str = "library (L) { cell (P) {
 pin (a) { direction : input; } pin (A) { direction : input; } pin (end) { direction : input; }
 pin (D_1) { direction : output; function : \"1\"; } } }";
 
+/// Its Verilog.
 const PORTS_MODULE: &str = "`timescale 1ps/1ps
 module P (a, A, pin3, D_1);
   input a;
@@ -76,13 +68,7 @@ module P (a, A, pin3, D_1);
 endmodule
 ";
 
-const CLOCK_GATE: &str = "library (L) { time_unit : \"1ps\"; cell (GATE) {
-pin (CK) { direction : input; } pin (E) { direction : input; } pin (SE) { direction : input; }
-pin (IQ) { direction : internal; internal_node : \"IQ\"; }
-pin (GCK) { direction : output; state_function : \"CK * IQ\"; }
-statetable (\"CK E SE\", \"IQ\") { table : \"L L L : - : L, L L H : - : H, L H L : - : H, L H H : - : H, H - - : - : N\"; }
-} }";
-
+/// The module of a clock gate.
 const CLOCK_GATE_MODULE: &str = "module GATE (CK, E, SE, GCK);
   input CK;
   input E;
@@ -94,6 +80,7 @@ const CLOCK_GATE_MODULE: &str = "module GATE (CK, E, SE, GCK);
 endmodule
 ";
 
+/// A scan flip-flop with a reset, conditions of its delays and a hold time below zero.
 const SCAN_FLIP_FLOP: &str = "library (L) { time_unit : \"1ns\"; cell (SDFFR) {
 pin (D) { direction : input;
 timing () { timing_type : setup_rising; related_pin : \"CK\"; rise_constraint (s) { values (\"0.05, 0.0612\"); } }
@@ -108,6 +95,7 @@ timing () { related_pin : \"CK\"; cell_rise (s) { values (\"0.1105\"); } cell_fa
 }
 } }";
 
+/// Its module.
 const SCAN_FLIP_FLOP_MODULE: &str = "module SDFFR (D, SI, SE, CK, RN, Q);
   input D;
   input SI;
@@ -141,6 +129,7 @@ pin (E) { direction : input; }
 pin (Y) { direction : output; function : \"A\"; }
 } }";
 
+/// Its module.
 const PERIODS_MODULE: &str = "module BUFP (A, E, Y);
   input A;
   input E;
@@ -164,6 +153,7 @@ const WITHOUT_SEMICOLONS: &str = "library (L) { time_unit : \"1ps\"
 cell (TIE) { pin (A) { direction : input } pin (Y) { function : \"1\" ; direction : output } }
 }";
 
+/// Its Verilog.
 const TIE_MODULE: &str = "`timescale 1ps/1ps
 module TIE (A, Y);
   input A;
@@ -176,6 +166,7 @@ endmodule
 const LONE_TIE: &str =
     "library (L) { cell (TIE) { pin (Y) { direction : output; function : \"1\"; } } }";
 
+/// Its Verilog.
 const LONE_TIE_MODULE: &str = "`timescale 1ps/1ps
 module TIE (Y);
   output Y;
@@ -183,107 +174,115 @@ module TIE (Y);
 endmodule
 ";
 
-/// A library, and all that translating it comes to.
-struct Translation {
-    library: &'static str,
-    status: Status,
-    verilog: &'static str,
-    vital: &'static str,
-    report: &'static str,
+/// Whether the library of three cells is translated to the models of two.
+fn translates_three_cells(alloc: Global) -> Result<bool, Fail> {
+    let left = translated(alloc, THREE_CELLS)?;
+    Ok(
+        left.is(Status::Cells, THREE_LINES, "")
+            && left.wrote(OutSlot::VerilogText, FIRST_MODULE, THIRD_MODULE)
+            && left.wrote(OutSlot::VitalText, FIRST_ENTITY, THIRD_ENTITY),
+    )
 }
 
-const TRANSLATIONS: [Translation; 5] = [
-    Translation {
-        library: THREE_CELLS,
-        status: Status::Cells,
-        verilog: TWO_MODULES,
-        vital: TWO_ENTITIES,
-        report: THREE_LINES,
-    },
-    Translation {
-        library: FLIP_FLOP,
-        status: Status::Done,
-        verilog: FLIP_FLOP_MODULE,
-        vital: FLIP_FLOP_ENTITY,
-        report: "cell 1 DFFT ok\naccepted 1 refused 0\n",
-    },
-    Translation {
-        library: PORTS,
-        status: Status::Done,
-        verilog: PORTS_MODULE,
-        vital: PORTS_ENTITY,
-        report: "cell 1 P ok\naccepted 1 refused 0\n",
-    },
-    Translation {
-        library: WITHOUT_SEMICOLONS,
-        status: Status::Done,
-        verilog: TIE_MODULE,
-        vital: TIE_ENTITY,
-        report: "cell 1 TIE ok\naccepted 1 refused 0\n",
-    },
-    Translation {
-        library: LONE_TIE,
-        status: Status::Done,
-        verilog: LONE_TIE_MODULE,
-        vital: LONE_TIE_ENTITY,
-        report: "cell 1 TIE ok\naccepted 1 refused 0\n",
-    },
-];
+/// Whether a library of one cell is translated to this Verilog and this VHDL, with this line of the report.
+fn translates(
+    alloc: Global,
+    library: &str,
+    verilog: &str,
+    vital: &str,
+    line: &str,
+) -> Result<bool, Fail> {
+    let left = translated(alloc, library)?;
+    Ok(
+        left.status == Status::Done
+            && left.wrote(OutSlot::VerilogText, verilog, "")
+            && left.wrote(OutSlot::VitalText, vital, "")
+            && left.wrote(OutSlot::Report, line, "accepted 1 refused 0\n")
+            && left.wrote(OutSlot::Faults, "", ""),
+    )
+}
+
+/// Whether that holds of the library with an output that is tied to 1.
+fn translates_tie(alloc: Global, library: &str, verilog: &str, vital: &str) -> Result<bool, Fail> {
+    translates(alloc, library, verilog, vital, "cell 1 TIE ok\n")
+}
+
+/// Whether it holds of the flip-flop.
+fn translates_flip_flop(alloc: Global) -> Result<bool, Fail> {
+    translates(
+        alloc,
+        TIMED_FLIP_FLOP,
+        FLIP_FLOP_MODULE,
+        FLIP_FLOP_ENTITY,
+        "cell 1 DFFT ok\n",
+    )
+}
 
 #[test]
 fn libraries_are_translated(rt: HostRuntime) -> Result<(), Fail> {
-    let alloc = rt.alloc();
-    for wanted in TRANSLATIONS.iter() {
-        let (status, desk) = translated(alloc, wanted.library.as_bytes(), &[], usize::MAX)?;
-        assert_eq!(rt; status, wanted.status);
-        assert_eq!(rt;
-            desk.written(OutSlot::VerilogText),
-            wanted.verilog.as_bytes()
-        );
-        assert_eq!(rt; desk.written(OutSlot::VitalText), wanted.vital.as_bytes());
-        assert_eq!(rt; desk.written(OutSlot::Report), wanted.report.as_bytes());
-        assert_eq!(rt; desk.written(OutSlot::Faults), b"".as_slice());
-    }
+    assert!(rt; translates_three_cells(rt.alloc())?);
+    assert!(rt; translates_flip_flop(rt.alloc())?);
+    assert!(rt;
+        translates(
+            rt.alloc(),
+            PORTS,
+            PORTS_MODULE,
+            PORTS_ENTITY,
+            "cell 1 P ok\n"
+        )?
+    );
+    assert!(rt; translates_tie(rt.alloc(), WITHOUT_SEMICOLONS, TIE_MODULE, TIE_ENTITY)?);
+    assert!(rt; translates_tie(rt.alloc(), LONE_TIE, LONE_TIE_MODULE, LONE_TIE_ENTITY)?);
     Ok(())
 }
 
-#[test]
-fn refused_libraries_are_told(rt: HostRuntime) -> Result<(), Fail> {
-    let alloc = rt.alloc();
+/// Whether a library is refused with this line.
+fn refuses(alloc: Global, library: &str, line: &str) -> Result<bool, Fail> {
+    let left = translated(alloc, library)?;
+    Ok(
+        left.is(Status::Library, "", line)
+            && left.wrote(OutSlot::VerilogText, NO_MODULE, "")
+            && left.wrote(OutSlot::VitalText, "", ""),
+    )
+}
+
+/// Whether a library whose groups stand too deep is.
+fn refuses_deep_groups(alloc: Global) -> Result<bool, Fail> {
     let mut deep = String::from_str(alloc, "library (L) {")?;
     for _ in 0..32 {
         deep.push_str("a(){")?;
     }
-    for (library, line) in [
-        (
-            "library (L) { cell (A) { area : \"1",
-            "library refused at 32: text not closed\n",
-        ),
-        ("", "library refused at 0: not a library\n"),
-        (deep.as_str(), "library refused at 140: too deep\n"),
-    ] {
-        let (status, desk) = translated(alloc, library.as_bytes(), &[], usize::MAX)?;
-        assert_eq!(rt; status, Status::Library);
-        assert_eq!(rt; desk.written(OutSlot::VerilogText), NO_MODULE.as_bytes());
-        assert_eq!(rt; desk.written(OutSlot::VitalText), b"".as_slice());
-        assert_eq!(rt; desk.written(OutSlot::Report), b"".as_slice());
-        assert_eq!(rt; desk.written(OutSlot::Faults), line.as_bytes());
-    }
+    refuses(alloc, deep.as_str(), "library refused at 140: too deep\n")
+}
+
+/// A library that ends in a text.
+const OPEN_TEXT: &str = "library (L) { cell (A) { area : \"1";
+
+#[test]
+fn refused_libraries_are_told(rt: HostRuntime) -> Result<(), Fail> {
+    assert!(rt;
+        refuses(
+            rt.alloc(),
+            OPEN_TEXT,
+            "library refused at 32: text not closed\n"
+        )?
+    );
+    assert!(rt; refuses(rt.alloc(), "", "library refused at 0: not a library\n")?);
+    assert!(rt; refuses_deep_groups(rt.alloc())?);
     Ok(())
+}
+
+/// Whether the Verilog of a library ends with this module.
+fn ends_with(alloc: Global, library: &str, module: &str) -> Result<bool, Fail> {
+    let left = translated(alloc, library)?;
+    let verilog = left.desk.written(OutSlot::VerilogText);
+    Ok(left.status == Status::Done && verilog.ends_with(module.as_bytes()))
 }
 
 #[test]
 fn modules_stand_behind_their_primitives(rt: HostRuntime) -> Result<(), Fail> {
-    let alloc = rt.alloc();
-    for (library, module) in [
-        (CLOCK_GATE, CLOCK_GATE_MODULE),
-        (SCAN_FLIP_FLOP, SCAN_FLIP_FLOP_MODULE),
-        (PERIODS, PERIODS_MODULE),
-    ] {
-        let (status, desk) = translated(alloc, library.as_bytes(), &[], usize::MAX)?;
-        assert_eq!(rt; status, Status::Done);
-        let verilog = desk.written(OutSlot::VerilogText);
-        assert!(rt; verilog.ends_with(module.as_bytes()));
-    }
+    assert!(rt; ends_with(rt.alloc(), CLOCK_GATE, CLOCK_GATE_MODULE)?);
+    assert!(rt; ends_with(rt.alloc(), SCAN_FLIP_FLOP, SCAN_FLIP_FLOP_MODULE)?);
+    assert!(rt; ends_with(rt.alloc(), PERIODS, PERIODS_MODULE)?);
     Ok(())
 }

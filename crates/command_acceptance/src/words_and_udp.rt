@@ -1,11 +1,12 @@
 //! Runs of `udp` and of words without a reading.
-
-use std::alloc::{AllocError, Global};
+use crate::desks::{desk_of, library_alone, ran_without_files, words_of};
+use std::alloc::Global;
 use std::test::Fail;
-use text_io::{MemoryDesk, OutSlot, SureDesk};
+use text_io::{OutSlot, SureDesk};
 use translate_cmd::{Status, run, run_sure};
 
-const AND: &str = "primitive AND2 (q, i1, i2);
+/// The primitive of a conjunction.
+pub(crate) const AND: &str = "primitive AND2 (q, i1, i2);
   output q;
   input i1;
   input i2;
@@ -17,6 +18,7 @@ const AND: &str = "primitive AND2 (q, i1, i2);
 endprimitive
 ";
 
+/// The primitive of a multiplexer.
 const MUX: &str = "primitive MUX2 (q, i1, i2, i3);
   output q;
   input i1;
@@ -33,91 +35,82 @@ const MUX: &str = "primitive MUX2 (q, i1, i2, i3);
 endprimitive
 ";
 
-const USAGE: &str = "lib2sim: usage\n";
-
-fn words(alloc: Global, texts: &[&str]) -> Result<Vec<String>, AllocError> {
-    let mut words = Vec::new(alloc);
-    for text in texts {
-        words.push(String::from_str(alloc, text)?)?;
-    }
-    Ok(words)
-}
-
-fn desk(alloc: Global, texts: &[&str], room: usize) -> Result<MemoryDesk, Fail> {
-    let words = words(alloc, texts)?;
-    Ok(MemoryDesk::new(alloc, words, Vec::new(alloc), Vec::new(alloc), room)?)
+/// Whether a function is printed as this primitive.
+fn prints(alloc: Global, name: &str, function: &str, text: &str) -> Result<bool, Fail> {
+    let left = ran_without_files(alloc, &["udp", name, function])?;
+    Ok(left.is(Status::Done, text, ""))
 }
 
 #[test]
 fn primitives_are_printed(rt: HostRuntime) -> Result<(), Fail> {
-    let alloc = rt.alloc();
-    for (name, function, text) in [("AND2", "A*B", AND), ("MUX2", "(A*!S)+(B*S)", MUX)] {
-        let mut desk = desk(alloc, &["udp", name, function], 1000)?;
-        assert_eq!(rt; run(alloc, &mut desk), Status::Done);
-        assert_eq!(rt; desk.written(OutSlot::Report), text.as_bytes());
-        assert_eq!(rt; desk.written(OutSlot::Faults), b"".as_slice());
-    }
+    assert!(rt; prints(rt.alloc(), "AND2", "A*B", AND)?);
+    assert!(rt; prints(rt.alloc(), "MUX2", "(A*!S)+(B*S)", MUX)?);
     Ok(())
+}
+
+/// Whether a function of ten names has a row for each of their values.
+fn has_all_rows(alloc: Global, function: &str) -> Result<bool, Fail> {
+    let left = ran_without_files(alloc, &["udp", "XOR", function])?;
+    let report = left.desk.written(OutSlot::Report);
+    let colons = report.iter().filter(|byte| **byte == b':').count();
+    Ok(left.status == Status::Done && colons == 1024)
+}
+
+/// Whether words have no reading.
+fn is_usage(alloc: Global, words: &[&str]) -> Result<bool, Fail> {
+    let left = ran_without_files(alloc, words)?;
+    Ok(left.is(Status::Usage, "", "lib2sim: usage\n"))
 }
 
 #[test]
 fn ten_names_are_read_and_eleven_are_not(rt: HostRuntime) -> Result<(), Fail> {
-    let alloc = rt.alloc();
-    let mut ten = desk(alloc, &["udp", "XOR", "A^B^C^D^E^F^G^H^I^J"], 100000)?;
-    assert_eq!(rt; run(alloc, &mut ten), Status::Done);
-    let colons = ten
-        .written(OutSlot::Report)
-        .iter()
-        .filter(|byte| **byte == b':')
-        .count();
-    assert_eq!(rt; colons, 1024);
-    let mut eleven = desk(alloc, &["udp", "XOR", "A^B^C^D^E^F^G^H^I^J^K"], 100000)?;
-    assert_eq!(rt; run(alloc, &mut eleven), Status::Usage);
+    assert!(rt; has_all_rows(rt.alloc(), "A^B^C^D^E^F^G^H^I^J")?);
+    assert!(rt; is_usage(rt.alloc(), &["udp", "XOR", "A^B^C^D^E^F^G^H^I^J^K"])?);
     Ok(())
+}
+
+/// Whether a function of 4,097 bytes has no reading.
+fn is_too_long(alloc: Global) -> Result<bool, Fail> {
+    let mut function = String::new(alloc);
+    for _ in 0..2048 {
+        function.push_str("A*")?;
+    }
+    function.push_str("A")?;
+    is_usage(alloc, &["udp", "AND2", function.as_str()])
 }
 
 #[test]
 fn words_without_a_reading_are_usage(rt: HostRuntime) -> Result<(), Fail> {
-    let alloc = rt.alloc();
-    let mut long = String::new(alloc);
-    for _ in 0..2048 {
-        long.push_str("A*")?;
-    }
-    long.push_str("A")?;
-    for texts in [
-        ["udp", "", "A"],
-        ["udp", "endmodule", "A"],
-        ["udp", "lib_a", "A"],
-        ["udp", "cell5", "A"],
-        ["udp", "AND2", long.as_str()],
-        ["udp", "AND2", "1"],
-        ["udp", "AND2", "A*"],
-        ["translated", "AND2", "A"],
-    ] {
-        let mut desk = desk(alloc, &texts, 100)?;
-        assert_eq!(rt; run(alloc, &mut desk), Status::Usage);
-        assert_eq!(rt; desk.written(OutSlot::Report), b"".as_slice());
-        assert_eq!(rt; desk.written(OutSlot::Faults), USAGE.as_bytes());
-    }
+    assert!(rt; is_usage(rt.alloc(), &["udp", "", "A"])?);
+    assert!(rt; is_usage(rt.alloc(), &["udp", "endmodule", "A"])?);
+    assert!(rt; is_usage(rt.alloc(), &["udp", "lib_a", "A"])?);
+    assert!(rt; is_usage(rt.alloc(), &["udp", "cell5", "A"])?);
+    assert!(rt; is_usage(rt.alloc(), &["udp", "AND2", "1"])?);
+    assert!(rt; is_usage(rt.alloc(), &["udp", "AND2", "A*"])?);
+    assert!(rt; is_usage(rt.alloc(), &["translated", "AND2", "A"])?);
+    assert!(rt; is_too_long(rt.alloc())?);
     Ok(())
 }
 
-#[test]
-fn a_full_slot_ends_the_run(rt: HostRuntime) -> Result<(), Fail> {
-    let alloc = rt.alloc();
-    let mut desk = desk(alloc, &["udp", "AND2", "A*B"], 10)?;
+/// Whether a run that fills the room of the report ends with what there was room for.
+fn ends_where_it_is_full(alloc: Global) -> Result<bool, Fail> {
+    let words = ["udp", "AND2", "A*B"];
+    let mut desk = desk_of(alloc, &words, library_alone(b""), &[], 10, usize::MAX)?;
     let status = run(alloc, &mut desk);
-    assert_eq!(rt; status, Status::Outside);
-    assert_eq!(rt; status.code(), 7);
-    assert_eq!(rt; desk.written(OutSlot::Report), b"primitive ".as_slice());
-    Ok(())
+    let report = desk.written(OutSlot::Report);
+    Ok(status.code() == 7 && report == b"primitive ".as_slice())
+}
+
+/// Whether a run over a desk on which no call fails is done.
+fn is_done_for_sure(alloc: Global) -> Result<bool, Fail> {
+    let words = words_of(alloc, &["udp", "AND2", "A*B"])?;
+    let mut desk = SureDesk::new(words, Vec::new(alloc)).ok_or("the plan has no files")?;
+    Ok(run_sure(alloc, &mut desk) == Status::Done)
 }
 
 #[test]
-fn a_sure_desk_ends_well(rt: HostRuntime) -> Result<(), Fail> {
-    let alloc = rt.alloc();
-    let words = words(alloc, &["udp", "AND2", "A*B"])?;
-    let mut desk = SureDesk::new(words, Vec::new(alloc)).ok_or("the plan has no files")?;
-    assert_eq!(rt; run_sure(alloc, &mut desk), Status::Done);
+fn desks_that_are_full_or_sure(rt: HostRuntime) -> Result<(), Fail> {
+    assert!(rt; ends_where_it_is_full(rt.alloc())?);
+    assert!(rt; is_done_for_sure(rt.alloc())?);
     Ok(())
 }

@@ -1,4 +1,4 @@
-//! Libraries that are simulated.
+//! Libraries that are translated and simulated.
 
 /// An inverter, a cell that is refused, and a multiplexer.
 pub(crate) const INVERTER: &str = "library (L) {

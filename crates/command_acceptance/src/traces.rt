@@ -1,5 +1,6 @@
 //! Sections that are run on a cell, its module and its entity.
-use crate::four_files::{simulated, simulated_beside_its_own, translated};
+use crate::desks::{Files, simulated, simulated_beside_its_own, translated};
+use crate::inverter::START;
 use crate::libraries::{
     CLOCK_GATE, FLIP_FLOP, GUARDED_FLIP_FLOP, INVERTER, LATCH, OTHER_FLIP_FLOP, TIMED_FLIP_FLOP,
 };
@@ -138,34 +139,40 @@ fn report_of(alloc: Global, section: &Section) -> Result<String, Fail> {
     Ok(text)
 }
 
+/// Whether the cell of a section and its models show what the section says.
+fn shows(alloc: Global, section: &Section) -> Result<bool, Fail> {
+    let stimulus = stimulus_of(alloc, section)?;
+    let report = report_of(alloc, section)?;
+    let left = simulated_beside_its_own(alloc, section.library, stimulus.as_str())?;
+    Ok(left.is(Status::Done, report.as_str(), ""))
+}
+
+/// Whether that holds of each section.
+fn all_show(alloc: Global) -> Result<bool, Fail> {
+    for section in SECTIONS.iter() {
+        if !shows(alloc, section)? {
+            return Ok(false);
+        }
+    }
+    Ok(true)
+}
+
+/// Whether a stimulus of the inverter is done with this report.
+fn reports(alloc: Global, stimulus: &str, report: &str) -> Result<bool, Fail> {
+    let left = simulated_beside_its_own(alloc, INVERTER, stimulus)?;
+    Ok(left.is(Status::Done, report, ""))
+}
+
 #[test]
 fn a_cell_and_its_models_show_the_same(rt: HostRuntime) -> Result<(), Fail> {
-    let alloc = rt.alloc();
-    for section in SECTIONS.iter() {
-        let stimulus = stimulus_of(alloc, section)?;
-        let report = report_of(alloc, section)?;
-        let left = simulated_beside_its_own(alloc, section.library, stimulus.as_str())?;
-        assert!(rt; left.is(Status::Done, report.as_bytes(), ""));
-    }
+    assert!(rt; all_show(rt.alloc())?);
+    assert!(rt; reports(rt.alloc(), "cell INV", START)?);
+    assert!(rt; reports(rt.alloc(), "", "")?);
     Ok(())
 }
 
-#[test]
-fn a_section_without_changes_shows_the_start(rt: HostRuntime) -> Result<(), Fail> {
-    let alloc = rt.alloc();
-    let report = b"cell INV\nL start : Y=x\nV start : Y=x\nH start : Y=x\nequal\n";
-    let left = simulated_beside_its_own(alloc, INVERTER, "cell INV")?;
-    assert!(rt; left.is(Status::Done, report, ""));
-    let left = simulated_beside_its_own(alloc, INVERTER, "")?;
-    assert!(rt; left.is(Status::Done, b"", ""));
-    Ok(())
-}
-
-#[test]
-fn the_first_difference_is_told(rt: HostRuntime) -> Result<(), Fail> {
-    let alloc = rt.alloc();
-    let stimulus = "cell DFF\n10 D 1\n20 CK 0\n30 CK 1\n";
-    let report = b"cell DFF
+/// The report of a flip-flop whose module takes the other value at the third change.
+const DIFFERENCE: &str = "cell DFF
 L start : Q=x
 V start : Q=x
 H start : Q=x
@@ -180,15 +187,22 @@ V 30 CK 1 : Q=0@0
 H 30 CK 1 : Q=1@0
 differs at change 3
 ";
+
+/// Whether that is what the flip-flop comes to beside this module and its own entity.
+fn differs(alloc: Global, module: &str, stimulus: &str) -> Result<bool, Fail> {
     let models = translated(alloc, FLIP_FLOP)?;
-    let vital = models.desk.written(OutSlot::VitalText);
-    let left = simulated(
-        alloc,
-        FLIP_FLOP,
-        OTHER_FLIP_FLOP.as_bytes(),
-        vital,
-        stimulus,
-    )?;
-    assert!(rt; left.is(Status::Differ, report, ""));
+    let files = Files {
+        library: FLIP_FLOP.as_bytes(),
+        verilog: module.as_bytes(),
+        vital: models.desk.written(OutSlot::VitalText),
+        stimulus: stimulus.as_bytes(),
+    };
+    Ok(simulated(alloc, files)?.is(Status::Differ, DIFFERENCE, ""))
+}
+
+#[test]
+fn the_first_difference_is_told(rt: HostRuntime) -> Result<(), Fail> {
+    let stimulus = "cell DFF\n10 D 1\n20 CK 0\n30 CK 1\n";
+    assert!(rt; differs(rt.alloc(), OTHER_FLIP_FLOP, stimulus)?);
     Ok(())
 }

@@ -1,0 +1,173 @@
+//! Runs of commands over desks in memory, and what is left on them.
+use std::alloc::{AllocError, Global};
+use std::test::Fail;
+use text_io::{MemoryDesk, NamedFile, OutSlot};
+use translate_cmd::{Status, run};
+
+/// Words that translate the library.
+pub(crate) const TRANSLATE: [&str; 4] = ["translate", "in.lib", "out.v", "out.vhd"];
+
+/// Words that simulate the library beside both files of models.
+pub(crate) const SIMULATE: [&str; 5] = ["simulate", "in.lib", "in.v", "in.vhd", "in.stim"];
+
+/// Words that replay the Verilog file.
+pub(crate) const REPLAY_VERILOG: [&str; 3] = ["replay-verilog", "in.v", "in.stim"];
+
+/// Words that replay the VHDL file.
+pub(crate) const REPLAY_VITAL: [&str; 3] = ["replay-vital", "in.vhd", "in.stim"];
+
+/// The bytes of the files that those words name.
+#[derive(Copy, Clone)]
+pub(crate) struct Files<'a> {
+    pub library: &'a [u8],
+    pub verilog: &'a [u8],
+    pub vital: &'a [u8],
+    pub stimulus: &'a [u8],
+}
+
+/// A library and no other file.
+pub(crate) fn library_alone(library: &[u8]) -> Files<'_> {
+    Files {
+        library,
+        verilog: b"",
+        vital: b"",
+        stimulus: b"",
+    }
+}
+
+/// The words of a desk.
+pub(crate) fn words_of(alloc: Global, texts: &[&str]) -> Result<Vec<String>, AllocError> {
+    let mut words = Vec::new(alloc);
+    for text in texts {
+        words.push(String::from_str(alloc, text)?)?;
+    }
+    Ok(words)
+}
+
+/// A file with this name and these bytes.
+fn named_file(alloc: Global, name: &str, bytes: &[u8]) -> Result<NamedFile, AllocError> {
+    Ok(NamedFile {
+        name: String::from_str(alloc, name)?,
+        bytes: Vec::from_slice(alloc, bytes)?,
+    })
+}
+
+/// The folder of a desk.
+fn folder_of(alloc: Global, files: Files<'_>) -> Result<Vec<NamedFile>, AllocError> {
+    let mut folder = Vec::new(alloc);
+    folder.push(named_file(alloc, "in.lib", files.library)?)?;
+    folder.push(named_file(alloc, "in.v", files.verilog)?)?;
+    folder.push(named_file(alloc, "in.vhd", files.vital)?)?;
+    folder.push(named_file(alloc, "in.stim", files.stimulus)?)?;
+    Ok(folder)
+}
+
+/// A desk with these words and files and this room in each output, in bytes, at which the calls with these numbers fail and a call
+/// moves at most `piece` bytes.
+pub(crate) fn desk_of(
+    alloc: Global,
+    words: &[&str],
+    files: Files<'_>,
+    failing: &[u64],
+    room: usize,
+    piece: usize,
+) -> Result<MemoryDesk, Fail> {
+    let words = words_of(alloc, words)?;
+    let folder = folder_of(alloc, files)?;
+    let failing = Vec::from_slice(alloc, failing)?;
+    Ok(MemoryDesk::in_pieces(alloc, words, folder, failing, room, piece.max(1))?)
+}
+
+/// What a run left: its status, and the desk.
+#[derive(Drop)]
+pub(crate) struct Left {
+    pub status: Status,
+    pub desk: MemoryDesk,
+}
+
+impl Left {
+    /// Whether the run ended with this status, this report and these faults.
+    pub(crate) fn is(&self, status: Status, report: &str, faults: &str) -> bool {
+        self.status == status
+            && self.desk.written(OutSlot::Report) == report.as_bytes()
+            && self.desk.written(OutSlot::Faults) == faults.as_bytes()
+    }
+
+    /// Whether the run ended with this status, this report, and faults that begin so.
+    pub(crate) fn begins(&self, status: Status, report: &str, faults: &str) -> bool {
+        self.status == status
+            && self.desk.written(OutSlot::Report) == report.as_bytes()
+            && self
+                .desk
+                .written(OutSlot::Faults)
+                .starts_with(faults.as_bytes())
+    }
+
+    /// Whether a slot has these two texts, one behind the other.
+    pub(crate) fn wrote(&self, slot: OutSlot, first: &str, second: &str) -> bool {
+        let written = self.desk.written(slot);
+        match written.get(first.len()..) {
+            Some(rest) => written.starts_with(first.as_bytes()) && rest == second.as_bytes(),
+            None => false,
+        }
+    }
+
+    /// Whether a slot has a front of these two texts.
+    pub(crate) fn wrote_front(&self, slot: OutSlot, first: &str, second: &str) -> bool {
+        let written = self.desk.written(slot);
+        match written.get(first.len()..) {
+            Some(rest) => {
+                written.starts_with(first.as_bytes()) && second.as_bytes().starts_with(rest)
+            }
+            None => first.as_bytes().starts_with(written),
+        }
+    }
+}
+
+/// The room of an output, in bytes.
+const ROOM: usize = 100_000;
+
+/// Runs these words over these files, on a desk at which the calls with these numbers fail and a call moves at most `piece` bytes.
+pub(crate) fn ran(
+    alloc: Global,
+    words: &[&str],
+    files: Files<'_>,
+    failing: &[u64],
+    piece: usize,
+) -> Result<Left, Fail> {
+    let mut desk = desk_of(alloc, words, files, failing, ROOM, piece)?;
+    let status = run(alloc, &mut desk);
+    Ok(Left { status, desk })
+}
+
+/// Translates a library.
+pub(crate) fn translated(alloc: Global, library: &str) -> Result<Left, Fail> {
+    let files = library_alone(library.as_bytes());
+    ran(alloc, &TRANSLATE, files, &[], usize::MAX)
+}
+
+/// Runs words that name no file, on a desk at which no call fails.
+pub(crate) fn ran_without_files(alloc: Global, words: &[&str]) -> Result<Left, Fail> {
+    ran(alloc, words, library_alone(b""), &[], usize::MAX)
+}
+
+/// Simulates these files.
+pub(crate) fn simulated(alloc: Global, files: Files<'_>) -> Result<Left, Fail> {
+    ran(alloc, &SIMULATE, files, &[], usize::MAX)
+}
+
+/// Simulates a library beside its own models.
+pub(crate) fn simulated_beside_its_own(
+    alloc: Global,
+    library: &str,
+    stimulus: &str,
+) -> Result<Left, Fail> {
+    let models = translated(alloc, library)?;
+    let files = Files {
+        library: library.as_bytes(),
+        verilog: models.desk.written(OutSlot::VerilogText),
+        vital: models.desk.written(OutSlot::VitalText),
+        stimulus: stimulus.as_bytes(),
+    };
+    simulated(alloc, files)
+}

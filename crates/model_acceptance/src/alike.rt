@@ -4,12 +4,12 @@ ghost use Rattle.specify_blocks.specs.Sound.{IsSound as IsSoundModule};
 ghost use Rattle.vital_models.specs.Sound.{IsSound as IsSoundEntity};
 
 use crate::changes::{are_proper, changes_of};
+use crate::lines::{Row, has_trace};
 use bool_functions::Names;
 use cell_machine::{Cell, CellSim, Change, LibertySim};
 use cell_reader::{ReadCell, read_cell};
 use liberty_groups::read_library;
 use liberty_text::Unit;
-use machine_acceptance::{Row, has_trace};
 use section_runs::first_difference;
 use specify_blocks::{VModule, verilog_model};
 use std::alloc::Global;
@@ -93,32 +93,16 @@ fn entity_as_cell(
     shows_the_same(liberty, vital, changes)
 }
 
-/// Wants a module and an entity to show the same at these changes.
-fn module_as_entity(
-    alloc: Global,
-    model: &VModule,
-    entity: &VEntity,
-    changes: &[Change],
-) -> Result<(), Fail>
-    requires model { IsSoundModule model.now }
-    requires entity { IsSoundEntity entity.now }
-{
-    let verilog = VerilogSim::start(alloc, model)?;
-    let vital = VitalSim::start(alloc, entity)?;
-    shows_the_same(verilog, vital, changes)
-}
-
-/// Wants the module and the entity of a cell to show the same as it and as each other at these changes.
+/// Wants the module and the entity of a cell to show the same as it at these changes.
 fn models_as_cell(alloc: Global, cell: &Cell, changes: &[Change]) -> Result<(), Fail> {
     let model = sound_module(alloc, cell)?;
     let entity = sound_entity(alloc, cell)?;
     module_as_cell(alloc, cell, &model, changes)?;
-    entity_as_cell(alloc, cell, &entity, changes)?;
-    module_as_entity(alloc, &model, &entity, changes)
+    entity_as_cell(alloc, cell, &entity, changes)
 }
 
 /// Wants the first cell of a library in picoseconds to show this line before any change and then the lines of these rows, as
-/// they are printed, and its module and its entity to show the same as it and as each other.
+/// they are printed, and its module and its entity to show the same.
 pub fn run_alike(alloc: Global, library: &str, start: &str, rows: &[Row]) -> Result<(), Fail> {
     let read = first_cell(alloc, library)?;
     has_trace(alloc, &read.cell, start, rows)?;

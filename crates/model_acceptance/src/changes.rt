@@ -2,8 +2,8 @@
 ghost use Rattle.std.specs.Prelude.{[], IsTrue};
 ghost use Rattle.cell_machine.specs.History.{IsProperFrom};
 
+use crate::lines::Row;
 use cell_machine::Change;
-use machine_acceptance::Row;
 use std::alloc::{AllocError, Global};
 
 /// The changes of these rows.

@@ -1,6 +1,6 @@
 //! Flip-flops and their models: what they take at an edge, their clears and presets.
 use crate::alike::run_alike;
-use machine_acceptance::rows::{DATA_AT_A_RISE, EQUAL_SCAN_DATA};
+use crate::rows::{DATA_AT_A_RISE, EQUAL_SCAN_DATA};
 use std::test::Fail;
 use trit_cubes::Trit::{One, Unknown, Zero};
 

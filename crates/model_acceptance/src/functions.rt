@@ -1,6 +1,6 @@
 //! Cells without a state and their models.
 use crate::alike::run_alike;
-use machine_acceptance::rows::EQUAL_DATA;
+use crate::rows::EQUAL_DATA;
 use std::test::Fail;
 
 /// A cell with no input, whose output is always 1.

@@ -1,6 +1,6 @@
 //! Latches and their models.
 use crate::alike::run_alike;
-use machine_acceptance::rows::NARROW_PULSE;
+use crate::rows::NARROW_PULSE;
 use std::test::Fail;
 use trit_cubes::Trit::{One, Unknown, Zero};
 

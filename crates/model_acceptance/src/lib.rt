@@ -13,6 +13,10 @@ mod functions;
 #[cfg(test)]
 mod latches;
 #[cfg(test)]
+mod lines;
+#[cfg(test)]
+mod rows;
+#[cfg(test)]
 mod scan_flip_flops;
 #[cfg(test)]
 mod tables;

@@ -1,6 +1,6 @@
 //! Cells with a state table and their models.
 use crate::alike::run_alike;
-use machine_acceptance::rows::{KEPT_ENABLE, TURNS_AT_A_RISE};
+use crate::rows::{KEPT_ENABLE, TURNS_AT_A_RISE};
 use std::test::Fail;
 use trit_cubes::Trit::{One, Unknown, Zero};
 

@@ -5,7 +5,7 @@ ghost use Rattle.cell_machine.specs.declared.changes.Change.{Change as ChangeOf}
 ghost use Rattle.cell_machine.specs.CellData.{data_of};
 ghost use Rattle.cell_machine.specs.CellTrace.{cell_machine_of};
 ghost use Rattle.stimulus.specs.TraceLine.{line_text};
-ghost use Rattle.machine_acceptance.specs.TraceRows.{input_names, output_names, HasTrace};
+ghost use Rattle.model_acceptance.specs.TraceRows.{input_names, output_names, HasTrace};
 
 use bool_functions::Names;
 use cell_machine::{Cell, CellSim, Change, Direction, LibertySim, Pin};

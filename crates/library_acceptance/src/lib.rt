@@ -1,4 +1,5 @@
-//! Liberty texts whose cells are read or refused, with answers that were worked out by hand; no product code.
+//! Liberty texts whose cells are read, refused or compared with their test cells, with answers that were worked out by hand; no
+//! product code.
 #![tactic(auto)]
 
 #[cfg(test)]
@@ -9,3 +10,5 @@ mod libraries;
 mod limits;
 #[cfg(test)]
 mod refusals;
+#[cfg(test)]
+mod scan_flip_flops;

@@ -4,7 +4,6 @@ use cell_reader::{CellFault, ReadCell, read_cell};
 use liberty_groups::{Group, read_library};
 use liberty_text::Unit;
 use std::alloc::Global;
-use std::process::Abort;
 use std::test::Fail;
 
 /// What is read of a cell: the cell, or the number and the offset of its refusal.
@@ -51,37 +50,38 @@ fn unmarked(alloc: Global, text: &str) -> Result<(String, usize), Fail> {
     Ok((format!(in alloc; "{before}{after}")?, before.len()))
 }
 
-/// Wants the last cell of a library with these statements to be refused by this number at the mark `@`.
+/// Whether the last cell of a library with these statements is refused by this number at the mark `@`.
 pub fn refuses_with(
-    rt: &impl Abort,
     alloc: Global,
     unit: Option<Unit>,
     number: u8,
     statements: &str,
-) -> Result<(), Fail> {
+) -> Result<bool, Fail> {
     let marked = format!(in alloc; "library (L) {{ {statements} }}")?;
     let (text, at) = unmarked(alloc, marked.as_str())?;
-    match last_answer(alloc, text.as_bytes(), unit)? {
-        Ok(_) => assert!(rt; false, "accepted: {statements}"),
-        Err(refusal) => assert_eq!(rt; refusal, (number, at), "{statements}"),
-    }
-    Ok(())
+    Ok(match last_answer(alloc, text.as_bytes(), unit)? {
+        Ok(_) => false,
+        Err(refusal) => refusal == (number, at),
+    })
 }
 
-/// The same of each of several libraries in picoseconds.
-pub fn refuses(rt: &impl Abort, alloc: Global, number: u8, libraries: &[&str]) -> Result<(), Fail> {
+/// Whether the last cell of each of these libraries in picoseconds is refused so.
+pub fn refuses(alloc: Global, number: u8, libraries: &[&str]) -> Result<bool, Fail> {
     for statements in libraries {
-        refuses_with(rt, alloc, Some(Unit::Ps1), number, statements)?;
+        if !refuses_with(alloc, Some(Unit::Ps1), number, statements)? {
+            return Ok(false);
+        }
     }
-    Ok(())
+    Ok(true)
 }
 
-/// Wants the last cell of each library in picoseconds to be accepted.
-pub fn accepts(rt: &impl Abort, alloc: Global, libraries: &[&str]) -> Result<(), Fail> {
+/// Whether the last cell of each of these libraries in picoseconds is accepted.
+pub fn accepts(alloc: Global, libraries: &[&str]) -> Result<bool, Fail> {
     for statements in libraries {
         let text = format!(in alloc; "library (L) {{ {statements} }}")?;
-        let answer = last_answer(alloc, text.as_bytes(), Some(Unit::Ps1))?;
-        assert!(rt; answer.is_ok(), "{statements}");
+        if last_answer(alloc, text.as_bytes(), Some(Unit::Ps1))?.is_err() {
+            return Ok(false);
+        }
     }
-    Ok(())
+    Ok(true)
 }

@@ -1,7 +1,6 @@
 //! Which cells are refused, by which number and where. The mark `@` stands at the offset of the refusal.
 use crate::liberty::{accepts, refuses, refuses_with};
 use liberty_text::Unit;
-use std::alloc::Global;
 use std::test::Fail;
 
 /// The direction of a pin is absent or none of the three.
@@ -140,22 +139,22 @@ const WITHOUT_UNIT: &str =
 
 #[test]
 fn refused_cells(rt: HostRuntime) -> Result<(), Fail> {
-    let alloc = rt.alloc();
-    refuses(&rt, alloc, 1, &DIRECTION)?;
-    refuses(&rt, alloc, 2, &THREE_STATE)?;
-    refuses(&rt, alloc, 3, &BANK)?;
-    refuses(&rt, alloc, 4, &LEFT_OUT_STATE)?;
-    refuses(&rt, alloc, 5, &CLEAR_PRESET)?;
-    refuses(&rt, alloc, 6, &DUPLICATE)?;
-    refuses(&rt, alloc, 7, &MALFORMED_FUNCTION)?;
-    refuses(&rt, alloc, 7, &MALFORMED_STATE)?;
-    refuses(&rt, alloc, 8, &UNKNOWN_NAME)?;
-    refuses(&rt, alloc, 9, &COUPLED)?;
-    refuses(&rt, alloc, 10, &NO_FUNCTION)?;
-    refuses(&rt, alloc, 11, &OWN_CONDITION)?;
-    refuses(&rt, alloc, 12, &NUMBER)?;
-    refuses(&rt, alloc, 13, &LIMIT)?;
-    refuses(&rt, alloc, 1, &LEAST)?;
-    refuses_with(&rt, alloc, None, 12, WITHOUT_UNIT)?;
-    accepts(&rt, alloc, &ACCEPTED)
+    assert!(rt; refuses(rt.alloc(), 1, &DIRECTION)?);
+    assert!(rt; refuses(rt.alloc(), 2, &THREE_STATE)?);
+    assert!(rt; refuses(rt.alloc(), 3, &BANK)?);
+    assert!(rt; refuses(rt.alloc(), 4, &LEFT_OUT_STATE)?);
+    assert!(rt; refuses(rt.alloc(), 5, &CLEAR_PRESET)?);
+    assert!(rt; refuses(rt.alloc(), 6, &DUPLICATE)?);
+    assert!(rt; refuses(rt.alloc(), 7, &MALFORMED_FUNCTION)?);
+    assert!(rt; refuses(rt.alloc(), 7, &MALFORMED_STATE)?);
+    assert!(rt; refuses(rt.alloc(), 8, &UNKNOWN_NAME)?);
+    assert!(rt; refuses(rt.alloc(), 9, &COUPLED)?);
+    assert!(rt; refuses(rt.alloc(), 10, &NO_FUNCTION)?);
+    assert!(rt; refuses(rt.alloc(), 11, &OWN_CONDITION)?);
+    assert!(rt; refuses(rt.alloc(), 12, &NUMBER)?);
+    assert!(rt; refuses(rt.alloc(), 13, &LIMIT)?);
+    assert!(rt; refuses(rt.alloc(), 1, &LEAST)?);
+    assert!(rt; refuses_with(rt.alloc(), None, 12, WITHOUT_UNIT)?);
+    assert!(rt; accepts(rt.alloc(), &ACCEPTED)?);
+    Ok(())
 }

@@ -35,14 +35,14 @@ fn answer(alloc: Global, next: &str, attribute: &str) -> Result<Option<Agreement
     compared(alloc, reading.cells.get(0).ok_or("no cell")?)
 }
 
-/// Whether the two are the same.
-fn is_same(answer: &Option<Agreement>) -> bool {
-    matches!(answer, Some(Agreement::Same))
+/// Whether the two are the same for a test cell with this next state and this attribute.
+fn is_same(alloc: Global, next: &str, attribute: &str) -> Result<bool, Fail> {
+    Ok(matches!(answer(alloc, next, attribute)?, Some(Agreement::Same)))
 }
 
 /// Whether the first difference is one of the first group, from state 0, between these points.
-fn differs_at(answer: &Option<Agreement>, from: u32, to: u32) -> bool {
-    match answer {
+fn differs_at(alloc: Global, next: &str, from: u32, to: u32) -> Result<bool, Fail> {
+    Ok(match answer(alloc, next, ENABLE)? {
         Some(
             Agreement::Differs {
                 part,
@@ -51,35 +51,27 @@ fn differs_at(answer: &Option<Agreement>, from: u32, to: u32) -> bool {
                 state,
                 ..
             },
-        ) => *part == 1 && *before == from && *after == to && !*state,
+        ) => part == 1 && before == from && after == to && !state,
         _ => false,
-    }
+    })
 }
 
-#[test]
-fn a_plain_flip_flop_is_the_same(rt: HostRuntime) -> Result<(), Fail> {
-    let found = answer(rt.alloc(), "D", "signal_type : test_scan_enable;")?;
-    assert!(rt; is_same(&found));
-    Ok(())
+/// Whether a test cell without a scan enable gives no view.
+fn has_no_view(alloc: Global) -> Result<bool, Fail> {
+    Ok(answer(alloc, "D", "")?.is_none())
 }
 
-#[test]
-fn an_inverted_one_differs_at_a_rise_of_the_clock(rt: HostRuntime) -> Result<(), Fail> {
-    let found = answer(rt.alloc(), "!D", "signal_type : test_scan_enable;")?;
-    assert!(rt; differs_at(&found, 16, 24));
-    Ok(())
-}
+/// The attribute of a scan enable that is active at 1.
+const ENABLE: &str = "signal_type : test_scan_enable;";
+
+/// The attribute of a scan enable that is active at 0.
+const INVERTED: &str = "signal_type : test_scan_enable_inverted;";
 
 #[test]
-fn a_scan_cell_whose_enable_is_active_at_0_is_another_one(rt: HostRuntime) -> Result<(), Fail> {
-    let found = answer(rt.alloc(), "SI", "signal_type : test_scan_enable_inverted;")?;
-    assert!(rt; is_same(&found));
-    Ok(())
-}
-
-#[test]
-fn without_an_enable_there_is_no_view(rt: HostRuntime) -> Result<(), Fail> {
-    let found = answer(rt.alloc(), "D", "")?;
-    assert!(rt; found.is_none());
+fn scan_flip_flops_beside_their_test_cells(rt: HostRuntime) -> Result<(), Fail> {
+    assert!(rt; is_same(rt.alloc(), "D", ENABLE)?);
+    assert!(rt; differs_at(rt.alloc(), "!D", 16, 24)?);
+    assert!(rt; is_same(rt.alloc(), "SI", INVERTED)?);
+    assert!(rt; has_no_view(rt.alloc())?);
     Ok(())
 }

@@ -62,28 +62,33 @@ fn copy<D: Desk>(alloc: Global, desk: &mut D) -> Result<(Vec<u8>, bool, bool), R
     Ok((taken.bytes, taken.more, failed))
 }
 
-#[test]
-fn real_files_are_read_and_written(rt: HostRuntime) -> Result<(), Fail> {
-    let alloc = rt.alloc();
-    let mut desk = FileDesk::new(rt.clone()?, words(alloc)?);
+/// Whether real files are read and written, without end and without room.
+fn copies_without_end(rt: &HostRuntime) -> Result<bool, Fail> {
+    let mut desk = FileDesk::new(rt.clone()?, words(rt.alloc())?);
     bind(&mut desk)?;
-    let (bytes, more, failed) = copy(alloc, &mut desk)?;
-    assert!(rt; bytes.as_slice() == [0, 0, 0, 0].as_slice());
-    assert!(rt; more);
-    assert!(rt; failed);
-    Ok(())
+    let (bytes, more, failed) = copy(rt.alloc(), &mut desk)?;
+    Ok(bytes.as_slice() == [0, 0, 0, 0].as_slice() && more && failed)
+}
+
+/// Whether a desk refuses to empty the file that it reads.
+fn refuses_own_file(rt: &HostRuntime) -> Result<bool, Fail> {
+    let mut desk = FileDesk::new(rt.clone()?, words_of_one_file(rt.alloc())?);
+    Ok(bind(&mut desk).is_err())
+}
+
+/// Whether a file that is read is kept.
+fn keeps_own_file(rt: &HostRuntime) -> Result<bool, Fail> {
+    fs::write(rt, "one.lib", "library")?;
+    let refused = refuses_own_file(rt)?;
+    let kept = fs::read_to_string(rt, "one.lib")?;
+    fs::remove_file(rt, "one.lib")?;
+    Ok(refused && kept.as_str() == "library")
 }
 
 #[test]
-fn a_file_that_is_read_is_not_emptied(rt: HostRuntime) -> Result<(), Fail> {
-    let alloc = rt.alloc();
-    fs::write(&rt, "one.lib", "library")?;
-    let mut desk = FileDesk::new(rt.clone()?, words_of_one_file(alloc)?);
-    let failed = bind(&mut desk).is_err();
-    let kept = fs::read_to_string(&rt, "one.lib")?;
-    fs::remove_file(&rt, "one.lib")?;
-    assert!(rt; failed);
-    assert!(rt; kept.as_str() == "library");
+fn real_files_are_read_and_written(rt: HostRuntime) -> Result<(), Fail> {
+    assert!(rt; copies_without_end(&rt)?);
+    assert!(rt; keeps_own_file(&rt)?);
     Ok(())
 }
 
@@ -103,17 +108,23 @@ fn folder(alloc: Global) -> Result<Vec<NamedFile>, AllocError> {
     Ok(folder)
 }
 
-#[test]
-fn files_in_memory_are_read_and_written_in_pieces(rt: HostRuntime) -> Result<(), Fail> {
-    let alloc = rt.alloc();
+/// Whether a file in memory is read and written in pieces, up to the room of its output.
+fn copies_in_pieces(alloc: Global) -> Result<bool, Fail> {
     let folder = folder(alloc)?;
     let mut desk = MemoryDesk::in_pieces(alloc, words(alloc)?, folder, Vec::new(alloc), 3, 2)?;
     bind(&mut desk)?;
     let (bytes, more, failed) = copy(alloc, &mut desk)?;
-    assert!(rt; bytes.as_slice() == b"abcd".as_slice());
-    assert!(rt; more);
-    assert!(rt; failed);
-    assert!(rt; desk.written(OutSlot::VerilogText) == b"abc".as_slice());
-    assert!(rt; desk.faults() == 1);
+    Ok(
+        bytes.as_slice() == b"abcd".as_slice()
+            && more
+            && failed
+            && desk.written(OutSlot::VerilogText) == b"abc".as_slice()
+            && desk.faults() == 1,
+    )
+}
+
+#[test]
+fn files_in_memory_are_read_and_written_in_pieces(rt: HostRuntime) -> Result<(), Fail> {
+    assert!(rt; copies_in_pieces(rt.alloc())?);
     Ok(())
 }

@@ -80,14 +80,18 @@ fn is_too_long(alloc: Global, text: &[u8], names: &Names) -> bool {
     )
 }
 
+/// Whether a text of one name, one byte longer than a text may be, is refused for its length.
+fn refuses_long_text(alloc: Global, names: &Names) -> Result<bool, Fail> {
+    let long = vec![in alloc; b'A'; MAX_LEN + 1]?;
+    Ok(is_too_long(alloc, &long, names))
+}
+
 #[test]
 fn finds_other_faults(rt: HostRuntime) -> Result<(), Fail> {
     let alloc = rt.alloc();
     let names = two_names(alloc)?;
     assert!(rt; is_unknown(alloc, b"A*C", &names, 2));
-    assert!(rt; read_function(alloc, b"A*B", &names).is_ok());
-    let long = vec![in alloc; b'A'; MAX_LEN + 1]?;
-    assert!(rt; is_too_long(alloc, &long, &names));
+    assert!(rt; refuses_long_text(alloc, &names)?);
     Ok(())
 }
 
@@ -97,16 +101,27 @@ fn has_one_name(alloc: Global, text: &[u8]) -> Result<bool, FunctionFault> {
     Ok(function.support(alloc)?.len() == 1)
 }
 
+/// Whether a name behind so many signs of inversion is read.
+fn reads_inversions(alloc: Global, count: usize) -> Result<bool, Fail> {
+    let mut text = vec![in alloc; b'!'; count]?;
+    text.push(b'A')?;
+    Ok(has_one_name(alloc, &text)?)
+}
+
+/// Whether a name within so many brackets is read.
+fn reads_brackets(alloc: Global, count: usize) -> Result<bool, Fail> {
+    let mut text = vec![in alloc; b'('; count]?;
+    text.push(b'A')?;
+    for _ in 0..count {
+        text.push(b')')?;
+    }
+    Ok(reads_as(alloc, &text, b"A"))
+}
+
 #[test]
 fn reads_deep_texts(rt: HostRuntime) -> Result<(), Fail> {
-    let alloc = rt.alloc();
-    let mut inverted = vec![in alloc; b'!'; 4095]?;
-    inverted.push(b'A')?;
-    assert!(rt; has_one_name(alloc, &inverted)?);
-    let mut nested = vec![in alloc; b'('; 2047]?;
-    nested.push(b'A')?;
-    nested.resize(4095, b')')?;
-    assert!(rt; reads_as(alloc, &nested, b"A"));
+    assert!(rt; reads_inversions(rt.alloc(), 4095)?);
+    assert!(rt; reads_brackets(rt.alloc(), 2047)?);
     Ok(())
 }
 
@@ -121,33 +136,49 @@ fn read_two(alloc: Global, text: &[u8]) -> Result<(Function, Names), Fail>
     Ok((function, names))
 }
 
+/// Whether a function of two names has these values, where the first name's value changes first.
+fn has_table(alloc: Global, text: &[u8], wanted: &[bool]) -> Result<bool, Fail> {
+    let (function, _names) = read_two(alloc, text)?;
+    let table = function.table(alloc, &[0, 1])?;
+    Ok(table.as_slice() == wanted)
+}
+
+/// Whether the names of a function of two names have these numbers.
+fn are_numbered(alloc: Global, text: &[u8], first: &[u8], second: &[u8]) -> Result<bool, Fail> {
+    let (function, names) = read_two(alloc, text)?;
+    Ok(
+        names.number(first) == Some(0)
+            && names.number(second) == Some(1)
+            && function.has(1)
+            && !function.has(2),
+    )
+}
+
+/// Whether a name has no number in a function of two names.
+fn has_no_number(alloc: Global, text: &[u8], name: &[u8]) -> Result<bool, Fail> {
+    let (_function, names) = read_two(alloc, text)?;
+    Ok(names.number(name).is_none())
+}
+
+/// Whether a function of two names has other names where they are changed.
+fn is_renamed(alloc: Global, text: &[u8]) -> Result<bool, Fail> {
+    let (function, _names) = read_two(alloc, text)?;
+    let other = function.renamed(alloc, &[5, 3])?;
+    Ok(other.support(alloc)?.as_slice() == [3, 5].as_slice() && !other.same(&function))
+}
+
+/// Whether a function of two names is true where the first is, and not where the second is.
+fn has_value_of_first(alloc: Global, text: &[u8]) -> Result<bool, Fail> {
+    let (function, _names) = read_two(alloc, text)?;
+    Ok(function.value(&[true, false]) && !function.value(&[false, true]))
+}
+
 #[test]
 fn answers_with_ample_memory(rt: HostRuntime) -> Result<(), Fail> {
-    let alloc = rt.alloc();
-    let (function, names) = read_two(alloc, b"C*A+C")?;
-    assert!(rt; names.number(b"A") == Some(1));
-    assert!(rt; names.number(b"B").is_none());
-    assert!(rt; function.has(1));
-    assert!(rt; !function.has(2));
-    let table = function.table(alloc, &[0, 1])?;
-    assert!(rt; table.as_slice() == [false, true, false, true].as_slice());
-    Ok(())
-}
-
-#[test]
-fn names_are_changed(rt: HostRuntime) -> Result<(), Fail> {
-    let alloc = rt.alloc();
-    let (function, _names) = read_two(alloc, b"C*A+C")?;
-    let other = function.renamed(alloc, &[5, 3])?;
-    assert!(rt; other.support(alloc)?.as_slice() == [3, 5].as_slice());
-    assert!(rt; !other.same(&function));
-    Ok(())
-}
-
-#[test]
-fn values_are_those_of_the_names(rt: HostRuntime) -> Result<(), Fail> {
-    let (function, _names) = read_two(rt.alloc(), b"C*A+C")?;
-    assert!(rt; function.value(&[true, false]));
-    assert!(rt; !function.value(&[false, true]));
+    assert!(rt; are_numbered(rt.alloc(), b"C*A+C", b"C", b"A")?);
+    assert!(rt; has_no_number(rt.alloc(), b"C*A+C", b"B")?);
+    assert!(rt; has_table(rt.alloc(), b"C*A+C", &[false, true, false, true])?);
+    assert!(rt; is_renamed(rt.alloc(), b"C*A+C")?);
+    assert!(rt; has_value_of_first(rt.alloc(), b"C*A+C")?);
     Ok(())
 }

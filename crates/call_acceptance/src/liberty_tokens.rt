@@ -6,6 +6,7 @@ use liberty_text::{
 };
 use std::alloc::Global;
 
+/// A token of these places.
 fn token(kind: TokenKind, at: usize, end: usize, line_before: bool) -> Token {
     Token {
         kind,
@@ -75,6 +76,7 @@ fn the_value_of_a_text(rt: HostRuntime) {
     assert!(rt; has_value(rt.alloc(), b"a \\ \n\\\"b\\c\nd", b"a \"b\\c d"));
 }
 
+/// Whether a number in a unit is this time, in picoseconds.
 fn is_time(text: &[u8], unit: Unit, time: Option<u64>) -> bool {
     match fixed(text) {
         Ok(number) => picoseconds(number, unit) == time,

@@ -4,6 +4,7 @@ use liberty_groups::{End, Expected, LibraryFault, Reading, read_library};
 use std::alloc::Global;
 use std::test::Fail;
 
+/// Three cells, of which the second has an output that is driven or not.
 const THREE_CELLS: &[u8] = b"library (L) {
 cell (INV) { pin (A) { direction : input; } pin (Y) { direction : output; function : \"!A\"; } }
 cell (TB) { pin (A) { direction : input; } pin (Y) { direction : output; three_state : \"A\"; function : \"A\"; } }
@@ -36,15 +37,20 @@ fn is_front(alloc: Global, front: &[u8], cells: usize, is_whole: bool) -> bool {
     }
 }
 
+/// Whether each front of a library has the cells that have ended in it.
+fn is_each_front(alloc: Global, library: &[u8]) -> Result<bool, Fail> {
+    for len in 0..=library.len() {
+        let front = library.get(..len).ok_or("too short")?;
+        if !is_front(alloc, front, ended(len), len >= 316) {
+            return Ok(false);
+        }
+    }
+    Ok(true)
+}
+
 #[test]
 fn a_library_cut_at_every_length(rt: HostRuntime) -> Result<(), Fail> {
-    for len in 0..=THREE_CELLS.len() {
-        let front = THREE_CELLS.get(..len).ok_or("too short")?;
-        assert!(rt;
-            is_front(rt.alloc(), front, ended(len), len >= 316),
-            "at {len}"
-        );
-    }
+    assert!(rt; is_each_front(rt.alloc(), THREE_CELLS)?);
     Ok(())
 }
 
@@ -56,6 +62,7 @@ fn ends(alloc: Global, text: &[u8], end: End) -> bool {
     }
 }
 
+/// A fault at this offset, where something else was expected.
 fn syntax(at: usize, expected: Expected) -> End {
     End::Fault(LibraryFault::Syntax { at, expected })
 }
@@ -74,10 +81,15 @@ fn faults(rt: HostRuntime) {
     assert!(rt; ends(alloc, no_end, syntax(21, Expected::Statement)));
 }
 
+/// Whether the three cells, cut to this length, have this fault.
+fn is_cut_told(alloc: Global, len: usize, end: End) -> Result<bool, Fail> {
+    let cut = THREE_CELLS.get(..len).ok_or("too short")?;
+    Ok(ends(alloc, cut, end))
+}
+
 #[test]
 fn the_fault_of_a_cut_library(rt: HostRuntime) -> Result<(), Fail> {
-    let cut = THREE_CELLS.get(..200).ok_or("too short")?;
-    assert!(rt; ends(rt.alloc(), cut, syntax(200, Expected::Statement)));
+    assert!(rt; is_cut_told(rt.alloc(), 200, syntax(200, Expected::Statement))?);
     Ok(())
 }
 

@@ -31,24 +31,32 @@ fn one_node(alloc: Global, text: &[u8], inputs: usize) -> Result<StateTable, Tab
     read_table(alloc, text, inputs, 1)
 }
 
-#[test]
-fn clock_gate(rt: HostRuntime) -> Result<(), Fail> {
-    let text = b"L L L : - : L, L L H : - : H, L H L : - : H, L H H : - : H, H - - : - : N";
-    let table = one_node(rt.alloc(), text, 3)?;
+/// Whether the table of a clock gate opens and closes while the clock is low, and keeps its node while it is high.
+fn gates(alloc: Global, text: &[u8]) -> Result<bool, TableFault> {
+    let table = one_node(alloc, text, 3)?;
     let (idle, enabled, clocked) = ([false; 3], [false, true, false], [true, true, false]);
-    assert!(rt; table.step(0, &idle, &enabled, false) == Some(true));
-    assert!(rt; table.step(0, &enabled, &clocked, true) == Some(true));
-    assert!(rt; table.step(0, &[true, false, false], &idle, true) == Some(false));
-    Ok(())
+    Ok(
+        table.step(0, &idle, &enabled, false) == Some(true)
+            && table.step(0, &enabled, &clocked, true) == Some(true)
+            && table.step(0, &[true, false, false], &idle, true) == Some(false),
+    )
+}
+
+/// Whether the table of a toggle turns its node at a rise and keeps it at a fall.
+fn toggles(alloc: Global, text: &[u8]) -> Result<bool, TableFault> {
+    let table = one_node(alloc, text, 2)?;
+    Ok(
+        table.rows.len() == 4
+            && table.step(0, &[false, false], &[true, false], false) == Some(true)
+            && table.step(0, &[false, false], &[true, false], true) == Some(false)
+            && table.step(0, &[true, false], &[false, false], true) == Some(true),
+    )
 }
 
 #[test]
-fn toggle(rt: HostRuntime) -> Result<(), Fail> {
-    let text = b"- H : - : L, R L : L/H : H/L, ~R L : - : N";
-    let table = one_node(rt.alloc(), text, 2)?;
-    assert!(rt; table.rows.len() == 4);
-    assert!(rt; table.step(0, &[false, false], &[true, false], false) == Some(true));
-    assert!(rt; table.step(0, &[false, false], &[true, false], true) == Some(false));
-    assert!(rt; table.step(0, &[true, false], &[false, false], true) == Some(true));
+fn tables_step(rt: HostRuntime) -> Result<(), Fail> {
+    let gate = b"L L L : - : L, L L H : - : H, L H L : - : H, L H H : - : H, H - - : - : N";
+    assert!(rt; gates(rt.alloc(), gate)?);
+    assert!(rt; toggles(rt.alloc(), b"- H : - : L, R L : L/H : H/L, ~R L : - : N")?);
     Ok(())
 }

@@ -5,10 +5,8 @@
 #[cfg(test)]
 mod pin_timings;
 #[cfg(test)]
-mod primitives;
+mod port_names;
 #[cfg(test)]
 mod stimuli;
 #[cfg(test)]
 mod verilog_texts;
-#[cfg(test)]
-mod vital_tables;

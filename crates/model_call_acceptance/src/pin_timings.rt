@@ -1,18 +1,14 @@
 //! Timing as it stands in libraries. The expected numbers are worked out by hand from the texts.
 use bool_functions::Names;
-use cell_machine::{Arc, Check, CheckKind, Direction, Edge, Event, Pin};
+use cell_machine::{Check, CheckKind, Direction, Edge, Pin};
 use liberty_groups::{Group, Item, read_library};
 use liberty_text::Unit;
 use sqlite_items::Items;
 use std::alloc::{AllocError, Global};
 use timing_arcs::{PinTiming, Room, Subject, read_timing};
 
-/// The pins CK, SE and D are inputs, Q is an output. These are the numbers of some.
-const CLOCK: usize = 0;
-
+/// The number of the pin D, behind CK and SE.
 const DATA: usize = 2;
-
-const OUTPUT: usize = 3;
 
 /// Adds a pin, and its name.
 fn add_pin(
@@ -30,6 +26,7 @@ fn add_pin(
     Ok(())
 }
 
+/// The inputs CK, SE and D and the output Q, where the pin of this number is read, in nanoseconds.
 fn subject(alloc: Global, place: usize) -> Result<Subject, AllocError> {
     let mut names = Names::new(alloc);
     let mut pins = Items::new(alloc);
@@ -69,93 +66,10 @@ fn read(alloc: Global, text: &[u8], place: usize) -> Option<PinTiming> {
     read_timing(alloc, pin, &subject, room).ok()
 }
 
-type Shape = (CheckKind, Event, Event, u64);
-
-fn shape(check: &Check) -> Shape {
-    (check.kind, check.first, check.second, check.limit)
-}
-
-fn event(pin: usize, edge: Edge) -> Event {
-    Event { pin, edge }
-}
-
-/// Whether a timing was read that has this check alone, and no group of it is left out.
-fn has_one_check(timing: Option<PinTiming>, wanted: Shape) -> bool {
-    let Some(timing) = timing else {
-        return false;
-    };
-    match timing.checks.as_slice() {
-        [check] => shape(check) == wanted && timing.left_out.len() == 0,
-        _ => false,
-    }
-}
-
-const SCAN_DATA: &[u8] = b"library (L) { cell (SDFFR) { pin (D) { direction : input;
-        timing () { related_pin : \"CK\"; timing_type : setup_rising;
-            rise_constraint (t) { values (\"0.05, 0.0612\", \"0.031, 0.04\"); }
-            fall_constraint (t) { values (\"0.02, 0.03\"); } }
-        timing () { related_pin : \"CK\"; timing_type : hold_rising;
-            rise_constraint (t) { values (\"-0.012, -0.02\"); }
-            fall_constraint (t) { values (\"-0.03\"); } } } } }";
-
-#[test]
-fn scan_flip_flop_data(rt: HostRuntime) {
-    let setup = (
-        CheckKind::Setup,
-        event(DATA, Edge::Any),
-        event(CLOCK, Edge::Rise),
-        62,
-    );
-    assert!(rt; has_one_check(read(rt.alloc(), SCAN_DATA, DATA), setup));
-}
-
-/// Whether an arc from the clock to the output has these delays, and a condition or none.
-fn is_arc(arc: &Arc, rise: u64, fall: u64, is_conditional: bool) -> bool {
-    arc.from == CLOCK
-        && arc.to == OUTPUT
-        && arc.rise == rise
-        && arc.fall == fall
-        && arc.condition.is_some() == is_conditional
-}
-
-/// Whether these are the three arcs of the scan flip-flop's output.
-fn are_output_arcs(arcs: &[Arc]) -> bool {
-    match arcs {
-        [first, second, third] => {
-            is_arc(first, 111, 99, true)
-                && is_arc(second, 109, 99, true)
-                && is_arc(third, 111, 99, false)
-        }
-        _ => false,
-    }
-}
-
-/// Whether a timing was read that has these arcs, and the group behind the fourth item is left out.
-fn has_output_arcs(timing: Option<PinTiming>) -> bool {
-    let Some(timing) = timing else {
-        return false;
-    };
-    are_output_arcs(timing.arcs.as_slice()) && timing.left_out.as_slice() == [4].as_slice()
-}
-
-const SCAN_OUTPUT: &[u8] = b"library (L) { cell (SDFFR) { pin (Q) { direction : output;
-        timing () { related_pin : \"CK\"; timing_type : rising_edge; when : \"SE\";
-            cell_rise (t) { values (\"0.09, 0.1105\"); } cell_fall (t) { values (\"0.0981\"); } }
-        timing () { related_pin : \"CK\"; timing_type : rising_edge; when : \"!SE\";
-            cell_rise (t) { values (\"0.1082\"); } cell_fall (t) { values (\"0.0990, 0.05\"); } }
-        timing () { related_pin : \"CK\"; timing_type : rising_edge;
-            cell_rise (t) { values (\"0.1105\"); } }
-        timing () { related_pin : \"CK Q\"; timing_type : falling_edge;
-            cell_rise (t) { values (\"0.01\"); } cell_fall (t) { values (\"0.0990\"); } } } } }";
-
-#[test]
-fn scan_flip_flop_output(rt: HostRuntime) {
-    assert!(rt; has_output_arcs(read(rt.alloc(), SCAN_OUTPUT, OUTPUT)));
-}
-
 /// A check under D, or of both ends of a pulse: its kind, the edge of the pin, the edge of the related pin, the limit.
 type Edges = (CheckKind, Edge, Edge, u64);
 
+/// These of a check.
 fn edges(check: &Check) -> Edges {
     let (own, other) = if check.first.pin == DATA {
         (check.first.edge, check.second.edge)

@@ -35,17 +35,17 @@ primitive lib_1_2 (q, i1);
     0 : 0;
   endtable
 endprimitive
-module DFFT (CK, D, Q);
-  input CK;
+module FD1 (CP, D, Q);
+  input CP;
   input D;
   output Q;
   wire lib_s1;
   reg lib_n;
-  lib_1_1 (lib_s1, CK, D, lib_n);
+  lib_1_1 (lib_s1, CP, D, lib_n);
   lib_1_2 (Q, lib_s1);
   specify
-    (CK => Q) = (100, 120);
-    $setup(D, posedge CK, 50, lib_n);
+    (CP => Q) = (100, 120);
+    $setup(D, posedge CP, 50, lib_n);
   endspecify
 endmodule
 ";
@@ -76,7 +76,7 @@ fn is_flip_flop(alloc: Global, text: &[u8]) -> bool {
         return false;
     };
     match modules.as_slice() {
-        [one] => is_made_of(one, b"DFFT", [3, 2, 2, 1, 1]) && rows_of_first(one) == 11,
+        [one] => is_made_of(one, b"FD1", [3, 2, 2, 1, 1]) && rows_of_first(one) == 11,
         _ => false,
     }
 }

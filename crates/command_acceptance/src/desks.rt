@@ -125,7 +125,7 @@ impl Left {
 }
 
 /// The room of an output, in bytes.
-const ROOM: usize = 100_000;
+const ROOM: usize = 10_000;
 
 /// Runs these words over these files, on a desk at which the calls with these numbers fail and a call moves at most `piece` bytes.
 pub(crate) fn ran(

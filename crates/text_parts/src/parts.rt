@@ -55,3 +55,14 @@ impl<A: Part, B: Part> Part for (A, B) {
         self.1.put(line, desk, slot)
     }
 }
+
+/// Parts one behind the other.
+#[macro_export]
+macro_rules! parts {
+    ($last:expr) => {
+        $last
+    };
+    ($first:expr, $($rest:expr),+) => {
+        ($first, $crate::parts!($($rest),+))
+    };
+}

@@ -3,11 +3,10 @@ ghost use Rattle.std.specs.Prelude.{◌≡◌};
 ghost use Rattle.verilog_writer.specs.Timing.{has_block, lines_text, block_text};
 
 use crate::checks::CheckLines;
-use crate::parts::{Each, parts};
 use crate::paths::PathLines;
 use specify_blocks::VModule;
 use text_io::{Desk, Failed, Line, OutSlot};
-use text_parts::{Bytes, Part};
+use text_parts::{Bytes, Each, Part, parts};
 
 /// Whether the module has a specify block.
 fn has_block(model: &VModule) -> bool

@@ -4,11 +4,10 @@ ghost use Rattle.verilog_writer.specs.CheckEnds.{limit_text, conditional_text};
 ghost use Rattle.verilog_writer.specs.Timing.{edge_text, joint_text, condition_text, ordered_text, turned_text, width_text, period_line, period_text, check_text};
 
 use crate::nets::{notifier_in, port_at, wire_at};
-use crate::parts::{ItemText, parts};
 use cell_machine::{CheckKind, Edge};
 use specify_blocks::{VCheck, VModule};
 use text_io::{Desk, Failed, Line, OutSlot};
-use text_parts::{Bytes, Decimal, Part};
+use text_parts::{Bytes, Decimal, ItemText, Part, parts};
 
 /// The word before the port of an event.
 fn edge_text<'a>(edge: Edge) -> &'a [u8]

@@ -1,11 +1,10 @@
 //! The header and the declarations of a module.
 ghost use Rattle.verilog_writer.specs.Model.{module_opening_text, next_port_text, ports_text, module_header_text, input_port_text, output_port_text, wire_text, register_text, declarations_text};
 
-use crate::parts::{Each, ItemText, parts};
 use specify_blocks::VModule;
 use sqlite_items::Items;
 use text_io::{Desk, Failed, Line, OutSlot};
-use text_parts::{Bytes, Part};
+use text_parts::{Bytes, Each, ItemText, Part, parts};
 use udp_tables::VPort;
 
 /// Ports in the header behind another one.

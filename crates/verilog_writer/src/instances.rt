@@ -2,10 +2,9 @@
 ghost use Rattle.verilog_writer.specs.Model.{terminal_text, driver_text, call_text, constant_text, instance_text};
 
 use crate::nets::{net_at, primitive_at};
-use crate::parts::{Each, ItemText, parts};
 use specify_blocks::{Instance, VModule, VNet};
 use text_io::{Desk, Failed, Line, OutSlot};
-use text_parts::{Bytes, Part};
+use text_parts::{Bytes, Each, ItemText, Part, parts};
 
 /// Inputs of instances.
 #[derive(Drop)]

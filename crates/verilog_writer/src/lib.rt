@@ -7,7 +7,6 @@ mod declarations;
 mod instances;
 mod models;
 mod nets;
-mod parts;
 mod paths;
 mod primitive;
 mod symbols;

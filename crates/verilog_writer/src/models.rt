@@ -10,11 +10,10 @@ ghost use Rattle.verilog_writer.specs.Model.{prelude_text, module_only_text, mod
 use crate::block::Block;
 use crate::declarations::{Declarations, Header};
 use crate::instances::InstanceLines;
-use crate::parts::{Each, parts};
 use crate::primitive::write_udp;
 use specify_blocks::VModule;
 use text_io::{Desk, Failed, Line, OutSlot, write_whole};
-use text_parts::{Bytes, Part};
+use text_parts::{Bytes, Each, Part, parts};
 
 /// Appends what a text of modules begins with to the Verilog text, which is bound: times are in picoseconds. After `Failed`,
 /// which comes only where a write failed, a prefix of it was appended. It takes no memory.

@@ -2,10 +2,9 @@
 ghost use Rattle.verilog_writer.specs.Timing.{gate_text, delays_text, path_text};
 
 use crate::nets::{port_at, wire_at};
-use crate::parts::{ItemText, parts};
 use specify_blocks::{Gate, VModule, VPath};
 use text_io::{Desk, Failed, Line, OutSlot};
-use text_parts::{Bytes, Decimal, Part};
+use text_parts::{Bytes, Decimal, ItemText, Part, parts};
 
 /// What stands before a path.
 #[derive(Drop)]

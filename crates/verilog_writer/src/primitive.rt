@@ -4,11 +4,10 @@ ghost use Rattle.text_io.specs.declared.slots.Slot.TheVariants.{Output};
 ghost use Rattle.text_io.specs.Desk.{is_bound, HasCause, WritesText};
 ghost use Rattle.verilog_writer.specs.Primitive.{primitive_text, header_text, opening_text, port_text, output_text, input_text};
 
-use crate::parts::{Each, ItemText, parts};
 use crate::table::Table;
 use sqlite_items::Items;
 use text_io::{Desk, Failed, Line, OutSlot};
-use text_parts::{Bytes, Part};
+use text_parts::{Bytes, Each, ItemText, Part, parts};
 use udp_tables::Udp;
 
 /// Appends the text of a primitive to a slot that is bound. After `Failed`, which comes only where a write failed, a

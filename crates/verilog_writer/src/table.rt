@@ -1,10 +1,9 @@
 //! The text of a primitive's table.
 ghost use Rattle.verilog_writer.specs.Primitive.{table_text, row_text, spaced_text, outcome_text};
 
-use crate::parts::{Each, ItemText, parts};
 use crate::symbols::{level_text, next_text};
 use text_io::{Desk, Failed, Line, OutSlot};
-use text_parts::{Bytes, Part};
+use text_parts::{Bytes, Each, ItemText, Part, parts};
 use udp_tables::{Entry, Udp, UdpRow};
 
 /// Entries, each with a space after it.

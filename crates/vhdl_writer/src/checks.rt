@@ -3,10 +3,10 @@ ghost use Rattle.std.specs.Prelude.{◌≡◌};
 ghost use Rattle.vhdl_writer.specs.Statements.{one_text, enabled_text, test_at, reference_at, transition_text, high_word, low_word, setup_hold_text, recovery_word, active_text, recovery_removal_text, width_word, pulse_word, period_pulse_text, check_text};
 
 use crate::names::{Condition, port_at};
-use crate::parts::{ItemText, parts};
+use crate::parts::ItemText;
 use cell_machine::{CheckKind, Edge, Event};
 use text_io::{Desk, Failed, Line, OutSlot};
-use text_parts::{Bytes, Decimal, Part};
+use text_parts::{Bytes, Decimal, Part, parts};
 use vital_models::{HCheck, VEntity};
 
 /// A condition that has to be 1.

@@ -3,9 +3,9 @@ ghost use Rattle.std.specs.Prelude.{◌≡◌};
 ghost use Rattle.vhdl_writer.specs.Declarations.{direction_text, port_text, some_ports_text, ports_text, header_text, is_input, first_input, signal_start, signal_text, signals_end, process_text};
 
 use crate::names::apart;
-use crate::parts::{Each, ItemText, parts};
+use crate::parts::{Each, ItemText};
 use text_io::{Desk, Failed, Line, OutSlot};
-use text_parts::{Bytes, Part};
+use text_parts::{Bytes, Part, parts};
 use udp_tables::VPort;
 use vital_models::VEntity;
 

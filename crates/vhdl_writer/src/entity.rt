@@ -9,12 +9,12 @@ ghost use Rattle.vhdl_writer.specs.Entity.{end_text, statements_text, entity_tex
 use crate::checks::CheckCalls;
 use crate::declarations::{Header, Process, first_input};
 use crate::outputs::{OutputLines, ValueLines};
-use crate::parts::{Each, parts};
+use crate::parts::Each;
 use crate::states::{StateCalls, Violation};
 use crate::tables::Constants;
 use crate::variables::Variables;
 use text_io::{Desk, Failed, Line, OutSlot};
-use text_parts::{Bytes, Part};
+use text_parts::{Bytes, Part, parts};
 use vital_models::VEntity;
 
 /// Appends the text of an entity and of its architecture to the VHDL text, which is bound. After `Failed`, which comes only where

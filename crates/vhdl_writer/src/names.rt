@@ -3,10 +3,10 @@ ghost use Rattle.std.specs.Prelude.{◌≡◌};
 ghost use Rattle.vhdl_writer.specs.Joined.{apart_text};
 ghost use Rattle.vhdl_writer.specs.Names.{port_at, inputs_at, list_start, violated_start, input_text, inputs_text, next_input_text, violated_text, columns_text, source_name, source_text, sources_text, condition_text};
 
-use crate::parts::{Each, ItemText, parts};
+use crate::parts::{Each, ItemText};
 use cell_machine::Source;
 use text_io::{Desk, Failed, Line, OutSlot};
-use text_parts::{Bytes, Decimal, Part};
+use text_parts::{Bytes, Decimal, Part, parts};
 use vital_models::{VEntity, VState};
 
 /// The name of a port, none where there is no such port.

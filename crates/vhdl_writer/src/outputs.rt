@@ -2,11 +2,11 @@
 ghost use Rattle.vhdl_writer.specs.Outputs.{lookup_text, assigned_text, value_line, not_zero_text, zero_text, all_zero_text, gate_text, path_text, paths_text, direct_text, output_line};
 
 use crate::names::{Condition, Sources, apart, port_at};
-use crate::parts::{Each, ItemText, parts};
+use crate::parts::{Each, ItemText};
 use crate::tables::table_number;
 use cell_machine::Source;
 use text_io::{Desk, Failed, Line, OutSlot};
-use text_parts::{Bytes, Decimal, Part};
+use text_parts::{Bytes, Decimal, Part, parts};
 use vital_models::{HGate, HPath, OutValue, VEntity, VOutput};
 
 /// The look-up of the table of the output with this number.

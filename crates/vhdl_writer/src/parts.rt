@@ -46,15 +46,3 @@ impl<M: ItemText<T>, T> Part for Each<'_, M, T> {
         Ok(())
     }
 }
-
-/// Parts one behind the other.
-macro_rules! parts {
-    ($last:expr) => {
-        $last
-    };
-    ($first:expr, $($rest:expr),+) => {
-        ($first, parts!($($rest),+))
-    };
-}
-
-pub(crate) use parts;

@@ -2,9 +2,9 @@
 ghost use Rattle.vhdl_writer.specs.Statements.{report_text, reports_text, violation_text, state_text};
 
 use crate::names::{Columns, apart};
-use crate::parts::{Each, ItemText, parts};
+use crate::parts::{Each, ItemText};
 use text_io::{Desk, Failed, Line, OutSlot};
-use text_parts::{Bytes, Decimal, Part};
+use text_parts::{Bytes, Decimal, Part, parts};
 use vital_models::{HCheck, VEntity, VState};
 
 /// Reports of checks among all of them.

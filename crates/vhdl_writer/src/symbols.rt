@@ -2,9 +2,9 @@
 ghost use Rattle.std.specs.Prelude.{◌≡◌};
 ghost use Rattle.vhdl_writer.specs.Tables.{level_text, symbol_text, next_text, value_text, symbol_apart_text, level_apart_text};
 
-use crate::parts::{ItemText, parts};
+use crate::parts::ItemText;
 use text_io::{Desk, Failed, Line, OutSlot};
-use text_parts::{Bytes, Part};
+use text_parts::{Bytes, Part, parts};
 use trit_cubes::Trit;
 use vital_models::{Trits, VNext, VSymbol};
 

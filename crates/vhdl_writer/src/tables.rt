@@ -2,10 +2,10 @@
 ghost use Rattle.std.specs.Prelude.{◌≡◌, count_by, take};
 ghost use Rattle.vhdl_writer.specs.Tables.{row_start, state_row_text, truth_row_text, truth_rows_text, state_rows_text, state_constant_text, condition_constant_text, is_looked_up, table_number, output_table_text, output_constant_text, constants_text};
 
-use crate::parts::{Each, ItemText, parts};
+use crate::parts::{Each, ItemText};
 use crate::symbols::{LevelsApart, SymbolsApart, level_text, next_text, value_text};
 use text_io::{Desk, Failed, Line, OutSlot};
-use text_parts::{Bytes, Decimal, Part};
+use text_parts::{Bytes, Decimal, Part, parts};
 use vital_models::{OutValue, TruthRow, TruthTable, VEntity, VOutput, VState, VStateRow, VTruth};
 
 /// What stands before the symbols of the row with this number, from 1, of so many rows.

@@ -2,10 +2,10 @@
 ghost use Rattle.std.specs.Prelude.{◌≡◌};
 ghost use Rattle.vhdl_writer.specs.Declarations.{data_text, check_variables_text, violation_variable_text, width_of, state_variables_text, glitch_data_text, glitch_text, output_variables_text, variables_text};
 
-use crate::parts::{Each, ItemText, parts};
+use crate::parts::{Each, ItemText};
 use cell_machine::CheckKind;
 use text_io::{Desk, Failed, Line, OutSlot};
-use text_parts::{Bytes, Decimal, Part};
+use text_parts::{Bytes, Decimal, Part, parts};
 use vital_models::{HCheck, VEntity, VOutput, VState, VStateRow};
 
 /// The type of the data of a check, and what they are at first.

@@ -1,7 +1,7 @@
 use Rattle.std.proofs.Common.{◌≡◌, take}
 use Rattle.std.specs.List.{flat_map}
 use Rattle.text_io.specs.Line.{Gathers}
-use Rattle.verilog_writer.proofs.parts.EachPart.put.Given as goal
+use Rattle.text_parts.proofs.lists.EachPart.put.Given as goal
 
 abbrev pub invariant-loop-item : goal.invariant-loop-item
 invariant-loop-item g l = record {

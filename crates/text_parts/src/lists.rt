@@ -5,11 +5,11 @@ ghost use Rattle.text_io.specs.declared.slots.Slot.TheVariants.{Output};
 ghost use Rattle.text_io.specs.Desk.{is_bound, HasCause};
 ghost use Rattle.text_io.specs.Line.{PutsText};
 
+use crate::parts::Part;
 use text_io::{Desk, Failed, Line, OutSlot};
-use text_parts::Part;
 
 /// What the items of a list are as text.
-pub(crate) trait ItemText<T> {
+pub trait ItemText<T> {
     ghost use Rattle.std.specs.Prelude.{ℕ, List};
 
     ghost text: { Self → T → List ℕ };
@@ -29,9 +29,11 @@ pub(crate) trait ItemText<T> {
 
 /// The items of a list, in order.
 #[derive(Drop)]
-pub(crate) struct Each<'a, M, T> {
-    pub(crate) text: M,
-    pub(crate) items: &'a [T],
+pub struct Each<'a, M, T> {
+    /// What each of them is as text.
+    pub text: M,
+    /// The items.
+    pub items: &'a [T],
 }
 
 impl<M: ItemText<T>, T> Part for Each<'_, M, T> {
@@ -44,15 +46,3 @@ impl<M: ItemText<T>, T> Part for Each<'_, M, T> {
         Ok(())
     }
 }
-
-/// Parts one behind the other.
-macro_rules! parts {
-    ($last:expr) => {
-        $last
-    };
-    ($first:expr, $($rest:expr),+) => {
-        ($first, parts!($($rest),+))
-    };
-}
-
-pub(crate) use parts;

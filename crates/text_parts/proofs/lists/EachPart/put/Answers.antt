@@ -1,7 +1,7 @@
 use Rattle.std.proofs.Common.{arith}
 use Rattle.text_io.specs.declared.slots.Slot.TheVariants.{Output}
 use Rattle.text_io.proofs.LineLaws.{Gathers-nil, gathered_bound, put_item_as, part_of_put_item_as, put_items}
-use Rattle.verilog_writer.proofs.parts.EachPart.put.Goals as goal
+use Rattle.text_parts.proofs.lists.EachPart.put.Goals as goal
 
 pub loop-item-init : goal.loop-item-init
 loop-item-init g c = record { gathered = Gathers-nil _ _ _; kept = omega arith }

@@ -1,6 +1,6 @@
 //! Calls of timing checks. (IEEE 1076.4-2000, VitalSetupHoldCheck, VitalRecoveryRemovalCheck and VitalPeriodPulseCheck.)
 ghost use Rattle.std.specs.Prelude.{◌≡◌};
-ghost use Rattle.vhdl_writer.specs.Statements.{one_text, enabled_text, test_at, reference_at, transition_text, high_word, low_word, setup_hold_text, recovery_word, active_text, recovery_removal_text, width_word, pulse_word, period_pulse_text, check_text};
+ghost use Rattle.vhdl_writer.specs.Statements.{enabled_text, test_at, reference_at, transition_text, high_word, low_word, setup_hold_text, recovery_word, active_text, recovery_removal_text, width_word, pulse_word, period_pulse_text, check_text};
 
 use crate::names::{Condition, port_at};
 use crate::parts::ItemText;
@@ -8,26 +8,6 @@ use cell_machine::{CheckKind, Edge, Event};
 use text_io::{Desk, Failed, Line, OutSlot};
 use text_parts::{Bytes, Decimal, Part, parts};
 use vital_models::{HCheck, VEntity};
-
-/// A condition that has to be 1.
-#[derive(Drop)]
-struct One<'a> {
-    entity: &'a VEntity,
-    number: usize,
-}
-
-impl Part for One<'_> {
-    ghost text = { λ m. one_text m.entity.now m.number };
-
-    #[tactic(auto, unfolding(crate::specs::Statements::one_text))]
-    fn put<D: Desk>(&self, line: &mut Line, desk: &mut D, slot: OutSlot) -> Result<(), Failed> {
-        let condition = Condition {
-            entity: self.entity,
-            number: self.number,
-        };
-        parts!(condition, Bytes(b" = '1'")).put(line, desk, slot)
-    }
-}
 
 /// When a check counts.
 #[derive(Drop)]
@@ -39,13 +19,13 @@ struct Enabled<'a> {
 impl Part for Enabled<'_> {
     ghost text = { λ m. enabled_text m.entity.now m.condition };
 
+    #[tactic(auto, unfolding(crate::specs::Statements::one_text))]
     fn put<D: Desk>(&self, line: &mut Line, desk: &mut D, slot: OutSlot) -> Result<(), Failed> {
+        let entity = self.entity;
         match self.condition {
-            Some(number) => One {
-                entity: self.entity,
-                number,
+            Some(number) => {
+                parts!(Condition { entity, number }, Bytes(b" = '1'")).put(line, desk, slot)
             }
-            .put(line, desk, slot),
             None => line.put(desk, slot, b"true"),
         }
     }

@@ -1,6 +1,6 @@
 //! An entity with its ports, and the beginning of its process. (IEEE 1076-1993, 1.1, 1.2 and 9.2.)
 ghost use Rattle.std.specs.Prelude.{◌≡◌};
-ghost use Rattle.vhdl_writer.specs.Declarations.{direction_text, port_text, some_ports_text, ports_text, header_text, is_input, first_input, signal_start, signal_text, signals_end, process_text};
+ghost use Rattle.vhdl_writer.specs.Declarations.{direction_text, port_text, ports_text, header_text, is_input, first_input, signal_start, signal_text, signals_end, process_text};
 
 use crate::names::apart;
 use crate::parts::{Each, ItemText};
@@ -45,23 +45,6 @@ impl ItemText<VPort> for ListedPorts {
     }
 }
 
-/// The list of some ports.
-#[derive(Drop)]
-struct SomePorts<'a>(&'a [VPort]);
-
-impl Part for SomePorts<'_> {
-    ghost text = { λ m. some_ports_text m.0.now };
-
-    #[tactic(auto, unfolding(crate::specs::Declarations::some_ports_text))]
-    fn put<D: Desk>(&self, line: &mut Line, desk: &mut D, slot: OutSlot) -> Result<(), Failed> {
-        let ports = Each {
-            text: ListedPorts,
-            items: self.0,
-        };
-        parts!(Bytes(b"  port ("), ports, Bytes(b");\n")).put(line, desk, slot)
-    }
-}
-
 /// The list of ports, where there are ports.
 #[derive(Drop)]
 struct Ports<'a>(&'a [VPort]);
@@ -69,11 +52,16 @@ struct Ports<'a>(&'a [VPort]);
 impl Part for Ports<'_> {
     ghost text = { λ m. ports_text m.0.now };
 
+    #[tactic(auto, unfolding(crate::specs::Declarations::some_ports_text))]
     fn put<D: Desk>(&self, line: &mut Line, desk: &mut D, slot: OutSlot) -> Result<(), Failed> {
         if self.0.is_empty() {
             line.put(desk, slot, b"")
         } else {
-            SomePorts(self.0).put(line, desk, slot)
+            let ports = Each {
+                text: ListedPorts,
+                items: self.0,
+            };
+            parts!(Bytes(b"  port ("), ports, Bytes(b");\n")).put(line, desk, slot)
         }
     }
 }

@@ -1,7 +1,7 @@
 //! The names of an entity's parts by their numbers, and lists of them in calls.
 ghost use Rattle.std.specs.Prelude.{◌≡◌};
 ghost use Rattle.vhdl_writer.specs.Joined.{apart_text};
-ghost use Rattle.vhdl_writer.specs.Names.{port_at, inputs_at, list_start, violated_start, input_text, inputs_text, next_input_text, violated_text, columns_text, source_name, source_text, sources_text, condition_text};
+ghost use Rattle.vhdl_writer.specs.Names.{port_at, inputs_at, list_start, violated_start, input_text, inputs_text, next_input_text, columns_text, source_name, source_text, sources_text, condition_text};
 
 use crate::parts::{Each, ItemText};
 use cell_machine::Source;
@@ -110,26 +110,6 @@ impl ItemText<usize> for NextInput<'_> {
     }
 }
 
-/// A list of the violation and inputs of an entity.
-#[derive(Drop)]
-struct Violated<'a> {
-    entity: &'a VEntity,
-    inputs: &'a [usize],
-}
-
-impl Part for Violated<'_> {
-    ghost text = { λ m. violated_text m.entity.now m.inputs.now };
-
-    #[tactic(auto, unfolding(crate::specs::Names::violated_text))]
-    fn put<D: Desk>(&self, line: &mut Line, desk: &mut D, slot: OutSlot) -> Result<(), Failed> {
-        let names = Each {
-            text: NextInput(self.entity),
-            items: self.inputs,
-        };
-        parts!(Bytes(violated_start(self.inputs.len())), names, Bytes(b")")).put(line, desk, slot)
-    }
-}
-
 /// The columns of the table of a state.
 #[derive(Drop)]
 pub(crate) struct Columns<'a> {
@@ -140,11 +120,16 @@ pub(crate) struct Columns<'a> {
 impl Part for Columns<'_> {
     ghost text = { λ m. columns_text m.entity.now m.state.now };
 
+    #[tactic(auto, unfolding(crate::specs::Names::violated_text))]
     fn put<D: Desk>(&self, line: &mut Line, desk: &mut D, slot: OutSlot) -> Result<(), Failed> {
         let entity = self.entity;
         let inputs = self.state.inputs.as_slice();
         if self.state.violation {
-            Violated { entity, inputs }.put(line, desk, slot)
+            let names = Each {
+                text: NextInput(entity),
+                items: inputs,
+            };
+            parts!(Bytes(violated_start(inputs.len())), names, Bytes(b")")).put(line, desk, slot)
         } else {
             Inputs { entity, inputs }.put(line, desk, slot)
         }

@@ -1,5 +1,5 @@
 //! The statements that assign outputs. (IEEE 1076.4-2000, VitalTruthTable and VitalPathDelay01; IEEE 1076-1993, 8.4 and 8.5.)
-ghost use Rattle.vhdl_writer.specs.Outputs.{lookup_text, assigned_text, value_line, not_zero_text, zero_text, all_zero_text, gate_text, path_text, paths_text, direct_text, output_line};
+ghost use Rattle.vhdl_writer.specs.Outputs.{lookup_text, assigned_text, value_line, zero_text, gate_text, path_text, paths_text, output_line};
 
 use crate::names::{Condition, Sources, apart, port_at};
 use crate::parts::{Each, ItemText};
@@ -93,26 +93,6 @@ impl ItemText<VOutput> for ValueLines<'_> {
     }
 }
 
-/// A condition that is not 0.
-#[derive(Drop)]
-struct NotZero<'a> {
-    entity: &'a VEntity,
-    number: usize,
-}
-
-impl Part for NotZero<'_> {
-    ghost text = { λ m. not_zero_text m.entity.now m.number };
-
-    #[tactic(auto, unfolding(crate::specs::Outputs::not_zero_text))]
-    fn put<D: Desk>(&self, line: &mut Line, desk: &mut D, slot: OutSlot) -> Result<(), Failed> {
-        let condition = Condition {
-            entity: self.entity,
-            number: self.number,
-        };
-        parts!(condition, Bytes(b" /= '0'")).put(line, desk, slot)
-    }
-}
-
 /// Conditions that are 0, among others.
 #[derive(Drop)]
 struct Zeros<'a>(&'a VEntity);
@@ -147,17 +127,17 @@ struct Gate<'a> {
 impl Part for Gate<'_> {
     ghost text = { λ m. gate_text m.entity.now m.gate.now };
 
-    #[tactic(auto, unfolding(crate::specs::Outputs::all_zero_text))]
+    #[tactic(auto, unfolding(crate::specs::Outputs::not_zero_text, crate::specs::Outputs::all_zero_text))]
     fn put<D: Desk>(&self, line: &mut Line, desk: &mut D, slot: OutSlot) -> Result<(), Failed> {
+        let entity = self.entity;
         match self.gate {
             HGate::Always => line.put(desk, slot, b"true"),
-            HGate::NotZero(number) => NotZero {
-                entity: self.entity,
-                number: *number,
+            HGate::NotZero(number) => {
+                let number = *number;
+                parts!(Condition { entity, number }, Bytes(b" /= '0'")).put(line, desk, slot)
             }
-            .put(line, desk, slot),
             HGate::AllZero(conditions) => Each {
-                text: Zeros(self.entity),
+                text: Zeros(entity),
                 items: conditions.as_slice(),
             }
             .put(line, desk, slot),
@@ -235,30 +215,6 @@ impl Part for PathCall<'_> {
     }
 }
 
-/// The assignment of the output with this number, which has no paths.
-#[derive(Drop)]
-struct Direct<'a> {
-    entity: &'a VEntity,
-    number: usize,
-    output: &'a VOutput,
-}
-
-impl Part for Direct<'_> {
-    ghost text = { λ m. direct_text m.entity.now m.number m.output.now };
-
-    #[tactic(auto, unfolding(crate::specs::Outputs::direct_text))]
-    fn put<D: Desk>(&self, line: &mut Line, desk: &mut D, slot: OutSlot) -> Result<(), Failed> {
-        parts!(
-            Bytes(b"    "),
-            Bytes(port_at(self.entity, self.output.port)),
-            Bytes(b" <= z_"),
-            Decimal(self.number as u128),
-            Bytes(b";\n")
-        )
-        .put(line, desk, slot)
-    }
-}
-
 /// Lines of outputs.
 #[derive(Drop)]
 pub(crate) struct OutputLines<'a>(pub(crate) &'a VEntity);
@@ -266,6 +222,7 @@ pub(crate) struct OutputLines<'a>(pub(crate) &'a VEntity);
 impl ItemText<VOutput> for OutputLines<'_> {
     ghost text = { λ m n output. output_line m.0.now n output };
 
+    #[tactic(auto, unfolding(crate::specs::Outputs::direct_text))]
     fn put<D: Desk>(
         &self,
         number: usize,
@@ -276,11 +233,13 @@ impl ItemText<VOutput> for OutputLines<'_> {
     ) -> Result<(), Failed> {
         let entity = self.0;
         if output.paths.as_slice().is_empty() {
-            Direct {
-                entity,
-                number,
-                output,
-            }
+            parts!(
+                Bytes(b"    "),
+                Bytes(port_at(entity, output.port)),
+                Bytes(b" <= z_"),
+                Decimal(number as u128),
+                Bytes(b";\n")
+            )
             .put(line, desk, slot)
         } else {
             PathCall {

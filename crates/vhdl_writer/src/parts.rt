@@ -1,4 +1,4 @@
-//! Lists of parts of a text.
+//! Lists of parts of a text, whose items are numbered.
 
 ghost use Rattle.std.specs.Prelude.{◌+◌, IsTrue};
 ghost use Rattle.text_io.specs.declared.slots.Slot.TheVariants.{Output};

@@ -78,12 +78,13 @@ pub fn write_comparison<D: Desk, L: CellSim, V: CellSim, H: CellSim>(
     ensures cause { HasCause (D.faults desk.old) (D.faults desk.new) result }
 {
     let mut line = Line::new();
-    put_lines(alloc, desk, &mut line, None, ports, three)?;
+    let mut text = Vec::new(alloc);
+    put_lines(desk, &mut line, &mut text, None, ports, three)?;
     let mut first = unlike(three.are_alike(), None, 0);
     let mut number = 1;
     for change in changes {
         three.step(change);
-        put_lines(alloc, desk, &mut line, Some(change), ports, three)?;
+        put_lines(desk, &mut line, &mut text, Some(change), ports, three)?;
         first = unlike(three.are_alike(), first, number);
         number += 1;
     }
@@ -102,12 +103,12 @@ fn unlike(alike: bool, first: Option<usize>, number: usize) -> Option<usize>
     }
 }
 
-/// Puts the lines that the three show behind the bytes that wait.
+/// Puts the lines that the three show behind the bytes that wait, each made in the text.
 #[tactic(auto, unfolding(crate::specs::Comparison::lines_text))]
 fn put_lines<D: Desk, L: CellSim, V: CellSim, H: CellSim>(
-    alloc: Global,
     desk: &mut D,
     line: &mut Line,
+    text: &mut Vec<u8>,
     change: Option<&Change>,
     ports: &Ports,
     three: &Three<L, V, H>,
@@ -117,9 +118,9 @@ fn put_lines<D: Desk, L: CellSim, V: CellSim, H: CellSim>(
     ensures text { (h : List ChangeOf) → L.stands three.now.liberty h → V.stands three.now.verilog h → H.stands three.now.vital h → PutsTrace (D.state desk.old) (D.state desk.new) line.old (lines_text (option_copied change.entry) ports.now (three_lines (L.machine three.now.liberty) (V.machine three.now.verilog) (H.machine three.now.vital) h)) line.new result }
     ensures cause { HasCause (D.faults desk.old) (D.faults desk.new) result }
 {
-    put_line(alloc, desk, line, b'L', change, ports, &three.liberty)?;
-    put_line(alloc, desk, line, b'V', change, ports, &three.verilog)?;
-    put_line(alloc, desk, line, b'H', change, ports, &three.vital)
+    put_line(desk, line, text, b'L', change, ports, &three.liberty)?;
+    put_line(desk, line, text, b'V', change, ports, &three.verilog)?;
+    put_line(desk, line, text, b'H', change, ports, &three.vital)
 }
 
 /// Appends to the report the line with which a section of three simulators ends: `equal`, or the number of the first change at

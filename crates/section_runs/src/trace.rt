@@ -11,7 +11,7 @@ ghost use Rattle.section_runs.specs.Writes.{WritesTrace, PutsTrace, HasCause};
 use crate::faults::RunFault;
 use cell_machine::{CellSim, Change};
 use std::alloc::Global;
-use stimulus::{Ports, trace_line};
+use stimulus::{Ports, append_trace_line};
 use text_io::{Desk, Line, OutSlot};
 
 /// Gives the changes to a simulator that stands at its start, and appends the lines of its trace to the report, one for
@@ -35,20 +35,22 @@ pub fn write_trace<D: Desk, S: CellSim>(
     ensures cause { HasCause (D.faults desk.old) (D.faults desk.new) result }
 {
     let mut line = Line::new();
-    put_line(alloc, desk, &mut line, tag, None, ports, sim)?;
+    let mut text = Vec::new(alloc);
+    put_line(desk, &mut line, &mut text, tag, None, ports, sim)?;
     for change in changes {
         sim.step(change.at, change.pin, change.to);
-        put_line(alloc, desk, &mut line, tag, Some(change), ports, sim)?;
+        put_line(desk, &mut line, &mut text, tag, Some(change), ports, sim)?;
     }
     line.flush(desk, OutSlot::Report)?;
     Ok(())
 }
 
-/// Puts the line that the simulator shows behind the bytes that wait.
+/// Puts the line that the simulator shows behind the bytes that wait. It is made in the text, whose bytes are lost and whose
+/// room is kept for the next line.
 pub(crate) fn put_line<D: Desk, S: CellSim>(
-    alloc: Global,
     desk: &mut D,
     line: &mut Line,
+    text: &mut Vec<u8>,
     tag: u8,
     change: Option<&Change>,
     ports: &Ports,
@@ -60,7 +62,8 @@ pub(crate) fn put_line<D: Desk, S: CellSim>(
     ensures text { (h : List ChangeOf) → S.stands sim.now h → PutsTrace (D.state desk.old) (D.state desk.new) line.old (line_text tag (option_copied change.entry) ports.now.inputs ports.now.outputs ((S.machine sim.now).line h)) line.new result }
     ensures cause { HasCause (D.faults desk.old) (D.faults desk.new) result }
 {
-    let text = trace_line(alloc, tag, change, &ports.inputs, &ports.outputs, sim)?;
+    text.clear();
+    append_trace_line(text, tag, change, &ports.inputs, &ports.outputs, sim)?;
     line.put(desk, OutSlot::Report, text.as_slice())?;
     Ok(())
 }

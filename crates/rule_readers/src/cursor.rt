@@ -42,6 +42,7 @@ impl<'a, L: Language> Cursor<'a, L> {
     }
 
     /// How many tokens are left.
+    #[inline(always)]
     pub fn left(&self) -> usize
         ensures { result ≡ length self.now }
     {
@@ -49,6 +50,7 @@ impl<'a, L: Language> Cursor<'a, L> {
     }
 
     /// The bytes of the next token. None where there is no token.
+    #[inline(always)]
     pub fn bytes(&self) -> &'a [u8]
         ensures { result.now ≡ next_bytes self.now }
     {
@@ -59,6 +61,7 @@ impl<'a, L: Language> Cursor<'a, L> {
     }
 
     /// Whether the next token stands for this word.
+    #[inline(always)]
     pub fn is_next(&self, word: &[u8]) -> bool
         ensures { result ≡ is_next L.is_same word.now self.now }
     {
@@ -73,6 +76,7 @@ impl<'a, L: Language> Cursor<'a, L> {
     }
 
     /// Goes behind the next token.
+    #[inline(always)]
     pub fn skip(&mut self)
         ensures { self.new ≡ rest self.old }
     {

@@ -26,6 +26,7 @@ pub fn is_among<L: Language>(names: &[Items<u8>], name: &[u8]) -> bool
 
 impl<L: Language> Cursor<'_, L> {
     /// A token that must stand next.
+    #[inline(always)]
     pub fn expect(&mut self, text: &[u8]) -> Result<(), Stop>
         ensures { Reads (read (spec.expect L.is_same text.now) self.old) result self.new }
     {
@@ -37,6 +38,7 @@ impl<L: Language> Cursor<'_, L> {
     }
 
     /// A token that must stand next, and breaks a strict rule unless the condition holds.
+    #[inline(always)]
     pub fn expect_where(&mut self, holds: bool, refusal: Refusal, text: &[u8]) -> Result<(), Stop>
         ensures { Reads (read (spec.expect_where L.is_same holds refusal text.now) self.old) result self.new }
     {

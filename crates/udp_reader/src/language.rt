@@ -18,6 +18,7 @@ impl Language for Verilog {
         is_name(token)
     }
 
+    #[inline(always)]
     fn is_same(token: &[u8], word: &[u8]) -> bool {
         token == word
     }

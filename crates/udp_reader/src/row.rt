@@ -13,6 +13,7 @@ use std::alloc::Global;
 use udp_tables::{Entry, Level, Next, UdpRow};
 
 /// The level that a symbol stands for.
+#[inline(always)]
 fn level_by(byte: u8) -> Option<Level>
     ensures { result ≡ spec.level_by byte }
 {
@@ -27,6 +28,7 @@ fn level_by(byte: u8) -> Option<Level>
 }
 
 /// The level that a token stands for.
+#[inline(always)]
 fn level(token: &[u8]) -> Option<Level>
     ensures { result ≡ spec.symbol spec.level_by token.now }
 {
@@ -37,6 +39,7 @@ fn level(token: &[u8]) -> Option<Level>
 }
 
 /// The change that a symbol stands for.
+#[inline(always)]
 fn change_by(byte: u8) -> Option<Entry>
     ensures { result ≡ spec.change_by byte }
 {
@@ -51,6 +54,7 @@ fn change_by(byte: u8) -> Option<Entry>
 }
 
 /// The change that a token alone stands for.
+#[inline(always)]
 fn change(token: &[u8]) -> Option<Entry>
     ensures { result ≡ spec.symbol spec.change_by token.now }
 {
@@ -61,6 +65,7 @@ fn change(token: &[u8]) -> Option<Entry>
 }
 
 /// What a symbol gives as an output.
+#[inline(always)]
 fn next_by(sequential: bool, byte: u8) -> Option<Next>
     ensures { result ≡ spec.next_by sequential byte }
 {
@@ -74,6 +79,7 @@ fn next_by(sequential: bool, byte: u8) -> Option<Next>
 }
 
 /// What a token gives as an output.
+#[inline(always)]
 fn next(sequential: bool, token: &[u8]) -> Option<Next>
     ensures { result ≡ spec.symbol (spec.next_by sequential) token.now }
 {
@@ -84,6 +90,7 @@ fn next(sequential: bool, token: &[u8]) -> Option<Next>
 }
 
 /// Whether a token begins a change.
+#[inline(always)]
 fn begins_change(token: &[u8]) -> bool
     ensures { result ≡ spec.begins_change token.now }
 {
@@ -91,6 +98,7 @@ fn begins_change(token: &[u8]) -> bool
 }
 
 /// Whether a token begins an entry.
+#[inline(always)]
 pub fn begins_entry(sequential: bool, token: &[u8]) -> bool
     ensures { result ≡ spec.begins_entry sequential token.now }
 {
@@ -98,6 +106,7 @@ pub fn begins_entry(sequential: bool, token: &[u8]) -> bool
 }
 
 /// The entry that a token alone is.
+#[inline(always)]
 fn whole_entry(token: &[u8]) -> Option<Entry>
     ensures { result ≡ spec.whole_entry token.now }
 {
@@ -120,6 +129,7 @@ fn has_change(entries: &[Entry]) -> bool
 }
 
 /// Whether a token begins a second change of a row with these entries.
+#[inline(always)]
 fn begins_second_change(entries: &[Entry], token: &[u8]) -> bool
     ensures { result ≡ (spec.has_change entries.now && spec.begins_change token.now) }
 {

@@ -6,5 +6,4 @@ pub mod TraceTexts
 pub mod Entries
 pub mod Properness
 pub mod BadLines
-pub mod NameSearch
 pub mod PlainLines

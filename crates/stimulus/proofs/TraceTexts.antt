@@ -9,7 +9,7 @@ use Rattle.cell_machine.specs.Lines.{Line}
 use Rattle.stimulus.specs.TraceLine.{head_text, output_text, outputs_text, reports_text, line_text}
 
 -- an entry and those behind it
-pub drop_at : {A : Type 0} (xs : List A) (place : ℕ) (x d : A) → place < length xs → x ≡ get_or xs place d → drop place xs ≡ x ∷ drop (place + 1) xs
+drop_at : {A : Type 0} (xs : List A) (place : ℕ) (x d : A) → place < length xs → x ≡ get_or xs place d → drop place xs ≡ x ∷ drop (place + 1) xs
 drop_at xs place x d h e = rw (add-one) (drop-cons xs place d h ∙ ap (λ y. y ∷ drop (suc place) xs) (sym e))
 
 -- the outputs from a place on: the one there, and those behind it

@@ -1,6 +1,5 @@
 //! A catalog of cells with the names of their ports.
 ghost use Rattle.std.specs.Prelude.{◌≡◌, None};
-ghost use Rattle.bool_functions.specs.NameList.{number_of};
 ghost use Rattle.stimulus.specs.PortPlaces.{port_at};
 
 use crate::catalog::{Catalog, CellFound, PinFound};
@@ -8,9 +7,6 @@ use bool_functions::Names;
 use sqlite_items::Items;
 use std::alloc::{AllocError, Global};
 use std::marker::Model;
-
-/// The most names that are compared one by one.
-const FEW: usize = 16;
 
 /// How a cell of a catalog stands.
 #[derive(Clone, Copy, Debug, PartialEq, Eq)]
@@ -60,9 +56,9 @@ impl Ports {
     pub fn pin(&self, name: &[u8]) -> PinFound
         ensures { result ≡ pin_answer (entry_of (port_entries (Some self.now)) name.now) }
     {
-        match number_in(&self.inputs, name) {
+        match self.inputs.number(name) {
             Some(number) => PinFound::Input(number),
-            None => no_input(number_in(&self.outputs, name)),
+            None => no_input(self.outputs.number(name)),
         }
     }
 }
@@ -75,30 +71,6 @@ fn no_input(output: Option<usize>) -> PinFound
         Some(_) => PinFound::Output,
         None => PinFound::Unknown,
     }
-}
-
-/// The number of a name in a list, and nothing where it is not there. The names of a short list are compared one by one,
-/// since that takes less time than a look-up by a hash.
-fn number_in(names: &Names, name: &[u8]) -> Option<usize>
-    ensures { result ≡ number_of names.now name.now }
-{
-    if names.len() > FEW {
-        names.number(name)
-    } else {
-        compared(names, name)
-    }
-}
-
-/// The number of a name in a list whose names are compared one by one, and nothing where it is not there.
-fn compared(names: &Names, name: &[u8]) -> Option<usize>
-    ensures { result ≡ number_of names.now name.now }
-{
-    for place in 0..names.len() {
-        if name == names.name(place) {
-            return Some(place);
-        }
-    }
-    None
 }
 
 /// Cells by their names, numbered from 0 in the order in which they were added, with their ports. Contracts see the list

@@ -9,4 +9,4 @@ returns-in-Some c =
 
 pub returns-in-None : goal.returns-in-None
 returns-in-None c =
-    c.no_input.ensures ∙ (λ i. port_at (c.in-None.ensures i) (c.number_in-in-None.ensures i)) ∙ sym (port_found c.args.name.now c.args.self.now)
+    c.no_input.ensures ∙ (λ i. port_at (c.in-None.ensures i) (c.number-in-None.ensures i)) ∙ sym (port_found c.args.name.now c.args.self.now)

@@ -68,19 +68,6 @@ pub some_instance : {B : Type 0} (udps : List Udp) (s : List (List ℕ)) (go : O
 some_instance udps [] go other p e f = absurd cc
 some_instance udps (x ∷ s) go other p e f = ap (λ o. judge_first o (λ a. go a s) (λ k. Err (k, x ∷ s)) other) (some_at udps x p e f)
 
-abbrev pub with_instances : VModule → List Instance → VModule
-with_instances m is =
-    record {
-      name = m.name;
-      ports = m.ports;
-      wires = m.wires;
-      notifier = m.notifier;
-      udps = m.udps;
-      instances = is;
-      paths = m.paths;
-      checks = m.checks;
-    }
-
 -- so many more turns of instances
 abbrev pub turns : ℕ → VModule → List (List ℕ) → Outcome (List ℕ) Refusal VModule
 turns n m s = repeat (λ (u : VModule). begins_instance u.udps) (λ u p r. read (one_instance u p) r) n m s
@@ -95,17 +82,16 @@ taken n i m s left p j h e f g =
     ∙ ap (λ (o : Outcome (List ℕ) Refusal VModule). and_then o (λ v t. turns (n - (i + 1)) v t)) g)
 
 -- one more instance is read
-pub preserved : (n i : ℕ) (m : VModule) (s left more : List (List ℕ)) (x y : List ℕ) (udps : List Udp) (starts : Bool) (found : Option (Option ℕ))
-    (p : Option ℕ) (j : Instance) (joined : List Instance) (whole : Outcome (List ℕ) Refusal VModule) →
-    i < n → x ≡ next_bytes s → starts ≡ is_instance_start x → starts ≡ true → udps ≡ m.udps → y ≡ next_bytes s →
-    found ≡ instance_primitive udps y → found ≡ Some p → more ≡ rest s → read (one_instance m p) more ≡ Ok (with_instance m j, left) →
-    joined ≡ m.instances ++ j ∷ [] → turns (n - i) m s ≡ whole → turns (n - (i + 1)) (with_instances m joined) left ≡ whole
-preserved n i m s left more x y udps starts found p j joined whole h ex es et eu ey ef ep em er ej ew =
+pub preserved : (n i : ℕ) (m joined : VModule) (s left more : List (List ℕ)) (x y : List ℕ) (starts : Bool) (found : Option (Option ℕ))
+    (p : Option ℕ) (j : Instance) (whole : Outcome (List ℕ) Refusal VModule) →
+    i < n → x ≡ next_bytes s → starts ≡ is_instance_start x → starts ≡ true → y ≡ next_bytes s →
+    found ≡ instance_primitive m.udps y → found ≡ Some p → more ≡ rest s → read (one_instance m p) more ≡ Ok (with_instance m j, left) →
+    joined ≡ with_instance m j → turns (n - i) m s ≡ whole → turns (n - (i + 1)) joined left ≡ whole
+preserved n i m joined s left more x y starts found p j whole h ex es et ey ef ep em er ej ew =
     let start : is_instance_start (next_bytes s) ≡ true = ap is_instance_start (sym ex) ∙ sym es ∙ et in
-    let which : instance_primitive m.udps (next_bytes s) ≡ Some p =
-    ap (λ (z : List ℕ). instance_primitive m.udps z) (sym ey) ∙ ap (λ (us : List Udp). instance_primitive us y) (sym eu) ∙ sym ef ∙ ep in
+    let which : instance_primitive m.udps (next_bytes s) ≡ Some p = ap (λ (z : List ℕ). instance_primitive m.udps z) (sym ey) ∙ sym ef ∙ ep in
     let reads : read (one_instance m p) (rest s) ≡ Ok (with_instance m j, left) = ap (λ (q : List (List ℕ)). read (one_instance m p) q) (sym em) ∙ er in
-    ap (λ (is : List Instance). turns (n - (i + 1)) (with_instances m is) left) ej ∙ taken n i m s left p j h start which reads ∙ ew
+    ap (λ (u : VModule). turns (n - (i + 1)) u left) ej ∙ taken n i m s left p j h start which reads ∙ ew
 
 -- no primitive has the name that is next
 pub undefined_exit : (n i : ℕ) (m : VModule) (s : List (List ℕ)) (x y : List ℕ) (starts : Bool) (found : Option (Option ℕ)) (whole : Outcome (List ℕ) Refusal VModule) →

@@ -1,4 +1,4 @@
-mod PrimitiveNames
+mod FirstNames
 pub mod Among
 pub mod Headers
 pub mod Periods
@@ -8,3 +8,5 @@ pub mod TextLemmas
 pub mod WellRead
 pub mod SameNames
 pub mod NoWires
+pub mod DrivenNets
+pub mod FoundNets

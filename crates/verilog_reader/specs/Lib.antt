@@ -2,5 +2,7 @@ pub mod Headers
 pub mod Begun
 pub mod File
 pub mod TextLaws
-pub mod PrimitiveNames
+pub mod FirstNames
 pub mod SameNames
+pub mod DrivenNets
+pub mod Netlist

@@ -7,10 +7,10 @@ ghost use Rattle.udp_tables.specs.VerilogRules.{this_name};
 ghost use Rattle.specify_blocks.specs.VerilogBlocks as spec;
 ghost use Rattle.rule_readers.specs.Reading.{Reads};
 
+use crate::netlist::Netlist;
 use crate::paths::{condition_name, input_name};
 use cell_machine::{Edge, Event};
 use rule_readers::{Cursor, Refusal, Stop};
-use specify_blocks::VModule;
 use udp_reader::Verilog;
 
 /// The events that a word before a port allows.
@@ -54,7 +54,7 @@ fn one_edge(cursor: &mut Cursor<'_, Verilog>) -> Result<Edge, Stop>
 
 /// An event of an input.
 #[tactic(auto, unfolding(specify_blocks::specs::VerilogBlocks::an_event))]
-pub fn an_event(cursor: &mut Cursor<'_, Verilog>, model: &VModule) -> Result<Event, Stop>
+pub fn an_event(cursor: &mut Cursor<'_, Verilog>, model: &Netlist) -> Result<Event, Stop>
     ensures { Reads (read (spec.an_event model.now) cursor.old) result cursor.new }
 {
     let edge = any_edge(cursor)?;
@@ -64,7 +64,7 @@ pub fn an_event(cursor: &mut Cursor<'_, Verilog>, model: &VModule) -> Result<Eve
 
 /// An event of an input, of one kind of edge.
 #[tactic(auto, unfolding(specify_blocks::specs::VerilogBlocks::an_edge_event))]
-pub fn an_edge_event(cursor: &mut Cursor<'_, Verilog>, model: &VModule) -> Result<Event, Stop>
+pub fn an_edge_event(cursor: &mut Cursor<'_, Verilog>, model: &Netlist) -> Result<Event, Stop>
     ensures { Reads (read (spec.an_edge_event model.now) cursor.old) result cursor.new }
 {
     let edge = one_edge(cursor)?;
@@ -74,7 +74,7 @@ pub fn an_edge_event(cursor: &mut Cursor<'_, Verilog>, model: &VModule) -> Resul
 
 /// The condition of a check, if there is one.
 #[tactic(auto, using(udp_reader::proofs::Words::choose_begun, udp_reader::proofs::Words::choose_other), unfolding(specify_blocks::specs::VerilogBlocks::condition, specify_blocks::specs::VerilogBlocks::condition_name))]
-pub fn condition(cursor: &mut Cursor<'_, Verilog>, model: &VModule) -> Result<Option<usize>, Stop>
+pub fn condition(cursor: &mut Cursor<'_, Verilog>, model: &Netlist) -> Result<Option<usize>, Stop>
     ensures { Reads (read (spec.condition model.now) cursor.old) result cursor.new }
 {
     if !cursor.is_next(b"&&&") {
@@ -86,10 +86,10 @@ pub fn condition(cursor: &mut Cursor<'_, Verilog>, model: &VModule) -> Result<Op
 }
 
 /// The name of the register of the checks.
-fn notifier_name(cursor: &mut Cursor<'_, Verilog>, model: &VModule) -> Result<(), Stop>
+fn notifier_name(cursor: &mut Cursor<'_, Verilog>, model: &Netlist) -> Result<(), Stop>
     ensures { Reads (read (this_name model.now.notifier) cursor.old) result cursor.new }
 {
-    match &model.notifier {
+    match &model.module().notifier {
         Some(name) => cursor.this_name(name.as_slice()),
         None => Err(Stop::Refused(cursor.no_name())),
     }
@@ -97,7 +97,7 @@ fn notifier_name(cursor: &mut Cursor<'_, Verilog>, model: &VModule) -> Result<()
 
 /// The end of a check.
 #[tactic(auto, unfolding(specify_blocks::specs::VerilogBlocks::check_end))]
-pub fn check_end(cursor: &mut Cursor<'_, Verilog>, model: &VModule) -> Result<(), Stop>
+pub fn check_end(cursor: &mut Cursor<'_, Verilog>, model: &Netlist) -> Result<(), Stop>
     ensures { Reads (read (spec.check_end model.now) cursor.old) result cursor.new }
 {
     cursor.expect(b",")?;

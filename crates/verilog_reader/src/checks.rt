@@ -6,12 +6,13 @@ ghost use Rattle.specify_blocks.specs.VerilogBlocks as spec;
 ghost use Rattle.rule_readers.specs.Reading.{Reads};
 
 use crate::check_parts::{an_edge_event, an_event, check_end, condition};
+use crate::netlist::Netlist;
 use crate::numbers::number;
 use crate::paths::paths;
 use crate::period_lines::period_check;
 use cell_machine::{CheckKind, Edge, Event};
 use rule_readers::{Cursor, Stop};
-use specify_blocks::{VCheck, VModule};
+use specify_blocks::VCheck;
 use sqlite_items::Items;
 use std::alloc::Global;
 use udp_reader::Verilog;
@@ -53,7 +54,7 @@ fn check_of(token: &[u8]) -> Option<CheckKind>
 fn ordered_check(
     cursor: &mut Cursor<'_, Verilog>,
     kind: CheckKind,
-    model: &VModule,
+    model: &Netlist,
 ) -> Result<VCheck, Stop>
     ensures { Reads (read (spec.ordered_check kind model.now) cursor.old) result cursor.new }
 {
@@ -78,7 +79,7 @@ fn ordered_check(
 fn turned_check(
     cursor: &mut Cursor<'_, Verilog>,
     kind: CheckKind,
-    model: &VModule,
+    model: &Netlist,
 ) -> Result<VCheck, Stop>
     ensures { Reads (read (spec.turned_check kind model.now) cursor.old) result cursor.new }
 {
@@ -100,7 +101,7 @@ fn turned_check(
 
 /// The width of a pulse.
 #[tactic(auto, unfolding(specify_blocks::specs::VerilogBlocks::width_check))]
-fn width_check(cursor: &mut Cursor<'_, Verilog>, model: &VModule) -> Result<VCheck, Stop>
+fn width_check(cursor: &mut Cursor<'_, Verilog>, model: &Netlist) -> Result<VCheck, Stop>
     ensures { Reads (read (spec.width_check model.now) cursor.old) result cursor.new }
 {
     let first = an_edge_event(cursor, model)?;
@@ -127,7 +128,7 @@ fn width_check(cursor: &mut Cursor<'_, Verilog>, model: &VModule) -> Result<VChe
 #[tactic(auto, unfolding(specify_blocks::specs::VerilogBlocks::check_of_kind))]
 fn check_of_kind(
     cursor: &mut Cursor<'_, Verilog>,
-    model: &VModule,
+    model: &Netlist,
     kind: CheckKind,
 ) -> Result<VCheck, Stop>
     ensures { Reads (read (spec.check_of_kind model.now kind) cursor.old) result cursor.new }
@@ -144,7 +145,7 @@ fn check_of_kind(
 
 /// A check, behind its word.
 #[tactic(auto, unfolding(specify_blocks::specs::VerilogBlocks::check))]
-fn check(cursor: &mut Cursor<'_, Verilog>, model: &VModule, kind: CheckKind) -> Result<VCheck, Stop>
+fn check(cursor: &mut Cursor<'_, Verilog>, model: &Netlist, kind: CheckKind) -> Result<VCheck, Stop>
     ensures { Reads (read (spec.check model.now kind) cursor.old) result cursor.new }
 {
     cursor.expect(b"(")?;
@@ -156,7 +157,7 @@ fn check(cursor: &mut Cursor<'_, Verilog>, model: &VModule, kind: CheckKind) -> 
 fn checks(
     cursor: &mut Cursor<'_, Verilog>,
     alloc: Global,
-    model: &VModule,
+    model: &Netlist,
 ) -> Result<Items<VCheck>, Stop>
     ensures { Reads (read (spec.checks model.now) cursor.old) result cursor.new }
 {
@@ -176,20 +177,17 @@ fn checks(
 pub fn specify(
     cursor: &mut Cursor<'_, Verilog>,
     alloc: Global,
-    joined: VModule,
-) -> Result<VModule, Stop>
+    joined: Netlist,
+) -> Result<Netlist, Stop>
     ensures reads { Reads (read (spec.specify joined) cursor.old) result cursor.new }
     ensures named { IfOk result (λ model. model.name ≡ joined.name) }
 {
-    let mut model = joined;
     if !cursor.is_next(b"specify") {
-        return Ok(model);
+        return Ok(joined);
     }
     cursor.skip();
-    let paths = paths(cursor, alloc, &model)?;
-    let checks = checks(cursor, alloc, &model)?;
+    let paths = paths(cursor, alloc, &joined)?;
+    let checks = checks(cursor, alloc, &joined)?;
     cursor.expect(b"endspecify")?;
-    model.paths = paths;
-    model.checks = checks;
-    Ok(model)
+    Ok(joined.with_block(paths, checks))
 }

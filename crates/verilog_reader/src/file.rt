@@ -103,7 +103,7 @@ fn one_module(
     let joined = instances(cursor, alloc, declared)?;
     let whole = specify(cursor, alloc, joined)?;
     cursor.expect_where(are_all_driven(&whole), Refusal::Undriven, b"endmodule")?;
-    Ok(whole)
+    Ok(whole.into_module())
 }
 
 /// One more module, behind its word.

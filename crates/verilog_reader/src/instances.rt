@@ -6,13 +6,14 @@ ghost use Rattle.rule_readers.specs.Words.{valued};
 ghost use Rattle.specify_blocks.specs.VerilogModules as spec;
 ghost use Rattle.udp_tables.specs.declared.table.Udp.{Udp};
 ghost use Rattle.verilog_reader.specs.Begun.{is_instance_start, instance_primitive};
-ghost use Rattle.verilog_reader.specs.PrimitiveNames.{FindsFirst};
+ghost use Rattle.verilog_reader.specs.FirstNames.{FindsFirst, udp_name};
 ghost use Rattle.rule_readers.specs.Reading.{Reads, ReadsAs};
 
+use crate::first_names::{FirstNames, primitive_names};
+use crate::netlist::Netlist;
 use crate::nets::is_sequential;
-use crate::primitive_names::{PrimitiveNames, primitive_names};
 use crate::terminals::{
-    has_all_inputs, is_driven_already, is_terminal, may_drive, may_feed, net_of,
+    has_all_inputs, is_terminal, may_drive, may_feed, net_of,
 };
 use rule_readers::{Cursor, Refusal, Stop};
 use specify_blocks::{Instance, VModule, VNet};
@@ -42,8 +43,8 @@ fn is_instance_start(token: &[u8]) -> bool
 }
 
 /// What a token begins an instance of: the primitive with a number, or a buffer. None where there is no such primitive.
-fn instance_primitive(names: &PrimitiveNames, token: &[u8]) -> Option<Option<usize>>
-    ensures { (udps : List Udp) → FindsFirst names.now udps → result ≡ instance_primitive udps token.now }
+fn instance_primitive(names: &FirstNames, token: &[u8]) -> Option<Option<usize>>
+    ensures { (udps : List Udp) → FindsFirst udp_name names.now udps → result ≡ instance_primitive udps token.now }
 {
     if token == b"buf".as_slice() {
         return Some(None);
@@ -58,7 +59,7 @@ fn instance_primitive(names: &PrimitiveNames, token: &[u8]) -> Option<Option<usi
 #[tactic(auto, unfolding(specify_blocks::specs::VerilogModules::driven_terminal), using(crate::proofs::NamedNets::other, crate::proofs::NamedNets::no_net, crate::proofs::NamedNets::barred, crate::proofs::NamedNets::taken, crate::proofs::NamedNets::fits))]
 fn driven_terminal(
     cursor: &mut Cursor<'_, Verilog>,
-    model: &VModule,
+    model: &Netlist,
     sequential: bool,
 ) -> Result<VNet, Stop>
     ensures { Reads (read (spec.driven_terminal model.now sequential) cursor.old) result cursor.new }
@@ -72,7 +73,7 @@ fn driven_terminal(
     if !may_drive(model, sequential, net) {
         return Err(Stop::Refused(Refusal::Undefined));
     }
-    if is_driven_already(model, net) {
+    if model.is_driven(net) {
         return Err(Stop::Refused(Refusal::Twice));
     }
     cursor.skip();
@@ -83,7 +84,7 @@ fn driven_terminal(
 #[tactic(auto, unfolding(specify_blocks::specs::VerilogModules::feeding_terminal), using(crate::proofs::NamedNets::other, crate::proofs::NamedNets::no_net, crate::proofs::NamedNets::barred, crate::proofs::NamedNets::taken, crate::proofs::NamedNets::fits))]
 fn feeding_terminal(
     cursor: &mut Cursor<'_, Verilog>,
-    model: &VModule,
+    model: &Netlist,
     sequential: bool,
     output: VNet,
     inputs: &[VNet],
@@ -111,7 +112,7 @@ fn feeding_terminal(
 fn first_terminal(
     cursor: &mut Cursor<'_, Verilog>,
     alloc: Global,
-    model: &VModule,
+    model: &Netlist,
     sequential: bool,
     output: VNet,
 ) -> Result<Items<VNet>, Stop>
@@ -126,7 +127,7 @@ fn first_terminal(
 #[tactic(auto, unfolding(specify_blocks::specs::VerilogModules::more_inputs, specify_blocks::specs::VerilogModules::next_input), using(rule_readers::proofs::Repeats::turn, udp_reader::proofs::Words::choose_begun, udp_reader::proofs::Words::choose_other))]
 fn more_terminals(
     cursor: &mut Cursor<'_, Verilog>,
-    model: &VModule,
+    model: &Netlist,
     sequential: bool,
     output: VNet,
     mut inputs: Items<VNet>,
@@ -148,18 +149,18 @@ fn more_terminals(
 fn call(
     cursor: &mut Cursor<'_, Verilog>,
     alloc: Global,
-    model: &VModule,
+    model: &Netlist,
     udp: usize,
 ) -> Result<Instance, Stop>
     ensures { ReadsAs (spec.with_instance model.now) (read (spec.call model.now udp) cursor.old) result cursor.new }
 {
-    let sequential = is_sequential(model.udps.as_slice(), udp);
+    let sequential = is_sequential(model.module().udps.as_slice(), udp);
     cursor.expect(b"(")?;
     let output = driven_terminal(cursor, model, sequential)?;
     cursor.expect(b",")?;
     let first = first_terminal(cursor, alloc, model, sequential, output)?;
     let inputs = more_terminals(cursor, model, sequential, output, first)?;
-    let whole = has_all_inputs(model.udps.as_slice(), udp, inputs.as_slice());
+    let whole = has_all_inputs(model.module().udps.as_slice(), udp, inputs.as_slice());
     cursor.expect_where(whole, Refusal::Width, b")")?;
     cursor.expect(b";")?;
     Ok(Instance::Primitive {
@@ -182,7 +183,7 @@ fn a_bit(cursor: &mut Cursor<'_, Verilog>) -> Result<bool, Stop>
 
 /// The terminals of a buffer of a constant, behind its word.
 #[tactic(auto, unfolding(specify_blocks::specs::VerilogModules::constant))]
-fn constant(cursor: &mut Cursor<'_, Verilog>, model: &VModule) -> Result<Instance, Stop>
+fn constant(cursor: &mut Cursor<'_, Verilog>, model: &Netlist) -> Result<Instance, Stop>
     ensures { ReadsAs (spec.with_instance model.now) (read (spec.constant model.now) cursor.old) result cursor.new }
 {
     cursor.expect(b"(")?;
@@ -198,7 +199,7 @@ fn constant(cursor: &mut Cursor<'_, Verilog>, model: &VModule) -> Result<Instanc
 fn one_instance(
     cursor: &mut Cursor<'_, Verilog>,
     alloc: Global,
-    model: &VModule,
+    model: &Netlist,
     udp: Option<usize>,
 ) -> Result<Instance, Stop>
     ensures { ReadsAs (spec.with_instance model.now) (read (spec.one_instance model.now udp) cursor.old) result cursor.new }
@@ -209,27 +210,42 @@ fn one_instance(
     }
 }
 
-/// All instances of a module, which it then has.
+/// The instances of a module behind those that it has, where its primitives have these names.
 #[tactic(auto, unfolding(specify_blocks::specs::VerilogModules::instances), using(rule_readers::proofs::Repeats::turn, crate::proofs::Begun::no_instance, crate::proofs::Begun::undefined, crate::proofs::Begun::some_instance))]
-pub fn instances(
+fn more_instances(
     cursor: &mut Cursor<'_, Verilog>,
     alloc: Global,
-    mut model: VModule,
-) -> Result<VModule, Stop>
+    names: &FirstNames,
+    mut model: Netlist,
+) -> Result<Netlist, Stop>
+    requires { FindsFirst udp_name names.now model.udps }
     ensures reads { Reads (read (spec.instances model) cursor.old) result cursor.new }
     ensures named { IfOk result (λ joined. joined.name ≡ model.name) }
 {
-    let names = primitive_names(alloc, model.udps.as_slice())?;
     for _turn in 0..cursor.left() {
         if !is_instance_start(cursor.bytes()) {
             break;
         }
-        let Some(udp) = instance_primitive(&names, cursor.bytes()) else {
+        let Some(udp) = instance_primitive(names, cursor.bytes()) else {
             return Err(Stop::Refused(Refusal::Undefined));
         };
         cursor.skip();
         let instance = one_instance(cursor, alloc, &model, udp)?;
-        model.instances.push(instance)?;
+        model.join(instance)?;
     }
     Ok(model)
+}
+
+/// All instances of a module, which it then has.
+pub fn instances(
+    cursor: &mut Cursor<'_, Verilog>,
+    alloc: Global,
+    declared: VModule,
+) -> Result<Netlist, Stop>
+    ensures reads { Reads (read (spec.instances declared) cursor.old) result cursor.new }
+    ensures named { IfOk result (λ joined. joined.name ≡ declared.name) }
+{
+    let names = primitive_names(alloc, declared.udps.as_slice())?;
+    let model = Netlist::new(alloc, declared)?;
+    more_instances(cursor, alloc, &names, model)
 }

@@ -1,15 +1,18 @@
-//! The names of a module: which net each stands for, and what the net is. (IEEE 1364-2005, clauses 8 and 12.)
+//! The nets of a module, looked for one after another. (IEEE 1364-2005, clauses 8 and 12.)
 
-ghost use Rattle.std.specs.Prelude.{◌≡◌, Some};
+ghost use Rattle.std.specs.Prelude.{◌≡◌};
 ghost use Rattle.std.specs.Str.{bytes_eq};
 ghost use Rattle.std.specs.List.{position};
 ghost use Rattle.specify_blocks.specs.Nets as spec;
-ghost use Rattle.specify_blocks.specs.VerilogModules.{net_of, other_net};
-ghost use Rattle.specify_blocks.specs.VerilogBlocks.{port_of, kept};
+ghost use Rattle.specify_blocks.specs.VerilogModules.{is_driven_already};
+ghost use Rattle.specify_blocks.specs.VerilogBlocks.{port_of};
 
 use specify_blocks::{Instance, VModule, VNet};
 use sqlite_items::Items;
 use udp_tables::{Udp, VPort};
+
+/// How many nets of a kind are looked for one after another.
+pub const FEW: usize = 16;
 
 /// The number of the port with this name.
 pub fn port_of(model: &VModule, name: &[u8]) -> Option<usize>
@@ -59,26 +62,6 @@ pub fn is_sequential(udps: &[Udp], udp: usize) -> bool
     }
 }
 
-/// The number of the input with this name.
-pub fn input_of(model: &VModule, name: &[u8]) -> Option<usize>
-    ensures { result ≡ kept (spec.is_input_port model.now.ports) (port_of model.now name.now) }
-{
-    match port_of(model, name) {
-        Some(port) if is_input_port(model.ports.as_slice(), port) => Some(port),
-        _ => None,
-    }
-}
-
-/// The number of the output with this name.
-pub fn output_of(model: &VModule, name: &[u8]) -> Option<usize>
-    ensures { result ≡ kept (spec.is_output_port model.now.ports) (port_of model.now name.now) }
-{
-    match port_of(model, name) {
-        Some(port) if is_output_port(model.ports.as_slice(), port) => Some(port),
-        _ => None,
-    }
-}
-
 /// Whether an instance is one of a primitive with a state.
 pub fn has_state(udps: &[Udp], instance: &Instance) -> bool
     ensures { result ≡ spec.has_state udps.now instance.now }
@@ -103,12 +86,28 @@ pub fn is_value(model: &VModule, wire: usize) -> bool
     false
 }
 
-/// The number of the condition with this name: a wire that an instance without a state drives.
-pub fn condition_of(model: &VModule, name: &[u8]) -> Option<usize>
-    ensures { result ≡ kept (spec.is_value model.now model.now.instances) (position (bytes_eq name.now) model.now.wires) }
+/// Whether an instance with a state drives this wire.
+pub fn is_state(model: &VModule, wire: usize) -> bool
+    ensures { result ≡ spec.is_state model.now model.now.instances wire }
 {
-    match wire_of(model.wires.as_slice(), name) {
-        Some(wire) if is_value(model, wire) => Some(wire),
-        _ => None,
+    for instance in model.instances.as_slice() {
+        if has_state(model.udps.as_slice(), instance)
+            && instance.net_driven().is_same(VNet::Wire(wire))
+        {
+            return true;
+        }
     }
+    false
+}
+
+/// Whether an instance drives the net.
+pub fn is_driven_already(model: &VModule, net: VNet) -> bool
+    ensures { result ≡ is_driven_already model.now net }
+{
+    for instance in model.instances.as_slice() {
+        if instance.net_driven().is_same(net) {
+            return true;
+        }
+    }
+    false
 }

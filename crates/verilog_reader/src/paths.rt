@@ -1,16 +1,20 @@
 //! Paths of specify blocks. (IEEE 1364-2005, 14.2 and 14.3.)
 
 ghost use Rattle.std.specs.Prelude.{◌≡◌, ℕ, List, Option};
+ghost use Rattle.std.specs.List.{position};
+ghost use Rattle.std.specs.Str.{bytes_eq};
 ghost use Rattle.grammar_rules.specs.Reading.{read};
 ghost use Rattle.udp_tables.specs.VerilogRules.{known};
+ghost use Rattle.specify_blocks.specs.Nets as nets;
 ghost use Rattle.specify_blocks.specs.VerilogBlocks as spec;
 ghost use Rattle.rule_readers.specs.Reading.{Reads};
 ghost use Rattle.rule_readers.specs.Next.{next_bytes, rest};
 
-use crate::nets::{condition_of, input_of, output_of};
+use crate::netlist::Netlist;
+use crate::nets::{is_input_port, is_output_port};
 use crate::numbers::number;
 use rule_readers::{Cursor, Refusal, Stop};
-use specify_blocks::{Gate, VModule, VPath};
+use specify_blocks::{Gate, VPath};
 use sqlite_items::Items;
 use std::alloc::Global;
 use udp_reader::Verilog;
@@ -38,9 +42,39 @@ pub fn known_number(cursor: &mut Cursor<'_, Verilog>, found: Option<usize>) -> R
     Ok(number)
 }
 
+/// The number of the input with this name.
+fn input_of(model: &Netlist, name: &[u8]) -> Option<usize>
+    ensures { result ≡ spec.kept (nets.is_input_port model.now.ports) (spec.port_of model.now name.now) }
+{
+    match model.port_of(name) {
+        Some(port) if is_input_port(model.module().ports.as_slice(), port) => Some(port),
+        _ => None,
+    }
+}
+
+/// The number of the output with this name.
+fn output_of(model: &Netlist, name: &[u8]) -> Option<usize>
+    ensures { result ≡ spec.kept (nets.is_output_port model.now.ports) (spec.port_of model.now name.now) }
+{
+    match model.port_of(name) {
+        Some(port) if is_output_port(model.module().ports.as_slice(), port) => Some(port),
+        _ => None,
+    }
+}
+
+/// The number of the condition with this name: a wire that an instance without a state drives.
+fn condition_of(model: &Netlist, name: &[u8]) -> Option<usize>
+    ensures { result ≡ spec.kept (nets.is_value model.now model.now.instances) (position (bytes_eq name.now) model.now.wires) }
+{
+    match model.wire_of(name) {
+        Some(wire) if model.is_value(wire) => Some(wire),
+        _ => None,
+    }
+}
+
 /// The name of an input.
 #[tactic(auto, unfolding(specify_blocks::specs::VerilogBlocks::an_input))]
-pub fn input_name(cursor: &mut Cursor<'_, Verilog>, model: &VModule) -> Result<usize, Stop>
+pub fn input_name(cursor: &mut Cursor<'_, Verilog>, model: &Netlist) -> Result<usize, Stop>
     ensures { Reads (read (spec.an_input model.now) cursor.old) result cursor.new }
 {
     let found = input_of(model, cursor.bytes());
@@ -49,7 +83,7 @@ pub fn input_name(cursor: &mut Cursor<'_, Verilog>, model: &VModule) -> Result<u
 
 /// The name of an output.
 #[tactic(auto, unfolding(specify_blocks::specs::VerilogBlocks::an_output))]
-fn output_name(cursor: &mut Cursor<'_, Verilog>, model: &VModule) -> Result<usize, Stop>
+fn output_name(cursor: &mut Cursor<'_, Verilog>, model: &Netlist) -> Result<usize, Stop>
     ensures { Reads (read (spec.an_output model.now) cursor.old) result cursor.new }
 {
     let found = output_of(model, cursor.bytes());
@@ -58,7 +92,7 @@ fn output_name(cursor: &mut Cursor<'_, Verilog>, model: &VModule) -> Result<usiz
 
 /// The name of a condition.
 #[tactic(auto, unfolding(specify_blocks::specs::VerilogBlocks::a_condition))]
-pub fn condition_name(cursor: &mut Cursor<'_, Verilog>, model: &VModule) -> Result<usize, Stop>
+pub fn condition_name(cursor: &mut Cursor<'_, Verilog>, model: &Netlist) -> Result<usize, Stop>
     ensures { Reads (read (spec.a_condition model.now) cursor.old) result cursor.new }
 {
     let found = condition_of(model, cursor.bytes());
@@ -67,7 +101,7 @@ pub fn condition_name(cursor: &mut Cursor<'_, Verilog>, model: &VModule) -> Resu
 
 /// What stands behind `if` and before the ports of a path.
 #[tactic(auto, unfolding(specify_blocks::specs::VerilogBlocks::if_gate))]
-fn if_gate(cursor: &mut Cursor<'_, Verilog>, model: &VModule) -> Result<Gate, Stop>
+fn if_gate(cursor: &mut Cursor<'_, Verilog>, model: &Netlist) -> Result<Gate, Stop>
     ensures { Reads (read (spec.if_gate model.now) cursor.old) result cursor.new }
 {
     cursor.expect(b"(")?;
@@ -88,7 +122,7 @@ fn ifnone_gate(cursor: &mut Cursor<'_, Verilog>) -> Result<Gate, Stop>
 
 /// What stands before the ports of a path, of which the first token is next.
 #[tactic(auto, unfolding(specify_blocks::specs::VerilogBlocks::path_gate))]
-fn path_gate(cursor: &mut Cursor<'_, Verilog>, model: &VModule) -> Result<Gate, Stop>
+fn path_gate(cursor: &mut Cursor<'_, Verilog>, model: &Netlist) -> Result<Gate, Stop>
     ensures { Reads (read (spec.path_gate model.now (next_bytes cursor.old)) (rest cursor.old)) result cursor.new }
 {
     let first = cursor.bytes();
@@ -104,7 +138,7 @@ fn path_gate(cursor: &mut Cursor<'_, Verilog>, model: &VModule) -> Result<Gate, 
 
 /// A path, of which the first token is next.
 #[tactic(auto, unfolding(specify_blocks::specs::VerilogBlocks::path))]
-fn path(cursor: &mut Cursor<'_, Verilog>, model: &VModule) -> Result<VPath, Stop>
+fn path(cursor: &mut Cursor<'_, Verilog>, model: &Netlist) -> Result<VPath, Stop>
     ensures { Reads (read (spec.path model.now (next_bytes cursor.old)) (rest cursor.old)) result cursor.new }
 {
     let gate = path_gate(cursor, model)?;
@@ -133,7 +167,7 @@ fn path(cursor: &mut Cursor<'_, Verilog>, model: &VModule) -> Result<VPath, Stop
 pub fn paths(
     cursor: &mut Cursor<'_, Verilog>,
     alloc: Global,
-    model: &VModule,
+    model: &Netlist,
 ) -> Result<Items<VPath>, Stop>
     ensures { Reads (read (spec.paths model.now) cursor.old) result cursor.new }
 {

@@ -9,29 +9,30 @@ ghost use Rattle.specify_blocks.specs.VerilogBlocks as spec;
 ghost use Rattle.rule_readers.specs.Reading.{Reads};
 
 use crate::check_parts::{check_end, condition};
+use crate::netlist::Netlist;
 use crate::numbers::number;
 use crate::paths::input_name;
 use cell_machine::{CheckKind, Edge, Event};
 use rule_readers::{Cursor, Refusal, Stop};
-use specify_blocks::{VCheck, VModule};
+use specify_blocks::VCheck;
 use udp_reader::Verilog;
 use verilog_tokens::number_of;
 
 /// The name of this wire.
-fn wire_name(cursor: &mut Cursor<'_, Verilog>, model: &VModule, wire: usize) -> Result<(), Stop>
+fn wire_name(cursor: &mut Cursor<'_, Verilog>, model: &Netlist, wire: usize) -> Result<(), Stop>
     ensures { Reads (read (this_name (slice_get model.now.wires wire)) cursor.old) result cursor.new }
 {
-    match model.wires.get(wire) {
+    match model.module().wires.get(wire) {
         Some(name) => cursor.this_name(name.as_slice()),
         None => Err(Stop::Refused(cursor.no_name())),
     }
 }
 
 /// The name of this port.
-fn port_name(cursor: &mut Cursor<'_, Verilog>, model: &VModule, port: usize) -> Result<(), Stop>
+fn port_name(cursor: &mut Cursor<'_, Verilog>, model: &Netlist, port: usize) -> Result<(), Stop>
     ensures { Reads (read (this_name (option_map port_name (slice_get model.now.ports port))) cursor.old) result cursor.new }
 {
-    match model.ports.get(port) {
+    match model.module().ports.get(port) {
         Some(port) => cursor.this_name(port.name.as_slice()),
         None => Err(Stop::Refused(cursor.no_name())),
     }
@@ -41,7 +42,7 @@ fn port_name(cursor: &mut Cursor<'_, Verilog>, model: &VModule, port: usize) -> 
 #[tactic(auto, unfolding(specify_blocks::specs::VerilogBlocks::same_condition))]
 fn same_condition(
     cursor: &mut Cursor<'_, Verilog>,
-    model: &VModule,
+    model: &Netlist,
     condition: Option<usize>,
 ) -> Result<(), Stop>
     ensures { Reads (read (spec.same_condition model.now condition) cursor.old) result cursor.new }
@@ -72,7 +73,7 @@ fn same_number(cursor: &mut Cursor<'_, Verilog>, limit: u64) -> Result<(), Stop>
 #[tactic(auto, unfolding(specify_blocks::specs::VerilogBlocks::second_period))]
 fn second_period(
     cursor: &mut Cursor<'_, Verilog>,
-    model: &VModule,
+    model: &Netlist,
     port: usize,
     condition: Option<usize>,
     limit: u64,
@@ -91,7 +92,7 @@ fn second_period(
 
 /// A period: its two lines.
 #[tactic(auto, unfolding(specify_blocks::specs::VerilogBlocks::period_check))]
-pub fn period_check(cursor: &mut Cursor<'_, Verilog>, model: &VModule) -> Result<VCheck, Stop>
+pub fn period_check(cursor: &mut Cursor<'_, Verilog>, model: &Netlist) -> Result<VCheck, Stop>
     ensures { Reads (read (spec.period_check model.now) cursor.old) result cursor.new }
 {
     cursor.expect(b"posedge")?;

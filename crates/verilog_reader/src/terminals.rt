@@ -5,71 +5,46 @@ ghost use Rattle.std.specs.List.{list_any, list_all};
 ghost use Rattle.specify_blocks.specs.Nets as nets;
 ghost use Rattle.specify_blocks.specs.VerilogModules as spec;
 
-use crate::nets::{has_state, is_input_port, is_output_port, port_of, wire_of};
-use specify_blocks::{VModule, VNet};
+use crate::netlist::Netlist;
+use crate::nets::{is_input_port, is_output_port};
+use specify_blocks::VNet;
 use udp_tables::Udp;
 
 /// The net of a name: a port, a wire or the register.
-pub fn net_of(model: &VModule, name: &[u8]) -> Option<VNet>
+pub fn net_of(model: &Netlist, name: &[u8]) -> Option<VNet>
     ensures { result ≡ spec.net_of model.now name.now }
 {
-    if let Some(port) = port_of(model, name) {
+    if let Some(port) = model.port_of(name) {
         return Some(VNet::Port(port));
     }
-    if let Some(wire) = wire_of(model.wires.as_slice(), name) {
+    if let Some(wire) = model.wire_of(name) {
         return Some(VNet::Wire(wire));
     }
-    match &model.notifier {
+    match &model.module().notifier {
         Some(notifier) if name == notifier.as_slice() => Some(VNet::Notifier),
         _ => None,
     }
 }
 
 /// Whether an instance with a state, or one without, may drive a net.
-pub fn may_drive(model: &VModule, sequential: bool, net: VNet) -> bool
+pub fn may_drive(model: &Netlist, sequential: bool, net: VNet) -> bool
     ensures { result ≡ spec.may_drive model.now sequential net }
 {
     match net {
-        VNet::Port(port) => !sequential && is_output_port(model.ports.as_slice(), port),
-        VNet::Wire(wire) => wire < model.wires.len(),
+        VNet::Port(port) => !sequential && is_output_port(model.module().ports.as_slice(), port),
+        VNet::Wire(wire) => wire < model.module().wires.len(),
         VNet::Notifier => false,
     }
 }
 
-/// Whether an instance drives the net.
-pub fn is_driven_already(model: &VModule, net: VNet) -> bool
-    ensures { result ≡ spec.is_driven_already model.now net }
-{
-    for instance in model.instances.as_slice() {
-        if instance.net_driven().is_same(net) {
-            return true;
-        }
-    }
-    false
-}
-
-/// Whether an instance with a state drives this wire.
-fn is_state(model: &VModule, wire: usize) -> bool
-    ensures { result ≡ nets.is_state model.now model.now.instances wire }
-{
-    for instance in model.instances.as_slice() {
-        if has_state(model.udps.as_slice(), instance)
-            && instance.net_driven().is_same(VNet::Wire(wire))
-        {
-            return true;
-        }
-    }
-    false
-}
-
 /// Whether a net may feed an instance with a state, or one without.
-pub fn may_feed(model: &VModule, sequential: bool, net: VNet) -> bool
+pub fn may_feed(model: &Netlist, sequential: bool, net: VNet) -> bool
     ensures { result ≡ spec.may_feed model.now sequential net }
 {
     match net {
-        VNet::Port(port) => is_input_port(model.ports.as_slice(), port),
-        VNet::Wire(wire) => !sequential && is_state(model, wire),
-        VNet::Notifier => sequential && model.notifier.is_some(),
+        VNet::Port(port) => is_input_port(model.module().ports.as_slice(), port),
+        VNet::Wire(wire) => !sequential && model.is_state(wire),
+        VNet::Notifier => sequential && model.module().notifier.is_some(),
     }
 }
 
@@ -110,11 +85,11 @@ pub fn has_all_inputs(udps: &[Udp], udp: usize, inputs: &[VNet]) -> bool
 }
 
 /// Whether each output is driven.
-fn are_outputs_driven(model: &VModule) -> bool
+fn are_outputs_driven(model: &Netlist) -> bool
     ensures { result ≡ list_all (spec.is_driven_already model.now) (spec.output_nets 0 model.now.ports) }
 {
-    for (at, port) in model.ports.as_slice().iter().enumerate() {
-        if !port.input && !is_driven_already(model, VNet::Port(at)) {
+    for (at, port) in model.module().ports.as_slice().iter().enumerate() {
+        if !port.input && !model.is_driven(VNet::Port(at)) {
             return false;
         }
     }
@@ -122,11 +97,11 @@ fn are_outputs_driven(model: &VModule) -> bool
 }
 
 /// Whether each wire is driven.
-fn are_wires_driven(model: &VModule) -> bool
+fn are_wires_driven(model: &Netlist) -> bool
     ensures { result ≡ list_all (spec.is_driven_already model.now) (spec.wire_nets 0 model.now.wires) }
 {
-    for (wire, _name) in model.wires.as_slice().iter().enumerate() {
-        if !is_driven_already(model, VNet::Wire(wire)) {
+    for (wire, _name) in model.module().wires.as_slice().iter().enumerate() {
+        if !model.is_driven(VNet::Wire(wire)) {
             return false;
         }
     }
@@ -135,7 +110,7 @@ fn are_wires_driven(model: &VModule) -> bool
 
 /// Whether each output and each wire is driven.
 #[tactic(auto, using(crate::proofs::Among::all_appended))]
-pub fn are_all_driven(model: &VModule) -> bool
+pub fn are_all_driven(model: &Netlist) -> bool
     ensures { result ≡ spec.are_all_driven model.now }
 {
     are_outputs_driven(model) && are_wires_driven(model)

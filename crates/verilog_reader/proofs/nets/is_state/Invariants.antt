@@ -1,6 +1,6 @@
 use Rattle.std.proofs.Common.{◌≡◌, drop}
 use Rattle.specify_blocks.specs.Nets.{is_state}
-use Rattle.verilog_reader.proofs.terminals.is_state.Given as goal
+use Rattle.verilog_reader.proofs.nets.is_state.Given as goal
 
 abbrev pub invariant-loop-instance : goal.invariant-loop-instance
 invariant-loop-instance l =

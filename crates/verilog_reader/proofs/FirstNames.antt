@@ -1,4 +1,4 @@
--- Primitives that are added to a list of their names one after another.
+-- Things whose names are added to a list one after another.
 use Rattle.std.proofs.Common.{◌≡◌, ◌<◌, ◌≤◌, ℕ, zero, suc, ◌+◌, Bool, true, false, cond, if◌then◌else◌, List, [], ◌∷◌, ◌++◌, take, get_or, length, position, Option, Some, None, refl, sym, ap, subst, ◌∙◌, arith, length-append}
 use Rattle.std.specs.Prelude.{slice_get}
 use Rattle.std.specs.List.{position_from}
@@ -9,10 +9,8 @@ use Rattle.std.proofs.lemmas.List.Quantifiers.{position-Some}
 use Rattle.std.proofs.lemmas.Iterator.Adapters.{position_from-zero}
 use Rattle.std.proofs.lemmas.Slice.Eq.{bytes_eq-Decides}
 use Rattle.bool_functions.specs.NameList.{number_of, Adds}
-use Rattle.udp_tables.specs.declared.table.Udp.{Udp}
-use Rattle.specify_blocks.specs.VerilogModules.{primitive_number}
-use Rattle.verilog_reader.specs.declared.primitive_names.PrimitiveNames.{PrimitiveNames}
-use Rattle.verilog_reader.specs.PrimitiveNames.{place_by, places_with, AddsPlace, FindsFirst}
+use Rattle.verilog_reader.specs.declared.first_names.FirstNames.{FirstNames}
+use Rattle.verilog_reader.specs.FirstNames.{place_by, places_with, AddsPlace, FindsFirst}
 
 -- the first answer, and else the number of the last element where it passes
 abbrev or_last : Option ℕ → Bool → ℕ → Option ℕ
@@ -90,31 +88,31 @@ more_names old new name (Some i) places number a e =
     length-append places (number ∷ []) ∙ ap (λ n. n + 1) e ∙ sym (length-append old (name ∷ [])) ∙ ap length (sym a.2)
 more_names old new name None places number a e = e ∙ ap length (sym a.1)
 
-added : (old new : PrimitiveNames) (name x : List ℕ) (number : ℕ) (found : Option ℕ) → length old.places ≡ length old.names → Adds old.names name found new.names
+added : (old new : FirstNames) (name x : List ℕ) (number : ℕ) (found : Option ℕ) → length old.places ≡ length old.names → Adds old.names name found new.names
     → new.places ≡ places_with found old.places number → place_by new x ≡ or_last (place_by old x) (bytes_eq x name) number
 added old new name x number (Some i) same a e = rw (a.2, e) (added_new old.names old.places name x number same)
 added old new name x number None same a e = rw (a.1, e) (added_old old.names old.places name x number same a.0)
 
--- before the first primitive
-pub first_none : FindsFirst (record { names = []; places = [] }) []
-first_none = record { same_length = refl; first = λ name. refl }
+-- before the first thing
+pub first_none : {X : Type 0} (name_of : X → List ℕ) → FindsFirst name_of (record { names = []; places = [] }) []
+first_none name_of = record { same_length = refl; first = λ name. refl }
 
--- behind one primitive more
-pub first_more : (old new : PrimitiveNames) (udps : List Udp) (i : ℕ) (udp : Udp) → i < length udps → udp ≡ get_or udps i udp → FindsFirst old (take i udps)
-    → AddsPlace old udp.name i new → FindsFirst new (take (i + 1) udps)
-first_more old new udps i udp h e f a =
-    let longer : take (i + 1) udps ≡ take i udps ++ udp ∷ [] = take_more udps i udp h ∙ ap (λ u. take i udps ++ u ∷ []) (sym e) in
-    let size : length (take i udps) ≡ i = length-take-le i udps (omega (arith, h)) in
+-- behind one thing more
+pub first_more : {X : Type 0} (name_of : X → List ℕ) (old new : FirstNames) (xs : List X) (i : ℕ) (x : X) → i < length xs → x ≡ get_or xs i x
+    → FindsFirst name_of old (take i xs) → AddsPlace old (name_of x) i new → FindsFirst name_of new (take (i + 1) xs)
+first_more name_of old new xs i x h e f a =
+    let longer : take (i + 1) xs ≡ take i xs ++ x ∷ [] = take_more xs i x h ∙ ap (λ u. take i xs ++ u ∷ []) (sym e) in
+    let size : length (take i xs) ≡ i = length-take-le i xs (omega (arith, h)) in
     record {
-      same_length = ap length a.places ∙ more_names old.names new.names udp.name a.found old.places i a.names f.same_length;
+      same_length = ap length a.places ∙ more_names old.names new.names (name_of x) a.found old.places i a.names f.same_length;
       first = λ name.
-          added old new udp.name name i a.found f.same_length a.names a.places
-          ∙ ap (λ o. or_last o (bytes_eq name udp.name) i) (f.first name)
-          ∙ ap (or_last (primitive_number (take i udps) name) (bytes_eq name udp.name)) (sym size)
-          ∙ sym (position_last (λ (u : Udp). bytes_eq name u.name) (take i udps) udp)
-          ∙ sym (ap (λ us. primitive_number us name) longer);
+          added old new (name_of x) name i a.found f.same_length a.names a.places
+          ∙ ap (λ o. or_last o (bytes_eq name (name_of x)) i) (f.first name)
+          ∙ ap (or_last (position (λ u. bytes_eq name (name_of u)) (take i xs)) (bytes_eq name (name_of x))) (sym size)
+          ∙ sym (position_last (λ u. bytes_eq name (name_of u)) (take i xs) x)
+          ∙ sym (ap (position (λ u. bytes_eq name (name_of u))) longer);
     }
 
--- behind all primitives
-pub first_all : (found : PrimitiveNames) (udps : List Udp) (i : ℕ) → length udps ≤ i → FindsFirst found (take i udps) → FindsFirst found udps
-first_all found udps i h f = subst (FindsFirst found) (take_all i udps h) f
+-- behind all things
+pub first_all : {X : Type 0} (name_of : X → List ℕ) (found : FirstNames) (xs : List X) (i : ℕ) → length xs ≤ i → FindsFirst name_of found (take i xs) → FindsFirst name_of found xs
+first_all name_of found xs i h f = subst (FindsFirst name_of found) (take_all i xs h) f

@@ -1,6 +1,6 @@
 use Rattle.std.proofs.Common.{◌≡◌, drop, nat_lt}
 use Rattle.specify_blocks.specs.Nets.{drivers}
-use Rattle.verilog_reader.proofs.terminals.is_driven_already.Given as goal
+use Rattle.verilog_reader.proofs.nets.is_driven_already.Given as goal
 
 abbrev pub invariant-loop-instance : goal.invariant-loop-instance
 invariant-loop-instance l =

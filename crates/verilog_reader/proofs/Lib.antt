@@ -10,3 +10,4 @@ pub mod SameNames
 pub mod NoWires
 pub mod DrivenNets
 pub mod FoundNets
+pub mod SameTerminals

@@ -6,3 +6,4 @@ pub mod FirstNames
 pub mod SameNames
 pub mod DrivenNets
 pub mod Netlist
+pub mod Terminals

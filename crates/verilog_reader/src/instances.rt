@@ -1,6 +1,6 @@
 //! The instances of a module, by recursive descent. (IEEE 1364-2005, 7.1, 7.3 and 8.6.)
 
-ghost use Rattle.std.specs.Prelude.{◌≡◌, ◌∷◌, [], List, IfOk};
+ghost use Rattle.std.specs.Prelude.{◌≡◌, List, IfOk};
 ghost use Rattle.grammar_rules.specs.Reading.{read};
 ghost use Rattle.rule_readers.specs.Words.{valued};
 ghost use Rattle.specify_blocks.specs.VerilogModules as spec;
@@ -9,15 +9,13 @@ ghost use Rattle.verilog_reader.specs.Begun.{is_instance_start, instance_primiti
 ghost use Rattle.verilog_reader.specs.FirstNames.{FindsFirst, udp_name};
 ghost use Rattle.rule_readers.specs.Reading.{Reads, ReadsAs};
 
+use crate::connections::{driven_terminal, first_terminal, more_terminals};
 use crate::first_names::{FirstNames, primitive_names};
 use crate::netlist::Netlist;
 use crate::nets::is_sequential;
-use crate::terminals::{
-    has_all_inputs, is_terminal, may_drive, may_feed, net_of,
-};
+use crate::terminals::has_all_inputs;
 use rule_readers::{Cursor, Refusal, Stop};
-use specify_blocks::{Instance, VModule, VNet};
-use sqlite_items::Items;
+use specify_blocks::{Instance, VModule};
 use std::alloc::Global;
 use udp_reader::Verilog;
 use verilog_tokens::is_name;
@@ -55,95 +53,6 @@ fn instance_primitive(names: &FirstNames, token: &[u8]) -> Option<Option<usize>>
     }
 }
 
-/// The net that an instance drives.
-#[tactic(auto, unfolding(specify_blocks::specs::VerilogModules::driven_terminal), using(crate::proofs::NamedNets::other, crate::proofs::NamedNets::no_net, crate::proofs::NamedNets::barred, crate::proofs::NamedNets::taken, crate::proofs::NamedNets::fits))]
-fn driven_terminal(
-    cursor: &mut Cursor<'_, Verilog>,
-    model: &Netlist,
-    sequential: bool,
-) -> Result<VNet, Stop>
-    ensures { Reads (read (spec.driven_terminal model.now sequential) cursor.old) result cursor.new }
-{
-    if !is_name(cursor.bytes()) {
-        return Err(Stop::Refused(Refusal::Syntax));
-    }
-    let Some(net) = net_of(model, cursor.bytes()) else {
-        return Err(Stop::Refused(Refusal::Undefined));
-    };
-    if !may_drive(model, sequential, net) {
-        return Err(Stop::Refused(Refusal::Undefined));
-    }
-    if model.is_driven(net) {
-        return Err(Stop::Refused(Refusal::Twice));
-    }
-    cursor.skip();
-    Ok(net)
-}
-
-/// A net that feeds an instance with this output and these inputs already.
-#[tactic(auto, unfolding(specify_blocks::specs::VerilogModules::feeding_terminal), using(crate::proofs::NamedNets::other, crate::proofs::NamedNets::no_net, crate::proofs::NamedNets::barred, crate::proofs::NamedNets::taken, crate::proofs::NamedNets::fits))]
-fn feeding_terminal(
-    cursor: &mut Cursor<'_, Verilog>,
-    model: &Netlist,
-    sequential: bool,
-    output: VNet,
-    inputs: &[VNet],
-) -> Result<VNet, Stop>
-    ensures { Reads (read (spec.feeding_terminal model.now sequential (output ∷ inputs.now)) cursor.old) result cursor.new }
-{
-    if !is_name(cursor.bytes()) {
-        return Err(Stop::Refused(Refusal::Syntax));
-    }
-    let Some(net) = net_of(model, cursor.bytes()) else {
-        return Err(Stop::Refused(Refusal::Undefined));
-    };
-    if !may_feed(model, sequential, net) {
-        return Err(Stop::Refused(Refusal::Undefined));
-    }
-    if is_terminal(output, inputs, net) {
-        return Err(Stop::Refused(Refusal::Twice));
-    }
-    cursor.skip();
-    Ok(net)
-}
-
-/// The first net that feeds an instance.
-#[tactic(auto, unfolding(specify_blocks::specs::VerilogModules::next_input))]
-fn first_terminal(
-    cursor: &mut Cursor<'_, Verilog>,
-    alloc: Global,
-    model: &Netlist,
-    sequential: bool,
-    output: VNet,
-) -> Result<Items<VNet>, Stop>
-    ensures { Reads (read (spec.next_input model.now sequential output []) cursor.old) result cursor.new }
-{
-    let mut inputs = Items::new(alloc);
-    inputs.push(feeding_terminal(cursor, model, sequential, output, inputs.as_slice())?)?;
-    Ok(inputs)
-}
-
-/// The nets that feed an instance behind these.
-#[tactic(auto, unfolding(specify_blocks::specs::VerilogModules::more_inputs, specify_blocks::specs::VerilogModules::next_input), using(rule_readers::proofs::Repeats::turn, udp_reader::proofs::Words::choose_begun, udp_reader::proofs::Words::choose_other))]
-fn more_terminals(
-    cursor: &mut Cursor<'_, Verilog>,
-    model: &Netlist,
-    sequential: bool,
-    output: VNet,
-    mut inputs: Items<VNet>,
-) -> Result<Items<VNet>, Stop>
-    ensures { Reads (read (spec.more_inputs model.now sequential output inputs) cursor.old) result cursor.new }
-{
-    for _turn in 0..cursor.left() {
-        if !cursor.is_next(b",") {
-            break;
-        }
-        cursor.skip();
-        inputs.push(feeding_terminal(cursor, model, sequential, output, inputs.as_slice())?)?;
-    }
-    Ok(inputs)
-}
-
 /// The terminals of an instance of the primitive with this number, behind its name.
 #[tactic(auto, unfolding(specify_blocks::specs::VerilogModules::call))]
 fn call(
@@ -156,9 +65,10 @@ fn call(
 {
     let sequential = is_sequential(model.module().udps.as_slice(), udp);
     cursor.expect(b"(")?;
+    let name = cursor.bytes();
     let output = driven_terminal(cursor, model, sequential)?;
     cursor.expect(b",")?;
-    let first = first_terminal(cursor, alloc, model, sequential, output)?;
+    let first = first_terminal(cursor, alloc, model, sequential, output, name)?;
     let inputs = more_terminals(cursor, model, sequential, output, first)?;
     let whole = has_all_inputs(model.module().udps.as_slice(), udp, inputs.as_slice());
     cursor.expect_where(whole, Refusal::Width, b")")?;

@@ -3,6 +3,7 @@
 
 mod check_parts;
 mod checks;
+mod connections;
 mod declarations;
 mod driven_nets;
 mod file;

@@ -1,8 +1,7 @@
 //! What the terminals of an instance may be. (IEEE 1364-2005, 8.6; the restrictions on places are this project's.)
 
-ghost use Rattle.std.specs.Prelude.{◌≡◌, ◌==◌, ◌∷◌, ◌++◌, length};
-ghost use Rattle.std.specs.List.{list_any, list_all};
-ghost use Rattle.specify_blocks.specs.Nets as nets;
+ghost use Rattle.std.specs.Prelude.{◌≡◌, ◌==◌, length};
+ghost use Rattle.std.specs.List.{list_all};
 ghost use Rattle.specify_blocks.specs.VerilogModules as spec;
 
 use crate::netlist::Netlist;
@@ -46,25 +45,6 @@ pub fn may_feed(model: &Netlist, sequential: bool, net: VNet) -> bool
         VNet::Wire(wire) => !sequential && model.is_state(wire),
         VNet::Notifier => sequential && model.module().notifier.is_some(),
     }
-}
-
-/// Whether a net is one of these.
-fn is_one_of(others: &[VNet], net: VNet) -> bool
-    ensures { result ≡ list_any (nets.same_net net) others.now }
-{
-    for other in others {
-        if net.is_same(*other) {
-            return true;
-        }
-    }
-    false
-}
-
-/// Whether a net is the output or one of the inputs of an instance.
-pub fn is_terminal(output: VNet, inputs: &[VNet], net: VNet) -> bool
-    ensures { result ≡ list_any (nets.same_net net) (output ∷ inputs.now) }
-{
-    net.is_same(output) || is_one_of(inputs, net)
 }
 
 /// How many inputs the primitive with this number has.

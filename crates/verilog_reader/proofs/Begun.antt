@@ -1,5 +1,5 @@
 -- The next token among the instances of a module.
-use Rattle.std.proofs.Common.{◌≡◌, ℕ, ◌+◌, ◌-◌, ◌<◌, ◌++◌, Ok, sym, ◌∙◌, Bool, true, false, ◌||◌, List, [], ◌∷◌, Option, Some, None, Result, Err, if◌then◌else◌, codes, refl, ap}
+use Rattle.std.proofs.Common.{◌≡◌, ℕ, ◌+◌, ◌-◌, ◌<◌, Ok, sym, ◌∙◌, Bool, true, false, ◌||◌, List, [], ◌∷◌, Option, Some, None, Result, Err, if◌then◌else◌, codes, refl, ap}
 use Rattle.std.specs.Result.{IsErrAnd}
 use Rattle.std.specs.Str.{bytes_eq}
 use Rattle.grammar_rules.specs.Rule.{Verdict, Fits, Misfit}

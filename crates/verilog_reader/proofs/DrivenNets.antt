@@ -5,7 +5,7 @@ use Rattle.std.specs.List.{list_any}
 use Rattle.std.specs.Option.{option_map}
 use Rattle.std.proofs.Math.Dec.{eqb-zero-suc, eqb-suc-zero, eqb-suc-suc}
 use Rattle.std.proofs.Math.Dec.{eqb-zero-suc, eqb-suc-zero, eqb-suc-suc}
-use Rattle.std.proofs.lemmas.List.{take_more, take_all}
+use Rattle.std.proofs.lemmas.List.{take_more}
 use Rattle.std.proofs.lemmas.List.Folds.{list_any-append}
 use Rattle.udp_tables.specs.declared.table.Udp.{Udp}
 use Rattle.specify_blocks.specs.declared.model.VNet.{VNet}
@@ -110,10 +110,10 @@ tell_none test count = λ n b e. unset count n b e
 pub none_driven : (found : DrivenNets) (udps : List Udp) (p s v : ℕ) → found.ports ≡ replicate p false → found.states ≡ replicate s false → found.values ≡ replicate v false
     → AreDriven found udps []
 none_driven found udps p s v ep es ev = record {
-      ports = subst (λ ms. Tell drives_port ms []) (sym ep) (tell_none drives_port p);
-      states = subst (λ ms. Tell (drives_state udps) ms []) (sym es) (tell_none (drives_state udps) s);
-      values = subst (λ ms. Tell (drives_value udps) ms []) (sym ev) (tell_none (drives_value udps) v);
-    }
+  ports = subst (λ ms. Tell drives_port ms []) (sym ep) (tell_none drives_port p);
+  states = subst (λ ms. Tell (drives_state udps) ms []) (sym es) (tell_none (drives_state udps) s);
+  values = subst (λ ms. Tell (drives_value udps) ms []) (sym ev) (tell_none (drives_value udps) v);
+}
 
 -- behind one instance more of a list
 pub driven_next : (found new : DrivenNets) (udps : List Udp) (instances : List Instance) (k : ℕ) (i : Instance) → k < length instances → i ≡ get_or instances k i

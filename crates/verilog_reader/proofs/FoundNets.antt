@@ -4,7 +4,6 @@ use Rattle.std.specs.Prelude.{slice_get}
 use Rattle.std.specs.List.{list_any, position}
 use Rattle.std.specs.Str.{bytes_eq}
 use Rattle.udp_tables.specs.declared.table.Udp.{Udp}
-use Rattle.udp_tables.specs.declared.models.VPort.{VPort}
 use Rattle.specify_blocks.specs.declared.model.VNet.{VNet}
 use Rattle.specify_blocks.specs.declared.model.VNet.TheVariants as net
 use Rattle.specify_blocks.specs.declared.model.Instance.{Instance}
@@ -15,7 +14,7 @@ use Rattle.specify_blocks.specs.VerilogBlocks.{port_of}
 use Rattle.specify_blocks.proofs.InstanceLemmas.{drivers-cons}
 use Rattle.verilog_reader.specs.declared.driven_nets.DrivenNets.{DrivenNets}
 use Rattle.verilog_reader.specs.declared.first_names.FirstNames.{FirstNames}
-use Rattle.verilog_reader.specs.FirstNames.{FindsFirst, place_by, own_name}
+use Rattle.verilog_reader.specs.FirstNames.{place_by, own_name}
 use Rattle.verilog_reader.specs.DrivenNets.{AreDriven, driven_by, drives_state, drives_value}
 use Rattle.verilog_reader.specs.Netlist.{MayFind, AreKeptOf}
 use Rattle.verilog_reader.proofs.DrivenNets.{driven_more}

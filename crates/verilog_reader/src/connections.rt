@@ -117,7 +117,13 @@ pub fn first_terminal<'a>(
 {
     let names = TextNames::new(alloc).with(name)?;
     let inputs = Items::new(alloc);
-    next_terminal(cursor, model, sequential, output, Terminals { inputs, names })
+    next_terminal(
+        cursor,
+        model,
+        sequential,
+        output,
+        Terminals { inputs, names },
+    )
 }
 
 /// The nets that feed an instance behind these.

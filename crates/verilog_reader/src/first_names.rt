@@ -1,6 +1,6 @@
 //! Things that are found by their names, in the time of one look-up.
 
-ghost use Rattle.std.specs.Prelude.{◌≡◌, [], IfOk, IfErr, OnOk};
+ghost use Rattle.std.specs.Prelude.{◌≡◌, IfOk, IfErr, OnOk};
 ghost use Rattle.specify_blocks.specs.VerilogModules.{port_name};
 ghost use Rattle.verilog_reader.specs.FirstNames.{place_by, AddsPlace, FindsFirst, udp_name, own_name};
 

@@ -43,5 +43,6 @@ pub use laws::{
 pub use liberty_sim::LibertySim;
 pub use outputs::{OutputPin, Source};
 pub use pins::{Direction, Pin};
-pub use simulators::CellSim;
+pub use shown::Shown;
+pub use simulators::{CellSim, Sizes};
 pub use times::{is_within, renewed};

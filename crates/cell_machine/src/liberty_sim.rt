@@ -10,7 +10,7 @@ use crate::condition_names::{arc_names, check_names};
 use crate::pin_values::input_number;
 use crate::reports::report_all;
 use crate::shown::{Shown, show_all, show_start};
-use crate::simulators::CellSim;
+use crate::simulators::{CellSim, Sizes};
 use crate::states::change_states;
 use crate::times::Times;
 use sqlite_items::Items;
@@ -75,16 +75,12 @@ impl<'a> CellSim for LibertySim<'a> {
 
     ghost stands = { λ s h. Stands (data_of s.cell.now) s.check_names s.arc_names s.inputs s.times s.states s.reports s.shown h };
 
-    fn inputs(&self) -> usize {
-        self.inputs.len()
-    }
-
-    fn outputs(&self) -> usize {
-        self.shown.len()
-    }
-
-    fn checks(&self) -> usize {
-        self.reports.len()
+    fn sizes(&self) -> Sizes {
+        Sizes {
+            inputs: self.inputs.len(),
+            outputs: self.shown.len(),
+            checks: self.reports.len(),
+        }
     }
 
     fn step(&mut self, at: u64, pin: usize, to: Trit) {
@@ -123,12 +119,8 @@ impl<'a> CellSim for LibertySim<'a> {
         );
     }
 
-    fn output(&self, place: usize) -> Trit {
-        self.shown.as_slice()[place].value
-    }
-
-    fn delay(&self, place: usize) -> Option<u64> {
-        self.shown.as_slice()[place].delay
+    fn shown(&self, place: usize) -> Shown {
+        self.shown.as_slice()[place]
     }
 
     fn reported(&self, check: usize) -> bool {

@@ -23,6 +23,18 @@ pub struct Shown {
     pub delay: Option<u64>,
 }
 
+impl Shown {
+    /// The value and the delay alone.
+    pub(crate) fn alone(self) -> cell_machine::Shown
+        ensures { result ≡ record { value = self.value; delay = self.delay } }
+    {
+        cell_machine::Shown {
+            value: self.value,
+            delay: self.delay,
+        }
+    }
+}
+
 /// What one output shows after a change of an input.
 fn shown_step(values: &ModuleValues, input: usize, was: Shown, room: &mut Items<Trit>) -> Shown
     requires { IsTrue (is_wired (length room.old) values.now.model.now) }

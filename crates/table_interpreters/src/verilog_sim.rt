@@ -8,7 +8,7 @@ use crate::module_values::ModuleValues;
 use crate::ports::input_count;
 use crate::shown::{Shown, show_all, show_start};
 use crate::wiring::most_nets;
-use cell_machine::{CellSim, Change};
+use cell_machine::{CellSim, Change, Sizes};
 use model_traces::{ModuleRun, Stamps};
 use specify_blocks::VModule;
 use sqlite_items::Items;
@@ -79,16 +79,12 @@ impl<'a> CellSim for VerilogSim<'a> {
 
     ghost stands = { λ s h. Stands s.model.now s.run s.reports s.shown h };
 
-    fn inputs(&self) -> usize {
-        self.run.inputs.len()
-    }
-
-    fn outputs(&self) -> usize {
-        self.shown.len()
-    }
-
-    fn checks(&self) -> usize {
-        self.reports.len()
+    fn sizes(&self) -> Sizes {
+        Sizes {
+            inputs: self.run.inputs.len(),
+            outputs: self.shown.len(),
+            checks: self.reports.len(),
+        }
     }
 
     fn step(&mut self, at: u64, pin: usize, to: Trit) {
@@ -107,12 +103,8 @@ impl<'a> CellSim for VerilogSim<'a> {
         show_all(&values, pin, &mut self.shown, &mut self.room);
     }
 
-    fn output(&self, place: usize) -> Trit {
-        self.shown.as_slice()[place].value
-    }
-
-    fn delay(&self, place: usize) -> Option<u64> {
-        self.shown.as_slice()[place].delay
+    fn shown(&self, place: usize) -> cell_machine::Shown {
+        self.shown.as_slice()[place].alone()
     }
 
     fn reported(&self, check: usize) -> bool {

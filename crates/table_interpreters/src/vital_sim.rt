@@ -13,7 +13,7 @@ use crate::process_rooms::most_columns;
 use crate::process_run::{ProcessState, take};
 use crate::process_shown::{show_entity, show_first};
 use crate::shown::Shown;
-use cell_machine::{CellSim, Change};
+use cell_machine::{CellSim, Change, Sizes};
 use model_traces::Stamps;
 use sqlite_items::Items;
 use std::alloc::{AllocError, Global};
@@ -91,16 +91,12 @@ impl<'a> CellSim for VitalSim<'a> {
 
     ghost stands = { λ s h. EntityStands s.model.now s.run s.reports s.shown h };
 
-    fn inputs(&self) -> usize {
-        self.run.inputs.len()
-    }
-
-    fn outputs(&self) -> usize {
-        self.shown.len()
-    }
-
-    fn checks(&self) -> usize {
-        self.reports.len()
+    fn sizes(&self) -> Sizes {
+        Sizes {
+            inputs: self.run.inputs.len(),
+            outputs: self.shown.len(),
+            checks: self.reports.len(),
+        }
     }
 
     fn step(&mut self, at: u64, pin: usize, to: Trit) {
@@ -120,12 +116,8 @@ impl<'a> CellSim for VitalSim<'a> {
         show_entity(&values, pin, &mut self.shown, &mut self.room);
     }
 
-    fn output(&self, place: usize) -> Trit {
-        self.shown.as_slice()[place].value
-    }
-
-    fn delay(&self, place: usize) -> Option<u64> {
-        self.shown.as_slice()[place].delay
+    fn shown(&self, place: usize) -> cell_machine::Shown {
+        self.shown.as_slice()[place].alone()
     }
 
     fn reported(&self, check: usize) -> bool {

@@ -2,7 +2,7 @@
 ghost use Rattle.std.specs.Prelude.{◌<◌, IfSome};
 
 use bool_functions::Names;
-use cell_machine::{CellSim, Change};
+use cell_machine::{CellSim, Change, Shown, Sizes};
 use std::alloc::{AllocError, Global};
 use std::test::Fail;
 use stimulus::{
@@ -122,30 +122,28 @@ impl CellSim for Still {
 
     ghost sized = { λ _. record { values = λ _. refl; delays = λ _. refl; reports = λ _. refl } };
 
-    fn inputs(&self) -> usize {
-        1
-    }
-
-    fn outputs(&self) -> usize {
-        2
-    }
-
-    fn checks(&self) -> usize {
-        2
+    fn sizes(&self) -> Sizes {
+        Sizes {
+            inputs: 1,
+            outputs: 2,
+            checks: 2,
+        }
     }
 
     fn step(&mut self, _at: u64, _pin: usize, _to: Trit) {}
 
-    fn output(&self, place: usize) -> Trit {
+    fn shown(&self, place: usize) -> Shown {
         if place == 0 {
-            Trit::Zero
+            Shown {
+                value: Trit::Zero,
+                delay: None,
+            }
         } else {
-            Trit::Unknown
+            Shown {
+                value: Trit::Unknown,
+                delay: Some(120),
+            }
         }
-    }
-
-    fn delay(&self, place: usize) -> Option<u64> {
-        if place == 0 { None } else { Some(120) }
     }
 
     fn reported(&self, check: usize) -> bool {

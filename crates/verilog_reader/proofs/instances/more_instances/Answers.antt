@@ -20,9 +20,9 @@ returns-in_err-instance-clause-reads c =
     let all : turns c.left-turn-end.result c.args.model c.args.cursor.now ≡ read (instances c.args.model) c.args.cursor.now = ap (λ n. turns n c.args.model c.args.cursor.now) c.left-turn-end.ensures in
     refused_exit c.left-turn-end.result c.loop-turn._turn c.loop-turn.model c.loop-turn.cursor c.one_instance.new.cursor c.skip.new.self c.bytes.result.now
     c.bytes-in-loop-turn.result.now c.is_instance_start.result c.instance_primitive.result c.in-Some.udp (read (instances c.args.model) c.args.cursor.now) c.in_err-instance.field-0.0
-    c.from_residual-in_err-instance.result c.loop-turn-test.true c.bytes.ensures c.is_instance_start.ensures c.if-not-is_instance_start.false
+    c.from_residual.result c.loop-turn-test.true c.bytes.ensures c.is_instance_start.ensures c.if-not-is_instance_start.false
     c.bytes-in-loop-turn.ensures (c.instance_primitive.ensures c.loop-turn.model.udps c.loop-turn.invariant.found) c.in-Some.is c.skip.ensures c.in_err-instance.ensures
-    (c.loop-turn.invariant.reads ∙ all) c.from_residual-in_err-instance.ensures.1
+    (c.loop-turn.invariant.reads ∙ all) c.from_residual.ensures.1
 
 pub loop-turn-preserved : goal.loop-turn-preserved
 loop-turn-preserved c =

@@ -15,7 +15,7 @@ use Rattle.timing_arcs.specs.Conditions.{tree_of}
 use Rattle.timing_arcs.specs.Making.{checks_with, arcs_with}
 use Rattle.timing_arcs.specs.Merging.{same_path}
 use Rattle.timing_arcs.specs.Adding.{joined_with, pushed, with_check, with_own, with_placed, with_checks, with_arcs}
-use Rattle.timing_arcs.specs.GroupTexts.{told, made_under, inputs_under, with_all_made, with_text_noted, with_text, checks_full, arcs_full, is_full}
+use Rattle.timing_arcs.specs.GroupTexts.{made_under, inputs_under, with_all_made, with_text_noted, with_text, checks_full, arcs_full, is_full}
 
 neither : (a b : Bool) → not (a || b) ≡ true → (a ≡ false) × (b ≡ false)
 neither true b h = absurd cc
@@ -78,7 +78,7 @@ full_same : (subject : Subject) (text : GroupText) (found : Found) (inputs : Lis
 full_same subject text found [] h = refl
 full_same subject text found (related ∷ inputs) h =
     ap (λ (found : Found). with_all_made subject text found inputs)
-    (made_same text.at found text.timing_type subject.place related text.rise text.fall (tree_of (told subject text.when.text)) h)
+    (made_same text.at found text.timing_type subject.place related text.rise text.fall (tree_of text.when.condition) h)
     ∙ full_same subject text found inputs h
 
 chosen : (b : Bool) (x y : Found) → x ≡ y → x ≡ (if b then y else x)

@@ -1,9 +1,8 @@
 -- What the texts of timing groups give under a pin is what the groups give.
-use Rattle.std.proofs.Common.{◌≡◌, ℕ, ◌+◌, Bool, true, false, not, ◌&&◌, ◌||◌, ◌==◌, List, [], ◌∷◌, ◌++◌, length, refl, sym, ap, ◌∙◌, subst}
-use Rattle.std.specs.Prelude.{All, Option, Some, None, Result, Ok, Err, codes, fold, nat_lt, if◌then◌else◌}
+use Rattle.std.proofs.Common.{◌≡◌, ℕ, ◌+◌, Bool, true, false, not, ◌&&◌, ◌||◌, ◌==◌, List, [], ◌∷◌, ◌++◌, length, refl, sym, ap, ◌∙◌}
+use Rattle.std.specs.Prelude.{Option, Some, None, Result, Ok, Err, codes, fold, nat_lt, if◌then◌else◌}
 use Rattle.std.specs.Option.{option_map, option_map_or}
 use Rattle.std.specs.List.{list_any, filter_map}
-use Rattle.std.proofs.lemmas.List.Elements.{All-cons, All-nil}
 use Rattle.bool_functions.specs.declared.tree.Node.{Node}
 use Rattle.bool_functions.specs.declared.faults.FunctionFault.{FunctionFault}
 use Rattle.bool_functions.specs.declared.faults.FunctionFault.TheVariants as function_fault
@@ -38,7 +37,7 @@ use Rattle.timing_arcs.specs.Readings.{where_so, joined, no_offsets, offsets_in}
 use Rattle.timing_arcs.specs.Tables.{bad_numbers_at}
 use Rattle.timing_arcs.specs.Timing.{unknown_related_in, unknown_condition_in, limit_attribute, reading_answer, held_answer, Gives}
 use Rattle.timing_arcs.specs.Adding.{with_checks, with_arcs, with_left_out, with_inputs, with_noted, with_group, with_optional, with_items, with_attribute, nothing_found, found_of, answer_found}
-use Rattle.timing_arcs.specs.GroupTexts.{named_related, related_text, when_as, when_text, group_text, optional_text, texts_from, cell_of, pin_texts, told, IsTold, is_of_one_pin, used_under, read_under, left_out_under, made_under, unknown_under, names_pin, own_under, read_offsets, offsets_under, inputs_under, with_all_made, with_text_noted, with_text, with_texts}
+use Rattle.timing_arcs.specs.GroupTexts.{named_related, related_text, when_as, when_text, group_text, optional_text, texts_from, cell_of, pin_texts, is_of_one_pin, used_under, read_under, left_out_under, made_under, unknown_under, names_pin, own_under, read_offsets, offsets_under, inputs_under, with_all_made, with_text_noted, with_text, with_texts}
 use Rattle.timing_arcs.specs.PinLimits.{limit_as, pin_limit, pin_limits, limit_under, with_pin_limit, with_pin_limits}
 use Rattle.timing_arcs.specs.TimingTexts.{AreTexts}
 use Rattle.timing_arcs.proofs.OffsetLemmas.{least_if, least-append}
@@ -88,14 +87,7 @@ texts_anywhere subject place (item ∷ items) =
 pub texts_of_pin : (subject : Subject) (pin : Group) → pin_texts subject pin ≡ texts_from subject 0 pin.items
 texts_of_pin subject pin = texts_anywhere subject 0 pin.items
 
--- The condition is that of the text of `when`.
-
-as_told : (subject : Subject) (o : Option Attribute) → (when_as subject o).condition ≡ told subject ((when_as subject o).text)
-as_told subject None = refl
-as_told subject (Some attribute) = refl
-
-pub group_is_told : (subject : Subject) (place : ℕ) (group : Group) → IsTold subject (group_text subject place group)
-group_is_told subject place group = as_told subject (attribute_of group (codes "when"))
+-- The condition is that of `when`.
 
 when_condition : (subject : Subject) (o : Option Attribute) → (when_as subject o).condition ≡ option_map_or (λ (attribute : Attribute). condition_in subject attribute.text) o Always
 when_condition subject None = refl
@@ -309,9 +301,6 @@ noted_same subject place found group =
     ap (λ (o : Offsets). if left_out_under subject text then with_left_out (record found { offsets = joined found.offsets o }) place else record found { offsets = joined found.offsets o }) (offsets_same subject place group)
     ∙ ap (λ b. if b then with_left_out (record found { offsets = joined found.offsets (offsets_in subject group) }) place else record found { offsets = joined found.offsets (offsets_in subject group) }) (left_out_same subject place group)
 
-told_same : (subject : Subject) (group : Group) → told subject ((when_text subject group).text) ≡ condition_of subject group
-told_same subject group = sym (as_told subject (attribute_of group (codes "when"))) ∙ condition_same subject group
-
 -- what a group makes under this condition
 abbrev made_if : Subject → Group → Condition → Found → List ℕ → Found
 made_if subject group c found inputs =
@@ -320,7 +309,7 @@ made_if subject group c found inputs =
     (arcs_with (type_of group) subject.place related (rise_of subject group) (fall_of subject group) (tree_of c))) found inputs
 
 all_made_same : (subject : Subject) (place : ℕ) (found : Found) (group : Group) (inputs : List ℕ) → with_all_made subject (group_text subject place group) found inputs ≡ with_inputs subject group found inputs
-all_made_same subject place found group inputs = ap (λ (c : Condition). made_if subject group c found inputs) (told_same subject group)
+all_made_same subject place found group inputs = ap (λ (c : Condition). made_if subject group c found inputs) (condition_same subject group)
 
 pub with_its_text : (subject : Subject) (place : ℕ) (found : Found) (group : Group) → with_text subject found (group_text subject place group) ≡ with_group subject place found group
 with_its_text subject place found group =
@@ -347,15 +336,6 @@ items_same subject place found (item ∷ items) =
     one_by_one subject found (optional_text subject place o) (texts_from subject (place + 1) items)
     ∙ ap (λ f. with_texts subject f (texts_from subject (place + 1) items)) (optional_same subject place found o)
     ∙ items_same subject (place + 1) (with_optional subject place found o) items
-
-optional_told : (subject : Subject) (place : ℕ) (o : Option Group) (texts : List GroupText) → All (IsTold subject) texts → All (IsTold subject) (optional_text subject place o ++ texts)
-optional_told subject place None texts h = h
-optional_told subject place (Some group) texts h = All-cons (IsTold subject) (group_text subject place group) texts (group_is_told subject place group) h
-
-pub texts_are_told : (subject : Subject) (place : ℕ) (items : List Item) → All (IsTold subject) (texts_from subject place items)
-texts_are_told subject place [] = All-nil (IsTold subject)
-texts_are_told subject place (item ∷ items) =
-    optional_told subject place (group_named (codes "timing") (out-Item item)) (texts_from subject (place + 1) items) (texts_are_told subject (place + 1) items)
 
 -- What the limits of a pin group give.
 
@@ -400,7 +380,3 @@ text_answers room subject texts answer none all found h en ea ef e =
     ∙ ap (with_texts subject none) (h.of_groups ∙ texts_of_pin subject texts.pin.now)
     ∙ items_same subject 0 none (texts.pin.now).items)
     (ef ∙ ap (with_pin_limits subject all) h.of_limits) e
-
-pub are_told : (subject : Subject) (texts : TimingTexts) → AreTexts subject texts → All (IsTold subject) texts.groups
-are_told subject texts h =
-    subst (λ (all : List GroupText). All (IsTold subject) all) (sym (h.of_groups ∙ texts_of_pin subject texts.pin.now)) (texts_are_told subject 0 (texts.pin.now).items)

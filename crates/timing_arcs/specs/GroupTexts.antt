@@ -1,6 +1,6 @@
 -- What the texts of a timing group say in a cell, whichever of its pins the group stands under, and what that gives under
 -- one of them (Liberty Reference Manual, `timing` group).
-use Rattle.std.specs.Prelude.{◌≡◌, ℕ, ◌+◌, Bool, true, false, not, ◌&&◌, ◌||◌, ◌==◌, nat_lt, List, [], ◌∷◌, ◌++◌, length, map, fold, codes, slice_get, Option, Some, None, if◌then◌else◌}
+use Rattle.std.specs.Prelude.{ℕ, ◌+◌, Bool, true, false, not, ◌&&◌, ◌||◌, ◌==◌, nat_lt, List, [], ◌∷◌, ◌++◌, length, map, fold, codes, slice_get, Option, Some, None, if◌then◌else◌}
 use Rattle.std.specs.Option.{option_map_or}
 use Rattle.std.specs.List.{list_any, filter_map}
 use Rattle.liberty_groups.specs.declared.tree.Item.{Item, out-Item}
@@ -11,7 +11,6 @@ use Rattle.timing_arcs.specs.declared.found.Found.{Found}
 use Rattle.timing_arcs.specs.declared.offsets.Offsets.{Offsets}
 use Rattle.timing_arcs.specs.declared.timing_type.TimingType.{TimingType}
 use Rattle.timing_arcs.specs.declared.timing_type.TimingType.TheVariants.{Delay, Setup, Hold, Recovery, Removal, Width, Period, Other}
-use Rattle.timing_arcs.specs.declared.condition.Condition.{Condition}
 use Rattle.timing_arcs.specs.declared.condition.Condition.TheVariants.{Always}
 use Rattle.timing_arcs.specs.declared.related.Related.{Related}
 use Rattle.timing_arcs.specs.declared.related.RelatedText.{RelatedText}
@@ -44,10 +43,9 @@ related_text subject group = record {
 
 -- What `when` says.
 abbrev pub when_as : Subject → Option Attribute → WhenText
-when_as subject None = record { at = None; text = None; condition = Always; named = [] }
+when_as subject None = record { at = None; condition = Always; named = [] }
 when_as subject (Some attribute) = record {
   at = Some (attribute.at);
-  text = Some (attribute.text);
   condition = condition_in subject attribute.text;
   named = named_pins (condition_in subject attribute.text);
 }
@@ -89,13 +87,6 @@ cell_of subject = record subject { place = 0 }
 -- What the timing groups of a pin group say.
 abbrev pub pin_texts : Subject → Group → List GroupText
 pin_texts subject pin = texts_from (cell_of subject) 0 pin.items
-
--- The condition that the text of a `when` stands for, where there is one.
-abbrev pub told : Subject → Option (List ℕ) → Condition
-told subject text = option_map_or (condition_in subject) text Always
-
-abbrev pub IsTold : Subject → GroupText → Type 0
-IsTold subject text = text.when.condition ≡ told subject text.when.text
 
 -- Whether a group of this type relates its pin to that pin alone, whatever its `related_pin` says.
 abbrev pub is_of_one_pin : TimingType → Bool
@@ -161,8 +152,8 @@ inputs_under subject text = if is_of_one_pin text.timing_type then subject.place
 abbrev pub with_made : Subject → GroupText → Found → ℕ → Found
 with_made subject text found related =
     with_arcs text.at
-    (with_checks text.at found (checks_with text.timing_type subject.place related text.rise text.fall (tree_of (told subject text.when.text))))
-    (arcs_with text.timing_type subject.place related text.rise text.fall (tree_of (told subject text.when.text)))
+    (with_checks text.at found (checks_with text.timing_type subject.place related text.rise text.fall (tree_of text.when.condition)))
+    (arcs_with text.timing_type subject.place related text.rise text.fall (tree_of text.when.condition))
 
 abbrev pub with_all_made : Subject → GroupText → Found → List ℕ → Found
 with_all_made subject text found inputs = fold (with_made subject text) found inputs

@@ -5,7 +5,6 @@ ghost use Rattle.std.specs.Option.{option_copied};
 ghost use Rattle.bool_functions.specs.Tree.{name_bound};
 ghost use Rattle.cell_machine.specs.CellRules.{is_input_pin};
 ghost use Rattle.timing_arcs.specs.Conditions.{condition_of_tree, condition_in, tree_of, may_hold, is_malformed, has_unknown, named_pins};
-ghost use Rattle.timing_arcs.specs.GroupTexts.{told};
 
 use crate::subject::Subject;
 use crate::timing_type::is_input_pin;
@@ -78,20 +77,6 @@ impl Condition {
         }
     }
 
-    /// The condition that the text of a `when` stands for, where there is one.
-    pub(crate) fn of_told(
-        alloc: Global,
-        subject: &Subject,
-        text: &Option<Items<u8>>,
-    ) -> Result<Condition, AllocError>
-        ensures { IfOk result (λ condition. condition ≡ told subject.now text.now) }
-    {
-        match text {
-            Some(text) => Condition::of_text(alloc, subject, text.as_slice()),
-            None => Ok(Condition::Always),
-        }
-    }
-
     /// Its function, where it is none that always holds.
     pub(crate) fn function(&self) -> Option<&Function>
         ensures { option_copied result ≡ tree_of self.now }
@@ -102,13 +87,13 @@ impl Condition {
         }
     }
 
-    /// The same, of a condition that is used up.
-    pub(crate) fn into_function(self) -> Option<Function>
-        ensures { result ≡ tree_of self }
+    /// The same in a function of its own.
+    pub(crate) fn own_function(&self, alloc: Global) -> Result<Option<Function>, AllocError>
+        ensures { IfOk result (λ function. function ≡ tree_of self.now) }
     {
         match self {
-            Condition::Where(function) => Some(function),
-            _ => None,
+            Condition::Where(function) => Ok(Some(function.copied(alloc)?)),
+            _ => Ok(None),
         }
     }
 

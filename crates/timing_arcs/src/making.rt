@@ -3,10 +3,9 @@ ghost use Rattle.std.specs.Prelude.{◌≡◌, OnOk, IfOk};
 ghost use Rattle.timing_arcs.specs.Conditions.{tree_of};
 ghost use Rattle.timing_arcs.specs.Making.{check, event, checks_with, arcs_with};
 ghost use Rattle.timing_arcs.specs.Adding.{with_check, with_checks, with_arcs};
-ghost use Rattle.timing_arcs.specs.GroupTexts.{told, IsTold, with_made, with_all_made};
+ghost use Rattle.timing_arcs.specs.GroupTexts.{with_made, with_all_made};
 
 use crate::arc_list::Path;
-use crate::condition::Condition;
 use crate::found::Found;
 use crate::group_text::GroupText;
 use crate::subject::Subject;
@@ -53,17 +52,16 @@ fn event(pin: usize, edge: Edge) -> Event
 }
 
 impl Making<'_> {
-    /// The condition of what the group makes. Each check and arc that is held has one of its own, so it is read for each.
+    /// The condition of what the group makes. Each check and arc that is held has one of its own.
     fn condition(&self, alloc: Global) -> Result<Option<Function>, AllocError>
-        ensures { IfOk result (λ function. function ≡ tree_of (told self.now.subject.now self.now.text.now.when.text)) }
+        ensures { IfOk result (λ function. function ≡ tree_of self.now.text.now.when.condition) }
     {
-        let condition = Condition::of_told(alloc, self.subject, &self.text.when.text)?;
-        Ok(condition.into_function())
+        self.text.when.condition.own_function(alloc)
     }
 
     /// Adds a check.
     fn add_check(&self, alloc: Global, timed: Timed, found: &mut Found) -> Result<(), AllocError>
-        ensures { OnOk result (found.new ≡ with_check self.now.text.now.at found.old (check timed.kind timed.first timed.second timed.limit (tree_of (told self.now.subject.now self.now.text.now.when.text)))) }
+        ensures { OnOk result (found.new ≡ with_check self.now.text.now.at found.old (check timed.kind timed.first timed.second timed.limit (tree_of self.now.text.now.when.condition))) }
     {
         if !found.has_check_room() {
             return Ok(());
@@ -86,7 +84,7 @@ impl Making<'_> {
         edge: Edge,
         found: &mut Found,
     ) -> Result<(), AllocError>
-        ensures { OnOk result (found.new ≡ with_checks self.now.text.now.at found.old (checks_with (TimingType.Recovery edge) self.now.subject.now.place related self.now.text.now.rise self.now.text.now.fall (tree_of (told self.now.subject.now self.now.text.now.when.text)))) }
+        ensures { OnOk result (found.new ≡ with_checks self.now.text.now.at found.old (checks_with (TimingType.Recovery edge) self.now.subject.now.place related self.now.text.now.rise self.now.text.now.fall (tree_of self.now.text.now.when.condition))) }
     {
         let own = self.subject.place;
         let rise = Timed::new(
@@ -113,7 +111,7 @@ impl Making<'_> {
         edge: Edge,
         found: &mut Found,
     ) -> Result<(), AllocError>
-        ensures { OnOk result (found.new ≡ with_checks self.now.text.now.at found.old (checks_with (TimingType.Removal edge) self.now.subject.now.place related self.now.text.now.rise self.now.text.now.fall (tree_of (told self.now.subject.now self.now.text.now.when.text)))) }
+        ensures { OnOk result (found.new ≡ with_checks self.now.text.now.at found.old (checks_with (TimingType.Removal edge) self.now.subject.now.place related self.now.text.now.rise self.now.text.now.fall (tree_of self.now.text.now.when.condition))) }
     {
         let own = self.subject.place;
         let rise = Timed::new(
@@ -134,7 +132,7 @@ impl Making<'_> {
 
     /// Adds the checks of a pulse width: of the high pulse, then of the low one.
     fn add_widths(&self, alloc: Global, found: &mut Found) -> Result<(), AllocError>
-        ensures { OnOk result (found.new ≡ with_checks self.now.text.now.at found.old (checks_with TimingType.Width self.now.subject.now.place self.now.subject.now.place self.now.text.now.rise self.now.text.now.fall (tree_of (told self.now.subject.now self.now.text.now.when.text)))) }
+        ensures { OnOk result (found.new ≡ with_checks self.now.text.now.at found.old (checks_with TimingType.Width self.now.subject.now.place self.now.subject.now.place self.now.text.now.rise self.now.text.now.fall (tree_of self.now.text.now.when.condition))) }
     {
         let own = self.subject.place;
         let rise = Timed::new(
@@ -155,7 +153,7 @@ impl Making<'_> {
 
     /// Adds the checks with a pin that the group is related to.
     fn add_checks(&self, alloc: Global, related: usize, found: &mut Found) -> Result<(), AllocError>
-        ensures { OnOk result (found.new ≡ with_checks self.now.text.now.at found.old (checks_with self.now.text.now.timing_type self.now.subject.now.place related self.now.text.now.rise self.now.text.now.fall (tree_of (told self.now.subject.now self.now.text.now.when.text)))) }
+        ensures { OnOk result (found.new ≡ with_checks self.now.text.now.at found.old (checks_with self.now.text.now.timing_type self.now.subject.now.place related self.now.text.now.rise self.now.text.now.fall (tree_of self.now.text.now.when.condition))) }
     {
         let own = self.subject.place;
         let both = self.text.rise.max(self.text.fall);
@@ -194,8 +192,7 @@ impl Making<'_> {
 
     /// Adds the arc from a pin that the group is related to, if the group is one of a delay.
     fn add_arcs(&self, alloc: Global, related: usize, found: &mut Found) -> Result<(), AllocError>
-        requires { IsTold self.now.subject.now self.now.text.now }
-        ensures { OnOk result (found.new ≡ with_arcs self.now.text.now.at found.old (arcs_with self.now.text.now.timing_type self.now.subject.now.place related self.now.text.now.rise self.now.text.now.fall (tree_of (told self.now.subject.now self.now.text.now.when.text)))) }
+        ensures { OnOk result (found.new ≡ with_arcs self.now.text.now.at found.old (arcs_with self.now.text.now.timing_type self.now.subject.now.place related self.now.text.now.rise self.now.text.now.fall (tree_of self.now.text.now.when.condition))) }
     {
         let TimingType::Delay = self.text.timing_type else {
             return Ok(());
@@ -230,7 +227,6 @@ impl Making<'_> {
         inputs: &[usize],
         found: &mut Found,
     ) -> Result<(), AllocError>
-        requires { IsTold self.now.subject.now self.now.text.now }
         ensures { OnOk result (found.new ≡ with_all_made self.now.subject.now self.now.text.now found.old inputs.now) }
     {
         for related in inputs {

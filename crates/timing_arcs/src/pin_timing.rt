@@ -13,7 +13,7 @@ use liberty_groups::{Group, Item};
 use std::alloc::{AllocError, Global};
 
 /// Adds what a timing group at this place among the pin's items gives.
-#[tactic(auto, using(crate::proofs::TextLemmas::group_is_told, crate::proofs::TextLemmas::with_its_text))]
+#[tactic(auto, using(crate::proofs::TextLemmas::with_its_text))]
 fn add_group(
     alloc: Global,
     subject: &Subject,

@@ -1,6 +1,6 @@
 //! What the timing of a pin group says, read once for all of its pins.
-ghost use Rattle.std.specs.Prelude.{◌≡◌, All, IfOk, OnOk};
-ghost use Rattle.timing_arcs.specs.GroupTexts.{IsTold, texts_from, pin_texts, with_texts};
+ghost use Rattle.std.specs.Prelude.{◌≡◌, IfOk, OnOk};
+ghost use Rattle.timing_arcs.specs.GroupTexts.{texts_from, pin_texts, with_texts};
 ghost use Rattle.timing_arcs.specs.TimingTexts.{AreTexts};
 ghost use Rattle.timing_arcs.specs.Timing.{reading_answer, held_answer, Gives};
 
@@ -46,7 +46,6 @@ fn add_texts(
     texts: &[GroupText],
     found: &mut Found,
 ) -> Result<(), AllocError>
-    requires { All (IsTold subject.now) texts.now }
     ensures { OnOk result (found.new ≡ with_texts subject.now found.old texts.now) }
 {
     for text in texts {

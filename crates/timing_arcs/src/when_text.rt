@@ -14,8 +14,6 @@ use std::alloc::{AllocError, Global};
 pub(crate) struct WhenText {
     /// The offset of the statement.
     pub(crate) at: Option<usize>,
-    /// Its text.
-    pub(crate) text: Option<Items<u8>>,
     /// The condition that it stands for.
     pub(crate) condition: Condition,
     /// The numbers of the pins that the condition names, ascending.
@@ -34,7 +32,6 @@ impl WhenText {
         let Some(attribute) = last_attribute(group, b"when") else {
             return Ok(WhenText {
                 at: None,
-                text: None,
                 condition: Condition::Always,
                 named: Items::new(alloc),
             });
@@ -43,7 +40,6 @@ impl WhenText {
         let named = condition.named_pins(alloc)?;
         Ok(WhenText {
             at: Some(attribute.at),
-            text: Some(Items::from_slice(alloc, attribute.text)?),
             condition,
             named,
         })

@@ -60,7 +60,6 @@ when_anywhere : (subject : Subject) (o : Option Attribute) → when_as (cell_of 
 when_anywhere subject None = refl
 when_anywhere subject (Some attribute) = λ i. record {
   at = Some (attribute.at);
-  text = Some (attribute.text);
   condition = condition_anywhere subject attribute.text i;
   named = named_pins (condition_anywhere subject attribute.text i);
 }

@@ -3,3 +3,4 @@ pub mod Checked
 pub mod File
 pub mod Lowered
 pub mod SourceParts
+pub mod Tails

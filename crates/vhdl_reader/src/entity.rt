@@ -4,9 +4,12 @@ ghost use Rattle.std.specs.Prelude.{◌≡◌, codes};
 ghost use Rattle.grammar_rules.specs.Rule.{Many};
 ghost use Rattle.grammar_rules.specs.Reading.{read};
 ghost use Rattle.rule_readers.specs.Reading.{Reads, ReadsAs};
+ghost use Rattle.vhdl_text.specs.VhdlDeclarations.{input_names};
 ghost use Rattle.vhdl_text.specs.VhdlRules as rules;
 ghost use Rattle.vhdl_text.specs.VhdlText as spec;
+ghost use Rattle.vhdl_reader.specs.Checked.{checks_of};
 ghost use Rattle.vhdl_reader.specs.File.{entities_of};
+ghost use Rattle.vhdl_reader.specs.Tails as tails;
 
 use crate::checks::{Checks, all_checks};
 use crate::declarations::Declarations;
@@ -23,17 +26,27 @@ use crate::words::expect_all;
 use rule_readers::{Cursor, Refusal, Stop};
 use sqlite_items::Items;
 use std::alloc::Global;
+use udp_tables::VPort;
+use vhdl_text::{Assigned, Columns};
 use vhdl_tokens::is_name;
 use vital_models::VEntity;
 
 /// The wait at the end of a process in which these names are its sensitivity list, if there are none. (IEEE 1076-1993, 8.1.)
-fn last_wait(cursor: &mut Cursor<'_, Vhdl>, names: &[Items<u8>]) -> Result<(), Stop>
+fn last_wait_of(cursor: &mut Cursor<'_, Vhdl>, names: &[Items<u8>]) -> Result<(), Stop>
     ensures { Reads (read (spec.last_wait names.now) cursor.old) result cursor.new }
 {
     match names {
         [] => expect_all(cursor, &[b"wait", b";"]),
         _ => Ok(()),
     }
+}
+
+/// The wait at the end of a process, if none of these ports is an input.
+fn last_wait(cursor: &mut Cursor<'_, Vhdl>, alloc: Global, ports: &[VPort]) -> Result<(), Stop>
+    ensures { Reads (read (spec.last_wait (input_names ports.now)) cursor.old) result cursor.new }
+{
+    let names = input_names(alloc, ports)?;
+    last_wait_of(cursor, names.as_slice())
 }
 
 /// Whether each condition was looked up.
@@ -53,14 +66,47 @@ fn entity_end(
 ) -> Result<(), Stop>
     ensures { Reads (read (spec.entity_end scope.now uses.now) cursor.old) result cursor.new }
 {
-    let inputs = input_names(alloc, scope.ports().as_slice())?;
-    last_wait(cursor, inputs.as_slice())?;
+    last_wait(cursor, alloc, scope.ports().as_slice())?;
     cursor.expect_where(are_looked_up(scope, uses), Refusal::Undriven, b"end")?;
     expect_all(cursor, &[b"process", b";", b"end", b"vital", b";"])
 }
 
+/// The statements behind the values of the outputs.
+#[tactic(auto, unfolding(crate::specs::Tails::behind_values))]
+fn behind_values(
+    cursor: &mut Cursor<'_, Vhdl>,
+    alloc: Global,
+    scope: Declarations,
+    checked: Checks,
+    columns: Items<Columns>,
+    values: Items<Assigned>,
+) -> Result<VEntity, Stop>
+    ensures { Reads (read (tails.behind_values scope (checks_of checked) columns values) cursor.old) result cursor.new }
+{
+    let Checks { checks, uses } = checked;
+    let lines = output_lines(cursor, alloc, &scope, uses)?;
+    entity_end(cursor, alloc, &scope, lines.1.as_slice())?;
+    Ok(entity_with(alloc, scope.into_scope(), checks, columns, values, lines)?)
+}
+
+/// The statements behind the checks.
+#[tactic(auto, unfolding(crate::specs::Tails::behind_checks))]
+fn behind_checks(
+    cursor: &mut Cursor<'_, Vhdl>,
+    alloc: Global,
+    scope: Declarations,
+    checked: Checks,
+) -> Result<VEntity, Stop>
+    ensures { Reads (read (tails.behind_checks scope (checks_of checked)) cursor.old) result cursor.new }
+{
+    violation(cursor, alloc, &scope)?;
+    let columns = state_calls(cursor, alloc, &scope)?;
+    let values = values_of(cursor, alloc, &scope)?;
+    behind_values(cursor, alloc, scope, checked, columns, values)
+}
+
 /// The statements behind these declarations: an entity.
-#[tactic(auto, unfolding(vhdl_text::specs::VhdlText::statements))]
+#[tactic(auto, unfolding(vhdl_text::specs::VhdlText::statements, crate::specs::Tails::behind_checks, crate::specs::Tails::behind_values))]
 fn statements(
     cursor: &mut Cursor<'_, Vhdl>,
     alloc: Global,
@@ -68,14 +114,8 @@ fn statements(
 ) -> Result<VEntity, Stop>
     ensures { Reads (read (spec.statements scope) cursor.old) result cursor.new }
 {
-    let Checks { checks, uses } = all_checks(cursor, alloc, &scope)?;
-    violation(cursor, alloc, &scope)?;
-    let columns = state_calls(cursor, alloc, &scope)?;
-    let values = values_of(cursor, alloc, &scope)?;
-    let lines = output_lines(cursor, alloc, &scope, uses)?;
-    entity_end(cursor, alloc, &scope, lines.1.as_slice())?;
-    let entity = entity_with(alloc, scope.into_scope(), checks, columns, values, lines)?;
-    Ok(entity)
+    let checked = all_checks(cursor, alloc, &scope)?;
+    behind_checks(cursor, alloc, scope, checked)
 }
 
 /// The name of an entity, where these entities stand before it.

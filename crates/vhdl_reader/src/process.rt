@@ -74,11 +74,23 @@ fn listed_names(cursor: &mut Cursor<'_, Vhdl>, names: &[Items<u8>]) -> Result<()
 }
 
 /// The sensitivity list of the inputs with these names, if there are any.
-pub fn sensitivity(cursor: &mut Cursor<'_, Vhdl>, names: &[Items<u8>]) -> Result<(), Stop>
+fn sensitivity_of(cursor: &mut Cursor<'_, Vhdl>, names: &[Items<u8>]) -> Result<(), Stop>
     ensures { Reads (read (spec.sensitivity names.now) cursor.old) result cursor.new }
 {
     match names {
         [] => Ok(()),
         _ => listed_names(cursor, names),
     }
+}
+
+/// The sensitivity list of the inputs among these ports, if there are any.
+pub fn sensitivity(
+    cursor: &mut Cursor<'_, Vhdl>,
+    alloc: Global,
+    ports: &[VPort],
+) -> Result<(), Stop>
+    ensures { Reads (read (spec.sensitivity (spec.input_names ports.now)) cursor.old) result cursor.new }
+{
+    let names = input_names(alloc, ports)?;
+    sensitivity_of(cursor, names.as_slice())
 }

@@ -4,12 +4,14 @@ ghost use Rattle.std.specs.Prelude.{◌≡◌};
 ghost use Rattle.grammar_rules.specs.Reading.{read};
 ghost use Rattle.rule_readers.specs.Reading.{Reads};
 ghost use Rattle.vhdl_text.specs.VhdlDeclarations as spec;
+ghost use Rattle.vhdl_reader.specs.Tails as tails;
 
 use crate::constants::constants;
 use crate::declarations::Declarations;
 use crate::header::{architecture_header, entity_header};
 use crate::language::Vhdl;
-use crate::process::{input_names, sensitivity};
+use crate::ports::Ports;
+use crate::process::sensitivity;
 use crate::symbols::state_width;
 use crate::variables::variables;
 use crate::words::expect_all;
@@ -28,8 +30,40 @@ pub fn width_at(tables: &Tables, state: usize) -> usize
     }
 }
 
+/// The declarations behind the sensitivity list.
+#[tactic(auto, unfolding(crate::specs::Tails::behind_sensitivity))]
+fn behind_sensitivity(
+    cursor: &mut Cursor<'_, Vhdl>,
+    alloc: Global,
+    name: Items<u8>,
+    ports: Ports,
+    tables: Tables,
+) -> Result<Declarations, Stop>
+    ensures { Reads (read (tails.behind_sensitivity name ports tables) cursor.old) result cursor.new }
+{
+    let variables = variables(cursor, alloc, &ports, &tables)?;
+    cursor.expect(b"begin")?;
+    Ok(Declarations::new(name, ports, tables, variables))
+}
+
+/// The declarations behind both headers.
+#[tactic(auto, unfolding(crate::specs::Tails::behind_headers))]
+fn behind_headers(
+    cursor: &mut Cursor<'_, Vhdl>,
+    alloc: Global,
+    name: Items<u8>,
+    ports: Ports,
+) -> Result<Declarations, Stop>
+    ensures { Reads (read (tails.behind_headers name ports) cursor.old) result cursor.new }
+{
+    let tables = constants(cursor, alloc)?;
+    expect_all(cursor, &[b"begin", b"process"])?;
+    sensitivity(cursor, alloc, ports.as_slice())?;
+    behind_sensitivity(cursor, alloc, name, ports, tables)
+}
+
 /// The declarations behind the name of an entity, up to the `begin` before the statements.
-#[tactic(auto, unfolding(vhdl_text::specs::VhdlDeclarations::scope_of))]
+#[tactic(auto, unfolding(vhdl_text::specs::VhdlDeclarations::scope_of, crate::specs::Tails::behind_headers, crate::specs::Tails::behind_sensitivity))]
 pub fn scope_of(
     cursor: &mut Cursor<'_, Vhdl>,
     alloc: Global,
@@ -39,11 +73,5 @@ pub fn scope_of(
 {
     let ports = entity_header(cursor, alloc, name.as_slice())?;
     architecture_header(cursor, name.as_slice())?;
-    let tables = constants(cursor, alloc)?;
-    expect_all(cursor, &[b"begin", b"process"])?;
-    let inputs = input_names(alloc, ports.as_slice())?;
-    sensitivity(cursor, inputs.as_slice())?;
-    let variables = variables(cursor, alloc, &ports, &tables)?;
-    cursor.expect(b"begin")?;
-    Ok(Declarations::new(name, ports, tables, variables))
+    behind_headers(cursor, alloc, name, ports)
 }

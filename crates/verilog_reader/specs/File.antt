@@ -1,7 +1,12 @@
 -- What stands before a place of a text, as the grammar names it.
-use Rattle.std.specs.Prelude.{◌≡◌, ℕ, List, Err}
+use Rattle.std.specs.Prelude.{◌≡◌, ℕ, List, Err, codes}
+use Rattle.grammar_rules.specs.Rule as r
+use Rattle.rule_readers.specs.Words.{Grammar, ◌>>=◌}
+use Rattle.rule_readers.specs.declared.refusal.Refusal.TheVariants.{Undriven}
 use Rattle.udp_tables.specs.declared.models.ModelFault.{ModelFault}
 use Rattle.udp_tables.specs.declared.models.ModelFault.TheVariants as fault
+use Rattle.udp_tables.specs.VerilogRules.{expect_where}
+use Rattle.specify_blocks.specs.VerilogModules.{are_all_driven}
 use Rattle.specify_blocks.specs.VerilogText.{verilog_text}
 use Rattle.specify_blocks.specs.declared.model.VModule.{VModule}
 use Rattle.specify_blocks.specs.VerilogText as spec
@@ -12,6 +17,12 @@ before_of b = record { modules = b.modules.items; names = b.names; udps = b.udps
 
 abbrev pub modules_of : Before → List VModule
 modules_of b = b.modules.items
+
+-- the end of this module, all of whose outputs and wires are driven
+unfoldable pub module_end : VModule → Grammar VModule
+module_end m = do
+  _ ← expect_where (are_all_driven m) Undriven (codes "endmodule")
+  r.Gives m
 
 -- this is the fault of the text. Want of memory is told of no text.
 abbrev pub IsFaultOf : List ℕ → ModelFault → Type 0

@@ -3,12 +3,13 @@
 ghost use Rattle.std.specs.Prelude.{◌≡◌, [], ◌∷◌, ◌++◌, IfOk};
 ghost use Rattle.grammar_rules.specs.Reading.{read};
 ghost use Rattle.specify_blocks.specs.VerilogText as spec;
-ghost use Rattle.verilog_reader.specs.File.{before_of, modules_of};
+ghost use Rattle.verilog_reader.specs.File.{before_of, modules_of, module_end};
 ghost use Rattle.rule_readers.specs.Reading.{Reads, ReadsAs};
 
 use crate::checks::specify;
 use crate::declarations::declarations;
 use crate::instances::instances;
+use crate::netlist::Netlist;
 use crate::terminals::are_all_driven;
 use bool_functions::Names;
 use rule_readers::{Cursor, Refusal, Stop};
@@ -87,8 +88,18 @@ fn more_primitives(
     Ok(before)
 }
 
+/// The end of this module, all of whose outputs and wires are driven: the module alone.
+#[tactic(auto, unfolding(crate::specs::File::module_end))]
+fn module_end(cursor: &mut Cursor<'_, Verilog>, whole: Netlist) -> Result<VModule, Stop>
+    ensures reads { Reads (read (module_end whole) cursor.old) result cursor.new }
+    ensures same { IfOk result (λ model. model ≡ whole) }
+{
+    cursor.expect_where(are_all_driven(&whole), Refusal::Undriven, b"endmodule")?;
+    Ok(whole.into_module())
+}
+
 /// A module behind its word. Its own name is then the last of the names.
-#[tactic(auto, unfolding(specify_blocks::specs::VerilogText::one_module))]
+#[tactic(auto, unfolding(specify_blocks::specs::VerilogText::one_module, crate::specs::File::module_end))]
 fn one_module(
     cursor: &mut Cursor<'_, Verilog>,
     alloc: Global,
@@ -102,8 +113,7 @@ fn one_module(
     let declared = declarations(cursor, alloc, name, udps)?;
     let joined = instances(cursor, alloc, declared)?;
     let whole = specify(cursor, alloc, joined)?;
-    cursor.expect_where(are_all_driven(&whole), Refusal::Undriven, b"endmodule")?;
-    Ok(whole.into_module())
+    module_end(cursor, whole)
 }
 
 /// One more module, behind its word.

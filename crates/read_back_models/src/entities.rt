@@ -8,7 +8,7 @@ ghost use Rattle.written_entities.specs.Laws.{entities_text};
 ghost use Rattle.read_back_models.specs.EntityNames.{IsNameOfEntity};
 
 use crate::numbers::cell_is_numbered;
-use crate::text_desk::TextDesk;
+use crate::text_desk::{NotKept, TextDesk};
 use cell_machine::Cell;
 use generated_entities::entity_is_well_formed;
 use std::alloc::{AllocError, Global};
@@ -20,14 +20,12 @@ use vital_models::{VEntity, vital_model};
 use written_entities::written_entities_read_back;
 
 /// The VHDL text of an entity and of its architecture.
-fn entity_text(alloc: Global, entity: &VEntity) -> Result<Vec<u8>, AllocError>
+fn entity_text(alloc: Global, entity: &VEntity) -> Result<Vec<u8>, NotKept>
     ensures { IfOk result (λ text. text.items ≡ entities_text (entity.now ∷ [])) }
 {
     let mut desk = TextDesk::new(alloc, OutSlot::VitalText);
-    match write_entity(&mut desk, entity) {
-        Ok(()) => Ok(desk.text),
-        Err(_) => Err(AllocError),
-    }
+    write_entity(&mut desk, entity)?;
+    Ok(desk.text)
 }
 
 /// A well formed entity written as VHDL text and read back of it: it is the entity that was written. `AllocError` comes only where

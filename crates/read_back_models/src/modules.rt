@@ -7,7 +7,7 @@ ghost use Rattle.specify_blocks.specs.WellFormed.{AreWellFormed};
 ghost use Rattle.written_modules.specs.Laws.{modules_text};
 
 use crate::numbers::cell_is_numbered;
-use crate::text_desk::TextDesk;
+use crate::text_desk::{NotKept, TextDesk};
 use cell_machine::Cell;
 use generated_modules::modules_are_well_formed;
 use specify_blocks::{VModule, verilog_model};
@@ -19,17 +19,13 @@ use verilog_writer::{write_model, write_prelude};
 use written_modules::written_modules_read_back;
 
 /// The Verilog text of a module: the first line, and the module behind its primitives.
-fn module_text(alloc: Global, model: &VModule) -> Result<Vec<u8>, AllocError>
+fn module_text(alloc: Global, model: &VModule) -> Result<Vec<u8>, NotKept>
     ensures { IfOk result (λ text. text.items ≡ modules_text (model.now ∷ [])) }
 {
     let mut desk = TextDesk::new(alloc, OutSlot::VerilogText);
-    if write_prelude(&mut desk).is_err() {
-        return Err(AllocError);
-    }
-    match write_model(&mut desk, model) {
-        Ok(()) => Ok(desk.text),
-        Err(_) => Err(AllocError),
-    }
+    write_prelude(&mut desk)?;
+    write_model(&mut desk, model)?;
+    Ok(desk.text)
 }
 
 /// A well formed module written as Verilog text and read back of it: it is the module that was written. `AllocError` comes only where

@@ -6,7 +6,7 @@ ghost use Rattle.text_io.specs.Slots.{same_out};
 ghost use Rattle.text_io.specs.Desk.{is_bound};
 ghost use Rattle.read_back_models.specs.Texts.{keeps_text, state_of};
 
-use std::alloc::Global;
+use std::alloc::{AllocError, Global};
 use text_io::{Desk, Failed, InSlot, OutSlot};
 
 /// A desk at which one output slot is bound. What is written to it is kept, in memory that grows with it, and what is written to
@@ -16,6 +16,22 @@ pub(crate) struct TextDesk {
     pub(crate) slot: OutSlot,
     pub(crate) text: Vec<u8>,
     pub(crate) faults: u64,
+}
+
+/// A text could not be kept, since memory was wanting: the only reason for which a call on a `TextDesk` fails.
+#[derive(Clone, Copy)]
+pub(crate) struct NotKept;
+
+impl From<Failed> for NotKept {
+    fn from(_: Failed) -> NotKept {
+        NotKept
+    }
+}
+
+impl From<NotKept> for AllocError {
+    fn from(_: NotKept) -> AllocError {
+        AllocError
+    }
 }
 
 impl TextDesk {

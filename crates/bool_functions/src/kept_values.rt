@@ -71,7 +71,10 @@ impl KeptValues {
 }
 
 /// Kept values in lists of their own, where there are any.
-pub(crate) fn copied(kept: &Option<KeptValues>, alloc: Global) -> Result<Option<KeptValues>, AllocError>
+pub(crate) fn copied(
+    kept: &Option<KeptValues>,
+    alloc: Global,
+) -> Result<Option<KeptValues>, AllocError>
     ensures { (f : Node) → AreOfTree f kept.now → IfOk result (AreOfTree f) }
 {
     match kept {

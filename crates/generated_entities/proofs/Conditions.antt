@@ -15,7 +15,7 @@ use Rattle.cell_machine.specs.CellRules.{is_output, is_input_pin, is_output_pin,
 use Rattle.udp_tables.specs.Conditions.{condition_list, conditions_by, arc_conditions, used_conditions, conditions_of}
 use Rattle.udp_tables.specs.Ports.{event_of}
 use Rattle.specify_blocks.proofs.OutputPins.{outputs_are_pins}
-use Rattle.vital_models.specs.declared.model.HCheck.{HCheck}
+use Rattle.udp_tables.specs.declared.timing_checks.TimingCheck.{TimingCheck}
 use Rattle.vital_models.specs.Generated.{condition_of, place_of, all_zero, gate_by, path_of, output_of, check_of, entity_of}
 use Rattle.vital_models.proofs.ConditionFacts.{all-among}
 use Rattle.vhdl_text.specs.WellFormed.{conditions_of_check, conditions_of_gate, conditions_of_path, conditions_of_output, looked_up, looks_up_in_order}
@@ -69,7 +69,7 @@ flat_made make f g h (x ∷ xs) =
     ∙ sym (map-append make (g x) (flat_map g xs))
 
 module _ (cell : CellData) (h : Rules cell) where
-  check_with : Check → Option Node → HCheck
+  check_with : Check → Option Node → TimingCheck
   check_with k o =
       record {
         kind = k.kind;

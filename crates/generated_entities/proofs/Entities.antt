@@ -27,7 +27,7 @@ use Rattle.udp_tables.specs.CellPrimitives.{has_sources}
 use Rattle.udp_tables.specs.Conditions.{conditions_of, conditions_beside}
 use Rattle.udp_tables.proofs.CubeLemmas.{below-among}
 use Rattle.specify_blocks.proofs.ConditionLemmas.{support-ascending}
-use Rattle.vital_models.specs.declared.model.HCheck.{HCheck}
+use Rattle.udp_tables.specs.declared.timing_checks.TimingCheck.{TimingCheck}
 use Rattle.vital_models.specs.declared.model.OutValue.TheVariants as value
 use Rattle.vital_models.specs.Kept.{entity_name}
 use Rattle.vital_models.specs.Ports.{ports_of, port_number}
@@ -210,12 +210,12 @@ module _ (cell : CellData) (h : Rules cell) where
       all_from IsWrittenOutput (map (output_of cell) cell.outputs)
       (λ output m. let r = among-map (output_of cell) output cell.outputs m in subst IsWrittenOutput r.1 (output_written r.0 r.2))
 
-  limits_short : All (λ (k : HCheck). IsNumber k.limit) (map (check_of cell) cell.checks)
+  limits_short : All (λ (k : TimingCheck). IsNumber k.limit) (map (check_of cell) cell.checks)
   limits_short =
-      all_from (λ (k : HCheck). IsNumber k.limit) (map (check_of cell) cell.checks)
+      all_from (λ (k : TimingCheck). IsNumber k.limit) (map (check_of cell) cell.checks)
       (λ k m.
       let r = among-map (check_of cell) k cell.checks m in
-      subst (λ (k : HCheck). IsNumber k.limit) r.1
+      subst (λ (k : TimingCheck). IsNumber k.limit) r.1
       (check_number cell.pins r.0 (all-among (is_check cell.pins) cell.checks r.0 (checks_hold cell h) r.2)))
 
   pub named_well_formed : (name : List ℕ) → IsGivenName name → IsWellFormedEntity (entity_of cell name)

@@ -25,7 +25,7 @@ use Rattle.udp_tables.specs.Edges.{each_below}
 use Rattle.udp_tables.specs.CellPrimitives.{primitive_name, condition_number, condition_tree, condition_primitive, group_primitive, has_sources, output_number, output_primitive}
 use Rattle.specify_blocks.specs.Names.{module_name}
 use Rattle.specify_blocks.specs.Generated.{condition_count, output_primitives, group_primitives, condition_primitives, primitives_of, path_of, check_of, module_of}
-use Rattle.specify_blocks.specs.declared.model.VCheck.{VCheck}
+use Rattle.udp_tables.specs.declared.timing_checks.TimingCheck.{TimingCheck}
 use Rattle.specify_blocks.specs.WellFormed.{IsName, IsNumber, HasNumbers, IsWellFormedUdp, IsWellFormedModule}
 use Rattle.specify_blocks.proofs.Soundness.{module_is_sound}
 use Rattle.library_cells.specs.Cells.{IsNumberedCell}
@@ -165,9 +165,9 @@ module _ (cell : CellData) (h : IsNumberedCell cell) where
       let numbers = arc_numbers cell.pins arc rule in
       record { rise = numbers.0; fall = numbers.1 })
 
-  checks_have_numbers : All (λ (k : VCheck). IsNumber k.limit) (map (check_of cell) cell.checks)
+  checks_have_numbers : All (λ (k : TimingCheck). IsNumber k.limit) (map (check_of cell) cell.checks)
   checks_have_numbers =
-      All-map (λ (k : VCheck). IsNumber k.limit) (check_of cell) cell.checks
+      All-map (λ (k : TimingCheck). IsNumber k.limit) (check_of cell) cell.checks
       (λ i d within.
       let k : Check = get_or cell.checks i d in
       check_number cell.pins k (all-at (is_check cell.pins) cell.checks i k (checks_hold cell rules) (slice_get-get_or cell.checks i d within)))

@@ -18,7 +18,7 @@ use Rattle.cell_machine.specs.CellTrace as cell
 use Rattle.udp_tables.specs.CellPrimitives.{has_notifier}
 use Rattle.vital_models.specs.declared.model.VState.{VState}
 use Rattle.vital_models.specs.declared.model.VOutput.{VOutput}
-use Rattle.vital_models.specs.declared.model.HCheck.{HCheck}
+use Rattle.udp_tables.specs.declared.timing_checks.TimingCheck.{TimingCheck}
 use Rattle.vital_models.specs.declared.model.VEntity.{VEntity}
 use Rattle.vital_models.specs.LookUps.{lookup_state}
 use Rattle.model_traces.specs.PortNumbers.{input_event}
@@ -47,7 +47,7 @@ module _ (d : CellData) (e : VEntity) (fits : EntityFits d e) where
   outputs-map f g same (output ∷ outputs) [] h = absurd h
   outputs-map f g same (output ∷ outputs) (o ∷ os) h = λ i. same output o h.0 i ∷ outputs-map f g same outputs os h.1 i
 
-  checks-length : (ks : List Check) (js : List HCheck) → FitChecks d e ks js → length js ≡ length ks
+  checks-length : (ks : List Check) (js : List TimingCheck) → FitChecks d e ks js → length js ≡ length ks
   checks-length [] [] h = refl
   checks-length [] (j ∷ js) h = absurd h
   checks-length (k ∷ ks) [] h = absurd h
@@ -67,7 +67,7 @@ module _ (d : CellData) (e : VEntity) (fits : EntityFits d e) where
 
   -- the time from which a check measures
   opened-same :
-      (k : Check) (j : HCheck) (a : Trit) (c : Change) (h : List Change)
+      (k : Check) (j : TimingCheck) (a : Trit) (c : Change) (h : List Change)
       → FitsCheck d e k j
       → earlier_time j.kind j a c (last_times e.ports n h j) ≡ last_event n (opening (input_check d.pins k) a c) h
   opened-same k j a c h f =
@@ -80,7 +80,7 @@ module _ (d : CellData) (e : VEntity) (fits : EntityFits d e) where
       by false = ap (λ x. last_event n x h) f.first
 
   report-same :
-      (k : Check) (j : HCheck) (c : Change) (h : List Change)
+      (k : Check) (j : TimingCheck) (c : Change) (h : List Change)
       → FitsCheck d e k j
       → check_reports e (inputs_after n (c ∷ h)) (value_before (inputs_after n h) c) c j (last_times e.ports n h j)
       ≡ report n (input_check d.pins k) (c ∷ h)
@@ -93,7 +93,7 @@ module _ (d : CellData) (e : VEntity) (fits : EntityFits d e) where
       && is_within c.at (f.limit i) (opened-same k j a c h f i))
 
   reports-same :
-      (c : Change) (h : List Change) (ks : List Check) (js : List HCheck)
+      (c : Change) (h : List Change) (ks : List Check) (js : List TimingCheck)
       → FitChecks d e ks js
       → each (check_reports e (inputs_after n (c ∷ h)) (value_before (inputs_after n h) c) c) js (map (last_times e.ports n h) js)
       ≡ map (λ k. report n k (c ∷ h)) (map (input_check d.pins) ks)

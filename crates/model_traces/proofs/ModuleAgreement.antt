@@ -18,7 +18,7 @@ use Rattle.cell_machine.specs.CellTrace as cell
 use Rattle.udp_tables.specs.CellPrimitives.{has_notifier}
 use Rattle.specify_blocks.specs.declared.model.Instance.{Instance}
 use Rattle.specify_blocks.specs.declared.model.VNet.TheVariants as net
-use Rattle.specify_blocks.specs.declared.model.VCheck.{VCheck}
+use Rattle.udp_tables.specs.declared.timing_checks.TimingCheck.{TimingCheck}
 use Rattle.specify_blocks.specs.declared.model.VModule.{VModule}
 use Rattle.specify_blocks.specs.Nets.{has_state}
 use Rattle.model_traces.specs.declared.turns.Turned.TheVariants as turned
@@ -77,7 +77,7 @@ module _ (d : CellData) (m : VModule) (fits : ModuleFits d m) where
   outputs-map f g same (output ∷ outputs) [] h = absurd h
   outputs-map f g same (output ∷ outputs) (p ∷ ps) h = λ i. same output p h.0 i ∷ outputs-map f g same outputs ps h.1 i
 
-  checks-length : (ks : List Check) (js : List VCheck) → FitChecks d m ks js → length js ≡ length ks
+  checks-length : (ks : List Check) (js : List TimingCheck) → FitChecks d m ks js → length js ≡ length ks
   checks-length [] [] h = refl
   checks-length [] (j ∷ js) h = absurd h
   checks-length (k ∷ ks) [] h = absurd h
@@ -91,7 +91,7 @@ module _ (d : CellData) (m : VModule) (fits : ModuleFits d m) where
 
   -- the time from which a check measures
   opened-same :
-      (k : Check) (j : VCheck) (a : Trit) (c : Change) (h : List Change)
+      (k : Check) (j : TimingCheck) (a : Trit) (c : Change) (h : List Change)
       → FitsCheck d m k j
       → opened j a c (last_stamps m.ports n h j) ≡ last_event n (opening (input_check d.pins k) a c) h
   opened-same k j a c h f =
@@ -106,7 +106,7 @@ module _ (d : CellData) (m : VModule) (fits : ModuleFits d m) where
       by false = ap (λ e. last_event n e h) f.first
 
   report-same :
-      (k : Check) (j : VCheck) (states : List Trit) (c : Change) (h : List Change)
+      (k : Check) (j : TimingCheck) (states : List Trit) (c : Change) (h : List Change)
       → FitsCheck d m k j → length states ≡ length m.instances
       → check_reports m (inputs_after n (c ∷ h)) states (value_before (inputs_after n h) c) c j (last_stamps m.ports n h j)
       ≡ report n (input_check d.pins k) (c ∷ h)
@@ -120,7 +120,7 @@ module _ (d : CellData) (m : VModule) (fits : ModuleFits d m) where
   reports-same :
       (states : List Trit) (c : Change) (h : List Change)
       → length states ≡ length m.instances
-      → (ks : List Check) (js : List VCheck) → FitChecks d m ks js
+      → (ks : List Check) (js : List TimingCheck) → FitChecks d m ks js
       → each (check_reports m (inputs_after n (c ∷ h)) states (value_before (inputs_after n h) c) c) js (map (last_stamps m.ports n h) js)
       ≡ map (λ k. report n k (c ∷ h)) (map (input_check d.pins) ks)
   reports-same states c h long [] [] f = refl

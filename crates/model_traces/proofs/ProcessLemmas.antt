@@ -16,7 +16,7 @@ use Rattle.cell_machine.specs.History.{inputs_after, value_before, is_event}
 use Rattle.cell_machine.specs.Report.{is_period, last_event, any_true}
 use Rattle.cell_machine.proofs.EachLemmas.{each-map}
 use Rattle.udp_tables.specs.declared.models.VPort.{VPort}
-use Rattle.vital_models.specs.declared.model.HCheck.{HCheck}
+use Rattle.udp_tables.specs.declared.timing_checks.TimingCheck.{TimingCheck}
 use Rattle.vital_models.specs.declared.model.VEntity.{VEntity}
 use Rattle.vital_models.specs.Sound.{has_events}
 use Rattle.model_traces.specs.PortNumbers.{input_count, input_event}
@@ -40,7 +40,7 @@ process-inputs e (c ∷ h) =
 
 -- the times of one check at an event
 timed-after :
-    (ports : List VPort) (n : ℕ) (h : List Change) (c : Change) (k : HCheck)
+    (ports : List VPort) (n : ℕ) (h : List Change) (c : Change) (k : TimingCheck)
     → timed ports (value_before (inputs_after n h) c) c k (last_times ports n h k) ≡ last_times ports n (c ∷ h) k
 timed-after ports n h c k =
     elim (has_reference k.kind) as (λ b.
@@ -49,12 +49,12 @@ timed-after ports n h c k =
       | false ↦ refl
     ]
 
-start-times : (ports : List VPort) (n : ℕ) (k : HCheck) → no_times k.kind ≡ last_times ports n [] k
+start-times : (ports : List VPort) (n : ℕ) (k : TimingCheck) → no_times k.kind ≡ last_times ports n [] k
 start-times ports n k =
     elim (has_reference k.kind) as (λ b. no_times_by b ≡ last_times_by b ports n [] k) [ true ↦ refl | false ↦ refl ]
 
 still-times :
-    (ports : List VPort) (n : ℕ) (h : List Change) (c : Change) (k : HCheck)
+    (ports : List VPort) (n : ℕ) (h : List Change) (c : Change) (k : TimingCheck)
     → is_event (inputs_after n h) c ≡ false → last_times ports n h k ≡ last_times ports n (c ∷ h) k
 still-times ports n h c k none =
     elim (has_reference k.kind) as (λ b. last_times_by b ports n h k ≡ last_times_by b ports n (c ∷ h) k) [
@@ -119,7 +119,7 @@ any-edge edge.Rise h = absurd cc
 any-edge edge.Fall h = absurd cc
 
 -- a check of this kind
-abbrev check_of : CheckKind → Event → Event → ℕ → Option ℕ → HCheck
+abbrev check_of : CheckKind → Event → Event → ℕ → Option ℕ → TimingCheck
 check_of kind first second limit condition =
     record { kind = kind; first = first; second = second; limit = limit; condition = condition }
 

@@ -14,7 +14,7 @@ use Rattle.cell_machine.specs.Report.{is_event_of, last_event}
 use Rattle.cell_machine.specs.Each.{each}
 use Rattle.cell_machine.proofs.EachLemmas.{each-map}
 use Rattle.udp_tables.specs.declared.models.VPort.{VPort}
-use Rattle.specify_blocks.specs.declared.model.VCheck.{VCheck}
+use Rattle.udp_tables.specs.declared.timing_checks.TimingCheck.{TimingCheck}
 use Rattle.specify_blocks.specs.declared.model.VModule.{VModule}
 use Rattle.model_traces.specs.declared.module_run.ModuleRun.{ModuleRun}
 use Rattle.model_traces.specs.PortNumbers.{input_count, input_event}
@@ -96,7 +96,7 @@ still-event n e h c none =
     (no-event e (inputs_after n h) c (same-equal (value_before (inputs_after n h) c) c.to none)))
 
 start-stamps :
-    (ports : List VPort) (n : ℕ) (checks : List VCheck) → replicate (length checks) no_stamps ≡ map (last_stamps ports n []) checks
+    (ports : List VPort) (n : ℕ) (checks : List TimingCheck) → replicate (length checks) no_stamps ≡ map (last_stamps ports n []) checks
 start-stamps ports n [] = refl
 start-stamps ports n (k ∷ ks) = ap (λ r. no_stamps ∷ r) (start-stamps ports n ks)
 
@@ -115,7 +115,7 @@ stamps-step m r h c false is kept_are e =
     let n : ℕ = input_count m.ports in
     let none : is_event (inputs_after n h) c ≡ false = ap (λ xs. is_event xs c) (sym is) ∙ e in
     kept_are
-    ∙ (λ i. map (λ (k : VCheck). record {
+    ∙ (λ i. map (λ (k : TimingCheck). record {
       first = still-event n (input_event m.ports k.first) h c none i;
       rise = still-event n (input_event m.ports (second_of k edge.Rise)) h c none i;
       fall = still-event n (input_event m.ports (second_of k edge.Fall)) h c none i;

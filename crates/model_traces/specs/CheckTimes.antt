@@ -11,7 +11,7 @@ use Rattle.cell_machine.specs.Times.{renewed}
 use Rattle.cell_machine.specs.Outputs.{is_one}
 use Rattle.udp_tables.specs.declared.models.VPort.{VPort}
 use Rattle.specify_blocks.specs.declared.model.VNet.TheVariants as net
-use Rattle.specify_blocks.specs.declared.model.VCheck.{VCheck}
+use Rattle.udp_tables.specs.declared.timing_checks.TimingCheck.{TimingCheck}
 use Rattle.specify_blocks.specs.declared.model.VModule.{VModule}
 use Rattle.model_traces.specs.declared.stamps.Stamps.{Stamps}
 use Rattle.model_traces.specs.PortNumbers.{input_event}
@@ -22,12 +22,12 @@ abbrev pub no_stamps : Stamps
 no_stamps = record { first = None; rise = None; fall = None }
 
 -- an event of the input of a check's second event
-abbrev pub second_of : VCheck → Edge → Event
+abbrev pub second_of : TimingCheck → Edge → Event
 second_of k e = record { pin = k.second.pin; edge = e }
 
 -- The times that a check keeps after a change of an input that had the value a: of its last first event, and of the last
 -- possible rise and the last possible fall of its second event's input.
-abbrev pub stamped : List VPort → Trit → Change → VCheck → Stamps → Stamps
+abbrev pub stamped : List VPort → Trit → Change → TimingCheck → Stamps → Stamps
 stamped ports a c k s =
     record {
       first = renewed (happens (input_event ports k.first) a c) c.at s.first;
@@ -46,7 +46,7 @@ abbrev pub opened_by : Bool → Trit → Change → Stamps → Option ℕ
 opened_by true a c s = same_edge (is_rise a c.to) s
 opened_by false a c s = s.first
 
-abbrev pub opened : VCheck → Trit → Change → Stamps → Option ℕ
+abbrev pub opened : TimingCheck → Trit → Change → Stamps → Option ℕ
 opened k a c s = opened_by (is_period k.kind) a c s
 
 -- Whether a check's condition lets it count: there is none, or its net is 1. (IEEE 1364-2005, clause 15.5: `&&&`.)
@@ -56,7 +56,7 @@ is_enabled m inputs states (Some w) = is_one (net_value m inputs states (net.Wir
 
 -- Whether a check reports at a change of an input that had the value a, by the inputs and states after it and the times kept
 -- before it: the change is its second event, its condition lets it count, and the kept time lies less than the limit before.
-abbrev pub check_reports : VModule → List Trit → List Trit → Trit → Change → VCheck → Stamps → Bool
+abbrev pub check_reports : VModule → List Trit → List Trit → Trit → Change → TimingCheck → Stamps → Bool
 check_reports m inputs states a c k s =
     happens (input_event m.ports k.second) a c
     && (is_enabled m inputs states k.condition && is_within c.at k.limit (opened k a c s))

@@ -12,7 +12,7 @@ use Rattle.cell_machine.specs.CellTrace as cell
 use Rattle.udp_tables.specs.CellPrimitives.{has_notifier}
 use Rattle.vital_models.specs.declared.model.VState.{VState}
 use Rattle.vital_models.specs.declared.model.VOutput.{VOutput}
-use Rattle.vital_models.specs.declared.model.HCheck.{HCheck}
+use Rattle.udp_tables.specs.declared.timing_checks.TimingCheck.{TimingCheck}
 use Rattle.vital_models.specs.declared.model.VEntity.{VEntity}
 use Rattle.vital_models.specs.LookUps.{lookup_state}
 use Rattle.vital_models.specs.Sound.{has_events}
@@ -46,7 +46,7 @@ FitGroups d e (g ∷ groups) (state ∷ states) = FitsGroup d e g state × FitGr
 
 -- A check fits one of the cell: it has events of its kind, the kind, the limit and the events of the cell's over the numbers of
 -- inputs, and its condition counts where the cell's does.
-pub record FitsCheck (d : CellData) (e : VEntity) (k : Check) (j : HCheck) : Type 0 where
+pub record FitsCheck (d : CellData) (e : VEntity) (k : Check) (j : TimingCheck) : Type 0 where
   pub events : IsTrue (has_events j j.kind)
   pub kind : j.kind ≡ k.kind
   pub first : input_event e.ports j.first ≡ cell.input_event d.pins k.first
@@ -57,7 +57,7 @@ pub record FitsCheck (d : CellData) (e : VEntity) (k : Check) (j : HCheck) : Typ
       → length v ≡ inputs_of d → is_enabled e v j.condition ≡ condition_holds d.pins v k.condition
 
 -- each check fits the one at its place
-abbrev pub FitChecks : CellData → VEntity → List Check → List HCheck → Type 0
+abbrev pub FitChecks : CellData → VEntity → List Check → List TimingCheck → Type 0
 FitChecks d e [] [] = ⊤
 FitChecks d e [] (j ∷ js) = ⊥
 FitChecks d e (k ∷ ks) [] = ⊥

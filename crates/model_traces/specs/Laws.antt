@@ -5,7 +5,7 @@ use Rattle.cell_machine.specs.declared.checks.Edge.TheVariants as edge
 use Rattle.cell_machine.specs.History.{inputs_after}
 use Rattle.cell_machine.specs.Report.{last_event}
 use Rattle.udp_tables.specs.declared.models.VPort.{VPort}
-use Rattle.specify_blocks.specs.declared.model.VCheck.{VCheck}
+use Rattle.udp_tables.specs.declared.timing_checks.TimingCheck.{TimingCheck}
 use Rattle.specify_blocks.specs.declared.model.VModule.{VModule}
 use Rattle.model_traces.specs.declared.stamps.Stamps.{Stamps}
 use Rattle.model_traces.specs.PortNumbers.{input_count, input_event}
@@ -13,7 +13,7 @@ use Rattle.model_traces.specs.CheckTimes.{second_of}
 use Rattle.model_traces.specs.ModuleRun.{run_after}
 
 -- the times of a check's last events in a history of n inputs
-abbrev pub last_stamps : List VPort → ℕ → List Change → VCheck → Stamps
+abbrev pub last_stamps : List VPort → ℕ → List Change → TimingCheck → Stamps
 last_stamps ports n h k =
     record {
       first = last_event n (input_event ports k.first) h;

@@ -12,7 +12,7 @@ use Rattle.cell_machine.specs.CellTrace as cell
 use Rattle.udp_tables.specs.CellPrimitives.{has_notifier}
 use Rattle.specify_blocks.specs.declared.model.VNet.TheVariants as net
 use Rattle.specify_blocks.specs.declared.model.Instance.{Instance}
-use Rattle.specify_blocks.specs.declared.model.VCheck.{VCheck}
+use Rattle.udp_tables.specs.declared.timing_checks.TimingCheck.{TimingCheck}
 use Rattle.specify_blocks.specs.declared.model.VModule.{VModule}
 use Rattle.model_traces.specs.declared.turns.Turned.TheVariants as turned
 use Rattle.model_traces.specs.PortNumbers.{input_count, input_event, output_ports}
@@ -45,7 +45,7 @@ FitGroups d m (g ∷ groups) (i ∷ instances) = FitsGroup d m g i × FitGroups 
 
 -- A check fits one of the cell: it has its kind, its limit and its events over the numbers of inputs, and its condition counts
 -- where the cell's does.
-pub record FitsCheck (d : CellData) (m : VModule) (k : Check) (j : VCheck) : Type 0 where
+pub record FitsCheck (d : CellData) (m : VModule) (k : Check) (j : TimingCheck) : Type 0 where
   pub kind : j.kind ≡ k.kind
   pub first : input_event m.ports j.first ≡ cell.input_event d.pins k.first
   pub second : input_event m.ports j.second ≡ cell.input_event d.pins k.second
@@ -56,7 +56,7 @@ pub record FitsCheck (d : CellData) (m : VModule) (k : Check) (j : VCheck) : Typ
       → is_enabled m v states j.condition ≡ condition_holds d.pins v k.condition
 
 -- each check fits the one at its place
-abbrev pub FitChecks : CellData → VModule → List Check → List VCheck → Type 0
+abbrev pub FitChecks : CellData → VModule → List Check → List TimingCheck → Type 0
 FitChecks d m [] [] = ⊤
 FitChecks d m [] (j ∷ js) = ⊥
 FitChecks d m (k ∷ ks) [] = ⊥

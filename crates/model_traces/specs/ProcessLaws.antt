@@ -8,7 +8,7 @@ use Rattle.cell_machine.specs.Edges.{edge_of}
 use Rattle.cell_machine.specs.History.{inputs_after}
 use Rattle.cell_machine.specs.Report.{is_period, last_event}
 use Rattle.udp_tables.specs.declared.models.VPort.{VPort}
-use Rattle.vital_models.specs.declared.model.HCheck.{HCheck}
+use Rattle.udp_tables.specs.declared.timing_checks.TimingCheck.{TimingCheck}
 use Rattle.vital_models.specs.declared.model.VEntity.{VEntity}
 use Rattle.vital_models.specs.Sound.{has_events}
 use Rattle.model_traces.specs.PortNumbers.{input_count, input_event}
@@ -16,13 +16,13 @@ use Rattle.model_traces.specs.SignalTimes.{SignalTimes, Pair, Edges, has_referen
 use Rattle.model_traces.specs.ProcessRun.{all_columns, process_after}
 
 -- the times of a check's last events in a history of n inputs
-abbrev pub last_times_by : Bool → List VPort → ℕ → List Change → HCheck → SignalTimes
+abbrev pub last_times_by : Bool → List VPort → ℕ → List Change → TimingCheck → SignalTimes
 last_times_by true ports n h k =
     Pair (last_event n (input_event ports (test_event k.kind k)) h) (last_event n (input_event ports (reference_event k.kind k)) h)
 last_times_by false ports n h k =
     Edges (last_event n (input_event ports (signal_event k edge.Rise)) h) (last_event n (input_event ports (signal_event k edge.Fall)) h)
 
-abbrev pub last_times : List VPort → ℕ → List Change → HCheck → SignalTimes
+abbrev pub last_times : List VPort → ℕ → List Change → TimingCheck → SignalTimes
 last_times ports n h k = last_times_by (has_reference k.kind) ports n h k
 
 -- a run holds the values that the changes gave to the inputs
@@ -43,17 +43,17 @@ ProcessKeepsColumns =
 
 -- The later event of a check with the events of its kind is its second event, as in Verilog.
 abbrev pub LaterEventIsSecond : Type 0
-LaterEventIsSecond = (k : HCheck) → IsTrue (has_events k k.kind) → later_event k.kind k ≡ k.second
+LaterEventIsSecond = (k : TimingCheck) → IsTrue (has_events k k.kind) → later_event k.kind k ≡ k.second
 
 -- the event from which a check of a Verilog module measures: its first one, of a period the event of the change's own kind
-abbrev pub opening_event : Bool → HCheck → Trit → Change → Event
+abbrev pub opening_event : Bool → TimingCheck → Trit → Change → Event
 opening_event true k a c = record { pin = k.second.pin; edge = edge_of a c.to }
 opening_event false k a c = k.first
 
 -- The time from which a check with the events of its kind measures is that of the last event from which it measures in Verilog.
 abbrev pub EarlierTimeIsFirst : Type 0
 EarlierTimeIsFirst =
-    (ports : List VPort) (n : ℕ) (h : List Change) (a : Trit) (c : Change) (k : HCheck)
+    (ports : List VPort) (n : ℕ) (h : List Change) (a : Trit) (c : Change) (k : TimingCheck)
     → IsTrue (has_events k k.kind)
     → earlier_time k.kind k a c (last_times ports n h k)
     ≡ last_event n (input_event ports (opening_event (is_period k.kind) k a c)) h

@@ -9,7 +9,7 @@ use Rattle.cell_machine.specs.Report.{any_true}
 use Rattle.cell_machine.specs.Each.{each}
 use Rattle.udp_tables.specs.declared.models.VPort.{VPort}
 use Rattle.vital_models.specs.declared.model.VState.{VState}
-use Rattle.vital_models.specs.declared.model.HCheck.{HCheck}
+use Rattle.udp_tables.specs.declared.timing_checks.TimingCheck.{TimingCheck}
 use Rattle.vital_models.specs.declared.model.VEntity.{VEntity}
 use Rattle.vital_models.specs.LookUps.{lookup_state}
 use Rattle.vital_models.specs.Rows.{violated}
@@ -40,7 +40,7 @@ start_process e =
       inputs = replicate (input_count e.ports) Unknown;
       states = replicate (length e.states) Unknown;
       previous = all_columns e Unknown (replicate (input_count e.ports) Unknown);
-      times = map (λ (k : HCheck). no_times k.kind) e.checks;
+      times = map (λ (k : TimingCheck). no_times k.kind) e.checks;
     }
 
 -- First the input takes its value, and each check is compared, with the times that it kept before.

@@ -12,7 +12,7 @@ use Rattle.cell_machine.specs.Edges.{is_rise}
 use Rattle.cell_machine.specs.Report.{happens, is_within}
 use Rattle.cell_machine.specs.Times.{renewed}
 use Rattle.udp_tables.specs.declared.models.VPort.{VPort}
-use Rattle.vital_models.specs.declared.model.HCheck.{HCheck}
+use Rattle.udp_tables.specs.declared.timing_checks.TimingCheck.{TimingCheck}
 use Rattle.vital_models.specs.declared.model.VEntity.{VEntity}
 use Rattle.model_traces.specs.PortNumbers.{input_event}
 use Rattle.model_traces.specs.ProcessValues.{is_enabled}
@@ -43,7 +43,7 @@ no_times kind = no_times_by (has_reference kind)
 
 -- The test event: the earlier one of a setup and of a recovery, the later one of a hold and of a removal. A check of one signal
 -- has none.
-abbrev pub test_event : CheckKind → HCheck → Event
+abbrev pub test_event : CheckKind → TimingCheck → Event
 test_event check_kind.Setup k = k.first
 test_event check_kind.Hold k = k.second
 test_event check_kind.Recovery k = k.first
@@ -52,7 +52,7 @@ test_event check_kind.Width k = k.first
 test_event check_kind.Period k = k.first
 
 -- the reference event: the other one
-abbrev pub reference_event : CheckKind → HCheck → Event
+abbrev pub reference_event : CheckKind → TimingCheck → Event
 reference_event check_kind.Setup k = k.second
 reference_event check_kind.Hold k = k.first
 reference_event check_kind.Recovery k = k.second
@@ -61,12 +61,12 @@ reference_event check_kind.Width k = k.second
 reference_event check_kind.Period k = k.second
 
 -- an event of this kind of the signal whose pulses or periods are checked
-abbrev pub signal_event : HCheck → Edge → Event
+abbrev pub signal_event : TimingCheck → Edge → Event
 signal_event k e = record { pin = k.second.pin; edge = e }
 
 -- The times that a check keeps after a change of an input that had the value a: each of its two events that the change is has
 -- the time of the change.
-abbrev pub timed : List VPort → Trit → Change → HCheck → SignalTimes → SignalTimes
+abbrev pub timed : List VPort → Trit → Change → TimingCheck → SignalTimes → SignalTimes
 timed ports a c k (Pair test reference) =
     Pair (renewed (happens (input_event ports (test_event k.kind k)) a c) c.at test)
     (renewed (happens (input_event ports (reference_event k.kind k)) a c) c.at reference)
@@ -109,7 +109,7 @@ pulse_begin false times = fall_time times
 
 -- The later event of a check, at which it compares: the reference event of a setup and of a recovery, the test event of a hold
 -- and of a removal, the end of a pulse, and each event of a signal whose periods are checked.
-abbrev pub later_event : CheckKind → HCheck → Event
+abbrev pub later_event : CheckKind → TimingCheck → Event
 later_event check_kind.Setup k = reference_event k.kind k
 later_event check_kind.Hold k = test_event k.kind k
 later_event check_kind.Recovery k = reference_event k.kind k
@@ -124,7 +124,7 @@ period_begin true times = rise_time times
 period_begin false times = fall_time times
 
 -- the time from which a check measures at its later event
-abbrev pub earlier_time : CheckKind → HCheck → Trit → Change → SignalTimes → Option ℕ
+abbrev pub earlier_time : CheckKind → TimingCheck → Trit → Change → SignalTimes → Option ℕ
 earlier_time check_kind.Setup k a c times = test_time times
 earlier_time check_kind.Hold k a c times = reference_time times
 earlier_time check_kind.Recovery k a c times = test_time times
@@ -134,7 +134,7 @@ earlier_time check_kind.Period k a c times = period_begin (is_rise a c.to) times
 
 -- Whether a check reports at a change of an input that had the value a, by the inputs after it and the times kept before it: the
 -- change is its later event, its condition lets it count, and the earlier time lies less than the limit before.
-abbrev pub check_reports : VEntity → List Trit → Trit → Change → HCheck → SignalTimes → Bool
+abbrev pub check_reports : VEntity → List Trit → Trit → Change → TimingCheck → SignalTimes → Bool
 check_reports e inputs a c k times =
     happens (input_event e.ports (later_event k.kind k)) a c
     && (is_enabled e inputs k.condition && is_within c.at k.limit (earlier_time k.kind k a c times))

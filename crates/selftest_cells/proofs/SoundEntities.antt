@@ -10,7 +10,7 @@ use Rattle.vital_models.specs.declared.model.OutValue.{OutValue}
 use Rattle.vital_models.specs.declared.model.OutValue.TheVariants as value
 use Rattle.vital_models.specs.declared.model.VOutput.{VOutput}
 use Rattle.vital_models.specs.declared.model.HPath.{HPath}
-use Rattle.vital_models.specs.declared.model.HCheck.{HCheck}
+use Rattle.udp_tables.specs.declared.timing_checks.TimingCheck.{TimingCheck}
 use Rattle.vital_models.specs.declared.model.VEntity.{VEntity}
 use Rattle.vital_models.specs.Sound.{columns_of, IsState, IsTruth, feeds, IsValue, IsPath, IsOutput, IsCheck, IsSound}
 use Rattle.selftest_cells.specs.Damage.{alter_first, damaged_state_row, damaged_state, damaged_truth_row, damaged_value, damaged_output, damaged_by, DamagedEntitiesAreSound}
@@ -62,7 +62,7 @@ module _ (e : VEntity) (ss : List VState) (os : List VOutput) (same : length ss 
   damaged_output_kept : (o : VOutput) → IsOutput after o → IsOutput after (damaged_output o)
   damaged_output_kept o h = record { valued = damaged_value_kept o.value h.valued; paths = h.paths }
 
-  check_kept : (k : HCheck) → IsCheck e k → IsCheck after k
+  check_kept : (k : TimingCheck) → IsCheck e k → IsCheck after k
   check_kept k h = record { first = h.first; second = h.second; events = h.events; enabled = h.enabled }
 
   -- the altered entity, of sound parts

@@ -13,7 +13,7 @@ use Rattle.specify_blocks.specs.declared.model.Instance.TheVariants as instance
 use Rattle.specify_blocks.specs.declared.model.Gate.{Gate}
 use Rattle.specify_blocks.specs.declared.model.Gate.TheVariants as gate
 use Rattle.specify_blocks.specs.declared.model.VPath.{VPath}
-use Rattle.specify_blocks.specs.declared.model.VCheck.{VCheck}
+use Rattle.udp_tables.specs.declared.timing_checks.TimingCheck.{TimingCheck}
 use Rattle.specify_blocks.specs.declared.model.VModule.{VModule}
 use Rattle.specify_blocks.specs.Nets.{is_sequential, same_net, net_driven, has_state, is_state, is_value, is_driven, holds_state, feeds_state, feeds_value}
 use Rattle.specify_blocks.specs.Sound.{IsTable, IsPrimitive, IsInstance, AreInstances, is_gate, IsPath, is_enabling, IsCheck}
@@ -123,7 +123,7 @@ module _ (m : VModule) where
   enabling_kept None = refl
   enabling_kept (Some w) = is_value_kept m.instances w
 
-  check_kept : (k : VCheck) → IsCheck m k → IsCheck after k
+  check_kept : (k : TimingCheck) → IsCheck m k → IsCheck after k
   check_kept k h =
       record {
         first = h.first;

@@ -15,7 +15,7 @@ use Rattle.cell_machine.specs.declared.checks.Edge.TheVariants as edge
 use Rattle.cell_machine.specs.declared.checks.Event.{Event}
 use Rattle.cell_machine.specs.CellRules.{are_opposite}
 use Rattle.specify_blocks.specs.declared.model.VPath.{VPath}
-use Rattle.specify_blocks.specs.declared.model.VCheck.{VCheck}
+use Rattle.udp_tables.specs.declared.timing_checks.TimingCheck.{TimingCheck}
 use Rattle.specify_blocks.specs.declared.model.VModule.{VModule}
 use Rattle.specify_blocks.specs.Nets.{is_input_port, is_output_port, is_value}
 use Rattle.specify_blocks.specs.Sound.{is_gate, IsPath, is_enabling, IsCheck}
@@ -133,7 +133,7 @@ ends m =
     in_turn (anything _) (λ a q. in_turn (known_values (is_this bytes_eq m.notifier)) (λ b f. in_turn (anything _) (λ c q2. surely (λ d. there_is m.notifier f.0 b f.1))))
 
 -- a check that a text can tell
-pub record IsToldCheck (m : VModule) (k : VCheck) : Type 0 where
+pub record IsToldCheck (m : VModule) (k : TimingCheck) : Type 0 where
   pub sound : IsCheck m k
   pub number : IsNumber k.limit
 
@@ -224,7 +224,7 @@ all_checks m =
 -- a module with paths and checks that a text can tell
 pub record IsFinished (m finished : VModule) : Type 0 where
   pub paths : List VPath
-  pub checks : List VCheck
+  pub checks : List TimingCheck
   pub same : finished ≡ with_block m paths checks
   pub told_paths : All (IsToldPath m) paths
   pub told_checks : All (IsToldCheck m) checks

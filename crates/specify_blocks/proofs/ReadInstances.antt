@@ -16,7 +16,7 @@ use Rattle.specify_blocks.specs.declared.model.VNet.TheVariants as net
 use Rattle.specify_blocks.specs.declared.model.Instance.{Instance}
 use Rattle.specify_blocks.specs.declared.model.Instance.TheVariants as instance
 use Rattle.specify_blocks.specs.declared.model.VPath.{VPath}
-use Rattle.specify_blocks.specs.declared.model.VCheck.{VCheck}
+use Rattle.udp_tables.specs.declared.timing_checks.TimingCheck.{TimingCheck}
 use Rattle.specify_blocks.specs.declared.model.VModule.{VModule}
 use Rattle.specify_blocks.specs.Nets.{same_net, are_apart, is_sequential, is_driven, holds_state, net_driven, feeds_state, feeds_value, drivers}
 use Rattle.specify_blocks.specs.Sound.{IsPrimitive, IsInstance, AreInstances}
@@ -27,7 +27,7 @@ use Rattle.specify_blocks.proofs.InstanceLemmas.{drivers-cons, drivers-append, a
 use Rattle.specify_blocks.proofs.ReadNames.{IsSpelled, fits_if, fits_unless, where_holds, anything}
 
 -- a module with these instances, paths and checks, and otherwise as this one
-abbrev pub filled : VModule → List Instance → List VPath → List VCheck → VModule
+abbrev pub filled : VModule → List Instance → List VPath → List TimingCheck → VModule
 filled b is ps cs = record { name = b.name; ports = b.ports; wires = b.wires; notifier = b.notifier; udps = b.udps; instances = is; paths = ps; checks = cs }
 
 abbrev built : VModule → List Instance → VModule
@@ -96,7 +96,7 @@ feeds_of b is false (net.Port p) = refl
 feeds_of b is false (net.Wire w) = refl
 feeds_of b is false net.Notifier = refl
 
-filled_drives : (b : VModule) (is : List Instance) (ps : List VPath) (cs : List VCheck) (s : Bool) (n : VNet)
+filled_drives : (b : VModule) (is : List Instance) (ps : List VPath) (cs : List TimingCheck) (s : Bool) (n : VNet)
     → (if s then holds_state b n else is_driven b n) ≡ (if s then holds_state (filled b is ps cs) n else is_driven (filled b is ps cs) n)
 filled_drives b is ps cs true (net.Port p) = refl
 filled_drives b is ps cs true (net.Wire w) = refl
@@ -105,7 +105,7 @@ filled_drives b is ps cs false (net.Port p) = refl
 filled_drives b is ps cs false (net.Wire w) = refl
 filled_drives b is ps cs false net.Notifier = refl
 
-filled_feeds : (b : VModule) (is : List Instance) (ps : List VPath) (cs : List VCheck) (earlier : List Instance) (s : Bool) (n : VNet)
+filled_feeds : (b : VModule) (is : List Instance) (ps : List VPath) (cs : List TimingCheck) (earlier : List Instance) (s : Bool) (n : VNet)
     → (if s then feeds_state b else feeds_value b earlier) n ≡ (if s then feeds_state (filled b is ps cs) else feeds_value (filled b is ps cs) earlier) n
 filled_feeds b is ps cs earlier true (net.Port p) = refl
 filled_feeds b is ps cs earlier true (net.Wire w) = refl
@@ -114,7 +114,7 @@ filled_feeds b is ps cs earlier false (net.Port p) = refl
 filled_feeds b is ps cs earlier false (net.Wire w) = refl
 filled_feeds b is ps cs earlier false net.Notifier = refl
 
-filled_instance : (b : VModule) (is : List Instance) (ps : List VPath) (cs : List VCheck) (earlier : List Instance) (i : Instance)
+filled_instance : (b : VModule) (is : List Instance) (ps : List VPath) (cs : List TimingCheck) (earlier : List Instance) (i : Instance)
     → IsInstance b earlier i → IsInstance (filled b is ps cs) earlier i
 filled_instance b is ps cs earlier (instance.Primitive j output inputs) (udp, at, h) = (
   udp,
@@ -128,7 +128,7 @@ filled_instance b is ps cs earlier (instance.Primitive j output inputs) (udp, at
 )
 filled_instance b is ps cs earlier (instance.Constant output one) h = subst IsTrue (filled_drives b is ps cs false output) h
 
-pub filled_instances : (b : VModule) (is : List Instance) (ps : List VPath) (cs : List VCheck) (earlier xs : List Instance)
+pub filled_instances : (b : VModule) (is : List Instance) (ps : List VPath) (cs : List TimingCheck) (earlier xs : List Instance)
     → AreInstances b earlier xs → AreInstances (filled b is ps cs) earlier xs
 filled_instances b is ps cs earlier [] h = tt
 filled_instances b is ps cs earlier (x ∷ xs) h =

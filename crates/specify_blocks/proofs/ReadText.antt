@@ -18,7 +18,7 @@ use Rattle.specify_blocks.specs.declared.model.Instance.{Instance}
 use Rattle.specify_blocks.specs.declared.model.Gate.{Gate}
 use Rattle.specify_blocks.specs.declared.model.Gate.TheVariants as gate
 use Rattle.specify_blocks.specs.declared.model.VPath.{VPath}
-use Rattle.specify_blocks.specs.declared.model.VCheck.{VCheck}
+use Rattle.udp_tables.specs.declared.timing_checks.TimingCheck.{TimingCheck}
 use Rattle.specify_blocks.specs.declared.model.VModule.{VModule}
 use Rattle.specify_blocks.specs.Nets.{is_output_port, is_driven, drivers}
 use Rattle.specify_blocks.specs.Sound.{is_gate, IsPath, is_enabling, IsCheck}
@@ -83,23 +83,23 @@ driven_once m n h once e = let some : nat_lt 0 (drivers m.instances n) ≡ true 
 
 -- A module.
 
-gate_kept : (m : VModule) (ps : List VPath) (cs : List VCheck) (g : Gate) → IsTrue (is_gate m g) → IsTrue (is_gate (with_block m ps cs) g)
+gate_kept : (m : VModule) (ps : List VPath) (cs : List TimingCheck) (g : Gate) → IsTrue (is_gate m g) → IsTrue (is_gate (with_block m ps cs) g)
 gate_kept m ps cs gate.Always h = refl
 gate_kept m ps cs (gate.If w) h = h
 gate_kept m ps cs gate.IfNone h = refl
 
-path_kept : (m : VModule) (ps : List VPath) (cs : List VCheck) (path : VPath) → IsPath m path → IsPath (with_block m ps cs) path
+path_kept : (m : VModule) (ps : List VPath) (cs : List TimingCheck) (path : VPath) → IsPath m path → IsPath (with_block m ps cs) path
 path_kept m ps cs path h = record { starts = h.starts; ends = h.ends; gated = gate_kept m ps cs path.gate h.gated }
 
-enabling_kept : (m : VModule) (ps : List VPath) (cs : List VCheck) (when : Option ℕ) → IsTrue (is_enabling m when) → IsTrue (is_enabling (with_block m ps cs) when)
+enabling_kept : (m : VModule) (ps : List VPath) (cs : List TimingCheck) (when : Option ℕ) → IsTrue (is_enabling m when) → IsTrue (is_enabling (with_block m ps cs) when)
 enabling_kept m ps cs None h = refl
 enabling_kept m ps cs (Some w) h = h
 
-check_kept : (m : VModule) (ps : List VPath) (cs : List VCheck) (k : VCheck) → IsCheck m k → IsCheck (with_block m ps cs) k
+check_kept : (m : VModule) (ps : List VPath) (cs : List TimingCheck) (k : TimingCheck) → IsCheck m k → IsCheck (with_block m ps cs) k
 check_kept m ps cs k h =
     record { first = h.first; second = h.second; written = h.written; enabled = enabling_kept m ps cs k.condition h.enabled; notified = h.notified }
 
-module_is_formed : (name : List ℕ) (udps : List Udp) (b : VModule) (is : List Instance) (ps : List VPath) (cs : List VCheck)
+module_is_formed : (name : List ℕ) (udps : List Udp) (b : VModule) (is : List Instance) (ps : List VPath) (cs : List TimingCheck)
     → IsName name → All IsWellFormedUdp udps → IsBare name udps b → AreDriven b is
     → All (IsToldPath (filled b is b.paths b.checks)) ps → All (IsToldCheck (filled b is b.paths b.checks)) cs → are_all_driven (filled b is ps cs) ≡ true
     → IsWellFormedModule (filled b is ps cs)

@@ -1,6 +1,6 @@
 -- The module of a cell: its primitives in order, joined by nets, its arcs as paths and its checks. (IEEE 1364-2005, clauses 12,
 -- 14 and 15; what is generated and the order is this project's choice.)
-use Rattle.std.specs.Prelude.{ℕ, ◌+◌, Bool, true, false, ◌&&◌, List, [], ◌∷◌, ◌++◌, Option, Some, None, length, map, is_some, option_map, if◌then◌else◌}
+use Rattle.std.specs.Prelude.{ℕ, ◌+◌, Bool, true, false, ◌&&◌, List, [], ◌∷◌, ◌++◌, Option, Some, None, length, map, is_some, if◌then◌else◌}
 use Rattle.std.specs.List.{list_any}
 use Rattle.bool_functions.specs.declared.tree.Node.{Node}
 use Rattle.bool_functions.specs.Tree.{value_of}
@@ -26,9 +26,9 @@ use Rattle.specify_blocks.specs.declared.model.Instance.TheVariants as instance
 use Rattle.specify_blocks.specs.declared.model.Gate.{Gate}
 use Rattle.specify_blocks.specs.declared.model.Gate.TheVariants as gate
 use Rattle.specify_blocks.specs.declared.model.VPath.{VPath}
-use Rattle.specify_blocks.specs.declared.model.VCheck.{VCheck}
+use Rattle.udp_tables.specs.declared.timing_checks.TimingCheck.{TimingCheck}
+use Rattle.udp_tables.specs.TimingChecks.{check_by}
 use Rattle.specify_blocks.specs.declared.model.VModule.{VModule}
-use Rattle.udp_tables.specs.Ports.{event_of}
 use Rattle.specify_blocks.specs.Ports.{port_number, ports_of}
 use Rattle.specify_blocks.specs.Names.{module_name, state_wires, condition_wires, notifier_name}
 
@@ -145,15 +145,8 @@ path_of cell arc =
     }
 
 -- a check of a module
-abbrev pub check_of : CellData → Check → VCheck
-check_of cell k =
-    record {
-      kind = k.kind;
-      first = event_of cell.pins k.first;
-      second = event_of cell.pins k.second;
-      limit = k.limit;
-      condition = option_map (wire_of cell) k.condition;
-    }
+abbrev pub check_of : CellData → Check → TimingCheck
+check_of cell = check_by (wire_of cell) cell.pins
 
 -- The module of a cell.
 abbrev pub module_of : CellData → VModule

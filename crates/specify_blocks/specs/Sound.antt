@@ -15,7 +15,7 @@ use Rattle.specify_blocks.specs.declared.model.Instance.TheVariants as instance
 use Rattle.specify_blocks.specs.declared.model.Gate.{Gate}
 use Rattle.specify_blocks.specs.declared.model.Gate.TheVariants as gate
 use Rattle.specify_blocks.specs.declared.model.VPath.{VPath}
-use Rattle.specify_blocks.specs.declared.model.VCheck.{VCheck}
+use Rattle.udp_tables.specs.declared.timing_checks.TimingCheck.{TimingCheck}
 use Rattle.specify_blocks.specs.declared.model.VModule.{VModule}
 use Rattle.specify_blocks.specs.Nets.{are_apart, is_input_port, is_output_port, is_driven, holds_state, is_value, feeds_state, feeds_value, drivers}
 
@@ -57,7 +57,7 @@ pub record IsPath (m : VModule) (path : VPath) : Type 0 where
   pub gated : IsTrue (is_gate m path.gate)
 
 -- whether the events of a check are those that its text tells: of a width and of a period one event is written
-abbrev pub has_written_events : VCheck → CheckKind → Bool
+abbrev pub has_written_events : TimingCheck → CheckKind → Bool
 has_written_events k check_kind.Setup = true
 has_written_events k check_kind.Hold = true
 has_written_events k check_kind.Recovery = true
@@ -72,7 +72,7 @@ is_enabling m None = true
 is_enabling m (Some w) = is_value m m.instances w
 
 -- a check: of events of inputs, with a register that it changes
-pub record IsCheck (m : VModule) (k : VCheck) : Type 0 where
+pub record IsCheck (m : VModule) (k : TimingCheck) : Type 0 where
   pub first : IsTrue (is_input_port m.ports k.first.pin)
   pub second : IsTrue (is_input_port m.ports k.second.pin)
   pub written : IsTrue (has_written_events k k.kind)

@@ -15,7 +15,7 @@ use Rattle.udp_tables.specs.declared.models.VPort.{VPort}
 use Rattle.specify_blocks.specs.declared.model.Gate.{Gate}
 use Rattle.specify_blocks.specs.declared.model.Gate.TheVariants as gate
 use Rattle.specify_blocks.specs.declared.model.VPath.{VPath}
-use Rattle.specify_blocks.specs.declared.model.VCheck.{VCheck}
+use Rattle.udp_tables.specs.declared.timing_checks.TimingCheck.{TimingCheck}
 use Rattle.specify_blocks.specs.declared.model.VModule.{VModule}
 use Rattle.specify_blocks.specs.Nets.{is_input_port, is_output_port, is_value}
 use Rattle.rule_readers.specs.declared.refusal.Refusal.{Refusal}
@@ -146,7 +146,7 @@ check_end m = do
 
 -- EVENT "," EVENT [ "&&&" NAME ] "," NUM "," NAME ")" ";" behind "(": first the earlier event, then the later one (15.2.1, 15.2.2,
 -- 15.2.5)
-unfoldable pub ordered_check : CheckKind → VModule → Grammar VCheck
+unfoldable pub ordered_check : CheckKind → VModule → Grammar TimingCheck
 ordered_check kind m = do
   first ← an_event m
   _ ← expect (codes ",")
@@ -158,7 +158,7 @@ ordered_check kind m = do
   r.Gives (record { kind = kind; first = first; second = second; limit = limit; condition = when })
 
 -- EVENT [ "&&&" NAME ] "," EVENT "," NUM "," NAME ")" ";" behind "(": first the later event, then the earlier one (15.2.4)
-unfoldable pub turned_check : CheckKind → VModule → Grammar VCheck
+unfoldable pub turned_check : CheckKind → VModule → Grammar TimingCheck
 turned_check kind m = do
   second ← an_event m
   when ← condition m
@@ -176,7 +176,7 @@ opposite edge.Rise = edge.Fall
 opposite edge.Fall = edge.Rise
 
 -- EVENT [ "&&&" NAME ] "," NUM "," "0" "," NAME ")" ";" behind "(": the event with which a pulse begins; its threshold is 0 (15.3.4)
-unfoldable pub width_check : VModule → Grammar VCheck
+unfoldable pub width_check : VModule → Grammar TimingCheck
 width_check m = do
   first ← an_edge_event m
   when ← condition m
@@ -219,7 +219,7 @@ second_period m p when limit = do
   check_end m
 
 -- "posedge" NAME [ "&&&" NAME ] "," NUM "," NAME ")" ";" behind "(", and the line of the falls (15.3.5): one check
-unfoldable pub period_check : VModule → Grammar VCheck
+unfoldable pub period_check : VModule → Grammar TimingCheck
 period_check m = do
   _ ← expect (codes "posedge")
   p ← an_input m
@@ -248,7 +248,7 @@ check_of x =
     else None)))))
 
 -- what stands behind the word of a check and "("
-unfoldable pub check_of_kind : VModule → CheckKind → Grammar VCheck
+unfoldable pub check_of_kind : VModule → CheckKind → Grammar TimingCheck
 check_of_kind m check_kind.Setup = ordered_check check_kind.Setup m
 check_of_kind m check_kind.Hold = ordered_check check_kind.Hold m
 check_of_kind m check_kind.Recovery = ordered_check check_kind.Recovery m
@@ -257,22 +257,22 @@ check_of_kind m check_kind.Width = width_check m
 check_of_kind m check_kind.Period = period_check m
 
 -- a check behind its word
-unfoldable pub check : VModule → CheckKind → Grammar VCheck
+unfoldable pub check : VModule → CheckKind → Grammar TimingCheck
 check m kind = do
   _ ← expect (codes "(")
   check_of_kind m kind
 
-unfoldable pub next_check : VModule → List VCheck → CheckKind → Grammar (List VCheck)
+unfoldable pub next_check : VModule → List TimingCheck → CheckKind → Grammar (List TimingCheck)
 next_check m checks kind = do
   another ← check m kind
   r.Gives (checks ++ another ∷ [])
 
 -- { check }
-unfoldable pub checks : VModule → Grammar (List VCheck)
+unfoldable pub checks : VModule → Grammar (List TimingCheck)
 checks m = r.Many (λ _. begins_as check_of) (next_check m) []
 
 -- the module with these paths and checks
-abbrev pub with_block : VModule → List VPath → List VCheck → VModule
+abbrev pub with_block : VModule → List VPath → List TimingCheck → VModule
 with_block m some_paths some_checks =
     record {
       name = m.name;

@@ -10,7 +10,7 @@ use Rattle.udp_tables.specs.declared.table.Next.TheVariants as next
 use Rattle.udp_tables.specs.declared.table.UdpRow.{UdpRow}
 use Rattle.udp_tables.specs.declared.table.Udp.{Udp}
 use Rattle.specify_blocks.specs.declared.model.VPath.{VPath}
-use Rattle.specify_blocks.specs.declared.model.VCheck.{VCheck}
+use Rattle.udp_tables.specs.declared.timing_checks.TimingCheck.{TimingCheck}
 use Rattle.specify_blocks.specs.declared.model.VModule.{VModule}
 use Rattle.specify_blocks.specs.Sound.{IsTable, IsSound}
 use Rattle.specify_blocks.specs.VerilogModules.{port_names}
@@ -75,7 +75,7 @@ pub record IsWellFormedModule (m : VModule) : Type 0 where
   pub udps : All IsWellFormedUdp m.udps
   pub sound : IsSound m
   pub paths : All HasNumbers m.paths
-  pub checks : All (λ (k : VCheck). IsNumber k.limit) m.checks
+  pub checks : All (λ (k : TimingCheck). IsNumber k.limit) m.checks
 
 -- the names of primitives
 abbrev pub udp_names : List Udp → List (List ℕ)

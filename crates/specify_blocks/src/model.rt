@@ -1,7 +1,6 @@
 //! A Verilog module as data.
-use cell_machine::{CheckKind, Event};
 use sqlite_items::Items;
-use udp_tables::{Udp, VPort};
+use udp_tables::{TimingCheck, Udp, VPort};
 
 /// A module: primitives joined by nets, with a specify block of delays and timing checks. (IEEE 1364-2005, clauses 8, 12,
 /// 14 and 15.) Ports, wires and primitives are numbered from 0, each in their own order.
@@ -22,7 +21,7 @@ pub struct VModule {
     /// The paths of the specify block, in order.
     pub paths: Items<VPath>,
     /// The timing checks of the specify block, in order.
-    pub checks: Items<VCheck>,
+    pub checks: Items<TimingCheck>,
 }
 
 /// What carries a value in a module.
@@ -113,19 +112,4 @@ pub struct VPath {
     pub fall: u64,
     /// When the path counts.
     pub gate: Gate,
-}
-
-/// A timing check. (IEEE 1364-2005, clause 15.) A `Period` stands for two checks, of its rises and of its falls.
-#[derive(Clone, Copy, Debug, PartialEq, Eq)]
-pub struct VCheck {
-    /// What is checked.
-    pub kind: CheckKind,
-    /// The earlier event, of the port with this number.
-    pub first: Event,
-    /// The later event, of the port with this number.
-    pub second: Event,
-    /// The least distance, in picoseconds.
-    pub limit: u64,
-    /// The number of the wire that has to be 1 at the later event, where there is one.
-    pub condition: Option<usize>,
 }

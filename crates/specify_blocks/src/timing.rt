@@ -1,16 +1,16 @@
-//! The paths and the timing checks of a cell's module.
-ghost use Rattle.std.specs.Prelude.{◌≡◌, None, map, option_map, IfOk};
+//! The paths of a cell's module.
+ghost use Rattle.std.specs.Prelude.{◌≡◌, None, map, IfOk};
 ghost use Rattle.std.specs.List.{list_any};
 ghost use Rattle.cell_machine.specs.CellData.{data_of};
 ghost use Rattle.udp_tables.specs.Conditions.{conditions_of};
-ghost use Rattle.specify_blocks.specs.Generated.{wire_of, is_conditional, gate_by, path_of, check_of};
+ghost use Rattle.specify_blocks.specs.Generated.{wire_of, is_conditional, gate_by, path_of};
 
-use crate::model::{Gate, VCheck, VPath};
+use crate::model::{Gate, VPath};
 use bool_functions::Function;
-use cell_machine::{Arc, Cell, Check};
+use cell_machine::{Arc, Cell};
 use sqlite_items::Items;
 use std::alloc::{AllocError, Global};
-use udp_tables::{condition_number, event_of, port_number};
+use udp_tables::{condition_number, port_number};
 
 /// The paths of a cell's module, where these are the cell's conditions: one for each arc, in order.
 pub(crate) fn paths_of(
@@ -85,50 +85,4 @@ fn wire_of(cell: &Cell, conditions: &[&Function], condition: &Function) -> usize
     ensures { result ≡ wire_of (data_of cell.now) condition.now }
 {
     cell.groups.len() + condition_number(conditions, condition)
-}
-
-/// The checks of a cell's module, where these are the cell's conditions.
-pub(crate) fn checks_of(
-    alloc: Global,
-    cell: &Cell,
-    conditions: &[&Function],
-) -> Result<Items<VCheck>, AllocError>
-    requires { map (λ f. f.now) conditions.now ≡ conditions_of (data_of cell.now) }
-    ensures { IfOk result (λ checks. checks ≡ map (check_of (data_of cell.now)) cell.now.checks) }
-{
-    let mut checks = Items::new(alloc);
-    for check in cell.checks.as_slice() {
-        checks.push(check_of(cell, conditions, check))?;
-    }
-    Ok(checks)
-}
-
-/// The timing check of a cell's check.
-fn check_of(cell: &Cell, conditions: &[&Function], check: &Check) -> VCheck
-    requires { map (λ f. f.now) conditions.now ≡ conditions_of (data_of cell.now) }
-    ensures { result ≡ check_of (data_of cell.now) check.now }
-{
-    let pins = cell.pins.as_slice();
-    VCheck {
-        kind: check.kind,
-        first: event_of(pins, check.first),
-        second: event_of(pins, check.second),
-        limit: check.limit,
-        condition: condition_wire(cell, conditions, &check.condition),
-    }
-}
-
-/// The wire of a condition, where there is one.
-fn condition_wire(
-    cell: &Cell,
-    conditions: &[&Function],
-    condition: &Option<Function>,
-) -> Option<usize>
-    requires { map (λ f. f.now) conditions.now ≡ conditions_of (data_of cell.now) }
-    ensures { result ≡ option_map (wire_of (data_of cell.now)) condition.now }
-{
-    match condition {
-        Some(condition) => Some(wire_of(cell, conditions, condition)),
-        None => None,
-    }
 }

@@ -10,7 +10,7 @@ use Rattle.cell_machine.specs.History.{inputs_after, value_before, is_event}
 use Rattle.cell_machine.specs.Report.{is_period, happens, is_within, last_event, any_true}
 use Rattle.cell_machine.proofs.EachLemmas.{each-map}
 use Rattle.vital_models.specs.declared.model.VState.{VState}
-use Rattle.vital_models.specs.declared.model.HCheck.{HCheck}
+use Rattle.udp_tables.specs.declared.timing_checks.TimingCheck.{TimingCheck}
 use Rattle.vital_models.specs.declared.model.VEntity.{VEntity}
 use Rattle.vital_models.specs.LookUps.{lookup_state}
 use Rattle.vital_models.specs.Sound.{IsCheck, IsSound}
@@ -39,30 +39,30 @@ looked-each f g (t ∷ ts) (s ∷ ss) = ap (λ r. lookup_state t.table.rows (f t
 
 -- the time from which a check of a module measures, by the times of the last events
 opened-last :
-    (ports : List VPort) (n : ℕ) (h : List Change) (a : Trit) (c : Change) (k : HCheck)
-    → opened (as_module_check k) a c (last_stamps ports n h (as_module_check k))
+    (ports : List VPort) (n : ℕ) (h : List Change) (a : Trit) (c : Change) (k : TimingCheck)
+    → opened k a c (last_stamps ports n h k)
     ≡ last_event n (input_event ports (opening_event (is_period k.kind) k a c)) h
 opened-last ports n h a c k = by (is_period k.kind)
   where
     edges :
         (rises : Bool)
-        → same_edge rises (last_stamps ports n h (as_module_check k))
+        → same_edge rises (last_stamps ports n h k)
         ≡ last_event n (input_event ports (record { pin = k.second.pin; edge = (if rises then edge.Rise else edge.Fall) })) h
     edges true = refl
     edges false = refl
 
     by :
         (period : Bool)
-        → opened_by period a c (last_stamps ports n h (as_module_check k))
+        → opened_by period a c (last_stamps ports n h k)
         ≡ last_event n (input_event ports (opening_event period k a c)) h
     by true = edges (is_rise a c.to)
     by false = refl
 
 -- a check with the events of its kind reports as the process says
 report-same :
-    (e : VEntity) (n : ℕ) (h : List Change) (inputs : List Trit) (a : Trit) (c : Change) (k : HCheck)
+    (e : VEntity) (n : ℕ) (h : List Change) (inputs : List Trit) (a : Trit) (c : Change) (k : TimingCheck)
     → IsCheck e k
-    → stamp_reports e inputs a c k (last_stamps e.ports n h (as_module_check k))
+    → stamp_reports e inputs a c k (last_stamps e.ports n h k)
     ≡ check_reports e inputs a c k (last_times e.ports n h k)
 report-same e n h inputs a c k is =
     λ i.
@@ -71,9 +71,9 @@ report-same e n h inputs a c k is =
     && is_within c.at k.limit ((opened-last e.ports n h a c k ∙ sym (earlier-first e.ports n h a c k is.events)) i))
 
 reports-same :
-    (e : VEntity) (n : ℕ) (h : List Change) (inputs : List Trit) (a : Trit) (c : Change) (ks : List HCheck)
-    → ((k : ℕ) (d : HCheck) → k < length ks → IsCheck e (get_or ks k d))
-    → each (stamp_reports e inputs a c) ks (map (λ k. last_stamps e.ports n h (as_module_check k)) ks)
+    (e : VEntity) (n : ℕ) (h : List Change) (inputs : List Trit) (a : Trit) (c : Change) (ks : List TimingCheck)
+    → ((k : ℕ) (d : TimingCheck) → k < length ks → IsCheck e (get_or ks k d))
+    → each (stamp_reports e inputs a c) ks (map (λ k. last_stamps e.ports n h k) ks)
     ≡ each (check_reports e inputs a c) ks (map (last_times e.ports n h) ks)
 reports-same e n h inputs a c [] are = refl
 reports-same e n h inputs a c (k ∷ ks) are =
@@ -82,8 +82,8 @@ reports-same e n h inputs a c (k ∷ ks) are =
     ∷ reports-same e n h inputs a c ks (λ j d within. are (suc j) d (omega arith)) i
 
 start-stamps :
-    (ports : List VPort) (n : ℕ) (ks : List HCheck)
-    → replicate (length ks) no_stamps ≡ map (λ k. last_stamps ports n [] (as_module_check k)) ks
+    (ports : List VPort) (n : ℕ) (ks : List TimingCheck)
+    → replicate (length ks) no_stamps ≡ map (λ k. last_stamps ports n [] k) ks
 start-stamps ports n [] = refl
 start-stamps ports n (k ∷ ks) = ap (λ r. no_stamps ∷ r) (start-stamps ports n ks)
 
@@ -114,7 +114,7 @@ record IsTied (e : VEntity) (r : ProcessState) (p : ProcessRun) (h : List Change
   before_tied : r.before ≡ p.inputs
   states_tied : r.states ≡ p.states
   columns_tied : p.previous ≡ all_columns e r.violation r.before
-  stamps_tied : r.stamps ≡ map (λ k. last_stamps e.ports (input_count e.ports) h (as_module_check k)) e.checks
+  stamps_tied : r.stamps ≡ map (λ k. last_stamps e.ports (input_count e.ports) h k) e.checks
 
 module _ (e : VEntity) (sound : IsSound e) (run : ProcessState) (reports : List Bool) (shown : List Shown) (h : List Change)
     (st : EntityStands e run reports shown h) (c : Change) where
@@ -149,7 +149,7 @@ module _ (e : VEntity) (sound : IsSound e) (run : ProcessState) (reports : List 
         columns_tied = λ i. all_columns e (violation_by (any_true (sym reports-are i))) (set (sym st.before_are i) c.pin c.to);
         stamps_tied =
             (λ i. each (restamped e.ports (value_before (inputs i) c) c) e.checks (st.stamps_are i))
-            ∙ each-map (restamped e.ports (value_before (inputs_after n h) c) c) (λ k. last_stamps e.ports n h (as_module_check k)) e.checks;
+            ∙ each-map (restamped e.ports (value_before (inputs_after n h) c) c) (λ k. last_stamps e.ports n h k) e.checks;
       }
 
   still-fields : is_event (process_after e h).inputs c ≡ false → IsTied e run (process_after e h) (c ∷ h)
@@ -162,10 +162,10 @@ module _ (e : VEntity) (sound : IsSound e) (run : ProcessState) (reports : List 
         columns_tied = st.columns_are;
         stamps_tied =
             st.stamps_are
-            ∙ (λ i. map (λ (k : HCheck). record {
+            ∙ (λ i. map (λ (k : TimingCheck). record {
               first = still-event n (input_event e.ports k.first) h c none i;
-              rise = still-event n (input_event e.ports (second_of (as_module_check k) edge.Rise)) h c none i;
-              fall = still-event n (input_event e.ports (second_of (as_module_check k) edge.Fall)) h c none i;
+              rise = still-event n (input_event e.ports (second_of k edge.Rise)) h c none i;
+              fall = still-event n (input_event e.ports (second_of k edge.Fall)) h c none i;
             }) e.checks);
       }
 

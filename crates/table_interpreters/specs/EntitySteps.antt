@@ -7,10 +7,9 @@ use Rattle.cell_machine.specs.Each.{each}
 use Rattle.cell_machine.specs.History.{value_before, is_event}
 use Rattle.cell_machine.specs.Report.{happens, is_within, any_true}
 use Rattle.udp_tables.specs.declared.models.VPort.{VPort}
-use Rattle.specify_blocks.specs.declared.model.VCheck.{VCheck}
+use Rattle.udp_tables.specs.declared.timing_checks.TimingCheck.{TimingCheck}
 use Rattle.vital_models.specs.declared.model.VState.{VState}
 use Rattle.vital_models.specs.declared.model.VOutput.{VOutput}
-use Rattle.vital_models.specs.declared.model.HCheck.{HCheck}
 use Rattle.vital_models.specs.declared.model.VEntity.{VEntity}
 use Rattle.vital_models.specs.LookUps.{lookup_state}
 use Rattle.model_traces.specs.declared.stamps.Stamps.{Stamps}
@@ -24,20 +23,15 @@ use Rattle.model_traces.specs.EntityTrace.{output_after, delay_after, reports_af
 use Rattle.table_interpreters.specs.declared.shown.Shown.{Shown}
 use Rattle.table_interpreters.specs.declared.process_run.ProcessState.{ProcessState}
 
--- a check of an entity as one of a module, whose condition has the same number
-abbrev pub as_module_check : HCheck → VCheck
-as_module_check k =
-    record { kind = k.kind; first = k.first; second = k.second; limit = k.limit; condition = k.condition }
-
 -- whether a check reports at a change of an input that had the value a, by the inputs after it and the times kept before it
-abbrev pub stamp_reports : VEntity → List Trit → Trit → Change → HCheck → Stamps → Bool
+abbrev pub stamp_reports : VEntity → List Trit → Trit → Change → TimingCheck → Stamps → Bool
 stamp_reports e inputs a c k s =
     happens (input_event e.ports k.second) a c
-    && (is_enabled e inputs k.condition && is_within c.at k.limit (opened (as_module_check k) a c s))
+    && (is_enabled e inputs k.condition && is_within c.at k.limit (opened k a c s))
 
 -- the times that a check keeps after the change
-abbrev pub restamped : List VPort → Trit → Change → HCheck → Stamps → Stamps
-restamped ports a c k s = stamped ports a c (as_module_check k) s
+abbrev pub restamped : List VPort → Trit → Change → TimingCheck → Stamps → Stamps
+restamped ports a c k s = stamped ports a c k s
 
 -- the next state, where the violation and the inputs were these before and are those now
 abbrev pub next_by : VEntity → Trit → List Trit → Trit → List Trit → VState → Trit → Trit
@@ -98,6 +92,6 @@ pub record EntityStands (e : VEntity) (run : ProcessState) (reports : List Bool)
   pub before_are : run.before ≡ (process_after e h).inputs
   pub states_are : run.states ≡ (process_after e h).states
   pub columns_are : (process_after e h).previous ≡ all_columns e run.violation run.before
-  pub stamps_are : run.stamps ≡ map (λ k. last_stamps e.ports (input_count e.ports) h (as_module_check k)) e.checks
+  pub stamps_are : run.stamps ≡ map (λ k. last_stamps e.ports (input_count e.ports) h k) e.checks
   pub reports_are : reports ≡ reports_after e h
   pub shown_are : shown ≡ map (output_shown e h) e.outputs

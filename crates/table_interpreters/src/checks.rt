@@ -11,10 +11,10 @@ use crate::net_values::net_value;
 use crate::ports::input_number;
 use cell_machine::{Change, Edge, Event, is_rise, is_within, moves, renewed};
 use model_traces::Stamps;
-use specify_blocks::{VCheck, VModule, VNet};
+use specify_blocks::{VModule, VNet};
 use sqlite_items::Items;
 use trit_cubes::Trit;
-use udp_tables::VPort;
+use udp_tables::{TimingCheck, VPort};
 
 /// Whether a change of an input that had the value `from` is this event of a port.
 pub(crate) fn happens(ports: &[VPort], event: Event, from: Trit, change: Change) -> bool
@@ -28,7 +28,7 @@ pub(crate) fn stamped(
     ports: &[VPort],
     from: Trit,
     change: Change,
-    check: &VCheck,
+    check: &TimingCheck,
     stamps: Stamps,
 ) -> Stamps
     ensures { result ≡ stamped ports.now from change check.now stamps }
@@ -50,7 +50,7 @@ pub(crate) fn stamped(
 }
 
 /// The time from which a check measures at a change of an input that had the value `from`.
-pub(crate) fn opened(check: &VCheck, from: Trit, change: Change, stamps: Stamps) -> Option<u64>
+pub(crate) fn opened(check: &TimingCheck, from: Trit, change: Change, stamps: Stamps) -> Option<u64>
     ensures { result ≡ opened check.now from change stamps }
 {
     if check.kind.is_period() {
@@ -81,7 +81,7 @@ fn check_reports(
     values: &ModuleValues,
     from: Trit,
     change: Change,
-    check: &VCheck,
+    check: &TimingCheck,
     stamps: Stamps,
     room: &mut Items<Trit>,
 ) -> bool

@@ -3,37 +3,24 @@ ghost use Rattle.std.specs.Prelude.{◌≡◌, length};
 ghost use Rattle.cell_machine.specs.Each.{each};
 ghost use Rattle.vital_models.specs.Sound.{IsSound};
 ghost use Rattle.table_interpreters.specs.EntityRooms.{HasRoom};
-ghost use Rattle.table_interpreters.specs.EntitySteps.{as_module_check, stamp_reports, restamped};
+ghost use Rattle.table_interpreters.specs.EntitySteps.{stamp_reports, restamped};
 
 use crate::checks::{happens, opened, stamped};
 use crate::entity_values::EntityValues;
 use crate::process_values::is_enabled;
 use cell_machine::{Change, is_within};
 use model_traces::Stamps;
-use specify_blocks::VCheck;
 use sqlite_items::Items;
 use trit_cubes::Trit;
-use vital_models::{HCheck, VEntity};
-
-/// A check of an entity as one of a module.
-fn as_module_check(check: HCheck) -> VCheck
-    ensures { result ≡ as_module_check check }
-{
-    VCheck {
-        kind: check.kind,
-        first: check.first,
-        second: check.second,
-        limit: check.limit,
-        condition: check.condition,
-    }
-}
+use udp_tables::TimingCheck;
+use vital_models::VEntity;
 
 /// Whether a check reports. `inputs` are those after the change, `from` is the value that the input had.
 fn check_reports(
     values: &EntityValues,
     from: Trit,
     change: Change,
-    check: HCheck,
+    check: TimingCheck,
     stamps: Stamps,
     room: &mut Items<Trit>,
 ) -> bool
@@ -46,7 +33,6 @@ fn check_reports(
         return false;
     }
     let enabled = is_enabled(values, check.condition, room);
-    let check = as_module_check(check);
     enabled && is_within(change.at, check.limit, opened(&check, from, change, stamps))
 }
 
@@ -84,7 +70,6 @@ pub(crate) fn stamp_entity(model: &VEntity, from: Trit, change: Change, stamps: 
     let checks = model.checks.as_slice();
     for i in 0..stamps.len() {
         let kept = stamps.as_slice()[i];
-        let check = as_module_check(checks[i]);
-        stamps.set(i, stamped(ports, from, change, &check, kept));
+        stamps.set(i, stamped(ports, from, change, &checks[i], kept));
     }
 }

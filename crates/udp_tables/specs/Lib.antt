@@ -7,6 +7,7 @@ pub mod Edges
 pub mod Sequential
 pub mod Pairs
 pub mod Conditions
+pub mod TimingChecks
 pub mod CellPrimitives
 pub mod Laws
 pub mod ModelFaults

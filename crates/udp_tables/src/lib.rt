@@ -20,6 +20,7 @@ mod ports;
 mod sequential;
 mod table;
 mod text_faults;
+mod timing_checks;
 
 pub use cell_conditions::{condition_number, conditions};
 pub use cell_primitives::{Part, combinational_udp, part_udp, sequential_udp};
@@ -30,3 +31,4 @@ pub use ports::{event_of, is_port, port_number};
 pub use sequential::udp_next;
 pub use table::{Entry, Level, Next, Udp, UdpRow};
 pub use text_faults::refusal_fault;
+pub use timing_checks::{TimingCheck, timing_checks};

@@ -12,10 +12,10 @@ use crate::paths::paths;
 use crate::period_lines::period_check;
 use cell_machine::{CheckKind, Edge, Event};
 use rule_readers::{Cursor, Stop};
-use specify_blocks::VCheck;
 use sqlite_items::Items;
 use std::alloc::Global;
 use udp_reader::Verilog;
+use udp_tables::TimingCheck;
 
 /// The edge with which a pulse ends that begins with this one.
 fn opposite(edge: Edge) -> Edge
@@ -55,7 +55,7 @@ fn ordered_check(
     cursor: &mut Cursor<'_, Verilog>,
     kind: CheckKind,
     model: &Netlist,
-) -> Result<VCheck, Stop>
+) -> Result<TimingCheck, Stop>
     ensures { Reads (read (spec.ordered_check kind model.now) cursor.old) result cursor.new }
 {
     let first = an_event(cursor, model)?;
@@ -65,7 +65,7 @@ fn ordered_check(
     cursor.expect(b",")?;
     let limit = number(cursor)?;
     check_end(cursor, model)?;
-    Ok(VCheck {
+    Ok(TimingCheck {
         kind,
         first,
         second,
@@ -80,7 +80,7 @@ fn turned_check(
     cursor: &mut Cursor<'_, Verilog>,
     kind: CheckKind,
     model: &Netlist,
-) -> Result<VCheck, Stop>
+) -> Result<TimingCheck, Stop>
     ensures { Reads (read (spec.turned_check kind model.now) cursor.old) result cursor.new }
 {
     let second = an_event(cursor, model)?;
@@ -90,7 +90,7 @@ fn turned_check(
     cursor.expect(b",")?;
     let limit = number(cursor)?;
     check_end(cursor, model)?;
-    Ok(VCheck {
+    Ok(TimingCheck {
         kind,
         first,
         second,
@@ -101,7 +101,7 @@ fn turned_check(
 
 /// The width of a pulse.
 #[tactic(auto, unfolding(specify_blocks::specs::VerilogBlocks::width_check))]
-fn width_check(cursor: &mut Cursor<'_, Verilog>, model: &Netlist) -> Result<VCheck, Stop>
+fn width_check(cursor: &mut Cursor<'_, Verilog>, model: &Netlist) -> Result<TimingCheck, Stop>
     ensures { Reads (read (spec.width_check model.now) cursor.old) result cursor.new }
 {
     let first = an_edge_event(cursor, model)?;
@@ -115,7 +115,7 @@ fn width_check(cursor: &mut Cursor<'_, Verilog>, model: &Netlist) -> Result<VChe
         pin: first.pin,
         edge: opposite(first.edge),
     };
-    Ok(VCheck {
+    Ok(TimingCheck {
         kind: CheckKind::Width,
         first,
         second,
@@ -130,7 +130,7 @@ fn check_of_kind(
     cursor: &mut Cursor<'_, Verilog>,
     model: &Netlist,
     kind: CheckKind,
-) -> Result<VCheck, Stop>
+) -> Result<TimingCheck, Stop>
     ensures { Reads (read (spec.check_of_kind model.now kind) cursor.old) result cursor.new }
 {
     match kind {
@@ -145,7 +145,7 @@ fn check_of_kind(
 
 /// A check, behind its word.
 #[tactic(auto, unfolding(specify_blocks::specs::VerilogBlocks::check))]
-fn check(cursor: &mut Cursor<'_, Verilog>, model: &Netlist, kind: CheckKind) -> Result<VCheck, Stop>
+fn check(cursor: &mut Cursor<'_, Verilog>, model: &Netlist, kind: CheckKind) -> Result<TimingCheck, Stop>
     ensures { Reads (read (spec.check model.now kind) cursor.old) result cursor.new }
 {
     cursor.expect(b"(")?;
@@ -158,7 +158,7 @@ fn checks(
     cursor: &mut Cursor<'_, Verilog>,
     alloc: Global,
     model: &Netlist,
-) -> Result<Items<VCheck>, Stop>
+) -> Result<Items<TimingCheck>, Stop>
     ensures { Reads (read (spec.checks model.now) cursor.old) result cursor.new }
 {
     let mut checks = Items::new(alloc);

@@ -9,11 +9,11 @@ use crate::driven_nets::{DrivenNets, driven_nets};
 use crate::first_names::{FirstNames, port_names, wire_names};
 use crate::nets::{FEW, has_state, is_driven_already, is_state, is_value, port_of, wire_of};
 use rule_readers::Stop;
-use specify_blocks::{Instance, VCheck, VModule, VNet, VPath};
+use specify_blocks::{Instance, VModule, VNet, VPath};
 use sqlite_items::Items;
 use std::alloc::Global;
 use std::marker::Model;
-use udp_tables::VPort;
+use udp_tables::{TimingCheck, VPort};
 
 /// A module. Contracts see it alone. Beside it stand the names of its ports, where there are more than a few, those of its wires
 /// likewise, and which nets are driven.
@@ -191,7 +191,7 @@ impl Netlist {
     }
 
     /// The module with the paths and checks of its specify block.
-    pub fn with_block(self, paths: Items<VPath>, checks: Items<VCheck>) -> Netlist
+    pub fn with_block(self, paths: Items<VPath>, checks: Items<TimingCheck>) -> Netlist
         ensures { result ≡ with_block self paths checks }
     {
         let Netlist {

@@ -14,8 +14,8 @@ use crate::numbers::number;
 use crate::paths::input_name;
 use cell_machine::{CheckKind, Edge, Event};
 use rule_readers::{Cursor, Refusal, Stop};
-use specify_blocks::VCheck;
 use udp_reader::Verilog;
+use udp_tables::TimingCheck;
 use verilog_tokens::number_of;
 
 /// The name of this wire.
@@ -92,7 +92,7 @@ fn second_period(
 
 /// A period: its two lines.
 #[tactic(auto, unfolding(specify_blocks::specs::VerilogBlocks::period_check))]
-pub fn period_check(cursor: &mut Cursor<'_, Verilog>, model: &Netlist) -> Result<VCheck, Stop>
+pub fn period_check(cursor: &mut Cursor<'_, Verilog>, model: &Netlist) -> Result<TimingCheck, Stop>
     ensures { Reads (read (spec.period_check model.now) cursor.old) result cursor.new }
 {
     cursor.expect(b"posedge")?;
@@ -106,7 +106,7 @@ pub fn period_check(cursor: &mut Cursor<'_, Verilog>, model: &Netlist) -> Result
         pin,
         edge: Edge::Any,
     };
-    Ok(VCheck {
+    Ok(TimingCheck {
         kind: CheckKind::Period,
         first: event,
         second: event,

@@ -11,7 +11,7 @@ use Rattle.specify_blocks.specs.declared.model.Instance.TheVariants as instance
 use Rattle.specify_blocks.specs.declared.model.Gate.{Gate}
 use Rattle.specify_blocks.specs.declared.model.Gate.TheVariants as gate
 use Rattle.specify_blocks.specs.declared.model.VPath.{VPath}
-use Rattle.specify_blocks.specs.declared.model.VCheck.{VCheck}
+use Rattle.udp_tables.specs.declared.timing_checks.TimingCheck.{TimingCheck}
 use Rattle.specify_blocks.specs.declared.model.VModule.{VModule}
 use Rattle.verilog_writer.specs.Timing.{gate_text, delays_text, path_text, ordered_text, turned_text, width_text, period_line, period_text, check_text, lines_text, block_text}
 use Rattle.verilog_writer.specs.Model.{module_opening_text, next_port_text, module_header_text, input_port_text, output_port_text, wire_text, declarations_text, terminal_text, driver_text, call_text, constant_text, module_only_text}
@@ -82,7 +82,7 @@ unfolding flip_flop path digits gate_text delays_text path_text
 other-path = refl
 
 -- checks of D and CK, with a condition where there is one
-check : CheckKind → Edge → Edge → Option ℕ → VCheck
+check : CheckKind → Edge → Edge → Option ℕ → TimingCheck
 check what first second condition =
     record {
       kind = what;

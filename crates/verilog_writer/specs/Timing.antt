@@ -9,7 +9,7 @@ use Rattle.cell_machine.specs.declared.checks.Edge.TheVariants as edge
 use Rattle.specify_blocks.specs.declared.model.Gate.{Gate}
 use Rattle.specify_blocks.specs.declared.model.Gate.TheVariants as gate
 use Rattle.specify_blocks.specs.declared.model.VPath.{VPath}
-use Rattle.specify_blocks.specs.declared.model.VCheck.{VCheck}
+use Rattle.udp_tables.specs.declared.timing_checks.TimingCheck.{TimingCheck}
 use Rattle.specify_blocks.specs.declared.model.VModule.{VModule}
 use Rattle.verilog_writer.specs.Nets.{port_at, wire_at, notifier_in}
 
@@ -49,7 +49,7 @@ condition_text m None = []
 condition_text m (Some w) = wire_at m w
 
 -- a check with the first event and then the second one, where its condition is
-unfoldable pub ordered_text : List ℕ → VModule → VCheck → List ℕ
+unfoldable pub ordered_text : List ℕ → VModule → TimingCheck → List ℕ
 ordered_text word m k =
     word
     ++ (edge_text k.first.edge
@@ -62,7 +62,7 @@ ordered_text word m k =
     ++ (codes ", " ++ (decimal k.limit ++ (codes ", " ++ (notifier_in m ++ codes ");\n")))))))))))
 
 -- a check with the second event, where its condition is, and then the first one
-unfoldable pub turned_text : List ℕ → VModule → VCheck → List ℕ
+unfoldable pub turned_text : List ℕ → VModule → TimingCheck → List ℕ
 turned_text word m k =
     word
     ++ (edge_text k.second.edge
@@ -75,7 +75,7 @@ turned_text word m k =
     ++ (codes ", " ++ (decimal k.limit ++ (codes ", " ++ (notifier_in m ++ codes ");\n")))))))))))
 
 -- a check of its first event alone, with a threshold of 0
-unfoldable pub width_text : List ℕ → VModule → VCheck → List ℕ
+unfoldable pub width_text : List ℕ → VModule → TimingCheck → List ℕ
 width_text word m k =
     word
     ++ (edge_text k.first.edge
@@ -85,7 +85,7 @@ width_text word m k =
     ++ (codes ", " ++ (decimal k.limit ++ (codes ", 0, " ++ (notifier_in m ++ codes ");\n"))))))))
 
 -- a period of one kind of event
-unfoldable pub period_line : List ℕ → VModule → VCheck → List ℕ
+unfoldable pub period_line : List ℕ → VModule → TimingCheck → List ℕ
 period_line word m k =
     word
     ++ (port_at m k.first.pin
@@ -94,12 +94,12 @@ period_line word m k =
     ++ (codes ", " ++ (decimal k.limit ++ (codes ", " ++ (notifier_in m ++ codes ");\n")))))))
 
 -- a period: of its rises, and of its falls
-unfoldable pub period_text : VModule → VCheck → List ℕ
+unfoldable pub period_text : VModule → TimingCheck → List ℕ
 period_text m k = period_line (codes "    $period(posedge ") m k ++ period_line (codes "    $period(negedge ") m k
 
 -- The lines of a check of this kind. Of a removal the reference event, the second one, is the first argument (IEEE 1364-2005,
 -- 15.2.4).
-abbrev pub kind_text : VModule → VCheck → CheckKind → List ℕ
+abbrev pub kind_text : VModule → TimingCheck → CheckKind → List ℕ
 kind_text m k check_kind.Setup = ordered_text (codes "    $setup(") m k
 kind_text m k check_kind.Hold = ordered_text (codes "    $hold(") m k
 kind_text m k check_kind.Recovery = ordered_text (codes "    $recovery(") m k
@@ -108,7 +108,7 @@ kind_text m k check_kind.Width = width_text (codes "    $width(") m k
 kind_text m k check_kind.Period = period_text m k
 
 -- the lines of a check
-unfoldable pub check_text : VModule → VCheck → List ℕ
+unfoldable pub check_text : VModule → TimingCheck → List ℕ
 check_text m k = kind_text m k k.kind
 
 -- whether the module has a specify block: it has a path or a check

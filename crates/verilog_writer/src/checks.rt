@@ -5,9 +5,10 @@ ghost use Rattle.verilog_writer.specs.Timing.{edge_text, joint_text, condition_t
 
 use crate::nets::{notifier_in, port_at, wire_at};
 use cell_machine::{CheckKind, Edge};
-use specify_blocks::{VCheck, VModule};
+use specify_blocks::VModule;
 use text_io::{Desk, Failed, Line, OutSlot};
 use text_parts::{Bytes, Decimal, ItemText, Part, parts};
+use udp_tables::TimingCheck;
 
 /// The word before the port of an event.
 fn edge_text<'a>(edge: Edge) -> &'a [u8]
@@ -44,7 +45,7 @@ fn condition_text(model: &VModule, condition: Option<usize>) -> &[u8]
 #[derive(Drop)]
 struct Limit<'a> {
     model: &'a VModule,
-    check: &'a VCheck,
+    check: &'a TimingCheck,
     between: &'a [u8],
 }
 
@@ -88,7 +89,7 @@ impl Part for Conditional<'_> {
 
 /// A check that begins with this word, with its first event before the second one.
 #[derive(Drop)]
-struct Ordered<'a>(&'a [u8], &'a VModule, &'a VCheck);
+struct Ordered<'a>(&'a [u8], &'a VModule, &'a TimingCheck);
 
 impl Part for Ordered<'_> {
     ghost text = { λ m. ordered_text m.0.now m.1.now m.2.now };
@@ -116,7 +117,7 @@ impl Part for Ordered<'_> {
 
 /// A check with its second event before the first one.
 #[derive(Drop)]
-struct Turned<'a>(&'a VModule, &'a VCheck);
+struct Turned<'a>(&'a VModule, &'a TimingCheck);
 
 impl Part for Turned<'_> {
     ghost text = { λ m. turned_text (codes "    $removal(") m.0.now m.1.now };
@@ -147,7 +148,7 @@ impl Part for Turned<'_> {
 
 /// A check of which the first event alone is written.
 #[derive(Drop)]
-struct Width<'a>(&'a VModule, &'a VCheck);
+struct Width<'a>(&'a VModule, &'a TimingCheck);
 
 impl Part for Width<'_> {
     ghost text = { λ m. width_text (codes "    $width(") m.0.now m.1.now };
@@ -172,7 +173,7 @@ impl Part for Width<'_> {
 
 /// The line of a period of one kind of event, which begins with this word.
 #[derive(Drop)]
-struct PeriodLine<'a>(&'a [u8], &'a VModule, &'a VCheck);
+struct PeriodLine<'a>(&'a [u8], &'a VModule, &'a TimingCheck);
 
 impl Part for PeriodLine<'_> {
     ghost text = { λ m. period_line m.0.now m.1.now m.2.now };
@@ -196,7 +197,7 @@ impl Part for PeriodLine<'_> {
 
 /// A period: a line of its rises, and one of its falls.
 #[derive(Drop)]
-struct Period<'a>(&'a VModule, &'a VCheck);
+struct Period<'a>(&'a VModule, &'a TimingCheck);
 
 impl Part for Period<'_> {
     ghost text = { λ m. period_text m.0.now m.1.now };
@@ -214,13 +215,13 @@ impl Part for Period<'_> {
 #[derive(Drop)]
 pub(crate) struct CheckLines<'a>(pub(crate) &'a VModule);
 
-impl ItemText<VCheck> for CheckLines<'_> {
+impl ItemText<TimingCheck> for CheckLines<'_> {
     ghost text = { λ m check. check_text m.0.now check };
 
     #[tactic(auto, unfolding(crate::specs::Timing::check_text))]
     fn put<D: Desk>(
         &self,
-        check: &VCheck,
+        check: &TimingCheck,
         line: &mut Line,
         desk: &mut D,
         slot: OutSlot,

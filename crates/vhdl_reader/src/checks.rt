@@ -18,14 +18,14 @@ use cell_machine::{CheckKind, Edge, Event};
 use rule_readers::{Cursor, Refusal, Stop};
 use sqlite_items::Items;
 use std::alloc::Global;
+use udp_tables::TimingCheck;
 use vhdl_tokens::is_same;
-use vital_models::HCheck;
 
 /// The checks so far, and the lists of the conditions that were looked up.
 #[derive(Debug, Drop)]
 pub struct Checks {
     /// In order.
-    pub checks: Items<HCheck>,
+    pub checks: Items<TimingCheck>,
     /// The inputs of each condition, in the order of their numbers.
     pub uses: Items<Items<usize>>,
 }
@@ -70,18 +70,18 @@ fn check_with(
     reference: Event,
     limit: u64,
     condition: Option<usize>,
-) -> HCheck
+) -> TimingCheck
     ensures { result ≡ spec.check_with kind test reference limit condition }
 {
     match kind {
-        CheckKind::Hold | CheckKind::Removal => HCheck {
+        CheckKind::Hold | CheckKind::Removal => TimingCheck {
             kind,
             first: reference,
             second: test,
             limit,
             condition,
         },
-        _ => HCheck {
+        _ => TimingCheck {
             kind,
             first: test,
             second: reference,
@@ -98,7 +98,7 @@ fn next_tested(
     scope: &Declarations,
     is_period: bool,
     word: &[u8],
-    checks: &[HCheck],
+    checks: &[TimingCheck],
 ) -> Result<usize, Stop>
     ensures { Reads (read (spec.tested scope.now is_period word.now (length checks.now)) cursor.old) result cursor.new }
 {

@@ -7,10 +7,9 @@ use crate::outputs::output_ports;
 use crate::paths::Uses;
 use sqlite_items::Items;
 use std::alloc::{AllocError, Global};
+use udp_tables::TimingCheck;
 use vhdl_text::{Assigned, Columns, Scope, Tables};
-use vital_models::{
-    HCheck, HPath, OutValue, TruthTable, VEntity, VOutput, VState, VStateTable, VTruth,
-};
+use vital_models::{HPath, OutValue, TruthTable, VEntity, VOutput, VState, VStateTable, VTruth};
 
 /// These items, the last one first. An `Err` comes only where memory is wanting.
 #[tactic(auto, using(crate::proofs::Reversed::reverse_last))]
@@ -126,7 +125,7 @@ fn outputs_with(
 pub fn entity_with(
     alloc: Global,
     scope: Scope,
-    checks: Items<HCheck>,
+    checks: Items<TimingCheck>,
     columns: Items<Columns>,
     assigned: Items<Assigned>,
     lines: (Items<Items<HPath>>, Uses),

@@ -11,8 +11,8 @@ ghost use Rattle.vhdl_reader.specs.Checked.{pulse_as};
 use crate::language::Vhdl;
 use cell_machine::{CheckKind, Edge, Event};
 use rule_readers::{Cursor, Refusal, Stop};
+use udp_tables::TimingCheck;
 use vhdl_tokens::is_same;
-use vital_models::HCheck;
 
 /// What is checked of one signal: the kind, and the edges of the earlier and of the later event.
 #[derive(Clone, Copy, Debug, PartialEq, Eq)]
@@ -65,10 +65,10 @@ pub fn a_pulse(cursor: &mut Cursor<'_, Vhdl>) -> Result<Pulse, Stop>
 }
 
 /// The check of one signal.
-pub fn pulse_check(pulse: Pulse, pin: usize, limit: u64, condition: Option<usize>) -> HCheck
+pub fn pulse_check(pulse: Pulse, pin: usize, limit: u64, condition: Option<usize>) -> TimingCheck
     ensures { result ≡ spec.pulse_check (pulse_as pulse) pin limit condition }
 {
-    HCheck {
+    TimingCheck {
         kind: pulse.kind,
         first: Event {
             pin,

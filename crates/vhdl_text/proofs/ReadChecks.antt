@@ -12,7 +12,7 @@ use Rattle.cell_machine.specs.declared.checks.Edge.{Edge}
 use Rattle.cell_machine.specs.declared.checks.Edge.TheVariants as edge
 use Rattle.cell_machine.specs.declared.checks.Event.{Event}
 use Rattle.cell_machine.specs.CellRules.{is_one_edge}
-use Rattle.vital_models.specs.declared.model.HCheck.{HCheck}
+use Rattle.udp_tables.specs.declared.timing_checks.TimingCheck.{TimingCheck}
 use Rattle.vital_models.specs.Sound.{is_input_port, has_events}
 use Rattle.vhdl_tokens.specs.Spelling.{is_same}
 use Rattle.vhdl_text.specs.declared.scope.Scope.{Scope}
@@ -103,7 +103,7 @@ equal_limits kind =
 -- Checks.
 
 -- a check that a text can tell
-pub record IsToldCheck (scope : Scope) (k : HCheck) : Type 0 where
+pub record IsToldCheck (scope : Scope) (k : TimingCheck) : Type 0 where
   pub first : IsTrue (is_input_port scope.ports k.first.pin)
   pub second : IsTrue (is_input_port scope.ports k.second.pin)
   pub events : IsTrue (has_events k k.kind)
@@ -163,11 +163,11 @@ pub record AreChecks (scope : Scope) (all : Checks) : Type 0 where
   pub told : All (IsToldCheck scope) all.checks
   pub looked_up : AreLookedUp scope (flat_map conditions_of_check all.checks) all.uses
 
-conditions-push : (all : List HCheck) (k : HCheck) → flat_map conditions_of_check (all ++ k ∷ []) ≡ flat_map conditions_of_check all ++ conditions_of_check k
+conditions-push : (all : List TimingCheck) (k : TimingCheck) → flat_map conditions_of_check (all ++ k ∷ []) ≡ flat_map conditions_of_check all ++ conditions_of_check k
 conditions-push all k =
     flat_map-append conditions_of_check all (k ∷ []) ∙ ap (λ (is : List ℕ). flat_map conditions_of_check all ++ is) (append-nil (conditions_of_check k))
 
-push_check : (scope : Scope) (before : Checks) (k : HCheck) (when : Option ℕ × Uses) → AreChecks scope before → IsToldCheck scope k → conditions_of_check k ≡ numbers_in when.0
+push_check : (scope : Scope) (before : Checks) (k : TimingCheck) (when : Option ℕ × Uses) → AreChecks scope before → IsToldCheck scope k → conditions_of_check k ≡ numbers_in when.0
     → IsEnabling scope (flat_map conditions_of_check before.checks) when → AreChecks scope (with_check before k when.1)
 push_check scope before k when h told same looked = record {
   told = All-push (IsToldCheck scope) before.checks k h.told told;

@@ -20,7 +20,7 @@ use Rattle.vital_models.specs.declared.model.VOutput.{VOutput}
 use Rattle.vital_models.specs.declared.model.HGate.{HGate}
 use Rattle.vital_models.specs.declared.model.HGate.TheVariants as gate
 use Rattle.vital_models.specs.declared.model.HPath.{HPath}
-use Rattle.vital_models.specs.declared.model.HCheck.{HCheck}
+use Rattle.udp_tables.specs.declared.timing_checks.TimingCheck.{TimingCheck}
 use Rattle.vital_models.specs.declared.model.VEntity.{VEntity}
 use Rattle.vital_models.specs.Sound.{is_input_port, output_ports_from, IsState, IsTruth, feeds, IsValue, is_gate, IsPath, IsOutput, is_enabling, IsCheck, IsSound}
 use Rattle.vhdl_text.specs.declared.scope.Columns.{Columns}
@@ -218,7 +218,7 @@ enabled_same : (e : VEntity) (when : Option ℕ) → is_enabled_in (length e.con
 enabled_same e None = refl
 enabled_same e (Some i) = refl
 
-check_sound : (scope : Scope) (e : VEntity) → IsOf scope e → (k : HCheck) → IsToldCheck scope k → IsCheck e k
+check_sound : (scope : Scope) (e : VEntity) → IsOf scope e → (k : TimingCheck) → IsToldCheck scope k → IsCheck e k
 check_sound scope e of k h = record {
   first = subst (λ (ports : List VPort). IsTrue (is_input_port ports k.first.pin)) (sym of.ports) h.first;
   second = subst (λ (ports : List VPort). IsTrue (is_input_port ports k.second.pin)) (sym of.ports) h.second;
@@ -239,7 +239,7 @@ pub record IsReadEntity (e : VEntity) : Type 0 where
   pub in_order : IsTrue (looks_up_in_order (length e.conditions) 0 (looked_up e))
   pub outputs : All IsWrittenOutput e.outputs
   pub assignable : All (IsAssignable e) e.outputs
-  pub limits : All (λ (k : HCheck). IsNumber k.limit) e.checks
+  pub limits : All (λ (k : TimingCheck). IsNumber k.limit) e.checks
 
 -- the statements of an entity of these declarations
 pub record AreStatements (scope : Scope) (all : Checks) (columns : List Columns) (values : List Assigned) (lines : Lines) : Type 0 where

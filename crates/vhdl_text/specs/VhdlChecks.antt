@@ -9,7 +9,7 @@ use Rattle.cell_machine.specs.declared.checks.CheckKind.TheVariants as check_kin
 use Rattle.cell_machine.specs.declared.checks.Edge.{Edge}
 use Rattle.cell_machine.specs.declared.checks.Edge.TheVariants as edge
 use Rattle.cell_machine.specs.declared.checks.Event.{Event}
-use Rattle.vital_models.specs.declared.model.HCheck.{HCheck}
+use Rattle.udp_tables.specs.declared.timing_checks.TimingCheck.{TimingCheck}
 use Rattle.rule_readers.specs.declared.refusal.Refusal.{Refusal}
 use Rattle.rule_readers.specs.declared.refusal.Refusal.TheVariants.{Syntax, Unequal}
 use Rattle.rule_readers.specs.Words.{Grammar, ◌>>=◌, go_on_where, begins_as, valued}
@@ -36,7 +36,7 @@ procedure_of x =
 
 -- the checks so far, and the lists of the conditions that were looked up
 pub record Checks : Type 0 where
-  pub checks : List HCheck
+  pub checks : List TimingCheck
   pub uses : Uses
 
 abbrev pub no_checks : Checks
@@ -127,14 +127,14 @@ both_limits kind = do
   r.Gives limit
 
 -- the event of the test signal and that of the reference, by the order in which a kind of check has them
-abbrev pub check_with : CheckKind → Event → Event → ℕ → Option ℕ → HCheck
+abbrev pub check_with : CheckKind → Event → Event → ℕ → Option ℕ → TimingCheck
 check_with check_kind.Hold test reference limit when =
     record { kind = check_kind.Hold; first = reference; second = test; limit = limit; condition = when }
 check_with check_kind.Removal test reference limit when =
     record { kind = check_kind.Removal; first = reference; second = test; limit = limit; condition = when }
 check_with kind test reference limit when = record { kind = kind; first = test; second = reference; limit = limit; condition = when }
 
-abbrev pub with_check : Checks → HCheck → Uses → Checks
+abbrev pub with_check : Checks → TimingCheck → Uses → Checks
 with_check before k uses = record { checks = before.checks ++ k ∷ []; uses = uses }
 
 -- a call of VitalSetupHoldCheck behind its word
@@ -198,7 +198,7 @@ pulse_of x =
     else (if is_same x (codes "Period") then Some (record { kind = check_kind.Period; first = edge.Any; second = edge.Any })
     else None))
 
-abbrev pub pulse_check : Pulse → ℕ → ℕ → Option ℕ → HCheck
+abbrev pub pulse_check : Pulse → ℕ → ℕ → Option ℕ → TimingCheck
 pulse_check pulse p limit when =
     record {
       kind = pulse.kind;

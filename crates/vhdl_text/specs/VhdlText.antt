@@ -12,7 +12,7 @@ use Rattle.vital_models.specs.declared.model.OutValue.{OutValue}
 use Rattle.vital_models.specs.declared.model.OutValue.TheVariants as value
 use Rattle.vital_models.specs.declared.model.VOutput.{VOutput}
 use Rattle.vital_models.specs.declared.model.HPath.{HPath}
-use Rattle.vital_models.specs.declared.model.HCheck.{HCheck}
+use Rattle.udp_tables.specs.declared.timing_checks.TimingCheck.{TimingCheck}
 use Rattle.vital_models.specs.declared.model.VEntity.{VEntity}
 use Rattle.vital_models.specs.Sound.{output_ports_from}
 use Rattle.rule_readers.specs.declared.refusal.Refusal.TheVariants.{Syntax, Undriven}
@@ -58,7 +58,7 @@ outputs_with (p ∷ ports) (v ∷ values) [] = []
 outputs_with (p ∷ ports) (v ∷ values) (these ∷ paths) = record { port = p; value = v; paths = these } ∷ outputs_with ports values paths
 
 -- the entity of these declarations and statements
-abbrev pub entity_with : Scope → List HCheck → List Columns → List Assigned → Lines → VEntity
+abbrev pub entity_with : Scope → List TimingCheck → List Columns → List Assigned → Lines → VEntity
 entity_with scope all columns values lines =
     record {
       name = scope.name;

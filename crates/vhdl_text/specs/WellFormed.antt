@@ -20,7 +20,7 @@ use Rattle.vital_models.specs.declared.model.VOutput.{VOutput}
 use Rattle.vital_models.specs.declared.model.HGate.{HGate}
 use Rattle.vital_models.specs.declared.model.HGate.TheVariants as gate
 use Rattle.vital_models.specs.declared.model.HPath.{HPath}
-use Rattle.vital_models.specs.declared.model.HCheck.{HCheck}
+use Rattle.udp_tables.specs.declared.timing_checks.TimingCheck.{TimingCheck}
 use Rattle.vital_models.specs.declared.model.VEntity.{VEntity}
 use Rattle.vital_models.specs.Sound.{columns_of, IsSound}
 use Rattle.vhdl_text.specs.VhdlTables.{is_edge}
@@ -100,7 +100,7 @@ pub record IsWrittenOutput (output : VOutput) : Type 0 where
   pub few : length output.paths ≤ 10 ^ 15
 
 -- the conditions of a check, of a path, and of an entity in the order of its text
-abbrev pub conditions_of_check : HCheck → List ℕ
+abbrev pub conditions_of_check : TimingCheck → List ℕ
 conditions_of_check k = numbers_of k.condition where
   numbers_of : Option ℕ → List ℕ
   numbers_of None = []
@@ -154,7 +154,7 @@ pub record IsWellFormedEntity (e : VEntity) : Type 0 where
   pub in_order : IsTrue (looks_up_in_order (length e.conditions) 0 (looked_up e))
   pub outputs : All IsWrittenOutput e.outputs
   pub assignable : All (IsAssignable e) e.outputs
-  pub limits : All (λ (k : HCheck). IsNumber k.limit) e.checks
+  pub limits : All (λ (k : TimingCheck). IsNumber k.limit) e.checks
   pub few : IsNumber (part_count e)
 
 -- A list of entities that a text can have: each is well formed, and no two share a name.

@@ -16,7 +16,7 @@ use Rattle.vital_models.specs.declared.table.VNext.TheVariants as next
 use Rattle.vital_models.specs.declared.table.VStateRow.{VStateRow}
 use Rattle.vital_models.specs.declared.model.OutValue.TheVariants as value
 use Rattle.vital_models.specs.declared.model.HGate.TheVariants as gate
-use Rattle.vital_models.specs.declared.model.HCheck.{HCheck}
+use Rattle.udp_tables.specs.declared.timing_checks.TimingCheck.{TimingCheck}
 use Rattle.vital_models.specs.declared.model.VEntity.{VEntity}
 use Rattle.vhdl_writer.specs.Names.{input_text, inputs_text, next_input_text, violated_text, source_name, source_text, sources_text, condition_text}
 use Rattle.vhdl_writer.specs.Tables.{symbol_apart_text, level_apart_text, state_row_text, truth_row_text, truth_rows_text, state_rows_text, state_constant_text, condition_constant_text, is_looked_up, output_table_text, constants_text}
@@ -115,7 +115,7 @@ control =
       checks = [];
     }
 
-check : CheckKind → ℕ → Edge → ℕ → Edge → HCheck
+check : CheckKind → ℕ → Edge → ℕ → Edge → TimingCheck
 check kind p e q f =
     record { kind = kind; first = record { pin = p; edge = e }; second = record { pin = q; edge = f }; limit = 7; condition = None }
 

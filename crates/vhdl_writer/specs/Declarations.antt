@@ -9,7 +9,7 @@ use Rattle.udp_tables.specs.declared.models.VPort.{VPort}
 use Rattle.vital_models.specs.declared.table.VStateRow.{VStateRow}
 use Rattle.vital_models.specs.declared.model.VState.{VState}
 use Rattle.vital_models.specs.declared.model.VOutput.{VOutput}
-use Rattle.vital_models.specs.declared.model.HCheck.{HCheck}
+use Rattle.udp_tables.specs.declared.timing_checks.TimingCheck.{TimingCheck}
 use Rattle.vital_models.specs.declared.model.VEntity.{VEntity}
 use Rattle.vhdl_writer.specs.Joined.{numbered_texts, apart_text}
 
@@ -72,12 +72,12 @@ data_text check_kind.Width = codes " : VitalPeriodDataType := VitalPeriodDataIni
 data_text check_kind.Period = codes " : VitalPeriodDataType := VitalPeriodDataInit;\n"
 
 -- the variables of a check: its report and its data
-unfoldable pub check_variables_text : ℕ → HCheck → List ℕ
+unfoldable pub check_variables_text : ℕ → TimingCheck → List ℕ
 check_variables_text n k =
     codes "    variable x_" ++ (decimal n ++ (codes " : X01 := '0';\n    variable d_" ++ (decimal n ++ data_text k.kind)))
 
 -- the variable of the violation, where there are checks
-abbrev pub violation_variable_text : List HCheck → List ℕ
+abbrev pub violation_variable_text : List TimingCheck → List ℕ
 violation_variable_text checks = if nat_lt 0 (length checks) then codes "    variable viol : X01 := '0';\n" else []
 
 -- how many columns the first row has

@@ -7,7 +7,7 @@ use Rattle.cell_machine.specs.declared.checks.Edge.{Edge}
 use Rattle.cell_machine.specs.declared.checks.Edge.TheVariants as edge
 use Rattle.cell_machine.specs.declared.checks.Event.{Event}
 use Rattle.vital_models.specs.declared.model.VState.{VState}
-use Rattle.vital_models.specs.declared.model.HCheck.{HCheck}
+use Rattle.udp_tables.specs.declared.timing_checks.TimingCheck.{TimingCheck}
 use Rattle.vital_models.specs.declared.model.VEntity.{VEntity}
 use Rattle.vhdl_writer.specs.Joined.{numbered_texts, apart_text}
 use Rattle.vhdl_writer.specs.Names.{port_at, columns_text, condition_text}
@@ -22,12 +22,12 @@ enabled_text e None = codes "true"
 enabled_text e (Some i) = one_text e i
 
 -- the event of the test signal, and that of the reference, by the order in which a kind of check has them
-abbrev pub test_at : HCheck → CheckKind → Event
+abbrev pub test_at : TimingCheck → CheckKind → Event
 test_at k check_kind.Hold = k.second
 test_at k check_kind.Removal = k.second
 test_at k _ = k.first
 
-abbrev pub reference_at : HCheck → CheckKind → Event
+abbrev pub reference_at : TimingCheck → CheckKind → Event
 reference_at k check_kind.Hold = k.first
 reference_at k check_kind.Removal = k.first
 reference_at k _ = k.second
@@ -48,7 +48,7 @@ low_word check_kind.Hold = codes " ps, HoldLow => "
 low_word _ = codes " ps, SetupLow => "
 
 -- the call of VitalSetupHoldCheck for a check with this number
-unfoldable pub setup_hold_text : VEntity → ℕ → HCheck → List ℕ
+unfoldable pub setup_hold_text : VEntity → ℕ → TimingCheck → List ℕ
 setup_hold_text e n k =
     codes "    VitalSetupHoldCheck (Violation => x_"
     ++ (decimal n
@@ -76,7 +76,7 @@ active_text edge.Rise = codes " ps, ActiveLow => true, CheckEnabled => "
 active_text edge.Fall = codes " ps, ActiveLow => false, CheckEnabled => "
 
 -- the call of VitalRecoveryRemovalCheck for a check with this number
-unfoldable pub recovery_removal_text : VEntity → ℕ → HCheck → List ℕ
+unfoldable pub recovery_removal_text : VEntity → ℕ → TimingCheck → List ℕ
 recovery_removal_text e n k =
     codes "    VitalRecoveryRemovalCheck (Violation => x_"
     ++ (decimal n
@@ -98,12 +98,12 @@ width_word edge.Rise = codes ", PulseWidthHigh => "
 width_word edge.Fall = codes ", PulseWidthLow => "
 
 -- the word before the limit of a width and of a period
-abbrev pub pulse_word : HCheck → CheckKind → List ℕ
+abbrev pub pulse_word : TimingCheck → CheckKind → List ℕ
 pulse_word k check_kind.Period = codes ", Period => "
 pulse_word k _ = width_word k.first.edge
 
 -- the call of VitalPeriodPulseCheck for a check with this number
-unfoldable pub period_pulse_text : VEntity → ℕ → HCheck → List ℕ
+unfoldable pub period_pulse_text : VEntity → ℕ → TimingCheck → List ℕ
 period_pulse_text e n k =
     codes "    VitalPeriodPulseCheck (Violation => x_"
     ++ (decimal n
@@ -114,7 +114,7 @@ period_pulse_text e n k =
     ++ (pulse_word k k.kind ++ (decimal k.limit ++ (codes " ps, CheckEnabled => " ++ (enabled_text e k.condition ++ codes ");\n")))))))))
 
 -- the call for a check of this kind with this number
-abbrev pub kind_text : VEntity → ℕ → HCheck → CheckKind → List ℕ
+abbrev pub kind_text : VEntity → ℕ → TimingCheck → CheckKind → List ℕ
 kind_text e n k check_kind.Setup = setup_hold_text e n k
 kind_text e n k check_kind.Hold = setup_hold_text e n k
 kind_text e n k check_kind.Recovery = recovery_removal_text e n k
@@ -122,18 +122,18 @@ kind_text e n k check_kind.Removal = recovery_removal_text e n k
 kind_text e n k check_kind.Width = period_pulse_text e n k
 kind_text e n k check_kind.Period = period_pulse_text e n k
 
-unfoldable pub check_text : VEntity → ℕ → HCheck → List ℕ
+unfoldable pub check_text : VEntity → ℕ → TimingCheck → List ℕ
 check_text e n k = kind_text e n k k.kind
 
 -- the report of a check among all of them
-unfoldable pub report_text : ℕ → HCheck → List ℕ
+unfoldable pub report_text : ℕ → TimingCheck → List ℕ
 report_text n k = apart_text (codes " or ") n ++ (codes "x_" ++ decimal n)
 
 -- what the violation is: whether a check reported
-unfoldable pub reports_text : List HCheck → List ℕ
+unfoldable pub reports_text : List TimingCheck → List ℕ
 reports_text checks = codes "    viol := " ++ (numbered_texts report_text 1 checks ++ codes ";\n")
 
-abbrev pub violation_text : List HCheck → List ℕ
+abbrev pub violation_text : List TimingCheck → List ℕ
 violation_text checks = if nat_lt 0 (length checks) then reports_text checks else []
 
 -- the call of the table of the state with this number

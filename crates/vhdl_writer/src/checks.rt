@@ -7,7 +7,8 @@ use crate::parts::ItemText;
 use cell_machine::{CheckKind, Edge, Event};
 use text_io::{Desk, Failed, Line, OutSlot};
 use text_parts::{Bytes, Decimal, Part, parts};
-use vital_models::{HCheck, VEntity};
+use udp_tables::TimingCheck;
+use vital_models::VEntity;
 
 /// When a check counts.
 #[derive(Drop)]
@@ -32,7 +33,7 @@ impl Part for Enabled<'_> {
 }
 
 /// The event of the test signal: of setup and hold the data, of recovery and removal the control.
-fn test_of(check: &HCheck) -> Event
+fn test_of(check: &TimingCheck) -> Event
     ensures { result ≡ test_at check.now check.now.kind }
 {
     match check.kind {
@@ -42,7 +43,7 @@ fn test_of(check: &HCheck) -> Event
 }
 
 /// The event of the reference.
-fn reference_of(check: &HCheck) -> Event
+fn reference_of(check: &TimingCheck) -> Event
     ensures { result ≡ reference_at check.now check.now.kind }
 {
     match check.kind {
@@ -86,7 +87,7 @@ fn low_word(kind: CheckKind) -> &'static [u8]
 struct SetupHold<'a> {
     entity: &'a VEntity,
     number: usize,
-    check: &'a HCheck,
+    check: &'a TimingCheck,
 }
 
 impl Part for SetupHold<'_> {
@@ -145,7 +146,7 @@ fn active_text(edge: Edge) -> &'static [u8]
 struct RecoveryRemoval<'a> {
     entity: &'a VEntity,
     number: usize,
-    check: &'a HCheck,
+    check: &'a TimingCheck,
 }
 
 impl Part for RecoveryRemoval<'_> {
@@ -188,7 +189,7 @@ fn width_word(edge: Edge) -> &'static [u8]
 }
 
 /// The word before the limit of a width and of a period.
-fn pulse_word(check: &HCheck) -> &'static [u8]
+fn pulse_word(check: &TimingCheck) -> &'static [u8]
     ensures { result.now ≡ pulse_word check.now check.now.kind }
 {
     match check.kind {
@@ -202,7 +203,7 @@ fn pulse_word(check: &HCheck) -> &'static [u8]
 struct PeriodPulse<'a> {
     entity: &'a VEntity,
     number: usize,
-    check: &'a HCheck,
+    check: &'a TimingCheck,
 }
 
 impl Part for PeriodPulse<'_> {
@@ -234,14 +235,14 @@ impl Part for PeriodPulse<'_> {
 #[derive(Drop)]
 pub(crate) struct CheckCalls<'a>(pub(crate) &'a VEntity);
 
-impl ItemText<HCheck> for CheckCalls<'_> {
+impl ItemText<TimingCheck> for CheckCalls<'_> {
     ghost text = { λ m n k. check_text m.0.now n k };
 
     #[tactic(auto, unfolding(crate::specs::Statements::check_text))]
     fn put<D: Desk>(
         &self,
         number: usize,
-        check: &HCheck,
+        check: &TimingCheck,
         line: &mut Line,
         desk: &mut D,
         slot: OutSlot,

@@ -5,20 +5,21 @@ use crate::names::{Columns, apart};
 use crate::parts::{Each, ItemText};
 use text_io::{Desk, Failed, Line, OutSlot};
 use text_parts::{Bytes, Decimal, Part, parts};
-use vital_models::{HCheck, VEntity, VState};
+use udp_tables::TimingCheck;
+use vital_models::{VEntity, VState};
 
 /// Reports of checks among all of them.
 #[derive(Drop)]
 struct ListedReports;
 
-impl ItemText<HCheck> for ListedReports {
+impl ItemText<TimingCheck> for ListedReports {
     ghost text = { λ _ n k. report_text n k };
 
     #[tactic(auto, unfolding(crate::specs::Statements::report_text))]
     fn put<D: Desk>(
         &self,
         number: usize,
-        _item: &HCheck,
+        _item: &TimingCheck,
         line: &mut Line,
         desk: &mut D,
         slot: OutSlot,
@@ -34,7 +35,7 @@ impl ItemText<HCheck> for ListedReports {
 
 /// What the violation is: whether one of these checks reported.
 #[derive(Drop)]
-struct Reports<'a>(&'a [HCheck]);
+struct Reports<'a>(&'a [TimingCheck]);
 
 impl Part for Reports<'_> {
     ghost text = { λ m. reports_text m.0.now };
@@ -51,7 +52,7 @@ impl Part for Reports<'_> {
 
 /// What the violation is, where there are checks.
 #[derive(Drop)]
-pub(crate) struct Violation<'a>(pub(crate) &'a [HCheck]);
+pub(crate) struct Violation<'a>(pub(crate) &'a [TimingCheck]);
 
 impl Part for Violation<'_> {
     ghost text = { λ m. violation_text m.0.now };

@@ -6,7 +6,8 @@ use crate::parts::{Each, ItemText};
 use cell_machine::CheckKind;
 use text_io::{Desk, Failed, Line, OutSlot};
 use text_parts::{Bytes, Decimal, Part, parts};
-use vital_models::{HCheck, VEntity, VOutput, VState, VStateRow};
+use udp_tables::TimingCheck;
+use vital_models::{VEntity, VOutput, VState, VStateRow};
 
 /// The type of the data of a check, and what they are at first.
 fn data_text(kind: CheckKind) -> &'static [u8]
@@ -26,14 +27,14 @@ fn data_text(kind: CheckKind) -> &'static [u8]
 #[derive(Drop)]
 struct CheckVariables;
 
-impl ItemText<HCheck> for CheckVariables {
+impl ItemText<TimingCheck> for CheckVariables {
     ghost text = { λ _ n k. check_variables_text n k };
 
     #[tactic(auto, unfolding(crate::specs::Declarations::check_variables_text))]
     fn put<D: Desk>(
         &self,
         number: usize,
-        item: &HCheck,
+        item: &TimingCheck,
         line: &mut Line,
         desk: &mut D,
         slot: OutSlot,
@@ -50,7 +51,7 @@ impl ItemText<HCheck> for CheckVariables {
 }
 
 /// The variable of the violation, where there are checks.
-fn violation_variable(checks: &[HCheck]) -> &'static [u8]
+fn violation_variable(checks: &[TimingCheck]) -> &'static [u8]
     ensures { result.now ≡ violation_variable_text checks.now }
 {
     if checks.is_empty() {

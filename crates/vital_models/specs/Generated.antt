@@ -1,6 +1,6 @@
 -- The entity of a cell: its states, conditions, outputs and checks, over the numbers of ports. (IEEE 1076.4-2000; what is generated
 -- and the order is this project's choice.)
-use Rattle.std.specs.Prelude.{ℕ, Bool, List, [], ◌∷◌, Option, Some, None, length, map, filter, nat_eq, option_map, if◌then◌else◌}
+use Rattle.std.specs.Prelude.{ℕ, Bool, List, [], ◌∷◌, Option, Some, None, length, map, filter, nat_eq, if◌then◌else◌}
 use Rattle.bool_functions.specs.declared.tree.Node.{Node}
 use Rattle.bool_functions.specs.Tree.{value_of}
 use Rattle.bool_functions.specs.Support.{support_of}
@@ -27,10 +27,10 @@ use Rattle.vital_models.specs.declared.model.VOutput.{VOutput}
 use Rattle.vital_models.specs.declared.model.HGate.{HGate}
 use Rattle.vital_models.specs.declared.model.HGate.TheVariants as gate
 use Rattle.vital_models.specs.declared.model.HPath.{HPath}
-use Rattle.vital_models.specs.declared.model.HCheck.{HCheck}
+use Rattle.udp_tables.specs.declared.timing_checks.TimingCheck.{TimingCheck}
+use Rattle.udp_tables.specs.TimingChecks.{check_by}
 use Rattle.vital_models.specs.declared.model.VEntity.{VEntity}
 use Rattle.vital_models.specs.Rows.{truth_rows, compact_rows}
-use Rattle.udp_tables.specs.Ports.{event_of}
 use Rattle.vital_models.specs.Ports.{port_number, ports_of}
 
 -- whether state tables have a column of the violation: the cell has checks
@@ -108,15 +108,9 @@ output_of cell output =
       paths = paths_to cell output.pin;
     }
 
-abbrev pub check_of : CellData → Check → HCheck
-check_of cell k =
-    record {
-      kind = k.kind;
-      first = event_of cell.pins k.first;
-      second = event_of cell.pins k.second;
-      limit = k.limit;
-      condition = option_map (place_of cell) k.condition;
-    }
+-- a check of an entity
+abbrev pub check_of : CellData → Check → TimingCheck
+check_of cell = check_by (place_of cell) cell.pins
 
 -- The entity of a cell, with this name.
 abbrev pub entity_of : CellData → List ℕ → VEntity

@@ -20,7 +20,7 @@ use Rattle.vital_models.specs.declared.model.VOutput.{VOutput}
 use Rattle.vital_models.specs.declared.model.HGate.{HGate}
 use Rattle.vital_models.specs.declared.model.HGate.TheVariants as gate
 use Rattle.vital_models.specs.declared.model.HPath.{HPath}
-use Rattle.vital_models.specs.declared.model.HCheck.{HCheck}
+use Rattle.udp_tables.specs.declared.timing_checks.TimingCheck.{TimingCheck}
 use Rattle.vital_models.specs.declared.model.VEntity.{VEntity}
 
 -- whether this is the number of an input port
@@ -84,7 +84,7 @@ pub record IsOutput (e : VEntity) (output : VOutput) : Type 0 where
 
 -- The events of a check, by its kind. (Liberty Reference Manual, timing_type and the attributes min_pulse_width_high,
 -- min_pulse_width_low and min_period.)
-abbrev pub has_events : HCheck → CheckKind → Bool
+abbrev pub has_events : TimingCheck → CheckKind → Bool
 has_events k check_kind.Setup = is_any_edge k.first.edge && is_one_edge k.second.edge
 has_events k check_kind.Hold = is_one_edge k.first.edge && is_any_edge k.second.edge
 has_events k check_kind.Recovery = is_one_edge k.first.edge && is_one_edge k.second.edge
@@ -98,7 +98,7 @@ is_enabling e None = true
 is_enabling e (Some i) = is_condition_number e i
 
 -- a check: of events of input ports, of its kind, with a condition that is there
-pub record IsCheck (e : VEntity) (k : HCheck) : Type 0 where
+pub record IsCheck (e : VEntity) (k : TimingCheck) : Type 0 where
   pub first : IsTrue (is_input_port e.ports k.first.pin)
   pub second : IsTrue (is_input_port e.ports k.second.pin)
   pub events : IsTrue (has_events k k.kind)

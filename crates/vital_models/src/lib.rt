@@ -16,7 +16,7 @@ mod translation;
 
 pub use generation::vital_model;
 pub use lookups::{lookup_state, lookup_truth};
-pub use model::{HCheck, HGate, HPath, OutValue, VEntity, VOutput, VState, VTruth};
+pub use model::{HGate, HPath, OutValue, VEntity, VOutput, VState, VTruth};
 pub use names::entity_name;
 pub use ports::vital_ports;
 pub use table::{Trits, TruthRow, TruthTable, VNext, VStateRow, VStateTable, VSymbol};

@@ -1,8 +1,8 @@
 //! An entity as data.
 use crate::table::{TruthTable, VStateTable};
-use cell_machine::{CheckKind, Event, Source};
+use cell_machine::Source;
 use sqlite_items::Items;
-use udp_tables::VPort;
+use udp_tables::{TimingCheck, VPort};
 
 /// A VHDL entity with its architecture of one process: timing checks, state tables, truth tables and path delays. (IEEE
 /// 1076.4-2000.) Ports, states and conditions are numbered from 0, each in their own order; pins of events, paths and inputs are
@@ -20,7 +20,7 @@ pub struct VEntity {
     /// What drives each output port, in the order of these ports.
     pub outputs: Items<VOutput>,
     /// The timing checks, in order.
-    pub checks: Items<HCheck>,
+    pub checks: Items<TimingCheck>,
 }
 
 /// A state.
@@ -90,19 +90,4 @@ pub enum HGate {
     NotZero(usize),
     /// Where all conditions with these numbers are 0.
     AllZero(Items<usize>),
-}
-
-/// A timing check. (IEEE 1076.4-2000, VitalSetupHoldCheck, VitalRecoveryRemovalCheck and VitalPeriodPulseCheck.)
-#[derive(Clone, Copy, Debug, PartialEq, Eq)]
-pub struct HCheck {
-    /// What is checked.
-    pub kind: CheckKind,
-    /// The earlier event, of the port with this number.
-    pub first: Event,
-    /// The later event, of the port with this number.
-    pub second: Event,
-    /// The least distance, in picoseconds.
-    pub limit: u64,
-    /// The number of the condition that has to be 1 at the later event, where there is one.
-    pub condition: Option<usize>,
 }

@@ -1,16 +1,16 @@
-//! The paths and the timing checks of a cell's entity.
-ghost use Rattle.std.specs.Prelude.{◌≡◌, nat_eq, map, filter, option_map, IfOk};
+//! The paths of a cell's entity.
+ghost use Rattle.std.specs.Prelude.{◌≡◌, nat_eq, map, filter, IfOk};
 ghost use Rattle.cell_machine.specs.declared.arcs.Arc.{Arc};
 ghost use Rattle.cell_machine.specs.CellData.{data_of};
 ghost use Rattle.udp_tables.specs.Conditions.{conditions_of, conditions_beside};
-ghost use Rattle.vital_models.specs.Generated.{place_of, all_zero, gate_by, path_of, paths_to, check_of};
+ghost use Rattle.vital_models.specs.Generated.{place_of, all_zero, gate_by, path_of, paths_to};
 
-use crate::model::{HCheck, HGate, HPath};
+use crate::model::{HGate, HPath};
 use bool_functions::Function;
-use cell_machine::{Arc, Cell, Check};
+use cell_machine::{Arc, Cell};
 use sqlite_items::Items;
 use std::alloc::{AllocError, Global};
-use udp_tables::{condition_number, event_of, port_number};
+use udp_tables::{condition_number, port_number};
 
 /// The paths of a cell's entity to an output pin, where these are the cell's conditions: one for each arc that ends there.
 pub(crate) fn paths_to(
@@ -113,50 +113,4 @@ fn place_of(cell: &Cell, conditions: &[&Function], condition: &Function) -> usiz
     ensures { result ≡ place_of (data_of cell.now) condition.now }
 {
     condition_number(conditions, condition)
-}
-
-/// The checks of a cell's entity, where these are the cell's conditions.
-pub(crate) fn checks_of(
-    alloc: Global,
-    cell: &Cell,
-    conditions: &[&Function],
-) -> Result<Items<HCheck>, AllocError>
-    requires { map (λ f. f.now) conditions.now ≡ conditions_of (data_of cell.now) }
-    ensures { IfOk result (λ checks. checks ≡ map (check_of (data_of cell.now)) cell.now.checks) }
-{
-    let mut checks = Items::new(alloc);
-    for check in cell.checks.as_slice() {
-        checks.push(check_of(cell, conditions, check))?;
-    }
-    Ok(checks)
-}
-
-/// The timing check of a cell's check.
-fn check_of(cell: &Cell, conditions: &[&Function], check: &Check) -> HCheck
-    requires { map (λ f. f.now) conditions.now ≡ conditions_of (data_of cell.now) }
-    ensures { result ≡ check_of (data_of cell.now) check.now }
-{
-    let pins = cell.pins.as_slice();
-    HCheck {
-        kind: check.kind,
-        first: event_of(pins, check.first),
-        second: event_of(pins, check.second),
-        limit: check.limit,
-        condition: enabling_place(cell, conditions, &check.condition),
-    }
-}
-
-/// The number of a condition, where there is one.
-fn enabling_place(
-    cell: &Cell,
-    conditions: &[&Function],
-    condition: &Option<Function>,
-) -> Option<usize>
-    requires { map (λ f. f.now) conditions.now ≡ conditions_of (data_of cell.now) }
-    ensures { result ≡ option_map (place_of (data_of cell.now)) condition.now }
-{
-    match condition {
-        Some(condition) => Some(place_of(cell, conditions, condition)),
-        None => None,
-    }
 }

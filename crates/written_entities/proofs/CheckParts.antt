@@ -8,7 +8,7 @@ use Rattle.cell_machine.specs.declared.checks.CheckKind.{CheckKind}
 use Rattle.cell_machine.specs.declared.checks.Edge.{Edge}
 use Rattle.cell_machine.specs.declared.checks.Edge.TheVariants as edge
 use Rattle.cell_machine.specs.CellRules.{is_one_edge}
-use Rattle.vital_models.specs.declared.model.HCheck.{HCheck}
+use Rattle.udp_tables.specs.declared.timing_checks.TimingCheck.{TimingCheck}
 use Rattle.vital_models.specs.declared.model.VEntity.{VEntity}
 use Rattle.rule_readers.specs.Words.{valued}
 use Rattle.vhdl_text.specs.VhdlChecks.{Checks, has_data, tested, referred, enabling_condition, always_enabled, enabled, reference_edge, transition, equal_to, same_number, both_limits, one_limit}
@@ -26,11 +26,11 @@ use Rattle.written_entities.proofs.CheckTokens.{edge_word, transition_front, tes
 use Rattle.written_entities.proofs.CheckFacts.{of_when, conditions_are}
 use Rattle.written_entities.proofs.VariableTokens.{is_period, is_period_check}
 
-has_period : (e : VEntity) (before : List HCheck) (k : HCheck) (after : List HCheck) → before ++ k ∷ after ≡ e.checks → slice_get (scope e).variables.periods (length before) ≡ Some (is_period k.kind)
+has_period : (e : VEntity) (before : List TimingCheck) (k : TimingCheck) (after : List TimingCheck) → before ++ k ∷ after ≡ e.checks → slice_get (scope e).variables.periods (length before) ≡ Some (is_period k.kind)
 has_period e before k after same =
-    slice_get-map is_period_check e.checks (length before) ∙ ap (λ (l : List HCheck). option_map is_period_check (slice_get l (length before))) (sym same) ∙ ap (option_map is_period_check) (get_at before k after)
+    slice_get-map is_period_check e.checks (length before) ∙ ap (λ (l : List TimingCheck). option_map is_period_check (slice_get l (length before))) (sym same) ∙ ap (option_map is_period_check) (get_at before k after)
 
-its_data : (e : VEntity) (before : List HCheck) (k : HCheck) (after : List HCheck) (b : Bool) → before ++ k ∷ after ≡ e.checks → is_period k.kind ≡ b → has_data (scope e) b (length before) ≡ true
+its_data : (e : VEntity) (before : List TimingCheck) (k : TimingCheck) (after : List TimingCheck) (b : Bool) → before ++ k ∷ after ≡ e.checks → is_period k.kind ≡ b → has_data (scope e) b (length before) ≡ true
 its_data e before k after b same h =
     ap (λ (o : Option Bool). option_map_or (λ (c : Bool). if b then c else not c) o false) (has_period e before k after same ∙ ap (λ (c : Bool). Some c) h) ∙ by b
   where
@@ -38,7 +38,7 @@ its_data e before k after b same h =
     by true = refl
     by false = refl
 
-pub tested_read : (e : VEntity) → IsWellFormedEntity e → (word : List ℕ) (before : List HCheck) (k : HCheck) (after : List HCheck) (b : Bool) (p : ℕ) {s : List (List ℕ)} → before ++ k ∷ after ≡ e.checks → is_period k.kind ≡ b
+pub tested_read : (e : VEntity) → IsWellFormedEntity e → (word : List ℕ) (before : List TimingCheck) (k : TimingCheck) (after : List TimingCheck) (b : Bool) (p : ℕ) {s : List (List ℕ)} → before ++ k ∷ after ≡ e.checks → is_period k.kind ≡ b
     → IsTrue (Rattle.vital_models.specs.Sound.is_input_port e.ports p) → Reads (tested (scope e) b word (length before)) (tested_front word e (length before + 1) p s) p s
 unfolding tested
 tested_read e w word before k after b p same h input =
@@ -82,14 +82,14 @@ unfolding one_limit
 limit_read limit h = in_turn expected (in_turn (time_read limit h) (in_turn expected gives))
 
 -- the checks so far
-abbrev pub checked : VEntity → List HCheck → Checks
+abbrev pub checked : VEntity → List TimingCheck → Checks
 checked e before = record { checks = before; uses = uses_of e (seen_after 0 (flat_map conditions_of_check before)) }
 
-pub with_it : (e : VEntity) (before : List HCheck) (k : HCheck)
+pub with_it : (e : VEntity) (before : List TimingCheck) (k : TimingCheck)
     → ◌≡◌ {A = Checks} (record { checks = before ++ k ∷ []; uses = uses_of e (seen_after (seen_after 0 (flat_map conditions_of_check before)) (of_when k.condition)) }) (checked e (before ++ k ∷ []))
 with_it e before k =
     ap (λ (n : ℕ). record { checks = before ++ k ∷ []; uses = uses_of e n })
     (ap (seen_after (seen_after 0 (flat_map conditions_of_check before))) (sym (conditions_are k)) ∙ seen_with_item conditions_of_check 0 before k)
 
-abbrev pub of_kind : HCheck → CheckKind → HCheck
+abbrev pub of_kind : TimingCheck → CheckKind → TimingCheck
 of_kind k kind = record { kind = kind; first = k.first; second = k.second; limit = k.limit; condition = k.condition }

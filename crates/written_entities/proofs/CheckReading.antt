@@ -9,7 +9,7 @@ use Rattle.cell_machine.specs.declared.checks.Edge.{Edge}
 use Rattle.cell_machine.specs.declared.checks.Edge.TheVariants as edge
 use Rattle.cell_machine.specs.declared.checks.Event.{Event}
 use Rattle.cell_machine.specs.CellRules.{is_any_edge, is_one_edge, are_opposite}
-use Rattle.vital_models.specs.declared.model.HCheck.{HCheck}
+use Rattle.udp_tables.specs.declared.timing_checks.TimingCheck.{TimingCheck}
 use Rattle.vital_models.specs.declared.model.VEntity.{VEntity}
 use Rattle.vital_models.specs.Sound.{has_events}
 use Rattle.rule_readers.specs.Words.{valued, begins_as}
@@ -52,7 +52,7 @@ high_read check_kind.Removal h = absurd h
 high_read check_kind.Width h = absurd h
 high_read check_kind.Period h = absurd h
 
-setup_hold_is : (k : HCheck) (kind : CheckKind) → IsSetupOrHold kind → has_events k kind ≡ true
+setup_hold_is : (k : TimingCheck) (kind : CheckKind) → IsSetupOrHold kind → has_events k kind ≡ true
     → check_with kind (record { pin = (test_at k kind).pin; edge = edge.Any }) (record { pin = (reference_at k kind).pin; edge = (reference_at k kind).edge }) k.limit k.condition ≡ of_kind k kind
 setup_hold_is k check_kind.Setup h e =
     ap (λ (v : Event). of_kind (record { kind = check_kind.Setup; first = v; second = k.second; limit = k.limit; condition = k.condition }) check_kind.Setup)
@@ -65,7 +65,7 @@ setup_hold_is k check_kind.Removal h e = absurd h
 setup_hold_is k check_kind.Width h e = absurd h
 setup_hold_is k check_kind.Period h e = absurd h
 
-setup_hold_edge : (k : HCheck) (kind : CheckKind) → IsSetupOrHold kind → has_events k kind ≡ true → is_one_edge (reference_at k kind).edge ≡ true
+setup_hold_edge : (k : TimingCheck) (kind : CheckKind) → IsSetupOrHold kind → has_events k kind ≡ true → is_one_edge (reference_at k kind).edge ≡ true
 setup_hold_edge k check_kind.Setup h e = (and_parts (is_any_edge k.first.edge) (is_one_edge k.second.edge) e).1
 setup_hold_edge k check_kind.Hold h e = (and_parts (is_one_edge k.first.edge) (is_any_edge k.second.edge) e).0
 setup_hold_edge k check_kind.Recovery h e = absurd h
@@ -81,7 +81,7 @@ timed_kind check_kind.Removal h = absurd h
 timed_kind check_kind.Width h = absurd h
 timed_kind check_kind.Period h = absurd h
 
-setup_hold_read : (e : VEntity) → IsWellFormedEntity e → (before : List HCheck) (k : HCheck) (after : List HCheck) {s : List (List ℕ)} → before ++ k ∷ after ≡ e.checks → IsSetupOrHold k.kind
+setup_hold_read : (e : VEntity) → IsWellFormedEntity e → (before : List TimingCheck) (k : TimingCheck) (after : List TimingCheck) {s : List (List ℕ)} → before ++ k ∷ after ≡ e.checks → IsSetupOrHold k.kind
     → Reads (setup_hold (scope e) (checked e before)) (setup_hold_front e (length before + 1) k s) (checked e (before ++ k ∷ [])) s
 unfolding setup_hold
 setup_hold_read e w before k after same h =
@@ -92,7 +92,7 @@ setup_hold_read e w before k after same h =
     in_turn (tested_read e w (codes "TimingData") before k after false (test_at k k.kind).pin same (timed_kind k.kind h) (test_pin e n k c k.kind))
     (in_turn (referred_read e w (reference_at k k.kind).pin (reference_pin e n k c k.kind)) (in_turn (high_read k.kind h) (in_turn (limits_read k.kind k.limit c.limit)
     (in_turn (enabled_read e w seen k.condition looks.0 looks.1) (in_turn (transition_read (reference_at k k.kind).edge (setup_hold_edge k k.kind h c.sound.events))
-    (to_same (ap (λ (j : HCheck). record { checks = before ++ j ∷ []; uses = uses_of e (seen_after seen (of_when k.condition)) }) (setup_hold_is k k.kind h c.sound.events) ∙ with_it e before k) gives))))))
+    (to_same (ap (λ (j : TimingCheck). record { checks = before ++ j ∷ []; uses = uses_of e (seen_after seen (of_when k.condition)) }) (setup_hold_is k k.kind h c.sound.events) ∙ with_it e before k) gives))))))
 
 abbrev IsRecoveryOrRemoval : CheckKind → Type 0
 IsRecoveryOrRemoval check_kind.Setup = ⊥
@@ -110,7 +110,7 @@ recovery_read check_kind.Hold h = absurd h
 recovery_read check_kind.Width h = absurd h
 recovery_read check_kind.Period h = absurd h
 
-recovery_is : (k : HCheck) (kind : CheckKind) → IsRecoveryOrRemoval kind
+recovery_is : (k : TimingCheck) (kind : CheckKind) → IsRecoveryOrRemoval kind
     → check_with kind (record { pin = (test_at k kind).pin; edge = (test_at k kind).edge }) (record { pin = (reference_at k kind).pin; edge = (reference_at k kind).edge }) k.limit k.condition ≡ of_kind k kind
 recovery_is k check_kind.Recovery h = refl
 recovery_is k check_kind.Removal h = refl
@@ -119,7 +119,7 @@ recovery_is k check_kind.Hold h = absurd h
 recovery_is k check_kind.Width h = absurd h
 recovery_is k check_kind.Period h = absurd h
 
-recovery_edges : (k : HCheck) (kind : CheckKind) → IsRecoveryOrRemoval kind → has_events k kind ≡ true → (is_one_edge (test_at k kind).edge ≡ true) × (is_one_edge (reference_at k kind).edge ≡ true)
+recovery_edges : (k : TimingCheck) (kind : CheckKind) → IsRecoveryOrRemoval kind → has_events k kind ≡ true → (is_one_edge (test_at k kind).edge ≡ true) × (is_one_edge (reference_at k kind).edge ≡ true)
 recovery_edges k check_kind.Recovery h e = and_parts (is_one_edge k.first.edge) (is_one_edge k.second.edge) e
 recovery_edges k check_kind.Removal h e = let p = and_parts (is_one_edge k.first.edge) (is_one_edge k.second.edge) e in (p.1, p.0)
 recovery_edges k check_kind.Setup h e = absurd h
@@ -144,7 +144,7 @@ active_read : (g : Edge) {s : List (List ℕ)} → is_one_edge g ≡ true → Re
 unfolding active_low
 active_read g h = in_turn two_expected (in_turn (control_read g h) (in_turn expected gives))
 
-recovery_removal_read : (e : VEntity) → IsWellFormedEntity e → (before : List HCheck) (k : HCheck) (after : List HCheck) {s : List (List ℕ)} → before ++ k ∷ after ≡ e.checks → IsRecoveryOrRemoval k.kind
+recovery_removal_read : (e : VEntity) → IsWellFormedEntity e → (before : List TimingCheck) (k : TimingCheck) (after : List TimingCheck) {s : List (List ℕ)} → before ++ k ∷ after ≡ e.checks → IsRecoveryOrRemoval k.kind
     → Reads (recovery_removal (scope e) (checked e before)) (recovery_removal_front e (length before + 1) k s) (checked e (before ++ k ∷ [])) s
 unfolding recovery_removal
 recovery_removal_read e w before k after same h =
@@ -156,7 +156,7 @@ recovery_removal_read e w before k after same h =
     in_turn (tested_read e w (codes "TimingData") before k after false (test_at k k.kind).pin same (recovery_kind k.kind h) (test_pin e n k c k.kind))
     (in_turn (referred_read e w (reference_at k k.kind).pin (reference_pin e n k c k.kind)) (in_turn (recovery_read k.kind h) (in_turn (limit_read k.limit c.limit)
     (in_turn (active_read (test_at k k.kind).edge edges.0) (in_turn (enabled_read e w seen k.condition looks.0 looks.1) (in_turn (transition_read (reference_at k k.kind).edge edges.1)
-    (to_same (ap (λ (j : HCheck). record { checks = before ++ j ∷ []; uses = uses_of e (seen_after seen (of_when k.condition)) }) (recovery_is k k.kind h) ∙ with_it e before k) gives)))))))
+    (to_same (ap (λ (j : TimingCheck). record { checks = before ++ j ∷ []; uses = uses_of e (seen_after seen (of_when k.condition)) }) (recovery_is k k.kind h) ∙ with_it e before k) gives)))))))
 
 abbrev IsPulseOrPeriod : CheckKind → Type 0
 IsPulseOrPeriod check_kind.Setup = ⊥
@@ -175,11 +175,11 @@ period_kind check_kind.Recovery h = absurd h
 period_kind check_kind.Removal h = absurd h
 
 -- the pulse that is read, and its check
-record IsPulse (k : HCheck) (kind : CheckKind) (pulse : Pulse) : Type 0 where
+record IsPulse (k : TimingCheck) (kind : CheckKind) (pulse : Pulse) : Type 0 where
   told : pulse_of (pulse_token k kind) ≡ Some pulse
   same : pulse_check pulse k.first.pin k.limit k.condition ≡ of_kind k kind
 
-pulse_events : (k : HCheck) (kind : CheckKind) (a b : Edge) → k.first.edge ≡ a → k.second.edge ≡ b → nat_eq k.first.pin k.second.pin ≡ true
+pulse_events : (k : TimingCheck) (kind : CheckKind) (a b : Edge) → k.first.edge ≡ a → k.second.edge ≡ b → nat_eq k.first.pin k.second.pin ≡ true
     → pulse_check (record { kind = kind; first = a; second = b }) k.first.pin k.limit k.condition ≡ of_kind k kind
 pulse_events k kind a b e f h =
     let pins : k.first.pin ≡ k.second.pin = eqb-true k.first.pin k.second.pin h in
@@ -189,7 +189,7 @@ pulse_events k kind a b e f h =
     ap (λ (v : Event). of_kind (record { kind = kind; first = v; second = record { pin = k.first.pin; edge = b }; limit = k.limit; condition = k.condition }) kind) first
     ∙ ap (λ (v : Event). of_kind (record { kind = kind; first = k.first; second = v; limit = k.limit; condition = k.condition }) kind) second
 
-width_pulse : (k : HCheck) (a b : Edge) → k.first.edge ≡ a → k.second.edge ≡ b → are_opposite a b ≡ true → nat_eq k.first.pin k.second.pin ≡ true → (pulse : Pulse) × IsPulse k check_kind.Width pulse
+width_pulse : (k : TimingCheck) (a b : Edge) → k.first.edge ≡ a → k.second.edge ≡ b → are_opposite a b ≡ true → nat_eq k.first.pin k.second.pin ≡ true → (pulse : Pulse) × IsPulse k check_kind.Width pulse
 width_pulse k edge.Any b e f o h = absurd cc
 width_pulse k edge.Rise edge.Any e f o h = absurd cc
 width_pulse k edge.Rise edge.Rise e f o h = absurd cc
@@ -205,7 +205,7 @@ any_is edge.Any h = refl
 any_is edge.Rise h = absurd cc
 any_is edge.Fall h = absurd cc
 
-its_pulse : (k : HCheck) (kind : CheckKind) → IsPulseOrPeriod kind → has_events k kind ≡ true → (pulse : Pulse) × IsPulse k kind pulse
+its_pulse : (k : TimingCheck) (kind : CheckKind) → IsPulseOrPeriod kind → has_events k kind ≡ true → (pulse : Pulse) × IsPulse k kind pulse
 its_pulse k check_kind.Width h e =
     let p = and_parts (nat_eq k.first.pin k.second.pin) (are_opposite k.first.edge k.second.edge) e in
     width_pulse k k.first.edge k.second.edge refl refl p.1 p.0
@@ -220,7 +220,7 @@ its_pulse k check_kind.Hold h e = absurd h
 its_pulse k check_kind.Recovery h e = absurd h
 its_pulse k check_kind.Removal h e = absurd h
 
-period_pulse_read : (e : VEntity) → IsWellFormedEntity e → (before : List HCheck) (k : HCheck) (after : List HCheck) {s : List (List ℕ)} → before ++ k ∷ after ≡ e.checks → IsPulseOrPeriod k.kind
+period_pulse_read : (e : VEntity) → IsWellFormedEntity e → (before : List TimingCheck) (k : TimingCheck) (after : List TimingCheck) {s : List (List ℕ)} → before ++ k ∷ after ≡ e.checks → IsPulseOrPeriod k.kind
     → Reads (period_pulse (scope e) (checked e before)) (period_pulse_front e (length before + 1) k s) (checked e (before ++ k ∷ [])) s
 unfolding period_pulse
 period_pulse_read e w before k after same h =
@@ -231,10 +231,10 @@ period_pulse_read e w before k after same h =
     in_turn (tested_read e w (codes "PeriodData") before k after true k.first.pin same (period_kind k.kind h) c.sound.first)
     (in_turn (token (ap (Rattle.rule_readers.specs.Words.allowed_by Rattle.rule_readers.specs.declared.refusal.Refusal.TheVariants.Syntax) pulse.1.told)) (in_turn (limit_read k.limit c.limit)
     (in_turn (enabled_read e w seen k.condition looks.0 looks.1) (in_turn two_expected
-    (to_same (ap (λ (j : HCheck). record { checks = before ++ j ∷ []; uses = uses_of e (seen_after seen (of_when k.condition)) }) pulse.1.same ∙ with_it e before k) gives)))))
+    (to_same (ap (λ (j : TimingCheck). record { checks = before ++ j ∷ []; uses = uses_of e (seen_after seen (of_when k.condition)) }) pulse.1.same ∙ with_it e before k) gives)))))
 
 -- a check behind others, by its kind
-kind_turn : (e : VEntity) → IsWellFormedEntity e → (before : List HCheck) (k : HCheck) (after : List HCheck) {end : Checks} {left q : List (List ℕ)} → before ++ k ∷ after ≡ e.checks
+kind_turn : (e : VEntity) → IsWellFormedEntity e → (before : List TimingCheck) (k : TimingCheck) (after : List TimingCheck) {end : Checks} {left q : List (List ℕ)} → before ++ k ∷ after ≡ e.checks
     → Reads (r.Many (λ _. begins_as procedure_of) (check (scope e)) (checked e (before ++ k ∷ []))) q end left
     → (kind : CheckKind) → k.kind ≡ kind → Reads (r.Many (λ _. begins_as procedure_of) (check (scope e)) (checked e before)) (check_word kind ∷ check_more e (length before + 1) k kind q) end left
 kind_turn e w before k after same rest check_kind.Setup h = turns (turn refl (setup_hold_read e w before k after same (subst IsSetupOrHold (sym h) tt))) rest

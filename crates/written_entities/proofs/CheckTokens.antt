@@ -4,7 +4,7 @@ use Rattle.cell_machine.specs.declared.checks.CheckKind.{CheckKind}
 use Rattle.cell_machine.specs.declared.checks.CheckKind.TheVariants as check_kind
 use Rattle.cell_machine.specs.declared.checks.Edge.{Edge}
 use Rattle.cell_machine.specs.declared.checks.Edge.TheVariants as edge
-use Rattle.vital_models.specs.declared.model.HCheck.{HCheck}
+use Rattle.udp_tables.specs.declared.timing_checks.TimingCheck.{TimingCheck}
 use Rattle.vital_models.specs.declared.model.VEntity.{VEntity}
 use Rattle.vhdl_text.specs.VhdlChecks.{checks}
 use Rattle.vhdl_text.specs.VhdlChecks as grammar
@@ -59,7 +59,7 @@ limits_front kind limit s =
 abbrev pub enabled_behind : VEntity → Option ℕ → Front
 enabled_behind e when s = codes "CheckEnabled" ∷ codes "=>" ∷ enabled_front e when s
 
-abbrev pub setup_hold_front : VEntity → ℕ → HCheck → Front
+abbrev pub setup_hold_front : VEntity → ℕ → TimingCheck → Front
 setup_hold_front e n k s =
     tested_front (codes "TimingData") e n (test_at k k.kind).pin (referred_front e (reference_at k k.kind).pin (high_token k.kind ∷ limits_front k.kind k.limit
     (enabled_behind e k.condition (transition_front (reference_at k k.kind).edge s))))
@@ -80,7 +80,7 @@ active_token edge.Fall = codes "false"
 abbrev pub limit_front : ℕ → Front
 limit_front limit s = codes "=>" ∷ decimal limit ∷ codes "ps" ∷ codes "," ∷ s
 
-abbrev pub recovery_removal_front : VEntity → ℕ → HCheck → Front
+abbrev pub recovery_removal_front : VEntity → ℕ → TimingCheck → Front
 recovery_removal_front e n k s =
     tested_front (codes "TimingData") e n (test_at k k.kind).pin (referred_front e (reference_at k k.kind).pin (recovery_token k.kind ∷ limit_front k.limit
     (codes "ActiveLow" ∷ codes "=>" ∷ active_token (test_at k k.kind).edge ∷ codes "," ∷ enabled_behind e k.condition (transition_front (reference_at k k.kind).edge s))))
@@ -90,7 +90,7 @@ width_token edge.Any = codes "PulseWidthHigh"
 width_token edge.Rise = codes "PulseWidthHigh"
 width_token edge.Fall = codes "PulseWidthLow"
 
-abbrev pub pulse_token : HCheck → CheckKind → List ℕ
+abbrev pub pulse_token : TimingCheck → CheckKind → List ℕ
 pulse_token k check_kind.Period = codes "Period"
 pulse_token k check_kind.Setup = width_token k.first.edge
 pulse_token k check_kind.Hold = width_token k.first.edge
@@ -98,7 +98,7 @@ pulse_token k check_kind.Recovery = width_token k.first.edge
 pulse_token k check_kind.Removal = width_token k.first.edge
 pulse_token k check_kind.Width = width_token k.first.edge
 
-abbrev pub period_pulse_front : VEntity → ℕ → HCheck → Front
+abbrev pub period_pulse_front : VEntity → ℕ → TimingCheck → Front
 period_pulse_front e n k s =
     tested_front (codes "PeriodData") e n k.first.pin (pulse_token k k.kind ∷ limit_front k.limit (enabled_behind e k.condition (codes ")" ∷ codes ";" ∷ s)))
 
@@ -111,7 +111,7 @@ check_word check_kind.Removal = codes "VitalRecoveryRemovalCheck"
 check_word check_kind.Width = codes "VitalPeriodPulseCheck"
 check_word check_kind.Period = codes "VitalPeriodPulseCheck"
 
-abbrev pub check_more : VEntity → ℕ → HCheck → CheckKind → Front
+abbrev pub check_more : VEntity → ℕ → TimingCheck → CheckKind → Front
 check_more e n k check_kind.Setup s = setup_hold_front e n k s
 check_more e n k check_kind.Hold s = setup_hold_front e n k s
 check_more e n k check_kind.Recovery s = recovery_removal_front e n k s
@@ -119,7 +119,7 @@ check_more e n k check_kind.Removal s = recovery_removal_front e n k s
 check_more e n k check_kind.Width s = period_pulse_front e n k s
 check_more e n k check_kind.Period s = period_pulse_front e n k s
 
-abbrev pub check_front : VEntity → ℕ → HCheck → Front
+abbrev pub check_front : VEntity → ℕ → TimingCheck → Front
 check_front e n k s = check_word k.kind ∷ check_more e n k k.kind s
 
 setup_hold_word : {t : Bool} → Spells Anything t (codes "    VitalSetupHoldCheck (Violation => ") (λ s. codes "VitalSetupHoldCheck" ∷ codes "(" ∷ codes "Violation" ∷ codes "=>" ∷ s) false
@@ -238,7 +238,7 @@ low_begins check_kind.Period r = refl
 behind_begins : (P : List ℕ → Type 0) (a b : List ℕ) → ((r : List ℕ) → P (a ++ r)) → (r : List ℕ) → P ((a ++ b) ++ r)
 behind_begins P a b h r = subst P (sym (Rattle.std.proofs.Common.append_assoc a b r)) (h (b ++ r))
 
-setup_hold_spelled : (e : VEntity) (n : ℕ) (k : HCheck) → IsWrittenCheck e n k → Spells Anything false (setup_hold_text e n k) (λ s. codes "VitalSetupHoldCheck" ∷ setup_hold_front e n k s) false
+setup_hold_spelled : (e : VEntity) (n : ℕ) (k : TimingCheck) → IsWrittenCheck e n k → Spells Anything false (setup_hold_text e n k) (λ s. codes "VitalSetupHoldCheck" ∷ setup_hold_front e n k s) false
 unfolding setup_hold_text
 setup_hold_spelled e n k h =
     part_behind 120 n of_report h.number setup_hold_word (λ r q. refl) (part_behind 100 n of_data h.number timing_word (λ r q. refl)
@@ -274,7 +274,7 @@ active_begins edge.Any r = refl
 active_begins edge.Rise r = refl
 active_begins edge.Fall r = refl
 
-recovery_removal_spelled : (e : VEntity) (n : ℕ) (k : HCheck) → IsWrittenCheck e n k → Spells Anything false (recovery_removal_text e n k) (λ s. codes "VitalRecoveryRemovalCheck" ∷ recovery_removal_front e n k s) false
+recovery_removal_spelled : (e : VEntity) (n : ℕ) (k : TimingCheck) → IsWrittenCheck e n k → Spells Anything false (recovery_removal_text e n k) (λ s. codes "VitalRecoveryRemovalCheck" ∷ recovery_removal_front e n k s) false
 unfolding recovery_removal_text
 recovery_removal_spelled e n k h =
     part_behind 120 n of_report h.number recovery_removal_word (λ r q. refl) (part_behind 100 n of_data h.number timing_word (λ r q. refl)
@@ -293,7 +293,7 @@ width_begins edge.Any r = refl
 width_begins edge.Rise r = refl
 width_begins edge.Fall r = refl
 
-pulse_spelled : {t : Bool} (k : HCheck) (kind : CheckKind) → Spells Anything t (pulse_word k kind) (λ s. codes "," ∷ pulse_token k kind ∷ codes "=>" ∷ s) false
+pulse_spelled : {t : Bool} (k : TimingCheck) (kind : CheckKind) → Spells Anything t (pulse_word k kind) (λ s. codes "," ∷ pulse_token k kind ∷ codes "=>" ∷ s) false
 pulse_spelled k check_kind.Period = period_limit
 pulse_spelled k check_kind.Setup = width_spelled k.first.edge
 pulse_spelled k check_kind.Hold = width_spelled k.first.edge
@@ -301,7 +301,7 @@ pulse_spelled k check_kind.Recovery = width_spelled k.first.edge
 pulse_spelled k check_kind.Removal = width_spelled k.first.edge
 pulse_spelled k check_kind.Width = width_spelled k.first.edge
 
-pulse_begins : (k : HCheck) (kind : CheckKind) (r : List ℕ) → Ends (pulse_word k kind ++ r)
+pulse_begins : (k : TimingCheck) (kind : CheckKind) (r : List ℕ) → Ends (pulse_word k kind ++ r)
 pulse_begins k check_kind.Period r = refl
 pulse_begins k check_kind.Setup r = width_begins k.first.edge r
 pulse_begins k check_kind.Hold r = width_begins k.first.edge r
@@ -309,7 +309,7 @@ pulse_begins k check_kind.Recovery r = width_begins k.first.edge r
 pulse_begins k check_kind.Removal r = width_begins k.first.edge r
 pulse_begins k check_kind.Width r = width_begins k.first.edge r
 
-period_pulse_spelled : (e : VEntity) (n : ℕ) (k : HCheck) → IsWrittenCheck e n k → Spells Anything false (period_pulse_text e n k) (λ s. codes "VitalPeriodPulseCheck" ∷ period_pulse_front e n k s) false
+period_pulse_spelled : (e : VEntity) (n : ℕ) (k : TimingCheck) → IsWrittenCheck e n k → Spells Anything false (period_pulse_text e n k) (λ s. codes "VitalPeriodPulseCheck" ∷ period_pulse_front e n k s) false
 unfolding period_pulse_text
 period_pulse_spelled e n k h =
     part_behind 120 n of_report h.number period_pulse_word (λ r q. refl) (part_behind 100 n of_data h.number period_word (λ r q. refl)
@@ -317,7 +317,7 @@ period_pulse_spelled e n k h =
     (behind (pulse_spelled k k.kind) (joins (number k.limit h.limit) (λ r q. refl)
     (behind enabled_word (joins (enabled_spelled e h.formed k.condition h.condition) (λ r q. refl) call_end)))))))
 
-kind_spelled : (e : VEntity) (n : ℕ) (k : HCheck) (kind : CheckKind) → IsWrittenCheck e n k → Spells Anything false (kind_text e n k kind) (λ s. check_word kind ∷ check_more e n k kind s) false
+kind_spelled : (e : VEntity) (n : ℕ) (k : TimingCheck) (kind : CheckKind) → IsWrittenCheck e n k → Spells Anything false (kind_text e n k kind) (λ s. check_word kind ∷ check_more e n k kind s) false
 kind_spelled e n k check_kind.Setup h = setup_hold_spelled e n k h
 kind_spelled e n k check_kind.Hold h = setup_hold_spelled e n k h
 kind_spelled e n k check_kind.Recovery h = recovery_removal_spelled e n k h
@@ -325,7 +325,7 @@ kind_spelled e n k check_kind.Removal h = recovery_removal_spelled e n k h
 kind_spelled e n k check_kind.Width h = period_pulse_spelled e n k h
 kind_spelled e n k check_kind.Period h = period_pulse_spelled e n k h
 
-check_spelled : (e : VEntity) (n : ℕ) (k : HCheck) → IsWrittenCheck e n k → Spells Anything false (check_text e n k) (check_front e n k) false
+check_spelled : (e : VEntity) (n : ℕ) (k : TimingCheck) → IsWrittenCheck e n k → Spells Anything false (check_text e n k) (check_front e n k) false
 unfolding check_text
 check_spelled e n k h = kind_spelled e n k k.kind h
 

@@ -12,7 +12,7 @@ use Rattle.vital_models.specs.declared.model.VTruth.{VTruth}
 use Rattle.vital_models.specs.declared.model.OutValue.{OutValue}
 use Rattle.vital_models.specs.declared.model.OutValue.TheVariants as value
 use Rattle.vital_models.specs.declared.model.VOutput.{VOutput}
-use Rattle.vital_models.specs.declared.model.HCheck.{HCheck}
+use Rattle.udp_tables.specs.declared.timing_checks.TimingCheck.{TimingCheck}
 use Rattle.vital_models.specs.declared.model.VEntity.{VEntity}
 use Rattle.vital_models.specs.Sound.{output_ports_from}
 use Rattle.rule_readers.specs.declared.refusal.Refusal.TheVariants.{Undriven}
@@ -108,7 +108,7 @@ entity_spelled e w =
 
 -- What follows each part.
 
-ends_checks : (e : VEntity) (checks : List HCheck) (states : List VState) (outputs : List VOutput) (names : List (List ℕ)) (s : List (List ℕ))
+ends_checks : (e : VEntity) (checks : List TimingCheck) (states : List VState) (outputs : List VOutput) (names : List (List ℕ)) (s : List (List ℕ))
     → Stops (begins_as procedure_of) (violation_by checks (counted (state_front e) 1 states (counted (value_front e) 1 outputs (counted (line_front e) 1 outputs (end_front names s)))))
 ends_checks e (k ∷ checks) states outputs names s = refl
 ends_checks e [] (state ∷ states) outputs names s = refl

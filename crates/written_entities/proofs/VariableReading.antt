@@ -12,7 +12,7 @@ use Rattle.vital_models.specs.declared.table.VStateTable.{VStateTable}
 use Rattle.vital_models.specs.declared.model.VState.{VState}
 use Rattle.vital_models.specs.declared.model.VOutput.{VOutput}
 use Rattle.vital_models.specs.declared.model.HPath.{HPath}
-use Rattle.vital_models.specs.declared.model.HCheck.{HCheck}
+use Rattle.udp_tables.specs.declared.timing_checks.TimingCheck.{TimingCheck}
 use Rattle.vital_models.specs.declared.model.VEntity.{VEntity}
 use Rattle.vital_models.specs.Sound.{columns_of}
 use Rattle.rule_readers.specs.declared.refusal.Refusal.TheVariants.{Undefined}
@@ -41,10 +41,10 @@ has_paths output = nat_lt 0 (length output.paths)
 abbrev pub all_tables : VEntity → Tables
 all_tables e = tables_up_to e.states e.conditions e.outputs
 
-abbrev checked : List HCheck → Variables
+abbrev checked : List TimingCheck → Variables
 checked checks = record { periods = map is_period_check checks; violation = false; states = 0; glitches = [] }
 
-abbrev violated : List HCheck → ℕ → List Bool → Variables
+abbrev violated : List TimingCheck → ℕ → List Bool → Variables
 violated checks states glitches = record { periods = map is_period_check checks; violation = nat_lt 0 (length checks); states = states; glitches = glitches }
 
 -- the variables of an entity
@@ -68,7 +68,7 @@ type_read check_kind.Removal = token refl
 type_read check_kind.Width = token refl
 type_read check_kind.Period = token refl
 
-check_read : (e : VEntity) → IsWellFormedEntity e → (before : List HCheck) (k : HCheck) (after : List HCheck) (q : List (List ℕ)) → before ++ k ∷ after ≡ e.checks
+check_read : (e : VEntity) → IsWellFormedEntity e → (before : List TimingCheck) (k : TimingCheck) (after : List TimingCheck) (q : List (List ℕ)) → before ++ k ∷ after ≡ e.checks
     → Reads (variable e.ports (all_tables e) (checked before)) ((120 ∷ 95 ∷ decimal (length before + 1)) ∷ codes ":" ∷ codes "X01" ∷ codes ":=" ∷ codes "'0'" ∷ codes ";" ∷ codes "variable"
     ∷ (100 ∷ 95 ∷ decimal (length before + 1)) ∷ codes ":" ∷ data_type (is_period k.kind) ∷ codes ":=" ∷ first_data (is_period k.kind) ∷ codes ";" ∷ q) (checked (before ++ k ∷ [])) q
 unfolding variable check_variables
@@ -86,7 +86,7 @@ check_read e w before k after q same =
 abbrev AllTurns : VEntity → Variables → List (List ℕ) → Variables → List (List ℕ) → Type 0
 AllTurns e v s end left = Reads (r.Many (λ _. begins (codes "variable")) (λ v _. variable e.ports (all_tables e) v) v) s end left
 
-violation_turn : (e : VEntity) (checks : List HCheck) {end : Variables} {left : List (List ℕ)} (q : List (List ℕ)) → AllTurns e (violated checks 0 []) q end left → AllTurns e (checked checks) (violation_front checks q) end left
+violation_turn : (e : VEntity) (checks : List TimingCheck) {end : Variables} {left : List (List ℕ)} (q : List (List ℕ)) → AllTurns e (violated checks 0 []) q end left → AllTurns e (checked checks) (violation_front checks q) end left
 unfolding variable violation_variable
 violation_turn e [] q rest = rest
 violation_turn e (k ∷ checks) {end = end} {left = left} q rest =
@@ -97,12 +97,12 @@ violation_turn e (k ∷ checks) {end = end} {left = left} q rest =
     subst (λ (b : Bool). AllTurns e (record { periods = map is_period_check (k ∷ checks); violation = b; states = 0; glitches = [] }) q end left) (some_items (length checks)) rest in
     turns (turn refl (in_turn (token here) (in_turn five_expected gives))) others
 
-no_report : (checks : List HCheck) (states : ℕ) (glitches : List Bool) → awaits_violation (violated checks states glitches) ≡ false
+no_report : (checks : List TimingCheck) (states : ℕ) (glitches : List Bool) → awaits_violation (violated checks states glitches) ≡ false
 no_report checks states glitches =
     ap (λ (n : ℕ). nat_lt 0 n && not (nat_lt 0 (length checks))) (length-map checks is_period_check) ∙ and_not (nat_lt 0 (length checks))
 
 -- a name that is of no check is of a state or of an output
-of_others : (e : VEntity) (checks : List HCheck) (states : ℕ) (glitches : List Bool) (x : List ℕ) (of : VariableOf) → is_same x (120 ∷ 95 ∷ decimal (length (map is_period_check checks) + 1)) ≡ false
+of_others : (e : VEntity) (checks : List TimingCheck) (states : ℕ) (glitches : List Bool) (x : List ℕ) (of : VariableOf) → is_same x (120 ∷ 95 ∷ decimal (length (map is_period_check checks) + 1)) ≡ false
     → Rattle.vhdl_text.specs.VhdlDeclarations.state_or_output e.ports (all_tables e) (violated checks states glitches) x ≡ Some of
     → variable_of e.ports (all_tables e) (violated checks states glitches) x ≡ Some of
 of_others e checks states glitches x of other h =

@@ -8,7 +8,7 @@ use Rattle.vital_models.specs.declared.table.VStateRow.{VStateRow}
 use Rattle.vital_models.specs.declared.model.VState.{VState}
 use Rattle.vital_models.specs.declared.model.VOutput.{VOutput}
 use Rattle.vital_models.specs.declared.model.HPath.{HPath}
-use Rattle.vital_models.specs.declared.model.HCheck.{HCheck}
+use Rattle.udp_tables.specs.declared.timing_checks.TimingCheck.{TimingCheck}
 use Rattle.vital_models.specs.declared.model.VEntity.{VEntity}
 use Rattle.vital_models.specs.Sound.{columns_of, IsState}
 use Rattle.vhdl_names.specs.Words.{is_reserved, is_used, vhdl_words, used_words}
@@ -38,12 +38,12 @@ abbrev pub data_type : Bool → List ℕ
 data_type true = codes "VitalPeriodDataType"
 data_type false = codes "VitalTimingDataType"
 
-abbrev pub check_front : ℕ → HCheck → Front
+abbrev pub check_front : ℕ → TimingCheck → Front
 check_front n k s =
     codes "variable" ∷ (120 ∷ 95 ∷ decimal n) ∷ codes ":" ∷ codes "X01" ∷ codes ":=" ∷ codes "'0'" ∷ codes ";" ∷ codes "variable" ∷ (100 ∷ 95 ∷ decimal n) ∷ codes ":"
     ∷ data_type (is_period k.kind) ∷ codes ":=" ∷ first_data (is_period k.kind) ∷ codes ";" ∷ s
 
-abbrev pub violation_front : List HCheck → Front
+abbrev pub violation_front : List TimingCheck → Front
 violation_front [] s = s
 violation_front (k ∷ checks) s = codes "variable" ∷ codes "viol" ∷ codes ":" ∷ codes "X01" ∷ codes ":=" ∷ codes "'0'" ∷ codes ";" ∷ s
 
@@ -112,12 +112,12 @@ data_begins check_kind.Removal r = refl
 data_begins check_kind.Width r = refl
 data_begins check_kind.Period r = refl
 
-check_spelled : (n : ℕ) (k : HCheck) → IsNumber n → Spells Anything false (check_variables_text n k) (check_front n k) false
+check_spelled : (n : ℕ) (k : TimingCheck) → IsNumber n → Spells Anything false (check_variables_text n k) (check_front n k) false
 unfolding check_variables_text
 check_spelled n k h =
     part_behind 120 n of_report h variable_word (λ r q. refl) (part_behind 100 n of_data h report_type (λ r q. data_begins k.kind r) (data_spelled k.kind))
 
-violation_spelled : (checks : List HCheck) → Spells Anything false (violation_variable_text checks) (violation_front checks) false
+violation_spelled : (checks : List TimingCheck) → Spells Anything false (violation_variable_text checks) (violation_front checks) false
 violation_spelled [] = nothing
 violation_spelled (k ∷ checks) = shown (nat_lt 0 (length (k ∷ checks))) (some_items (length checks)) violation_line
 
@@ -169,5 +169,5 @@ variables_spelled e w =
     (counted_anywhere output_variables_text output_front e.outputs
     (λ before output after same. output_spelled (length before + 1) output (output_number e w (length before + 1) (place_below before output after e.outputs same))))))
 
-abbrev pub is_period_check : HCheck → Bool
+abbrev pub is_period_check : TimingCheck → Bool
 is_period_check k = is_period k.kind

@@ -1,7 +1,7 @@
 -- The violation of a written entity: its tokens and their reading.
 use Rattle.std.proofs.Common.{◌≡◌, ℕ, ◌+◌, ◌≤◌, Bool, false, nat_eq, nat_lt, List, [], ◌∷◌, ◌++◌, length, refl, sym, ap, ◌∙◌, arith, subst, codes, decimal}
 use Rattle.std.proofs.lemmas.List.{length-map}
-use Rattle.vital_models.specs.declared.model.HCheck.{HCheck}
+use Rattle.udp_tables.specs.declared.timing_checks.TimingCheck.{TimingCheck}
 use Rattle.vital_models.specs.declared.model.VEntity.{VEntity}
 use Rattle.vhdl_names.specs.Words.{is_reserved, is_used, vhdl_words, used_words}
 use Rattle.vhdl_text.specs.VhdlChecks.{checks, next_report, any_report, violation}
@@ -29,21 +29,21 @@ or_word : {t : Bool} → Spells Anything t (codes " or ") (λ s. codes "or" ∷ 
 unfolding is_reserved is_used vhdl_words used_words
 or_word = literal 4 (λ r. refl)
 
-abbrev report_front : ℕ → HCheck → Front
+abbrev report_front : ℕ → TimingCheck → Front
 report_front n k s = (120 ∷ 95 ∷ decimal n) ∷ s
 
-abbrev pub violation_by : List HCheck → Front
+abbrev pub violation_by : List TimingCheck → Front
 violation_by [] s = s
 violation_by (k ∷ checks) s = codes "viol" ∷ codes ":=" ∷ apart_front (λ q. codes "or" ∷ q) report_front (k ∷ checks) (codes ";" ∷ s)
 
 abbrev pub violation_front : VEntity → Front
 violation_front e s = violation_by e.checks s
 
-report_text_is : (n : ℕ) (k : HCheck) → report_text n k ≡ apart_text (codes " or ") n ++ (120 ∷ 95 ∷ decimal n)
+report_text_is : (n : ℕ) (k : TimingCheck) → report_text n k ≡ apart_text (codes " or ") n ++ (120 ∷ 95 ∷ decimal n)
 unfolding report_text
 report_text_is n k = refl
 
-violation_by_spelled : (e : VEntity) → IsWellFormedEntity e → (checks : List HCheck) → checks ≡ e.checks → Spells Anything false (violation_text checks) (violation_by checks) false
+violation_by_spelled : (e : VEntity) → IsWellFormedEntity e → (checks : List TimingCheck) → checks ≡ e.checks → Spells Anything false (violation_text checks) (violation_by checks) false
 unfolding reports_text
 violation_by_spelled e w [] same = nothing
 violation_by_spelled e w (k ∷ checks) same =
@@ -54,7 +54,7 @@ violation_by_spelled e w (k ∷ checks) same =
 pub violation_spelled : (e : VEntity) → IsWellFormedEntity e → Spells Anything false (violation_text e.checks) (violation_front e) false
 violation_spelled e w = violation_by_spelled e w e.checks refl
 
-report_read : (e : VEntity) → IsWellFormedEntity e → (before : List HCheck) (k : HCheck) (after : List HCheck) (q : List (List ℕ)) → before ++ k ∷ after ≡ e.checks
+report_read : (e : VEntity) → IsWellFormedEntity e → (before : List TimingCheck) (k : TimingCheck) (after : List TimingCheck) (q : List (List ℕ)) → before ++ k ∷ after ≡ e.checks
     → Reads (next_report (length e.checks) (length before)) ((120 ∷ 95 ∷ decimal (length before + 1)) ∷ q) (length (before ++ k ∷ [])) q
 unfolding next_report
 report_read e w before k after q same =
@@ -62,16 +62,16 @@ report_read e w before k after q same =
     to_same (one_longer before k)
     (in_turn (part_read (nat_lt (length before) (length e.checks)) 120 (length before + 1) of_report (check_number e w (length before + 1) below) (less (length before) (length e.checks) (omega (arith, below)))) gives)
 
-violation_by_read : (e : VEntity) → IsWellFormedEntity e → (checks : List HCheck) → checks ≡ e.checks → (s : List (List ℕ)) → Reads (violation (length checks)) (violation_by checks s) tt s
+violation_by_read : (e : VEntity) → IsWellFormedEntity e → (checks : List TimingCheck) → checks ≡ e.checks → (s : List (List ℕ)) → Reads (violation (length checks)) (violation_by checks s) tt s
 unfolding any_report
 violation_by_read e w [] same s = gives
 violation_by_read e w (k ∷ checks) same s =
-    let step : (before : List HCheck) (x : HCheck) (after : List HCheck) (q : List (List ℕ)) → before ++ x ∷ after ≡ k ∷ checks
+    let step : (before : List TimingCheck) (x : TimingCheck) (after : List TimingCheck) (q : List (List ℕ)) → before ++ x ∷ after ≡ k ∷ checks
     → Reads (next_report (length (k ∷ checks)) (length before)) ((120 ∷ 95 ∷ decimal (length before + 1)) ∷ q) (length (before ++ x ∷ [])) q =
     (λ before x after q at. subst (λ (n : ℕ). Reads (next_report n (length before)) ((120 ∷ 95 ∷ decimal (length before + 1)) ∷ q) (length (before ++ x ∷ [])) q) (ap length (sym same))
     (report_read e w before x after q (at ∙ same))) in
     in_turn two_expected (in_turn (step [] k checks (counted (λ n y q. codes "or" ∷ report_front n y q) 2 checks (codes ";" ∷ s)) refl)
-    (in_turn (over (λ (l : List HCheck). length l) (λ n y q. codes "or" ∷ report_front n y q) (k ∷ []) checks (λ before x after q at rest. turns (turn refl (step before x after q at)) rest) (codes ";" ∷ s) (no_turn refl))
+    (in_turn (over (λ (l : List TimingCheck). length l) (λ n y q. codes "or" ∷ report_front n y q) (k ∷ []) checks (λ before x after q at rest. turns (turn refl (step before x after q at)) rest) (codes ";" ∷ s) (no_turn refl))
     (in_turn (goes_on (nat_eq (length (k ∷ checks)) (length (k ∷ checks))) (codes ";" ∷ s) (equal (length (k ∷ checks)) (length (k ∷ checks)) refl)) expected)))
 
 pub violation_read : (e : VEntity) → IsWellFormedEntity e → (s : List (List ℕ)) → Reads (violation (length (scope e).variables.periods)) (violation_front e s) tt s

@@ -12,7 +12,7 @@ use Rattle.cell_machine.specs.declared.checks.Edge.TheVariants as edge
 use Rattle.cell_machine.specs.declared.checks.Event.{Event}
 use Rattle.cell_machine.specs.CellRules.{is_any_edge, are_opposite}
 use Rattle.specify_blocks.specs.declared.model.VNet.TheVariants as net
-use Rattle.specify_blocks.specs.declared.model.VCheck.{VCheck}
+use Rattle.udp_tables.specs.declared.timing_checks.TimingCheck.{TimingCheck}
 use Rattle.specify_blocks.specs.declared.model.VModule.{VModule}
 use Rattle.specify_blocks.specs.Nets.{is_input_port}
 use Rattle.specify_blocks.specs.Sound.{has_written_events, is_enabling, IsCheck}
@@ -94,16 +94,16 @@ end_read m w h = in_turn expected (in_turn (so_named m.notifier (register_name m
 
 -- Checks.
 
-of_kind : (k : VCheck) (kind : CheckKind) → k.kind ≡ kind → record { kind = kind; first = k.first; second = k.second; limit = k.limit; condition = k.condition } ≡ k
+of_kind : (k : TimingCheck) (kind : CheckKind) → k.kind ≡ kind → record { kind = kind; first = k.first; second = k.second; limit = k.limit; condition = k.condition } ≡ k
 of_kind k kind e = ap (λ (c : CheckKind). record { kind = c; first = k.first; second = k.second; limit = k.limit; condition = k.condition }) (sym e)
 
-ordered_read : (m : VModule) → IsWritten m → (k : VCheck) (kind : CheckKind) (s : List (List ℕ)) → k.kind ≡ kind → IsCheck m k → IsNumber k.limit → Reads (ordered_check kind (joined m)) (ordered_tokens m k s) k s
+ordered_read : (m : VModule) → IsWritten m → (k : TimingCheck) (kind : CheckKind) (s : List (List ℕ)) → k.kind ≡ kind → IsCheck m k → IsNumber k.limit → Reads (ordered_check kind (joined m)) (ordered_tokens m k s) k s
 unfolding ordered_check
 ordered_read m w k kind s e h n =
     to_same (of_kind k kind e) (in_turn (event_read m w k.first h.first) (in_turn expected (in_turn (event_read m w k.second h.second) (in_turn (condition_read m w k.condition h.enabled)
     (in_turn expected (in_turn (number_read k.limit n) (in_turn (end_read m w h.notified) gives)))))))
 
-turned_read : (m : VModule) → IsWritten m → (k : VCheck) (kind : CheckKind) (s : List (List ℕ)) → k.kind ≡ kind → IsCheck m k → IsNumber k.limit → Reads (turned_check kind (joined m)) (turned_tokens m k s) k s
+turned_read : (m : VModule) → IsWritten m → (k : TimingCheck) (kind : CheckKind) (s : List (List ℕ)) → k.kind ≡ kind → IsCheck m k → IsNumber k.limit → Reads (turned_check kind (joined m)) (turned_tokens m k s) k s
 unfolding turned_check
 turned_read m w k kind s e h n =
     to_same (of_kind k kind e) (in_turn (event_read m w k.second h.second) (in_turn (condition_read m w k.condition h.enabled) (in_turn expected (in_turn (event_read m w k.first h.first)
@@ -121,12 +121,12 @@ opposites edge.Fall edge.Fall h = absurd cc
 same_event : (e : Event) (p : ℕ) (g : Edge) → p ≡ e.pin → g ≡ e.edge → record { pin = p; edge = g } ≡ e
 same_event e p g a b = ap (λ (q : ℕ). record { pin = q; edge = g }) a ∙ ap (λ (f : Edge). record { pin = e.pin; edge = f }) b
 
-with_second : (k : VCheck) (kind : CheckKind) (second : Event) → k.kind ≡ kind → second ≡ k.second
+with_second : (k : TimingCheck) (kind : CheckKind) (second : Event) → k.kind ≡ kind → second ≡ k.second
     → record { kind = kind; first = k.first; second = second; limit = k.limit; condition = k.condition } ≡ k
 with_second k kind second e f =
     ap (λ (v : Event). record { kind = kind; first = k.first; second = v; limit = k.limit; condition = k.condition }) f ∙ of_kind k kind e
 
-width_read : (m : VModule) → IsWritten m → (k : VCheck) (s : List (List ℕ)) → k.kind ≡ check_kind.Width → IsTrue (has_written_events k check_kind.Width) → IsCheck m k → IsNumber k.limit
+width_read : (m : VModule) → IsWritten m → (k : TimingCheck) (s : List (List ℕ)) → k.kind ≡ check_kind.Width → IsTrue (has_written_events k check_kind.Width) → IsCheck m k → IsNumber k.limit
     → Reads (width_check (joined m)) (width_tokens m k s) k s
 unfolding width_check
 width_read m w k s e v h n =
@@ -148,7 +148,7 @@ same_number_read : (n : ℕ) {s : List (List ℕ)} → IsNumber n → Reads (sam
 unfolding same_number
 same_number_read n h = token (ap (equal_to n) (number_is n h) ∙ rw (equal_numbers n n refl) refl)
 
-second_read : (m : VModule) → IsWritten m → (k : VCheck) (s : List (List ℕ)) → IsCheck m k → IsNumber k.limit
+second_read : (m : VModule) → IsWritten m → (k : TimingCheck) (s : List (List ℕ)) → IsCheck m k → IsNumber k.limit
     → Reads (second_period (joined m) k.first.pin k.condition k.limit) (codes "$period" ∷ codes "(" ∷ period_tokens (codes "negedge") m k s) tt s
 unfolding second_period
 second_read m w k s h n =
@@ -156,7 +156,7 @@ second_read m w k s h n =
     (in_turn (so_named (option_map port_name (slice_get m.ports k.first.pin)) (input_name m w k.first.pin h.first) (its_port m k.first.pin (input_known m k.first.pin h.first)))
     (in_turn (same_condition_read m w k.condition h.enabled) (in_turn expected (in_turn (same_number_read k.limit n) (end_read m w h.notified)))))))
 
-of_period : (k : VCheck) → k.kind ≡ check_kind.Period → IsTrue (has_written_events k check_kind.Period)
+of_period : (k : TimingCheck) → k.kind ≡ check_kind.Period → IsTrue (has_written_events k check_kind.Period)
     → record { kind = check_kind.Period; first = record { pin = k.first.pin; edge = edge.Any }; second = record { pin = k.first.pin; edge = edge.Any }; limit = k.limit; condition = k.condition } ≡ k
 of_period k e v =
     let parts = and_parts (nat_eq k.first.pin k.second.pin) (is_any_edge k.first.edge && is_any_edge k.second.edge) v in
@@ -166,7 +166,7 @@ of_period k e v =
     ap (λ (v : Event). record { kind = check_kind.Period; first = v; second = record { pin = k.first.pin; edge = edge.Any }; limit = k.limit; condition = k.condition }) first
     ∙ with_second k check_kind.Period (record { pin = k.first.pin; edge = edge.Any }) e second
 
-period_read : (m : VModule) → IsWritten m → (k : VCheck) (s : List (List ℕ)) → k.kind ≡ check_kind.Period → IsTrue (has_written_events k check_kind.Period) → IsCheck m k → IsNumber k.limit
+period_read : (m : VModule) → IsWritten m → (k : TimingCheck) (s : List (List ℕ)) → k.kind ≡ check_kind.Period → IsTrue (has_written_events k check_kind.Period) → IsCheck m k → IsNumber k.limit
     → Reads (period_check (joined m)) (check_more m k check_kind.Period s) k s
 unfolding period_check
 period_read m w k s e v h n =
@@ -174,7 +174,7 @@ period_read m w k s e v h n =
     (in_turn expected (in_turn (input_read m w k.first.pin h.first) (in_turn (condition_read m w k.condition h.enabled) (in_turn expected (in_turn (number_read k.limit n)
     (in_turn (end_read m w h.notified) (in_turn (second_read m w k s h n) gives)))))))
 
-kind_read : (m : VModule) → IsWritten m → (k : VCheck) (kind : CheckKind) (s : List (List ℕ)) → k.kind ≡ kind → IsTrue (has_written_events k kind) → IsCheck m k → IsNumber k.limit
+kind_read : (m : VModule) → IsWritten m → (k : TimingCheck) (kind : CheckKind) (s : List (List ℕ)) → k.kind ≡ kind → IsTrue (has_written_events k kind) → IsCheck m k → IsNumber k.limit
     → Reads (check_of_kind (joined m) kind) (check_more m k kind s) k s
 unfolding check_of_kind ordered_check turned_check width_check period_check
 kind_read m w k check_kind.Setup s e v h n = ordered_read m w k check_kind.Setup s e h n
@@ -192,10 +192,10 @@ word_is check_kind.Removal = refl
 word_is check_kind.Width = refl
 word_is check_kind.Period = refl
 
-abbrev pub HasNumber : VCheck → Type 0
+abbrev pub HasNumber : TimingCheck → Type 0
 HasNumber k = IsNumber k.limit
 
-pub check_named : (m : VModule) → IsWritten m → (k : VCheck) → IsCheck m k → HasNumber k → IsNamedCheck m k
+pub check_named : (m : VModule) → IsWritten m → (k : TimingCheck) → IsCheck m k → HasNumber k → IsNamedCheck m k
 check_named m w k h n = record {
   first = input_name m w k.first.pin h.first;
   second = input_name m w k.second.pin h.second;
@@ -204,8 +204,8 @@ check_named m w k h n = record {
   limit = n;
 }
 
-pub check_turn : (m : VModule) → IsWritten m → (checks : List VCheck) → AllByRecursion (IsCheck m) checks → AllByRecursion HasNumber checks
-    → (before : List VCheck) (k : VCheck) (after : List VCheck) (s : List (List ℕ)) → before ++ k ∷ after ≡ checks
+pub check_turn : (m : VModule) → IsWritten m → (checks : List TimingCheck) → AllByRecursion (IsCheck m) checks → AllByRecursion HasNumber checks
+    → (before : List TimingCheck) (k : TimingCheck) (after : List TimingCheck) (s : List (List ℕ)) → before ++ k ∷ after ≡ checks
     → Turn (λ _. begins_as check_of) (next_check (joined m)) before (check_tokens m k s) (before ++ k ∷ []) s
 unfolding next_check check
 check_turn m w checks h n before k after s same =

@@ -9,7 +9,7 @@ use Rattle.cell_machine.specs.declared.checks.Event.{Event}
 use Rattle.specify_blocks.specs.declared.model.Gate.{Gate}
 use Rattle.specify_blocks.specs.declared.model.Gate.TheVariants as gate
 use Rattle.specify_blocks.specs.declared.model.VPath.{VPath}
-use Rattle.specify_blocks.specs.declared.model.VCheck.{VCheck}
+use Rattle.udp_tables.specs.declared.timing_checks.TimingCheck.{TimingCheck}
 use Rattle.specify_blocks.specs.declared.model.VModule.{VModule}
 use Rattle.specify_blocks.specs.WellFormed.{IsName, IsNumber}
 use Rattle.verilog_writer.specs.Nets.{port_at, wire_at, notifier_in}
@@ -98,7 +98,7 @@ IsNamedCondition m None = Unit {0}
 IsNamedCondition m (Some w) = IsName (wire_at m w)
 
 -- the names and the number of a check
-pub record IsNamedCheck (m : VModule) (k : VCheck) : Type 0 where
+pub record IsNamedCheck (m : VModule) (k : TimingCheck) : Type 0 where
   pub first : IsName (port_at m k.first.pin)
   pub second : IsName (port_at m k.second.pin)
   pub condition : IsNamedCondition m k.condition
@@ -120,16 +120,16 @@ condition_tokens m (Some w) s = codes "&&&" ∷ wire_at m w ∷ s
 abbrev pub end_tokens : VModule → Front
 end_tokens m s = codes "," ∷ notifier_in m ∷ codes ")" ∷ codes ";" ∷ s
 
-abbrev pub ordered_tokens : VModule → VCheck → Front
+abbrev pub ordered_tokens : VModule → TimingCheck → Front
 ordered_tokens m k s = event_tokens m k.first (codes "," ∷ event_tokens m k.second (condition_tokens m k.condition (codes "," ∷ decimal k.limit ∷ end_tokens m s)))
 
-abbrev pub turned_tokens : VModule → VCheck → Front
+abbrev pub turned_tokens : VModule → TimingCheck → Front
 turned_tokens m k s = event_tokens m k.second (condition_tokens m k.condition (codes "," ∷ event_tokens m k.first (codes "," ∷ decimal k.limit ∷ end_tokens m s)))
 
-abbrev pub width_tokens : VModule → VCheck → Front
+abbrev pub width_tokens : VModule → TimingCheck → Front
 width_tokens m k s = event_tokens m k.first (condition_tokens m k.condition (codes "," ∷ decimal k.limit ∷ codes "," ∷ codes "0" ∷ end_tokens m s))
 
-abbrev pub period_tokens : List ℕ → VModule → VCheck → Front
+abbrev pub period_tokens : List ℕ → VModule → TimingCheck → Front
 period_tokens word m k s = word ∷ port_at m k.first.pin ∷ condition_tokens m k.condition (codes "," ∷ decimal k.limit ∷ end_tokens m s)
 
 -- the word of a check, and what stands behind it and its bracket
@@ -141,7 +141,7 @@ check_word check_kind.Removal = codes "$removal"
 check_word check_kind.Width = codes "$width"
 check_word check_kind.Period = codes "$period"
 
-abbrev pub check_more : VModule → VCheck → CheckKind → Front
+abbrev pub check_more : VModule → TimingCheck → CheckKind → Front
 check_more m k check_kind.Setup s = ordered_tokens m k s
 check_more m k check_kind.Hold s = ordered_tokens m k s
 check_more m k check_kind.Recovery s = ordered_tokens m k s
@@ -149,7 +149,7 @@ check_more m k check_kind.Removal s = turned_tokens m k s
 check_more m k check_kind.Width s = width_tokens m k s
 check_more m k check_kind.Period s = period_tokens (codes "posedge") m k (codes "$period" ∷ codes "(" ∷ period_tokens (codes "negedge") m k s)
 
-abbrev pub check_tokens : VModule → VCheck → Front
+abbrev pub check_tokens : VModule → TimingCheck → Front
 check_tokens m k s = check_word k.kind ∷ codes "(" ∷ check_more m k k.kind s
 
 an_edge : (e : Edge) → Spells Anything false (edge_text e) (edge_tokens e) false
@@ -173,10 +173,10 @@ condition_begins : (m : VModule) (c : Option ℕ) (rest r : List ℕ) → Ends (
 condition_begins m None rest r = refl
 condition_begins m (Some w) rest r = refl
 
-limited : (m : VModule) (k : VCheck) → IsNamedCheck m k → Spells Anything false (decimal k.limit ++ (codes ", " ++ (notifier_in m ++ codes ");\n"))) (λ s. decimal k.limit ∷ end_tokens m s) false
+limited : (m : VModule) (k : TimingCheck) → IsNamedCheck m k → Spells Anything false (decimal k.limit ++ (codes ", " ++ (notifier_in m ++ codes ");\n"))) (λ s. decimal k.limit ∷ end_tokens m s) false
 limited m k h = joins (number k.limit h.limit) (λ r q. refl) (behind comma (joins (name (notifier_in m) h.notifier) (λ r q. refl) closed))
 
-ordered : {word : List ℕ} {start : List (List ℕ) → List (List ℕ)} (m : VModule) (k : VCheck) → IsNamedCheck m k → Spells Anything false word start false
+ordered : {word : List ℕ} {start : List (List ℕ) → List (List ℕ)} (m : VModule) (k : TimingCheck) → IsNamedCheck m k → Spells Anything false word start false
     → Spells Anything false (ordered_text word m k) (λ s. start (ordered_tokens m k s)) false
 unfolding ordered_text
 ordered m k h w =
@@ -184,7 +184,7 @@ ordered m k h w =
     (joins (name (port_at m k.second.pin) h.second) (λ r q. condition_begins m k.condition (decimal k.limit ++ (codes ", " ++ (notifier_in m ++ codes ");\n"))) r)
     (conditioned m k.condition h.condition (limited m k h)))))))
 
-back_turned : {word : List ℕ} {start : List (List ℕ) → List (List ℕ)} (m : VModule) (k : VCheck) → IsNamedCheck m k → Spells Anything false word start false
+back_turned : {word : List ℕ} {start : List (List ℕ) → List (List ℕ)} (m : VModule) (k : TimingCheck) → IsNamedCheck m k → Spells Anything false word start false
     → Spells Anything false (turned_text word m k) (λ s. start (turned_tokens m k s)) false
 unfolding turned_text
 back_turned m k h w =
@@ -192,7 +192,7 @@ back_turned m k h w =
     (joins (name (port_at m k.second.pin) h.second) (λ r q. condition_begins m k.condition (edge_text k.first.edge ++ (port_at m k.first.pin ++ (codes ", " ++ (decimal k.limit ++ (codes ", " ++ (notifier_in m ++ codes ");\n")))))) r)
     (conditioned m k.condition h.condition (behind (an_edge k.first.edge) (joins (name (port_at m k.first.pin) h.first) (λ r q. refl) (behind comma (limited m k h)))))))
 
-wide : {word : List ℕ} {start : List (List ℕ) → List (List ℕ)} (m : VModule) (k : VCheck) → IsNamedCheck m k → Spells Anything false word start false
+wide : {word : List ℕ} {start : List (List ℕ) → List (List ℕ)} (m : VModule) (k : TimingCheck) → IsNamedCheck m k → Spells Anything false word start false
     → Spells Anything false (width_text word m k) (λ s. start (width_tokens m k s)) false
 unfolding width_text
 wide m k h w =
@@ -200,7 +200,7 @@ wide m k h w =
     (joins (name (port_at m k.first.pin) h.first) (λ r q. condition_begins m k.condition (decimal k.limit ++ (codes ", 0, " ++ (notifier_in m ++ codes ");\n"))) r)
     (conditioned m k.condition h.condition (joins (number k.limit h.limit) (λ r q. refl) (behind zero_threshold (joins (name (notifier_in m) h.notifier) (λ r q. refl) closed))))))
 
-period : {word : List ℕ} {start : List (List ℕ) → List (List ℕ)} (m : VModule) (k : VCheck) → IsNamedCheck m k → Spells Anything false word start false
+period : {word : List ℕ} {start : List (List ℕ) → List (List ℕ)} (m : VModule) (k : TimingCheck) → IsNamedCheck m k → Spells Anything false word start false
     → Spells Anything false (period_line word m k) (λ s. start (port_at m k.first.pin ∷ condition_tokens m k.condition (codes "," ∷ decimal k.limit ∷ end_tokens m s))) false
 unfolding period_line
 period m k h w =
@@ -228,7 +228,7 @@ rise_word = literal 20 (λ r. refl)
 fall_word : Spells Anything false (codes "    $period(negedge ") (λ s. codes "$period" ∷ codes "(" ∷ codes "negedge" ∷ s) false
 fall_word = literal 20 (λ r. refl)
 
-kind_spelled : (m : VModule) (k : VCheck) (kind : CheckKind) → IsNamedCheck m k → Spells Anything false (kind_text m k kind) (λ s. check_word kind ∷ codes "(" ∷ check_more m k kind s) false
+kind_spelled : (m : VModule) (k : TimingCheck) (kind : CheckKind) → IsNamedCheck m k → Spells Anything false (kind_text m k kind) (λ s. check_word kind ∷ codes "(" ∷ check_more m k kind s) false
 unfolding period_text
 kind_spelled m k check_kind.Setup h = ordered m k h setup_word
 kind_spelled m k check_kind.Hold h = ordered m k h hold_word
@@ -237,7 +237,7 @@ kind_spelled m k check_kind.Removal h = back_turned m k h removal_word
 kind_spelled m k check_kind.Width h = wide m k h width_word
 kind_spelled m k check_kind.Period h = behind (period m k h rise_word) (period m k h fall_word)
 
-check : (m : VModule) (k : VCheck) → IsNamedCheck m k → Spells Anything false (check_text m k) (check_tokens m k) false
+check : (m : VModule) (k : TimingCheck) → IsNamedCheck m k → Spells Anything false (check_text m k) (check_tokens m k) false
 unfolding check_text
 check m k h = kind_spelled m k k.kind h
 

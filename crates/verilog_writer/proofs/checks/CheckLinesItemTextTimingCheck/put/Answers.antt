@@ -1,6 +1,6 @@
 use Rattle.cell_machine.specs.declared.checks.CheckKind.TheVariants as check_kind
 use Rattle.verilog_writer.proofs.CheckKinds.{as_kind}
-use Rattle.verilog_writer.proofs.checks.CheckLinesItemTextVCheck.put.Goals as goal
+use Rattle.verilog_writer.proofs.checks.CheckLinesItemTextTimingCheck.put.Goals as goal
 
 pub returns-in-Setup-clause-text : goal.returns-in-Setup-clause-text
 returns-in-Setup-clause-text g c =

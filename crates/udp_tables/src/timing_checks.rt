@@ -1,0 +1,80 @@
+//! The timing checks of a cell's models.
+ghost use Rattle.std.specs.Prelude.{◌≡◌, ◌+◌, map, option_map, IfOk};
+ghost use Rattle.cell_machine.specs.CellData.{data_of};
+ghost use Rattle.udp_tables.specs.Conditions.{conditions_of};
+ghost use Rattle.udp_tables.specs.TimingChecks.{number_behind, check_behind};
+
+use crate::cell_conditions::condition_number;
+use crate::ports::event_of;
+use bool_functions::Function;
+use cell_machine::{Cell, Check, CheckKind, Event};
+use sqlite_items::Items;
+use std::alloc::{AllocError, Global};
+
+/// A timing check of a model. (IEEE 1364-2005, clause 15; IEEE 1076.4-2000, VitalSetupHoldCheck, VitalRecoveryRemovalCheck and
+/// VitalPeriodPulseCheck.) In a Verilog text a `Period` stands for two checks, of its rises and of its falls.
+#[derive(Clone, Copy, Debug, PartialEq, Eq)]
+pub struct TimingCheck {
+    /// What is checked.
+    pub kind: CheckKind,
+    /// The earlier event, of the port with this number.
+    pub first: Event,
+    /// The later event, of the port with this number.
+    pub second: Event,
+    /// The least distance, in picoseconds.
+    pub limit: u64,
+    /// What has to be 1 at the later event, where there is one: in a module the number of a wire, in an entity that of a condition.
+    pub condition: Option<usize>,
+}
+
+/// The number of a condition behind so many other things, where these are the cell's conditions.
+fn condition_behind(
+    before: usize,
+    conditions: &[&Function],
+    condition: &Option<Function>,
+) -> Option<usize>
+    ensures { result ≡ option_map (number_behind before (map (λ f. f.now) conditions.now)) condition.now }
+{
+    match condition {
+        Some(condition) => Some(before + condition_number(conditions, condition)),
+        None => None,
+    }
+}
+
+/// The timing check of a cell's check, where these are the cell's conditions and so many other things are numbered before them.
+fn check_behind(
+    before: usize,
+    cell: &Cell,
+    conditions: &[&Function],
+    check: &Check,
+) -> TimingCheck
+    requires { map (λ f. f.now) conditions.now ≡ conditions_of (data_of cell.now) }
+    ensures { result ≡ check_behind before (data_of cell.now) check.now }
+{
+    let pins = cell.pins.as_slice();
+    TimingCheck {
+        kind: check.kind,
+        first: event_of(pins, check.first),
+        second: event_of(pins, check.second),
+        limit: check.limit,
+        condition: condition_behind(before, conditions, &check.condition),
+    }
+}
+
+/// The timing checks of a cell's model, in order, where these are the cell's conditions and so many other things are numbered before
+/// them. `AllocError` comes only where memory is wanting.
+pub fn timing_checks(
+    alloc: Global,
+    before: usize,
+    cell: &Cell,
+    conditions: &[&Function],
+) -> Result<Items<TimingCheck>, AllocError>
+    requires { map (λ f. f.now) conditions.now ≡ conditions_of (data_of cell.now) }
+    ensures { IfOk result (λ checks. checks ≡ map (check_behind before (data_of cell.now)) cell.now.checks) }
+{
+    let mut checks = Items::new(alloc);
+    for check in cell.checks.as_slice() {
+        checks.push(check_behind(before, cell, conditions, check))?;
+    }
+    Ok(checks)
+}

@@ -27,7 +27,7 @@ use Rattle.model_traces.proofs.RunLemmas.{still-event}
 use Rattle.model_traces.proofs.ProcessLemmas.{process-inputs, process-times, later-second, earlier-first}
 use Rattle.table_interpreters.specs.declared.shown.Shown.{Shown}
 use Rattle.table_interpreters.specs.declared.process_run.ProcessState.{ProcessState}
-use Rattle.table_interpreters.specs.EntitySteps.{as_module_check, stamp_reports, restamped, next_by, event_reports, event_step, state_step, change_reports, output_step, output_first, output_shown, EntityStands}
+use Rattle.table_interpreters.specs.EntitySteps.{stamp_reports, restamped, next_by, event_reports, event_step, state_step, change_reports, output_step, output_first, output_shown, EntityStands}
 
 -- the tables are looked up one by one
 looked-each :

@@ -6,8 +6,9 @@ ghost use Rattle.bool_functions.specs.declared.tree.Node.TheVariants as tree;
 ghost use Rattle.bool_functions.specs.Support.{insert_all};
 ghost use Rattle.bool_functions.specs.Code.{code_names, code_of, is_name_code, is_small, operator, same_code, same_codes, AreHalves, IsValue, IsTree, Adds, AddsCode, Closes};
 
+use crate::ascending::insert;
 use crate::kept_values::bit_at;
-use crate::tree::{Node, insert};
+use crate::tree::Node;
 use sqlite_items::Boxed;
 use std::alloc::{AllocError, Global};
 

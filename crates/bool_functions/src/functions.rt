@@ -10,10 +10,11 @@ ghost use Rattle.bool_functions.specs.declared.tree.Node.TheVariants as tree;
 ghost use Rattle.bool_functions.specs.declared.functions.Form.TheVariants as form;
 ghost use Rattle.bool_functions.specs.Code.{is_long};
 
+use crate::ascending::support;
 use crate::blocks::table;
 use crate::keys::key;
 use crate::postfix::Postfix;
-use crate::tree::{Node, copied, has, renamed, room, same, support, value};
+use crate::tree::{Node, copied, has, renamed, room, same, value};
 use std::alloc::{AllocError, Global};
 use std::marker::Model;
 

@@ -5,8 +5,9 @@ ghost use Rattle.bool_functions.specs.Tree.{value_of};
 ghost use Rattle.bool_functions.specs.Point.{number, bits_at, HasValues};
 ghost use Rattle.bool_functions.specs.Kept.{AreOfTree};
 
+use crate::ascending::support;
 use crate::blocks::table;
-use crate::tree::{Node, support};
+use crate::tree::Node;
 use std::alloc::{AllocError, Global};
 
 /// The most names of a function whose values are kept.

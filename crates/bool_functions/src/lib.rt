@@ -1,6 +1,7 @@
 //! Function texts of a cell library: their trees, their values, and lists of names.
 #![tactic(auto)]
 
+pub mod ascending;
 mod blocks;
 mod codes;
 mod faults;

@@ -1,8 +1,7 @@
 //! A function as the tree of its operators.
-ghost use Rattle.std.specs.Prelude.{◌≡◌, ◌≤◌, ◌==◌, ℕ, IsTrue, IfOk, OnOk, length, slice_get, ◌↔◌};
+ghost use Rattle.std.specs.Prelude.{◌≡◌, ◌≤◌, ◌==◌, ℕ, IsTrue, IfOk, length, slice_get, ◌↔◌};
 ghost use Rattle.std.specs.List.{list_any};
 ghost use Rattle.bool_functions.specs.Tree.{value_of, name_bound, names_of, renamed_by};
-ghost use Rattle.bool_functions.specs.Support.{inserted, insert_all, support_of};
 ghost use Rattle.bool_functions.specs.Code.{room_after};
 
 use sqlite_items::Boxed;
@@ -118,48 +117,6 @@ pub(crate) fn renamed(node: &Node, alloc: Global, to: &[usize]) -> Result<Node, 
             Boxed::new(alloc, renamed(right.get(), alloc, to)?)?,
         ),
     })
-}
-
-/// The names of a tree, each once, in ascending order.
-pub(crate) fn support(node: &Node, alloc: Global) -> Result<Vec<usize>, AllocError>
-    ensures { IfOk result (λ v. v.items ≡ support_of node.now) }
-{
-    let mut found = Vec::new(alloc);
-    collect(node, &mut found)?;
-    Ok(found)
-}
-
-/// Puts the names of a tree into an ascending list.
-#[tactic(auto, using(crate::proofs::Trees::names_by_top))]
-fn collect(node: &Node, found: &mut Vec<usize>) -> Result<(), AllocError>
-    ensures { OnOk result (found.new.items ≡ insert_all found.old.items (names_of node.now)) }
-{
-    match node {
-        Node::Zero | Node::One => Ok(()),
-        Node::Name(i) => insert(found, *i),
-        Node::Not(part) => collect(part.get(), found),
-        Node::Xor(left, right) | Node::And(left, right) | Node::Or(left, right) => {
-            collect(left.get(), found)?;
-            collect(right.get(), found)
-        }
-    }
-}
-
-/// Puts a number into an ascending list, unless it is there.
-pub(crate) fn insert(found: &mut Vec<usize>, i: usize) -> Result<(), AllocError>
-    ensures { OnOk result (found.new.items ≡ inserted i found.old.items) }
-{
-    for at in 0..found.len() {
-        if found[at] == i {
-            return Ok(());
-        }
-        if i < found[at] {
-            found.insert(at, i)?;
-            return Ok(());
-        }
-    }
-    found.push(i)?;
-    Ok(())
 }
 
 /// What is left of so many nodes after those of a tree.

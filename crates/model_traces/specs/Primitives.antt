@@ -13,7 +13,7 @@ use Rattle.specify_blocks.specs.declared.model.VNet.TheVariants as net
 use Rattle.specify_blocks.specs.declared.model.Instance.{Instance}
 use Rattle.specify_blocks.specs.declared.model.Instance.TheVariants as instance
 use Rattle.specify_blocks.specs.declared.model.VModule.{VModule}
-use Rattle.specify_blocks.specs.Nets.{is_input_port}
+use Rattle.udp_tables.specs.Ports.{is_input_port}
 use Rattle.model_traces.specs.declared.turns.Turned.{Turned}
 use Rattle.model_traces.specs.declared.turns.Turned.TheVariants as turned
 use Rattle.model_traces.specs.declared.turns.Turn.{Turn}

@@ -14,7 +14,8 @@ use Rattle.cell_machine.specs.CellRules.{is_input_pin, is_output_pin, is_source}
 use Rattle.udp_tables.specs.declared.models.VPort.{VPort}
 use Rattle.specify_blocks.specs.declared.model.VNet.{VNet}
 use Rattle.specify_blocks.specs.declared.model.VNet.TheVariants as net
-use Rattle.specify_blocks.specs.Nets.{same_net, are_apart, is_input_port, is_output_port}
+use Rattle.specify_blocks.specs.Nets.{same_net, are_apart, is_output_port}
+use Rattle.udp_tables.specs.Ports.{is_input_port}
 use Rattle.specify_blocks.specs.Ports.{port_number, ports_from}
 use Rattle.specify_blocks.specs.Generated.{pin_net, source_net, notifier_nets}
 use Rattle.specify_blocks.proofs.PortLemmas.{input_port, output_port, number-below}

@@ -200,11 +200,3 @@ place_at f (g ∷ trees) h = by (same_tree f g) refl (λ k. place_at f trees k)
         let rest = again (sym (ap (λ c. c || list_any (same_tree f) trees) e) ∙ h) in
         let next : suc (condition_place trees f) ≡ condition_place trees f + 1 = omega arith in
         (rest.0, subst (λ n. slice_get (g ∷ trees) n ≡ Some rest.0) next rest.1)
-
-pub place-within : (f : Node) (trees : List Node) → condition_place trees f ≤ length trees
-place-within f [] = omega arith
-place-within f (g ∷ trees) = by (same_tree f g) (place-within f trees)
-  where
-    by : (b : Bool) → condition_place trees f ≤ length trees → (if b then 0 else condition_place trees f + 1) ≤ length (g ∷ trees)
-    by true h = omega arith
-    by false h = omega arith

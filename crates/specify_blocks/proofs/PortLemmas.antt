@@ -10,7 +10,8 @@ use Rattle.cell_machine.specs.declared.pins.Pin.{Pin}
 use Rattle.cell_machine.specs.CellRules.{is_input, is_output, is_input_pin, is_output_pin, output_pins_from}
 use Rattle.udp_tables.specs.declared.models.VPort.{VPort}
 use Rattle.specify_blocks.specs.Ports.{is_port, port_number, port_name, port_of, ports_from}
-use Rattle.specify_blocks.specs.Nets.{is_input_port, is_output_port}
+use Rattle.specify_blocks.specs.Nets.{is_output_port}
+use Rattle.udp_tables.specs.Ports.{is_input_port}
 
 -- what a test that fails, and one that passes, counts
 pub miss : (a t : ℕ) → (a ≡ t → ⊥) → ◌≡◌ {A = ℕ} (cond (nat_eq a t) 1 0) 0

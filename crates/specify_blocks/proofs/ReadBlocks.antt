@@ -17,7 +17,8 @@ use Rattle.cell_machine.specs.CellRules.{are_opposite}
 use Rattle.specify_blocks.specs.declared.model.VPath.{VPath}
 use Rattle.udp_tables.specs.declared.timing_checks.TimingCheck.{TimingCheck}
 use Rattle.specify_blocks.specs.declared.model.VModule.{VModule}
-use Rattle.specify_blocks.specs.Nets.{is_input_port, is_output_port, is_value}
+use Rattle.specify_blocks.specs.Nets.{is_output_port, is_value}
+use Rattle.udp_tables.specs.Ports.{is_input_port}
 use Rattle.specify_blocks.specs.Sound.{is_gate, IsPath, is_enabling, IsCheck}
 use Rattle.rule_readers.specs.Words.{is_this}
 use Rattle.specify_blocks.specs.VerilogBlocks.{a_number, kept, port_of, an_input, an_output, a_condition, if_gate, ifnone_gate, gate_by, path_gate, path, next_path, paths, edge_of, an_event, an_edge_event, condition_name, condition, check_end, ordered_check, turned_check, opposite, width_check, period_check, check_of_kind, check, next_check, checks, with_block, block, specify}

@@ -4,6 +4,7 @@ use Rattle.std.specs.List.{list_any}
 use Rattle.std.specs.Option.{option_map_or}
 use Rattle.udp_tables.specs.declared.table.Udp.{Udp}
 use Rattle.udp_tables.specs.declared.models.VPort.{VPort}
+use Rattle.udp_tables.specs.Ports.{is_input_port}
 use Rattle.specify_blocks.specs.declared.model.VNet.{VNet}
 use Rattle.specify_blocks.specs.declared.model.VNet.TheVariants as net
 use Rattle.specify_blocks.specs.declared.model.Instance.{Instance}
@@ -26,10 +27,6 @@ same_net net.Notifier net.Notifier = true
 abbrev pub are_apart : List VNet → Bool
 are_apart [] = true
 are_apart (n ∷ ns) = not (list_any (same_net n) ns) && are_apart ns
-
--- whether this is the number of an input port
-abbrev pub is_input_port : List VPort → ℕ → Bool
-is_input_port ports p = option_map_or (λ (port : VPort). port.input) (slice_get ports p) false
 
 -- whether this is the number of an output port
 abbrev pub is_output_port : List VPort → ℕ → Bool

@@ -17,7 +17,8 @@ use Rattle.specify_blocks.specs.declared.model.Gate.TheVariants as gate
 use Rattle.specify_blocks.specs.declared.model.VPath.{VPath}
 use Rattle.udp_tables.specs.declared.timing_checks.TimingCheck.{TimingCheck}
 use Rattle.specify_blocks.specs.declared.model.VModule.{VModule}
-use Rattle.specify_blocks.specs.Nets.{are_apart, is_input_port, is_output_port, is_driven, holds_state, is_value, feeds_state, feeds_value, drivers}
+use Rattle.specify_blocks.specs.Nets.{are_apart, is_output_port, is_driven, holds_state, is_value, feeds_state, feeds_value, drivers}
+use Rattle.udp_tables.specs.Ports.{is_input_port}
 
 -- The table of a primitive with a state, or of one without. Each row has an entry for each input. In one with a state at most
 -- one entry of a row is a change, else none is. (IEEE 1364-2005, 8.2 and 8.4.)

@@ -17,7 +17,8 @@ use Rattle.specify_blocks.specs.declared.model.Gate.TheVariants as gate
 use Rattle.specify_blocks.specs.declared.model.VPath.{VPath}
 use Rattle.udp_tables.specs.declared.timing_checks.TimingCheck.{TimingCheck}
 use Rattle.specify_blocks.specs.declared.model.VModule.{VModule}
-use Rattle.specify_blocks.specs.Nets.{is_input_port, is_output_port, is_value}
+use Rattle.specify_blocks.specs.Nets.{is_output_port, is_value}
+use Rattle.udp_tables.specs.Ports.{is_input_port}
 use Rattle.rule_readers.specs.declared.refusal.Refusal.{Refusal}
 use Rattle.rule_readers.specs.declared.refusal.Refusal.TheVariants.{Syntax, Unequal}
 use Rattle.rule_readers.specs.Words.{Grammar, ◌>>=◌, begins_by, begins_as, valued}

@@ -1,6 +1,5 @@
 //! The ports of a model by their direction.
 ghost use Rattle.std.specs.Prelude.{◌≡◌};
-ghost use Rattle.specify_blocks.specs.Nets.{is_input_port};
 ghost use Rattle.model_traces.specs.PortNumbers.{input_count, input_number, input_value};
 
 use trit_cubes::Trit;
@@ -27,15 +26,5 @@ pub(crate) fn input_value(ports: &[VPort], inputs: &[Trit], port: usize) -> Trit
     match inputs.get(input_number(ports, port)) {
         Some(value) => *value,
         None => Trit::Unknown,
-    }
-}
-
-/// Whether this is the number of an input port.
-pub(crate) fn is_input_port(ports: &[VPort], port: usize) -> bool
-    ensures { result ≡ is_input_port ports.now port }
-{
-    match ports.get(port) {
-        Some(port) => port.input,
-        None => false,
     }
 }

@@ -5,13 +5,13 @@ ghost use Rattle.udp_tables.specs.Sequential.{udp_next};
 ghost use Rattle.table_interpreters.specs.Wiring.{is_table, is_joined, is_wired};
 ghost use Rattle.model_traces.specs.Primitives.{is_turned, entry_value, primitive_next, next_state, next_states};
 
-use crate::ports::{input_number, input_value, is_input_port};
+use crate::ports::{input_number, input_value};
 use crate::wiring::instance_at;
 use model_traces::{Turn, Turned};
 use specify_blocks::{Instance, VModule, VNet};
 use sqlite_items::Items;
 use trit_cubes::Trit;
-use udp_tables::{Udp, VPort, udp_next};
+use udp_tables::{Udp, VPort, is_input_port, udp_next};
 
 /// Whether this net is what changes.
 fn is_turned(ports: &[VPort], what: Turned, net: VNet) -> bool

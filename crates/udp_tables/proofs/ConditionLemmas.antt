@@ -1,5 +1,5 @@
 -- The table of a condition over the pins that it names gives its values at points of them.
-use Rattle.std.proofs.Common.{◌≡◌, ℕ, suc, ◌+◌, ◌<◌, Bool, false, not, List, [], ◌∷◌, map, length, slice_get, Some, inl, inr, refl, sym, ◌∙◌, ap, subst, arith}
+use Rattle.std.proofs.Common.{◌≡◌, ℕ, suc, ◌+◌, ◌<◌, ◌≤◌, Bool, true, false, not, if◌then◌else◌, List, [], ◌∷◌, map, length, slice_get, Some, inl, inr, refl, sym, ◌∙◌, ap, subst, arith}
 use Rattle.std.specs.List.Sorted.{IsStrictlyIncreasing}
 use Rattle.std.proofs.lemmas.Option.{get_or_from_slice_get, slice_get_within}
 use Rattle.std.proofs.lemmas.List.{get_or-map}
@@ -20,7 +20,8 @@ use Rattle.cell_machine.specs.Outputs.{condition_at}
 use Rattle.cell_machine.specs.Supports.{AllAbove, Ascending, AllBelow}
 use Rattle.cell_machine.proofs.StepLemmas.{picked-written}
 use Rattle.cell_machine.proofs.GroupSteps.{length-no_values}
-use Rattle.udp_tables.specs.Conditions.{IsSmall}
+use Rattle.bool_functions.specs.SameTrees.{same_tree}
+use Rattle.udp_tables.specs.Conditions.{condition_place, IsSmall}
 use Rattle.udp_tables.proofs.GenerationLemmas.{number-same, same-one, same-zero}
 
 -- the support of a condition as the machine's lemmas take it
@@ -83,3 +84,12 @@ condition-zeros f values small h =
     let entry = condition-entry f values p small h long in
     get_or-map not values (number p) false false (slice_get_within values (number p) value entry)
     ∙ ap not (get_or_from_slice_get values (number p) value false entry) ∙ same-zero value)
+
+-- a condition's number is at most the count of the conditions
+pub place-within : (f : Node) (trees : List Node) → condition_place trees f ≤ length trees
+place-within f [] = omega arith
+place-within f (g ∷ trees) = by (same_tree f g) (place-within f trees)
+  where
+    by : (b : Bool) → condition_place trees f ≤ length trees → (if b then 0 else condition_place trees f + 1) ≤ length (g ∷ trees)
+    by true h = omega arith
+    by false h = omega arith

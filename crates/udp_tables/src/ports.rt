@@ -1,7 +1,8 @@
-//! The numbers of the ports of a cell's models.
+//! The ports of a cell's models by their numbers.
 ghost use Rattle.std.specs.Prelude.{◌≡◌};
-ghost use Rattle.udp_tables.specs.Ports.{is_port, port_number, event_of};
+ghost use Rattle.udp_tables.specs.Ports.{is_port, port_number, event_of, is_input_port};
 
+use crate::models::VPort;
 use cell_machine::{Direction, Event, Pin};
 
 /// Whether a pin is a port of the models of its cell: an input or an output.
@@ -28,5 +29,15 @@ pub fn event_of(pins: &[Pin], event: Event) -> Event
     Event {
         pin: port_number(pins, event.pin),
         edge: event.edge,
+    }
+}
+
+/// Whether this is the number of an input port of a model.
+pub fn is_input_port(ports: &[VPort], port: usize) -> bool
+    ensures { result ≡ is_input_port ports.now port }
+{
+    match ports.get(port) {
+        Some(port) => port.input,
+        None => false,
     }
 }

@@ -1,5 +1,5 @@
 //! The timing checks of a cell's models.
-ghost use Rattle.std.specs.Prelude.{◌≡◌, ◌+◌, map, option_map, IfOk};
+ghost use Rattle.std.specs.Prelude.{◌≡◌, ◌≤◌, map, length, option_map, IfOk};
 ghost use Rattle.cell_machine.specs.CellData.{data_of};
 ghost use Rattle.udp_tables.specs.Conditions.{conditions_of};
 ghost use Rattle.udp_tables.specs.TimingChecks.{number_behind, check_behind};
@@ -27,12 +27,13 @@ pub struct TimingCheck {
     pub condition: Option<usize>,
 }
 
-/// The number of a condition behind so many other things, where these are the cell's conditions.
-fn condition_behind(
+/// The number of a condition behind so many other things, where these are the cell's conditions. A cell has at most 16 groups.
+fn number_behind(
     before: usize,
     conditions: &[&Function],
     condition: &Option<Function>,
 ) -> Option<usize>
+    requires { before ≤ 16 }
     ensures { result ≡ option_map (number_behind before (map (λ f. f.now) conditions.now)) condition.now }
 {
     match condition {
@@ -41,14 +42,11 @@ fn condition_behind(
     }
 }
 
-/// The timing check of a cell's check, where these are the cell's conditions and so many other things are numbered before them.
-fn check_behind(
-    before: usize,
-    cell: &Cell,
-    conditions: &[&Function],
-    check: &Check,
-) -> TimingCheck
-    requires { map (λ f. f.now) conditions.now ≡ conditions_of (data_of cell.now) }
+/// The timing check of a cell's check, where these are the cell's conditions and so many other things, no more than its groups,
+/// are numbered before them.
+fn check_behind(before: usize, cell: &Cell, conditions: &[&Function], check: &Check) -> TimingCheck
+    requires few { before ≤ length cell.now.groups }
+    requires all { map (λ f. f.now) conditions.now ≡ conditions_of (data_of cell.now) }
     ensures { result ≡ check_behind before (data_of cell.now) check.now }
 {
     let pins = cell.pins.as_slice();
@@ -57,19 +55,20 @@ fn check_behind(
         first: event_of(pins, check.first),
         second: event_of(pins, check.second),
         limit: check.limit,
-        condition: condition_behind(before, conditions, &check.condition),
+        condition: number_behind(before, conditions, &check.condition),
     }
 }
 
-/// The timing checks of a cell's model, in order, where these are the cell's conditions and so many other things are numbered before
-/// them. `AllocError` comes only where memory is wanting.
-pub fn timing_checks(
+/// The timing checks of a cell's model, in order, where these are the cell's conditions and so many other things, no more than
+/// its groups, are numbered before them. `AllocError` comes only where memory is wanting.
+pub fn checks_of(
     alloc: Global,
     before: usize,
     cell: &Cell,
     conditions: &[&Function],
 ) -> Result<Items<TimingCheck>, AllocError>
-    requires { map (λ f. f.now) conditions.now ≡ conditions_of (data_of cell.now) }
+    requires few { before ≤ length cell.now.groups }
+    requires all { map (λ f. f.now) conditions.now ≡ conditions_of (data_of cell.now) }
     ensures { IfOk result (λ checks. checks ≡ map (check_behind before (data_of cell.now)) cell.now.checks) }
 {
     let mut checks = Items::new(alloc);

@@ -145,7 +145,11 @@ fn check_of_kind(
 
 /// A check, behind its word.
 #[tactic(auto, unfolding(specify_blocks::specs::VerilogBlocks::check))]
-fn check(cursor: &mut Cursor<'_, Verilog>, model: &Netlist, kind: CheckKind) -> Result<TimingCheck, Stop>
+fn check(
+    cursor: &mut Cursor<'_, Verilog>,
+    model: &Netlist,
+    kind: CheckKind,
+) -> Result<TimingCheck, Stop>
     ensures { Reads (read (spec.check model.now kind) cursor.old) result cursor.new }
 {
     cursor.expect(b"(")?;

@@ -32,16 +32,6 @@ pub fn wire_of(wires: &[Items<u8>], name: &[u8]) -> Option<usize>
     wires.iter().position(|wire| name == wire.as_slice())
 }
 
-/// Whether this is the number of an input.
-pub fn is_input_port(ports: &[VPort], port: usize) -> bool
-    ensures { result ≡ spec.is_input_port ports.now port }
-{
-    match ports.get(port) {
-        Some(port) => port.input,
-        None => false,
-    }
-}
-
 /// Whether this is the number of an output.
 pub fn is_output_port(ports: &[VPort], port: usize) -> bool
     ensures { result ≡ spec.is_output_port ports.now port }

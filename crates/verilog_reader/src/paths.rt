@@ -4,6 +4,7 @@ ghost use Rattle.std.specs.Prelude.{◌≡◌, ℕ, List, Option};
 ghost use Rattle.std.specs.List.{position};
 ghost use Rattle.std.specs.Str.{bytes_eq};
 ghost use Rattle.grammar_rules.specs.Reading.{read};
+ghost use Rattle.udp_tables.specs.Ports.{is_input_port};
 ghost use Rattle.udp_tables.specs.VerilogRules.{known};
 ghost use Rattle.specify_blocks.specs.Nets as nets;
 ghost use Rattle.specify_blocks.specs.VerilogBlocks as spec;
@@ -11,13 +12,14 @@ ghost use Rattle.rule_readers.specs.Reading.{Reads};
 ghost use Rattle.rule_readers.specs.Next.{next_bytes, rest};
 
 use crate::netlist::Netlist;
-use crate::nets::{is_input_port, is_output_port};
+use crate::nets::is_output_port;
 use crate::numbers::number;
 use rule_readers::{Cursor, Refusal, Stop};
 use specify_blocks::{Gate, VPath};
 use sqlite_items::Items;
 use std::alloc::Global;
 use udp_reader::Verilog;
+use udp_tables::is_input_port;
 use verilog_tokens::is_name;
 
 /// Whether a path begins with this token.
@@ -44,7 +46,7 @@ pub fn known_number(cursor: &mut Cursor<'_, Verilog>, found: Option<usize>) -> R
 
 /// The number of the input with this name.
 fn input_of(model: &Netlist, name: &[u8]) -> Option<usize>
-    ensures { result ≡ spec.kept (nets.is_input_port model.now.ports) (spec.port_of model.now name.now) }
+    ensures { result ≡ spec.kept (is_input_port model.now.ports) (spec.port_of model.now name.now) }
 {
     match model.port_of(name) {
         Some(port) if is_input_port(model.module().ports.as_slice(), port) => Some(port),

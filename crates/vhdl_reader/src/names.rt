@@ -5,7 +5,6 @@ ghost use Rattle.std.specs.List.{list_any};
 ghost use Rattle.grammar_rules.specs.Rule.{Many};
 ghost use Rattle.grammar_rules.specs.Reading.{read};
 ghost use Rattle.rule_readers.specs.Reading.{Reads};
-ghost use Rattle.vital_models.specs.Sound as sound;
 ghost use Rattle.vhdl_tokens.specs.Tokens.{is_name};
 ghost use Rattle.vhdl_text.specs.VhdlRules as rules;
 ghost use Rattle.vhdl_text.specs.VhdlNames as spec;
@@ -17,18 +16,8 @@ use crate::words::is_number_token;
 use rule_readers::{Cursor, Refusal, Stop};
 use sqlite_items::Items;
 use std::alloc::{AllocError, Global};
-use udp_tables::VPort;
+use udp_tables::is_input_port;
 use vhdl_tokens::is_name;
-
-/// Whether this is the number of an input.
-fn is_input_port(ports: &[VPort], port: usize) -> bool
-    ensures { result ≡ sound.is_input_port ports.now port }
-{
-    match ports.get(port) {
-        Some(port) => port.input,
-        None => false,
-    }
-}
 
 /// The number of the input with this name, in the time of one look-up. An `Err` comes only where memory is wanting.
 pub fn input_of(ports: &Ports, name: &[u8]) -> Result<Option<usize>, AllocError>

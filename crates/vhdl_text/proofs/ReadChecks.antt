@@ -13,7 +13,8 @@ use Rattle.cell_machine.specs.declared.checks.Edge.TheVariants as edge
 use Rattle.cell_machine.specs.declared.checks.Event.{Event}
 use Rattle.cell_machine.specs.CellRules.{is_one_edge}
 use Rattle.udp_tables.specs.declared.timing_checks.TimingCheck.{TimingCheck}
-use Rattle.vital_models.specs.Sound.{is_input_port, has_events}
+use Rattle.vital_models.specs.Sound.{has_events}
+use Rattle.udp_tables.specs.Ports.{is_input_port}
 use Rattle.vhdl_tokens.specs.Spelling.{is_same}
 use Rattle.vhdl_text.specs.declared.scope.Scope.{Scope}
 use Rattle.vhdl_text.specs.VhdlRules.{a_time}

@@ -22,7 +22,8 @@ use Rattle.vital_models.specs.declared.model.HGate.TheVariants as gate
 use Rattle.vital_models.specs.declared.model.HPath.{HPath}
 use Rattle.udp_tables.specs.declared.timing_checks.TimingCheck.{TimingCheck}
 use Rattle.vital_models.specs.declared.model.VEntity.{VEntity}
-use Rattle.vital_models.specs.Sound.{is_input_port, output_ports_from, IsState, IsTruth, feeds, IsValue, is_gate, IsPath, IsOutput, is_enabling, IsCheck, IsSound}
+use Rattle.vital_models.specs.Sound.{output_ports_from, IsState, IsTruth, feeds, IsValue, is_gate, IsPath, IsOutput, is_enabling, IsCheck, IsSound}
+use Rattle.udp_tables.specs.Ports.{is_input_port}
 use Rattle.vhdl_text.specs.declared.scope.Columns.{Columns}
 use Rattle.vhdl_text.specs.declared.scope.Assigned.{Assigned}
 use Rattle.vhdl_text.specs.declared.scope.Assigned.TheVariants as assigned

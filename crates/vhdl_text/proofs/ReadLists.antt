@@ -11,7 +11,7 @@ use Rattle.grammar_rules.proofs.Promises.{Promises, token, gives, in_turn, weake
 use Rattle.rule_readers.specs.declared.refusal.Refusal.TheVariants.{Syntax, Width, Twice}
 use Rattle.udp_tables.specs.declared.models.VPort.{VPort}
 use Rattle.vital_models.specs.declared.table.TruthTable.{TruthTable}
-use Rattle.vital_models.specs.Sound.{is_input_port}
+use Rattle.udp_tables.specs.Ports.{is_input_port}
 use Rattle.vhdl_tokens.specs.Tokens.{is_name}
 use Rattle.vhdl_tokens.specs.Spelling.{is_same}
 use Rattle.vhdl_text.specs.declared.scope.Scope.{Scope}

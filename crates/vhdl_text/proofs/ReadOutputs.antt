@@ -22,7 +22,8 @@ use Rattle.vital_models.specs.declared.table.TruthTable.{TruthTable}
 use Rattle.vital_models.specs.declared.model.HGate.{HGate}
 use Rattle.vital_models.specs.declared.model.HGate.TheVariants as gate
 use Rattle.vital_models.specs.declared.model.HPath.{HPath}
-use Rattle.vital_models.specs.Sound.{is_input_port, output_ports_from}
+use Rattle.vital_models.specs.Sound.{output_ports_from}
+use Rattle.udp_tables.specs.Ports.{is_input_port}
 use Rattle.vhdl_text.specs.declared.scope.Assigned.{Assigned}
 use Rattle.vhdl_text.specs.declared.scope.Assigned.TheVariants as assigned
 use Rattle.vhdl_text.specs.declared.scope.Scope.{Scope}

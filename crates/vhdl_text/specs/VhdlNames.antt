@@ -9,7 +9,7 @@ use Rattle.cell_machine.specs.declared.outputs.Source.{Source}
 use Rattle.cell_machine.specs.declared.outputs.Source.TheVariants as source
 use Rattle.udp_tables.specs.declared.models.VPort.{VPort}
 use Rattle.vital_models.specs.declared.table.TruthTable.{TruthTable}
-use Rattle.vital_models.specs.Sound.{is_input_port}
+use Rattle.udp_tables.specs.Ports.{is_input_port}
 use Rattle.rule_readers.specs.declared.refusal.Refusal.{Refusal}
 use Rattle.rule_readers.specs.declared.refusal.Refusal.TheVariants.{Syntax, Width, Undefined, Twice}
 use Rattle.rule_readers.specs.Words.{Grammar, ◌>>=◌, go_on_where, name_by}

@@ -12,3 +12,4 @@ pub mod PortFacts
 pub mod Widths
 pub mod ConditionFacts
 pub mod Soundness
+pub mod CheckNumbers

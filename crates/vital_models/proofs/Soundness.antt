@@ -36,7 +36,8 @@ use Rattle.vital_models.specs.declared.model.VOutput.{VOutput}
 use Rattle.vital_models.specs.declared.model.VEntity.{VEntity}
 use Rattle.vital_models.specs.Ports.{port_number, ports_of}
 use Rattle.vital_models.specs.Generated.{has_violation, ports_at, state_of, states_of, condition_of, source_at, output_table, value_of_output, place_of, all_zero, gate_by, path_of, output_of, check_of, entity_of}
-use Rattle.vital_models.specs.Sound.{is_input_port, IsState, IsTruth, feeds, IsValue, is_condition_number, is_gate, IsPath, IsOutput, has_events, is_enabling, IsCheck, IsSound}
+use Rattle.vital_models.specs.Sound.{IsState, IsTruth, feeds, IsValue, is_condition_number, is_gate, IsPath, IsOutput, has_events, is_enabling, IsCheck, IsSound}
+use Rattle.udp_tables.specs.Ports.{is_input_port}
 use Rattle.vital_models.proofs.PortFacts.{input_port, output_ports}
 use Rattle.vital_models.proofs.Widths.{truth-width, width, state-width}
 use Rattle.vital_models.proofs.ConditionFacts.{all-among, check-numbered, arc-numbered, condition-over}

@@ -1,15 +1,15 @@
 -- When an entity is sound: each number names a thing that its place allows, each row has the length of its table, the outputs are
 -- the output ports in their order, and each check has events of its kind. (IEEE 1076.4-2000; the restrictions on places are this
 -- project's.)
-use Rattle.std.specs.Prelude.{◌≡◌, ℕ, ◌+◌, Bool, true, false, ◌&&◌, All, ⊤, List, [], ◌∷◌, Option, Some, None, nat_eq, nat_lt, length, map, slice_get, IsTrue, if◌then◌else◌}
+use Rattle.std.specs.Prelude.{◌≡◌, ℕ, ◌+◌, Bool, true, ◌&&◌, All, ⊤, List, [], ◌∷◌, Option, Some, None, nat_eq, nat_lt, length, map, IsTrue, if◌then◌else◌}
 use Rattle.std.specs.List.{list_all}
-use Rattle.std.specs.Option.{option_map_or}
 use Rattle.cell_machine.specs.declared.outputs.Source.{Source}
 use Rattle.cell_machine.specs.declared.outputs.Source.TheVariants as source
 use Rattle.cell_machine.specs.declared.checks.CheckKind.{CheckKind}
 use Rattle.cell_machine.specs.declared.checks.CheckKind.TheVariants as check_kind
 use Rattle.cell_machine.specs.CellRules.{is_any_edge, is_one_edge, are_opposite}
 use Rattle.udp_tables.specs.declared.models.VPort.{VPort}
+use Rattle.udp_tables.specs.Ports.{is_input_port}
 use Rattle.vital_models.specs.declared.table.TruthTable.{TruthTable}
 use Rattle.vital_models.specs.declared.table.VStateTable.{VStateTable}
 use Rattle.vital_models.specs.declared.model.VState.{VState}
@@ -22,10 +22,6 @@ use Rattle.vital_models.specs.declared.model.HGate.TheVariants as gate
 use Rattle.vital_models.specs.declared.model.HPath.{HPath}
 use Rattle.udp_tables.specs.declared.timing_checks.TimingCheck.{TimingCheck}
 use Rattle.vital_models.specs.declared.model.VEntity.{VEntity}
-
--- whether this is the number of an input port
-abbrev pub is_input_port : List VPort → ℕ → Bool
-is_input_port ports p = option_map_or (λ (port : VPort). port.input) (slice_get ports p) false
 
 -- the numbers of the output ports, in order, where the first port has the number k
 abbrev pub output_ports_from : ℕ → List VPort → List ℕ

@@ -19,7 +19,7 @@ pub record IsWrittenCheck (e : VEntity) (n : ℕ) (k : TimingCheck) : Type 0 whe
   pub number : IsNumber n
   pub condition : (i : ℕ) → k.condition ≡ Some i → i < length e.conditions
 
-pub test_pin : (e : VEntity) (n : ℕ) (k : TimingCheck) → IsWrittenCheck e n k → (kind : CheckKind) → IsTrue (Rattle.vital_models.specs.Sound.is_input_port e.ports (test_at k kind).pin)
+pub test_pin : (e : VEntity) (n : ℕ) (k : TimingCheck) → IsWrittenCheck e n k → (kind : CheckKind) → IsTrue (Rattle.udp_tables.specs.Ports.is_input_port e.ports (test_at k kind).pin)
 test_pin e n k h check_kind.Setup = h.sound.first
 test_pin e n k h check_kind.Hold = h.sound.second
 test_pin e n k h check_kind.Recovery = h.sound.first
@@ -27,7 +27,7 @@ test_pin e n k h check_kind.Removal = h.sound.second
 test_pin e n k h check_kind.Width = h.sound.first
 test_pin e n k h check_kind.Period = h.sound.first
 
-pub reference_pin : (e : VEntity) (n : ℕ) (k : TimingCheck) → IsWrittenCheck e n k → (kind : CheckKind) → IsTrue (Rattle.vital_models.specs.Sound.is_input_port e.ports (reference_at k kind).pin)
+pub reference_pin : (e : VEntity) (n : ℕ) (k : TimingCheck) → IsWrittenCheck e n k → (kind : CheckKind) → IsTrue (Rattle.udp_tables.specs.Ports.is_input_port e.ports (reference_at k kind).pin)
 reference_pin e n k h check_kind.Setup = h.sound.second
 reference_pin e n k h check_kind.Hold = h.sound.first
 reference_pin e n k h check_kind.Recovery = h.sound.second

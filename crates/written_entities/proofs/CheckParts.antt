@@ -39,7 +39,7 @@ its_data e before k after b same h =
     by false = refl
 
 pub tested_read : (e : VEntity) → IsWellFormedEntity e → (word : List ℕ) (before : List TimingCheck) (k : TimingCheck) (after : List TimingCheck) (b : Bool) (p : ℕ) {s : List (List ℕ)} → before ++ k ∷ after ≡ e.checks → is_period k.kind ≡ b
-    → IsTrue (Rattle.vital_models.specs.Sound.is_input_port e.ports p) → Reads (tested (scope e) b word (length before)) (tested_front word e (length before + 1) p s) p s
+    → IsTrue (Rattle.udp_tables.specs.Ports.is_input_port e.ports p) → Reads (tested (scope e) b word (length before)) (tested_front word e (length before + 1) p s) p s
 unfolding tested
 tested_read e w word before k after b p same h input =
     let below : length before + 1 ≤ length e.checks = place_below before k after e.checks same in
@@ -50,7 +50,7 @@ tested_read e w word before k after b p same h input =
     (in_turn three_expected (in_turn (part_read (has_data (scope e) b (length before)) 100 (length before + 1) of_data number (its_data e before k after b same h))
     (in_turn three_expected (in_turn (input_read e w p input) (in_turn expected gives))))))
 
-pub referred_read : (e : VEntity) → IsWellFormedEntity e → (p : ℕ) {s : List (List ℕ)} → IsTrue (Rattle.vital_models.specs.Sound.is_input_port e.ports p) → Reads (referred (scope e)) (referred_front e p s) p s
+pub referred_read : (e : VEntity) → IsWellFormedEntity e → (p : ℕ) {s : List (List ℕ)} → IsTrue (Rattle.udp_tables.specs.Ports.is_input_port e.ports p) → Reads (referred (scope e)) (referred_front e p s) p s
 unfolding referred
 referred_read e w p input = in_turn two_expected (in_turn (input_read e w p input) (in_turn expected gives))
 

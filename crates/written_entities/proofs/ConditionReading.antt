@@ -12,7 +12,8 @@ use Rattle.vital_models.specs.declared.table.TruthRow.{TruthRow}
 use Rattle.vital_models.specs.declared.table.TruthTable.{TruthTable}
 use Rattle.vital_models.specs.declared.model.VTruth.{VTruth}
 use Rattle.vital_models.specs.declared.model.VEntity.{VEntity}
-use Rattle.vital_models.specs.Sound.{is_input_port, IsTruth}
+use Rattle.vital_models.specs.Sound.{IsTruth}
+use Rattle.udp_tables.specs.Ports.{is_input_port}
 use Rattle.rule_readers.specs.declared.refusal.Refusal.TheVariants.{Width}
 use Rattle.vhdl_tokens.specs.Tokens.{is_name}
 use Rattle.vhdl_text.specs.declared.scope.Scope.{Scope}

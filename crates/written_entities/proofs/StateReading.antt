@@ -6,7 +6,8 @@ use Rattle.std.proofs.lemmas.List.{length-map, map-append}
 use Rattle.grammar_rules.specs.Rule.{Stops}
 use Rattle.vital_models.specs.declared.model.VState.{VState}
 use Rattle.vital_models.specs.declared.model.VEntity.{VEntity}
-use Rattle.vital_models.specs.Sound.{is_input_port, IsState}
+use Rattle.vital_models.specs.Sound.{IsState}
+use Rattle.udp_tables.specs.Ports.{is_input_port}
 use Rattle.vhdl_names.specs.Words.{is_vhdl_word, is_reserved, is_used, vhdl_words, used_words}
 use Rattle.vhdl_tokens.specs.Tokens.{is_name}
 use Rattle.vhdl_tokens.specs.Spelling.{is_same}

@@ -19,7 +19,8 @@ use Rattle.vital_models.specs.declared.model.OutValue.TheVariants as value
 use Rattle.vital_models.specs.declared.model.VOutput.{VOutput}
 use Rattle.vital_models.specs.declared.model.VState.{VState}
 use Rattle.vital_models.specs.declared.model.VEntity.{VEntity}
-use Rattle.vital_models.specs.Sound.{feeds, IsValue, IsOutput, is_input_port}
+use Rattle.vital_models.specs.Sound.{feeds, IsValue, IsOutput}
+use Rattle.udp_tables.specs.Ports.{is_input_port}
 use Rattle.rule_readers.specs.declared.refusal.Refusal.{Refusal}
 use Rattle.vhdl_tokens.specs.Tokens.{is_name}
 use Rattle.vhdl_tokens.specs.Spelling.{is_same}

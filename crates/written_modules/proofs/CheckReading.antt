@@ -14,7 +14,7 @@ use Rattle.cell_machine.specs.CellRules.{is_any_edge, are_opposite}
 use Rattle.specify_blocks.specs.declared.model.VNet.TheVariants as net
 use Rattle.udp_tables.specs.declared.timing_checks.TimingCheck.{TimingCheck}
 use Rattle.specify_blocks.specs.declared.model.VModule.{VModule}
-use Rattle.specify_blocks.specs.Nets.{is_input_port}
+use Rattle.udp_tables.specs.Ports.{is_input_port}
 use Rattle.specify_blocks.specs.Sound.{has_written_events, is_enabling, IsCheck}
 use Rattle.specify_blocks.specs.WellFormed.{IsName, IsNumber}
 use Rattle.specify_blocks.specs.VerilogModules.{port_name}

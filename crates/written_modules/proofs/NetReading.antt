@@ -14,7 +14,8 @@ use Rattle.specify_blocks.specs.declared.model.VNet.{VNet}
 use Rattle.specify_blocks.specs.declared.model.VNet.TheVariants as net
 use Rattle.specify_blocks.specs.declared.model.Instance.{Instance}
 use Rattle.specify_blocks.specs.declared.model.VModule.{VModule}
-use Rattle.specify_blocks.specs.Nets.{same_net, is_input_port, is_output_port, is_driven, holds_state, net_driven, has_state, is_value, feeds_state, feeds_value}
+use Rattle.specify_blocks.specs.Nets.{same_net, is_output_port, is_driven, holds_state, net_driven, has_state, is_value, feeds_state, feeds_value}
+use Rattle.udp_tables.specs.Ports.{is_input_port}
 use Rattle.specify_blocks.specs.VerilogModules.{port_name, port_names, net_by, net_of}
 use Rattle.specify_blocks.specs.WellFormed.{IsName, AreApart, register_names}
 use Rattle.verilog_writer.specs.Nets.{notifier_in, net_at}

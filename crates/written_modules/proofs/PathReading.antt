@@ -9,7 +9,8 @@ use Rattle.specify_blocks.specs.declared.model.Gate.{Gate}
 use Rattle.specify_blocks.specs.declared.model.Gate.TheVariants as gate
 use Rattle.specify_blocks.specs.declared.model.VPath.{VPath}
 use Rattle.specify_blocks.specs.declared.model.VModule.{VModule}
-use Rattle.specify_blocks.specs.Nets.{is_input_port, is_output_port, is_value}
+use Rattle.specify_blocks.specs.Nets.{is_output_port, is_value}
+use Rattle.udp_tables.specs.Ports.{is_input_port}
 use Rattle.specify_blocks.specs.Sound.{is_gate, IsPath}
 use Rattle.specify_blocks.specs.WellFormed.{IsNumber, HasNumbers, register_names}
 use Rattle.specify_blocks.specs.VerilogModules.{port_name}

@@ -10,7 +10,7 @@ pub mod outputs;
 pub mod pins;
 pub mod state_readings;
 pub mod states;
-pub mod supports;
+mod supports;
 mod table_inputs;
 mod table_texts;
 pub mod texts;

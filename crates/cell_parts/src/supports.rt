@@ -1,29 +1,13 @@
 //! The input pins that the texts of a state group name, ascending.
 ghost use Rattle.std.specs.Prelude.{◌≡◌, nat_lt, OnOk, IfOk, filter};
-ghost use Rattle.bool_functions.specs.Support.{inserted, insert_all};
+ghost use Rattle.bool_functions.specs.Support.{insert_all};
 ghost use Rattle.cell_parts.specs.Texts.{text_support};
 ghost use Rattle.cell_parts.specs.StateReadings.{pins_among as pins_among_of, names_read};
 
 use crate::texts::Text;
+use bool_functions::ascending::insert;
 use sqlite_items::Items;
 use std::alloc::{AllocError, Global};
-
-/// Puts a number at its place in an ascending list, unless it is there.
-pub fn insert(found: &mut Vec<usize>, i: usize) -> Result<(), AllocError>
-    ensures { OnOk result (found.new.items ≡ inserted i found.old.items) }
-{
-    for at in 0..found.len() {
-        if found[at] == i {
-            return Ok(());
-        }
-        if i < found[at] {
-            found.insert(at, i)?;
-            return Ok(());
-        }
-    }
-    found.push(i)?;
-    Ok(())
-}
 
 /// Puts those of some numbers that are below a bound at their places in an ascending list.
 fn insert_below(found: &mut Vec<usize>, bound: usize, numbers: &[usize]) -> Result<(), AllocError>

@@ -4,8 +4,8 @@ ghost use Rattle.bool_functions.specs.Support.{insert_all};
 ghost use Rattle.cell_parts.specs.Building.{supports_of_both, second_support, stands_for, source_of as source_of_number, sources_of as sources_of_function};
 
 use bool_functions::Function;
+use bool_functions::ascending::insert;
 use cell_machine::{GroupKind, Source, StateGroup};
-use cell_parts::supports::insert;
 use sqlite_items::Items;
 use std::alloc::{AllocError, Global};
 

@@ -1,5 +1,5 @@
 -- The turns of a repeated part, and words at the next token.
-use Rattle.std.proofs.Common.{◌≡◌, ℕ, zero, suc, ◌+◌, ◌-◌, ◌<◌, Bool, true, false, List, [], ◌∷◌, Option, Some, None, Ok, refl, ap, ◌∙◌, arith}
+use Rattle.std.proofs.Common.{◌≡◌, ℕ, suc, ◌+◌, ◌-◌, ◌<◌, Bool, true, false, List, [], ◌∷◌, Option, Ok, refl, ap, arith}
 use Rattle.grammar_rules.specs.Rule.{Verdict}
 use Rattle.grammar_rules.specs.Reading.{Outcome, and_then, choose, repeat}
 use Rattle.rule_readers.specs.declared.refusal.Refusal.{Refusal}

@@ -1,10 +1,10 @@
 //! The places of words and of names, by recursive descent.
 
-ghost use Rattle.std.specs.Prelude.{◌≡◌, ℕ, List, ◌∷◌, Some, None, Err};
+ghost use Rattle.std.specs.Prelude.{◌≡◌, ℕ, true, List, ◌∷◌, Option, Some, None, Err};
 ghost use Rattle.grammar_rules.specs.Reading.{read};
 ghost use Rattle.rule_readers.specs.Words as spec;
-ghost use Rattle.rule_readers.specs.Reading.{Reads};
-ghost use Rattle.rule_readers.specs.Next.{next_bytes};
+ghost use Rattle.rule_readers.specs.Reading.{Reads, found_at, number_at};
+ghost use Rattle.rule_readers.specs.Next.{next_bytes, is_next_name};
 
 use crate::cursor::Cursor;
 use crate::language::Language;
@@ -121,5 +121,46 @@ impl<L: Language> Cursor<'_, L> {
         }
         self.skip();
         Ok(())
+    }
+
+    /// The value that the next token was found to stand for, if it stands for one.
+    #[inline(always)]
+    pub fn value<A: Drop>(&mut self, found: Option<A>) -> Result<A, Stop>
+        ensures { Reads (found_at found self.old) result self.new }
+    {
+        let Some(value) = found else {
+            return Err(Stop::Refused(Refusal::Syntax));
+        };
+        self.skip();
+        Ok(value)
+    }
+
+    /// The value that a name was found to stand for, if it stands for one. What was found of a token that is no name is not asked.
+    #[tactic(auto, using(crate::proofs::Values::next_known, crate::proofs::Values::next_unknown, crate::proofs::Values::next_no_name))]
+    pub fn known<A: Drop>(&mut self, found: Option<A>) -> Result<A, Stop>
+        ensures { (find : List ℕ → Option A) → (is_next_name L.is_name self.old ≡ true → found ≡ find (next_bytes self.old)) → Reads (read (spec.known L.is_name find) self.old) result self.new }
+    {
+        if !self.is_next_name() {
+            return Err(Stop::Refused(Refusal::Syntax));
+        }
+        let Some(value) = found else {
+            return Err(Stop::Refused(Refusal::Undefined));
+        };
+        self.skip();
+        Ok(value)
+    }
+
+    /// The number that the next token was found to stand for, which has to be this one.
+    pub fn same_number(&mut self, found: Option<u64>, number: u64) -> Result<(), Stop>
+        ensures { Reads (number_at number found self.old) result self.new }
+    {
+        match found {
+            None => Err(Stop::Refused(Refusal::Syntax)),
+            Some(other) if other != number => Err(Stop::Refused(Refusal::Unequal)),
+            Some(_) => {
+                self.skip();
+                Ok(())
+            }
+        }
     }
 }

@@ -4,3 +4,4 @@ pub mod Nets
 pub mod Timing
 pub mod Model
 pub mod CheckEnds
+pub mod Names

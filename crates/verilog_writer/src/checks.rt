@@ -6,8 +6,8 @@ ghost use Rattle.verilog_writer.specs.Timing.{edge_text, joint_text, condition_t
 use crate::nets::{notifier_in, port_at, wire_at};
 use cell_machine::{CheckKind, Edge};
 use specify_blocks::VModule;
-use text_io::{Desk, Failed, Line, OutSlot};
-use text_parts::{Bytes, Decimal, ItemText, Part, parts};
+use text_io::{Desk, Line, OutSlot};
+use text_parts::{Bytes, Decimal, ItemText, Part, Put, parts};
 use udp_tables::TimingCheck;
 
 /// The word before the port of an event.
@@ -43,45 +43,36 @@ fn condition_text(model: &VModule, condition: Option<usize>) -> &[u8]
 
 /// The limit of a check and the end of its line, with these bytes between the limit and the register of the checks.
 #[derive(Drop)]
-struct Limit<'a> {
-    model: &'a VModule,
-    check: &'a TimingCheck,
-    between: &'a [u8],
-}
+struct Limit<'a>(&'a VModule, &'a TimingCheck, &'a [u8]);
 
 impl Part for Limit<'_> {
-    ghost text = { λ m. limit_text m.between.now m.model.now m.check.now };
+    ghost text = { λ m. limit_text m.2.now m.0.now m.1.now };
 
-    fn put<D: Desk>(&self, line: &mut Line, desk: &mut D, slot: OutSlot) -> Result<(), Failed> {
+    fn put<D: Desk>(&self, line: &mut Line, desk: &mut D, slot: OutSlot) -> Put {
         parts!(
-            Decimal(self.check.limit as u128),
-            Bytes(self.between),
-            Bytes(notifier_in(self.model)),
+            Decimal(self.1.limit as u128),
+            Bytes(self.2),
+            Bytes(notifier_in(self.0)),
             Bytes(b");\n")
         )
         .put(line, desk, slot)
     }
 }
 
-/// The condition of a check, where there is one, its limit and the end of its line.
+/// The condition of a check, where there is one, its limit and the end of its line, with these bytes behind the limit.
 #[derive(Drop)]
-struct Conditional<'a>(Limit<'a>);
+struct Conditional<'a>(&'a VModule, &'a TimingCheck, &'a [u8]);
 
 impl Part for Conditional<'_> {
-    ghost text = { λ m. conditional_text m.0.between.now m.0.model.now m.0.check.now };
+    ghost text = { λ m. conditional_text m.2.now m.0.now m.1.now };
 
-    fn put<D: Desk>(&self, line: &mut Line, desk: &mut D, slot: OutSlot) -> Result<(), Failed> {
-        let condition = self.0.check.condition;
-        let limit = Limit {
-            model: self.0.model,
-            check: self.0.check,
-            between: self.0.between,
-        };
+    fn put<D: Desk>(&self, line: &mut Line, desk: &mut D, slot: OutSlot) -> Put {
+        let (model, check) = (self.0, self.1);
         parts!(
-            Bytes(joint_text(condition)),
-            Bytes(condition_text(self.0.model, condition)),
+            Bytes(joint_text(check.condition)),
+            Bytes(condition_text(model, check.condition)),
             Bytes(b", "),
-            limit
+            Limit(model, check, self.2)
         )
         .put(line, desk, slot)
     }
@@ -95,8 +86,7 @@ impl Part for Ordered<'_> {
     ghost text = { λ m. ordered_text m.0.now m.1.now m.2.now };
 
     #[tactic(auto, unfolding(crate::specs::Timing::ordered_text))]
-    fn put<D: Desk>(&self, line: &mut Line, desk: &mut D, slot: OutSlot) -> Result<(), Failed> {
-        let between: &[u8] = b", ";
+    fn put<D: Desk>(&self, line: &mut Line, desk: &mut D, slot: OutSlot) -> Put {
         let (model, check) = (self.1, self.2);
         parts!(
             Bytes(self.0),
@@ -105,11 +95,7 @@ impl Part for Ordered<'_> {
             Bytes(b", "),
             Bytes(edge_text(check.second.edge)),
             Bytes(port_at(model, check.second.pin)),
-            Conditional(Limit {
-                model,
-                check,
-                between
-            })
+            Conditional(model, check, b", ")
         )
         .put(line, desk, slot)
     }
@@ -123,8 +109,7 @@ impl Part for Turned<'_> {
     ghost text = { λ m. turned_text (codes "    $removal(") m.0.now m.1.now };
 
     #[tactic(auto, unfolding(crate::specs::Timing::turned_text))]
-    fn put<D: Desk>(&self, line: &mut Line, desk: &mut D, slot: OutSlot) -> Result<(), Failed> {
-        let between: &[u8] = b", ";
+    fn put<D: Desk>(&self, line: &mut Line, desk: &mut D, slot: OutSlot) -> Put {
         let (model, check) = (self.0, self.1);
         parts!(
             Bytes(b"    $removal("),
@@ -136,11 +121,7 @@ impl Part for Turned<'_> {
             Bytes(edge_text(check.first.edge)),
             Bytes(port_at(model, check.first.pin)),
             Bytes(b", "),
-            Limit {
-                model,
-                check,
-                between
-            }
+            Limit(model, check, b", ")
         )
         .put(line, desk, slot)
     }
@@ -154,18 +135,13 @@ impl Part for Width<'_> {
     ghost text = { λ m. width_text (codes "    $width(") m.0.now m.1.now };
 
     #[tactic(auto, unfolding(crate::specs::Timing::width_text))]
-    fn put<D: Desk>(&self, line: &mut Line, desk: &mut D, slot: OutSlot) -> Result<(), Failed> {
-        let between: &[u8] = b", 0, ";
+    fn put<D: Desk>(&self, line: &mut Line, desk: &mut D, slot: OutSlot) -> Put {
         let (model, check) = (self.0, self.1);
         parts!(
             Bytes(b"    $width("),
             Bytes(edge_text(check.first.edge)),
             Bytes(port_at(model, check.first.pin)),
-            Conditional(Limit {
-                model,
-                check,
-                between
-            })
+            Conditional(model, check, b", 0, ")
         )
         .put(line, desk, slot)
     }
@@ -179,17 +155,12 @@ impl Part for PeriodLine<'_> {
     ghost text = { λ m. period_line m.0.now m.1.now m.2.now };
 
     #[tactic(auto, unfolding(crate::specs::Timing::period_line))]
-    fn put<D: Desk>(&self, line: &mut Line, desk: &mut D, slot: OutSlot) -> Result<(), Failed> {
-        let between: &[u8] = b", ";
+    fn put<D: Desk>(&self, line: &mut Line, desk: &mut D, slot: OutSlot) -> Put {
         let (model, check) = (self.1, self.2);
         parts!(
             Bytes(self.0),
             Bytes(port_at(model, check.first.pin)),
-            Conditional(Limit {
-                model,
-                check,
-                between
-            })
+            Conditional(model, check, b", ")
         )
         .put(line, desk, slot)
     }
@@ -203,7 +174,7 @@ impl Part for Period<'_> {
     ghost text = { λ m. period_text m.0.now m.1.now };
 
     #[tactic(auto, unfolding(crate::specs::Timing::period_text))]
-    fn put<D: Desk>(&self, line: &mut Line, desk: &mut D, slot: OutSlot) -> Result<(), Failed> {
+    fn put<D: Desk>(&self, line: &mut Line, desk: &mut D, slot: OutSlot) -> Put {
         let (model, check) = (self.0, self.1);
         let rises = PeriodLine(b"    $period(posedge ", model, check);
         let falls = PeriodLine(b"    $period(negedge ", model, check);
@@ -225,7 +196,7 @@ impl ItemText<TimingCheck> for CheckLines<'_> {
         line: &mut Line,
         desk: &mut D,
         slot: OutSlot,
-    ) -> Result<(), Failed> {
+    ) -> Put {
         let model = self.0;
         match check.kind {
             CheckKind::Setup => Ordered(b"    $setup(", model, check).put(line, desk, slot),

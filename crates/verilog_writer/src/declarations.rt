@@ -1,10 +1,12 @@
 //! The header and the declarations of a module.
-ghost use Rattle.verilog_writer.specs.Model.{module_opening_text, next_port_text, ports_text, module_header_text, input_port_text, output_port_text, wire_text, register_text, declarations_text};
+ghost use Rattle.std.specs.Prelude.{if◌then◌else◌};
+ghost use Rattle.verilog_writer.specs.Model.{module_opening_text, next_port_text, ports_text, module_header_text, input_port_text, output_port_text, register_text, declarations_text};
 
+use crate::names::NameLines;
 use specify_blocks::VModule;
 use sqlite_items::Items;
-use text_io::{Desk, Failed, Line, OutSlot};
-use text_parts::{Bytes, Each, ItemText, Part, parts};
+use text_io::{Desk, Line, OutSlot};
+use text_parts::{Bytes, Each, ItemText, Part, Put, parts};
 use udp_tables::VPort;
 
 /// Ports in the header behind another one.
@@ -15,13 +17,7 @@ impl ItemText<VPort> for NextPorts {
     ghost text = { λ _ port. next_port_text port };
 
     #[tactic(auto, unfolding(crate::specs::Model::next_port_text))]
-    fn put<D: Desk>(
-        &self,
-        port: &VPort,
-        line: &mut Line,
-        desk: &mut D,
-        slot: OutSlot,
-    ) -> Result<(), Failed> {
+    fn put<D: Desk>(&self, port: &VPort, line: &mut Line, desk: &mut D, slot: OutSlot) -> Put {
         line.put_pieces(desk, slot, &[b", ", port.name.as_slice()])
     }
 }
@@ -33,11 +29,11 @@ struct Ports<'a>(&'a [VPort]);
 impl Part for Ports<'_> {
     ghost text = { λ m. ports_text m.0.now };
 
-    fn put<D: Desk>(&self, line: &mut Line, desk: &mut D, slot: OutSlot) -> Result<(), Failed> {
+    fn put<D: Desk>(&self, line: &mut Line, desk: &mut D, slot: OutSlot) -> Put {
         match self.0.split_first() {
             Some((first, items)) => {
                 let text = NextPorts;
-                parts!(Bytes(first.name.as_slice()), Each { text, items }).put(line, desk, slot)
+                parts!(Bytes(first.name.as_slice()), Each(text, items)).put(line, desk, slot)
             }
             None => line.put(desk, slot, b""),
         }
@@ -52,7 +48,7 @@ impl Part for Opening<'_> {
     ghost text = { λ m. module_opening_text m.0.now };
 
     #[tactic(auto, unfolding(crate::specs::Model::module_opening_text))]
-    fn put<D: Desk>(&self, line: &mut Line, desk: &mut D, slot: OutSlot) -> Result<(), Failed> {
+    fn put<D: Desk>(&self, line: &mut Line, desk: &mut D, slot: OutSlot) -> Put {
         line.put_pieces(desk, slot, &[b"module ", self.0.name.as_slice(), b" ("])
     }
 }
@@ -65,74 +61,27 @@ impl Part for Header<'_> {
     ghost text = { λ m. module_header_text m.0.now };
 
     #[tactic(auto, unfolding(crate::specs::Model::module_header_text))]
-    fn put<D: Desk>(&self, line: &mut Line, desk: &mut D, slot: OutSlot) -> Result<(), Failed> {
+    fn put<D: Desk>(&self, line: &mut Line, desk: &mut D, slot: OutSlot) -> Put {
         let ports = Ports(self.0.ports.as_slice());
         parts!(Opening(self.0), ports, Bytes(b");\n")).put(line, desk, slot)
     }
 }
 
-/// The declarations of the inputs among ports.
+/// The declarations of the inputs among ports, or else of the outputs.
 #[derive(Drop)]
-struct InputPorts;
+struct PortLines(bool);
 
-impl ItemText<VPort> for InputPorts {
-    ghost text = { λ _ port. input_port_text port };
+impl ItemText<VPort> for PortLines {
+    ghost text = { λ m port. if m.0 then input_port_text port else output_port_text port };
 
-    #[tactic(auto, unfolding(crate::specs::Model::input_port_text))]
-    fn put<D: Desk>(
-        &self,
-        port: &VPort,
-        line: &mut Line,
-        desk: &mut D,
-        slot: OutSlot,
-    ) -> Result<(), Failed> {
-        if port.input {
-            line.put_pieces(desk, slot, &[b"  input ", port.name.as_slice(), b";\n"])
-        } else {
-            line.put(desk, slot, b"")
+    #[tactic(auto, unfolding(crate::specs::Model::input_port_text, crate::specs::Model::output_port_text))]
+    fn put<D: Desk>(&self, port: &VPort, line: &mut Line, desk: &mut D, slot: OutSlot) -> Put {
+        let name = port.name.as_slice();
+        match (self.0, port.input) {
+            (true, true) => line.put_pieces(desk, slot, &[b"  input ", name, b";\n"]),
+            (false, false) => line.put_pieces(desk, slot, &[b"  output ", name, b";\n"]),
+            _ => line.put(desk, slot, b""),
         }
-    }
-}
-
-/// The declarations of the outputs among ports.
-#[derive(Drop)]
-struct OutputPorts;
-
-impl ItemText<VPort> for OutputPorts {
-    ghost text = { λ _ port. output_port_text port };
-
-    #[tactic(auto, unfolding(crate::specs::Model::output_port_text))]
-    fn put<D: Desk>(
-        &self,
-        port: &VPort,
-        line: &mut Line,
-        desk: &mut D,
-        slot: OutSlot,
-    ) -> Result<(), Failed> {
-        if port.input {
-            line.put(desk, slot, b"")
-        } else {
-            line.put_pieces(desk, slot, &[b"  output ", port.name.as_slice(), b";\n"])
-        }
-    }
-}
-
-/// The declarations of wires.
-#[derive(Drop)]
-struct Wires;
-
-impl ItemText<Items<u8>> for Wires {
-    ghost text = { λ _ name. wire_text name };
-
-    #[tactic(auto, unfolding(crate::specs::Model::wire_text))]
-    fn put<D: Desk>(
-        &self,
-        name: &Items<u8>,
-        line: &mut Line,
-        desk: &mut D,
-        slot: OutSlot,
-    ) -> Result<(), Failed> {
-        line.put_pieces(desk, slot, &[b"  wire ", name.as_slice(), b";\n"])
     }
 }
 
@@ -143,7 +92,7 @@ struct Register<'a>(&'a Option<Items<u8>>);
 impl Part for Register<'_> {
     ghost text = { λ m. register_text m.0.now };
 
-    fn put<D: Desk>(&self, line: &mut Line, desk: &mut D, slot: OutSlot) -> Result<(), Failed> {
+    fn put<D: Desk>(&self, line: &mut Line, desk: &mut D, slot: OutSlot) -> Put {
         match self.0 {
             Some(name) => line.put_pieces(desk, slot, &[b"  reg ", name.as_slice(), b";\n"]),
             None => line.put(desk, slot, b""),
@@ -158,20 +107,11 @@ pub(crate) struct Declarations<'a>(pub(crate) &'a VModule);
 impl Part for Declarations<'_> {
     ghost text = { λ m. declarations_text m.0.now };
 
-    #[tactic(auto, unfolding(crate::specs::Model::declarations_text))]
-    fn put<D: Desk>(&self, line: &mut Line, desk: &mut D, slot: OutSlot) -> Result<(), Failed> {
-        let inputs = Each {
-            text: InputPorts,
-            items: self.0.ports.as_slice(),
-        };
-        let outputs = Each {
-            text: OutputPorts,
-            items: self.0.ports.as_slice(),
-        };
-        let wires = Each {
-            text: Wires,
-            items: self.0.wires.as_slice(),
-        };
+    #[tactic(auto, unfolding(crate::specs::Model::declarations_text, crate::specs::Model::wire_text))]
+    fn put<D: Desk>(&self, line: &mut Line, desk: &mut D, slot: OutSlot) -> Put {
+        let inputs = Each(PortLines(true), self.0.ports.as_slice());
+        let outputs = Each(PortLines(false), self.0.ports.as_slice());
+        let wires = Each(NameLines(b"  wire "), self.0.wires.as_slice());
         parts!(inputs, outputs, wires, Register(&self.0.notifier)).put(line, desk, slot)
     }
 }

@@ -3,8 +3,8 @@ ghost use Rattle.verilog_writer.specs.Model.{terminal_text, driver_text, call_te
 
 use crate::nets::{net_at, primitive_at};
 use specify_blocks::{Instance, VModule, VNet};
-use text_io::{Desk, Failed, Line, OutSlot};
-use text_parts::{Bytes, Each, ItemText, Part, parts};
+use text_io::{Desk, Line, OutSlot};
+use text_parts::{Bytes, Each, ItemText, Part, Put, parts};
 
 /// Inputs of instances.
 #[derive(Drop)]
@@ -14,13 +14,7 @@ impl ItemText<VNet> for Terminals<'_> {
     ghost text = { λ m input. terminal_text m.0.now input };
 
     #[tactic(auto, unfolding(crate::specs::Model::terminal_text))]
-    fn put<D: Desk>(
-        &self,
-        input: &VNet,
-        line: &mut Line,
-        desk: &mut D,
-        slot: OutSlot,
-    ) -> Result<(), Failed> {
+    fn put<D: Desk>(&self, input: &VNet, line: &mut Line, desk: &mut D, slot: OutSlot) -> Put {
         line.put_pieces(desk, slot, &[b", ", net_at(self.0, *input)])
     }
 }
@@ -37,7 +31,7 @@ impl Part for Driver<'_> {
     ghost text = { λ m. driver_text m.model.now m.udp m.output };
 
     #[tactic(auto, unfolding(crate::specs::Model::driver_text))]
-    fn put<D: Desk>(&self, line: &mut Line, desk: &mut D, slot: OutSlot) -> Result<(), Failed> {
+    fn put<D: Desk>(&self, line: &mut Line, desk: &mut D, slot: OutSlot) -> Put {
         let name = primitive_at(self.model, self.udp);
         let output = net_at(self.model, self.output);
         line.put_pieces(desk, slot, &[b"  ", name, b" (", output])
@@ -57,16 +51,13 @@ impl Part for Call<'_> {
     ghost text = { λ m. call_text m.model.now m.udp m.output m.inputs.now };
 
     #[tactic(auto, unfolding(crate::specs::Model::call_text))]
-    fn put<D: Desk>(&self, line: &mut Line, desk: &mut D, slot: OutSlot) -> Result<(), Failed> {
+    fn put<D: Desk>(&self, line: &mut Line, desk: &mut D, slot: OutSlot) -> Put {
         let driver = Driver {
             model: self.model,
             udp: self.udp,
             output: self.output,
         };
-        let terminals = Each {
-            text: Terminals(self.model),
-            items: self.inputs,
-        };
+        let terminals = Each(Terminals(self.model), self.inputs);
         parts!(driver, terminals, Bytes(b");\n")).put(line, desk, slot)
     }
 }
@@ -83,7 +74,7 @@ impl Part for Constant<'_> {
     ghost text = { λ m. constant_text m.model.now m.output m.one };
 
     #[tactic(auto, unfolding(crate::specs::Model::constant_text))]
-    fn put<D: Desk>(&self, line: &mut Line, desk: &mut D, slot: OutSlot) -> Result<(), Failed> {
+    fn put<D: Desk>(&self, line: &mut Line, desk: &mut D, slot: OutSlot) -> Put {
         let net = net_at(self.model, self.output);
         if self.one {
             line.put_pieces(desk, slot, &[b"  buf (", net, b", 1'b1);\n"])
@@ -106,7 +97,7 @@ impl ItemText<Instance> for InstanceLines<'_> {
         line: &mut Line,
         desk: &mut D,
         slot: OutSlot,
-    ) -> Result<(), Failed> {
+    ) -> Put {
         let model = self.0;
         match instance {
             Instance::Primitive {

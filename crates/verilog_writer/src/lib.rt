@@ -6,6 +6,7 @@ mod checks;
 mod declarations;
 mod instances;
 mod models;
+mod names;
 mod nets;
 mod paths;
 mod primitive;

@@ -13,7 +13,7 @@ use crate::instances::InstanceLines;
 use crate::primitive::write_udp;
 use specify_blocks::VModule;
 use text_io::{Desk, Failed, Line, OutSlot, write_whole};
-use text_parts::{Bytes, Each, Part, parts};
+use text_parts::{Bytes, Each, Part, Put, parts};
 
 /// Appends what a text of modules begins with to the Verilog text, which is bound: times are in picoseconds. After `Failed`,
 /// which comes only where a write failed, a prefix of it was appended. It takes no memory.
@@ -69,11 +69,8 @@ impl Part for Module<'_> {
     ghost text = { λ m. module_only_text m.0.now };
 
     #[tactic(auto, unfolding(crate::specs::Model::module_only_text))]
-    fn put<D: Desk>(&self, line: &mut Line, desk: &mut D, slot: OutSlot) -> Result<(), Failed> {
-        let instances = Each {
-            text: InstanceLines(self.0),
-            items: self.0.instances.as_slice(),
-        };
+    fn put<D: Desk>(&self, line: &mut Line, desk: &mut D, slot: OutSlot) -> Put {
+        let instances = Each(InstanceLines(self.0), self.0.instances.as_slice());
         parts!(
             Header(self.0),
             Declarations(self.0),

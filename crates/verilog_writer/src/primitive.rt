@@ -2,12 +2,13 @@
 ghost use Rattle.std.specs.Prelude.{IsTrue};
 ghost use Rattle.text_io.specs.declared.slots.Slot.TheVariants.{Output};
 ghost use Rattle.text_io.specs.Desk.{is_bound, HasCause, WritesText};
-ghost use Rattle.verilog_writer.specs.Primitive.{primitive_text, header_text, opening_text, port_text, output_text, input_text};
+ghost use Rattle.verilog_writer.specs.Primitive.{primitive_text, header_text, opening_text, port_text, output_text};
 
+use crate::names::NameLines;
 use crate::table::Table;
 use sqlite_items::Items;
 use text_io::{Desk, Failed, Line, OutSlot};
-use text_parts::{Bytes, Each, ItemText, Part, parts};
+use text_parts::{Bytes, Each, ItemText, Part, Put, parts};
 use udp_tables::Udp;
 
 /// Appends the text of a primitive to a slot that is bound. After `Failed`, which comes only where a write failed, a
@@ -30,7 +31,7 @@ impl Part for Opening<'_> {
     ghost text = { λ m. opening_text m.0.now };
 
     #[tactic(auto, unfolding(crate::specs::Primitive::opening_text))]
-    fn put<D: Desk>(&self, line: &mut Line, desk: &mut D, slot: OutSlot) -> Result<(), Failed> {
+    fn put<D: Desk>(&self, line: &mut Line, desk: &mut D, slot: OutSlot) -> Put {
         let (name, output) = (self.0.name.as_slice(), self.0.output.as_slice());
         line.put_pieces(desk, slot, &[b"primitive ", name, b" (", output])
     }
@@ -44,13 +45,7 @@ impl ItemText<Items<u8>> for HeaderInputs {
     ghost text = { λ _ name. port_text name };
 
     #[tactic(auto, unfolding(crate::specs::Primitive::port_text))]
-    fn put<D: Desk>(
-        &self,
-        name: &Items<u8>,
-        line: &mut Line,
-        desk: &mut D,
-        slot: OutSlot,
-    ) -> Result<(), Failed> {
+    fn put<D: Desk>(&self, name: &Items<u8>, line: &mut Line, desk: &mut D, slot: OutSlot) -> Put {
         line.put_pieces(desk, slot, &[b", ", name.as_slice()])
     }
 }
@@ -63,11 +58,8 @@ impl Part for Header<'_> {
     ghost text = { λ m. header_text m.0.now };
 
     #[tactic(auto, unfolding(crate::specs::Primitive::header_text))]
-    fn put<D: Desk>(&self, line: &mut Line, desk: &mut D, slot: OutSlot) -> Result<(), Failed> {
-        let inputs = Each {
-            text: HeaderInputs,
-            items: self.0.inputs.as_slice(),
-        };
+    fn put<D: Desk>(&self, line: &mut Line, desk: &mut D, slot: OutSlot) -> Put {
+        let inputs = Each(HeaderInputs, self.0.inputs.as_slice());
         parts!(Opening(self.0), inputs, Bytes(b");\n")).put(line, desk, slot)
     }
 }
@@ -80,7 +72,7 @@ impl Part for OutputPort<'_> {
     ghost text = { λ m. output_text m.0.now };
 
     #[tactic(auto, unfolding(crate::specs::Primitive::output_text))]
-    fn put<D: Desk>(&self, line: &mut Line, desk: &mut D, slot: OutSlot) -> Result<(), Failed> {
+    fn put<D: Desk>(&self, line: &mut Line, desk: &mut D, slot: OutSlot) -> Put {
         let name = self.0.output.as_slice();
         if self.0.sequential {
             line.put_pieces(
@@ -94,25 +86,6 @@ impl Part for OutputPort<'_> {
     }
 }
 
-/// The declarations of inputs.
-#[derive(Drop)]
-struct InputLines;
-
-impl ItemText<Items<u8>> for InputLines {
-    ghost text = { λ _ name. input_text name };
-
-    #[tactic(auto, unfolding(crate::specs::Primitive::input_text))]
-    fn put<D: Desk>(
-        &self,
-        name: &Items<u8>,
-        line: &mut Line,
-        desk: &mut D,
-        slot: OutSlot,
-    ) -> Result<(), Failed> {
-        line.put_pieces(desk, slot, &[b"  input ", name.as_slice(), b";\n"])
-    }
-}
-
 /// A primitive.
 #[derive(Drop)]
 struct Primitive<'a>(&'a Udp);
@@ -120,13 +93,10 @@ struct Primitive<'a>(&'a Udp);
 impl Part for Primitive<'_> {
     ghost text = { λ m. primitive_text m.0.now };
 
-    #[tactic(auto, unfolding(crate::specs::Primitive::primitive_text))]
-    fn put<D: Desk>(&self, line: &mut Line, desk: &mut D, slot: OutSlot) -> Result<(), Failed> {
+    #[tactic(auto, unfolding(crate::specs::Primitive::primitive_text, crate::specs::Primitive::input_text))]
+    fn put<D: Desk>(&self, line: &mut Line, desk: &mut D, slot: OutSlot) -> Put {
         let udp = self.0;
-        let inputs = Each {
-            text: InputLines,
-            items: udp.inputs.as_slice(),
-        };
+        let inputs = Each(NameLines(b"  input "), udp.inputs.as_slice());
         parts!(Header(udp), OutputPort(udp), inputs, Table(udp)).put(line, desk, slot)
     }
 }

@@ -2,8 +2,8 @@
 ghost use Rattle.verilog_writer.specs.Primitive.{table_text, row_text, spaced_text, outcome_text};
 
 use crate::symbols::{level_text, next_text};
-use text_io::{Desk, Failed, Line, OutSlot};
-use text_parts::{Bytes, Each, ItemText, Part, parts};
+use text_io::{Desk, Line, OutSlot};
+use text_parts::{Bytes, Each, ItemText, Part, Put, parts};
 use udp_tables::{Entry, Udp, UdpRow};
 
 /// Entries, each with a space after it.
@@ -14,13 +14,7 @@ impl ItemText<Entry> for Entries {
     ghost text = { λ _ entry. spaced_text entry };
 
     #[tactic(auto, unfolding(crate::specs::Primitive::spaced_text))]
-    fn put<D: Desk>(
-        &self,
-        entry: &Entry,
-        line: &mut Line,
-        desk: &mut D,
-        slot: OutSlot,
-    ) -> Result<(), Failed> {
+    fn put<D: Desk>(&self, entry: &Entry, line: &mut Line, desk: &mut D, slot: OutSlot) -> Put {
         match *entry {
             Entry::Level(level) => line.put_pieces(desk, slot, &[level_text(level), b" "]),
             Entry::Pair(before, after) => line.put_pieces(
@@ -48,7 +42,7 @@ impl Part for Outcome<'_> {
     ghost text = { λ m. outcome_text m.sequential m.row.now };
 
     #[tactic(auto, unfolding(crate::specs::Primitive::outcome_text))]
-    fn put<D: Desk>(&self, line: &mut Line, desk: &mut D, slot: OutSlot) -> Result<(), Failed> {
+    fn put<D: Desk>(&self, line: &mut Line, desk: &mut D, slot: OutSlot) -> Put {
         let state = level_text(self.row.state);
         let next = next_text(self.row.next);
         if self.sequential {
@@ -67,18 +61,9 @@ impl ItemText<UdpRow> for Rows {
     ghost text = { λ m row. row_text m.0 row };
 
     #[tactic(auto, unfolding(crate::specs::Primitive::row_text))]
-    fn put<D: Desk>(
-        &self,
-        row: &UdpRow,
-        line: &mut Line,
-        desk: &mut D,
-        slot: OutSlot,
-    ) -> Result<(), Failed> {
+    fn put<D: Desk>(&self, row: &UdpRow, line: &mut Line, desk: &mut D, slot: OutSlot) -> Put {
         let sequential = self.0;
-        let entries = Each {
-            text: Entries,
-            items: row.inputs.as_slice(),
-        };
+        let entries = Each(Entries, row.inputs.as_slice());
         parts!(Bytes(b"    "), entries, Outcome { sequential, row }).put(line, desk, slot)
     }
 }
@@ -91,11 +76,8 @@ impl Part for Table<'_> {
     ghost text = { λ m. table_text m.0.now };
 
     #[tactic(auto, unfolding(crate::specs::Primitive::table_text))]
-    fn put<D: Desk>(&self, line: &mut Line, desk: &mut D, slot: OutSlot) -> Result<(), Failed> {
-        let rows = Each {
-            text: Rows(self.0.sequential),
-            items: self.0.rows.as_slice(),
-        };
+    fn put<D: Desk>(&self, line: &mut Line, desk: &mut D, slot: OutSlot) -> Put {
+        let rows = Each(Rows(self.0.sequential), self.0.rows.as_slice());
         let end = Bytes(b"  endtable\nendprimitive\n");
         parts!(Bytes(b"  table\n"), rows, end).put(line, desk, slot)
     }

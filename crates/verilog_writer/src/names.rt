@@ -1,0 +1,18 @@
+//! Lines of names.
+ghost use Rattle.verilog_writer.specs.Names.{name_line};
+
+use sqlite_items::Items;
+use text_io::{Desk, Line, OutSlot};
+use text_parts::{ItemText, Put};
+
+/// Declarations of names, each behind these bytes.
+#[derive(Drop)]
+pub(crate) struct NameLines<'a>(pub(crate) &'a [u8]);
+
+impl ItemText<Items<u8>> for NameLines<'_> {
+    ghost text = { λ m name. name_line m.0.now name };
+
+    fn put<D: Desk>(&self, name: &Items<u8>, line: &mut Line, desk: &mut D, slot: OutSlot) -> Put {
+        line.put_pieces(desk, slot, &[self.0, name.as_slice(), b";\n"])
+    }
+}

@@ -1,9 +1,12 @@
 -- How a scan goes on from one offset to the next.
-use Rattle.std.proofs.Common.{◌≡◌, ℕ, zero, suc, ◌+◌, ◌-◌, ◌≤◌, ◌<◌, Bool, List, [], ◌∷◌, ◌++◌, length, take, drop, get_or, Option, Some, None, refl, sym, ap, subst, ◌∙◌, arith, add-one, drop-cons, append_assoc}
+use Rattle.std.proofs.Common.{◌≡◌, ℕ, zero, suc, ◌+◌, ◌-◌, ◌≤◌, ◌<◌, Bool, List, [], ◌∷◌, ◌++◌, length, take, drop, get_or, Option, Some, None, true, refl, sym, ap, subst, ◌∙◌, arith, add-one, drop-cons, append_assoc, length-drop}
 use Rattle.std.proofs.lemmas.List.{map-append, append-nil, drop_all}
-use Rattle.token_spans.specs.Tokens.{Token, Lexis, scan, at_front, after}
+use Rattle.std.specs.List.{prefix_len}
+use Rattle.token_spans.specs.Tokens.{Token, Lexis, is_blank, scan, at_front, after}
 use Rattle.token_spans.specs.declared.span.Span.{Span}
 use Rattle.token_spans.specs.Spans.{LieInside, token_of, tokens_of, after_tokens, from_here}
+use Rattle.token_spans.proofs.Alike.{more}
+use Rattle.token_spans.proofs.Runs.{run_at}
 
 -- the bytes from an offset on: the one there, and those behind it
 cons : (text : List ℕ) (at : ℕ) → at < length text → drop at text ≡ get_or text at 0 ∷ drop (at + 1) text
@@ -114,3 +117,23 @@ module _ (l : Lexis) where
       sym (passed text more o (suc n) at h)
       ∙ sym (inside text more o (at + suc n) at (omega (arith, h)) (omega arith))
       ∙ token text spans t at at (suc n) (omega (arith, h)) (omega arith) e f z
+
+  -- behind blanks, where each is a separator
+  module _ (blank_length : (b : ℕ) (s : List ℕ) → is_blank b ≡ true → l.separator_length (b ∷ s) ≡ 1) where
+    over_run : (text : List ℕ) (spans : List Span) (t : Bool) (n at : ℕ) → prefix_len is_blank (drop at text) ≡ n →
+        from_here l text spans t (at + n) (at + n) ≡ from_here l text spans t at at
+    over_run text spans t zero at e = let z : at + 0 ≡ at = omega arith in ap (λ (m : ℕ). from_here l text spans t m m) z
+    over_run text spans t (suc n) at e =
+        let k : suc n ≤ length (drop at text) = (run_at is_blank (suc n) (drop at text) e).1 in
+        let h : at < length text = omega (arith, k, length-drop at text) in
+        let m = more (is_blank (get_or text at 0)) (prefix_len is_blank (drop (at + 1) text)) n (ap (prefix_len is_blank) (sym (cons text at h)) ∙ e) in
+        let z : at + suc n ≡ at + 1 + n = omega arith in
+        ap (λ (i : ℕ). from_here l text spans t i i) z
+        ∙ over_run text spans t n (at + 1) m.1
+        ∙ behind_separator text spans t at 1 (omega (arith, h)) (omega arith)
+        (sym (ap l.separator_length (cons text at h) ∙ blank_length (get_or text at 0) (drop (at + 1) text) m.0))
+
+    pub over_blanks : (text : List ℕ) (spans : List Span) (t : Bool) (at r : ℕ) → r ≡ at + prefix_len is_blank (drop at text) →
+        from_here l text spans t r r ≡ from_here l text spans t at at
+    over_blanks text spans t at r e =
+        ap (λ (m : ℕ). from_here l text spans t m m) e ∙ over_run text spans t (prefix_len is_blank (drop at text)) at refl

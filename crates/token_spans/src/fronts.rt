@@ -1,6 +1,6 @@
 //! What many languages have at the front of bytes.
 
-ghost use Rattle.std.specs.Prelude.{◌≡◌, ◌≤◌, length, not, ◌==◌};
+ghost use Rattle.std.specs.Prelude.{◌≡◌, ◌+◌, ◌≤◌, length, drop, not, ◌==◌};
 ghost use Rattle.std.specs.List.{prefix_len};
 ghost use Rattle.std.specs.Char.{is_ascii_digit};
 ghost use Rattle.token_spans.specs.Tokens as spec;
@@ -11,6 +11,31 @@ pub fn is_blank(byte: u8) -> bool
     ensures { result ≡ spec.is_blank byte }
 {
     matches!(byte, b' ' | b'\t' | b'\n')
+}
+
+/// How many spaces, tabs and line ends stand at the front of the bytes.
+#[inline(always)]
+fn blanks_length(bytes: &[u8]) -> usize
+    ensures value { result ≡ prefix_len spec.is_blank bytes.now }
+    ensures within { result ≤ length bytes.now }
+{
+    for (at, byte) in bytes.iter().enumerate() {
+        if !is_blank(*byte) {
+            return at;
+        }
+    }
+    bytes.len()
+}
+
+/// The offset behind the spaces, tabs and line ends that stand in a text from an offset on.
+#[inline(always)]
+pub fn behind_blanks(text: &[u8], at: usize) -> usize
+    requires { at ≤ length text.now }
+    ensures value { result ≡ at + prefix_len spec.is_blank (drop at text.now) }
+    ensures within { result ≤ length text.now }
+{
+    let (_, rest) = text.split_at(at);
+    at + blanks_length(rest)
 }
 
 /// How many bytes stand before the first line end.

@@ -6,7 +6,7 @@ mod numbers;
 mod place;
 mod span;
 
-pub use fronts::{digits_length, is_blank, line_length, name_length};
+pub use fronts::{behind_blanks, digits_length, is_blank, line_length, name_length};
 pub use numbers::{is_number, number_of};
 pub use place::place_of;
 pub use span::{Scan, Span};

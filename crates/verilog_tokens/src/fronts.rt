@@ -3,6 +3,7 @@
 ghost use Rattle.std.specs.Prelude.{◌≡◌, ◌≤◌, length, false, codes, ◌||◌, IfSome};
 ghost use Rattle.std.specs.List.{prefix_len};
 ghost use Rattle.std.specs.Char.{is_ascii_alphabetic};
+ghost use Rattle.std.specs.Str.{bytes_eq};
 ghost use Rattle.verilog_tokens.specs.Tokens as spec;
 
 use token_spans::{digits_length, is_blank, line_length, name_length};
@@ -188,13 +189,33 @@ pub fn token_length(in_table: bool, bytes: &[u8]) -> usize
     }
 }
 
+/// Whether these bytes are the word that opens a table.
+#[inline(always)]
+fn is_table(token: &[u8]) -> bool
+    ensures { result ≡ bytes_eq token.now (codes "table") }
+{
+    matches!(token, [b't', b'a', b'b', b'l', b'e'])
+}
+
+/// Whether these bytes are the word that closes a table.
+#[inline(always)]
+fn is_end_of_table(token: &[u8]) -> bool
+    ensures { result ≡ bytes_eq token.now (codes "endtable") }
+{
+    match token {
+        [b'e', b'n', b'd', word @ ..] => is_table(word),
+        _ => false,
+    }
+}
+
 /// Whether a table is open after a token.
+#[inline(always)]
 pub fn is_open_after(in_table: bool, token: &[u8]) -> bool
     ensures { result ≡ spec.is_open_after in_table token.now }
 {
-    if token == b"table".as_slice() {
+    if is_table(token) {
         true
-    } else if token == b"endtable".as_slice() {
+    } else if is_end_of_table(token) {
         false
     } else {
         in_table

@@ -1,39 +1,39 @@
 //! Verilog text to tokens.
 
-ghost use Rattle.std.specs.Prelude.{◌≡◌, ◌+◌, ◌<◌, ◌≤◌, length, true, false, IfOk, Some};
+ghost use Rattle.std.specs.Prelude.{◌≡◌, ◌<◌, ◌≤◌, length, true, false, IfOk, Some};
 ghost use Rattle.verilog_tokens.specs.Tokens.{scan_of};
 ghost use Rattle.token_spans.specs.Spans.{LieInside};
 ghost use Rattle.verilog_tokens.specs.Spans.{tokens_of, from_here};
 
 use crate::fronts::{is_open_after, separator_length, token_length};
 use std::alloc::{AllocError, Global};
-use token_spans::{Scan, Span};
+use token_spans::{Scan, Span, behind_blanks};
 
-/// The tokens that were found so far. All that stands before the offset `next` is read.
+/// Where a scan stands: all before the offset `next` is read, and maybe a table is open there.
 #[derive(Drop)]
 struct Scanner {
-    tokens: Vec<Span>,
     in_table: bool,
     next: usize,
 }
 
 impl Scanner {
-    /// Goes behind the separator or the token that stands next. False says that neither does.
+    /// Goes behind the separator or the token that stands next, and behind the blanks that follow it. False says that neither does.
+    /// The tokens that were found so far stand apart from the scanner, so that its place can stay in registers.
     #[inline(always)]
-    fn step(&mut self, text: &[u8]) -> Result<bool, AllocError>
+    fn step(&mut self, tokens: &mut Vec<Span>, text: &[u8]) -> Result<bool, AllocError>
         requires here { self.old.next < length text.now }
-        requires inside { LieInside text.now self.old.tokens.items }
-        ensures goes_on { IfOk result (λ good. good ≡ true → from_here text.now self.new.tokens.items self.new.in_table self.new.next self.new.next ≡ from_here text.now self.old.tokens.items self.old.in_table self.old.next self.old.next) }
+        requires inside { LieInside text.now tokens.old.items }
+        ensures goes_on { IfOk result (λ good. good ≡ true → from_here text.now tokens.new.items self.new.in_table self.new.next self.new.next ≡ from_here text.now tokens.old.items self.old.in_table self.old.next self.old.next) }
         ensures onwards { IfOk result (λ good. good ≡ true → self.old.next < self.new.next) }
         ensures within { IfOk result (λ good. self.new.next ≤ length text.now) }
-        ensures stops { IfOk result (λ good. good ≡ false → from_here text.now self.old.tokens.items self.old.in_table self.old.next self.old.next ≡ (tokens_of text.now self.new.tokens.items, Some self.new.next)) }
-        ensures inside { IfOk result (λ good. LieInside text.now self.new.tokens.items) }
+        ensures stops { IfOk result (λ good. good ≡ false → from_here text.now tokens.old.items self.old.in_table self.old.next self.old.next ≡ (tokens_of text.now tokens.new.items, Some self.new.next)) }
+        ensures inside { IfOk result (λ good. LieInside text.now tokens.new.items) }
     {
         let at = self.next;
         let (_, rest) = text.split_at(at);
         let skipped = separator_length(rest);
         if skipped > 0 {
-            self.next = at + skipped;
+            self.next = behind_blanks(text, at + skipped);
             return Ok(true);
         }
         let length = token_length(self.in_table, rest);
@@ -41,9 +41,9 @@ impl Scanner {
             return Ok(false);
         }
         let end = at + length;
-        self.tokens.push(Span { at, end })?;
+        tokens.push(Span { at, end })?;
         self.in_table = is_open_after(self.in_table, &rest[..length]);
-        self.next = end;
+        self.next = behind_blanks(text, end);
         Ok(true)
     }
 }
@@ -54,21 +54,21 @@ pub fn scan(alloc: Global, text: &[u8]) -> Result<Scan, AllocError>
     ensures fault { IfOk result (λ found. found.fault ≡ (scan_of text.now).1) }
     ensures inside { IfOk result (λ found. LieInside text.now found.tokens.items) }
 {
+    let mut tokens = Vec::new(alloc);
     let mut scanner = Scanner {
-        tokens: Vec::new(alloc),
         in_table: false,
         next: 0,
     };
     while scanner.next < text.len() {
-        if !scanner.step(text)? {
+        if !scanner.step(&mut tokens, text)? {
             return Ok(Scan {
-                tokens: scanner.tokens,
+                tokens,
                 fault: Some(scanner.next),
             });
         }
     }
     Ok(Scan {
-        tokens: scanner.tokens,
+        tokens,
         fault: None,
     })
 }

@@ -24,7 +24,8 @@ pub over_token : (t : Bool) (at z b : ℕ) (w r : List ℕ) → separator_length
     spelled (scan t at 0 (b ∷ w ++ r)) ≡ word_before (b ∷ w) (spelled (scan (is_name (b ∷ w)) z 0 r))
 over_token = padding.over_token lexis
 
-blank_length : (b : ℕ) (s : List ℕ) → is_blank b ≡ true → separator_length (b ∷ s) ≡ 1
+-- a blank is a separator of one byte
+pub blank_length : (b : ℕ) (s : List ℕ) → is_blank b ≡ true → separator_length (b ∷ s) ≡ 1
 blank_length b s e = rw e refl
 
 over_blank : (t : Bool) (at z b : ℕ) (r : List ℕ) → is_blank b ≡ true → spelled (scan t at 0 (b ∷ r)) ≡ spelled (scan t z 0 r)

@@ -7,6 +7,7 @@ use crate::spelling::is_name;
 use token_spans::{digits_length, is_blank, line_length, name_length};
 
 /// Whether a byte is a delimiter of one byte that begins no other.
+#[inline(always)]
 fn is_mark(byte: u8) -> bool
     ensures { result ≡ spec.is_mark byte }
 {
@@ -55,6 +56,7 @@ fn character_length(bytes: &[u8]) -> usize
 }
 
 /// How many bytes of a separator stand at the front of these: a blank or a comment.
+#[inline(always)]
 pub fn separator_length(bytes: &[u8]) -> usize
     ensures value { result ≡ spec.separator_length bytes.now }
     ensures within { result ≤ length bytes.now }
@@ -64,6 +66,8 @@ pub fn separator_length(bytes: &[u8]) -> usize
     };
     if is_blank(*first) {
         1
+    } else if *first != b'-' {
+        0
     } else if bytes.starts_with(b"--") {
         line_length(bytes)
     } else {
@@ -76,20 +80,11 @@ fn sign_length(bytes: &[u8]) -> usize
     ensures value { result ≡ spec.sign_length bytes.now }
     ensures within { result ≤ length bytes.now }
 {
-    if bytes.starts_with(b":=") {
-        2
-    } else if bytes.starts_with(b"=>") {
-        2
-    } else if bytes.starts_with(b"<=") {
-        2
-    } else if bytes.starts_with(b"/=") {
-        2
-    } else if bytes.starts_with(b":") {
-        1
-    } else if bytes.starts_with(b"=") {
-        1
-    } else {
-        0
+    match bytes {
+        [b':' | b'<' | b'/', b'=', ..] => 2,
+        [b'=', b'>', ..] => 2,
+        [b':' | b'=', ..] => 1,
+        _ => 0,
     }
 }
 
@@ -115,6 +110,7 @@ fn word_length(bytes: &[u8]) -> usize
 
 /// How many bytes of the longest token stand at the front of these, where `last` is the token before, if there is one. None where
 /// no token begins. Only an apostrophe asks whether the token before is a name.
+#[inline(always)]
 pub fn token_length(last: &[u8], bytes: &[u8]) -> usize
     ensures value { result ≡ spec.token_length (spec.is_name last.now) bytes.now }
     ensures within { result ≤ length bytes.now }

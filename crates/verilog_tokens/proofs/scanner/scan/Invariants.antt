@@ -6,8 +6,8 @@ use Rattle.verilog_tokens.proofs.scanner.scan.Given as goal
 
 abbrev pub invariant-loop-scanner : goal.invariant-loop-scanner
 invariant-loop-scanner l = record {
-  found : from_here l.text l.scanner.tokens.items l.scanner.in_table l.scanner.next l.scanner.next ≡ scan_of l.text;
-  inside : LieInside l.text l.scanner.tokens.items;
+  found : from_here l.text l.tokens.items l.scanner.in_table l.scanner.next l.scanner.next ≡ scan_of l.text;
+  inside : LieInside l.text l.tokens.items;
   within : l.scanner.next ≤ length l.text;
 }
 

@@ -1,11 +1,15 @@
-use Rattle.std.proofs.Common.{◌≡◌}
+use Rattle.std.proofs.Common.{◌≡◌, ◌-◌, ◌≤◌, length}
 use Rattle.vhdl_tokens.specs.Tokens.{is_name, scan_of}
 use Rattle.token_spans.specs.Spans.{LieInside}
 use Rattle.vhdl_tokens.specs.Spans.{from_here}
 use Rattle.vhdl_tokens.proofs.scanner.scan.Given as goal
 
-abbrev pub invariant-loop-at : goal.invariant-loop-at
-invariant-loop-at l = record {
-  found : from_here l.text l.scanner.tokens.items (is_name l.scanner.last.now) l.scanner.next l.at ≡ scan_of l.text;
-  inside : LieInside l.text l.scanner.tokens.items;
+abbrev pub invariant-loop-scanner : goal.invariant-loop-scanner
+invariant-loop-scanner l = record {
+  found : from_here l.text l.tokens.items (is_name l.scanner.last.now) l.scanner.next l.scanner.next ≡ scan_of l.text;
+  inside : LieInside l.text l.tokens.items;
+  within : l.scanner.next ≤ length l.text;
 }
+
+abbrev pub decreases-loop-scanner : goal.decreases-loop-scanner
+decreases-loop-scanner l = length l.text - l.scanner.next

@@ -1,5 +1,5 @@
 -- The faults of texts of models, in each language: the fault of a refusal at an offset, and which of two faults counts.
-use Rattle.std.specs.Prelude.{◌≡◌, ℕ}
+use Rattle.std.specs.Prelude.{ℕ}
 use Rattle.rule_readers.specs.declared.refusal.Refusal.{Refusal}
 use Rattle.rule_readers.specs.declared.refusal.Refusal.TheVariants as refusal
 use Rattle.rule_readers.specs.Texts.{Faults}

@@ -47,22 +47,25 @@ abbrev pub low_word : CheckKind → List ℕ
 low_word check_kind.Hold = codes " ps, HoldLow => "
 low_word _ = codes " ps, SetupLow => "
 
--- the call of VitalSetupHoldCheck for a check with this number
-unfoldable pub setup_hold_text : VEntity → ℕ → TimingCheck → List ℕ
-setup_hold_text e n k =
-    codes "    VitalSetupHoldCheck (Violation => x_"
+-- the call of a check that has a reference: what it begins with, and what stands behind the reference
+abbrev pub referring_text : List ℕ → VEntity → ℕ → TimingCheck → List ℕ → List ℕ
+referring_text start e n k rest =
+    start
     ++ (decimal n
     ++ (codes ", TimingData => d_"
     ++ (decimal n
     ++ (codes ", TestSignal => "
-    ++ (port_at e (test_at k k.kind).pin
-    ++ (codes ", RefSignal => "
-    ++ (port_at e (reference_at k k.kind).pin
-    ++ (high_word k.kind
+    ++ (port_at e (test_at k k.kind).pin ++ (codes ", RefSignal => " ++ (port_at e (reference_at k k.kind).pin ++ rest)))))))
+
+-- the call of VitalSetupHoldCheck for a check with this number
+unfoldable pub setup_hold_text : VEntity → ℕ → TimingCheck → List ℕ
+setup_hold_text e n k =
+    referring_text (codes "    VitalSetupHoldCheck (Violation => x_") e n k
+    (high_word k.kind
     ++ (decimal k.limit
     ++ (low_word k.kind
     ++ (decimal k.limit
-    ++ (codes " ps, CheckEnabled => " ++ (enabled_text e k.condition ++ transition_text (reference_at k k.kind).edge)))))))))))))
+    ++ (codes " ps, CheckEnabled => " ++ (enabled_text e k.condition ++ transition_text (reference_at k k.kind).edge))))))
 
 -- the word before the limit of recovery and of removal
 abbrev pub recovery_word : CheckKind → List ℕ
@@ -78,18 +81,10 @@ active_text edge.Fall = codes " ps, ActiveLow => false, CheckEnabled => "
 -- the call of VitalRecoveryRemovalCheck for a check with this number
 unfoldable pub recovery_removal_text : VEntity → ℕ → TimingCheck → List ℕ
 recovery_removal_text e n k =
-    codes "    VitalRecoveryRemovalCheck (Violation => x_"
-    ++ (decimal n
-    ++ (codes ", TimingData => d_"
-    ++ (decimal n
-    ++ (codes ", TestSignal => "
-    ++ (port_at e (test_at k k.kind).pin
-    ++ (codes ", RefSignal => "
-    ++ (port_at e (reference_at k k.kind).pin
-    ++ (recovery_word k.kind
+    referring_text (codes "    VitalRecoveryRemovalCheck (Violation => x_") e n k
+    (recovery_word k.kind
     ++ (decimal k.limit
-    ++ (active_text (test_at k k.kind).edge
-    ++ (enabled_text e k.condition ++ transition_text (reference_at k k.kind).edge)))))))))))
+    ++ (active_text (test_at k k.kind).edge ++ (enabled_text e k.condition ++ transition_text (reference_at k k.kind).edge))))
 
 -- the word before the least width of a pulse that begins with this edge
 abbrev pub width_word : Edge → List ℕ

@@ -84,6 +84,10 @@ truth_rows_text table = numbered_texts (truth_row_text (length table.rows)) 1 ta
 unfoldable pub state_rows_text : VState → List ℕ
 state_rows_text state = numbered_texts (state_row_text (length state.table.rows)) 1 state.table.rows
 
+-- the constant of a table with this number: what it begins with, its type, and its rows
+abbrev pub constant_text : List ℕ → ℕ → List ℕ → List ℕ → List ℕ
+constant_text start n between rows = start ++ (decimal n ++ (between ++ (rows ++ codes ");\n")))
+
 -- the constant of the table of a state with this number
 unfoldable pub state_constant_text : ℕ → VState → List ℕ
 state_constant_text n state =

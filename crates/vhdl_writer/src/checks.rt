@@ -1,36 +1,36 @@
 //! Calls of timing checks. (IEEE 1076.4-2000, VitalSetupHoldCheck, VitalRecoveryRemovalCheck and VitalPeriodPulseCheck.)
 ghost use Rattle.std.specs.Prelude.{◌≡◌};
-ghost use Rattle.vhdl_writer.specs.Statements.{enabled_text, test_at, reference_at, transition_text, high_word, low_word, setup_hold_text, recovery_word, active_text, recovery_removal_text, width_word, pulse_word, period_pulse_text, check_text};
+ghost use Rattle.vhdl_writer.specs.Statements.{enabled_text, test_at, reference_at, transition_text, high_word, low_word, referring_text, setup_hold_text, recovery_word, active_text, recovery_removal_text, width_word, pulse_word, period_pulse_text, check_text};
 
 use crate::names::{Condition, port_at};
 use crate::parts::ItemText;
 use cell_machine::{CheckKind, Edge, Event};
-use text_io::{Desk, Failed, Line, OutSlot};
-use text_parts::{Bytes, Decimal, Part, parts};
+use text_io::{Desk, Line, OutSlot};
+use text_parts::{Bytes, Decimal, Part, Put, parts};
 use udp_tables::TimingCheck;
 use vital_models::VEntity;
 
-/// When a check counts.
+/// When a check of an entity counts.
 #[derive(Drop)]
-struct Enabled<'a> {
-    entity: &'a VEntity,
-    condition: Option<usize>,
-}
+struct Enabled<'a>(&'a VEntity, Option<usize>);
 
 impl Part for Enabled<'_> {
-    ghost text = { λ m. enabled_text m.entity.now m.condition };
+    ghost text = { λ m. enabled_text m.0.now m.1 };
 
     #[tactic(auto, unfolding(crate::specs::Statements::one_text))]
-    fn put<D: Desk>(&self, line: &mut Line, desk: &mut D, slot: OutSlot) -> Result<(), Failed> {
-        let entity = self.entity;
-        match self.condition {
+    fn put<D: Desk>(&self, line: &mut Line, desk: &mut D, slot: OutSlot) -> Put {
+        match self.1 {
             Some(number) => {
+                let entity = self.0;
                 parts!(Condition { entity, number }, Bytes(b" = '1'")).put(line, desk, slot)
             }
             None => line.put(desk, slot, b"true"),
         }
     }
 }
+
+/// A check of an entity, with its number.
+type Call<'a> = (&'a VEntity, usize, &'a TimingCheck);
 
 /// The event of the test signal: of setup and hold the data, of recovery and removal the control.
 fn test_of(check: &TimingCheck) -> Event
@@ -82,42 +82,53 @@ fn low_word(kind: CheckKind) -> &'static [u8]
     }
 }
 
-/// The call of VitalSetupHoldCheck for a check with this number.
+/// The call of a check that has a reference: what it begins with, and what stands behind the reference.
 #[derive(Drop)]
-struct SetupHold<'a> {
-    entity: &'a VEntity,
-    number: usize,
-    check: &'a TimingCheck,
-}
+struct Referring<'a, P>(&'a [u8], Call<'a>, P);
 
-impl Part for SetupHold<'_> {
-    ghost text = { λ m. setup_hold_text m.entity.now m.number m.check.now };
+impl<P: Part> Part for Referring<'_, P> {
+    ghost text = { λ m. referring_text m.0.now m.1.0.now m.1.1 m.1.2.now (P.text m.2) };
 
-    fn put<D: Desk>(&self, line: &mut Line, desk: &mut D, slot: OutSlot) -> Result<(), Failed> {
-        let test = test_of(self.check);
-        let reference = reference_of(self.check);
-        let enabled = Enabled {
-            entity: self.entity,
-            condition: self.check.condition,
-        };
+    fn put<D: Desk>(&self, line: &mut Line, desk: &mut D, slot: OutSlot) -> Put {
+        let (entity, number, check) = self.1;
+        let test = test_of(check);
+        let reference = reference_of(check);
         parts!(
-            Bytes(b"    VitalSetupHoldCheck (Violation => x_"),
-            Decimal(self.number as u128),
+            Bytes(self.0),
+            Decimal(number as u128),
             Bytes(b", TimingData => d_"),
-            Decimal(self.number as u128),
+            Decimal(number as u128),
             Bytes(b", TestSignal => "),
-            Bytes(port_at(self.entity, test.pin)),
+            Bytes(port_at(entity, test.pin)),
             Bytes(b", RefSignal => "),
-            Bytes(port_at(self.entity, reference.pin)),
-            Bytes(high_word(self.check.kind)),
-            Decimal(self.check.limit as u128),
-            Bytes(low_word(self.check.kind)),
-            Decimal(self.check.limit as u128),
-            Bytes(b" ps, CheckEnabled => "),
-            enabled,
-            Bytes(transition_text(reference.edge))
+            Bytes(port_at(entity, reference.pin)),
+            &self.2
         )
         .put(line, desk, slot)
+    }
+}
+
+/// The call of VitalSetupHoldCheck for a check.
+#[derive(Drop)]
+struct SetupHold<'a>(Call<'a>);
+
+impl Part for SetupHold<'_> {
+    ghost text = { λ m. setup_hold_text m.0.0.now m.0.1 m.0.2.now };
+
+    fn put<D: Desk>(&self, line: &mut Line, desk: &mut D, slot: OutSlot) -> Put {
+        let (entity, _, check) = self.0;
+        let reference = reference_of(check);
+        let limits = parts!(
+            Bytes(high_word(check.kind)),
+            Decimal(check.limit as u128),
+            Bytes(low_word(check.kind)),
+            Decimal(check.limit as u128),
+            Bytes(b" ps, CheckEnabled => "),
+            Enabled(entity, check.condition),
+            Bytes(transition_text(reference.edge))
+        );
+        let start = b"    VitalSetupHoldCheck (Violation => x_";
+        Referring(start, self.0, limits).put(line, desk, slot)
     }
 }
 
@@ -141,40 +152,26 @@ fn active_text(edge: Edge) -> &'static [u8]
     }
 }
 
-/// The call of VitalRecoveryRemovalCheck for a check with this number.
+/// The call of VitalRecoveryRemovalCheck for a check.
 #[derive(Drop)]
-struct RecoveryRemoval<'a> {
-    entity: &'a VEntity,
-    number: usize,
-    check: &'a TimingCheck,
-}
+struct RecoveryRemoval<'a>(Call<'a>);
 
 impl Part for RecoveryRemoval<'_> {
-    ghost text = { λ m. recovery_removal_text m.entity.now m.number m.check.now };
+    ghost text = { λ m. recovery_removal_text m.0.0.now m.0.1 m.0.2.now };
 
-    fn put<D: Desk>(&self, line: &mut Line, desk: &mut D, slot: OutSlot) -> Result<(), Failed> {
-        let test = test_of(self.check);
-        let reference = reference_of(self.check);
-        let enabled = Enabled {
-            entity: self.entity,
-            condition: self.check.condition,
-        };
-        parts!(
-            Bytes(b"    VitalRecoveryRemovalCheck (Violation => x_"),
-            Decimal(self.number as u128),
-            Bytes(b", TimingData => d_"),
-            Decimal(self.number as u128),
-            Bytes(b", TestSignal => "),
-            Bytes(port_at(self.entity, test.pin)),
-            Bytes(b", RefSignal => "),
-            Bytes(port_at(self.entity, reference.pin)),
-            Bytes(recovery_word(self.check.kind)),
-            Decimal(self.check.limit as u128),
+    fn put<D: Desk>(&self, line: &mut Line, desk: &mut D, slot: OutSlot) -> Put {
+        let (entity, _, check) = self.0;
+        let test = test_of(check);
+        let reference = reference_of(check);
+        let limit = parts!(
+            Bytes(recovery_word(check.kind)),
+            Decimal(check.limit as u128),
             Bytes(active_text(test.edge)),
-            enabled,
+            Enabled(entity, check.condition),
             Bytes(transition_text(reference.edge))
-        )
-        .put(line, desk, slot)
+        );
+        let start = b"    VitalRecoveryRemovalCheck (Violation => x_";
+        Referring(start, self.0, limit).put(line, desk, slot)
     }
 }
 
@@ -198,33 +195,26 @@ fn pulse_word(check: &TimingCheck) -> &'static [u8]
     }
 }
 
-/// The call of VitalPeriodPulseCheck for a check with this number.
+/// The call of VitalPeriodPulseCheck for a check.
 #[derive(Drop)]
-struct PeriodPulse<'a> {
-    entity: &'a VEntity,
-    number: usize,
-    check: &'a TimingCheck,
-}
+struct PeriodPulse<'a>(Call<'a>);
 
 impl Part for PeriodPulse<'_> {
-    ghost text = { λ m. period_pulse_text m.entity.now m.number m.check.now };
+    ghost text = { λ m. period_pulse_text m.0.0.now m.0.1 m.0.2.now };
 
-    fn put<D: Desk>(&self, line: &mut Line, desk: &mut D, slot: OutSlot) -> Result<(), Failed> {
-        let enabled = Enabled {
-            entity: self.entity,
-            condition: self.check.condition,
-        };
+    fn put<D: Desk>(&self, line: &mut Line, desk: &mut D, slot: OutSlot) -> Put {
+        let (entity, number, check) = self.0;
         parts!(
             Bytes(b"    VitalPeriodPulseCheck (Violation => x_"),
-            Decimal(self.number as u128),
+            Decimal(number as u128),
             Bytes(b", PeriodData => d_"),
-            Decimal(self.number as u128),
+            Decimal(number as u128),
             Bytes(b", TestSignal => "),
-            Bytes(port_at(self.entity, self.check.first.pin)),
-            Bytes(pulse_word(self.check)),
-            Decimal(self.check.limit as u128),
+            Bytes(port_at(entity, check.first.pin)),
+            Bytes(pulse_word(check)),
+            Decimal(check.limit as u128),
             Bytes(b" ps, CheckEnabled => "),
-            enabled,
+            Enabled(entity, check.condition),
             Bytes(b");\n")
         )
         .put(line, desk, slot)
@@ -246,27 +236,14 @@ impl ItemText<TimingCheck> for CheckCalls<'_> {
         line: &mut Line,
         desk: &mut D,
         slot: OutSlot,
-    ) -> Result<(), Failed> {
-        let entity = self.0;
+    ) -> Put {
+        let call = (self.0, number, check);
         match check.kind {
-            CheckKind::Setup | CheckKind::Hold => SetupHold {
-                entity,
-                number,
-                check,
+            CheckKind::Setup | CheckKind::Hold => SetupHold(call).put(line, desk, slot),
+            CheckKind::Recovery | CheckKind::Removal => {
+                RecoveryRemoval(call).put(line, desk, slot)
             }
-            .put(line, desk, slot),
-            CheckKind::Recovery | CheckKind::Removal => RecoveryRemoval {
-                entity,
-                number,
-                check,
-            }
-            .put(line, desk, slot),
-            CheckKind::Width | CheckKind::Period => PeriodPulse {
-                entity,
-                number,
-                check,
-            }
-            .put(line, desk, slot),
+            CheckKind::Width | CheckKind::Period => PeriodPulse(call).put(line, desk, slot),
         }
     }
 }

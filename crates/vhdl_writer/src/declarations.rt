@@ -4,8 +4,8 @@ ghost use Rattle.vhdl_writer.specs.Declarations.{direction_text, port_text, port
 
 use crate::names::apart;
 use crate::parts::{Each, ItemText};
-use text_io::{Desk, Failed, Line, OutSlot};
-use text_parts::{Bytes, Part, parts};
+use text_io::{Desk, Line, OutSlot};
+use text_parts::{Bytes, Part, Put, parts};
 use udp_tables::VPort;
 use vital_models::VEntity;
 
@@ -35,7 +35,7 @@ impl ItemText<VPort> for ListedPorts {
         line: &mut Line,
         desk: &mut D,
         slot: OutSlot,
-    ) -> Result<(), Failed> {
+    ) -> Put {
         parts!(
             Bytes(apart(b"; ", number)),
             Bytes(item.name.as_slice()),
@@ -53,14 +53,11 @@ impl Part for Ports<'_> {
     ghost text = { λ m. ports_text m.0.now };
 
     #[tactic(auto, unfolding(crate::specs::Declarations::some_ports_text))]
-    fn put<D: Desk>(&self, line: &mut Line, desk: &mut D, slot: OutSlot) -> Result<(), Failed> {
+    fn put<D: Desk>(&self, line: &mut Line, desk: &mut D, slot: OutSlot) -> Put {
         if self.0.is_empty() {
             line.put(desk, slot, b"")
         } else {
-            let ports = Each {
-                text: ListedPorts,
-                items: self.0,
-            };
+            let ports = Each(ListedPorts, self.0);
             parts!(Bytes(b"  port ("), ports, Bytes(b");\n")).put(line, desk, slot)
         }
     }
@@ -74,7 +71,7 @@ impl Part for Header<'_> {
     ghost text = { λ m. header_text m.0.now };
 
     #[tactic(auto, unfolding(crate::specs::Declarations::header_text))]
-    fn put<D: Desk>(&self, line: &mut Line, desk: &mut D, slot: OutSlot) -> Result<(), Failed> {
+    fn put<D: Desk>(&self, line: &mut Line, desk: &mut D, slot: OutSlot) -> Put {
         let name = self.0.name.as_slice();
         parts!(
             Bytes(
@@ -132,7 +129,7 @@ impl ItemText<VPort> for Signals {
         line: &mut Line,
         desk: &mut D,
         slot: OutSlot,
-    ) -> Result<(), Failed> {
+    ) -> Put {
         if item.input {
             parts!(
                 Bytes(signal_start(self.0, number)),
@@ -160,13 +157,13 @@ impl Part for Process<'_> {
     ghost text = { λ m. process_text m.0.now };
 
     #[tactic(auto, unfolding(crate::specs::Declarations::process_text))]
-    fn put<D: Desk>(&self, line: &mut Line, desk: &mut D, slot: OutSlot) -> Result<(), Failed> {
+    fn put<D: Desk>(&self, line: &mut Line, desk: &mut D, slot: OutSlot) -> Put {
         let items = self.0.ports.as_slice();
         let first = first_input(items);
         let text = Signals(first);
         parts!(
             Bytes(b"begin\n  process"),
-            Each { text, items },
+            Each(text, items),
             Bytes(signals_end(first))
         )
         .put(line, desk, slot)

@@ -14,7 +14,7 @@ use crate::states::{StateCalls, Violation};
 use crate::tables::Constants;
 use crate::variables::Variables;
 use text_io::{Desk, Failed, Line, OutSlot};
-use text_parts::{Bytes, Part, parts};
+use text_parts::{Bytes, Part, Put, parts};
 use vital_models::VEntity;
 
 /// Appends the text of an entity and of its architecture to the VHDL text, which is bound. After `Failed`, which comes only where
@@ -49,24 +49,12 @@ impl Part for Statements<'_> {
     ghost text = { λ m. statements_text m.0.now };
 
     #[tactic(auto, unfolding(crate::specs::Entity::statements_text))]
-    fn put<D: Desk>(&self, line: &mut Line, desk: &mut D, slot: OutSlot) -> Result<(), Failed> {
-        let checks = Each {
-            text: CheckCalls(self.0),
-            items: self.0.checks.as_slice(),
-        };
+    fn put<D: Desk>(&self, line: &mut Line, desk: &mut D, slot: OutSlot) -> Put {
+        let checks = Each(CheckCalls(self.0), self.0.checks.as_slice());
         let violation = Violation(self.0.checks.as_slice());
-        let states = Each {
-            text: StateCalls(self.0),
-            items: self.0.states.as_slice(),
-        };
-        let values = Each {
-            text: ValueLines(self.0),
-            items: self.0.outputs.as_slice(),
-        };
-        let outputs = Each {
-            text: OutputLines(self.0),
-            items: self.0.outputs.as_slice(),
-        };
+        let states = Each(StateCalls(self.0), self.0.states.as_slice());
+        let values = Each(ValueLines(self.0), self.0.outputs.as_slice());
+        let outputs = Each(OutputLines(self.0), self.0.outputs.as_slice());
         parts!(checks, violation, states, values, outputs).put(line, desk, slot)
     }
 }
@@ -78,7 +66,7 @@ struct Entity<'a>(&'a VEntity);
 impl Part for Entity<'_> {
     ghost text = { λ m. entity_text m.0.now };
 
-    fn put<D: Desk>(&self, line: &mut Line, desk: &mut D, slot: OutSlot) -> Result<(), Failed> {
+    fn put<D: Desk>(&self, line: &mut Line, desk: &mut D, slot: OutSlot) -> Put {
         parts!(
             Header(self.0),
             Constants(self.0),

@@ -5,8 +5,8 @@ ghost use Rattle.vhdl_writer.specs.Names.{port_at, inputs_at, list_start, violat
 
 use crate::parts::{Each, ItemText};
 use cell_machine::Source;
-use text_io::{Desk, Failed, Line, OutSlot};
-use text_parts::{Bytes, Decimal, Part, parts};
+use text_io::{Desk, Line, OutSlot};
+use text_parts::{Bytes, Decimal, Part, Put, parts};
 use vital_models::{VEntity, VState};
 
 /// The name of a port, none where there is no such port.
@@ -65,7 +65,7 @@ impl ItemText<usize> for ListedInput<'_> {
         line: &mut Line,
         desk: &mut D,
         slot: OutSlot,
-    ) -> Result<(), Failed> {
+    ) -> Put {
         parts!(Bytes(apart(b", ", number)), Bytes(port_at(self.0, *item))).put(line, desk, slot)
     }
 }
@@ -81,11 +81,8 @@ impl Part for Inputs<'_> {
     ghost text = { λ m. inputs_text m.entity.now m.inputs.now };
 
     #[tactic(auto, unfolding(crate::specs::Names::inputs_text))]
-    fn put<D: Desk>(&self, line: &mut Line, desk: &mut D, slot: OutSlot) -> Result<(), Failed> {
-        let names = Each {
-            text: ListedInput(self.entity),
-            items: self.inputs,
-        };
+    fn put<D: Desk>(&self, line: &mut Line, desk: &mut D, slot: OutSlot) -> Put {
+        let names = Each(ListedInput(self.entity), self.inputs);
         parts!(Bytes(list_start(self.inputs.len())), names, Bytes(b")")).put(line, desk, slot)
     }
 }
@@ -105,7 +102,7 @@ impl ItemText<usize> for NextInput<'_> {
         line: &mut Line,
         desk: &mut D,
         slot: OutSlot,
-    ) -> Result<(), Failed> {
+    ) -> Put {
         parts!(Bytes(b", "), Bytes(port_at(self.0, *item))).put(line, desk, slot)
     }
 }
@@ -121,14 +118,11 @@ impl Part for Columns<'_> {
     ghost text = { λ m. columns_text m.entity.now m.state.now };
 
     #[tactic(auto, unfolding(crate::specs::Names::violated_text))]
-    fn put<D: Desk>(&self, line: &mut Line, desk: &mut D, slot: OutSlot) -> Result<(), Failed> {
+    fn put<D: Desk>(&self, line: &mut Line, desk: &mut D, slot: OutSlot) -> Put {
         let entity = self.entity;
         let inputs = self.state.inputs.as_slice();
         if self.state.violation {
-            let names = Each {
-                text: NextInput(entity),
-                items: inputs,
-            };
+            let names = Each(NextInput(entity), inputs);
             parts!(Bytes(violated_start(inputs.len())), names, Bytes(b")")).put(line, desk, slot)
         } else {
             Inputs { entity, inputs }.put(line, desk, slot)
@@ -147,7 +141,7 @@ impl Part for SourceName<'_> {
     ghost text = { λ m. source_name m.entity.now m.source };
 
     #[tactic(auto, unfolding(crate::specs::Names::source_name))]
-    fn put<D: Desk>(&self, line: &mut Line, desk: &mut D, slot: OutSlot) -> Result<(), Failed> {
+    fn put<D: Desk>(&self, line: &mut Line, desk: &mut D, slot: OutSlot) -> Put {
         match self.source {
             Source::Pin(port) => Bytes(port_at(self.entity, port)).put(line, desk, slot),
             Source::State(state) => {
@@ -172,7 +166,7 @@ impl ItemText<Source> for ListedSource<'_> {
         line: &mut Line,
         desk: &mut D,
         slot: OutSlot,
-    ) -> Result<(), Failed> {
+    ) -> Put {
         let name = SourceName {
             entity: self.0,
             source: *item,
@@ -192,11 +186,8 @@ impl Part for Sources<'_> {
     ghost text = { λ m. sources_text m.entity.now m.sources.now };
 
     #[tactic(auto, unfolding(crate::specs::Names::sources_text))]
-    fn put<D: Desk>(&self, line: &mut Line, desk: &mut D, slot: OutSlot) -> Result<(), Failed> {
-        let names = Each {
-            text: ListedSource(self.entity),
-            items: self.sources,
-        };
+    fn put<D: Desk>(&self, line: &mut Line, desk: &mut D, slot: OutSlot) -> Put {
+        let names = Each(ListedSource(self.entity), self.sources);
         parts!(Bytes(list_start(self.sources.len())), names, Bytes(b")")).put(line, desk, slot)
     }
 }
@@ -212,7 +203,7 @@ impl Part for Condition<'_> {
     ghost text = { λ m. condition_text m.entity.now m.number };
 
     #[tactic(auto, unfolding(crate::specs::Names::condition_text))]
-    fn put<D: Desk>(&self, line: &mut Line, desk: &mut D, slot: OutSlot) -> Result<(), Failed> {
+    fn put<D: Desk>(&self, line: &mut Line, desk: &mut D, slot: OutSlot) -> Put {
         let inputs = Inputs {
             entity: self.entity,
             inputs: inputs_at(self.entity, self.number),

@@ -5,8 +5,8 @@ use crate::names::{Condition, Sources, apart, port_at};
 use crate::parts::{Each, ItemText};
 use crate::tables::table_number;
 use cell_machine::Source;
-use text_io::{Desk, Failed, Line, OutSlot};
-use text_parts::{Bytes, Decimal, Part, parts};
+use text_io::{Desk, Line, OutSlot};
+use text_parts::{Bytes, Decimal, Part, Put, parts};
 use vital_models::{HGate, HPath, OutValue, VEntity, VOutput};
 
 /// The look-up of the table of the output with this number.
@@ -20,7 +20,7 @@ struct Lookup<'a> {
 impl Part for Lookup<'_> {
     ghost text = { λ m. lookup_text m.entity.now m.number m.sources.now };
 
-    fn put<D: Desk>(&self, line: &mut Line, desk: &mut D, slot: OutSlot) -> Result<(), Failed> {
+    fn put<D: Desk>(&self, line: &mut Line, desk: &mut D, slot: OutSlot) -> Put {
         let sources = Sources {
             entity: self.entity,
             sources: self.sources,
@@ -47,7 +47,7 @@ struct Value<'a> {
 impl Part for Value<'_> {
     ghost text = { λ m. assigned_text m.entity.now m.number m.value.now };
 
-    fn put<D: Desk>(&self, line: &mut Line, desk: &mut D, slot: OutSlot) -> Result<(), Failed> {
+    fn put<D: Desk>(&self, line: &mut Line, desk: &mut D, slot: OutSlot) -> Put {
         match self.value {
             OutValue::Constant(true) => line.put(desk, slot, b"'1'"),
             OutValue::Constant(false) => line.put(desk, slot, b"'0'"),
@@ -76,7 +76,7 @@ impl ItemText<VOutput> for ValueLines<'_> {
         line: &mut Line,
         desk: &mut D,
         slot: OutSlot,
-    ) -> Result<(), Failed> {
+    ) -> Put {
         let value = Value {
             entity: self.0,
             number,
@@ -108,7 +108,7 @@ impl ItemText<usize> for Zeros<'_> {
         line: &mut Line,
         desk: &mut D,
         slot: OutSlot,
-    ) -> Result<(), Failed> {
+    ) -> Put {
         let condition = Condition {
             entity: self.0,
             number: *item,
@@ -128,7 +128,7 @@ impl Part for Gate<'_> {
     ghost text = { λ m. gate_text m.entity.now m.gate.now };
 
     #[tactic(auto, unfolding(crate::specs::Outputs::not_zero_text, crate::specs::Outputs::all_zero_text))]
-    fn put<D: Desk>(&self, line: &mut Line, desk: &mut D, slot: OutSlot) -> Result<(), Failed> {
+    fn put<D: Desk>(&self, line: &mut Line, desk: &mut D, slot: OutSlot) -> Put {
         let entity = self.entity;
         match self.gate {
             HGate::Always => line.put(desk, slot, b"true"),
@@ -136,11 +136,9 @@ impl Part for Gate<'_> {
                 let number = *number;
                 parts!(Condition { entity, number }, Bytes(b" /= '0'")).put(line, desk, slot)
             }
-            HGate::AllZero(conditions) => Each {
-                text: Zeros(entity),
-                items: conditions.as_slice(),
-            }
-            .put(line, desk, slot),
+            HGate::AllZero(conditions) => Each(Zeros(entity), conditions.as_slice()).put(
+                line, desk, slot,
+            ),
         }
     }
 }
@@ -159,7 +157,7 @@ impl ItemText<HPath> for Paths<'_> {
         line: &mut Line,
         desk: &mut D,
         slot: OutSlot,
-    ) -> Result<(), Failed> {
+    ) -> Put {
         let gate = Gate {
             entity: self.0,
             gate: &item.gate,
@@ -192,12 +190,9 @@ struct PathCall<'a> {
 impl Part for PathCall<'_> {
     ghost text = { λ m. paths_text m.entity.now m.number m.output.now };
 
-    fn put<D: Desk>(&self, line: &mut Line, desk: &mut D, slot: OutSlot) -> Result<(), Failed> {
+    fn put<D: Desk>(&self, line: &mut Line, desk: &mut D, slot: OutSlot) -> Put {
         let port = port_at(self.entity, self.output.port);
-        let paths = Each {
-            text: Paths(self.entity),
-            items: self.output.paths.as_slice(),
-        };
+        let paths = Each(Paths(self.entity), self.output.paths.as_slice());
         parts!(
             Bytes(b"    VitalPathDelay01 (OutSignal => "),
             Bytes(port),
@@ -230,7 +225,7 @@ impl ItemText<VOutput> for OutputLines<'_> {
         line: &mut Line,
         desk: &mut D,
         slot: OutSlot,
-    ) -> Result<(), Failed> {
+    ) -> Put {
         let entity = self.0;
         if output.paths.as_slice().is_empty() {
             parts!(

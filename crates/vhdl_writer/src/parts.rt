@@ -6,8 +6,8 @@ ghost use Rattle.text_io.specs.Desk.{is_bound, HasCause};
 ghost use Rattle.text_io.specs.Line.{PutsText};
 ghost use Rattle.vhdl_writer.specs.Joined.{numbered_texts};
 
-use text_io::{Desk, Failed, Line, OutSlot};
-use text_parts::Part;
+use text_io::{Desk, Line, OutSlot};
+use text_parts::{Part, Put};
 
 /// What the items of a list are as text, where each has a number.
 pub(crate) trait ItemText<T> {
@@ -23,25 +23,22 @@ pub(crate) trait ItemText<T> {
         line: &mut Line,
         desk: &mut D,
         slot: OutSlot,
-    ) -> Result<(), Failed>
+    ) -> Put
         requires { IsTrue (is_bound (D.state desk.old) (Output slot)) }
         ensures text { PutsText (D.state desk.old) (D.state desk.new) slot line.old (text self.now number item.now) line.new result }
         ensures cause { HasCause (D.faults desk.old) (D.faults desk.new) result };
 }
 
-/// The items of a list, numbered from 1.
+/// What each item of a list is as text, and the items, numbered from 1.
 #[derive(Drop)]
-pub(crate) struct Each<'a, M, T> {
-    pub(crate) text: M,
-    pub(crate) items: &'a [T],
-}
+pub(crate) struct Each<'a, M, T>(pub(crate) M, pub(crate) &'a [T]);
 
 impl<M: ItemText<T>, T> Part for Each<'_, M, T> {
-    ghost text = { λ e. numbered_texts (M.text e.text) 1 e.items.now };
+    ghost text = { λ e. numbered_texts (M.text e.0) 1 e.1.now };
 
-    fn put<D: Desk>(&self, line: &mut Line, desk: &mut D, slot: OutSlot) -> Result<(), Failed> {
-        for (index, item) in self.items.iter().enumerate() {
-            self.text.put(index + 1, item, line, desk, slot)?;
+    fn put<D: Desk>(&self, line: &mut Line, desk: &mut D, slot: OutSlot) -> Put {
+        for (index, item) in self.1.iter().enumerate() {
+            self.0.put(index + 1, item, line, desk, slot)?;
         }
         Ok(())
     }

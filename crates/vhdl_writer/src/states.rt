@@ -3,8 +3,8 @@ ghost use Rattle.vhdl_writer.specs.Statements.{report_text, reports_text, violat
 
 use crate::names::{Columns, apart};
 use crate::parts::{Each, ItemText};
-use text_io::{Desk, Failed, Line, OutSlot};
-use text_parts::{Bytes, Decimal, Part, parts};
+use text_io::{Desk, Line, OutSlot};
+use text_parts::{Bytes, Decimal, Part, Put, parts};
 use udp_tables::TimingCheck;
 use vital_models::{VEntity, VState};
 
@@ -23,7 +23,7 @@ impl ItemText<TimingCheck> for ListedReports {
         line: &mut Line,
         desk: &mut D,
         slot: OutSlot,
-    ) -> Result<(), Failed> {
+    ) -> Put {
         parts!(
             Bytes(apart(b" or ", number)),
             Bytes(b"x_"),
@@ -41,11 +41,8 @@ impl Part for Reports<'_> {
     ghost text = { λ m. reports_text m.0.now };
 
     #[tactic(auto, unfolding(crate::specs::Statements::reports_text))]
-    fn put<D: Desk>(&self, line: &mut Line, desk: &mut D, slot: OutSlot) -> Result<(), Failed> {
-        let reports = Each {
-            text: ListedReports,
-            items: self.0,
-        };
+    fn put<D: Desk>(&self, line: &mut Line, desk: &mut D, slot: OutSlot) -> Put {
+        let reports = Each(ListedReports, self.0);
         parts!(Bytes(b"    viol := "), reports, Bytes(b";\n")).put(line, desk, slot)
     }
 }
@@ -57,7 +54,7 @@ pub(crate) struct Violation<'a>(pub(crate) &'a [TimingCheck]);
 impl Part for Violation<'_> {
     ghost text = { λ m. violation_text m.0.now };
 
-    fn put<D: Desk>(&self, line: &mut Line, desk: &mut D, slot: OutSlot) -> Result<(), Failed> {
+    fn put<D: Desk>(&self, line: &mut Line, desk: &mut D, slot: OutSlot) -> Put {
         if self.0.is_empty() {
             line.put(desk, slot, b"")
         } else {
@@ -81,7 +78,7 @@ impl ItemText<VState> for StateCalls<'_> {
         line: &mut Line,
         desk: &mut D,
         slot: OutSlot,
-    ) -> Result<(), Failed> {
+    ) -> Put {
         let columns = Columns {
             entity: self.0,
             state,

@@ -3,8 +3,8 @@ ghost use Rattle.std.specs.Prelude.{◌≡◌};
 ghost use Rattle.vhdl_writer.specs.Tables.{level_text, symbol_text, next_text, value_text, symbol_apart_text, level_apart_text};
 
 use crate::parts::ItemText;
-use text_io::{Desk, Failed, Line, OutSlot};
-use text_parts::{Bytes, Part, parts};
+use text_io::{Desk, Line, OutSlot};
+use text_parts::{Bytes, Part, Put, parts};
 use trit_cubes::Trit;
 use vital_models::{Trits, VNext, VSymbol};
 
@@ -76,7 +76,7 @@ impl ItemText<VSymbol> for SymbolsApart {
         line: &mut Line,
         desk: &mut D,
         slot: OutSlot,
-    ) -> Result<(), Failed> {
+    ) -> Put {
         parts!(Bytes(symbol_text(*item)), Bytes(b", ")).put(line, desk, slot)
     }
 }
@@ -96,7 +96,7 @@ impl ItemText<Trits> for LevelsApart {
         line: &mut Line,
         desk: &mut D,
         slot: OutSlot,
-    ) -> Result<(), Failed> {
+    ) -> Put {
         parts!(Bytes(level_text(*item)), Bytes(b", ")).put(line, desk, slot)
     }
 }

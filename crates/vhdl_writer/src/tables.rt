@@ -1,11 +1,11 @@
 //! The constants of an architecture: its tables. (IEEE 1076.4-2000, VitalTruthTableType and VitalStateTableType.)
 ghost use Rattle.std.specs.Prelude.{◌≡◌, count_by, take};
-ghost use Rattle.vhdl_writer.specs.Tables.{row_start, state_row_text, truth_row_text, truth_rows_text, state_rows_text, state_constant_text, condition_constant_text, is_looked_up, table_number, output_table_text, output_constant_text, constants_text};
+ghost use Rattle.vhdl_writer.specs.Tables.{row_start, state_row_text, truth_row_text, truth_rows_text, state_rows_text, constant_text, state_constant_text, condition_constant_text, is_looked_up, table_number, output_table_text, output_constant_text, constants_text};
 
 use crate::parts::{Each, ItemText};
 use crate::symbols::{LevelsApart, SymbolsApart, level_text, next_text, value_text};
-use text_io::{Desk, Failed, Line, OutSlot};
-use text_parts::{Bytes, Decimal, Part, parts};
+use text_io::{Desk, Line, OutSlot};
+use text_parts::{Bytes, Decimal, Part, Put, parts};
 use vital_models::{OutValue, TruthRow, TruthTable, VEntity, VOutput, VState, VStateRow, VTruth};
 
 /// What stands before the symbols of the row with this number, from 1, of so many rows.
@@ -36,11 +36,8 @@ impl ItemText<VStateRow> for StateRows {
         line: &mut Line,
         desk: &mut D,
         slot: OutSlot,
-    ) -> Result<(), Failed> {
-        let symbols = Each {
-            text: SymbolsApart,
-            items: item.inputs.as_slice(),
-        };
+    ) -> Put {
+        let symbols = Each(SymbolsApart, item.inputs.as_slice());
         parts!(
             Bytes(row_start(self.0, number)),
             symbols,
@@ -68,11 +65,8 @@ impl ItemText<TruthRow> for TruthRows {
         line: &mut Line,
         desk: &mut D,
         slot: OutSlot,
-    ) -> Result<(), Failed> {
-        let levels = Each {
-            text: LevelsApart,
-            items: item.inputs.as_slice(),
-        };
+    ) -> Put {
+        let levels = Each(LevelsApart, item.inputs.as_slice());
         parts!(
             Bytes(row_start(self.0, number)),
             levels,
@@ -91,10 +85,10 @@ impl Part for Truth<'_> {
     ghost text = { λ m. truth_rows_text m.0.now };
 
     #[tactic(auto, unfolding(crate::specs::Tables::truth_rows_text))]
-    fn put<D: Desk>(&self, line: &mut Line, desk: &mut D, slot: OutSlot) -> Result<(), Failed> {
+    fn put<D: Desk>(&self, line: &mut Line, desk: &mut D, slot: OutSlot) -> Put {
         let items = self.0.rows.as_slice();
         let text = TruthRows(items.len());
-        Each { text, items }.put(line, desk, slot)
+        Each(text, items).put(line, desk, slot)
     }
 }
 
@@ -106,10 +100,29 @@ impl Part for States<'_> {
     ghost text = { λ m. state_rows_text m.0.now };
 
     #[tactic(auto, unfolding(crate::specs::Tables::state_rows_text))]
-    fn put<D: Desk>(&self, line: &mut Line, desk: &mut D, slot: OutSlot) -> Result<(), Failed> {
+    fn put<D: Desk>(&self, line: &mut Line, desk: &mut D, slot: OutSlot) -> Put {
         let items = self.0.table.rows.as_slice();
         let text = StateRows(items.len());
-        Each { text, items }.put(line, desk, slot)
+        Each(text, items).put(line, desk, slot)
+    }
+}
+
+/// The constant of a table with this number: what it begins with, its type, and its rows.
+#[derive(Drop)]
+struct Constant<'a, P>(&'a [u8], u128, &'a [u8], P);
+
+impl<P: Part> Part for Constant<'_, P> {
+    ghost text = { λ m. constant_text m.0.now m.1 m.2.now (P.text m.3) };
+
+    fn put<D: Desk>(&self, line: &mut Line, desk: &mut D, slot: OutSlot) -> Put {
+        parts!(
+            Bytes(self.0),
+            Decimal(self.1),
+            Bytes(self.2),
+            &self.3,
+            Bytes(b");\n")
+        )
+        .put(line, desk, slot)
     }
 }
 
@@ -128,15 +141,9 @@ impl ItemText<VState> for StateConstants {
         line: &mut Line,
         desk: &mut D,
         slot: OutSlot,
-    ) -> Result<(), Failed> {
-        parts!(
-            Bytes(b"  constant k_"),
-            Decimal(number as u128),
-            Bytes(b" : VitalStateTableType := ("),
-            States(item),
-            Bytes(b");\n")
-        )
-        .put(line, desk, slot)
+    ) -> Put {
+        let between = b" : VitalStateTableType := (";
+        Constant(b"  constant k_", number as u128, between, States(item)).put(line, desk, slot)
     }
 }
 
@@ -155,15 +162,10 @@ impl ItemText<VTruth> for ConditionConstants {
         line: &mut Line,
         desk: &mut D,
         slot: OutSlot,
-    ) -> Result<(), Failed> {
-        parts!(
-            Bytes(b"  constant c_"),
-            Decimal(number as u128),
-            Bytes(b" : VitalTruthTableType := ("),
-            Truth(&item.table),
-            Bytes(b");\n")
-        )
-        .put(line, desk, slot)
+    ) -> Put {
+        let rows = Truth(&item.table);
+        let between = b" : VitalTruthTableType := (";
+        Constant(b"  constant c_", number as u128, between, rows).put(line, desk, slot)
     }
 }
 
@@ -219,15 +221,10 @@ impl Part for OutputTable<'_> {
     ghost text = { λ m. output_table_text m.entity.now m.number m.table.now };
 
     #[tactic(auto, unfolding(crate::specs::Tables::output_table_text))]
-    fn put<D: Desk>(&self, line: &mut Line, desk: &mut D, slot: OutSlot) -> Result<(), Failed> {
-        parts!(
-            Bytes(b"  constant k_"),
-            Decimal(table_number(self.entity, self.number)),
-            Bytes(b" : VitalTruthTableType := ("),
-            Truth(self.table),
-            Bytes(b");\n")
-        )
-        .put(line, desk, slot)
+    fn put<D: Desk>(&self, line: &mut Line, desk: &mut D, slot: OutSlot) -> Put {
+        let number = table_number(self.entity, self.number);
+        let between = b" : VitalTruthTableType := (";
+        Constant(b"  constant k_", number, between, Truth(self.table)).put(line, desk, slot)
     }
 }
 
@@ -245,7 +242,7 @@ impl ItemText<VOutput> for OutputConstants<'_> {
         line: &mut Line,
         desk: &mut D,
         slot: OutSlot,
-    ) -> Result<(), Failed> {
+    ) -> Put {
         match &item.value {
             OutValue::Constant(_) => line.put(desk, slot, b""),
             OutValue::Table { table, .. } => OutputTable {
@@ -266,19 +263,10 @@ impl Part for Constants<'_> {
     ghost text = { λ m. constants_text m.0.now };
 
     #[tactic(auto, unfolding(crate::specs::Tables::constants_text))]
-    fn put<D: Desk>(&self, line: &mut Line, desk: &mut D, slot: OutSlot) -> Result<(), Failed> {
-        let states = Each {
-            text: StateConstants,
-            items: self.0.states.as_slice(),
-        };
-        let conditions = Each {
-            text: ConditionConstants,
-            items: self.0.conditions.as_slice(),
-        };
-        let outputs = Each {
-            text: OutputConstants(self.0),
-            items: self.0.outputs.as_slice(),
-        };
+    fn put<D: Desk>(&self, line: &mut Line, desk: &mut D, slot: OutSlot) -> Put {
+        let states = Each(StateConstants, self.0.states.as_slice());
+        let conditions = Each(ConditionConstants, self.0.conditions.as_slice());
+        let outputs = Each(OutputConstants(self.0), self.0.outputs.as_slice());
         parts!(states, conditions, outputs).put(line, desk, slot)
     }
 }

@@ -4,8 +4,8 @@ ghost use Rattle.vhdl_writer.specs.Declarations.{data_text, check_variables_text
 
 use crate::parts::{Each, ItemText};
 use cell_machine::CheckKind;
-use text_io::{Desk, Failed, Line, OutSlot};
-use text_parts::{Bytes, Decimal, Part, parts};
+use text_io::{Desk, Line, OutSlot};
+use text_parts::{Bytes, Decimal, Part, Put, parts};
 use udp_tables::TimingCheck;
 use vital_models::{VEntity, VOutput, VState, VStateRow};
 
@@ -38,7 +38,7 @@ impl ItemText<TimingCheck> for CheckVariables {
         line: &mut Line,
         desk: &mut D,
         slot: OutSlot,
-    ) -> Result<(), Failed> {
+    ) -> Put {
         parts!(
             Bytes(b"    variable x_"),
             Decimal(number as u128),
@@ -86,7 +86,7 @@ impl ItemText<VState> for StateVariables {
         line: &mut Line,
         desk: &mut D,
         slot: OutSlot,
-    ) -> Result<(), Failed> {
+    ) -> Put {
         parts!(
             Bytes(b"    variable s_"),
             Decimal(number as u128),
@@ -108,7 +108,7 @@ impl Part for GlitchData {
     ghost text = { λ m. glitch_data_text m.0 };
 
     #[tactic(auto, unfolding(crate::specs::Declarations::glitch_data_text))]
-    fn put<D: Desk>(&self, line: &mut Line, desk: &mut D, slot: OutSlot) -> Result<(), Failed> {
+    fn put<D: Desk>(&self, line: &mut Line, desk: &mut D, slot: OutSlot) -> Put {
         parts!(
             Bytes(b"    variable g_"),
             Decimal(self.0 as u128),
@@ -128,7 +128,7 @@ struct Glitch<'a> {
 impl Part for Glitch<'_> {
     ghost text = { λ m. glitch_text m.number m.output.now };
 
-    fn put<D: Desk>(&self, line: &mut Line, desk: &mut D, slot: OutSlot) -> Result<(), Failed> {
+    fn put<D: Desk>(&self, line: &mut Line, desk: &mut D, slot: OutSlot) -> Put {
         if self.output.paths.as_slice().is_empty() {
             line.put(desk, slot, b"")
         } else {
@@ -152,7 +152,7 @@ impl ItemText<VOutput> for OutputVariables {
         line: &mut Line,
         desk: &mut D,
         slot: OutSlot,
-    ) -> Result<(), Failed> {
+    ) -> Put {
         let glitch = Glitch {
             number,
             output: item,
@@ -175,20 +175,11 @@ impl Part for Variables<'_> {
     ghost text = { λ m. variables_text m.0.now };
 
     #[tactic(auto, unfolding(crate::specs::Declarations::variables_text))]
-    fn put<D: Desk>(&self, line: &mut Line, desk: &mut D, slot: OutSlot) -> Result<(), Failed> {
-        let checks = Each {
-            text: CheckVariables,
-            items: self.0.checks.as_slice(),
-        };
+    fn put<D: Desk>(&self, line: &mut Line, desk: &mut D, slot: OutSlot) -> Put {
+        let checks = Each(CheckVariables, self.0.checks.as_slice());
         let violation = Bytes(violation_variable(self.0.checks.as_slice()));
-        let states = Each {
-            text: StateVariables,
-            items: self.0.states.as_slice(),
-        };
-        let outputs = Each {
-            text: OutputVariables,
-            items: self.0.outputs.as_slice(),
-        };
+        let states = Each(StateVariables, self.0.states.as_slice());
+        let outputs = Each(OutputVariables, self.0.outputs.as_slice());
         parts!(checks, violation, states, outputs).put(line, desk, slot)
     }
 }

@@ -3,4 +3,9 @@ use Rattle.vhdl_writer.proofs.checks.RecoveryRemovalPart.put.Goals as goal
 
 pub returns-clause-text : goal.returns-clause-text
 unfolding recovery_removal_text
-returns-clause-text g c = rw (← c.test_of-test.ensures) (rw (← c.reference_of-reference.ensures) (rw (← c.port_at.ensures) (rw (← c.port_at-2.ensures) (rw (← c.recovery_word.ensures) (rw (← c.active_text.ensures) (rw (← c.transition_text.ensures) c.put.ensures.text))))))
+returns-clause-text g c =
+    let transition = rw c.transition_text.ensures at c.put.ensures.text in
+    let reference = rw c.reference_of-reference.ensures at transition in
+    let active = rw c.active_text.ensures at reference in
+    let test = rw c.test_of-test.ensures at active in
+    rw (← c.recovery_word.ensures) test

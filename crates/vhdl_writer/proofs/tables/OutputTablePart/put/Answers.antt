@@ -3,4 +3,4 @@ use Rattle.vhdl_writer.proofs.tables.OutputTablePart.put.Goals as goal
 
 pub returns-clause-text : goal.returns-clause-text
 unfolding output_table_text
-returns-clause-text g c = rw (← c.table_number.ensures) c.put.ensures.text
+returns-clause-text g c = rw (← c.table_number-number.ensures) c.put.ensures.text

@@ -1,4 +1,6 @@
+pub mod SameTokens
 pub mod Words
 pub mod Entries
+pub mod Levels
 pub mod NewNames
 pub mod NearNames

@@ -1,5 +1,8 @@
 //! How Verilog spells names and words. (IEEE 1364-2005, 3.7.)
 
+ghost use Rattle.std.specs.Prelude.{◌≡◌, [], ◌∷◌};
+ghost use Rattle.std.specs.Str.{bytes_eq};
+
 use rule_readers::Language;
 use verilog_tokens::is_name;
 
@@ -20,6 +23,30 @@ impl Language for Verilog {
 
     #[inline(always)]
     fn is_same(token: &[u8], word: &[u8]) -> bool {
-        token == word
+        is_same(token, word)
+    }
+}
+
+/// Whether a token is this word. What a known word of one byte takes is one comparison of lengths and one of bytes, and no call.
+#[inline(always)]
+#[tactic(auto, using(crate::proofs::SameTokens::unlike))]
+fn is_same(token: &[u8], word: &[u8]) -> bool
+    ensures { result ≡ bytes_eq token.now word.now }
+{
+    match word {
+        [byte] => is_byte(token, *byte),
+        _ => token.len() == word.len() && token == word,
+    }
+}
+
+/// Whether a token is this byte alone.
+#[inline(always)]
+#[tactic(auto, using(crate::proofs::SameTokens::no_byte, crate::proofs::SameTokens::same_byte, crate::proofs::SameTokens::more_bytes))]
+fn is_byte(token: &[u8], byte: u8) -> bool
+    ensures { result ≡ bytes_eq token.now (byte ∷ []) }
+{
+    match token {
+        [other] => *other == byte,
+        _ => false,
     }
 }

@@ -27,6 +27,9 @@ const MOST_INPUTS: usize = 10;
 /// How many inputs a primitive with a state may have.
 const MOST_INPUTS_WITH_STATE: usize = 9;
 
+/// For how many rows a table has room at first.
+const SOME_ROWS: usize = 8;
+
 /// The output and the inputs of a primitive's header.
 #[derive(Debug, Drop)]
 pub struct Header {
@@ -203,7 +206,7 @@ fn first_row(
 ) -> Result<Items<UdpRow>, Stop>
     ensures { Reads (read (spec.next_row sequential inputs [] first.now) cursor.old) result cursor.new }
 {
-    let mut rows = Items::new(alloc);
+    let mut rows = Items::from_vec(Vec::with_capacity(alloc, SOME_ROWS)?);
     rows.push(row(cursor, alloc, sequential, inputs, first)?)?;
     Ok(rows)
 }

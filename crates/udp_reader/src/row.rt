@@ -7,7 +7,7 @@ ghost use Rattle.udp_tables.specs.VerilogPrimitives as spec;
 ghost use Rattle.rule_readers.specs.Reading.{Reads};
 
 use crate::language::Verilog;
-use rule_readers::{Cursor, Refusal, Stop};
+use rule_readers::{Cursor, Language, Refusal, Stop};
 use sqlite_items::Items;
 use std::alloc::Global;
 use udp_tables::{Entry, Level, Next, UdpRow};
@@ -94,7 +94,7 @@ fn next(sequential: bool, token: &[u8]) -> Option<Next>
 fn begins_change(token: &[u8]) -> bool
     ensures { result ≡ spec.begins_change token.now }
 {
-    change(token).is_some() || token == b"(".as_slice()
+    change(token).is_some() || Verilog::is_same(token, b"(")
 }
 
 /// Whether a token begins an entry.
@@ -137,25 +137,21 @@ fn begins_second_change(entries: &[Entry], token: &[u8]) -> bool
 }
 
 /// A level.
+#[tactic(auto, using(rule_readers::proofs::Values::valued_found))]
 fn a_level(cursor: &mut Cursor<'_, Verilog>) -> Result<Level, Stop>
     ensures { Reads (read spec.a_level cursor.old) result cursor.new }
 {
-    let Some(level) = level(cursor.bytes()) else {
-        return Err(Stop::Refused(Refusal::Syntax));
-    };
-    cursor.skip();
-    Ok(level)
+    let found = level(cursor.bytes());
+    cursor.value(found)
 }
 
 /// What a row gives as an output.
+#[tactic(auto, using(rule_readers::proofs::Values::valued_found))]
 fn an_output(cursor: &mut Cursor<'_, Verilog>, sequential: bool) -> Result<Next, Stop>
     ensures { Reads (read (valued (spec.symbol (spec.next_by sequential))) cursor.old) result cursor.new }
 {
-    let Some(next) = next(sequential, cursor.bytes()) else {
-        return Err(Stop::Refused(Refusal::Syntax));
-    };
-    cursor.skip();
-    Ok(next)
+    let found = next(sequential, cursor.bytes());
+    cursor.value(found)
 }
 
 /// A change from a level to another, behind its bracket.
@@ -194,7 +190,7 @@ fn first_entry(
     Ok(entries)
 }
 
-/// The entries of a row behind these.
+/// The entries of a row behind these. A level, as most of them are, is told by one look at its token.
 #[tactic(auto, unfolding(udp_tables::specs::VerilogPrimitives::more_entries, udp_tables::specs::VerilogPrimitives::next_entry), using(rule_readers::proofs::Repeats::turn, crate::proofs::Entries::no_entry, crate::proofs::Entries::second_change, crate::proofs::Entries::one_entry))]
 fn more_entries(
     cursor: &mut Cursor<'_, Verilog>,
@@ -205,6 +201,11 @@ fn more_entries(
 {
     for _turn in 0..cursor.left() {
         let token = cursor.bytes();
+        if let Some(level) = level(token) {
+            cursor.skip();
+            entries.push(Entry::Level(level))?;
+            continue;
+        }
         if !begins_entry(sequential, token) {
             break;
         }

@@ -4,8 +4,9 @@ ghost use Rattle.std.specs.Prelude.{◌≡◌, [], ◌∷◌, ◌++◌, false, m
 ghost use Rattle.std.specs.List.{list_any};
 ghost use Rattle.std.specs.Str.{bytes_eq};
 
+use crate::language::Verilog;
 use bool_functions::Names;
-use rule_readers::Stop;
+use rule_readers::{Language, Stop};
 use std::alloc::Global;
 use std::marker::Model;
 
@@ -35,7 +36,7 @@ fn is_one(names: &[&[u8]], name: &[u8]) -> bool
     ensures { result ≡ list_any (bytes_eq name.now) (map (λ other. other.now) names.now) }
 {
     for other in names {
-        if name == *other {
+        if Verilog::is_same(name, other) {
             return true;
         }
     }

@@ -1,5 +1,5 @@
 -- One step of a cursor.
-use Rattle.std.proofs.Common.{◌≡◌, ℕ, zero, suc, ◌+◌, ◌≤◌, ◌==◌, true, false, List, [], ◌∷◌, ◌++◌, reverse, length, drop, Option, Some, None, Result, Ok, Err, IfSome, refl, sym, ap, subst, ◌∙◌, arith, length-append}
+use Rattle.std.proofs.Common.{◌≡◌, ℕ, zero, suc, ◌+◌, ◌≤◌, ◌==◌, Bool, true, false, List, [], ◌∷◌, ◌++◌, reverse, length, drop, Option, Some, None, Result, Ok, Err, IfSome, refl, sym, ap, subst, ◌∙◌, arith, length-append}
 use Rattle.std.proofs.lemmas.List.{append-nil}
 use Rattle.std.specs.Option.{option_map}
 use Rattle.text_io.specs.declared.slots.InSlot.TheVariants.{Library}
@@ -15,7 +15,7 @@ use Rattle.cell_cursor.specs.Ends.{AreFirst}
 use Rattle.cell_cursor.specs.Finish.{part_outcome, answer_at}
 use Rattle.cell_cursor.specs.Given.{HasGiven}
 use Rattle.cell_cursor.specs.Items.{items_in}
-use Rattle.cell_cursor.specs.Stands.{is_going, is_ended, is_library, NothingLeft, Goes, MayTake, Knows, Stands, Advances, Moves}
+use Rattle.cell_cursor.specs.Stands.{is_going, is_ended, is_library, NothingLeft, Goes, GoesBy, Knows, Stands, Advances, Moves}
 use Rattle.cell_cursor.specs.Taking.{Takes}
 use Rattle.cell_cursor.proofs.SeekingLemmas.{front_goes}
 use Rattle.cell_cursor.proofs.TakingLemmas.{takes_none}
@@ -65,26 +65,15 @@ pub advance_failed : (r : Result (Unit {0}) CursorFault) (f : CursorFault) (o n 
     o.part.before + (length o.part.bytes + length o.piece) + length xs ≤ o.limit + 1 → Advances r o n s t
 advance_failed r f o n s t xs e h limit_is none few most = subst (λ (v : Result (Unit {0}) CursorFault). Advances v o n s t) (sym e) (advance_fails o n s t xs f h limit_is none few most)
 
--- statements were taken
-pub advance_takes : (o m n : CellCursor) (s : DeskState) → ((bytes : List ℕ) (items : List LibraryItem) → Goes o bytes items → MayTake m bytes items) → m.limit ≡ o.limit → n.limit ≡ m.limit →
-    ((bytes : List ℕ) (items : List LibraryItem) → MayTake m bytes items → Stands n bytes items) → is_ended n.answer ≡ false → Advances (Ok tt) o n s s
-advance_takes o m n s scans limit_is limit_on takes goes = record {
+-- statements were taken, or it was seen whether a token is refused
+pub advance_takes : (found : Bool) (o m n : CellCursor) (s : DeskState) → ((bytes : List ℕ) (items : List LibraryItem) → Goes o bytes items → GoesBy found m bytes items) →
+    m.limit ≡ o.limit → n.limit ≡ m.limit →
+    ((bytes : List ℕ) (items : List LibraryItem) → GoesBy found m bytes items → Stands n bytes items) → is_ended n.answer ≡ false → Advances (Ok tt) o n s s
+advance_takes found o m n s scans limit_is limit_on takes goes = record {
   taken = [];
   takes = takes_none s;
   limit = limit_on ∙ limit_is;
   stands = λ bytes items g. subst (λ (b : List ℕ). Stands n b items) (sym (append-nil bytes)) (takes bytes items (scans bytes items g));
-  given = λ bytes items g. given_of_going o bytes [] items (omega arith) g;
-  ended = never_ended n.answer goes;
-}
-
--- it was seen whether a token is refused
-pub advance_refuses : (o m n : CellCursor) (s : DeskState) → ((bytes : List ℕ) (items : List LibraryItem) → Goes o bytes items → Goes m bytes items) → m.limit ≡ o.limit → n.limit ≡ m.limit →
-    ((bytes : List ℕ) (items : List LibraryItem) → Goes m bytes items → Stands n bytes items) → is_ended n.answer ≡ false → Advances (Ok tt) o n s s
-advance_refuses o m n s scans limit_is limit_on sees goes = record {
-  taken = [];
-  takes = takes_none s;
-  limit = limit_on ∙ limit_is;
-  stands = λ bytes items g. subst (λ (b : List ℕ). Stands n b items) (sym (append-nil bytes)) (sees bytes items (scans bytes items g));
   given = λ bytes items g. given_of_going o bytes [] items (omega arith) g;
   ended = never_ended n.answer goes;
 }

@@ -1,5 +1,5 @@
 -- What a cursor knows of the library that it reads.
-use Rattle.std.proofs.Common.{◌≡◌, ◌≢◌, ℕ, zero, suc, ◌+◌, ◌-◌, ◌<◌, ◌≤◌, nat_le, true, false, List, [], ◌∷◌, ◌++◌, reverse, length, take, Option, Some, None, Err, refl, sym, ap, subst, ◌∙◌, arith, length-append}
+use Rattle.std.proofs.Common.{◌≡◌, ◌≢◌, ℕ, zero, suc, ◌+◌, ◌-◌, ◌<◌, ◌≤◌, nat_le, Bool, true, false, List, [], ◌∷◌, ◌++◌, reverse, length, take, Option, Some, None, Err, refl, sym, ap, subst, ◌∙◌, arith, length-append}
 use Rattle.std.proofs.lemmas.Bool.Decides.{nat_tests}
 use Rattle.std.specs.Option.{option_to_list}
 use Rattle.std.proofs.lemmas.List.{append_assoc, append-nil, take_all, reverse-reverse, reverse-append}
@@ -33,7 +33,7 @@ use Rattle.cell_cursor.specs.declared.statements.Reached.{Reached}
 use Rattle.cell_cursor.specs.declared.statements.Reached.TheVariants as reached
 use Rattle.cell_cursor.specs.Reached.{Comes, is_settled}
 use Rattle.cell_cursor.specs.Scanned.{Scanned, AreScanned}
-use Rattle.cell_cursor.specs.Stands.{given_next, Keeps, Goes, MayTake, Knows, Stands}
+use Rattle.cell_cursor.specs.Stands.{given_next, Keeps, Goes, MayTake, GoesBy, Knows, Stands}
 use Rattle.cell_cursor.proofs.EndsLemmas.{refused_reads, part_items, part_answers, answer_for, never_cut, never_whole}
 use Rattle.cell_cursor.specs.Progress.{scanned_by}
 use Rattle.cell_cursor.proofs.Depths.{lexeme_kinds_behind}
@@ -414,19 +414,14 @@ refused_kept o n r f s fresh all end before bytes tokens is comes none s_is befo
     stands_refused o n f all h.0 h.1 h.2 scanned (subst (λ (ts : List Token). LieInside o.part.bytes ts) tokens_are inside) h.3
     (ap (read (rest_at o.place [])) (sym same) ∙ h.4) h.5 limit_is answer_is waits given items kept seen
 
-pub part_refused : (o n : CellCursor) (r : Reached) (f : LibraryFault) (s : List Lexeme) (fresh all : List LibraryItem) (end before : ℕ) (bytes : List ℕ) (tokens : List Token) →
+pub part_refused : (may_have_ended : Bool) (o n : CellCursor) (r : Reached) (f : LibraryFault) (s : List Lexeme) (fresh all : List LibraryItem) (end before : ℕ) (bytes : List ℕ) (tokens : List Token) →
     r ≡ reached.Refused f → Comes r o.place fresh s all end → fresh ≡ [] → s ≡ lexemes_behind before bytes tokens → before ≡ o.part.before → bytes ≡ o.part.bytes → tokens ≡ o.part.tokens →
     end ≡ o.part.before + length o.part.bytes → AreScanned o.part.bytes o.part.tokens o.part.mode → LieInside o.part.bytes tokens →
-    n.limit ≡ o.limit → n.answer ≡ Some (answer.Refused f) → n.waiting.items ≡ reverse all → (given : List ℕ) (items : List LibraryItem) → MayTake o given items → Stands n given items
-part_refused o n r f s fresh all end before bytes tokens is comes none s_is before_is bytes_are tokens_are end_is scanned inside limit_is answer_is waits given items t =
+    n.limit ≡ o.limit → n.answer ≡ Some (answer.Refused f) → n.waiting.items ≡ reverse all →
+    (given : List ℕ) (items : List LibraryItem) → GoesBy may_have_ended o given items → Stands n given items
+part_refused true o n r f s fresh all end before bytes tokens is comes none s_is before_is bytes_are tokens_are end_is scanned inside limit_is answer_is waits given items t =
     refused_kept o n r f s fresh all end before bytes tokens is comes none s_is before_is bytes_are tokens_are end_is scanned inside limit_is answer_is waits given items t.keeps t.seen
-
--- the same where no statement may have ended with the last token
-pub part_misfits : (o n : CellCursor) (r : Reached) (f : LibraryFault) (s : List Lexeme) (fresh all : List LibraryItem) (end before : ℕ) (bytes : List ℕ) (tokens : List Token) →
-    r ≡ reached.Refused f → Comes r o.place fresh s all end → fresh ≡ [] → s ≡ lexemes_behind before bytes tokens → before ≡ o.part.before → bytes ≡ o.part.bytes → tokens ≡ o.part.tokens →
-    end ≡ o.part.before + length o.part.bytes → AreScanned o.part.bytes o.part.tokens o.part.mode → LieInside o.part.bytes tokens →
-    n.limit ≡ o.limit → n.answer ≡ Some (answer.Refused f) → n.waiting.items ≡ reverse all → (given : List ℕ) (items : List LibraryItem) → Goes o given items → Stands n given items
-part_misfits o n r f s fresh all end before bytes tokens is comes none s_is before_is bytes_are tokens_are end_is scanned inside limit_is answer_is waits given items g =
+part_refused false o n r f s fresh all end before bytes tokens is comes none s_is before_is bytes_are tokens_are end_is scanned inside limit_is answer_is waits given items g =
     refused_kept o n r f s fresh all end before bytes tokens is comes none s_is before_is bytes_are tokens_are end_is scanned inside limit_is answer_is waits given items g.keeps (seen_before (scanned_by o) given items g.seen)
 
 -- a cursor that goes on stands where it stood
@@ -435,13 +430,21 @@ going_still o going no_item given items g =
     let k = taken_within o given items o.limit g.keeps o.within in
     stands_going o given items going no_item g (omega (arith, k))
 
+-- it was only to be seen whether a token is refused
+pub part_seen : (may_have_ended : Bool) (o : CellCursor) → may_have_ended ≡ false → o.answer ≡ None → o.waiting.items ≡ [] →
+    (given : List ℕ) (items : List LibraryItem) → GoesBy may_have_ended o given items → Stands o given items
+part_seen true o found going no_item given items g = absurd cc
+part_seen false o found going no_item given items g = going_still o going no_item given items g
+
 -- statements have ended
-pub part_to : (o n : CellCursor) (r : Reached) (there : Place) (s : List Lexeme) (fresh all : List LibraryItem) (end before : ℕ) (bytes : List ℕ) (tokens : List Token) →
-    r ≡ reached.To there → Comes r o.place fresh s all end → fresh ≡ [] → s ≡ lexemes_behind before bytes tokens → before ≡ o.part.before → bytes ≡ o.part.bytes → tokens ≡ o.part.tokens →
+pub part_to : (may_have_ended : Bool) (o n : CellCursor) (r : Reached) (there : Place) (s : List Lexeme) (fresh all : List LibraryItem) (end before : ℕ) (bytes : List ℕ) (tokens : List Token) →
+    may_have_ended ≡ true → r ≡ reached.To there → Comes r o.place fresh s all end → fresh ≡ [] → s ≡ lexemes_behind before bytes tokens → before ≡ o.part.before → bytes ≡ o.part.bytes → tokens ≡ o.part.tokens →
     end ≡ o.part.before + length o.part.bytes → o.answer ≡ None → AreScanned o.part.bytes o.part.tokens o.part.mode → o.part.mode ≡ Between false → LieInside o.part.bytes tokens →
     n.limit ≡ o.limit → n.answer ≡ o.answer → n.place ≡ there → n.piece ≡ o.piece → n.part.bytes ≡ [] → n.part.tokens ≡ [] → n.part.before ≡ end → n.waiting.items ≡ reverse all →
-    (given : List ℕ) (items : List LibraryItem) → MayTake o given items → Stands n given items
-part_to o n r there s fresh all end before bytes tokens is comes none s_is before_is bytes_are tokens_are end_is going scanned mode inside limit_is answer_is place_is piece_is no_bytes no_tokens at_end waits given items st =
+    (given : List ℕ) (items : List LibraryItem) → GoesBy may_have_ended o given items → Stands n given items
+part_to false o n r there s fresh all end before bytes tokens found is comes none s_is before_is bytes_are tokens_are end_is going scanned mode inside limit_is answer_is place_is piece_is no_bytes no_tokens at_end waits given items g =
+    absurd cc
+part_to true o n r there s fresh all end before bytes tokens found is comes none s_is before_is bytes_are tokens_are end_is going scanned mode inside limit_is answer_is place_is piece_is no_bytes no_tokens at_end waits given items st =
     let h : Comes (reached.To there) o.place [] s all end =
     subst (λ (l : List LibraryItem). Comes (reached.To there) o.place l s all end) none (subst (λ (v : Reached). Comes v o.place fresh s all end) is comes) in
     let same : s ≡ lexemes_behind o.part.before o.part.bytes o.part.tokens =
@@ -450,11 +453,12 @@ part_to o n r there s fresh all end before bytes tokens is comes none s_is befor
     (λ more. ap (λ (l : List Lexeme). read (rest_at o.place []) (l ++ more)) (sym same) ∙ h.1 more) limit_is answer_is place_is piece_is no_bytes no_tokens (at_end ∙ end_is) waits given items st
 
 -- a statement goes on
-pub part_waits : (o : CellCursor) (r : Reached) (s : List Lexeme) (fresh all : List LibraryItem) (end before : ℕ) (bytes : List ℕ) (tokens : List Token) →
+pub part_waits : (may_have_ended : Bool) (o : CellCursor) (r : Reached) (s : List Lexeme) (fresh all : List LibraryItem) (end before : ℕ) (bytes : List ℕ) (tokens : List Token) →
     r ≡ reached.Unfinished → Comes r o.place fresh s all end → s ≡ lexemes_behind before bytes tokens → tokens ≡ o.part.tokens →
     o.answer ≡ None → o.waiting.items ≡ [] → AreScanned o.part.bytes o.part.tokens o.part.mode →
-    (given : List ℕ) (items : List LibraryItem) → MayTake o given items → Stands o given items
-part_waits o r s fresh all end before bytes tokens is comes s_is tokens_are going no_item scanned given items t =
+    (given : List ℕ) (items : List LibraryItem) → GoesBy may_have_ended o given items → Stands o given items
+part_waits false o r s fresh all end before bytes tokens is comes s_is tokens_are going no_item scanned given items g = going_still o going no_item given items g
+part_waits true o r s fresh all end before bytes tokens is comes s_is tokens_are going no_item scanned given items t =
     let h : LastIsNotOuter o.place (lexeme_kinds s) = subst (λ (v : Reached). Comes v o.place fresh s all end) is comes in
     let same : kinds_of o.part.tokens ≡ lexeme_kinds s = ap kinds_of (sym tokens_are) ∙ sym (lexeme_kinds_behind before bytes tokens) ∙ ap lexeme_kinds (sym s_is) in
     let last : LastMayBeOuter o.place (kinds_of o.part.tokens) = t.last in

@@ -114,8 +114,8 @@ impl CellCursor {
         ensures failed { IfErr result (λ fault. fault ≡ CursorFault.Failed → Rose (D.faults desk.old) (D.faults desk.new)) }
     {
         match self.scan_on()? {
-            Scanned::MayEnd => return Ok(self.take_part()?),
-            Scanned::Misfit => return Ok(self.refuse_part()?),
+            Scanned::MayEnd => return Ok(self.take_part(true)?),
+            Scanned::Misfit => return Ok(self.take_part(false)?),
             Scanned::Name => return Ok(self.take_before_name()?),
             Scanned::All => {}
         }

@@ -6,7 +6,7 @@ ghost use Rattle.cell_cursor.specs.Finish.{part_outcome, answer_at};
 ghost use Rattle.cell_cursor.specs.Items.{items_in};
 ghost use Rattle.cell_cursor.specs.Progress.{taken_by};
 ghost use Rattle.cell_cursor.specs.declared.item.LibraryItem.{LibraryItem as Given};
-ghost use Rattle.cell_cursor.specs.Stands.{is_failed, is_ended, Goes, MayTake, Stands};
+ghost use Rattle.cell_cursor.specs.Stands.{is_failed, is_ended, Goes, GoesBy, Stands};
 
 use crate::cursor::{Answer, CellCursor};
 use crate::cut::part_behind;
@@ -22,36 +22,13 @@ use std::mem::replace;
 const MOST_KEPT: usize = 1_048_576;
 
 impl CellCursor {
-    /// Sees which token of the part is refused, if one is.
-    pub(crate) fn refuse_part(&mut self) -> Result<(), AllocError>
+    /// Sees which token of the part is refused, if one is, and else takes its statements, if the last one may have ended and they have
+    /// all ended.
+    pub(crate) fn take_part(&mut self, may_have_ended: bool) -> Result<(), AllocError>
         requires none_waits { self.old.waiting.items ≡ [] }
         requires going { self.old.answer ≡ None }
-        ensures stands { OnOk result ((bytes : List ℕ) (items : List Given) → Goes self.old bytes items → Stands self.new bytes items) }
-        ensures err { OnErr result (self.new.waiting.items ≡ []) }
-        ensures open { OnOk result (is_ended self.new.answer ≡ false) }
-        ensures limit { self.new.limit ≡ self.old.limit }
-        ensures taken { taken_by self.new ≡ taken_by self.old }
-        ensures piece { self.new.piece ≡ self.old.piece }
-        ensures never { is_failed self.old.answer ≡ false → is_failed self.new.answer ≡ false }
-    {
-        let mut items = Vec::new(self.alloc);
-        let end = self.part.before() + self.part.bytes().len();
-        let mut tokens = Cursor::behind(self.part.before(), self.part.bytes(), self.part.tokens());
-        match reach(&mut tokens, self.alloc, self.place, end, &mut items)? {
-            Reached::Refused(fault) => {
-                self.refuse(fault, items);
-                Ok(())
-            }
-            _ => Ok(()),
-        }
-    }
-
-    /// Takes the statements of the part, if they have all ended.
-    pub(crate) fn take_part(&mut self) -> Result<(), AllocError>
-        requires none_waits { self.old.waiting.items ≡ [] }
-        requires going { self.old.answer ≡ None }
-        requires mode { self.old.part.mode ≡ Between false }
-        ensures stands { OnOk result ((bytes : List ℕ) (items : List Given) → MayTake self.old bytes items → Stands self.new bytes items) }
+        requires mode { may_have_ended ≡ true → self.old.part.mode ≡ Between false }
+        ensures stands { OnOk result ((bytes : List ℕ) (items : List Given) → GoesBy may_have_ended self.old bytes items → Stands self.new bytes items) }
         ensures err { OnErr result (self.new.waiting.items ≡ []) }
         ensures open { OnOk result (is_ended self.new.answer ≡ false) }
         ensures limit { self.new.limit ≡ self.old.limit }
@@ -69,6 +46,9 @@ impl CellCursor {
                 Ok(())
             }
             Reached::To(place) => {
+                if !may_have_ended {
+                    return Ok(());
+                }
                 self.go_to(place, end, items);
                 Ok(())
             }

@@ -5,3 +5,4 @@ pub mod Outcome
 pub mod Runs
 pub mod FileSteps
 pub mod FilesRead
+pub mod Refusals

@@ -17,7 +17,7 @@ use Rattle.specify_blocks.specs.Nets.{same_net, is_sequential, is_driven, holds_
 use Rattle.verilog_tokens.specs.Tokens.{is_name}
 use Rattle.rule_readers.specs.declared.refusal.Refusal.{Refusal}
 use Rattle.rule_readers.specs.declared.refusal.Refusal.TheVariants.{Width, Undefined, Twice}
-use Rattle.rule_readers.specs.Words.{Grammar, ◌>>=◌, go_on_where, begins_by, valued}
+use Rattle.rule_readers.specs.Words.{Grammar, ◌>>=◌, go_on_where, valued}
 use Rattle.udp_tables.specs.VerilogRules.{expect, expect_where, begins, named, new_name, known, this_name, place_from}
 
 -- the port's name

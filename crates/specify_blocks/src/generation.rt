@@ -9,11 +9,11 @@ use crate::names::{add_numbered, module_name, notifier_name};
 use crate::nets::has_notifier;
 use crate::ports::verilog_ports;
 use crate::primitives::primitives_of;
-use crate::timing::paths_of;
+use crate::timing::{module_checks, paths_of};
 use cell_machine::Cell;
 use sqlite_items::Items;
 use std::alloc::{AllocError, Global};
-use udp_tables::{checks_of, conditions};
+use udp_tables::conditions;
 
 /// The Verilog module of a cell, with its primitives: one for each group, condition and output, a path for each arc, and the
 /// checks. Names that Verilog does not keep are replaced. What it answers is sound.
@@ -29,7 +29,7 @@ pub fn verilog_model(alloc: Global, cell: &Cell) -> Result<VModule, AllocError>
         udps: primitives_of(alloc, cell, &conditions)?,
         instances: instances_of(alloc, cell, &conditions)?,
         paths: paths_of(alloc, cell, &conditions)?,
-        checks: checks_of(alloc, cell.groups.len(), cell, &conditions)?,
+        checks: module_checks(alloc, cell, &conditions)?,
     })
 }
 

@@ -1,16 +1,16 @@
-//! The paths of a cell's module.
+//! The paths and the timing checks of a cell's module.
 ghost use Rattle.std.specs.Prelude.{◌≡◌, None, map, IfOk};
 ghost use Rattle.std.specs.List.{list_any};
 ghost use Rattle.cell_machine.specs.CellData.{data_of};
 ghost use Rattle.udp_tables.specs.Conditions.{conditions_of};
-ghost use Rattle.specify_blocks.specs.Generated.{wire_of, is_conditional, gate_by, path_of};
+ghost use Rattle.specify_blocks.specs.Generated.{wire_of, is_conditional, gate_by, path_of, check_of};
 
 use crate::model::{Gate, VPath};
 use bool_functions::Function;
 use cell_machine::{Arc, Cell};
 use sqlite_items::Items;
 use std::alloc::{AllocError, Global};
-use udp_tables::{condition_number, port_number};
+use udp_tables::{TimingCheck, checks_of, condition_number, port_number};
 
 /// The paths of a cell's module, where these are the cell's conditions: one for each arc, in order.
 pub(crate) fn paths_of(
@@ -26,6 +26,19 @@ pub(crate) fn paths_of(
         paths.push(path_of(cell, conditions, arc))?;
     }
     Ok(paths)
+}
+
+/// The timing checks of a cell's module, in order, where these are the cell's conditions: the wires of its states stand before
+/// theirs.
+pub(crate) fn module_checks(
+    alloc: Global,
+    cell: &Cell,
+    conditions: &[&Function],
+) -> Result<Items<TimingCheck>, AllocError>
+    requires { map (λ f. f.now) conditions.now ≡ conditions_of (data_of cell.now) }
+    ensures { IfOk result (λ checks. checks ≡ map (check_of (data_of cell.now)) cell.now.checks) }
+{
+    checks_of(alloc, cell.groups.len(), cell, conditions)
 }
 
 /// The path of an arc.

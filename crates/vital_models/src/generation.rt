@@ -9,12 +9,12 @@ ghost use Rattle.vital_models.specs.Generated.{ports_at, state_of, states_of, co
 use crate::model::{OutValue, VEntity, VOutput, VState, VTruth};
 use crate::ports::vital_ports;
 use crate::tables::{condition_table, has_violation, output_table, state_table};
-use crate::timing::paths_to;
+use crate::timing::{entity_checks, paths_to};
 use bool_functions::Function;
 use cell_machine::{Cell, OutputPin, Pin, Source};
 use sqlite_items::Items;
 use std::alloc::{AllocError, Global};
-use udp_tables::{checks_of, conditions, port_number};
+use udp_tables::{conditions, port_number};
 
 /// The most names of a cell: 64 pins, and two variables for each of 16 groups.
 const NAMES: usize = 96;
@@ -22,7 +22,6 @@ const NAMES: usize = 96;
 /// The entity of a cell, with this name: a state for each group, a truth table for each condition and for each output that
 /// depends on something, a path for each arc, and the checks. What it answers is sound. `AllocError` comes only where memory is
 /// wanting.
-#[tactic(auto, using(crate::proofs::CheckNumbers::checks_alone))]
 pub fn vital_model(alloc: Global, cell: &Cell, name: &[u8]) -> Result<VEntity, AllocError>
     ensures { IfOk result (λ entity. entity ≡ entity_of (data_of cell.now) name.now) }
 {
@@ -33,7 +32,7 @@ pub fn vital_model(alloc: Global, cell: &Cell, name: &[u8]) -> Result<VEntity, A
         states: states_of(alloc, cell)?,
         conditions: conditions_of(alloc, cell, &conditions)?,
         outputs: outputs_of(alloc, cell, &conditions)?,
-        checks: checks_of(alloc, 0, cell, &conditions)?,
+        checks: entity_checks(alloc, cell, &conditions)?,
     })
 }
 

@@ -1,16 +1,16 @@
-//! The paths of a cell's entity.
+//! The paths and the timing checks of a cell's entity.
 ghost use Rattle.std.specs.Prelude.{◌≡◌, nat_eq, map, filter, IfOk};
 ghost use Rattle.cell_machine.specs.declared.arcs.Arc.{Arc};
 ghost use Rattle.cell_machine.specs.CellData.{data_of};
 ghost use Rattle.udp_tables.specs.Conditions.{conditions_of, conditions_beside};
-ghost use Rattle.vital_models.specs.Generated.{place_of, all_zero, gate_by, path_of, paths_to};
+ghost use Rattle.vital_models.specs.Generated.{place_of, all_zero, gate_by, path_of, paths_to, check_of};
 
 use crate::model::{HGate, HPath};
 use bool_functions::Function;
 use cell_machine::{Arc, Cell};
 use sqlite_items::Items;
 use std::alloc::{AllocError, Global};
-use udp_tables::{condition_number, port_number};
+use udp_tables::{TimingCheck, checks_of, condition_number, port_number};
 
 /// The paths of a cell's entity to an output pin, where these are the cell's conditions: one for each arc that ends there.
 pub(crate) fn paths_to(
@@ -29,6 +29,18 @@ pub(crate) fn paths_to(
         }
     }
     Ok(paths)
+}
+
+/// The timing checks of a cell's entity, in order, where these are the cell's conditions.
+pub(crate) fn entity_checks(
+    alloc: Global,
+    cell: &Cell,
+    conditions: &[&Function],
+) -> Result<Items<TimingCheck>, AllocError>
+    requires { map (λ f. f.now) conditions.now ≡ conditions_of (data_of cell.now) }
+    ensures { IfOk result (λ checks. checks ≡ map (check_of (data_of cell.now)) cell.now.checks) }
+{
+    checks_of(alloc, 0, cell, conditions)
 }
 
 /// Whether an arc ends at this pin.

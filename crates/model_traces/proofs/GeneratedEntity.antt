@@ -30,7 +30,7 @@ use Rattle.cell_machine.specs.Machine.{without, machine_step, forced}
 use Rattle.cell_machine.specs.Values.{no_values}
 use Rattle.cell_machine.specs.Outputs.{output_at, condition_at, is_one, is_zero}
 use Rattle.cell_machine.specs.History.{value_before, is_event}
-use Rattle.cell_machine.specs.CellTrace.{inputs_of, condition_value as condition_of_cell, condition_holds, NamedGroup, named_groups, named_from, step_of, support_at, step_at, place_in, moved_at, same_pins}
+use Rattle.cell_machine.specs.CellTrace.{inputs_of, condition_value as condition_of_cell, condition_holds, NamedGroup, named_groups, place_in, moved_at, same_pins}
 use Rattle.cell_machine.specs.CellTrace as cell
 use Rattle.udp_tables.specs.Conditions.{condition_list, conditions_by, conditions_beside, conditions_of, condition_place}
 use Rattle.udp_tables.specs.CellPrimitives.{has_sources}
@@ -51,8 +51,9 @@ use Rattle.model_traces.specs.PortNumbers.{input_number, input_value}
 use Rattle.model_traces.specs.ProcessValues.{truth_value, condition_value, is_enabled, source_value, output_value}
 use Rattle.model_traces.specs.GatedPaths.{gate_holds, path_at, begins_at}
 use Rattle.model_traces.specs.ProcessRun.{columns}
-use Rattle.model_traces.specs.EntityFits.{FitsGroup, FitGroups, FitsCheck, FitChecks, FitOutputs, EntityFits}
+use Rattle.model_traces.specs.EntityFits.{FitsGroup, FitGroups, FitsCheck, FitsOutput, EntityFits}
 use Rattle.model_traces.proofs.PlaceLemmas.{position-from, placed, get-map, get-within, apart}
+use Rattle.model_traces.proofs.FitLemmas.{fit-made, measures-made}
 use Rattle.model_traces.proofs.PinNumbers.{number-tied, count-tied, still-values, changed-values}
 use Rattle.model_traces.proofs.CellSteps.{IsNamed, named, support-is, step-is, IsSupport, supported, place-is, check-place, arc-place, all-passes, no-sources, length-named}
 
@@ -194,10 +195,7 @@ module _ (states_step : StatesAreMachines) (outputs_resolve : OutputsResolve) (c
       let events = (and_parts (is_input_pin d.pins k.second.pin) _ second).1 in
       record {
         events = events-are k k.kind (and_parts (rules_of_cells.has_events k k.kind) _ events).0;
-        kind = refl;
-        first = λ i. record { pin = number k.first.pin i; edge = k.first.edge };
-        second = λ i. record { pin = number k.second.pin i; edge = k.second.edge };
-        limit = refl;
+        measures = measures-made d (ports_of name d.pins) (place_of d) k number;
         enabled = λ v long. enabled v k.condition (λ f at. check-place numbered d k f among (subst (λ o. Among f (condition_list o)) (sym at) (inl refl)));
       }
     where
@@ -205,10 +203,6 @@ module _ (states_step : StatesAreMachines) (outputs_resolve : OutputsResolve) (c
           → is_enabled e v (option_map (place_of d) o) ≡ condition_holds d.pins v o
       enabled v None h = refl
       enabled v (Some f) h = ap is_one (condition-is v f (h f refl))
-
-  fit-checks : (ks : List Check) → ((k : Check) → Among k ks → Among k d.checks) → FitChecks d e ks (map (check_of d) ks)
-  fit-checks [] h = tt
-  fit-checks (k ∷ ks) h = (fits-check k (h k (inl refl)), fit-checks ks (λ j among. h j (inr among)))
 
   -- the value of an output
   sources-read : (v states : List Trit) (sources : List Source)
@@ -306,21 +300,17 @@ module _ (states_step : StatesAreMachines) (outputs_resolve : OutputsResolve) (c
             ]
       ]
 
-  fit-outputs : (outputs : List OutputPin) → FitOutputs d e outputs (map (output_of d) outputs)
-  fit-outputs [] = tt
-  fit-outputs (output ∷ outputs) = (
-    record {
-      values = λ v states long many. output-value v states output;
-      paths = λ v input long. paths-same output.pin v input d.arcs (λ arc among. among);
-    },
-    fit-outputs outputs,
-  )
-
   pub entity-fits : EntityFits d e
   entity-fits =
       record {
         inputs = count-tied d.pins (ports_of name d.pins) (ports-sides name [] d.pins);
         groups = fit-groups;
-        checks = fit-checks d.checks (λ k among. among);
-        outputs = fit-outputs d.outputs;
+        checks = fit-made (FitsCheck d e) (check_of d) d.checks fits-check;
+        outputs =
+            fit-made (FitsOutput d e) (output_of d) d.outputs
+            (λ output among.
+            record {
+              values = λ v states long many. output-value v states output;
+              paths = λ v input long. paths-same output.pin v input d.arcs (λ arc among. among);
+            });
       }

@@ -29,7 +29,7 @@ use Rattle.cell_machine.specs.Machine.{without, machine_step, forced}
 use Rattle.cell_machine.specs.Values.{no_values}
 use Rattle.cell_machine.specs.Outputs.{output_at, condition_at, is_one, is_zero}
 use Rattle.cell_machine.specs.History.{value_before, is_event}
-use Rattle.cell_machine.specs.CellTrace.{inputs_of, condition_value, condition_holds, NamedGroup, named_groups, named_from, step_of, support_at, step_at, sources_at, output_value_at, place_in, moved_at, moved, violated, same_pins}
+use Rattle.cell_machine.specs.CellTrace.{inputs_of, condition_value, condition_holds, NamedGroup, named_groups, named_from, sources_at, place_in, moved_at, moved, same_pins}
 use Rattle.cell_machine.specs.CellTrace as cell
 use Rattle.udp_tables.specs.declared.cell_primitives.Part.TheVariants as part
 use Rattle.udp_tables.specs.declared.models.VPort.{VPort}
@@ -51,7 +51,7 @@ use Rattle.specify_blocks.proofs.OutputPins.{outputs_are_pins}
 use Rattle.specify_blocks.proofs.PortLemmas.{input_port}
 use Rattle.specify_blocks.proofs.PrimitiveLemmas.{group_primitive-at, condition_primitive-at}
 use Rattle.vital_models.specs.Ports.{ports_of as vital_ports}
-use Rattle.vital_models.proofs.PortFacts.{sides, ports-sides, outputs-sides, output_ports as entity_output_ports}
+use Rattle.vital_models.proofs.PortFacts.{ports-sides, outputs-sides, output_ports as entity_output_ports}
 use Rattle.vital_models.proofs.PortFacts as vital
 use Rattle.model_traces.specs.declared.turns.Turned.TheVariants as turned
 use Rattle.model_traces.specs.PortNumbers.{input_number, input_value, output_ports}
@@ -61,8 +61,9 @@ use Rattle.model_traces.specs.CheckTimes.{is_enabled}
 use Rattle.model_traces.specs.PathDelays.{is_off, is_quiet, is_active, path_at, is_between}
 use Rattle.model_traces.specs.ModuleRun.{turn_of, toggled}
 use Rattle.model_traces.specs.SequentialStates.{states_among}
-use Rattle.model_traces.specs.ModuleFits.{FitsGroup, FitGroups, FitsCheck, FitChecks, FitsOutput, FitOutputs, ModuleFits}
+use Rattle.model_traces.specs.ModuleFits.{FitsGroup, FitGroups, FitsCheck, FitsOutput, FitOutputs, ModuleFits}
 use Rattle.model_traces.proofs.PlaceLemmas.{position-from, place-of-made, place-behind, placed, get-map, get-within, set-last, apart}
+use Rattle.model_traces.proofs.FitLemmas.{fit-made, measures-made}
 use Rattle.model_traces.proofs.PinNumbers.{number-tied, count-tied, module-sides, outputs-by-sides, is_port_pin, input-pin-port, output-pin-port, same-port}
 use Rattle.model_traces.proofs.CellSteps.{IsNamed, named, support-is, step-is, IsSupport, supported, place-is, check-place, arc-place, IsOutputPin, output-pin, all-passes, no-sources}
 use Rattle.model_traces.proofs.ModuleParts.{condition-instance-at, output-instance-at, state-driver, condition-driver, output-driver, first-states, sequential-are}
@@ -229,10 +230,7 @@ module _ (parts_resolve : PartsResolve) (machines : GroupsAreMachines) (forces :
   fits-check : (k : Check) → Among k d.checks → FitsCheck d m k (check_of d k)
   fits-check k among =
       record {
-        kind = refl;
-        first = λ i. record { pin = number k.first.pin i; edge = k.first.edge };
-        second = λ i. record { pin = number k.second.pin i; edge = k.second.edge };
-        limit = refl;
+        measures = measures-made d (ports_of d.pins) (wire_of d) k number;
         enabled = λ v states long many. enabled v states k.condition (λ f e. check-place numbered d k f among (subst (λ o. Among f (condition_list o)) (sym e) (inl refl)));
       }
     where
@@ -240,10 +238,6 @@ module _ (parts_resolve : PartsResolve) (machines : GroupsAreMachines) (forces :
           → is_enabled m v states (option_map (wire_of d) o) ≡ condition_holds d.pins v o
       enabled v states None h = refl
       enabled v states (Some f) h = ap is_one (condition-net v states f (h f refl))
-
-  fit-checks : (ks : List Check) → ((k : Check) → Among k ks → Among k d.checks) → FitChecks d m ks (map (check_of d) ks)
-  fit-checks [] h = tt
-  fit-checks (k ∷ ks) h = (fits-check k (h k (inl refl)), fit-checks ks (λ j among. h j (inr among)))
 
   -- the value of an output
   output-value :
@@ -412,7 +406,7 @@ module _ (parts_resolve : PartsResolve) (machines : GroupsAreMachines) (forces :
             subst (λ instances. FitGroups d m (named_groups d) instances) (sym (sequential-are d sound))
             (fit-groups 0 (length d.pins) d.groups
             (λ i g e. let here : i ≡ 0 + i = omega arith in subst (λ n. IsNamed d n g) here (named d i g e)));
-        checks = fit-checks d.checks (λ k among. among);
+        checks = fit-made (FitsCheck d m) (check_of d) d.checks fits-check;
         outputs =
             subst (λ ps. FitOutputs d m d.outputs ps) (sym outputs-are)
             (fit-outputs 0 d.outputs (λ i o e. let here : i ≡ 0 + i = omega arith in subst (λ n. slice_get d.outputs n ≡ Some o) here e));

@@ -1,5 +1,6 @@
 pub mod RunLemmas
 pub mod TraceLemmas
+pub mod FitLemmas
 pub mod ModuleAgreement
 pub mod ProcessLemmas
 pub mod EntityAgreement

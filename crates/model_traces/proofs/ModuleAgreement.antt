@@ -1,18 +1,16 @@
 -- A module that fits a cell shows what the cell shows.
-use Rattle.std.proofs.Common.{◌≡◌, ℕ, Bool, true, false, ◌&&◌, List, [], ◌∷◌, suc, ◌<◌, length, map, replicate, set, refl, ap, ◌∙◌, Some, None, arith, if◌then◌else◌}
+use Rattle.std.proofs.Common.{◌≡◌, ℕ, Bool, true, false, ◌&&◌, List, [], ◌∷◌, ◌<◌, length, map, set, refl, ap, ◌∙◌, Some, None, arith, if◌then◌else◌}
 use Rattle.trit_cubes.specs.declared.trits.Trit.{Trit}
 use Rattle.trit_cubes.specs.declared.trits.Trit.TheVariants.{Unknown}
 use Rattle.trit_cubes.specs.Filling.{same}
 use Rattle.cell_machine.specs.declared.outputs.OutputPin.{OutputPin}
-use Rattle.cell_machine.specs.declared.checks.Edge.TheVariants as edge
 use Rattle.cell_machine.specs.declared.checks.Check.{Check}
 use Rattle.cell_machine.specs.declared.changes.Change.{Change}
 use Rattle.cell_machine.specs.CellData.{CellData}
 use Rattle.cell_machine.specs.Each.{each}
-use Rattle.cell_machine.specs.Edges.{is_rise}
 use Rattle.cell_machine.specs.Delay.{least_delay}
 use Rattle.cell_machine.specs.History.{inputs_after, value_before, is_event, IsProper, IsProperFrom}
-use Rattle.cell_machine.specs.Report.{is_period, happens, is_within, last_event, opening_by, opening, report, any_true}
+use Rattle.cell_machine.specs.Report.{happens, is_within, report, any_true}
 use Rattle.cell_machine.specs.CellTrace.{inputs_of, input_check, reports_of, NamedGroup, named_groups, moved, violated, state_step, state_after, states_after, cell_line, cell_trace}
 use Rattle.cell_machine.specs.CellTrace as cell
 use Rattle.udp_tables.specs.CellPrimitives.{has_notifier}
@@ -26,17 +24,18 @@ use Rattle.model_traces.specs.declared.module_run.ModuleRun.{ModuleRun}
 use Rattle.model_traces.specs.PortNumbers.{output_ports}
 use Rattle.model_traces.specs.NetValues.{net_value}
 use Rattle.model_traces.specs.Primitives.{next_state}
-use Rattle.model_traces.specs.CheckTimes.{same_edge, opened_by, opened, check_reports}
-use Rattle.model_traces.specs.ModuleRun.{HasEach, turn_of, toggled, entered, kept, notified, shaken, reports_at, happened, run_after, step_reports}
+use Rattle.model_traces.specs.CheckTimes.{check_reports}
+use Rattle.model_traces.specs.ModuleRun.{HasEach, turn_of, toggled, entered, kept, notified, shaken, reports_at, happened, run_after}
 use Rattle.model_traces.specs.PathDelays.{paths_between}
 use Rattle.model_traces.specs.ModuleTrace.{output_after, delay_after, reports_after, module_line, module_trace}
 use Rattle.model_traces.specs.ModuleSized.{entered-has-each, kept-has-each, notified-has-each, run-has-each}
 use Rattle.model_traces.specs.SequentialStates.{sequential_instances, states_among, sequential_states}
-use Rattle.model_traces.specs.ModuleFits.{FitGroups, FitsCheck, FitChecks, FitsOutput, FitOutputs, ModuleFits}
+use Rattle.model_traces.specs.ModuleFits.{FitsGroup, FitGroups, FitsCheck, FitsOutput, ModuleFits}
 use Rattle.model_traces.specs.Laws.{last_stamps}
 use Rattle.model_traces.specs.Agreement.{FittingModulesAgree}
-use Rattle.model_traces.proofs.RunLemmas.{run-inputs, run-stamps}
-use Rattle.model_traces.proofs.TraceLemmas.{trace-same, length-inputs, still-reports, start-reports, some-checks, picked-each, picked-replicate, length-picked}
+use Rattle.model_traces.proofs.RunLemmas.{run-inputs, run-stamps, opened-last}
+use Rattle.model_traces.proofs.FitLemmas.{fit-length, fit-map, fit-kept, fit-steps, start-states, opening-same, reports-tied, reports-after, states-step}
+use Rattle.model_traces.proofs.TraceLemmas.{trace-same, length-inputs, some-checks, picked-each, picked-replicate, length-picked}
 
 -- the register changes nothing where no check reports
 shaken-none : (m : VModule) (reports : List Bool) (r : ModuleRun) → any_true reports ≡ false → shaken m reports r ≡ r
@@ -67,67 +66,23 @@ module _ (d : CellData) (m : VModule) (fits : ModuleFits d m) where
   abbrev n : ℕ
   n = inputs_of d
 
-  -- what each list of parts makes of the parts that fit
-  outputs-map :
-      {Z : Type 0} (f : ℕ → Z) (g : OutputPin → Z)
-      → ((output : OutputPin) (p : ℕ) → FitsOutput d m output p → f p ≡ g output)
-      → (outputs : List OutputPin) (ps : List ℕ) → FitOutputs d m outputs ps → map f ps ≡ map g outputs
-  outputs-map f g same [] [] h = refl
-  outputs-map f g same [] (p ∷ ps) h = absurd h
-  outputs-map f g same (output ∷ outputs) [] h = absurd h
-  outputs-map f g same (output ∷ outputs) (p ∷ ps) h = λ i. same output p h.0 i ∷ outputs-map f g same outputs ps h.1 i
-
-  checks-length : (ks : List Check) (js : List TimingCheck) → FitChecks d m ks js → length js ≡ length ks
-  checks-length [] [] h = refl
-  checks-length [] (j ∷ js) h = absurd h
-  checks-length (k ∷ ks) [] h = absurd h
-  checks-length (k ∷ ks) (j ∷ js) h = ap suc (checks-length ks js h.1)
-
   run-is : (h : List Change) → (run_after m h).inputs ≡ inputs_after n h
   run-is h = run-inputs m h ∙ ap (λ k. inputs_after k h) fits.inputs
 
   stamps-are : (h : List Change) → (run_after m h).stamps ≡ map (last_stamps m.ports n h) m.checks
   stamps-are h = run-stamps m h ∙ ap (λ k. map (last_stamps m.ports k h) m.checks) fits.inputs
 
-  -- the time from which a check measures
-  opened-same :
-      (k : Check) (j : TimingCheck) (a : Trit) (c : Change) (h : List Change)
-      → FitsCheck d m k j
-      → opened j a c (last_stamps m.ports n h j) ≡ last_event n (opening (input_check d.pins k) a c) h
-  opened-same k j a c h f =
-      ap (λ kind. opened_by (is_period kind) a c (last_stamps m.ports n h j)) f.kind ∙ by (is_period k.kind)
-    where
-      edges : (rises : Bool) → same_edge rises (last_stamps m.ports n h j) ≡ last_event n (record { pin = (cell.input_event d.pins k.second).pin; edge = (if rises then edge.Rise else edge.Fall) }) h
-      edges true = ap (λ e. last_event n (record { pin = e.pin; edge = edge.Rise }) h) f.second
-      edges false = ap (λ e. last_event n (record { pin = e.pin; edge = edge.Fall }) h) f.second
-
-      by : (period : Bool) → opened_by period a c (last_stamps m.ports n h j) ≡ last_event n (opening_by period (input_check d.pins k) a c) h
-      by true = edges (is_rise a c.to)
-      by false = ap (λ e. last_event n e h) f.first
-
   report-same :
-      (k : Check) (j : TimingCheck) (states : List Trit) (c : Change) (h : List Change)
-      → FitsCheck d m k j → length states ≡ length m.instances
+      (states : List Trit) (c : Change) (h : List Change)
+      → length states ≡ length m.instances → (k : Check) (j : TimingCheck) → FitsCheck d m k j
       → check_reports m (inputs_after n (c ∷ h)) states (value_before (inputs_after n h) c) c j (last_stamps m.ports n h j)
       ≡ report n (input_check d.pins k) (c ∷ h)
-  report-same k j states c h f long =
+  report-same states c h long k j f =
       let a : Trit = value_before (inputs_after n h) c in
+      let opens = opened-last m.ports n h a c j ∙ opening-same d m.ports n h a c k j f.measures in
       λ i.
-      happens (f.second i) a c
-      && (f.enabled (inputs_after n (c ∷ h)) states (length-inputs n (c ∷ h)) long i
-      && is_within c.at (f.limit i) (opened-same k j a c h f i))
-
-  reports-same :
-      (states : List Trit) (c : Change) (h : List Change)
-      → length states ≡ length m.instances
-      → (ks : List Check) (js : List TimingCheck) → FitChecks d m ks js
-      → each (check_reports m (inputs_after n (c ∷ h)) states (value_before (inputs_after n h) c) c) js (map (last_stamps m.ports n h) js)
-      ≡ map (λ k. report n k (c ∷ h)) (map (input_check d.pins) ks)
-  reports-same states c h long [] [] f = refl
-  reports-same states c h long [] (j ∷ js) f = absurd f
-  reports-same states c h long (k ∷ ks) [] f = absurd f
-  reports-same states c h long (k ∷ ks) (j ∷ js) f =
-      λ i. report-same k j states c h f.0 long i ∷ reports-same states c h long ks js f.1 i
+      happens (f.measures.second i) a c
+      && (f.enabled (inputs_after n (c ∷ h)) states (length-inputs n (c ∷ h)) long i && is_within c.at (f.measures.limit i) (opens i))
 
   -- the reports at an event
   event-reports : (h : List Change) (c : Change) → reports_at m (run_after m h) c ≡ reports_of d (c ∷ h)
@@ -136,39 +91,8 @@ module _ (d : CellData) (m : VModule) (fits : ModuleFits d m) where
       let states : List Trit = (entered m r c).states in
       let long : length states ≡ length m.instances = (entered-has-each m r c (run-has-each m h)).states in
       (λ i. each (check_reports m (set (run-is h i) c.pin c.to) states (value_before (run-is h i) c) c) m.checks (stamps-are h i))
-      ∙ reports-same states c h long d.checks m.checks fits.checks
-
-  reports-tied : (h : List Change) (c : Change) → step_reports m (run_after m h) c ≡ reports_of d (c ∷ h)
-  reports-tied h c =
-      ap (λ v. if is_event v c then reports_at m (run_after m h) c else replicate (length m.checks) false) (run-is h)
-      ∙ by (is_event (inputs_after n h) c) refl
-    where
-      by :
-          (b : Bool) → is_event (inputs_after n h) c ≡ b
-          → (if b then reports_at m (run_after m h) c else replicate (length m.checks) false) ≡ reports_of d (c ∷ h)
-      by true e = event-reports h c
-      by false e = still-reports n (input_check d.pins) h c d.checks (length m.checks) e (checks-length d.checks m.checks fits.checks)
-
-  start-states :
-      (groups : List NamedGroup) (instances : List Instance)
-      → FitGroups d m groups instances → replicate (length instances) Unknown ≡ map (state_after d []) groups
-  start-states [] [] h = refl
-  start-states [] (i ∷ instances) h = absurd h
-  start-states (g ∷ groups) [] h = absurd h
-  start-states (g ∷ groups) (i ∷ instances) h = ap (λ r. Unknown ∷ r) (start-states groups instances h.1)
-
-  -- all groups at an event
-  moved-all :
-      (v : List Trit) (c : Change) (note : Trit) (was : NamedGroup → Trit)
-      → length v ≡ n → c.pin < n → is_event v c ≡ true
-      → (groups : List NamedGroup) (instances : List Instance) → FitGroups d m groups instances
-      → each (next_state m (set v c.pin c.to) note (turn_of v c)) instances (map was groups)
-      ≡ map (λ g. moved d.pins g (set v c.pin c.to) (value_before v c) c (was g)) groups
-  moved-all v c note was long inside event [] [] f = refl
-  moved-all v c note was long inside event [] (x ∷ xs) f = absurd f
-  moved-all v c note was long inside event (g ∷ gs) [] f = absurd f
-  moved-all v c note was long inside event (g ∷ gs) (x ∷ xs) f =
-      λ i. f.0.steps v c note (was g) long inside event i ∷ moved-all v c note was long inside event gs xs f.1 i
+      ∙ fit-kept (FitsCheck d m) (check_reports m (inputs_after n (c ∷ h)) states (value_before (inputs_after n h) c) c)
+      (last_stamps m.ports n h) (λ k. report n k (c ∷ h)) (input_check d.pins) (report-same states c h long) d.checks m.checks fits.checks
 
   -- all groups at a change of the register
   forced-all :
@@ -204,9 +128,12 @@ module _ (d : CellData) (m : VModule) (fits : ModuleFits d m) where
       ≡ map (λ g. moved d.pins g (inputs_after n (c ∷ h)) (value_before (inputs_after n h) c) c (state_after d h g)) (named_groups d)
   entered-tied h c inside event tied =
       let r : ModuleRun = run_after m h in
+      let v : List Trit = inputs_after n h in
       picked-each (has_state m.udps) (next_state m (set r.inputs c.pin c.to) r.notifier (turn_of r.inputs c)) m.instances r.states (run-has-each m h).states
       ∙ (λ i. each (next_state m (set (run-is h i) c.pin c.to) r.notifier (turn_of (run-is h i) c)) (sequential_instances m) (tied i))
-      ∙ moved-all (inputs_after n h) c r.notifier (state_after d h) (length-inputs n h) inside event (named_groups d)
+      ∙ fit-steps (FitsGroup d m) (next_state m (set v c.pin c.to) r.notifier (turn_of v c)) (state_after d h)
+      (λ g. moved d.pins g (set v c.pin c.to) (value_before v c) c (state_after d h g))
+      (λ g i f. f.steps v c r.notifier (state_after d h g) (length-inputs n h) inside event) (named_groups d)
       (sequential_instances m) fits.groups
 
   happened-tied :
@@ -239,18 +166,11 @@ module _ (d : CellData) (m : VModule) (fits : ModuleFits d m) where
   pub states-tied : (h : List Change) → IsProper n h → sequential_states m (run_after m h) ≡ states_after d h
   states-tied [] proper =
       picked-replicate (has_state m.udps) m.instances Unknown
-      ∙ start-states (named_groups d) (sequential_instances m) fits.groups
+      ∙ start-states d (FitsGroup d m) (named_groups d) (sequential_instances m) fits.groups
   states-tied (c ∷ h) proper =
-      ap (λ v. sequential_states m (if is_event v c then happened m (run_after m h) c else run_after m h)) (run-is h)
-      ∙ by (is_event (inputs_after n h) c) refl (states-tied h proper.2)
-    where
-      by :
-          (b : Bool) → is_event (inputs_after n h) c ≡ b
-          → sequential_states m (run_after m h) ≡ states_after d h
-          → sequential_states m (if b then happened m (run_after m h) c else run_after m h)
-          ≡ map (λ g. if b then state_step (any_true (reports_of d (c ∷ h))) d.pins g (inputs_after n (c ∷ h)) (value_before (inputs_after n h) c) c (state_after d h g) else state_after d h g) (named_groups d)
-      by true e tied = happened-tied h c proper.0 e tied
-      by false e tied = tied
+      let tied = states-tied h proper.2 in
+      states-step d h c (run_after m h).inputs (sequential_states m) (happened m (run_after m h) c) (run_after m h) (run-is h)
+      (λ event. happened-tied h c proper.0 event tied) tied
 
   output-tied :
       (h : List Change) → IsProper n h → (output : OutputPin) (p : ℕ) → FitsOutput d m output p
@@ -274,20 +194,20 @@ module _ (d : CellData) (m : VModule) (fits : ModuleFits d m) where
       ∙ f.paths (inputs_after n (c ∷ h)) r.states c.pin (length-inputs n (c ∷ h)) (run-has-each m (c ∷ h)).states in
       λ i. if same (was i) (now i) then None else Some (least_delay (was i) (now i) (paths i))
 
+  reports-line : (h : List Change) → reports_after m h ≡ reports_of d h
+  reports-line =
+      let long = fit-length (FitsCheck d m) d.checks m.checks fits.checks in
+      reports-after d (reports_after m) (length m.checks) refl long
+      (λ c h. reports-tied d h c (run_after m h).inputs (reports_at m (run_after m h) c) (length m.checks) (run-is h) (event-reports h c) long)
+
   line-tied : (h : List Change) → IsProper n h → module_line m h ≡ cell_line d h
   line-tied h proper =
       λ i.
       record {
-        values = outputs-map (output_after m h) (cell.output_after d h) (output-tied h proper) d.outputs (output_ports m.ports) fits.outputs i;
-        delays = outputs-map (delay_after m h) (cell.delay_after d h) (delay-tied h proper) d.outputs (output_ports m.ports) fits.outputs i;
+        values = fit-map (FitsOutput d m) (output_after m h) (cell.output_after d h) (output-tied h proper) d.outputs (output_ports m.ports) fits.outputs i;
+        delays = fit-map (FitsOutput d m) (delay_after m h) (cell.delay_after d h) (delay-tied h proper) d.outputs (output_ports m.ports) fits.outputs i;
         reports = reports-line h i;
       }
-    where
-      reports-line : (h : List Change) → reports_after m h ≡ reports_of d h
-      reports-line [] =
-          ap (λ k. replicate k false) (checks-length d.checks m.checks fits.checks)
-          ∙ start-reports n (input_check d.pins) d.checks
-      reports-line (c ∷ h) = reports-tied h c
 
   pub traces-agree : (cs : List Change) → IsProperFrom n [] cs → module_trace m cs ≡ cell_trace d cs
   traces-agree = trace-same n (module_line m) (cell_line d) line-tied

@@ -17,14 +17,25 @@ use Rattle.cell_machine.specs.Report.{is_period, last_event, any_true}
 use Rattle.cell_machine.proofs.EachLemmas.{each-map}
 use Rattle.udp_tables.specs.declared.models.VPort.{VPort}
 use Rattle.udp_tables.specs.declared.timing_checks.TimingCheck.{TimingCheck}
+use Rattle.vital_models.specs.declared.model.VState.{VState}
 use Rattle.vital_models.specs.declared.model.VEntity.{VEntity}
+use Rattle.vital_models.specs.LookUps.{lookup_state}
 use Rattle.vital_models.specs.Sound.{has_events}
 use Rattle.model_traces.specs.PortNumbers.{input_count, input_event}
-use Rattle.model_traces.specs.SignalTimes.{has_reference, test_event, reference_event, is_high, pulse_end, pulse_begin, period_begin, no_times_by, no_times, timed, signal_event, later_event, earlier_time}
+use Rattle.model_traces.specs.CheckEvents.{second_of, opening_event}
+use Rattle.model_traces.specs.SignalTimes.{SignalTimes, has_reference, test_event, reference_event, is_high, pulse_end, edge_time, no_times_by, no_times, timed, later_event, earlier_time}
 use Rattle.model_traces.specs.SignalTimes as signal_times
-use Rattle.model_traces.specs.ProcessRun.{ProcessRun, all_columns, reports_at, violation_by, happened, process_after}
-use Rattle.model_traces.specs.ProcessLaws.{last_times_by, last_times, opening_event, ProcessHoldsInputs, ProcessKeepsLastEvents, ProcessKeepsColumns, LaterEventIsSecond, EarlierTimeIsFirst}
+use Rattle.model_traces.specs.ProcessRun.{ProcessRun, all_columns, looked_up, reports_at, violation_by, happened, process_after}
+use Rattle.model_traces.specs.ProcessLaws.{last_times_by, last_times, ProcessHoldsInputs, ProcessKeepsLastEvents, ProcessKeepsColumns, LaterEventIsSecond, EarlierTimeIsFirst}
 use Rattle.model_traces.proofs.RunLemmas.{still-inputs, still-event}
+
+-- the tables are looked up one by one
+pub looked-each :
+    (f g : VState → List Trit) (ts : List VState) (ss : List Trit)
+    → looked_up ts (map f ts) (map g ts) ss ≡ each (λ (t : VState) s. lookup_state t.table.rows (f t) (g t) s) ts ss
+looked-each f g [] ss = refl
+looked-each f g (t ∷ ts) [] = refl
+looked-each f g (t ∷ ts) (s ∷ ss) = ap (λ r. lookup_state t.table.rows (f t) (g t) s ∷ r) (looked-each f g ts ss)
 
 inputs-step :
     (e : VEntity) (r : ProcessRun) (v : List Trit) (c : Change) (b : Bool)
@@ -60,8 +71,8 @@ still-times ports n h c k none =
     elim (has_reference k.kind) as (λ b. last_times_by b ports n h k ≡ last_times_by b ports n (c ∷ h) k) [
       | true ↦ λ i. signal_times.Pair (still-event n (input_event ports (test_event k.kind k)) h c none i)
           (still-event n (input_event ports (reference_event k.kind k)) h c none i)
-      | false ↦ λ i. signal_times.Edges (still-event n (input_event ports (signal_event k edge.Rise)) h c none i)
-          (still-event n (input_event ports (signal_event k edge.Fall)) h c none i)
+      | false ↦ λ i. signal_times.Edges (still-event n (input_event ports (second_of k edge.Rise)) h c none i)
+          (still-event n (input_event ports (second_of k edge.Fall)) h c none i)
     ]
 
 times-step :
@@ -96,22 +107,19 @@ pub process-columns : ProcessKeepsColumns
 process-columns e [] = (Unknown, refl)
 process-columns e (c ∷ h) = columns-step e (process_after e h) c (is_event (process_after e h).inputs c) (process-columns e h)
 
--- the edges of a pulse's events
-pulse-edges :
-    (first second : Event)
-    → IsTrue (are_opposite first.edge second.edge) → pulse_end (is_high first.edge) ≡ second.edge
-pulse-edges first second h = by first.edge second.edge h
-  where
-    by : (a b : Edge) → IsTrue (are_opposite a b) → pulse_end (is_high a) ≡ b
-    by edge.Any edge.Any h = absurd cc
-    by edge.Any edge.Rise h = absurd cc
-    by edge.Any edge.Fall h = absurd cc
-    by edge.Rise edge.Any h = absurd cc
-    by edge.Rise edge.Rise h = absurd cc
-    by edge.Rise edge.Fall h = refl
-    by edge.Fall edge.Any h = absurd cc
-    by edge.Fall edge.Rise h = refl
-    by edge.Fall edge.Fall h = absurd cc
+-- what holds of a rise and a fall, and of a fall and a rise, holds of opposite edges
+opposite-edges :
+    (P : Edge → Edge → Type 0) → P edge.Rise edge.Fall → P edge.Fall edge.Rise
+    → (a b : Edge) → IsTrue (are_opposite a b) → P a b
+opposite-edges P up down edge.Any edge.Any h = absurd cc
+opposite-edges P up down edge.Any edge.Rise h = absurd cc
+opposite-edges P up down edge.Any edge.Fall h = absurd cc
+opposite-edges P up down edge.Rise edge.Any h = absurd cc
+opposite-edges P up down edge.Rise edge.Rise h = absurd cc
+opposite-edges P up down edge.Rise edge.Fall h = up
+opposite-edges P up down edge.Fall edge.Any h = absurd cc
+opposite-edges P up down edge.Fall edge.Rise h = down
+opposite-edges P up down edge.Fall edge.Fall h = absurd cc
 
 any-edge : (a : Edge) → IsTrue (is_any_edge a) → edge.Any ≡ a
 any-edge edge.Any h = refl
@@ -133,7 +141,8 @@ later-by check_kind.Recovery first second limit condition h = refl
 later-by check_kind.Removal first second limit condition h = refl
 later-by check_kind.Width first second limit condition h =
     let opposite = (and_parts (nat_eq first.pin second.pin) (are_opposite first.edge second.edge) h).1 in
-    λ i. record { pin = second.pin; edge = pulse-edges first second opposite i }
+    let ends = opposite-edges (λ a b. pulse_end (is_high a) ≡ b) refl refl first.edge second.edge opposite in
+    λ i. record { pin = second.pin; edge = ends i }
 later-by check_kind.Period first second limit condition h =
     let edges = (and_parts (nat_eq first.pin second.pin) (is_any_edge first.edge && is_any_edge second.edge) h).1 in
     let last = (and_parts (is_any_edge first.edge) (is_any_edge second.edge) edges).1 in
@@ -142,35 +151,26 @@ later-by check_kind.Period first second limit condition h =
 pub later-second : LaterEventIsSecond
 later-second k h = later-by k.kind k.first k.second k.limit k.condition h
 
+-- the last possible rise and the last possible fall of the input of an event
+abbrev last_edges : List VPort → ℕ → List Change → Event → SignalTimes
+last_edges ports n h second =
+    signal_times.Edges (last_event n (input_event ports (record { pin = second.pin; edge = edge.Rise })) h)
+    (last_event n (input_event ports (record { pin = second.pin; edge = edge.Fall })) h)
+
 pulse-begun :
     (ports : List VPort) (n : ℕ) (h : List Change) (first second : Event)
     → first.pin ≡ second.pin → IsTrue (are_opposite first.edge second.edge)
-    → pulse_begin (is_high first.edge)
-    (signal_times.Edges (last_event n (input_event ports (record { pin = second.pin; edge = edge.Rise })) h) (last_event n (input_event ports (record { pin = second.pin; edge = edge.Fall })) h))
+    → edge_time (is_high first.edge) (last_edges ports n h second)
     ≡ last_event n (input_event ports first) h
 pulse-begun ports n h first second same opposite =
-    by first.edge second.edge opposite
+    opposite-edges
+    (λ a b. edge_time (is_high a) (last_edges ports n h second) ≡ last_event n (input_event ports (record { pin = second.pin; edge = a })) h)
+    refl refl first.edge second.edge opposite
     ∙ ap (λ p. last_event n (input_event ports (record { pin = p; edge = first.edge })) h) (sym same)
-  where
-    by :
-        (a b : Edge) → IsTrue (are_opposite a b)
-        → pulse_begin (is_high a)
-        (signal_times.Edges (last_event n (input_event ports (record { pin = second.pin; edge = edge.Rise })) h) (last_event n (input_event ports (record { pin = second.pin; edge = edge.Fall })) h))
-        ≡ last_event n (input_event ports (record { pin = second.pin; edge = a })) h
-    by edge.Any edge.Any h = absurd cc
-    by edge.Any edge.Rise h = absurd cc
-    by edge.Any edge.Fall h = absurd cc
-    by edge.Rise edge.Any h = absurd cc
-    by edge.Rise edge.Rise h = absurd cc
-    by edge.Rise edge.Fall h = refl
-    by edge.Fall edge.Any h = absurd cc
-    by edge.Fall edge.Rise h = refl
-    by edge.Fall edge.Fall h = absurd cc
 
 period-begun :
     (ports : List VPort) (n : ℕ) (h : List Change) (second : Event) (rises : Bool)
-    → period_begin rises
-    (signal_times.Edges (last_event n (input_event ports (record { pin = second.pin; edge = edge.Rise })) h) (last_event n (input_event ports (record { pin = second.pin; edge = edge.Fall })) h))
+    → edge_time rises (last_edges ports n h second)
     ≡ last_event n (input_event ports (record { pin = second.pin; edge = (if rises then edge.Rise else edge.Fall) })) h
 period-begun ports n h second true = refl
 period-begun ports n h second false = refl

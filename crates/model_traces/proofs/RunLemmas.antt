@@ -8,9 +8,9 @@ use Rattle.cell_machine.specs.declared.changes.Change.{Change}
 use Rattle.cell_machine.specs.declared.checks.Event.{Event}
 use Rattle.cell_machine.specs.declared.checks.Edge.{Edge}
 use Rattle.cell_machine.specs.declared.checks.Edge.TheVariants as edge
-use Rattle.cell_machine.specs.Edges.{moves}
+use Rattle.cell_machine.specs.Edges.{is_rise, moves}
 use Rattle.cell_machine.specs.History.{inputs_after, value_before, is_event}
-use Rattle.cell_machine.specs.Report.{is_event_of, last_event}
+use Rattle.cell_machine.specs.Report.{is_period, is_event_of, last_event}
 use Rattle.cell_machine.specs.Each.{each}
 use Rattle.cell_machine.proofs.EachLemmas.{each-map}
 use Rattle.udp_tables.specs.declared.models.VPort.{VPort}
@@ -18,7 +18,8 @@ use Rattle.udp_tables.specs.declared.timing_checks.TimingCheck.{TimingCheck}
 use Rattle.specify_blocks.specs.declared.model.VModule.{VModule}
 use Rattle.model_traces.specs.declared.module_run.ModuleRun.{ModuleRun}
 use Rattle.model_traces.specs.PortNumbers.{input_count, input_event}
-use Rattle.model_traces.specs.CheckTimes.{no_stamps, second_of, stamped}
+use Rattle.model_traces.specs.CheckEvents.{second_of, opening_event}
+use Rattle.model_traces.specs.CheckTimes.{no_stamps, stamped, same_edge, opened_by, opened}
 use Rattle.model_traces.specs.ModuleRun.{entered, kept, notified, shaken, reports_at, happened, run_after}
 use Rattle.model_traces.specs.Laws.{last_stamps, RunHoldsInputs, RunKeepsLastEvents}
 
@@ -95,10 +96,37 @@ still-event n e h c none =
     sym (ap (λ b. if b then Some c.at else last_event n e h)
     (no-event e (inputs_after n h) c (same-equal (value_before (inputs_after n h) c) c.to none)))
 
-start-stamps :
+pub start-stamps :
     (ports : List VPort) (n : ℕ) (checks : List TimingCheck) → replicate (length checks) no_stamps ≡ map (last_stamps ports n []) checks
 start-stamps ports n [] = refl
 start-stamps ports n (k ∷ ks) = ap (λ r. no_stamps ∷ r) (start-stamps ports n ks)
+
+pub still-stamps :
+    (ports : List VPort) (n : ℕ) (h : List Change) (c : Change) (checks : List TimingCheck)
+    → is_event (inputs_after n h) c ≡ false → map (last_stamps ports n h) checks ≡ map (last_stamps ports n (c ∷ h)) checks
+still-stamps ports n h c checks none =
+    λ i. map (λ (k : TimingCheck). record {
+      first = still-event n (input_event ports k.first) h c none i;
+      rise = still-event n (input_event ports (second_of k edge.Rise)) h c none i;
+      fall = still-event n (input_event ports (second_of k edge.Fall)) h c none i;
+    }) checks
+
+-- the time from which a check measures, by the times of the last events
+pub opened-last :
+    (ports : List VPort) (n : ℕ) (h : List Change) (a : Trit) (c : Change) (k : TimingCheck)
+    → opened k a c (last_stamps ports n h k) ≡ last_event n (input_event ports (opening_event (is_period k.kind) k a c)) h
+opened-last ports n h a c k = by (is_period k.kind)
+  where
+    edges :
+        (rises : Bool)
+        → same_edge rises (last_stamps ports n h k)
+        ≡ last_event n (input_event ports (second_of k (if rises then edge.Rise else edge.Fall))) h
+    edges true = refl
+    edges false = refl
+
+    by : (period : Bool) → opened_by period a c (last_stamps ports n h k) ≡ last_event n (input_event ports (opening_event period k a c)) h
+    by true = edges (is_rise a c.to)
+    by false = refl
 
 stamps-step :
     (m : VModule) (r : ModuleRun) (h : List Change) (c : Change) (b : Bool)
@@ -114,12 +142,7 @@ stamps-step m r h c true is kept_are e =
 stamps-step m r h c false is kept_are e =
     let n : ℕ = input_count m.ports in
     let none : is_event (inputs_after n h) c ≡ false = ap (λ xs. is_event xs c) (sym is) ∙ e in
-    kept_are
-    ∙ (λ i. map (λ (k : TimingCheck). record {
-      first = still-event n (input_event m.ports k.first) h c none i;
-      rise = still-event n (input_event m.ports (second_of k edge.Rise)) h c none i;
-      fall = still-event n (input_event m.ports (second_of k edge.Fall)) h c none i;
-    }) m.checks)
+    kept_are ∙ still-stamps m.ports n h c m.checks none
 
 pub run-stamps : RunKeepsLastEvents
 run-stamps m [] = start-stamps m.ports (input_count m.ports) m.checks

@@ -2,9 +2,7 @@
 use Rattle.std.specs.Prelude.{ℕ, Bool, true, false, ◌&&◌, List, Option, Some, None}
 use Rattle.trit_cubes.specs.declared.trits.Trit.{Trit}
 use Rattle.cell_machine.specs.declared.changes.Change.{Change}
-use Rattle.cell_machine.specs.declared.checks.Edge.{Edge}
 use Rattle.cell_machine.specs.declared.checks.Edge.TheVariants as edge
-use Rattle.cell_machine.specs.declared.checks.Event.{Event}
 use Rattle.cell_machine.specs.Edges.{is_rise}
 use Rattle.cell_machine.specs.Report.{is_period, happens, is_within}
 use Rattle.cell_machine.specs.Times.{renewed}
@@ -15,15 +13,12 @@ use Rattle.udp_tables.specs.declared.timing_checks.TimingCheck.{TimingCheck}
 use Rattle.specify_blocks.specs.declared.model.VModule.{VModule}
 use Rattle.model_traces.specs.declared.stamps.Stamps.{Stamps}
 use Rattle.model_traces.specs.PortNumbers.{input_event}
+use Rattle.model_traces.specs.CheckEvents.{second_of}
 use Rattle.model_traces.specs.NetValues.{net_value}
 
 -- before any event
 abbrev pub no_stamps : Stamps
 no_stamps = record { first = None; rise = None; fall = None }
-
--- an event of the input of a check's second event
-abbrev pub second_of : TimingCheck → Edge → Event
-second_of k e = record { pin = k.second.pin; edge = e }
 
 -- The times that a check keeps after a change of an input that had the value a: of its last first event, and of the last
 -- possible rise and the last possible fall of its second event's input.
@@ -54,9 +49,12 @@ abbrev pub is_enabled : VModule → List Trit → List Trit → Option ℕ → B
 is_enabled m inputs states None = true
 is_enabled m inputs states (Some w) = is_one (net_value m inputs states (net.Wire w))
 
--- Whether a check reports at a change of an input that had the value a, by the inputs and states after it and the times kept
--- before it: the change is its second event, its condition lets it count, and the kept time lies less than the limit before.
+-- Whether a check reports at a change of an input that had the value a, by which conditions let their checks count and by the times
+-- kept before: the change is its second event, its condition lets it count, and the kept time lies less than the limit before.
+abbrev pub reports_where : List VPort → (Option ℕ → Bool) → Trit → Change → TimingCheck → Stamps → Bool
+reports_where ports counts a c k s =
+    happens (input_event ports k.second) a c && (counts k.condition && is_within c.at k.limit (opened k a c s))
+
+-- the same of a check of a module, by the inputs and states after the change
 abbrev pub check_reports : VModule → List Trit → List Trit → Trit → Change → TimingCheck → Stamps → Bool
-check_reports m inputs states a c k s =
-    happens (input_event m.ports k.second) a c
-    && (is_enabled m inputs states k.condition && is_within c.at k.limit (opened k a c s))
+check_reports m inputs states = reports_where m.ports (is_enabled m inputs states)

@@ -1,5 +1,5 @@
 -- When an entity fits a cell, by facts on single changes alone. Its states stand for the groups of the cell, in their order.
-use Rattle.std.specs.Prelude.{◌≡◌, ℕ, ◌<◌, true, ⊤, List, [], ◌∷◌, length, slice_set, IsTrue}
+use Rattle.std.specs.Prelude.{◌≡◌, ℕ, ◌<◌, true, List, length, slice_set, IsTrue}
 use Rattle.trit_cubes.specs.declared.trits.Trit.{Trit}
 use Rattle.trit_cubes.specs.declared.trits.Trit.TheVariants.{Zero, Unknown}
 use Rattle.cell_machine.specs.declared.outputs.OutputPin.{OutputPin}
@@ -16,7 +16,9 @@ use Rattle.udp_tables.specs.declared.timing_checks.TimingCheck.{TimingCheck}
 use Rattle.vital_models.specs.declared.model.VEntity.{VEntity}
 use Rattle.vital_models.specs.LookUps.{lookup_state}
 use Rattle.vital_models.specs.Sound.{has_events}
-use Rattle.model_traces.specs.PortNumbers.{input_count, input_event}
+use Rattle.model_traces.specs.FitLists.{FitEach}
+use Rattle.model_traces.specs.PortNumbers.{input_count}
+use Rattle.model_traces.specs.CheckFits.{MeasuresSame}
 use Rattle.model_traces.specs.ProcessValues.{is_enabled, output_value}
 use Rattle.model_traces.specs.GatedPaths.{paths_from}
 use Rattle.model_traces.specs.ProcessRun.{columns}
@@ -39,29 +41,19 @@ pub record FitsGroup (d : CellData) (e : VEntity) (g : NamedGroup) (state : VSta
 
 -- each state fits the group at its place
 abbrev pub FitGroups : CellData → VEntity → List NamedGroup → List VState → Type 0
-FitGroups d e [] [] = ⊤
-FitGroups d e [] (state ∷ states) = ⊥
-FitGroups d e (g ∷ groups) [] = ⊥
-FitGroups d e (g ∷ groups) (state ∷ states) = FitsGroup d e g state × FitGroups d e groups states
+FitGroups d e = FitEach (FitsGroup d e)
 
--- A check fits one of the cell: it has events of its kind, the kind, the limit and the events of the cell's over the numbers of
--- inputs, and its condition counts where the cell's does.
+-- A check fits one of the cell: it has events of its kind, it measures the same, and its condition counts where the cell's does.
 pub record FitsCheck (d : CellData) (e : VEntity) (k : Check) (j : TimingCheck) : Type 0 where
   pub events : IsTrue (has_events j j.kind)
-  pub kind : j.kind ≡ k.kind
-  pub first : input_event e.ports j.first ≡ cell.input_event d.pins k.first
-  pub second : input_event e.ports j.second ≡ cell.input_event d.pins k.second
-  pub limit : j.limit ≡ k.limit
+  pub measures : MeasuresSame d e.ports k j
   pub enabled :
       (v : List Trit)
       → length v ≡ inputs_of d → is_enabled e v j.condition ≡ condition_holds d.pins v k.condition
 
 -- each check fits the one at its place
 abbrev pub FitChecks : CellData → VEntity → List Check → List TimingCheck → Type 0
-FitChecks d e [] [] = ⊤
-FitChecks d e [] (j ∷ js) = ⊥
-FitChecks d e (k ∷ ks) [] = ⊥
-FitChecks d e (k ∷ ks) (j ∷ js) = FitsCheck d e k j × FitChecks d e ks js
+FitChecks d e = FitEach (FitsCheck d e)
 
 -- An output fits one of the cell: for all inputs and states it has its value, and from each input the paths to it are active
 -- where the cell's arcs are, with their delays.
@@ -76,10 +68,7 @@ pub record FitsOutput (d : CellData) (e : VEntity) (output : OutputPin) (o : VOu
 
 -- each output fits the one at its place
 abbrev pub FitOutputs : CellData → VEntity → List OutputPin → List VOutput → Type 0
-FitOutputs d e [] [] = ⊤
-FitOutputs d e [] (o ∷ os) = ⊥
-FitOutputs d e (output ∷ outputs) [] = ⊥
-FitOutputs d e (output ∷ outputs) (o ∷ os) = FitsOutput d e output o × FitOutputs d e outputs os
+FitOutputs d e = FitEach (FitsOutput d e)
 
 -- An entity fits a cell.
 pub record EntityFits (d : CellData) (e : VEntity) : Type 0 where

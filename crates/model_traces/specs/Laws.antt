@@ -9,7 +9,7 @@ use Rattle.udp_tables.specs.declared.timing_checks.TimingCheck.{TimingCheck}
 use Rattle.specify_blocks.specs.declared.model.VModule.{VModule}
 use Rattle.model_traces.specs.declared.stamps.Stamps.{Stamps}
 use Rattle.model_traces.specs.PortNumbers.{input_count, input_event}
-use Rattle.model_traces.specs.CheckTimes.{second_of}
+use Rattle.model_traces.specs.CheckEvents.{second_of}
 use Rattle.model_traces.specs.ModuleRun.{run_after}
 
 -- the times of a check's last events in a history of n inputs

@@ -1,6 +1,7 @@
 pub mod PortNumbers
 pub mod NetValues
 pub mod Primitives
+pub mod CheckEvents
 pub mod CheckTimes
 pub mod PathDelays
 pub mod ModuleRun
@@ -14,6 +15,8 @@ pub mod ProcessRun
 pub mod EntityTrace
 pub mod ProcessLaws
 pub mod SequentialStates
+pub mod FitLists
+pub mod CheckFits
 pub mod ModuleFits
 pub mod EntityFits
 pub mod Agreement

@@ -1,6 +1,6 @@
 -- When a module fits a cell, by facts on single changes alone. Its primitives with a state stand for the groups of the cell, in
 -- their order; between them any instances may stand, and their inputs may stand in any order.
-use Rattle.std.specs.Prelude.{◌≡◌, ℕ, ◌<◌, true, ⊤, List, [], ◌∷◌, length, slice_set}
+use Rattle.std.specs.Prelude.{◌≡◌, ℕ, ◌<◌, true, List, length, slice_set}
 use Rattle.trit_cubes.specs.declared.trits.Trit.{Trit}
 use Rattle.cell_machine.specs.declared.outputs.OutputPin.{OutputPin}
 use Rattle.cell_machine.specs.declared.checks.Check.{Check}
@@ -15,10 +15,12 @@ use Rattle.specify_blocks.specs.declared.model.Instance.{Instance}
 use Rattle.udp_tables.specs.declared.timing_checks.TimingCheck.{TimingCheck}
 use Rattle.specify_blocks.specs.declared.model.VModule.{VModule}
 use Rattle.model_traces.specs.declared.turns.Turned.TheVariants as turned
-use Rattle.model_traces.specs.PortNumbers.{input_count, input_event, output_ports}
+use Rattle.model_traces.specs.FitLists.{FitEach}
+use Rattle.model_traces.specs.PortNumbers.{input_count, output_ports}
 use Rattle.model_traces.specs.NetValues.{net_value}
 use Rattle.model_traces.specs.Primitives.{next_state}
 use Rattle.model_traces.specs.CheckTimes.{is_enabled}
+use Rattle.model_traces.specs.CheckFits.{MeasuresSame}
 use Rattle.model_traces.specs.PathDelays.{paths_between}
 use Rattle.model_traces.specs.ModuleRun.{turn_of, toggled}
 use Rattle.model_traces.specs.SequentialStates.{sequential_instances, states_among}
@@ -38,18 +40,11 @@ pub record FitsGroup (d : CellData) (m : VModule) (g : NamedGroup) (i : Instance
 
 -- each instance fits the group at its place
 abbrev pub FitGroups : CellData → VModule → List NamedGroup → List Instance → Type 0
-FitGroups d m [] [] = ⊤
-FitGroups d m [] (i ∷ instances) = ⊥
-FitGroups d m (g ∷ groups) [] = ⊥
-FitGroups d m (g ∷ groups) (i ∷ instances) = FitsGroup d m g i × FitGroups d m groups instances
+FitGroups d m = FitEach (FitsGroup d m)
 
--- A check fits one of the cell: it has its kind, its limit and its events over the numbers of inputs, and its condition counts
--- where the cell's does.
+-- A check fits one of the cell: it measures the same, and its condition counts where the cell's does.
 pub record FitsCheck (d : CellData) (m : VModule) (k : Check) (j : TimingCheck) : Type 0 where
-  pub kind : j.kind ≡ k.kind
-  pub first : input_event m.ports j.first ≡ cell.input_event d.pins k.first
-  pub second : input_event m.ports j.second ≡ cell.input_event d.pins k.second
-  pub limit : j.limit ≡ k.limit
+  pub measures : MeasuresSame d m.ports k j
   pub enabled :
       (v states : List Trit)
       → length v ≡ inputs_of d → length states ≡ length m.instances
@@ -57,10 +52,7 @@ pub record FitsCheck (d : CellData) (m : VModule) (k : Check) (j : TimingCheck) 
 
 -- each check fits the one at its place
 abbrev pub FitChecks : CellData → VModule → List Check → List TimingCheck → Type 0
-FitChecks d m [] [] = ⊤
-FitChecks d m [] (j ∷ js) = ⊥
-FitChecks d m (k ∷ ks) [] = ⊥
-FitChecks d m (k ∷ ks) (j ∷ js) = FitsCheck d m k j × FitChecks d m ks js
+FitChecks d m = FitEach (FitsCheck d m)
 
 -- An output port fits an output of the cell: for all inputs and states it has its value, and from each input the paths to it
 -- are active where the cell's arcs are, with their delays.
@@ -76,10 +68,7 @@ pub record FitsOutput (d : CellData) (m : VModule) (output : OutputPin) (p : ℕ
 
 -- each output port fits the output at its place
 abbrev pub FitOutputs : CellData → VModule → List OutputPin → List ℕ → Type 0
-FitOutputs d m [] [] = ⊤
-FitOutputs d m [] (p ∷ ps) = ⊥
-FitOutputs d m (output ∷ outputs) [] = ⊥
-FitOutputs d m (output ∷ outputs) (p ∷ ps) = FitsOutput d m output p × FitOutputs d m outputs ps
+FitOutputs d m = FitEach (FitsOutput d m)
 
 -- A module fits a cell.
 pub record ModuleFits (d : CellData) (m : VModule) : Type 0 where

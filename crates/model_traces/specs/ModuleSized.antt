@@ -1,5 +1,5 @@
 -- Each line of a module has an entry for each output and each check.
-use Rattle.std.proofs.Common.{◌≡◌, ℕ, suc, List, [], ◌∷◌, length, Bool, true, false, replicate, ap, refl, arith, if◌then◌else◌}
+use Rattle.std.proofs.Common.{◌≡◌, ℕ, List, [], ◌∷◌, length, Bool, true, false, replicate, sym, ◌∙◌, if◌then◌else◌}
 use Rattle.std.proofs.lemmas.List.{length-map, length-replicate}
 use Rattle.trit_cubes.specs.declared.trits.Trit.{Trit}
 use Rattle.trit_cubes.specs.declared.trits.Trit.TheVariants.{Unknown}
@@ -7,6 +7,7 @@ use Rattle.cell_machine.specs.declared.changes.Change.{Change}
 use Rattle.cell_machine.specs.History.{value_before, is_event}
 use Rattle.cell_machine.specs.Each.{each}
 use Rattle.cell_machine.specs.Lines.{IsSized}
+use Rattle.cell_machine.proofs.EachLemmas.{length-each as each-long}
 use Rattle.specify_blocks.specs.declared.model.VModule.{VModule}
 use Rattle.model_traces.specs.declared.turns.Turned.TheVariants as turned
 use Rattle.model_traces.specs.declared.module_run.ModuleRun.{ModuleRun}
@@ -18,9 +19,7 @@ use Rattle.model_traces.specs.ModuleTrace.{output_after, delay_after, reports_af
 
 pub length-each :
     {X S T : Type 0} (f : X → S → T) (xs : List X) (ss : List S) → length ss ≡ length xs → length (each f xs ss) ≡ length xs
-length-each f [] ss h = refl
-length-each f (x ∷ xs) [] h = absurd (omega arith)
-length-each f (x ∷ xs) (s ∷ ss) h = ap suc (length-each f xs ss (omega arith))
+length-each f xs ss h = each-long f xs ss (sym h) ∙ h
 
 pub start-has-each : (m : VModule) → HasEach m (start_run m)
 start-has-each m =
@@ -75,7 +74,7 @@ pub length-reports_at :
 length-reports_at m r c h =
     length-each (check_reports m (entered m r c).inputs (entered m r c).states (value_before r.inputs c) c) m.checks r.stamps h.stamps
 
-either-length :
+pub either-length :
     (b : Bool) (n : ℕ) (xs ys : List Bool) → length xs ≡ n → length ys ≡ n → length (if b then xs else ys) ≡ n
 either-length true n xs ys h k = h
 either-length false n xs ys h k = k

@@ -3,8 +3,6 @@ use Rattle.std.specs.Prelude.{◌≡◌, ℕ, Bool, true, false, List, map, IsTr
 use Rattle.trit_cubes.specs.declared.trits.Trit.{Trit}
 use Rattle.cell_machine.specs.declared.changes.Change.{Change}
 use Rattle.cell_machine.specs.declared.checks.Edge.TheVariants as edge
-use Rattle.cell_machine.specs.declared.checks.Event.{Event}
-use Rattle.cell_machine.specs.Edges.{edge_of}
 use Rattle.cell_machine.specs.History.{inputs_after}
 use Rattle.cell_machine.specs.Report.{is_period, last_event}
 use Rattle.udp_tables.specs.declared.models.VPort.{VPort}
@@ -12,7 +10,8 @@ use Rattle.udp_tables.specs.declared.timing_checks.TimingCheck.{TimingCheck}
 use Rattle.vital_models.specs.declared.model.VEntity.{VEntity}
 use Rattle.vital_models.specs.Sound.{has_events}
 use Rattle.model_traces.specs.PortNumbers.{input_count, input_event}
-use Rattle.model_traces.specs.SignalTimes.{SignalTimes, Pair, Edges, has_reference, test_event, reference_event, signal_event, later_event, earlier_time}
+use Rattle.model_traces.specs.CheckEvents.{second_of, opening_event}
+use Rattle.model_traces.specs.SignalTimes.{SignalTimes, Pair, Edges, has_reference, test_event, reference_event, later_event, earlier_time}
 use Rattle.model_traces.specs.ProcessRun.{all_columns, process_after}
 
 -- the times of a check's last events in a history of n inputs
@@ -20,7 +19,7 @@ abbrev pub last_times_by : Bool → List VPort → ℕ → List Change → Timin
 last_times_by true ports n h k =
     Pair (last_event n (input_event ports (test_event k.kind k)) h) (last_event n (input_event ports (reference_event k.kind k)) h)
 last_times_by false ports n h k =
-    Edges (last_event n (input_event ports (signal_event k edge.Rise)) h) (last_event n (input_event ports (signal_event k edge.Fall)) h)
+    Edges (last_event n (input_event ports (second_of k edge.Rise)) h) (last_event n (input_event ports (second_of k edge.Fall)) h)
 
 abbrev pub last_times : List VPort → ℕ → List Change → TimingCheck → SignalTimes
 last_times ports n h k = last_times_by (has_reference k.kind) ports n h k
@@ -44,11 +43,6 @@ ProcessKeepsColumns =
 -- The later event of a check with the events of its kind is its second event, as in Verilog.
 abbrev pub LaterEventIsSecond : Type 0
 LaterEventIsSecond = (k : TimingCheck) → IsTrue (has_events k k.kind) → later_event k.kind k ≡ k.second
-
--- the event from which a check of a Verilog module measures: its first one, of a period the event of the change's own kind
-abbrev pub opening_event : Bool → TimingCheck → Trit → Change → Event
-opening_event true k a c = record { pin = k.second.pin; edge = edge_of a c.to }
-opening_event false k a c = k.first
 
 -- The time from which a check with the events of its kind measures is that of the last event from which it measures in Verilog.
 abbrev pub EarlierTimeIsFirst : Type 0

@@ -15,6 +15,7 @@ use Rattle.udp_tables.specs.declared.models.VPort.{VPort}
 use Rattle.udp_tables.specs.declared.timing_checks.TimingCheck.{TimingCheck}
 use Rattle.vital_models.specs.declared.model.VEntity.{VEntity}
 use Rattle.model_traces.specs.PortNumbers.{input_event}
+use Rattle.model_traces.specs.CheckEvents.{second_of}
 use Rattle.model_traces.specs.ProcessValues.{is_enabled}
 
 -- The times that a check keeps.
@@ -60,10 +61,6 @@ reference_event check_kind.Removal k = k.first
 reference_event check_kind.Width k = k.second
 reference_event check_kind.Period k = k.second
 
--- an event of this kind of the signal whose pulses or periods are checked
-abbrev pub signal_event : TimingCheck → Edge → Event
-signal_event k e = record { pin = k.second.pin; edge = e }
-
 -- The times that a check keeps after a change of an input that had the value a: each of its two events that the change is has
 -- the time of the change.
 abbrev pub timed : List VPort → Trit → Change → TimingCheck → SignalTimes → SignalTimes
@@ -71,8 +68,8 @@ timed ports a c k (Pair test reference) =
     Pair (renewed (happens (input_event ports (test_event k.kind k)) a c) c.at test)
     (renewed (happens (input_event ports (reference_event k.kind k)) a c) c.at reference)
 timed ports a c k (Edges rise fall) =
-    Edges (renewed (happens (input_event ports (signal_event k edge.Rise)) a c) c.at rise)
-    (renewed (happens (input_event ports (signal_event k edge.Fall)) a c) c.at fall)
+    Edges (renewed (happens (input_event ports (second_of k edge.Rise)) a c) c.at rise)
+    (renewed (happens (input_event ports (second_of k edge.Fall)) a c) c.at fall)
 
 -- the kept times by their names
 abbrev pub test_time : SignalTimes → Option ℕ
@@ -102,10 +99,10 @@ abbrev pub pulse_end : Bool → Edge
 pulse_end true = edge.Fall
 pulse_end false = edge.Rise
 
--- the last begin of a pulse: the rise of a high one, the fall of a low one
-abbrev pub pulse_begin : Bool → SignalTimes → Option ℕ
-pulse_begin true times = rise_time times
-pulse_begin false times = fall_time times
+-- the last possible rise, or the last possible fall
+abbrev pub edge_time : Bool → SignalTimes → Option ℕ
+edge_time true times = rise_time times
+edge_time false times = fall_time times
 
 -- The later event of a check, at which it compares: the reference event of a setup and of a recovery, the test event of a hold
 -- and of a removal, the end of a pulse, and each event of a signal whose periods are checked.
@@ -114,23 +111,18 @@ later_event check_kind.Setup k = reference_event k.kind k
 later_event check_kind.Hold k = test_event k.kind k
 later_event check_kind.Recovery k = reference_event k.kind k
 later_event check_kind.Removal k = test_event k.kind k
-later_event check_kind.Width k = signal_event k (pulse_end (is_high k.first.edge))
-later_event check_kind.Period k = signal_event k edge.Any
+later_event check_kind.Width k = second_of k (pulse_end (is_high k.first.edge))
+later_event check_kind.Period k = second_of k edge.Any
 
--- the last event of the same kind as a change, possible rise or not: a period lasts from a rise to a rise, or from a fall to a
--- fall
-abbrev pub period_begin : Bool → SignalTimes → Option ℕ
-period_begin true times = rise_time times
-period_begin false times = fall_time times
-
--- the time from which a check measures at its later event
+-- The time from which a check measures at its later event. A high pulse begins with its rise, a low one with its fall; a period
+-- lasts from a rise to a rise, or from a fall to a fall.
 abbrev pub earlier_time : CheckKind → TimingCheck → Trit → Change → SignalTimes → Option ℕ
 earlier_time check_kind.Setup k a c times = test_time times
 earlier_time check_kind.Hold k a c times = reference_time times
 earlier_time check_kind.Recovery k a c times = test_time times
 earlier_time check_kind.Removal k a c times = reference_time times
-earlier_time check_kind.Width k a c times = pulse_begin (is_high k.first.edge) times
-earlier_time check_kind.Period k a c times = period_begin (is_rise a c.to) times
+earlier_time check_kind.Width k a c times = edge_time (is_high k.first.edge) times
+earlier_time check_kind.Period k a c times = edge_time (is_rise a c.to) times
 
 -- Whether a check reports at a change of an input that had the value a, by the inputs after it and the times kept before it: the
 -- change is its later event, its condition lets it count, and the earlier time lies less than the limit before.

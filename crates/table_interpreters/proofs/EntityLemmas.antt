@@ -3,66 +3,32 @@ use Rattle.std.proofs.Common.{◌≡◌, ℕ, suc, ◌<◌, Bool, true, false, �
 use Rattle.trit_cubes.specs.declared.trits.Trit.{Trit}
 use Rattle.trit_cubes.specs.declared.trits.Trit.TheVariants.{Unknown}
 use Rattle.cell_machine.specs.declared.changes.Change.{Change}
-use Rattle.cell_machine.specs.declared.checks.Edge.TheVariants as edge
 use Rattle.cell_machine.specs.Each.{each}
-use Rattle.cell_machine.specs.Edges.{is_rise}
 use Rattle.cell_machine.specs.History.{inputs_after, value_before, is_event}
-use Rattle.cell_machine.specs.Report.{is_period, happens, is_within, last_event, any_true}
+use Rattle.cell_machine.specs.Report.{happens, is_within, any_true}
 use Rattle.cell_machine.proofs.EachLemmas.{each-map}
-use Rattle.vital_models.specs.declared.model.VState.{VState}
 use Rattle.udp_tables.specs.declared.timing_checks.TimingCheck.{TimingCheck}
 use Rattle.vital_models.specs.declared.model.VEntity.{VEntity}
-use Rattle.vital_models.specs.LookUps.{lookup_state}
 use Rattle.vital_models.specs.Sound.{IsCheck, IsSound}
-use Rattle.udp_tables.specs.declared.models.VPort.{VPort}
 use Rattle.model_traces.specs.declared.stamps.Stamps.{Stamps}
 use Rattle.model_traces.specs.PortNumbers.{input_count, input_event}
-use Rattle.model_traces.specs.CheckTimes.{no_stamps, second_of, same_edge, opened_by, opened}
+use Rattle.model_traces.specs.CheckTimes.{no_stamps, stamped, reports_where}
 use Rattle.model_traces.specs.Laws.{last_stamps}
 use Rattle.model_traces.specs.SignalTimes.{check_reports}
-use Rattle.model_traces.specs.ProcessLaws.{last_times, opening_event}
+use Rattle.model_traces.specs.ProcessLaws.{last_times}
 use Rattle.model_traces.specs.ProcessValues.{is_enabled}
 use Rattle.model_traces.specs.ProcessRun.{ProcessRun, columns, all_columns, violation_by, looked_up, reports_at, happened, process_after, step_reports}
-use Rattle.model_traces.proofs.RunLemmas.{still-event}
-use Rattle.model_traces.proofs.ProcessLemmas.{process-inputs, process-times, later-second, earlier-first}
+use Rattle.model_traces.proofs.RunLemmas.{start-stamps, still-stamps, opened-last}
+use Rattle.model_traces.proofs.ProcessLemmas.{looked-each, process-inputs, process-times, later-second, earlier-first}
 use Rattle.table_interpreters.specs.declared.shown.Shown.{Shown}
 use Rattle.table_interpreters.specs.declared.process_run.ProcessState.{ProcessState}
-use Rattle.table_interpreters.specs.EntitySteps.{stamp_reports, restamped, next_by, event_reports, event_step, state_step, change_reports, output_step, output_first, output_shown, EntityStands}
-
--- the tables are looked up one by one
-looked-each :
-    (f g : VState → List Trit) (ts : List VState) (ss : List Trit)
-    → looked_up ts (map f ts) (map g ts) ss ≡ each (λ (t : VState) s. lookup_state t.table.rows (f t) (g t) s) ts ss
-looked-each f g [] ss = refl
-looked-each f g (t ∷ ts) [] = refl
-looked-each f g (t ∷ ts) (s ∷ ss) = ap (λ r. lookup_state t.table.rows (f t) (g t) s ∷ r) (looked-each f g ts ss)
-
--- the time from which a check of a module measures, by the times of the last events
-opened-last :
-    (ports : List VPort) (n : ℕ) (h : List Change) (a : Trit) (c : Change) (k : TimingCheck)
-    → opened k a c (last_stamps ports n h k)
-    ≡ last_event n (input_event ports (opening_event (is_period k.kind) k a c)) h
-opened-last ports n h a c k = by (is_period k.kind)
-  where
-    edges :
-        (rises : Bool)
-        → same_edge rises (last_stamps ports n h k)
-        ≡ last_event n (input_event ports (record { pin = k.second.pin; edge = (if rises then edge.Rise else edge.Fall) })) h
-    edges true = refl
-    edges false = refl
-
-    by :
-        (period : Bool)
-        → opened_by period a c (last_stamps ports n h k)
-        ≡ last_event n (input_event ports (opening_event period k a c)) h
-    by true = edges (is_rise a c.to)
-    by false = refl
+use Rattle.table_interpreters.specs.EntitySteps.{next_by, event_reports, event_step, state_step, change_reports, output_step, output_first, output_shown, EntityStands}
 
 -- a check with the events of its kind reports as the process says
 report-same :
     (e : VEntity) (n : ℕ) (h : List Change) (inputs : List Trit) (a : Trit) (c : Change) (k : TimingCheck)
     → IsCheck e k
-    → stamp_reports e inputs a c k (last_stamps e.ports n h k)
+    → reports_where e.ports (is_enabled e inputs) a c k (last_stamps e.ports n h k)
     ≡ check_reports e inputs a c k (last_times e.ports n h k)
 report-same e n h inputs a c k is =
     λ i.
@@ -73,19 +39,13 @@ report-same e n h inputs a c k is =
 reports-same :
     (e : VEntity) (n : ℕ) (h : List Change) (inputs : List Trit) (a : Trit) (c : Change) (ks : List TimingCheck)
     → ((k : ℕ) (d : TimingCheck) → k < length ks → IsCheck e (get_or ks k d))
-    → each (stamp_reports e inputs a c) ks (map (λ k. last_stamps e.ports n h k) ks)
+    → each (reports_where e.ports (is_enabled e inputs) a c) ks (map (last_stamps e.ports n h) ks)
     ≡ each (check_reports e inputs a c) ks (map (last_times e.ports n h) ks)
 reports-same e n h inputs a c [] are = refl
 reports-same e n h inputs a c (k ∷ ks) are =
     λ i.
     report-same e n h inputs a c k (are 0 k (omega arith)) i
     ∷ reports-same e n h inputs a c ks (λ j d within. are (suc j) d (omega arith)) i
-
-start-stamps :
-    (ports : List VPort) (n : ℕ) (ks : List TimingCheck)
-    → replicate (length ks) no_stamps ≡ map (λ k. last_stamps ports n [] k) ks
-start-stamps ports n [] = refl
-start-stamps ports n (k ∷ ks) = ap (λ r. no_stamps ∷ r) (start-stamps ports n ks)
 
 -- Before any change.
 pub entity-starts :
@@ -114,7 +74,7 @@ record IsTied (e : VEntity) (r : ProcessState) (p : ProcessRun) (h : List Change
   before_tied : r.before ≡ p.inputs
   states_tied : r.states ≡ p.states
   columns_tied : p.previous ≡ all_columns e r.violation r.before
-  stamps_tied : r.stamps ≡ map (λ k. last_stamps e.ports (input_count e.ports) h k) e.checks
+  stamps_tied : r.stamps ≡ map (last_stamps e.ports (input_count e.ports) h) e.checks
 
 module _ (e : VEntity) (sound : IsSound e) (run : ProcessState) (reports : List Bool) (shown : List Shown) (h : List Change)
     (st : EntityStands e run reports shown h) (c : Change) where
@@ -124,7 +84,7 @@ module _ (e : VEntity) (sound : IsSound e) (run : ProcessState) (reports : List 
   -- the reports at an event
   reports-are : event_reports e run c ≡ reports_at e (process_after e h) c
   reports-are =
-      (λ i. each (stamp_reports e (set (st.inputs_are i) c.pin c.to) (value_before (st.inputs_are i) c) c) e.checks (st.stamps_are i))
+      (λ i. each (reports_where e.ports (is_enabled e (set (st.inputs_are i) c.pin c.to)) (value_before (st.inputs_are i) c) c) e.checks (st.stamps_are i))
       ∙ reports-same e n h (set (process_after e h).inputs c.pin c.to) (value_before (process_after e h).inputs c) c e.checks sound.checks
       ∙ ap (each (check_reports e (set (process_after e h).inputs c.pin c.to) (value_before (process_after e h).inputs c) c) e.checks)
       (sym (process-times e h))
@@ -148,8 +108,8 @@ module _ (e : VEntity) (sound : IsSound e) (run : ProcessState) (reports : List 
             ∙ ap (λ previous. looked_up e.states previous (all_columns e (violation_by (any_true (reports_at e p c))) (set p.inputs c.pin c.to)) p.states) (sym st.columns_are);
         columns_tied = λ i. all_columns e (violation_by (any_true (sym reports-are i))) (set (sym st.before_are i) c.pin c.to);
         stamps_tied =
-            (λ i. each (restamped e.ports (value_before (inputs i) c) c) e.checks (st.stamps_are i))
-            ∙ each-map (restamped e.ports (value_before (inputs_after n h) c) c) (λ k. last_stamps e.ports n h k) e.checks;
+            (λ i. each (stamped e.ports (value_before (inputs i) c) c) e.checks (st.stamps_are i))
+            ∙ each-map (stamped e.ports (value_before (inputs_after n h) c) c) (last_stamps e.ports n h) e.checks;
       }
 
   still-fields : is_event (process_after e h).inputs c ≡ false → IsTied e run (process_after e h) (c ∷ h)
@@ -160,13 +120,7 @@ module _ (e : VEntity) (sound : IsSound e) (run : ProcessState) (reports : List 
         before_tied = st.before_are;
         states_tied = st.states_are;
         columns_tied = st.columns_are;
-        stamps_tied =
-            st.stamps_are
-            ∙ (λ i. map (λ (k : TimingCheck). record {
-              first = still-event n (input_event e.ports k.first) h c none i;
-              rise = still-event n (input_event e.ports (second_of k edge.Rise)) h c none i;
-              fall = still-event n (input_event e.ports (second_of k edge.Fall)) h c none i;
-            }) e.checks);
+        stamps_tied = st.stamps_are ∙ still-stamps e.ports n h c e.checks none;
       }
 
   fields :

@@ -5,6 +5,7 @@ use Rattle.trit_cubes.specs.declared.trits.Trit.TheVariants.{Unknown}
 use Rattle.cell_machine.specs.declared.changes.Change.{Change}
 use Rattle.cell_machine.specs.History.{is_event}
 use Rattle.std.proofs.lemmas.List.{map-append}
+use Rattle.std.proofs.lemmas.Simd.{map-map}
 use Rattle.cell_machine.proofs.ArcDelays.{drop-at}
 use Rattle.udp_tables.specs.declared.models.VPort.{VPort}
 use Rattle.specify_blocks.specs.declared.model.VModule.{VModule}
@@ -48,11 +49,6 @@ outputs-step f ports i port old new e is =
     ∙ append_assoc old (map f (output_by i port.input)) (map f rest)
     ∙ ap (λ r. old ++ r) (sym (map-append f (output_by i port.input) rest))
     ∙ ap (λ ps. old ++ map f (outputs_from i ps)) (sym front)
-
-map-map :
-    {X Y Z : Type 0} (f : Y → Z) (g : X → Y) (xs : List X) → map f (map g xs) ≡ map (λ x. f (g x)) xs
-map-map f g [] = refl
-map-map f g (x ∷ xs) = ap (λ r. f (g x) ∷ r) (map-map f g xs)
 
 -- Before any change.
 pub start-stands :

@@ -1,5 +1,5 @@
 -- Each line of an entity has an entry for each output and each check.
-use Rattle.std.proofs.Common.{◌≡◌, ℕ, List, [], ◌∷◌, length, Bool, true, false, replicate, slice_set, ap, ◌∙◌, if◌then◌else◌}
+use Rattle.std.proofs.Common.{◌≡◌, List, [], ◌∷◌, length, false, replicate, slice_set, ap, ◌∙◌}
 use Rattle.std.proofs.lemmas.List.{length-map, length-replicate}
 use Rattle.cell_machine.specs.declared.changes.Change.{Change}
 use Rattle.cell_machine.specs.History.{value_before, is_event}
@@ -9,13 +9,9 @@ use Rattle.model_traces.specs.PortNumbers.{input_count}
 use Rattle.model_traces.specs.SignalTimes.{check_reports}
 use Rattle.model_traces.specs.ProcessLaws.{last_times}
 use Rattle.model_traces.specs.ProcessRun.{reports_at, process_after}
-use Rattle.model_traces.specs.ModuleSized.{length-each}
+use Rattle.model_traces.specs.ModuleSized.{length-each, either-length}
 use Rattle.model_traces.specs.EntityTrace.{output_after, delay_after, reports_after, entity_machine}
 use Rattle.model_traces.proofs.ProcessLemmas.{process-times}
-
-either-length : (b : Bool) (n : ℕ) (xs ys : List Bool) → length xs ≡ n → length ys ≡ n → length (if b then xs else ys) ≡ n
-either-length true n xs ys h k = h
-either-length false n xs ys h k = k
 
 pub entity-reports : (e : VEntity) (h : List Change) → length (reports_after e h) ≡ length e.checks
 entity-reports e [] = length-replicate (length e.checks) false

@@ -1,20 +1,17 @@
 -- How the simulator of an entity takes its run on. A check keeps the times of a Verilog module's, of which those of the process are
 -- a part, and in place of the columns of the last event their inputs and the violation are kept.
-use Rattle.std.specs.Prelude.{◌≡◌, ℕ, Bool, false, ◌&&◌, List, length, map, replicate, slice_set, None, if◌then◌else◌}
+use Rattle.std.specs.Prelude.{◌≡◌, ℕ, Bool, false, List, length, map, replicate, slice_set, None, if◌then◌else◌}
 use Rattle.trit_cubes.specs.declared.trits.Trit.{Trit}
 use Rattle.cell_machine.specs.declared.changes.Change.{Change}
 use Rattle.cell_machine.specs.Each.{each}
 use Rattle.cell_machine.specs.History.{value_before, is_event}
-use Rattle.cell_machine.specs.Report.{happens, is_within, any_true}
-use Rattle.udp_tables.specs.declared.models.VPort.{VPort}
-use Rattle.udp_tables.specs.declared.timing_checks.TimingCheck.{TimingCheck}
+use Rattle.cell_machine.specs.Report.{any_true}
 use Rattle.vital_models.specs.declared.model.VState.{VState}
 use Rattle.vital_models.specs.declared.model.VOutput.{VOutput}
 use Rattle.vital_models.specs.declared.model.VEntity.{VEntity}
 use Rattle.vital_models.specs.LookUps.{lookup_state}
-use Rattle.model_traces.specs.declared.stamps.Stamps.{Stamps}
-use Rattle.model_traces.specs.PortNumbers.{input_count, input_event}
-use Rattle.model_traces.specs.CheckTimes.{stamped, opened}
+use Rattle.model_traces.specs.PortNumbers.{input_count}
+use Rattle.model_traces.specs.CheckTimes.{stamped, reports_where}
 use Rattle.model_traces.specs.Laws.{last_stamps}
 use Rattle.model_traces.specs.ProcessValues.{is_enabled, output_value}
 use Rattle.model_traces.specs.GatedPaths.{delay_at}
@@ -22,16 +19,6 @@ use Rattle.model_traces.specs.ProcessRun.{columns, all_columns, violation_by, pr
 use Rattle.model_traces.specs.EntityTrace.{output_after, delay_after, reports_after}
 use Rattle.table_interpreters.specs.declared.shown.Shown.{Shown}
 use Rattle.table_interpreters.specs.declared.process_run.ProcessState.{ProcessState}
-
--- whether a check reports at a change of an input that had the value a, by the inputs after it and the times kept before it
-abbrev pub stamp_reports : VEntity → List Trit → Trit → Change → TimingCheck → Stamps → Bool
-stamp_reports e inputs a c k s =
-    happens (input_event e.ports k.second) a c
-    && (is_enabled e inputs k.condition && is_within c.at k.limit (opened k a c s))
-
--- the times that a check keeps after the change
-abbrev pub restamped : List VPort → Trit → Change → TimingCheck → Stamps → Stamps
-restamped ports a c k s = stamped ports a c k s
 
 -- the next state, where the violation and the inputs were these before and are those now
 abbrev pub next_by : VEntity → Trit → List Trit → Trit → List Trit → VState → Trit → Trit
@@ -41,7 +28,7 @@ next_by e was before violation inputs t s =
 -- the reports at an event
 abbrev pub event_reports : VEntity → ProcessState → Change → List Bool
 event_reports e r c =
-    each (stamp_reports e (slice_set r.inputs c.pin c.to) (value_before r.inputs c) c) e.checks r.stamps
+    each (reports_where e.ports (is_enabled e (slice_set r.inputs c.pin c.to)) (value_before r.inputs c) c) e.checks r.stamps
 
 -- the run after an event at which this violation stands
 abbrev pub event_step : VEntity → ProcessState → Change → Trit → ProcessState
@@ -51,7 +38,7 @@ event_step e r c violation =
       before = slice_set r.before c.pin c.to;
       states = each (next_by e r.violation r.before violation (slice_set r.inputs c.pin c.to)) e.states r.states;
       violation = violation;
-      stamps = each (restamped e.ports (value_before r.inputs c) c) e.checks r.stamps;
+      stamps = each (stamped e.ports (value_before r.inputs c) c) e.checks r.stamps;
     }
 
 -- the run after a change
@@ -92,6 +79,6 @@ pub record EntityStands (e : VEntity) (run : ProcessState) (reports : List Bool)
   pub before_are : run.before ≡ (process_after e h).inputs
   pub states_are : run.states ≡ (process_after e h).states
   pub columns_are : (process_after e h).previous ≡ all_columns e run.violation run.before
-  pub stamps_are : run.stamps ≡ map (λ k. last_stamps e.ports (input_count e.ports) h k) e.checks
+  pub stamps_are : run.stamps ≡ map (last_stamps e.ports (input_count e.ports) h) e.checks
   pub reports_are : reports ≡ reports_after e h
   pub shown_are : shown ≡ map (output_shown e h) e.outputs

@@ -1,60 +1,60 @@
-//! Whether the timing checks of a module report, by the times that they keep.
-ghost use Rattle.std.specs.Prelude.{◌≡◌, ◌<◌, length, IsTrue, replicate, false};
+//! Whether the timing checks of a model report, by the times that they keep, in both languages.
+ghost use Rattle.std.specs.Prelude.{◌≡◌, ◌<◌, length, replicate, false};
 ghost use Rattle.cell_machine.specs.Each.{each};
 ghost use Rattle.cell_machine.specs.Report.{happens};
-ghost use Rattle.table_interpreters.specs.Wiring.{is_wired};
 ghost use Rattle.model_traces.specs.PortNumbers.{input_event};
-ghost use Rattle.model_traces.specs.CheckTimes.{stamped, opened, is_enabled, check_reports};
+ghost use Rattle.model_traces.specs.CheckTimes.{stamped, opened, reports_where};
 
-use crate::module_values::ModuleValues;
-use crate::net_values::net_value;
+use crate::conditions::Conditions;
 use crate::ports::input_number;
 use cell_machine::{Change, Edge, Event, is_rise, is_within, moves, renewed};
 use model_traces::Stamps;
-use specify_blocks::{VModule, VNet};
 use sqlite_items::Items;
 use trit_cubes::Trit;
 use udp_tables::{TimingCheck, VPort};
 
-/// Whether a change of an input that had the value `from` is this event of a port.
-pub(crate) fn happens(ports: &[VPort], event: Event, from: Trit, change: Change) -> bool
-    ensures { result ≡ happens (input_event ports.now event) from change }
-{
-    change.pin == input_number(ports, event.pin) && moves(event.edge, from, change.to)
+/// A change of an input, as the timing checks of a model see it.
+#[derive(Clone, Copy)]
+pub struct InputChange<'a> {
+    /// The ports of the model.
+    pub ports: &'a [VPort],
+    /// The value that the input had.
+    pub from: Trit,
+    /// The change.
+    pub change: Change,
 }
 
-/// The times that a check keeps after a change of an input that had the value `from`.
-pub(crate) fn stamped(
-    ports: &[VPort],
-    from: Trit,
-    change: Change,
-    check: &TimingCheck,
-    stamps: Stamps,
-) -> Stamps
-    ensures { result ≡ stamped ports.now from change check.now stamps }
+/// Whether a change is this event of a port.
+fn happens(seen: &InputChange, event: Event) -> bool
+    ensures { result ≡ happens (input_event seen.now.ports.now event) seen.now.from seen.now.change }
 {
+    seen.change.pin == input_number(seen.ports, event.pin)
+        && moves(event.edge, seen.from, seen.change.to)
+}
+
+/// The times that a check keeps after a change.
+fn stamped(seen: &InputChange, check: &TimingCheck, stamps: Stamps) -> Stamps
+    ensures { result ≡ stamped seen.now.ports.now seen.now.from seen.now.change check.now stamps }
+{
+    let at = seen.change.at;
     let pin = check.second.pin;
     let edge = Edge::Rise;
-    let rises = happens(ports, Event { pin, edge }, from, change);
+    let rises = happens(seen, Event { pin, edge });
     let edge = Edge::Fall;
-    let falls = happens(ports, Event { pin, edge }, from, change);
+    let falls = happens(seen, Event { pin, edge });
     Stamps {
-        first: renewed(
-            happens(ports, check.first, from, change),
-            change.at,
-            stamps.first,
-        ),
-        rise: renewed(rises, change.at, stamps.rise),
-        fall: renewed(falls, change.at, stamps.fall),
+        first: renewed(happens(seen, check.first), at, stamps.first),
+        rise: renewed(rises, at, stamps.rise),
+        fall: renewed(falls, at, stamps.fall),
     }
 }
 
-/// The time from which a check measures at a change of an input that had the value `from`.
-pub(crate) fn opened(check: &TimingCheck, from: Trit, change: Change, stamps: Stamps) -> Option<u64>
-    ensures { result ≡ opened check.now from change stamps }
+/// The time from which a check measures at a change.
+fn opened(seen: &InputChange, check: &TimingCheck, stamps: Stamps) -> Option<u64>
+    ensures { result ≡ opened check.now seen.now.from seen.now.change stamps }
 {
     if check.kind.is_period() {
-        if is_rise(from, change.to) {
+        if is_rise(seen.from, seen.change.to) {
             stamps.rise
         } else {
             stamps.fall
@@ -64,72 +64,56 @@ pub(crate) fn opened(check: &TimingCheck, from: Trit, change: Change, stamps: St
     }
 }
 
-/// Whether a check's condition lets it count: there is none, or its net is 1.
-fn is_enabled(values: &ModuleValues, condition: Option<usize>, room: &mut Items<Trit>) -> bool
-    requires { IsTrue (is_wired (length room.old) values.now.model.now) }
-    ensures enabled { result ≡ is_enabled values.now.model.now values.now.inputs.now values.now.states.now condition }
-    ensures len { length room.new ≡ length room.old }
-{
-    match condition {
-        Some(wire) => net_value(values, VNet::Wire(wire), room) == Trit::One,
-        None => true,
-    }
-}
-
-/// Whether a check reports. `inputs` and `states` are those after the change, `from` is the value that the input had.
-fn check_reports(
-    values: &ModuleValues,
-    from: Trit,
-    change: Change,
+/// Whether a check reports. `values` are those after the change.
+fn check_reports<V: Conditions>(
+    values: &V,
+    seen: &InputChange,
     check: &TimingCheck,
     stamps: Stamps,
     room: &mut Items<Trit>,
 ) -> bool
-    requires { IsTrue (is_wired (length room.old) values.now.model.now) }
-    ensures reports { result ≡ check_reports values.now.model.now values.now.inputs.now values.now.states.now from change check.now stamps }
+    requires { V.fits values.now (length room.old) }
+    ensures reports { result ≡ reports_where seen.now.ports.now (V.counts values.now) seen.now.from seen.now.change check.now stamps }
     ensures len { length room.new ≡ length room.old }
 {
-    if !happens(values.model.ports.as_slice(), check.second, from, change) {
+    if !happens(seen, check.second) {
         return false;
     }
-    let enabled = is_enabled(values, check.condition, room);
-    enabled && is_within(change.at, check.limit, opened(check, from, change, stamps))
+    let enabled = values.is_enabled(check.condition, room);
+    enabled && is_within(seen.change.at, check.limit, opened(seen, check, stamps))
 }
 
-/// Writes for each check whether it reports.
-pub(crate) fn compare_all(
-    values: &ModuleValues,
-    from: Trit,
-    change: Change,
+/// Writes for each check whether it reports. `values` are those after the change.
+pub(crate) fn compare_all<V: Conditions>(
+    values: &V,
+    seen: &InputChange,
+    checks: &[TimingCheck],
     stamps: &[Stamps],
     reports: &mut Items<bool>,
     room: &mut Items<Trit>,
 )
-    requires wired { IsTrue (is_wired (length room.old) values.now.model.now) }
-    requires one_each { length stamps.now ≡ length values.now.model.now.checks }
-    requires one_report { length reports.old ≡ length values.now.model.now.checks }
-    ensures reports { reports.new ≡ each (check_reports values.now.model.now values.now.inputs.now values.now.states.now from change) values.now.model.now.checks stamps.now }
+    requires fits { V.fits values.now (length room.old) }
+    requires one_each { length stamps.now ≡ length checks.now }
+    requires one_report { length reports.old ≡ length checks.now }
+    ensures reports { reports.new ≡ each (reports_where seen.now.ports.now (V.counts values.now) seen.now.from seen.now.change) checks.now stamps.now }
     ensures len { length reports.new ≡ length reports.old }
     ensures room { length room.new ≡ length room.old }
 {
-    let checks = values.model.checks.as_slice();
     for i in 0..reports.len() {
-        let reported = check_reports(values, from, change, &checks[i], stamps[i], room);
+        let reported = check_reports(values, seen, &checks[i], stamps[i], room);
         reports.set(i, reported);
     }
 }
 
-/// Takes the kept times of all checks over a change of an input that had the value `from`.
-pub(crate) fn stamp_all(model: &VModule, from: Trit, change: Change, stamps: &mut Items<Stamps>)
-    requires { length stamps.old ≡ length model.now.checks }
-    ensures stamped { stamps.new ≡ each (stamped model.now.ports from change) model.now.checks stamps.old }
+/// Takes the kept times of all checks over a change.
+pub(crate) fn stamp_all(seen: &InputChange, checks: &[TimingCheck], stamps: &mut Items<Stamps>)
+    requires { length stamps.old ≡ length checks.now }
+    ensures stamped { stamps.new ≡ each (stamped seen.now.ports.now seen.now.from seen.now.change) checks.now stamps.old }
     ensures len { length stamps.new ≡ length stamps.old }
 {
-    let ports = model.ports.as_slice();
-    let checks = model.checks.as_slice();
     for i in 0..stamps.len() {
         let kept = stamps.as_slice()[i];
-        stamps.set(i, stamped(ports, from, change, &checks[i], kept));
+        stamps.set(i, stamped(seen, &checks[i], kept));
     }
 }
 

@@ -1,7 +1,7 @@
 //! The delay of an output's change: the least over the active paths.
-ghost use Rattle.std.specs.Prelude.{◌≡◌, ◌<◌, length, IsTrue, drop};
+ghost use Rattle.std.specs.Prelude.{◌≡◌, ◌<◌, true, length, IsTrue, drop};
 ghost use Rattle.std.specs.List.{list_all};
-ghost use Rattle.cell_machine.specs.Delay.{least_delay};
+ghost use Rattle.cell_machine.specs.Delay.{path_delay, least_delay};
 ghost use Rattle.table_interpreters.specs.Wiring.{is_wired};
 ghost use Rattle.model_traces.specs.PathDelays.{is_off, is_quiet, is_active, is_between, paths_between, path_at, delay_at};
 ghost use Rattle.table_interpreters.specs.LeastPath.{path_delay_of};
@@ -25,6 +25,19 @@ pub struct OutputChange {
     pub from: Trit,
     /// The value that it has.
     pub to: Trit,
+}
+
+impl OutputChange {
+    /// The delay of the change by a path with these delays, in picoseconds: the rise of a possible rise, else the fall.
+    pub(crate) fn delay(self, rise: u64, fall: u64) -> u64
+        ensures { result ≡ path_delay self.from self.to (record { active = true; rise = rise; fall = fall }) }
+    {
+        if is_rise(self.from, self.to) {
+            rise
+        } else {
+            fall
+        }
+    }
 }
 
 /// Whether a path is no `if` path or its net is 0.
@@ -100,11 +113,7 @@ fn path_delay(
     if !is_active(values, path, room) {
         return None;
     }
-    Some(if is_rise(change.from, change.to) {
-        path.rise
-    } else {
-        path.fall
-    })
+    Some(change.delay(path.rise, path.fall))
 }
 
 /// The delay of a change of an output: the least over the active paths from the input to it, 0 where none is active.
@@ -118,10 +127,7 @@ fn least_delay(values: &ModuleValues, change: OutputChange, room: &mut Items<Tri
     for i in 0..paths.len() {
         best = lesser(best, path_delay(values, change, paths[i], room));
     }
-    match best {
-        Some(delay) => delay,
-        None => 0,
-    }
+    best.unwrap_or(0)
 }
 
 /// The delay of an output, there where it changes.

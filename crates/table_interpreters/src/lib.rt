@@ -3,6 +3,7 @@
 #![tactic(auto)]
 
 mod checks;
+mod conditions;
 mod delays;
 mod entity_values;
 mod module_run;
@@ -10,7 +11,6 @@ mod module_values;
 mod net_values;
 mod ports;
 mod primitives;
-mod process_checks;
 mod process_delays;
 mod process_rooms;
 mod process_run;
@@ -18,6 +18,7 @@ mod process_shown;
 mod process_states;
 mod process_values;
 mod shown;
+mod starts;
 mod verilog_sim;
 mod vital_sim;
 mod wiring;

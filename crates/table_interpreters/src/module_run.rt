@@ -2,9 +2,10 @@
 ghost use Rattle.std.specs.Prelude.{◌≡◌, ◌<◌, [], ◌∷◌, length, IsTrue};
 ghost use Rattle.table_interpreters.specs.Wiring.{is_wired};
 ghost use Rattle.cell_machine.specs.History.{value_before};
+ghost use Rattle.model_traces.specs.Primitives.{next_states};
 ghost use Rattle.model_traces.specs.ModuleRun.{toggled, entered, notified, shaken, reports_at, happened, step_reports, run_step, HasEach};
 
-use crate::checks::{clear, compare_all, stamp_all};
+use crate::checks::{InputChange, clear, compare_all, stamp_all};
 use crate::module_values::ModuleValues;
 use crate::primitives::step_states;
 use cell_machine::Change;
@@ -24,6 +25,24 @@ fn toggled(notifier: Trit) -> Trit
     }
 }
 
+/// The primitives that see a change take their next states.
+fn turn_states(run: &mut ModuleRun, model: &VModule, turn: Turn, room: &mut Items<Trit>)
+    requires wired { IsTrue (is_wired (length room.old) model.now) }
+    requires one_each { HasEach model.now run.old }
+    ensures stepped { run.new ≡ record { inputs = run.old.inputs; states = next_states model.now run.old.inputs run.old.notifier turn run.old.states; notifier = run.old.notifier; stamps = run.old.stamps } }
+    ensures one_each { HasEach model.now run.new }
+    ensures len { length room.new ≡ length room.old }
+{
+    step_states(
+        model,
+        run.inputs.as_slice(),
+        run.notifier,
+        turn,
+        &mut run.states,
+        room,
+    );
+}
+
 /// The input takes its value, and the primitives that it feeds their next states.
 fn enter(run: &mut ModuleRun, model: &VModule, change: Change, from: Trit, room: &mut Items<Trit>)
     requires wired { IsTrue (is_wired (length room.old) model.now) }
@@ -39,14 +58,7 @@ fn enter(run: &mut ModuleRun, model: &VModule, change: Change, from: Trit, room:
         what: Turned::Input(change.pin),
         from,
     };
-    step_states(
-        model,
-        run.inputs.as_slice(),
-        run.notifier,
-        turn,
-        &mut run.states,
-        room,
-    );
+    turn_states(run, model, turn, room);
 }
 
 /// The register of the checks changes once.
@@ -63,14 +75,7 @@ fn notify(run: &mut ModuleRun, model: &VModule, room: &mut Items<Trit>)
         from: run.notifier,
     };
     run.notifier = toggled(run.notifier);
-    step_states(
-        model,
-        run.inputs.as_slice(),
-        run.notifier,
-        turn,
-        &mut run.states,
-        room,
-    );
+    turn_states(run, model, turn, room);
 }
 
 /// The register changes where a check reported.
@@ -128,8 +133,15 @@ fn happen(
         inputs: run.inputs.as_slice(),
         states: run.states.as_slice(),
     };
-    compare_all(&values, from, change, run.stamps.as_slice(), reports, room);
-    stamp_all(model, from, change, &mut run.stamps);
+    let ports = model.ports.as_slice();
+    let seen = InputChange {
+        ports,
+        from,
+        change,
+    };
+    let checks = model.checks.as_slice();
+    compare_all(&values, &seen, checks, run.stamps.as_slice(), reports, room);
+    stamp_all(&seen, checks, &mut run.stamps);
     shake(run, model, reports.as_slice(), room);
 }
 

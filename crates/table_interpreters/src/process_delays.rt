@@ -13,7 +13,7 @@ use crate::delays::OutputChange;
 use crate::entity_values::EntityValues;
 use crate::ports::input_number;
 use crate::process_values::condition_value;
-use cell_machine::{is_rise, lesser};
+use cell_machine::lesser;
 use sqlite_items::Items;
 use trit_cubes::Trit;
 use vital_models::{HGate, HPath, VOutput};
@@ -65,11 +65,7 @@ fn path_delay(
     if !gate_holds(values, &path.gate, room) {
         return None;
     }
-    Some(if is_rise(change.from, change.to) {
-        path.rise
-    } else {
-        path.fall
-    })
+    Some(change.delay(path.rise, path.fall))
 }
 
 /// The least delay over the paths of an output that hold, 0 where none does.
@@ -89,10 +85,7 @@ fn least_delay(
     for i in 0..paths.len() {
         best = lesser(best, path_delay(values, change, &paths[i], room));
     }
-    match best {
-        Some(delay) => delay,
-        None => 0,
-    }
+    best.unwrap_or(0)
 }
 
 /// The delay of an output, there where it changes.

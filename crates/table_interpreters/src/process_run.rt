@@ -7,9 +7,8 @@ ghost use Rattle.table_interpreters.specs.EntityRooms.{HasRoom};
 ghost use Rattle.table_interpreters.specs.EntitySteps.{event_reports, event_step, state_step, change_reports, HasParts};
 ghost use Rattle.model_traces.specs.ProcessRun.{violation_by};
 
-use crate::checks::clear;
+use crate::checks::{InputChange, clear, compare_all, stamp_all};
 use crate::entity_values::EntityValues;
-use crate::process_checks::{compare_entity, stamp_entity};
 use crate::process_states::step_entity;
 use cell_machine::Change;
 use model_traces::Stamps;
@@ -81,7 +80,14 @@ fn happen(
         inputs: run.inputs.as_slice(),
         states: run.states.as_slice(),
     };
-    compare_entity(&values, from, change, run.stamps.as_slice(), reports, room);
+    let ports = model.ports.as_slice();
+    let seen = InputChange {
+        ports,
+        from,
+        change,
+    };
+    let checks = model.checks.as_slice();
+    compare_all(&values, &seen, checks, run.stamps.as_slice(), reports, room);
     let violation = violation_of(reports.as_slice());
     step_entity(
         model,
@@ -95,7 +101,7 @@ fn happen(
     );
     run.before.set(change.pin, change.to);
     run.violation = violation;
-    stamp_entity(model, from, change, &mut run.stamps);
+    stamp_all(&seen, checks, &mut run.stamps);
 }
 
 /// Takes the run over a change of an input, and writes which checks report.

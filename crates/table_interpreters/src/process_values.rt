@@ -4,7 +4,7 @@ ghost use Rattle.std.specs.Prelude.{◌≡◌, ◌+◌, ◌<◌, ◌≤◌, ◌+
 ghost use Rattle.vital_models.specs.Sound.{IsTruth, IsValue, IsSound};
 ghost use Rattle.table_interpreters.specs.EntityRooms.{source_count, HasRoom};
 ghost use Rattle.model_traces.specs.PortNumbers.{input_value};
-ghost use Rattle.model_traces.specs.ProcessValues.{truth_value, condition_value, is_enabled, source_value, output_value};
+ghost use Rattle.model_traces.specs.ProcessValues.{truth_value, condition_value, source_value, output_value};
 
 use crate::entity_values::EntityValues;
 use crate::ports::input_value;
@@ -61,23 +61,6 @@ pub(crate) fn condition_value(values: &EntityValues, i: usize, room: &mut Items<
         &conditions[i],
         room,
     )
-}
-
-/// Whether a check's condition lets it count: there is none, or it is 1.
-pub(crate) fn is_enabled(
-    values: &EntityValues,
-    condition: Option<usize>,
-    room: &mut Items<Trit>,
-) -> bool
-    requires sound { IsSound values.now.model.now }
-    requires room { HasRoom (length room.old) values.now.model.now }
-    ensures enabled { result ≡ is_enabled values.now.model.now values.now.inputs.now condition }
-    ensures len { length room.new ≡ length room.old }
-{
-    match condition {
-        Some(i) => condition_value(values, i, room) == Trit::One,
-        None => true,
-    }
 }
 
 /// The value of an input port, or of a state.

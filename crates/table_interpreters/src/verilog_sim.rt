@@ -7,9 +7,10 @@ use crate::module_run::change;
 use crate::module_values::ModuleValues;
 use crate::ports::input_count;
 use crate::shown::{Shown, show_all, show_start};
+use crate::starts::{no_reports, no_times, unknown_values};
 use crate::wiring::most_nets;
 use cell_machine::{CellSim, Change, Sizes};
-use model_traces::{ModuleRun, Stamps};
+use model_traces::ModuleRun;
 use specify_blocks::VModule;
 use sqlite_items::Items;
 use std::alloc::{AllocError, Global};
@@ -42,12 +43,12 @@ impl<'a> VerilogSim<'a> {
         ensures machine { IfOk result (λ sim. ⟦<VerilogSim<'a> as CellSim>⟧.machine sim ≡ module_machine model.now) }
         ensures stands { IfOk result (λ sim. ⟦<VerilogSim<'a> as CellSim>⟧.stands sim []) }
     {
-        let mut room = Items::from_vec(vec![in alloc; Trit::Unknown; most_nets(model)]?);
+        let mut room = unknown_values(alloc, most_nets(model))?;
         let count = input_count(model.ports.as_slice());
-        let inputs = Items::from_vec(vec![in alloc; Trit::Unknown; count]?);
-        let states = Items::from_vec(vec![in alloc; Trit::Unknown; model.instances.len()]?);
-        let stamps = Items::from_vec(vec![in alloc; Stamps::none(); model.checks.len()]?);
-        let reports = Items::from_vec(vec![in alloc; false; model.checks.len()]?);
+        let inputs = unknown_values(alloc, count)?;
+        let states = unknown_values(alloc, model.instances.len())?;
+        let stamps = no_times(alloc, model.checks.len())?;
+        let reports = no_reports(alloc, model.checks.len())?;
         let values = ModuleValues {
             model,
             inputs: inputs.as_slice(),

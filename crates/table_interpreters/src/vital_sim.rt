@@ -13,8 +13,8 @@ use crate::process_rooms::most_columns;
 use crate::process_run::{ProcessState, take};
 use crate::process_shown::{show_entity, show_first};
 use crate::shown::Shown;
+use crate::starts::{no_reports, no_times, unknown_values};
 use cell_machine::{CellSim, Change, Sizes};
-use model_traces::Stamps;
 use sqlite_items::Items;
 use std::alloc::{AllocError, Global};
 use trit_cubes::Trit;
@@ -50,14 +50,14 @@ impl<'a> VitalSim<'a> {
         ensures stands { IfOk result (λ sim. ⟦<VitalSim<'a> as CellSim>⟧.stands sim []) }
     {
         let most = most_columns(model);
-        let earlier = Items::from_vec(vec![in alloc; Trit::Unknown; most]?);
-        let mut room = Items::from_vec(vec![in alloc; Trit::Unknown; most]?);
+        let earlier = unknown_values(alloc, most)?;
+        let mut room = unknown_values(alloc, most)?;
         let count = input_count(model.ports.as_slice());
-        let inputs = Items::from_vec(vec![in alloc; Trit::Unknown; count]?);
-        let before = Items::from_vec(vec![in alloc; Trit::Unknown; count]?);
-        let states = Items::from_vec(vec![in alloc; Trit::Unknown; model.states.len()]?);
-        let stamps = Items::from_vec(vec![in alloc; Stamps::none(); model.checks.len()]?);
-        let reports = Items::from_vec(vec![in alloc; false; model.checks.len()]?);
+        let inputs = unknown_values(alloc, count)?;
+        let before = unknown_values(alloc, count)?;
+        let states = unknown_values(alloc, model.states.len())?;
+        let stamps = no_times(alloc, model.checks.len())?;
+        let reports = no_reports(alloc, model.checks.len())?;
         let values = EntityValues {
             model,
             inputs: inputs.as_slice(),

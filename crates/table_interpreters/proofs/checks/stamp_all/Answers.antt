@@ -7,21 +7,21 @@ use Rattle.table_interpreters.proofs.checks.stamp_all.Goals as goal
 
 pub loop-i-preserved : goal.loop-i-preserved
 loop-i-preserved c =
-    let m = c.args.model.now in
+    let checks = c.args.checks.now in
     let many : c.loop-i.i < length c.loop-i.stamps = omega arith in
-    let inside : c.loop-i.i < length m.checks = omega (arith, c.loop-i.invariant.len, c.requires) in
+    let inside : c.loop-i.i < length checks = omega (arith, c.loop-i.invariant.len, c.requires) in
     record {
       whole =
           rw (c.set.ensures, add-one)
-          (each-step (stamped m.ports c.args.from c.args.change) m.checks c.loop-i.stamps c.loop-i.i _ c.stamped.result _
-          (slice_get-get_or m.checks c.loop-i.i _ inside) many
-          (rw (c.as_slice-ports.ensures, c.as_slice-checks.ensures, c.as_slice.ensures) at c.stamped.ensures)
+          (each-step (stamped c.args.seen.now.ports.now c.args.seen.now.from c.args.seen.now.change) checks c.loop-i.stamps c.loop-i.i _ c.stamped.result _
+          (slice_get-get_or checks c.loop-i.i _ inside) many
+          (rw c.as_slice.ensures at c.stamped.ensures)
           ∙ c.loop-i.invariant.whole);
       len = ap length c.set.ensures ∙ length-set c.loop-i.stamps c.loop-i.i c.stamped.result ∙ c.loop-i.invariant.len;
     }
 
 pub returns-clause-stamped : goal.returns-clause-stamped
 returns-clause-stamped c =
-    let m = c.args.model.now in
-    sym (each-done (stamped m.ports c.args.from c.args.change) m.checks c.loop-i.stamps c.loop-i.i (omega arith))
+    let checks = c.args.checks.now in
+    sym (each-done (stamped c.args.seen.now.ports.now c.args.seen.now.from c.args.seen.now.change) checks c.loop-i.stamps c.loop-i.i (omega arith))
     ∙ c.loop-i.invariant.whole

@@ -1,4 +1,7 @@
 use Rattle.std.proofs.Common.{◌∙◌}
+use Rattle.cell_machine.specs.Each.{each}
+use Rattle.model_traces.specs.CheckTimes.{is_enabled, reports_where}
+use Rattle.model_traces.specs.ModuleRun.{reports_by}
 use Rattle.table_interpreters.proofs.module_run.happen.Goals as goal
 
 pub shake-requires-clause-one_each : goal.shake-requires-clause-one_each
@@ -7,3 +10,13 @@ shake-requires-clause-one_each c =
       states = c.enter.ensures.one_each.states;
       stamps = c.stamp_all.ensures.len ∙ c.enter.ensures.one_each.stamps;
     }
+
+pub returns-clause-reports : goal.returns-clause-reports
+returns-clause-reports c =
+    let m = c.args.model.now in
+    c.compare_all.ensures.reports
+    ∙ (λ i.
+    each
+    (reports_where (c.as_slice-ports.ensures i) (is_enabled m (c.as_slice.ensures i) (c.as_slice-2.ensures i)) c.args.from c.args.change)
+    (c.as_slice-checks.ensures i) (c.as_slice-3.ensures i))
+    ∙ (λ i. reports_by m (c.enter.ensures.stepped i) (c.requires.from i) c.args.change)

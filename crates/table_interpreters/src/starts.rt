@@ -1,0 +1,33 @@
+//! What a simulator holds before any change.
+ghost use Rattle.std.specs.Prelude.{◌≡◌, false, replicate, IfOk};
+ghost use Rattle.trit_cubes.specs.declared.trits.Trit.TheVariants.{Unknown};
+ghost use Rattle.model_traces.specs.CheckTimes.{no_stamps};
+
+use model_traces::Stamps;
+use sqlite_items::Items;
+use std::alloc::{AllocError, Global};
+use trit_cubes::Trit;
+
+/// So many unknown values.
+pub(crate) fn unknown_values(alloc: Global, count: usize) -> Result<Items<Trit>, AllocError>
+    ensures { IfOk result (λ values. values ≡ replicate count Unknown) }
+{
+    let values = vec![in alloc; Trit::Unknown; count]?;
+    Ok(Items::from_vec(values))
+}
+
+/// No times of so many checks.
+pub(crate) fn no_times(alloc: Global, count: usize) -> Result<Items<Stamps>, AllocError>
+    ensures { IfOk result (λ stamps. stamps ≡ replicate count no_stamps) }
+{
+    let stamps = vec![in alloc; Stamps::none(); count]?;
+    Ok(Items::from_vec(stamps))
+}
+
+/// No report of so many checks.
+pub(crate) fn no_reports(alloc: Global, count: usize) -> Result<Items<bool>, AllocError>
+    ensures { IfOk result (λ reports. reports ≡ replicate count false) }
+{
+    let reports = vec![in alloc; false; count]?;
+    Ok(Items::from_vec(reports))
+}

@@ -2,3 +2,4 @@ pub mod Fronts
 pub mod Places
 pub mod Derivations
 pub mod Spelling
+pub mod Bytes

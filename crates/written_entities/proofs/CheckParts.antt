@@ -13,9 +13,10 @@ use Rattle.vital_models.specs.declared.model.VEntity.{VEntity}
 use Rattle.rule_readers.specs.Words.{valued}
 use Rattle.vhdl_text.specs.VhdlChecks.{Checks, has_data, tested, referred, enabling_condition, always_enabled, enabled, reference_edge, transition, equal_to, same_number, both_limits, one_limit}
 use Rattle.vhdl_text.specs.WellFormed.{IsNumber, IsWellFormedEntity, conditions_of_check}
+use Rattle.grammar_phrases.proofs.Bytes.{number_is}
 use Rattle.grammar_phrases.proofs.Derivations.{Reads, gives, token, in_turn, chosen, passed}
 use Rattle.grammar_phrases.proofs.Places.{get_at}
-use Rattle.written_entities.proofs.Words.{word, of_report, of_data, number_is}
+use Rattle.written_entities.proofs.Words.{word}
 use Rattle.written_entities.proofs.NameReading.{expected, two_expected, three_expected, time_read, part_read}
 use Rattle.written_entities.proofs.Parts.{place_below, check_number}
 use Rattle.written_entities.proofs.PortLookUps.{input_read}
@@ -45,9 +46,9 @@ tested_read e w word before k after b p same h input =
     let below : length before + 1 ≤ length e.checks = place_below before k after e.checks same in
     let number : IsNumber (length before + 1) = check_number e w (length before + 1) below in
     in_turn three_expected
-    (in_turn (part_read (nat_lt (length before) (length (scope e).variables.periods)) 120 (length before + 1) of_report number
+    (in_turn (part_read (nat_lt (length before) (length (scope e).variables.periods)) 120 (length before + 1) refl number
     (less (length before) (length (scope e).variables.periods) (omega (arith, below, length-map e.checks is_period_check))))
-    (in_turn three_expected (in_turn (part_read (has_data (scope e) b (length before)) 100 (length before + 1) of_data number (its_data e before k after b same h))
+    (in_turn three_expected (in_turn (part_read (has_data (scope e) b (length before)) 100 (length before + 1) refl number (its_data e before k after b same h))
     (in_turn three_expected (in_turn (input_read e w p input) (in_turn expected gives))))))
 
 pub referred_read : (e : VEntity) → IsWellFormedEntity e → (p : ℕ) {s : List (List ℕ)} → IsTrue (Rattle.udp_tables.specs.Ports.is_input_port e.ports p) → Reads (referred (scope e)) (referred_front e p s) p s

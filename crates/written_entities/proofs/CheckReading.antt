@@ -1,5 +1,5 @@
 -- The calls of timing checks in a written entity are read from their tokens.
-use Rattle.std.proofs.Common.{◌≡◌, ℕ, ◌+◌, true, false, ◌&&◌, nat_eq, List, [], ◌∷◌, ◌++◌, length, flat_map, Some, refl, sym, ap, ◌∙◌, subst, codes}
+use Rattle.std.proofs.Common.{◌≡◌, ℕ, ◌+◌, true, false, ◌&&◌, nat_eq, List, [], ◌∷◌, ◌++◌, length, flat_map, ◌⊎◌, inl, inr, Some, refl, sym, ap, ◌∙◌, codes}
 use Rattle.std.proofs.lemmas.Bool.{and_parts, eqb-true}
 use Rattle.std.proofs.lemmas.List.{length-map}
 use Rattle.grammar_rules.specs.Rule as r
@@ -35,51 +35,34 @@ any_event v h = ap (λ (g : Edge). record { pin = v.pin; edge = g }) (by v.edge 
     by edge.Rise h = absurd cc
     by edge.Fall h = absurd cc
 
+-- one of two kinds
+abbrev IsOneOf : CheckKind → CheckKind → CheckKind → Type 0
+IsOneOf a b kind = (kind ≡ a) ⊎ (kind ≡ b)
+
 -- what is read of a check, by its kind
 abbrev IsSetupOrHold : CheckKind → Type 0
-IsSetupOrHold check_kind.Setup = Unit {0}
-IsSetupOrHold check_kind.Hold = Unit {0}
-IsSetupOrHold check_kind.Recovery = ⊥
-IsSetupOrHold check_kind.Removal = ⊥
-IsSetupOrHold check_kind.Width = ⊥
-IsSetupOrHold check_kind.Period = ⊥
+IsSetupOrHold kind = IsOneOf check_kind.Setup check_kind.Hold kind
 
 high_read : (kind : CheckKind) {s : List (List ℕ)} → IsSetupOrHold kind → Reads (valued setup_or_hold) (high_token kind ∷ s) kind s
-high_read check_kind.Setup h = token refl
-high_read check_kind.Hold h = token refl
-high_read check_kind.Recovery h = absurd h
-high_read check_kind.Removal h = absurd h
-high_read check_kind.Width h = absurd h
-high_read check_kind.Period h = absurd h
+high_read kind (inl a) = rw a (token refl)
+high_read kind (inr a) = rw a (token refl)
 
 setup_hold_is : (k : TimingCheck) (kind : CheckKind) → IsSetupOrHold kind → has_events k kind ≡ true
     → check_with kind (record { pin = (test_at k kind).pin; edge = edge.Any }) (record { pin = (reference_at k kind).pin; edge = (reference_at k kind).edge }) k.limit k.condition ≡ of_kind k kind
-setup_hold_is k check_kind.Setup h e =
-    ap (λ (v : Event). of_kind (record { kind = check_kind.Setup; first = v; second = k.second; limit = k.limit; condition = k.condition }) check_kind.Setup)
-    (any_event k.first (and_parts (is_any_edge k.first.edge) (is_one_edge k.second.edge) e).0)
-setup_hold_is k check_kind.Hold h e =
-    ap (λ (v : Event). of_kind (record { kind = check_kind.Hold; first = k.first; second = v; limit = k.limit; condition = k.condition }) check_kind.Hold)
-    (any_event k.second (and_parts (is_one_edge k.first.edge) (is_any_edge k.second.edge) e).1)
-setup_hold_is k check_kind.Recovery h e = absurd h
-setup_hold_is k check_kind.Removal h e = absurd h
-setup_hold_is k check_kind.Width h e = absurd h
-setup_hold_is k check_kind.Period h e = absurd h
+setup_hold_is k kind (inl a) e =
+    rw a (ap (λ (v : Event). of_kind (record { kind = check_kind.Setup; first = v; second = k.second; limit = k.limit; condition = k.condition }) check_kind.Setup)
+    (any_event k.first (and_parts (is_any_edge k.first.edge) (is_one_edge k.second.edge) (rw a at e)).0))
+setup_hold_is k kind (inr a) e =
+    rw a (ap (λ (v : Event). of_kind (record { kind = check_kind.Hold; first = k.first; second = v; limit = k.limit; condition = k.condition }) check_kind.Hold)
+    (any_event k.second (and_parts (is_one_edge k.first.edge) (is_any_edge k.second.edge) (rw a at e)).1))
 
 setup_hold_edge : (k : TimingCheck) (kind : CheckKind) → IsSetupOrHold kind → has_events k kind ≡ true → is_one_edge (reference_at k kind).edge ≡ true
-setup_hold_edge k check_kind.Setup h e = (and_parts (is_any_edge k.first.edge) (is_one_edge k.second.edge) e).1
-setup_hold_edge k check_kind.Hold h e = (and_parts (is_one_edge k.first.edge) (is_any_edge k.second.edge) e).0
-setup_hold_edge k check_kind.Recovery h e = absurd h
-setup_hold_edge k check_kind.Removal h e = absurd h
-setup_hold_edge k check_kind.Width h e = absurd h
-setup_hold_edge k check_kind.Period h e = absurd h
+setup_hold_edge k kind (inl a) e = rw a (and_parts (is_any_edge k.first.edge) (is_one_edge k.second.edge) (rw a at e)).1
+setup_hold_edge k kind (inr a) e = rw a (and_parts (is_one_edge k.first.edge) (is_any_edge k.second.edge) (rw a at e)).0
 
 timed_kind : (kind : CheckKind) → IsSetupOrHold kind → is_period kind ≡ false
-timed_kind check_kind.Setup h = refl
-timed_kind check_kind.Hold h = refl
-timed_kind check_kind.Recovery h = absurd h
-timed_kind check_kind.Removal h = absurd h
-timed_kind check_kind.Width h = absurd h
-timed_kind check_kind.Period h = absurd h
+timed_kind kind (inl a) = rw a refl
+timed_kind kind (inr a) = rw a refl
 
 setup_hold_read : (e : VEntity) → IsWellFormedEntity e → (before : List TimingCheck) (k : TimingCheck) (after : List TimingCheck) {s : List (List ℕ)} → before ++ k ∷ after ≡ e.checks → IsSetupOrHold k.kind
     → Reads (setup_hold (scope e) (checked e before)) (setup_hold_front e (length before + 1) k s) (checked e (before ++ k ∷ [])) s
@@ -95,45 +78,24 @@ setup_hold_read e w before k after same h =
     (to_same (ap (λ (j : TimingCheck). record { checks = before ++ j ∷ []; uses = uses_of e (seen_after seen (of_when k.condition)) }) (setup_hold_is k k.kind h c.sound.events) ∙ with_it e before k) gives))))))
 
 abbrev IsRecoveryOrRemoval : CheckKind → Type 0
-IsRecoveryOrRemoval check_kind.Setup = ⊥
-IsRecoveryOrRemoval check_kind.Hold = ⊥
-IsRecoveryOrRemoval check_kind.Recovery = Unit {0}
-IsRecoveryOrRemoval check_kind.Removal = Unit {0}
-IsRecoveryOrRemoval check_kind.Width = ⊥
-IsRecoveryOrRemoval check_kind.Period = ⊥
+IsRecoveryOrRemoval kind = IsOneOf check_kind.Recovery check_kind.Removal kind
 
 recovery_read : (kind : CheckKind) {s : List (List ℕ)} → IsRecoveryOrRemoval kind → Reads (valued recovery_or_removal) (recovery_token kind ∷ s) kind s
-recovery_read check_kind.Recovery h = token refl
-recovery_read check_kind.Removal h = token refl
-recovery_read check_kind.Setup h = absurd h
-recovery_read check_kind.Hold h = absurd h
-recovery_read check_kind.Width h = absurd h
-recovery_read check_kind.Period h = absurd h
+recovery_read kind (inl a) = rw a (token refl)
+recovery_read kind (inr a) = rw a (token refl)
 
 recovery_is : (k : TimingCheck) (kind : CheckKind) → IsRecoveryOrRemoval kind
     → check_with kind (record { pin = (test_at k kind).pin; edge = (test_at k kind).edge }) (record { pin = (reference_at k kind).pin; edge = (reference_at k kind).edge }) k.limit k.condition ≡ of_kind k kind
-recovery_is k check_kind.Recovery h = refl
-recovery_is k check_kind.Removal h = refl
-recovery_is k check_kind.Setup h = absurd h
-recovery_is k check_kind.Hold h = absurd h
-recovery_is k check_kind.Width h = absurd h
-recovery_is k check_kind.Period h = absurd h
+recovery_is k kind (inl a) = rw a refl
+recovery_is k kind (inr a) = rw a refl
 
 recovery_edges : (k : TimingCheck) (kind : CheckKind) → IsRecoveryOrRemoval kind → has_events k kind ≡ true → (is_one_edge (test_at k kind).edge ≡ true) × (is_one_edge (reference_at k kind).edge ≡ true)
-recovery_edges k check_kind.Recovery h e = and_parts (is_one_edge k.first.edge) (is_one_edge k.second.edge) e
-recovery_edges k check_kind.Removal h e = let p = and_parts (is_one_edge k.first.edge) (is_one_edge k.second.edge) e in (p.1, p.0)
-recovery_edges k check_kind.Setup h e = absurd h
-recovery_edges k check_kind.Hold h e = absurd h
-recovery_edges k check_kind.Width h e = absurd h
-recovery_edges k check_kind.Period h e = absurd h
+recovery_edges k kind (inl a) e = rw a (and_parts (is_one_edge k.first.edge) (is_one_edge k.second.edge) (rw a at e))
+recovery_edges k kind (inr a) e = let p = and_parts (is_one_edge k.first.edge) (is_one_edge k.second.edge) (rw a at e) in rw a (p.1, p.0)
 
 recovery_kind : (kind : CheckKind) → IsRecoveryOrRemoval kind → is_period kind ≡ false
-recovery_kind check_kind.Recovery h = refl
-recovery_kind check_kind.Removal h = refl
-recovery_kind check_kind.Setup h = absurd h
-recovery_kind check_kind.Hold h = absurd h
-recovery_kind check_kind.Width h = absurd h
-recovery_kind check_kind.Period h = absurd h
+recovery_kind kind (inl a) = rw a refl
+recovery_kind kind (inr a) = rw a refl
 
 control_read : (g : Edge) {s : List (List ℕ)} → is_one_edge g ≡ true → Reads (valued control_edge) (active_token g ∷ s) g s
 control_read edge.Any h = absurd cc
@@ -159,20 +121,11 @@ recovery_removal_read e w before k after same h =
     (to_same (ap (λ (j : TimingCheck). record { checks = before ++ j ∷ []; uses = uses_of e (seen_after seen (of_when k.condition)) }) (recovery_is k k.kind h) ∙ with_it e before k) gives)))))))
 
 abbrev IsPulseOrPeriod : CheckKind → Type 0
-IsPulseOrPeriod check_kind.Setup = ⊥
-IsPulseOrPeriod check_kind.Hold = ⊥
-IsPulseOrPeriod check_kind.Recovery = ⊥
-IsPulseOrPeriod check_kind.Removal = ⊥
-IsPulseOrPeriod check_kind.Width = Unit {0}
-IsPulseOrPeriod check_kind.Period = Unit {0}
+IsPulseOrPeriod kind = IsOneOf check_kind.Width check_kind.Period kind
 
 period_kind : (kind : CheckKind) → IsPulseOrPeriod kind → is_period kind ≡ true
-period_kind check_kind.Width h = refl
-period_kind check_kind.Period h = refl
-period_kind check_kind.Setup h = absurd h
-period_kind check_kind.Hold h = absurd h
-period_kind check_kind.Recovery h = absurd h
-period_kind check_kind.Removal h = absurd h
+period_kind kind (inl a) = rw a refl
+period_kind kind (inr a) = rw a refl
 
 -- the pulse that is read, and its check
 record IsPulse (k : TimingCheck) (kind : CheckKind) (pulse : Pulse) : Type 0 where
@@ -206,19 +159,16 @@ any_is edge.Rise h = absurd cc
 any_is edge.Fall h = absurd cc
 
 its_pulse : (k : TimingCheck) (kind : CheckKind) → IsPulseOrPeriod kind → has_events k kind ≡ true → (pulse : Pulse) × IsPulse k kind pulse
-its_pulse k check_kind.Width h e =
-    let p = and_parts (nat_eq k.first.pin k.second.pin) (are_opposite k.first.edge k.second.edge) e in
-    width_pulse k k.first.edge k.second.edge refl refl p.1 p.0
-its_pulse k check_kind.Period h e =
-    let p = and_parts (nat_eq k.first.pin k.second.pin) (is_any_edge k.first.edge && is_any_edge k.second.edge) e in
-    let q = and_parts (is_any_edge k.first.edge) (is_any_edge k.second.edge) p.1 in (
+its_pulse k kind (inl a) e =
+    let p = and_parts (nat_eq k.first.pin k.second.pin) (are_opposite k.first.edge k.second.edge) (rw a at e) in
+    rw a (width_pulse k k.first.edge k.second.edge refl refl p.1 p.0)
+its_pulse k kind (inr a) e =
+    let p = and_parts (nat_eq k.first.pin k.second.pin) (is_any_edge k.first.edge && is_any_edge k.second.edge) (rw a at e) in
+    let q = and_parts (is_any_edge k.first.edge) (is_any_edge k.second.edge) p.1 in
+    rw a (
       record { kind = check_kind.Period; first = edge.Any; second = edge.Any },
       record { told = refl; same = pulse_events k check_kind.Period edge.Any edge.Any (any_is k.first.edge q.0) (any_is k.second.edge q.1) p.0 },
     )
-its_pulse k check_kind.Setup h e = absurd h
-its_pulse k check_kind.Hold h e = absurd h
-its_pulse k check_kind.Recovery h e = absurd h
-its_pulse k check_kind.Removal h e = absurd h
 
 period_pulse_read : (e : VEntity) → IsWellFormedEntity e → (before : List TimingCheck) (k : TimingCheck) (after : List TimingCheck) {s : List (List ℕ)} → before ++ k ∷ after ≡ e.checks → IsPulseOrPeriod k.kind
     → Reads (period_pulse (scope e) (checked e before)) (period_pulse_front e (length before + 1) k s) (checked e (before ++ k ∷ [])) s
@@ -237,12 +187,12 @@ period_pulse_read e w before k after same h =
 kind_turn : (e : VEntity) → IsWellFormedEntity e → (before : List TimingCheck) (k : TimingCheck) (after : List TimingCheck) {end : Checks} {left q : List (List ℕ)} → before ++ k ∷ after ≡ e.checks
     → Reads (r.Many (λ _. begins_as procedure_of) (check (scope e)) (checked e (before ++ k ∷ []))) q end left
     → (kind : CheckKind) → k.kind ≡ kind → Reads (r.Many (λ _. begins_as procedure_of) (check (scope e)) (checked e before)) (check_word kind ∷ check_more e (length before + 1) k kind q) end left
-kind_turn e w before k after same rest check_kind.Setup h = turns (turn refl (setup_hold_read e w before k after same (subst IsSetupOrHold (sym h) tt))) rest
-kind_turn e w before k after same rest check_kind.Hold h = turns (turn refl (setup_hold_read e w before k after same (subst IsSetupOrHold (sym h) tt))) rest
-kind_turn e w before k after same rest check_kind.Recovery h = turns (turn refl (recovery_removal_read e w before k after same (subst IsRecoveryOrRemoval (sym h) tt))) rest
-kind_turn e w before k after same rest check_kind.Removal h = turns (turn refl (recovery_removal_read e w before k after same (subst IsRecoveryOrRemoval (sym h) tt))) rest
-kind_turn e w before k after same rest check_kind.Width h = turns (turn refl (period_pulse_read e w before k after same (subst IsPulseOrPeriod (sym h) tt))) rest
-kind_turn e w before k after same rest check_kind.Period h = turns (turn refl (period_pulse_read e w before k after same (subst IsPulseOrPeriod (sym h) tt))) rest
+kind_turn e w before k after same rest check_kind.Setup h = turns (turn refl (setup_hold_read e w before k after same (inl h))) rest
+kind_turn e w before k after same rest check_kind.Hold h = turns (turn refl (setup_hold_read e w before k after same (inr h))) rest
+kind_turn e w before k after same rest check_kind.Recovery h = turns (turn refl (recovery_removal_read e w before k after same (inl h))) rest
+kind_turn e w before k after same rest check_kind.Removal h = turns (turn refl (recovery_removal_read e w before k after same (inr h))) rest
+kind_turn e w before k after same rest check_kind.Width h = turns (turn refl (period_pulse_read e w before k after same (inl h))) rest
+kind_turn e w before k after same rest check_kind.Period h = turns (turn refl (period_pulse_read e w before k after same (inr h))) rest
 
 -- all checks, where no other begins
 pub checks_read : (e : VEntity) → IsWellFormedEntity e → (s : List (List ℕ)) → Rattle.grammar_rules.specs.Rule.Stops (begins_as procedure_of) s

@@ -1,5 +1,5 @@
 -- The tokens of the calls of timing checks in a written entity.
-use Rattle.std.proofs.Common.{◌≡◌, ℕ, ◌+◌, ◌<◌, Bool, false, List, ◌∷◌, ◌++◌, length, Option, Some, None, refl, sym, subst, codes, decimal}
+use Rattle.std.proofs.Common.{◌≡◌, ℕ, ◌+◌, ◌<◌, Bool, true, false, List, ◌∷◌, ◌++◌, length, Option, Some, None, refl, sym, subst, codes, decimal}
 use Rattle.cell_machine.specs.declared.checks.CheckKind.{CheckKind}
 use Rattle.cell_machine.specs.declared.checks.CheckKind.TheVariants as check_kind
 use Rattle.cell_machine.specs.declared.checks.Edge.{Edge}
@@ -15,9 +15,9 @@ use Rattle.vhdl_writer.specs.Statements.{one_text, enabled_text, test_at, refere
 use Rattle.grammar_phrases.proofs.Fronts.{Front, Anything}
 use Rattle.grammar_phrases.proofs.Spelling.{joins, behind, anywhere}
 use Rattle.written_entities.proofs.Spelling.{Spells, literal}
-use Rattle.written_entities.proofs.Words.{Ends, word, name, number, of_report, of_data, true_word}
+use Rattle.written_entities.proofs.Words.{Ends, word, name, number, true_word}
 use Rattle.written_entities.proofs.Counting.{counted, counted_anywhere}
-use Rattle.written_entities.proofs.Parts.{part_behind}
+use Rattle.written_entities.proofs.Parts.{part_behind, IsBehind, by_kind}
 use Rattle.written_entities.proofs.PortLookUps.{input_named}
 use Rattle.written_entities.proofs.ConditionReading.{condition_front, condition_spelled}
 use Rattle.written_entities.proofs.Elements.{call_end}
@@ -39,11 +39,7 @@ transition_front g s = codes "," ∷ codes "RefTransition" ∷ codes "=>" ∷ ed
 
 abbrev pub high_token : CheckKind → List ℕ
 high_token check_kind.Hold = codes "HoldHigh"
-high_token check_kind.Setup = codes "SetupHigh"
-high_token check_kind.Recovery = codes "SetupHigh"
-high_token check_kind.Removal = codes "SetupHigh"
-high_token check_kind.Width = codes "SetupHigh"
-high_token check_kind.Period = codes "SetupHigh"
+high_token _ = codes "SetupHigh"
 
 abbrev pub tested_front : List ℕ → VEntity → ℕ → ℕ → Front
 tested_front word e n p s =
@@ -66,11 +62,7 @@ setup_hold_front e n k s =
 
 abbrev pub recovery_token : CheckKind → List ℕ
 recovery_token check_kind.Removal = codes "Removal"
-recovery_token check_kind.Setup = codes "Recovery"
-recovery_token check_kind.Hold = codes "Recovery"
-recovery_token check_kind.Recovery = codes "Recovery"
-recovery_token check_kind.Width = codes "Recovery"
-recovery_token check_kind.Period = codes "Recovery"
+recovery_token _ = codes "Recovery"
 
 abbrev pub active_token : Edge → List ℕ
 active_token edge.Any = codes "true"
@@ -92,11 +84,7 @@ width_token edge.Fall = codes "PulseWidthLow"
 
 abbrev pub pulse_token : TimingCheck → CheckKind → List ℕ
 pulse_token k check_kind.Period = codes "Period"
-pulse_token k check_kind.Setup = width_token k.first.edge
-pulse_token k check_kind.Hold = width_token k.first.edge
-pulse_token k check_kind.Recovery = width_token k.first.edge
-pulse_token k check_kind.Removal = width_token k.first.edge
-pulse_token k check_kind.Width = width_token k.first.edge
+pulse_token k _ = width_token k.first.edge
 
 abbrev pub period_pulse_front : VEntity → ℕ → TimingCheck → Front
 period_pulse_front e n k s =
@@ -143,47 +131,47 @@ test_word = literal 16 (λ r. refl)
 reference_word : {t : Bool} → Spells Anything t (codes ", RefSignal => ") (λ s. codes "," ∷ codes "RefSignal" ∷ codes "=>" ∷ s) false
 reference_word = literal 15 (λ r. refl)
 
-setup_high : {t : Bool} → Spells Anything t (codes ", SetupHigh => ") (λ s. codes "," ∷ codes "SetupHigh" ∷ codes "=>" ∷ s) false
-setup_high = literal 15 (λ r. refl)
+setup_high : IsBehind (codes ", SetupHigh => ") (λ s. codes "," ∷ codes "SetupHigh" ∷ codes "=>" ∷ s)
+setup_high = record { spelled = literal 15 (λ r. refl); begins = λ r. refl }
 
-hold_high : {t : Bool} → Spells Anything t (codes ", HoldHigh => ") (λ s. codes "," ∷ codes "HoldHigh" ∷ codes "=>" ∷ s) false
-hold_high = literal 14 (λ r. refl)
+hold_high : IsBehind (codes ", HoldHigh => ") (λ s. codes "," ∷ codes "HoldHigh" ∷ codes "=>" ∷ s)
+hold_high = record { spelled = literal 14 (λ r. refl); begins = λ r. refl }
 
-setup_low : {t : Bool} → Spells Anything t (codes " ps, SetupLow => ") (λ s. codes "ps" ∷ codes "," ∷ codes "SetupLow" ∷ codes "=>" ∷ s) false
-setup_low = literal 17 (λ r. refl)
+setup_low : IsBehind (codes " ps, SetupLow => ") (λ s. codes "ps" ∷ codes "," ∷ codes "SetupLow" ∷ codes "=>" ∷ s)
+setup_low = record { spelled = literal 17 (λ r. refl); begins = λ r. refl }
 
-hold_low : {t : Bool} → Spells Anything t (codes " ps, HoldLow => ") (λ s. codes "ps" ∷ codes "," ∷ codes "HoldLow" ∷ codes "=>" ∷ s) false
-hold_low = literal 16 (λ r. refl)
+hold_low : IsBehind (codes " ps, HoldLow => ") (λ s. codes "ps" ∷ codes "," ∷ codes "HoldLow" ∷ codes "=>" ∷ s)
+hold_low = record { spelled = literal 16 (λ r. refl); begins = λ r. refl }
 
 enabled_word : {t : Bool} → Spells Anything t (codes " ps, CheckEnabled => ") (λ s. codes "ps" ∷ codes "," ∷ codes "CheckEnabled" ∷ codes "=>" ∷ s) false
 enabled_word = literal 21 (λ r. refl)
 
-rise_transition : {t : Bool} → Spells Anything t (codes ", RefTransition => 'R');\n") (λ s. codes "," ∷ codes "RefTransition" ∷ codes "=>" ∷ codes "'R'" ∷ codes ")" ∷ codes ";" ∷ s) false
-rise_transition = literal 25 (λ r. refl)
+rise_transition : IsBehind (codes ", RefTransition => 'R');\n") (λ s. codes "," ∷ codes "RefTransition" ∷ codes "=>" ∷ codes "'R'" ∷ codes ")" ∷ codes ";" ∷ s)
+rise_transition = record { spelled = literal 25 (λ r. refl); begins = λ r. refl }
 
-fall_transition : {t : Bool} → Spells Anything t (codes ", RefTransition => 'F');\n") (λ s. codes "," ∷ codes "RefTransition" ∷ codes "=>" ∷ codes "'F'" ∷ codes ")" ∷ codes ";" ∷ s) false
-fall_transition = literal 25 (λ r. refl)
+fall_transition : IsBehind (codes ", RefTransition => 'F');\n") (λ s. codes "," ∷ codes "RefTransition" ∷ codes "=>" ∷ codes "'F'" ∷ codes ")" ∷ codes ";" ∷ s)
+fall_transition = record { spelled = literal 25 (λ r. refl); begins = λ r. refl }
 
-recovery_limit : {t : Bool} → Spells Anything t (codes ", Recovery => ") (λ s. codes "," ∷ codes "Recovery" ∷ codes "=>" ∷ s) false
-recovery_limit = literal 14 (λ r. refl)
+recovery_limit : IsBehind (codes ", Recovery => ") (λ s. codes "," ∷ codes "Recovery" ∷ codes "=>" ∷ s)
+recovery_limit = record { spelled = literal 14 (λ r. refl); begins = λ r. refl }
 
-removal_limit : {t : Bool} → Spells Anything t (codes ", Removal => ") (λ s. codes "," ∷ codes "Removal" ∷ codes "=>" ∷ s) false
-removal_limit = literal 13 (λ r. refl)
+removal_limit : IsBehind (codes ", Removal => ") (λ s. codes "," ∷ codes "Removal" ∷ codes "=>" ∷ s)
+removal_limit = record { spelled = literal 13 (λ r. refl); begins = λ r. refl }
 
-active_word : {t : Bool} → Spells Anything t (codes " ps, ActiveLow => true, CheckEnabled => ") (λ s. codes "ps" ∷ codes "," ∷ codes "ActiveLow" ∷ codes "=>" ∷ codes "true" ∷ codes "," ∷ codes "CheckEnabled" ∷ codes "=>" ∷ s) false
-active_word = literal 40 (λ r. refl)
+active_word : IsBehind (codes " ps, ActiveLow => true, CheckEnabled => ") (λ s. codes "ps" ∷ codes "," ∷ codes "ActiveLow" ∷ codes "=>" ∷ codes "true" ∷ codes "," ∷ codes "CheckEnabled" ∷ codes "=>" ∷ s)
+active_word = record { spelled = literal 40 (λ r. refl); begins = λ r. refl }
 
-inactive_word : {t : Bool} → Spells Anything t (codes " ps, ActiveLow => false, CheckEnabled => ") (λ s. codes "ps" ∷ codes "," ∷ codes "ActiveLow" ∷ codes "=>" ∷ codes "false" ∷ codes "," ∷ codes "CheckEnabled" ∷ codes "=>" ∷ s) false
-inactive_word = literal 41 (λ r. refl)
+inactive_word : IsBehind (codes " ps, ActiveLow => false, CheckEnabled => ") (λ s. codes "ps" ∷ codes "," ∷ codes "ActiveLow" ∷ codes "=>" ∷ codes "false" ∷ codes "," ∷ codes "CheckEnabled" ∷ codes "=>" ∷ s)
+inactive_word = record { spelled = literal 41 (λ r. refl); begins = λ r. refl }
 
-high_pulse : {t : Bool} → Spells Anything t (codes ", PulseWidthHigh => ") (λ s. codes "," ∷ codes "PulseWidthHigh" ∷ codes "=>" ∷ s) false
-high_pulse = literal 20 (λ r. refl)
+high_pulse : IsBehind (codes ", PulseWidthHigh => ") (λ s. codes "," ∷ codes "PulseWidthHigh" ∷ codes "=>" ∷ s)
+high_pulse = record { spelled = literal 20 (λ r. refl); begins = λ r. refl }
 
-low_pulse : {t : Bool} → Spells Anything t (codes ", PulseWidthLow => ") (λ s. codes "," ∷ codes "PulseWidthLow" ∷ codes "=>" ∷ s) false
-low_pulse = literal 19 (λ r. refl)
+low_pulse : IsBehind (codes ", PulseWidthLow => ") (λ s. codes "," ∷ codes "PulseWidthLow" ∷ codes "=>" ∷ s)
+low_pulse = record { spelled = literal 19 (λ r. refl); begins = λ r. refl }
 
-period_limit : {t : Bool} → Spells Anything t (codes ", Period => ") (λ s. codes "," ∷ codes "Period" ∷ codes "=>" ∷ s) false
-period_limit = literal 12 (λ r. refl)
+period_limit : IsBehind (codes ", Period => ") (λ s. codes "," ∷ codes "Period" ∷ codes "=>" ∷ s)
+period_limit = record { spelled = literal 12 (λ r. refl); begins = λ r. refl }
 
 is_one : {t : Bool} → Spells Anything t (codes " = '1'") (λ s. codes "=" ∷ codes "'1'" ∷ s) false
 is_one = literal 6 (λ r. refl)
@@ -193,128 +181,73 @@ unfolding one_text
 enabled_spelled e w None h = true_word
 enabled_spelled e w (Some i) h = anywhere (behind (condition_spelled e w i (h i refl)) is_one)
 
-transition_spelled : {t : Bool} (g : Edge) → Spells Anything t (transition_text g) (transition_front g) false
-transition_spelled edge.Any = rise_transition
-transition_spelled edge.Rise = rise_transition
-transition_spelled edge.Fall = fall_transition
+transition : (g : Edge) → IsBehind (transition_text g) (transition_front g)
+transition edge.Any = rise_transition
+transition edge.Rise = rise_transition
+transition edge.Fall = fall_transition
 
-transition_begins : (g : Edge) (r : List ℕ) → Ends (transition_text g ++ r)
-transition_begins edge.Any r = refl
-transition_begins edge.Rise r = refl
-transition_begins edge.Fall r = refl
+high : (kind : CheckKind) → IsBehind (high_word kind) (λ s. codes "," ∷ high_token kind ∷ codes "=>" ∷ s)
+high = by_kind (λ (kind : CheckKind). IsBehind (high_word kind) (λ s. codes "," ∷ high_token kind ∷ codes "=>" ∷ s)) setup_high hold_high setup_high setup_high setup_high setup_high
 
-high_spelled : {t : Bool} (kind : CheckKind) → Spells Anything t (high_word kind) (λ s. codes "," ∷ high_token kind ∷ codes "=>" ∷ s) false
-high_spelled check_kind.Hold = hold_high
-high_spelled check_kind.Setup = setup_high
-high_spelled check_kind.Recovery = setup_high
-high_spelled check_kind.Removal = setup_high
-high_spelled check_kind.Width = setup_high
-high_spelled check_kind.Period = setup_high
-
-high_begins : (kind : CheckKind) (r : List ℕ) → Ends (high_word kind ++ r)
-high_begins check_kind.Hold r = refl
-high_begins check_kind.Setup r = refl
-high_begins check_kind.Recovery r = refl
-high_begins check_kind.Removal r = refl
-high_begins check_kind.Width r = refl
-high_begins check_kind.Period r = refl
-
-low_spelled : {t : Bool} (kind : CheckKind) → Spells Anything t (low_word kind) (λ s. codes "ps" ∷ codes "," ∷ grammar.low_word kind ∷ codes "=>" ∷ s) false
-low_spelled check_kind.Hold = hold_low
-low_spelled check_kind.Setup = setup_low
-low_spelled check_kind.Recovery = setup_low
-low_spelled check_kind.Removal = setup_low
-low_spelled check_kind.Width = setup_low
-low_spelled check_kind.Period = setup_low
-
-low_begins : (kind : CheckKind) (r : List ℕ) → Ends (low_word kind ++ r)
-low_begins check_kind.Hold r = refl
-low_begins check_kind.Setup r = refl
-low_begins check_kind.Recovery r = refl
-low_begins check_kind.Removal r = refl
-low_begins check_kind.Width r = refl
-low_begins check_kind.Period r = refl
+low : (kind : CheckKind) → IsBehind (low_word kind) (λ s. codes "ps" ∷ codes "," ∷ grammar.low_word kind ∷ codes "=>" ∷ s)
+low = by_kind (λ (kind : CheckKind). IsBehind (low_word kind) (λ s. codes "ps" ∷ codes "," ∷ grammar.low_word kind ∷ codes "=>" ∷ s)) setup_low hold_low setup_low setup_low setup_low setup_low
 
 behind_begins : (P : List ℕ → Type 0) (a b : List ℕ) → ((r : List ℕ) → P (a ++ r)) → (r : List ℕ) → P ((a ++ b) ++ r)
 behind_begins P a b h r = subst P (sym (Rattle.std.proofs.Common.append_assoc a b r)) (h (b ++ r))
 
+-- the call of a check that has a reference, from what its limits are
+referring_spelled : {start rest : List ℕ} {f g : Front} (e : VEntity) (n : ℕ) (k : TimingCheck) → IsWrittenCheck e n k → Spells Anything false start f false
+    → ((r : List ℕ) → Ends (rest ++ r)) → Spells Anything true rest g false
+    → Spells Anything false (start ++ (120 ∷ 95 ∷ decimal n ++ (codes ", TimingData => " ++ (100 ∷ 95 ∷ decimal n ++ (codes ", TestSignal => " ++ (port_at e (test_at k k.kind).pin
+    ++ (codes ", RefSignal => " ++ (port_at e (reference_at k k.kind).pin ++ rest)))))))) (λ s. f ((120 ∷ 95 ∷ decimal n) ∷ codes "," ∷ codes "TimingData" ∷ codes "=>" ∷ (100 ∷ 95 ∷ decimal n)
+    ∷ codes "," ∷ codes "TestSignal" ∷ codes "=>" ∷ port_at e (test_at k k.kind).pin ∷ codes "," ∷ codes "RefSignal" ∷ codes "=>" ∷ port_at e (reference_at k k.kind).pin ∷ g s)) false
+referring_spelled e n k h start begins limits =
+    part_behind 120 n refl h.number start (λ r q. refl) (part_behind 100 n refl h.number timing_word (λ r q. refl)
+    (behind test_word (joins (name (port_at e (test_at k k.kind).pin) (input_named e h.formed (test_at k k.kind).pin (test_pin e n k h k.kind))) (λ r q. refl)
+    (behind reference_word (joins (name (port_at e (reference_at k k.kind).pin) (input_named e h.formed (reference_at k k.kind).pin (reference_pin e n k h k.kind))) (λ r q. begins r) limits)))))
+
 setup_hold_spelled : (e : VEntity) (n : ℕ) (k : TimingCheck) → IsWrittenCheck e n k → Spells Anything false (setup_hold_text e n k) (λ s. codes "VitalSetupHoldCheck" ∷ setup_hold_front e n k s) false
 unfolding setup_hold_text
 setup_hold_spelled e n k h =
-    part_behind 120 n of_report h.number setup_hold_word (λ r q. refl) (part_behind 100 n of_data h.number timing_word (λ r q. refl)
-    (behind test_word (joins (name (port_at e (test_at k k.kind).pin) (input_named e h.formed (test_at k k.kind).pin (test_pin e n k h k.kind))) (λ r q. refl)
-    (behind reference_word (joins (name (port_at e (reference_at k k.kind).pin) (input_named e h.formed (reference_at k k.kind).pin (reference_pin e n k h k.kind))) (λ r q. behind_begins Ends (high_word k.kind) _ (high_begins k.kind) r)
-    (behind (high_spelled k.kind) (joins (number k.limit h.limit) (λ r q. behind_begins Ends (low_word k.kind) _ (low_begins k.kind) r)
-    (behind (low_spelled k.kind) (joins (number k.limit h.limit) (λ r q. refl)
-    (behind enabled_word (joins (enabled_spelled e h.formed k.condition h.condition) (λ r q. transition_begins (reference_at k k.kind).edge r) (transition_spelled (reference_at k k.kind).edge))))))))))))
+    let at : Edge = (reference_at k k.kind).edge in
+    referring_spelled e n k h setup_hold_word (behind_begins Ends (high_word k.kind) _ (high k.kind).begins)
+    (behind (high k.kind).spelled (joins (number k.limit h.limit) (λ r q. behind_begins Ends (low_word k.kind) _ (low k.kind).begins r)
+    (behind (low k.kind).spelled (joins (number k.limit h.limit) (λ r q. refl)
+    (behind enabled_word (joins (enabled_spelled e h.formed k.condition h.condition) (λ r q. (transition at).begins r) (transition at).spelled))))))
 
-recovery_spelled : {t : Bool} (kind : CheckKind) → Spells Anything t (recovery_word kind) (λ s. codes "," ∷ recovery_token kind ∷ codes "=>" ∷ s) false
-recovery_spelled check_kind.Removal = removal_limit
-recovery_spelled check_kind.Setup = recovery_limit
-recovery_spelled check_kind.Hold = recovery_limit
-recovery_spelled check_kind.Recovery = recovery_limit
-recovery_spelled check_kind.Width = recovery_limit
-recovery_spelled check_kind.Period = recovery_limit
+recovery : (kind : CheckKind) → IsBehind (recovery_word kind) (λ s. codes "," ∷ recovery_token kind ∷ codes "=>" ∷ s)
+recovery = by_kind (λ (kind : CheckKind). IsBehind (recovery_word kind) (λ s. codes "," ∷ recovery_token kind ∷ codes "=>" ∷ s)) recovery_limit recovery_limit recovery_limit removal_limit recovery_limit recovery_limit
 
-recovery_begins : (kind : CheckKind) (r : List ℕ) → Ends (recovery_word kind ++ r)
-recovery_begins check_kind.Removal r = refl
-recovery_begins check_kind.Setup r = refl
-recovery_begins check_kind.Hold r = refl
-recovery_begins check_kind.Recovery r = refl
-recovery_begins check_kind.Width r = refl
-recovery_begins check_kind.Period r = refl
-
-active_spelled : {t : Bool} (g : Edge) → Spells Anything t (active_text g) (λ s. codes "ps" ∷ codes "," ∷ codes "ActiveLow" ∷ codes "=>" ∷ active_token g ∷ codes "," ∷ codes "CheckEnabled" ∷ codes "=>" ∷ s) false
-active_spelled edge.Any = active_word
-active_spelled edge.Rise = active_word
-active_spelled edge.Fall = inactive_word
-
-active_begins : (g : Edge) (r : List ℕ) → Ends (active_text g ++ r)
-active_begins edge.Any r = refl
-active_begins edge.Rise r = refl
-active_begins edge.Fall r = refl
+active : (g : Edge) → IsBehind (active_text g) (λ s. codes "ps" ∷ codes "," ∷ codes "ActiveLow" ∷ codes "=>" ∷ active_token g ∷ codes "," ∷ codes "CheckEnabled" ∷ codes "=>" ∷ s)
+active edge.Any = active_word
+active edge.Rise = active_word
+active edge.Fall = inactive_word
 
 recovery_removal_spelled : (e : VEntity) (n : ℕ) (k : TimingCheck) → IsWrittenCheck e n k → Spells Anything false (recovery_removal_text e n k) (λ s. codes "VitalRecoveryRemovalCheck" ∷ recovery_removal_front e n k s) false
 unfolding recovery_removal_text
 recovery_removal_spelled e n k h =
-    part_behind 120 n of_report h.number recovery_removal_word (λ r q. refl) (part_behind 100 n of_data h.number timing_word (λ r q. refl)
-    (behind test_word (joins (name (port_at e (test_at k k.kind).pin) (input_named e h.formed (test_at k k.kind).pin (test_pin e n k h k.kind))) (λ r q. refl)
-    (behind reference_word (joins (name (port_at e (reference_at k k.kind).pin) (input_named e h.formed (reference_at k k.kind).pin (reference_pin e n k h k.kind))) (λ r q. behind_begins Ends (recovery_word k.kind) _ (recovery_begins k.kind) r)
-    (behind (recovery_spelled k.kind) (joins (number k.limit h.limit) (λ r q. behind_begins Ends (active_text (test_at k k.kind).edge) _ (active_begins (test_at k k.kind).edge) r)
-    (behind (active_spelled (test_at k k.kind).edge) (joins (enabled_spelled e h.formed k.condition h.condition) (λ r q. transition_begins (reference_at k k.kind).edge r) (transition_spelled (reference_at k k.kind).edge))))))))))
+    let control : Edge = (test_at k k.kind).edge in
+    let at : Edge = (reference_at k k.kind).edge in
+    referring_spelled e n k h recovery_removal_word (behind_begins Ends (recovery_word k.kind) _ (recovery k.kind).begins)
+    (behind (recovery k.kind).spelled (joins (number k.limit h.limit) (λ r q. behind_begins Ends (active_text control) _ (active control).begins r)
+    (behind (active control).spelled (joins (enabled_spelled e h.formed k.condition h.condition) (λ r q. (transition at).begins r) (transition at).spelled))))
 
-width_spelled : {t : Bool} (g : Edge) → Spells Anything t (width_word g) (λ s. codes "," ∷ width_token g ∷ codes "=>" ∷ s) false
-width_spelled edge.Any = high_pulse
-width_spelled edge.Rise = high_pulse
-width_spelled edge.Fall = low_pulse
+width : (g : Edge) → IsBehind (width_word g) (λ s. codes "," ∷ width_token g ∷ codes "=>" ∷ s)
+width edge.Any = high_pulse
+width edge.Rise = high_pulse
+width edge.Fall = low_pulse
 
-width_begins : (g : Edge) (r : List ℕ) → Ends (width_word g ++ r)
-width_begins edge.Any r = refl
-width_begins edge.Rise r = refl
-width_begins edge.Fall r = refl
-
-pulse_spelled : {t : Bool} (k : TimingCheck) (kind : CheckKind) → Spells Anything t (pulse_word k kind) (λ s. codes "," ∷ pulse_token k kind ∷ codes "=>" ∷ s) false
-pulse_spelled k check_kind.Period = period_limit
-pulse_spelled k check_kind.Setup = width_spelled k.first.edge
-pulse_spelled k check_kind.Hold = width_spelled k.first.edge
-pulse_spelled k check_kind.Recovery = width_spelled k.first.edge
-pulse_spelled k check_kind.Removal = width_spelled k.first.edge
-pulse_spelled k check_kind.Width = width_spelled k.first.edge
-
-pulse_begins : (k : TimingCheck) (kind : CheckKind) (r : List ℕ) → Ends (pulse_word k kind ++ r)
-pulse_begins k check_kind.Period r = refl
-pulse_begins k check_kind.Setup r = width_begins k.first.edge r
-pulse_begins k check_kind.Hold r = width_begins k.first.edge r
-pulse_begins k check_kind.Recovery r = width_begins k.first.edge r
-pulse_begins k check_kind.Removal r = width_begins k.first.edge r
-pulse_begins k check_kind.Width r = width_begins k.first.edge r
+pulse : (k : TimingCheck) (kind : CheckKind) → IsBehind (pulse_word k kind) (λ s. codes "," ∷ pulse_token k kind ∷ codes "=>" ∷ s)
+pulse k =
+    let wide = width k.first.edge in
+    by_kind (λ (kind : CheckKind). IsBehind (pulse_word k kind) (λ s. codes "," ∷ pulse_token k kind ∷ codes "=>" ∷ s)) wide wide wide wide wide period_limit
 
 period_pulse_spelled : (e : VEntity) (n : ℕ) (k : TimingCheck) → IsWrittenCheck e n k → Spells Anything false (period_pulse_text e n k) (λ s. codes "VitalPeriodPulseCheck" ∷ period_pulse_front e n k s) false
 unfolding period_pulse_text
 period_pulse_spelled e n k h =
-    part_behind 120 n of_report h.number period_pulse_word (λ r q. refl) (part_behind 100 n of_data h.number period_word (λ r q. refl)
-    (behind test_word (joins (name (port_at e k.first.pin) (input_named e h.formed k.first.pin h.sound.first)) (λ r q. behind_begins Ends (pulse_word k k.kind) _ (pulse_begins k k.kind) r)
-    (behind (pulse_spelled k k.kind) (joins (number k.limit h.limit) (λ r q. refl)
+    part_behind 120 n refl h.number period_pulse_word (λ r q. refl) (part_behind 100 n refl h.number period_word (λ r q. refl)
+    (behind test_word (joins (name (port_at e k.first.pin) (input_named e h.formed k.first.pin h.sound.first)) (λ r q. behind_begins Ends (pulse_word k k.kind) _ (pulse k k.kind).begins r)
+    (behind (pulse k k.kind).spelled (joins (number k.limit h.limit) (λ r q. refl)
     (behind enabled_word (joins (enabled_spelled e h.formed k.condition h.condition) (λ r q. refl) call_end)))))))
 
 kind_spelled : (e : VEntity) (n : ℕ) (k : TimingCheck) (kind : CheckKind) → IsWrittenCheck e n k → Spells Anything false (kind_text e n k kind) (λ s. check_word kind ∷ check_more e n k kind s) false

@@ -22,12 +22,13 @@ use Rattle.vhdl_text.specs.VhdlNames.{kept, input_of, listed_by, input_by, liste
 use Rattle.vhdl_text.specs.WellFormed.{IsWrittenTruth, IsWellFormedEntity, looks_up_in_order}
 use Rattle.vhdl_writer.specs.Joined.{apart_text}
 use Rattle.vhdl_writer.specs.Names.{port_at, inputs_at, input_text, inputs_text, condition_text}
+use Rattle.grammar_phrases.proofs.Bytes.{below_word}
 use Rattle.grammar_phrases.proofs.Fronts.{Front, Anything}
 use Rattle.grammar_phrases.proofs.Derivations.{Reads, from_same, to_same, gives, token, in_turn, goes_on}
 use Rattle.grammar_phrases.proofs.Places.{at_place, all_at, get_at, one_longer}
 use Rattle.grammar_phrases.proofs.Spelling.{behind}
 use Rattle.written_entities.proofs.Spelling.{Spells, literal}
-use Rattle.written_entities.proofs.Words.{of_condition, part_named, below_word, unnumbered}
+use Rattle.written_entities.proofs.Words.{part_named, unnumbered}
 use Rattle.written_entities.proofs.NameReading.{expected, three_expected, four_expected, expected_where, known_as, place_found}
 use Rattle.written_entities.proofs.Elements.{names_front, names_spelled, closed, elements_read}
 use Rattle.written_entities.proofs.Parts.{part_behind, condition_number}
@@ -231,8 +232,8 @@ condition_read e w seen i is {s} h =
     let most : ℕ = min (length (uses_of e seen) + 1) (length (all_tables e).conditions) in
     let tables : length (all_tables e).conditions ≡ length e.conditions = length-map e.conditions (λ (t : VTruth). t.table) in
     let found : condition_of (scope e) (uses_of e seen) (99 ∷ 95 ∷ decimal (i + 1)) ≡ Some i =
-    place_found 99 most i of_condition (omega (arith, next.among, below, so_many e seen few, tables)) (below_word most (condition_number e w most (omega (arith, tables)))) in
-    in_turn three_expected (in_turn (known_as (condition_of (scope e) (uses_of e seen)) (part_named 99 (i + 1) of_condition number) found)
+    place_found 99 most i refl (omega (arith, next.among, below, so_many e seen few, tables)) (below_word most (condition_number e w most (omega (arith, tables)))) in
+    in_turn three_expected (in_turn (known_as (condition_of (scope e) (uses_of e seen)) (part_named 99 (i + 1) refl number) found)
     (in_turn four_expected (in_turn (from_same (ap (λ (l : List ℕ). names_front (port_at e) l (codes ")" ∷ codes ")" ∷ s)) truth.1.inputs) (list_read e w seen i truth.0 (codes ")" ∷ s) truth.1 next.among few))
     (in_turn expected gives))))
 
@@ -243,7 +244,7 @@ condition_spelled e w i below =
     let truth = there e w i below in
     let some : 1 ≤ length (inputs_at e i) = subst (λ (l : List ℕ). 1 ≤ length l) (sym truth.1.inputs) truth.1.written.columns in
     let fed : IsTrue (list_all (is_input_port e.ports) (inputs_at e i)) = subst (λ (l : List ℕ). IsTrue (list_all (is_input_port e.ports) l)) (sym truth.1.inputs) truth.1.sound.fed in
-    part_behind 99 (i + 1) of_condition (condition_number e w (i + 1) (omega (arith, below))) lookup_word (λ r q. refl) (behind data_word (behind (inputs_spelled e w (inputs_at e i) some fed) closed))
+    part_behind 99 (i + 1) refl (condition_number e w (i + 1) (omega (arith, below))) lookup_word (λ r q. refl) (behind data_word (behind (inputs_spelled e w (inputs_at e i) some fed) closed))
 
 pub looks_below : (e : VEntity) (seen i : ℕ) (is : List ℕ) → Looks e seen (i ∷ is) → i < length e.conditions
 looks_below e seen i is h = is_there (length e.conditions) seen i is h

@@ -26,11 +26,12 @@ use Rattle.vhdl_text.specs.VhdlRules.{begins}
 use Rattle.vhdl_text.specs.VhdlTables.{StateOrOutput, Condition, is_before_outputs, constant_of, assigned_truth_table, condition_constant, output_constant, state_constant, constant, constants}
 use Rattle.vhdl_text.specs.WellFormed.{IsNumber, HasOneEdge, IsWrittenState, IsWrittenTruth, IsWrittenValue, IsWrittenOutput, IsWellFormedEntity}
 use Rattle.vhdl_writer.specs.Tables.{state_rows_text, truth_rows_text, state_constant_text, condition_constant_text, is_looked_up, table_number, output_table_text, value_constant_text, output_constant_text, constants_text}
+use Rattle.grammar_phrases.proofs.Bytes.{below_word}
 use Rattle.grammar_phrases.proofs.Fronts.{Front, Anything}
 use Rattle.grammar_phrases.proofs.Derivations.{Reads, to_same, gives, in_turn, chosen, passed, no_turn, turn, turns}
 use Rattle.grammar_phrases.proofs.Spelling.{behind, nothing}
 use Rattle.written_entities.proofs.Spelling.{Spells, literal}
-use Rattle.written_entities.proofs.Words.{of_table, of_condition, part_named, below_word}
+use Rattle.written_entities.proofs.Words.{part_named}
 use Rattle.written_entities.proofs.TableTokens.{truth_row_front, state_row_front, rows_front, truth_rows, state_rows}
 use Rattle.written_entities.proofs.TableReading.{truth_table_read, state_table_read}
 use Rattle.written_entities.proofs.NameReading.{same_self, expected, known_as}
@@ -74,17 +75,17 @@ truth_type = literal 27 (λ r. refl)
 
 state_constant_spelled : (n : ℕ) (state : VState) → IsNumber n → Spells Anything false (state_constant_text n state) (state_constant_front n state) false
 unfolding state_constant_text state_rows_text
-state_constant_spelled n state h = part_behind 107 n of_table h constant_word (λ r q. refl) (behind state_type (behind (state_rows state.table.rows) call_end))
+state_constant_spelled n state h = part_behind 107 n refl h constant_word (λ r q. refl) (behind state_type (behind (state_rows state.table.rows) call_end))
 
 condition_constant_spelled : (n : ℕ) (truth : VTruth) → IsNumber n → Spells Anything false (condition_constant_text n truth) (condition_constant_front n truth) false
 unfolding condition_constant_text truth_rows_text
-condition_constant_spelled n truth h = part_behind 99 n of_condition h constant_word (λ r q. refl) (behind truth_type (behind (truth_rows truth.table.rows) call_end))
+condition_constant_spelled n truth h = part_behind 99 n refl h constant_word (λ r q. refl) (behind truth_type (behind (truth_rows truth.table.rows) call_end))
 
 output_constant_spelled : (e : VEntity) (n : ℕ) (v : OutValue) → IsNumber (table_number e n) → Spells Anything false (value_constant_text e n v) (value_constant_front e n v) false
 unfolding output_table_text truth_rows_text
 output_constant_spelled e n (value.Constant one) h = nothing
 output_constant_spelled e n (value.Table table sources) h =
-    part_behind 107 (table_number e n) of_table h constant_word (λ r q. refl) (behind truth_type (behind (truth_rows table.rows) call_end))
+    part_behind 107 (table_number e n) refl h constant_word (λ r q. refl) (behind truth_type (behind (truth_rows table.rows) call_end))
 
 -- The tables of outputs.
 
@@ -177,7 +178,7 @@ state_constant_read e w before state after q same =
     let sound : IsState e state = fact_at (IsState e) e.states w.sound.states before state after same in
     let number : IsNumber n = state_number e w n (place_below before state after e.states same) in
     let place : length (map table_of before) + 0 + 1 ≡ n = omega (arith, length-map before table_of) in
-    in_turn (known_as (constant_of (tables_up_to before [] [])) (part_named 107 n of_table (below_word n number)) (is_next_table (tables_up_to before [] []) n place))
+    in_turn (known_as (constant_of (tables_up_to before [] [])) (part_named 107 n refl (below_word n number)) (is_next_table (tables_up_to before [] []) n place))
     (in_turn expected (chosen refl (in_turn expected
     (in_turn (state_table_read (columns_of state) state.table (codes ";" ∷ q) written.columns written.rows
     (recursion_from_All (λ (row : VStateRow). length row.inputs ≡ columns_of state) state.table.rows sound.rows) (recursion_from_All HasOneEdge state.table.rows written.edges))
@@ -198,7 +199,7 @@ condition_constant_read e w before truth after q same =
     let sound : IsTruth e truth = fact_at (IsTruth e) e.conditions w.sound.conditions before truth after same in
     let number : IsNumber n = condition_number e w n (place_below before truth after e.conditions same) in
     let place : length (map condition_table_of before) + 1 ≡ n = omega (arith, length-map before condition_table_of) in
-    in_turn (known_as (constant_of (tables_up_to e.states before [])) (part_named 99 n of_condition (below_word n number)) (is_next_condition (map table_of e.states) (map condition_table_of before) n place))
+    in_turn (known_as (constant_of (tables_up_to e.states before [])) (part_named 99 n refl (below_word n number)) (is_next_condition (map table_of e.states) (map condition_table_of before) n place))
     (in_turn expected (in_turn expected
     (in_turn (truth_read (length truth.inputs) truth.table q written.columns written.rows (recursion_from_All (λ (row : TruthRow). length row.inputs ≡ length truth.inputs) truth.table.rows sound.rows))
     (to_same (ap (λ (l : List TruthTable). record { states = map table_of e.states; conditions = l; outputs = [] }) (sym (map-append condition_table_of before (truth ∷ [])))) gives))))
@@ -217,7 +218,7 @@ output_constant_by e w before n (value.Table table sources) q place number sound
     let tables : Tables = tables_up_to e.states e.conditions before in
     let k : ℕ = table_number e n in
     let next : length (map table_of e.states) + length (output_tables before) + 1 ≡ k = omega (arith, place, length-map e.states table_of) in
-    turns (turn refl (in_turn (known_as (constant_of tables) (part_named 107 k of_table (below_word k number)) (is_next_table tables k next))
+    turns (turn refl (in_turn (known_as (constant_of tables) (part_named 107 k refl (below_word k number)) (is_next_table tables k next))
     (in_turn expected (passed (if_either (is_before_outputs tables && nat_eq (length tables.conditions) 0)) (in_turn expected
     (in_turn (truth_read (length sources) table q written.columns written.rows (recursion_from_All (λ (row : TruthRow). length row.inputs ≡ length sources) table.rows sound.0)) gives)))))) rest
 

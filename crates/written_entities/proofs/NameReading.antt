@@ -1,5 +1,5 @@
 -- When tokens are the same, and what the words of the grammar take of names and numbers.
-use Rattle.std.proofs.Common.{◌≡◌, ℕ, zero, suc, ◌+◌, ◌^◌, ◌<◌, Bool, true, false, not, ◌&&◌, ◌||◌, ◌==◌, nat_eq, if◌then◌else◌, List, [], ◌∷◌, ◌++◌, length, inl, inr, Option, Some, refl, sym, ap, ◌∙◌, arith, subst, codes, decimal}
+use Rattle.std.proofs.Common.{◌≡◌, ℕ, zero, suc, ◌+◌, ◌^◌, ◌<◌, Bool, true, false, not, ◌||◌, ◌==◌, nat_eq, if◌then◌else◌, List, [], ◌∷◌, ◌++◌, length, inl, inr, Option, Some, refl, sym, ap, ◌∙◌, arith, subst, codes, decimal}
 use Rattle.std.specs.List.{IsDistinct, list_all, list_any, position}
 use Rattle.std.specs.Str.{bytes_eq, str_eq_ignore_ascii_case, str_to_ascii_lowercase}
 use Rattle.std.specs.Char.{is_ascii_alphabetic, is_ascii_alphanumeric, is_ascii_digit, to_ascii_lowercase}
@@ -17,10 +17,11 @@ use Rattle.vhdl_tokens.specs.Tokens.{is_name_byte}
 use Rattle.vhdl_tokens.specs.Spelling.{is_character, is_same}
 use Rattle.vhdl_text.specs.VhdlRules.{expect, expect_all, expect_where, is_among, new_name, known, this_name, place_among, this_number, a_number, a_time, numbered_where}
 use Rattle.vhdl_text.specs.WellFormed.{AreApart, IsNumber}
+use Rattle.grammar_phrases.proofs.Bytes.{all_digits, below_word, number_is}
 use Rattle.grammar_phrases.proofs.Derivations.{Reads, gives, token, in_turn}
 use Rattle.grammar_phrases.proofs.Places.{same_bytes, at_place, found_behind}
-use Rattle.written_entities.proofs.Words.{IsNamed, IsLetter, all_digits, number_is, part_named, below_word}
-use Rattle.written_entities.proofs.Tests.{equal_self, and_no, if_true}
+use Rattle.written_entities.proofs.Words.{IsNamed, other_second, part_named, unlike_scored}
+use Rattle.written_entities.proofs.Tests.{equal_self, if_true}
 
 -- The same.
 
@@ -94,8 +95,8 @@ tails : {A : Type 0} (a b c d : A) (x y : List A) → a ∷ b ∷ x ≡ c ∷ d 
 tails a b c d x y e = cc
 
 -- parts of other numbers have other names
-unlike_parts : (b m n : ℕ) → IsLetter b → m < 2 ^ 64 → n < 2 ^ 64 → (m ≡ n → ⊥) → is_same (b ∷ 95 ∷ decimal m) (b ∷ 95 ∷ decimal n) ≡ false
-unlike_parts b m n l h k other = same_letters b (95 ∷ decimal m) (b ∷ 95 ∷ decimal n) l.letter ∙ by (str_eq_ignore_ascii_case (b ∷ 95 ∷ decimal m) (b ∷ 95 ∷ decimal n)) refl
+unlike_parts : (b m n : ℕ) → is_ascii_alphabetic b ≡ true → m < 2 ^ 64 → n < 2 ^ 64 → (m ≡ n → ⊥) → is_same (b ∷ 95 ∷ decimal m) (b ∷ 95 ∷ decimal n) ≡ false
+unlike_parts b m n l h k other = same_letters b (95 ∷ decimal m) (b ∷ 95 ∷ decimal n) l ∙ by (str_eq_ignore_ascii_case (b ∷ 95 ∷ decimal m) (b ∷ 95 ∷ decimal n)) refl
   where
     by : (t : Bool) → str_eq_ignore_ascii_case (b ∷ 95 ∷ decimal m) (b ∷ 95 ∷ decimal n) ≡ t → t ≡ false
     by true e =
@@ -107,7 +108,7 @@ unlike_parts b m n l h k other = same_letters b (95 ∷ decimal m) (b ∷ 95 ∷
     by false e = refl
 
 -- the place of a numbered name among those up to a number
-pub place_found : (b n i : ℕ) → IsLetter b → i < n → n < 2 ^ 64 → place_among (b ∷ 95 ∷ []) n (b ∷ 95 ∷ decimal (i + 1)) ≡ Some i
+pub place_found : (b n i : ℕ) → is_ascii_alphabetic b ≡ true → i < n → n < 2 ^ 64 → place_among (b ∷ 95 ∷ []) n (b ∷ 95 ∷ decimal (i + 1)) ≡ Some i
 place_found b zero i l h k = absurd (omega (arith, h))
 place_found b (suc n) i l h k = elim (cases_Bool (nat_eq i n)) [
   | inl t ↦ (let same : i ≡ n = eqb-true i n t in
@@ -124,17 +125,16 @@ plain_other : (c : ℕ) → is_ascii_alphanumeric c ≡ true → nat_eq 95 (to_a
 plain_other c h = grind (arith, nat_tests)
 
 -- a name without `_` is none of a numbered part
-pub unlike_plain : (b : ℕ) (ds x : List ℕ) → IsLetter b → is_plain x ≡ true → is_same (b ∷ 95 ∷ ds) x ≡ false
-unlike_plain b ds x l h = same_letters b (95 ∷ ds) x l.letter ∙ by x h
-  where
-    by : (x : List ℕ) → is_plain x ≡ true → str_eq_ignore_ascii_case (b ∷ 95 ∷ ds) x ≡ false
-    by [] h = absurd cc
-    by (a ∷ []) h = and_no (nat_eq (to_ascii_lowercase b) (to_ascii_lowercase a)) false refl
-    by (a ∷ c ∷ x) h =
-        let p = and_parts (is_ascii_alphabetic a) (list_all is_ascii_alphanumeric (c ∷ x)) h in
-        let q = and_parts (is_ascii_alphanumeric c) (list_all is_ascii_alphanumeric x) p.1 in
-        and_no (nat_eq (to_ascii_lowercase b) (to_ascii_lowercase a)) (nat_eq 95 (to_ascii_lowercase c) && bytes_eq (str_to_ascii_lowercase ds) (str_to_ascii_lowercase x))
-        (rw (plain_other c q.0) refl)
+plain_second : (x : List ℕ) → is_plain x ≡ true → other_second x ≡ true
+plain_second [] h = absurd cc
+plain_second (a ∷ []) h = refl
+plain_second (a ∷ c ∷ x) h =
+    let p = and_parts (is_ascii_alphabetic a) (list_all is_ascii_alphanumeric (c ∷ x)) h in
+    let q = and_parts (is_ascii_alphanumeric c) (list_all is_ascii_alphanumeric x) p.1 in
+    ap not (plain_other c q.0)
+
+pub unlike_plain : (b : ℕ) (ds x : List ℕ) → is_ascii_alphabetic b ≡ true → is_plain x ≡ true → is_same (b ∷ 95 ∷ ds) x ≡ false
+unlike_plain b ds x l h = same_letters b (95 ∷ ds) x l ∙ unlike_scored b ds x (plain_second x h)
 
 -- What the words of the grammar take.
 
@@ -207,5 +207,5 @@ first_place test before x after none here =
 named_if : (b : Bool) (letter n : ℕ) → b ≡ true → numbered_where b (letter ∷ 95 ∷ []) n ≡ Some (letter ∷ 95 ∷ decimal n)
 named_if b letter n e = if_true b _ _ e
 
-pub part_read : (b : Bool) (letter n : ℕ) {s : List (List ℕ)} → IsLetter letter → IsNumber n → b ≡ true → Reads (this_name (numbered_where b (letter ∷ 95 ∷ []) n)) ((letter ∷ 95 ∷ decimal n) ∷ s) tt s
+pub part_read : (b : Bool) (letter n : ℕ) {s : List (List ℕ)} → is_ascii_alphabetic letter ≡ true → IsNumber n → b ≡ true → Reads (this_name (numbered_where b (letter ∷ 95 ∷ []) n)) ((letter ∷ 95 ∷ decimal n) ∷ s) tt s
 part_read b letter n l h e = so_named (numbered_where b (letter ∷ 95 ∷ []) n) (part_named letter n l (below_word n h)) (named_if b letter n e)

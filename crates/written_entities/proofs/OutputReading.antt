@@ -21,13 +21,14 @@ use Rattle.vhdl_text.specs.WellFormed.{IsAssignable, IsNumber, IsPortName, IsWri
 use Rattle.vhdl_writer.specs.Joined.{numbered_texts}
 use Rattle.vhdl_writer.specs.Names.{port_at}
 use Rattle.vhdl_writer.specs.Outputs.{path_text, paths_text, direct_text, output_line}
+use Rattle.grammar_phrases.proofs.Bytes.{below_word}
 use Rattle.grammar_phrases.proofs.Fronts.{Front, Anything}
 use Rattle.grammar_phrases.proofs.Derivations.{Reads, gives, token, in_turn, no_turn, turn, turns, goes_on}
 use Rattle.grammar_phrases.proofs.Places.{get_at}
 use Rattle.written_entities.proofs.Assigned.{IsAssigned, assigned}
 use Rattle.grammar_phrases.proofs.Spelling.{joins, behind}
 use Rattle.written_entities.proofs.Spelling.{Spells, literal}
-use Rattle.written_entities.proofs.Words.{IsNamed, name, of_glitch, of_output, part_named, below_word, port_named}
+use Rattle.written_entities.proofs.Words.{IsNamed, name, part_named, port_named}
 use Rattle.written_entities.proofs.NameReading.{same_name, same_self, expected, two_expected, three_expected, six_expected, so_named, part_read}
 use Rattle.written_entities.proofs.Counting.{counted, counted_anywhere, apart_front, over}
 use Rattle.written_entities.proofs.Elements.{line_end, indented}
@@ -153,12 +154,12 @@ call_spelled e n output seen path all others same m x h =
     let p : List ℕ = port_at e output.port in
     let list : Spells Anything false (numbered_texts (path_text e) 1 output.paths) (apart_front (λ q. codes "," ∷ q) (path_front e) (path ∷ all)) false =
     subst (λ (l : List HPath). Spells Anything false (numbered_texts (path_text e) 1 l) (apart_front (λ q. codes "," ∷ q) (path_front e) (path ∷ all)) false) (sym same) (paths_spelled e seen path all others h) in
-    behind path_call_word (joins (name p x) (λ r q. refl) (part_behind 103 n of_glitch m glitch_word (λ r q. refl) (quoted_behind p x signal_name_word
-    (part_behind 122 n of_output m value_word (λ r q. refl) (behind paths_word (behind list paths_end))))))
+    behind path_call_word (joins (name p x) (λ r q. refl) (part_behind 103 n refl m glitch_word (λ r q. refl) (quoted_behind p x signal_name_word
+    (part_behind 122 n refl m value_word (λ r q. refl) (behind paths_word (behind list paths_end))))))
 
 direct_spelled : (e : VEntity) (n : ℕ) (output : VOutput) → IsNumber n → IsNamed (port_at e output.port) → Spells Anything false (direct_text e n output) (line_by_paths e n output.port []) false
 unfolding direct_text
-direct_spelled e n output m x = behind indented (joins (name (port_at e output.port) x) (λ r q. refl) (part_behind 122 n of_output m takes (λ r q. refl) line_end))
+direct_spelled e n output m x = behind indented (joins (name (port_at e output.port) x) (λ r q. refl) (part_behind 122 n refl m takes (λ r q. refl) line_end))
 
 line_by_spelled : (e : VEntity) (n : ℕ) (output : VOutput) (seen : ℕ) (all : List HPath) (others : List ℕ) → output.paths ≡ all → IsNumber n → IsNamed (port_at e output.port) → ArePaths e seen all others
     → Spells Anything false (if nat_lt 0 (length all) then paths_text e n output else direct_text e n output) (line_by_paths e n output.port all) false
@@ -192,8 +193,8 @@ start_read : (e : VEntity) → IsWellFormedEntity e → (o : ℕ) (output : VOut
 unfolding path_call_start
 start_read e w o output s h m some =
     in_turn three_expected (in_turn (so_named (output_name (scope e) o) (port_named_at e w o output h) h.named) (in_turn three_expected
-    (in_turn (part_read (has_glitch (scope e) o) 103 (o + 1) of_glitch m (h.pathed ∙ some)) (in_turn three_expected (in_turn (text_read e o (port_at e output.port) h.named)
-    (in_turn three_expected (in_turn (so_named (Some (122 ∷ 95 ∷ decimal (o + 1))) (part_named 122 (o + 1) of_output (below_word (o + 1) m)) refl) expected)))))))
+    (in_turn (part_read (has_glitch (scope e) o) 103 (o + 1) refl m (h.pathed ∙ some)) (in_turn three_expected (in_turn (text_read e o (port_at e output.port) h.named)
+    (in_turn three_expected (in_turn (so_named (Some (122 ∷ 95 ∷ decimal (o + 1))) (part_named 122 (o + 1) refl (below_word (o + 1) m)) refl) expected)))))))
 
 call_read : (e : VEntity) → IsWellFormedEntity e → (done : List (List HPath)) (o seen : ℕ) (output : VOutput) (path : HPath) (all : List HPath) (others : List ℕ) (s : List (List ℕ)) → length done ≡ o
     → IsOutputAt e o output → IsNumber (o + 1) → output.paths ≡ path ∷ all → ArePaths e seen (path ∷ all) others
@@ -211,7 +212,7 @@ assignment_read : (done : List (List HPath)) (uses : Uses) (o : ℕ) {s : List (
     → Reads (assignment (done, uses)) (codes "<=" ∷ (122 ∷ 95 ∷ decimal (o + 1)) ∷ codes ";" ∷ s) (done ++ [] ∷ [], uses) s
 unfolding assignment
 assignment_read done uses o place m =
-    in_turn expected (in_turn (so_named (Some (122 ∷ 95 ∷ decimal (length done + 1))) (part_named 122 (o + 1) of_output (below_word (o + 1) m)) (ap (λ (n : ℕ). Some (122 ∷ 95 ∷ decimal (n + 1))) place)) (in_turn expected gives))
+    in_turn expected (in_turn (so_named (Some (122 ∷ 95 ∷ decimal (length done + 1))) (part_named 122 (o + 1) refl (below_word (o + 1) m)) (ap (λ (n : ℕ). Some (122 ∷ 95 ∷ decimal (n + 1))) place)) (in_turn expected gives))
 
 direct_begins : (e : VEntity) → IsWellFormedEntity e → (lines : Lines) (o : ℕ) (output : VOutput) → length lines.0 ≡ o → IsOutputAt e o output → has_paths output ≡ false
     → str_eq_ignore_ascii_case (port_at e output.port) (codes "VitalPathDelay01") ≡ false → begins_line (scope e) lines (port_at e output.port) ≡ Some (Fits false)

@@ -1,27 +1,45 @@
 -- The numbers of an entity's parts, and pieces of text that end within the name of a part.
 use Rattle.std.proofs.Common.{◌≡◌, ℕ, suc, ◌+◌, ◌≤◌, Bool, true, false, if◌then◌else◌, List, [], ◌∷◌, ◌++◌, length, All, sym, ap, arith, subst, decimal, length-append}
+use Rattle.std.specs.Char.{is_ascii_alphabetic}
 use Rattle.std.specs.List.{AllByRecursion}
 use Rattle.std.proofs.lemmas.List.{length-map}
 use Rattle.std.proofs.lemmas.List.Elements.{recursion_from_All}
+use Rattle.cell_machine.specs.declared.checks.CheckKind.{CheckKind}
+use Rattle.cell_machine.specs.declared.checks.CheckKind.TheVariants as check_kind
 use Rattle.udp_tables.specs.declared.models.VPort.{VPort}
 use Rattle.vital_models.specs.declared.model.VOutput.{VOutput}
 use Rattle.vital_models.specs.declared.model.VEntity.{VEntity}
 use Rattle.vital_models.specs.Sound.{output_ports_from}
 use Rattle.vhdl_text.specs.WellFormed.{IsNumber, IsWellFormedEntity}
+use Rattle.grammar_phrases.proofs.Bytes.{below_word}
 use Rattle.grammar_phrases.proofs.Fronts.{Front, Anything}
 use Rattle.grammar_phrases.proofs.Places.{at_place}
 use Rattle.grammar_phrases.proofs.Spelling.{joins, behind}
 use Rattle.written_entities.proofs.Spelling.{Spells}
-use Rattle.written_entities.proofs.Words.{Ends, IsLetter, part, below_word}
+use Rattle.written_entities.proofs.Words.{Ends, part}
 
 -- text that is written where a test holds
 pub shown : {P : List ℕ → Type 0} {t u : Bool} {text : List ℕ} {f : Front} (b : Bool) → b ≡ true → Spells P t text f u → Spells P t (if b then text else []) f u
 shown b e h = rw e h
 
 -- text that ends within the name of a part, its number, and what follows
-pub part_behind : {Q : List ℕ → Type 0} {t u v : Bool} {front rest : List ℕ} {f g : Front} (b n : ℕ) → IsLetter b → IsNumber n → Spells Anything t front f u
+pub part_behind : {Q : List ℕ → Type 0} {t u v : Bool} {front rest : List ℕ} {f g : Front} (b n : ℕ) → is_ascii_alphabetic b ≡ true → IsNumber n → Spells Anything t front f u
     → ((r : List ℕ) → Q r → Ends (rest ++ r)) → Spells Q true rest g v → Spells Q t (front ++ (b ∷ 95 ∷ decimal n ++ rest)) (λ s. f ((b ∷ 95 ∷ decimal n) ∷ g s)) v
 part_behind b n l h i k j = behind i (joins (part b n l (below_word n h)) k j)
+
+-- a piece of text that may stand behind a name
+pub record IsBehind (text : List ℕ) (f : Front) : Type 0 where
+  pub spelled : {t : Bool} → Spells Anything t text f false
+  pub begins : (r : List ℕ) → Ends (text ++ r)
+
+-- what holds of each kind of check
+pub by_kind : (P : CheckKind → Type 0) → P check_kind.Setup → P check_kind.Hold → P check_kind.Recovery → P check_kind.Removal → P check_kind.Width → P check_kind.Period → (kind : CheckKind) → P kind
+by_kind P setup hold recovery removal width period check_kind.Setup = setup
+by_kind P setup hold recovery removal width period check_kind.Hold = hold
+by_kind P setup hold recovery removal width period check_kind.Recovery = recovery
+by_kind P setup hold recovery removal width period check_kind.Removal = removal
+by_kind P setup hold recovery removal width period check_kind.Width = width
+by_kind P setup hold recovery removal width period check_kind.Period = period
 
 pub fact_at : {A : Type 0} (P : A → Type 0) (all : List A) → All P all → (before : List A) (x : A) (after : List A) → before ++ x ∷ after ≡ all → P x
 fact_at P all h before x after same = at_place P before x after (subst (AllByRecursion P) (sym same) (recursion_from_All P all h))

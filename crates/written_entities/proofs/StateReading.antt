@@ -24,7 +24,7 @@ use Rattle.grammar_phrases.proofs.Fronts.{Front, Anything}
 use Rattle.grammar_phrases.proofs.Derivations.{Reads, to_same, gives, token, in_turn, chosen, passed, no_turn, turn, turns, goes_on}
 use Rattle.grammar_phrases.proofs.Spelling.{joins, behind}
 use Rattle.written_entities.proofs.Spelling.{Spells, literal}
-use Rattle.written_entities.proofs.Words.{Ends, IsNamed, word, name, of_table, of_state, of_columns, unnumbered}
+use Rattle.written_entities.proofs.Words.{Ends, IsNamed, word, name, unnumbered}
 use Rattle.written_entities.proofs.NameReading.{two_expected, three_expected, four_expected, expected, unlike_word, part_read}
 use Rattle.written_entities.proofs.Counting.{counted, counted_spelled, counted_anywhere, begins_at, over}
 use Rattle.written_entities.proofs.Elements.{names_front, comma, closed, elements_read, call_end}
@@ -129,7 +129,7 @@ has_inputs e w before state after same h = some_inputs state.violation state.inp
 state_spelled : (e : VEntity) (n : ℕ) (state : VState) → IsNumber n → IsFed e state.inputs → (state.violation ≡ false → 1 ≤ length state.inputs) → Spells Anything false (state_text e n state) (state_front e n state) false
 unfolding state_text
 state_spelled e n state m h some =
-    part_behind 115 n of_state m state_table_word (λ r q. refl) (part_behind 112 n of_columns m previous_word (λ r q. refl) (part_behind 107 n of_table m table_word (λ r q. refl)
+    part_behind 115 n refl m state_table_word (λ r q. refl) (part_behind 112 n refl m previous_word (λ r q. refl) (part_behind 107 n refl m table_word (λ r q. refl)
     (behind data_word (behind (columns_spelled e state.violation state.inputs h some) call_end))))
 
 pub states_spelled : (e : VEntity) → IsWellFormedEntity e → Spells Anything false (numbered_texts (state_text e) 1 e.states) (counted (state_front e) 1 e.states) false
@@ -202,8 +202,8 @@ start_read e w before state after s same =
     let m : IsNumber n = state_number e w n below in
     let b : Bool = nat_lt (length before) (length (all_tables e).states) in
     let there : b ≡ true = less (length before) (length (all_tables e).states) (omega (arith, below, length-map e.states (λ (x : VState). x.table))) in
-    in_turn three_expected (in_turn (part_read b 115 n of_state m there) (in_turn three_expected (in_turn (part_read b 112 n of_columns m there)
-    (in_turn three_expected (in_turn (part_read b 107 n of_table m there) four_expected)))))
+    in_turn three_expected (in_turn (part_read b 115 n refl m there) (in_turn three_expected (in_turn (part_read b 112 n refl m there)
+    (in_turn three_expected (in_turn (part_read b 107 n refl m there) four_expected)))))
 
 state_read : (e : VEntity) → IsWellFormedEntity e → (before : List VState) (state : VState) (after : List VState) (s : List (List ℕ)) → before ++ state ∷ after ≡ e.states
     → Reads (state_call (scope e) (map columns_for before)) (state_more e (length before + 1) state s) (map columns_for (before ++ state ∷ [])) s

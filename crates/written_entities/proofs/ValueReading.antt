@@ -36,12 +36,13 @@ use Rattle.vhdl_writer.specs.Joined.{numbered_texts, apart_text}
 use Rattle.vhdl_writer.specs.Names.{port_at, source_name, source_text, sources_text}
 use Rattle.vhdl_writer.specs.Tables.{table_number}
 use Rattle.vhdl_writer.specs.Outputs.{lookup_text, assigned_text, value_line}
+use Rattle.grammar_phrases.proofs.Bytes.{below_word}
 use Rattle.grammar_phrases.proofs.Fronts.{Front, Anything}
 use Rattle.grammar_phrases.proofs.Derivations.{Reads, to_same, gives, token, in_turn, chosen, passed, no_turn, turn, turns, goes_on}
 use Rattle.grammar_phrases.proofs.Places.{get_at}
 use Rattle.grammar_phrases.proofs.Spelling.{behind}
 use Rattle.written_entities.proofs.Spelling.{Spells, literal}
-use Rattle.written_entities.proofs.Words.{IsNamed, of_table, of_state, of_output, part_named, below_word, unnumbered}
+use Rattle.written_entities.proofs.Words.{IsNamed, part_named, unnumbered}
 use Rattle.written_entities.proofs.NameReading.{same_self, expected, three_expected, four_expected, so_named, place_found, unlike_plain}
 use Rattle.written_entities.proofs.Counting.{counted, counted_anywhere, over}
 use Rattle.written_entities.proofs.Elements.{names_front, names_spelled, closed, elements_read, line_end, indented}
@@ -86,7 +87,7 @@ unfolding source_name
 source_named e w (source.Pin p) h = input_named e w p h
 source_named e w (source.State g) h =
     let less : g < length e.states = below g (length e.states) h in
-    part_named 115 (g + 1) of_state (below_word (g + 1) (state_number e w (g + 1) (omega (arith, less))))
+    part_named 115 (g + 1) refl (below_word (g + 1) (state_number e w (g + 1) (omega (arith, less))))
 
 source_text_is : (e : VEntity) (n : ℕ) (s : Source) → source_text e n s ≡ apart_text (codes ", ") n ++ source_name e s
 unfolding source_text
@@ -100,7 +101,7 @@ unfolding lookup_text sources_text
 assigned_spelled e w n (value.Constant true) m h k = one_bit
 assigned_spelled e w n (value.Constant false) m h k = zero_bit
 assigned_spelled e w n (value.Table table sources) m h k =
-    part_behind 107 (table_number e n) of_table m lookup_word (λ r q. refl)
+    part_behind 107 (table_number e n) refl m lookup_word (λ r q. refl)
     (behind data_word (behind (names_spelled (source_text e) (source_name e) sources (source_text_is e) k.columns (λ before s after same. source_named e w s (feeding_at e sources h.1 before s after same))) closed))
 
 value_spelled : (e : VEntity) → IsWellFormedEntity e → (before : List VOutput) (output : VOutput) (after : List VOutput) → before ++ output ∷ after ≡ e.outputs
@@ -108,7 +109,7 @@ value_spelled : (e : VEntity) → IsWellFormedEntity e → (before : List VOutpu
 unfolding value_line
 value_spelled e w before output after same =
     let n : ℕ = length before + 1 in
-    part_behind 122 n of_output (output_number e w n (place_below before output after e.outputs same)) indented (λ r q. refl)
+    part_behind 122 n refl (output_number e w n (place_below before output after e.outputs same)) indented (λ r q. refl)
     (behind becomes (behind (assigned_spelled e w n output.value (its_number_fits e w before output after same) (fact_at (IsOutput e) e.outputs w.sound.outputs before output after same).valued
     (fact_at IsWrittenOutput e.outputs w.outputs before output after same).valued) line_end))
 
@@ -123,7 +124,7 @@ nowhere test i (x ∷ xs) h = rw h.0 (nowhere test (i + 1) xs h.1)
 
 none_so_named : (g : ℕ) (ports : List VPort) → AllByRecursion IsPortName (port_names ports) → AllByRecursion (λ (port : VPort). is_same (115 ∷ 95 ∷ decimal (g + 1)) port.name ≡ false) ports
 none_so_named g [] h = tt
-none_so_named g (port ∷ ports) h = (unlike_plain 115 (decimal (g + 1)) port.name of_state h.0.plain, none_so_named g ports h.1)
+none_so_named g (port ∷ ports) h = (unlike_plain 115 (decimal (g + 1)) port.name refl h.0.plain, none_so_named g ports h.1)
 
 no_input : (e : VEntity) → IsWellFormedEntity e → (g : ℕ) → input_of e.ports (115 ∷ 95 ∷ decimal (g + 1)) ≡ None
 no_input e w g =
@@ -140,7 +141,7 @@ source_found e w (source.State g) h =
     let all : length (all_tables e).states ≡ length e.states = length-map e.states (λ (s : VState). s.table) in
     let few = below_word (length (all_tables e).states) (state_number e w (length (all_tables e).states) (omega (arith, all))) in
     ap (source_or_state (scope e) (115 ∷ 95 ∷ decimal (g + 1))) (no_input e w g)
-    ∙ ap (option_map source.State) (place_found 115 (length (all_tables e).states) g of_state (omega (arith, less, all)) few)
+    ∙ ap (option_map source.State) (place_found 115 (length (all_tables e).states) g refl (omega (arith, less, all)) few)
 
 sources_turned : (x y : Source) → same_source x y ≡ same_source y x
 sources_turned (source.Pin p) (source.Pin q) = numbers_turned p q
@@ -213,7 +214,7 @@ lookup_read e w n t table sources {s} at m h k =
     if_true (nat_lt t (length (output_tables e.outputs))) _ _ (less t (length (output_tables e.outputs)) at.fewer) ∙ ap (λ (j : ℕ). Some (107 ∷ 95 ∷ decimal j)) number in
     let width : output_width (scope e) t ≡ length sources =
     ap (λ (o : Option TruthTable). option_map_or (λ (x : TruthTable). truth_width x.rows) o 0) at.place ∙ truth_wide (length sources) table k.rows h.0 in
-    in_turn three_expected (in_turn (so_named (output_table_name (scope e) t) (part_named 107 (table_number e n) of_table (below_word (table_number e n) m)) its_name)
+    in_turn three_expected (in_turn (so_named (output_table_name (scope e) t) (part_named 107 (table_number e n) refl (below_word (table_number e n) m)) its_name)
     (in_turn four_expected (in_turn (sources_read e w (output_width (scope e) t) sources (codes ")" ∷ s) k.columns h.1 k.apart (sym width)) (in_turn expected gives))))
 
 assigned_read : (e : VEntity) → IsWellFormedEntity e → (n t : ℕ) (v : OutValue) {s : List (List ℕ)} → IsNumber (table_number e n) → IsValue e v → IsWrittenValue v
@@ -249,7 +250,7 @@ value_begins e w before output after same =
     let so_many : m ≡ length before = length-map before assigned_of in
     let its : is_same x (122 ∷ 95 ∷ decimal (m + 1)) ≡ true = ap (λ (k : ℕ). is_same x (122 ∷ 95 ∷ decimal (k + 1))) so_many ∙ same_self x in
     if_true (nat_lt m (output_count e.ports) && is_name x) _ _
-    (and_yes (nat_lt m (output_count e.ports)) (is_name x) (less m (output_count e.ports) (omega (arith, under, so_many, so_many_outputs e w))) (part_named 122 n of_output (below_word n (output_number e w n under))).named)
+    (and_yes (nat_lt m (output_count e.ports)) (is_name x) (less m (output_count e.ports) (omega (arith, under, so_many, so_many_outputs e w))) (part_named 122 n refl (below_word n (output_number e w n under))).named)
     ∙ ap (λ (v : Verdict (Unit {0}) Refusal). Some v) (if_true (is_same x (122 ∷ 95 ∷ decimal (m + 1))) _ _ its)
 
 value_read : (e : VEntity) → IsWellFormedEntity e → (before : List VOutput) (output : VOutput) (after : List VOutput) (s : List (List ℕ)) → before ++ output ∷ after ≡ e.outputs

@@ -25,9 +25,10 @@ use Rattle.vhdl_text.specs.VhdlRules.{begins, this_number}
 use Rattle.vhdl_text.specs.VhdlTables.{state_width}
 use Rattle.vhdl_text.specs.VhdlDeclarations.{last_true, is_last_false, VariableOf, Check, Violation, State, Output, Glitch, is_before_states, awaits_violation, output_count, variable_of, variable_by, is_period_type, first_data, check_variables, violation_variable, width_at, state_variables, output_variable, glitch_variable, variable, are_declared, variables}
 use Rattle.vhdl_text.specs.WellFormed.{IsNumber, IsWrittenState, IsWellFormedEntity}
+use Rattle.grammar_phrases.proofs.Bytes.{below_word}
 use Rattle.grammar_phrases.proofs.Derivations.{Reads, to_same, gives, token, in_turn, no_turn, turn, turns, goes_on}
 use Rattle.grammar_phrases.proofs.Places.{get_at, one_longer}
-use Rattle.written_entities.proofs.Words.{IsNamed, of_state, of_columns, of_report, of_data, of_output, of_glitch, number, part_named, below_word}
+use Rattle.written_entities.proofs.Words.{IsNamed, number, part_named}
 use Rattle.written_entities.proofs.NameReading.{same_self, expected, three_expected, five_expected, six_expected, eight_expected, so_named, this_number_read}
 use Rattle.written_entities.proofs.Counting.{counted, over}
 use Rattle.written_entities.proofs.Parts.{fact_at, place_below, output_number, state_number, check_number}
@@ -78,8 +79,8 @@ check_read e w before k after q same =
     let so_many : length (map is_period_check before) + 1 ≡ n = ap (λ (m : ℕ). m + 1) (length-map before is_period_check) in
     let fits : variable_of e.ports (all_tables e) (checked before) (120 ∷ 95 ∷ decimal n) ≡ Some Check =
     if_true (is_same (120 ∷ 95 ∷ decimal n) (120 ∷ 95 ∷ decimal (length (map is_period_check before) + 1))) _ _ (same_part 120 (length (map is_period_check before) + 1) n so_many) in
-    in_turn (token (named_variable e.ports (all_tables e) (checked before) (120 ∷ 95 ∷ decimal n) Check (part_named 120 n of_report number) refl fits))
-    (in_turn six_expected (in_turn (so_named (Some (100 ∷ 95 ∷ decimal (length (map is_period_check before) + 1))) (part_named 100 n of_data number) (ap (λ (m : ℕ). Some (100 ∷ 95 ∷ decimal m)) so_many))
+    in_turn (token (named_variable e.ports (all_tables e) (checked before) (120 ∷ 95 ∷ decimal n) Check (part_named 120 n refl number) refl fits))
+    (in_turn six_expected (in_turn (so_named (Some (100 ∷ 95 ∷ decimal (length (map is_period_check before) + 1))) (part_named 100 n refl number) (ap (λ (m : ℕ). Some (100 ∷ 95 ∷ decimal m)) so_many))
     (in_turn expected (in_turn (type_read k.kind) (in_turn three_expected
     (to_same (ap (λ (l : List Bool). record { periods = l; violation = false; states = 0; glitches = [] }) (sym (map-append is_period_check before (k ∷ [])))) gives))))))
 
@@ -139,8 +140,8 @@ state_read e w before state after q same =
     (codes ")" ∷ codes ":=" ∷ codes "(" ∷ codes "others" ∷ codes "=>" ∷ codes "'X'" ∷ codes ")" ∷ codes ";" ∷ q) =
     subst (λ (m : ℕ). Reads (this_number m) (decimal (columns_of state) ∷ codes ")" ∷ codes ":=" ∷ codes "(" ∷ codes "others" ∷ codes "=>" ∷ codes "'X'" ∷ codes ")" ∷ codes ";" ∷ q) tt
     (codes ")" ∷ codes ":=" ∷ codes "(" ∷ codes "others" ∷ codes "=>" ∷ codes "'X'" ∷ codes ")" ∷ codes ";" ∷ q)) (sym (width_is e w before state after same)) (this_number_read (columns_of state) width) in
-    in_turn (token (named_variable e.ports (all_tables e) v (115 ∷ 95 ∷ decimal n) State (part_named 115 n of_state number) refl fits))
-    (in_turn six_expected (in_turn (so_named (Some (112 ∷ 95 ∷ decimal n)) (part_named 112 n of_columns number) refl)
+    in_turn (token (named_variable e.ports (all_tables e) v (115 ∷ 95 ∷ decimal n) State (part_named 115 n refl number) refl fits))
+    (in_turn six_expected (in_turn (so_named (Some (112 ∷ 95 ∷ decimal n)) (part_named 112 n refl number) refl)
     (in_turn three_expected (in_turn (token refl) (in_turn expected (in_turn counts (in_turn eight_expected
     (to_same (ap (λ (m : ℕ). violated e.checks m []) (one_longer before state)) gives))))))))
 
@@ -194,7 +195,7 @@ glitch_turn e w before n (path ∷ paths) {end = end} {left = left} q same numbe
     let v : Variables = violated e.checks (length e.states) (map has_paths before ++ false ∷ []) in
     let fits : variable_of e.ports (all_tables e) v (103 ∷ 95 ∷ decimal n) ≡ Some Glitch =
     subst (λ (m : ℕ). variable_of e.ports (all_tables e) v (103 ∷ 95 ∷ decimal m) ≡ Some Glitch) (sym same) (glitch_fits e before) in
-    turns (turn refl (in_turn (token (named_variable e.ports (all_tables e) v (103 ∷ 95 ∷ decimal n) Glitch (part_named 103 n of_glitch (below_word n number)) refl fits))
+    turns (turn refl (in_turn (token (named_variable e.ports (all_tables e) v (103 ∷ 95 ∷ decimal n) Glitch (part_named 103 n refl (below_word n number)) refl fits))
     (in_turn three_expected (to_same (ap (λ (l : List Bool). violated e.checks (length e.states) l) (last_is_true (map has_paths before))) gives))))
     (subst (λ (b : Bool). AllTurns e (violated e.checks (length e.states) (map has_paths before ++ b ∷ [])) q end left) (some_items (length paths)) rest)
 
@@ -206,7 +207,7 @@ output_turn e w before output after {end = end} {left = left} q same rest =
     let n : ℕ = length before + 1 in
     let number : IsNumber n = output_number e w n (place_below before output after e.outputs same) in
     let v : Variables = violated e.checks (length e.states) (map has_paths before) in
-    turns (turn refl (in_turn (token (named_variable e.ports (all_tables e) v (122 ∷ 95 ∷ decimal n) Output (part_named 122 n of_output (below_word n number)) refl (output_fits e w before output after same)))
+    turns (turn refl (in_turn (token (named_variable e.ports (all_tables e) v (122 ∷ 95 ∷ decimal n) Output (part_named 122 n refl (below_word n number)) refl (output_fits e w before output after same)))
     (in_turn five_expected gives)))
     (glitch_turn e w before n output.paths q refl number
     (subst (λ (l : List Bool). AllTurns e (violated e.checks (length e.states) l) q end left) (map-append has_paths before (output ∷ [])) rest))

@@ -19,9 +19,9 @@ use Rattle.vhdl_writer.specs.Declarations.{data_text, check_variables_text, viol
 use Rattle.grammar_phrases.proofs.Fronts.{Front, Anything}
 use Rattle.grammar_phrases.proofs.Spelling.{joins, behind, nothing}
 use Rattle.written_entities.proofs.Spelling.{Spells, literal}
-use Rattle.written_entities.proofs.Words.{of_state, of_columns, of_report, of_data, of_output, of_glitch, number}
+use Rattle.written_entities.proofs.Words.{number}
 use Rattle.written_entities.proofs.Counting.{counted, counted_anywhere}
-use Rattle.written_entities.proofs.Parts.{shown, part_behind, fact_at, place_below, output_number, state_number, check_number}
+use Rattle.written_entities.proofs.Parts.{shown, part_behind, fact_at, place_below, output_number, state_number, check_number, IsBehind, by_kind}
 use Rattle.written_entities.proofs.Tests.{some_items}
 
 -- Tokens.
@@ -70,11 +70,11 @@ report_type : {t : Bool} → Spells Anything t (codes " : X01 := '0';\n    varia
 unfolding is_reserved is_used vhdl_words used_words
 report_type = literal 28 (λ r. refl)
 
-timing_type : {t : Bool} → Spells Anything t (codes " : VitalTimingDataType := VitalTimingDataInit;\n") (λ s. codes ":" ∷ codes "VitalTimingDataType" ∷ codes ":=" ∷ codes "VitalTimingDataInit" ∷ codes ";" ∷ s) false
-timing_type = literal 47 (λ r. refl)
+timing_type : IsBehind (codes " : VitalTimingDataType := VitalTimingDataInit;\n") (λ s. codes ":" ∷ codes "VitalTimingDataType" ∷ codes ":=" ∷ codes "VitalTimingDataInit" ∷ codes ";" ∷ s)
+timing_type = record { spelled = literal 47 (λ r. refl); begins = λ r. refl }
 
-period_type : {t : Bool} → Spells Anything t (codes " : VitalPeriodDataType := VitalPeriodDataInit;\n") (λ s. codes ":" ∷ codes "VitalPeriodDataType" ∷ codes ":=" ∷ codes "VitalPeriodDataInit" ∷ codes ";" ∷ s) false
-period_type = literal 47 (λ r. refl)
+period_type : IsBehind (codes " : VitalPeriodDataType := VitalPeriodDataInit;\n") (λ s. codes ":" ∷ codes "VitalPeriodDataType" ∷ codes ":=" ∷ codes "VitalPeriodDataInit" ∷ codes ";" ∷ s)
+period_type = record { spelled = literal 47 (λ r. refl); begins = λ r. refl }
 
 violation_line : {t : Bool} → Spells Anything t (codes "    variable viol : X01 := '0';\n") (λ s. codes "variable" ∷ codes "viol" ∷ codes ":" ∷ codes "X01" ∷ codes ":=" ∷ codes "'0'" ∷ codes ";" ∷ s) false
 violation_line = literal 32 (λ r. refl)
@@ -96,26 +96,15 @@ output_type = literal 21 (λ r. refl)
 glitch_type : {t : Bool} → Spells Anything t (codes " : VitalGlitchDataType;\n") (λ s. codes ":" ∷ codes "VitalGlitchDataType" ∷ codes ";" ∷ s) false
 glitch_type = literal 24 (λ r. refl)
 
-data_spelled : (kind : CheckKind) → Spells Anything true (data_text kind) (λ s. codes ":" ∷ data_type (is_period kind) ∷ codes ":=" ∷ first_data (is_period kind) ∷ codes ";" ∷ s) false
-data_spelled check_kind.Setup = timing_type
-data_spelled check_kind.Hold = timing_type
-data_spelled check_kind.Recovery = timing_type
-data_spelled check_kind.Removal = timing_type
-data_spelled check_kind.Width = period_type
-data_spelled check_kind.Period = period_type
-
-data_begins : (kind : CheckKind) (r : List ℕ) → Rattle.written_entities.proofs.Words.Ends (data_text kind ++ r)
-data_begins check_kind.Setup r = refl
-data_begins check_kind.Hold r = refl
-data_begins check_kind.Recovery r = refl
-data_begins check_kind.Removal r = refl
-data_begins check_kind.Width r = refl
-data_begins check_kind.Period r = refl
+data_behind : (kind : CheckKind) → IsBehind (data_text kind) (λ s. codes ":" ∷ data_type (is_period kind) ∷ codes ":=" ∷ first_data (is_period kind) ∷ codes ";" ∷ s)
+data_behind =
+    by_kind (λ (kind : CheckKind). IsBehind (data_text kind) (λ s. codes ":" ∷ data_type (is_period kind) ∷ codes ":=" ∷ first_data (is_period kind) ∷ codes ";" ∷ s))
+    timing_type timing_type timing_type timing_type period_type period_type
 
 check_spelled : (n : ℕ) (k : TimingCheck) → IsNumber n → Spells Anything false (check_variables_text n k) (check_front n k) false
 unfolding check_variables_text
 check_spelled n k h =
-    part_behind 120 n of_report h variable_word (λ r q. refl) (part_behind 100 n of_data h report_type (λ r q. data_begins k.kind r) (data_spelled k.kind))
+    part_behind 120 n refl h variable_word (λ r q. refl) (part_behind 100 n refl h report_type (λ r q. (data_behind k.kind).begins r) (data_behind k.kind).spelled)
 
 violation_spelled : (checks : List TimingCheck) → Spells Anything false (violation_variable_text checks) (violation_front checks) false
 violation_spelled [] = nothing
@@ -139,17 +128,17 @@ state_spelled n state h e m =
     subst (λ (w : ℕ). Spells Anything false
     (codes "    variable s_" ++ (decimal n ++ (codes " : std_logic := 'X';\n    variable p_" ++ (decimal n ++ (codes " : std_logic_vector (1 to " ++ (decimal w ++ codes ") := (others => 'X');\n"))))))
     (state_front n state) false) (sym e)
-    (part_behind 115 n of_state h variable_word (λ r q. refl) (part_behind 112 n of_columns h state_type (λ r q. refl)
+    (part_behind 115 n refl h variable_word (λ r q. refl) (part_behind 112 n refl h state_type (λ r q. refl)
     (behind columns_type (joins (number (columns_of state) m) (λ r q. refl) columns_end))))
 
 glitch_spelled : (n : ℕ) (paths : List HPath) → IsNumber n → Spells Anything false (if nat_lt 0 (length paths) then glitch_data_text n else []) (glitch_front n paths) false
 unfolding glitch_data_text
 glitch_spelled n [] h = nothing
-glitch_spelled n (path ∷ paths) h = shown (nat_lt 0 (length (path ∷ paths))) (some_items (length paths)) (part_behind 103 n of_glitch h variable_word (λ r q. refl) glitch_type)
+glitch_spelled n (path ∷ paths) h = shown (nat_lt 0 (length (path ∷ paths))) (some_items (length paths)) (part_behind 103 n refl h variable_word (λ r q. refl) glitch_type)
 
 output_spelled : (n : ℕ) (output : VOutput) → IsNumber n → Spells Anything false (output_variables_text n output) (output_front n output) false
 unfolding output_variables_text
-output_spelled n output h = part_behind 122 n of_output h variable_word (λ r q. refl) (behind output_type (glitch_spelled n output.paths h))
+output_spelled n output h = part_behind 122 n refl h variable_word (λ r q. refl) (behind output_type (glitch_spelled n output.paths h))
 
 pub wide_at : (e : VEntity) → IsWellFormedEntity e → (before : List VState) (state : VState) (after : List VState) → before ++ state ∷ after ≡ e.states → AllByRecursion (Wide (columns_of state)) state.table.rows
 wide_at e w before state after same =

@@ -1,18 +1,19 @@
 -- Names, words and numbers are tokens of VHDL text where no byte of a name follows.
-use Rattle.std.proofs.Common.{◌≡◌, ℕ, suc, ◌+◌, ◌-◌, ◌*◌, ◌^◌, ◌<◌, ◌≤◌, Bool, true, false, not, ◌&&◌, ◌==◌, nat_eq, nat_le, if◌then◌else◌, List, [], ◌∷◌, ◌++◌, length, inl, inr, Some, None, refl, sym, ap, ◌∙◌, arith, subst, codes, decimal}
-use Rattle.std.proofs.lemmas.Bool.{and_parts, and_from, eqb-true, cases_Bool}
+use Rattle.std.proofs.Common.{◌≡◌, ℕ, suc, ◌^◌, ◌<◌, ◌≤◌, Bool, true, false, not, ◌&&◌, ◌||◌, ◌==◌, nat_eq, nat_le, if◌then◌else◌, List, [], ◌∷◌, ◌++◌, length, inl, inr, None, refl, sym, ap, ◌∙◌, arith, subst, codes, decimal}
+use Rattle.std.proofs.lemmas.Bool.{and_parts, and_from, cases_Bool}
 use Rattle.std.proofs.lemmas.Bool.Decides.{nat_tests}
-use Rattle.std.proofs.lemmas.Fmt.{decimal_is_IsNumeral, length-decimal-le}
-use Rattle.std.proofs.lemmas.Str.Parse.{digit_from_value}
-use Rattle.std.specs.Char.{is_ascii_alphabetic, is_ascii_alphanumeric, is_ascii_digit, digit_value}
-use Rattle.std.specs.Str.Parse.{AllDigits, digits_value_after}
-use Rattle.std.specs.List.{list_all, list_any, prefix_len}
-use Rattle.vhdl_names.specs.Words.{is_vhdl_word, is_reserved, is_used, vhdl_words, used_words}
+use Rattle.std.proofs.lemmas.Fmt.{decimal_is_IsNumeral}
+use Rattle.std.specs.Char.{is_ascii_alphabetic, is_ascii_alphanumeric, is_ascii_digit, to_ascii_lowercase}
+use Rattle.std.specs.Str.{bytes_eq, str_eq_ignore_ascii_case, str_to_ascii_lowercase}
+use Rattle.std.specs.List.{list_all, prefix_len}
+use Rattle.vhdl_names.specs.Words.{is_word, is_vhdl_word, is_reserved, is_used, vhdl_words, used_words}
 use Rattle.vhdl_names.specs.Kept.{is_plain}
 use Rattle.vhdl_tokens.specs.Tokens.{is_blank, is_mark, is_name_byte, is_name, word_length, number_length, separator_length, token_length}
-use Rattle.vhdl_tokens.specs.Numbers.{number_after, number_of}
+use Rattle.vhdl_tokens.specs.Numbers.{number_of}
 use Rattle.vhdl_text.specs.WellFormed.{is_spelled_as_name, IsEntityName, IsPortName, IsNumber}
 use Rattle.vhdl_tokens.proofs.Padding.{word_before, over_token}
+use Rattle.grammar_phrases.proofs.Bytes.{unlike, none_of, AreFew, short, all_digits, below_word, few}
+use Rattle.written_entities.proofs.Tests.{and_no}
 use Rattle.written_entities.proofs.Spelling.{Spells, found}
 
 -- no byte of a name follows, or nothing
@@ -21,19 +22,6 @@ Ends [] = Unit {0}
 Ends (c ∷ r) = is_name_byte c ≡ false
 
 -- Bytes of one kind and of another.
-
-unlike : (test : ℕ → Bool) (c b : ℕ) → not (test c) ≡ true → test b ≡ true → nat_eq c b ≡ false
-unlike test c b h e = elim (cases_Bool (nat_eq c b)) [
-  | inl t ↦ (let same : test c ≡ true = subst (λ x. test x ≡ true) (sym (eqb-true c b t)) e in let no : not (test c) ≡ false = ap not same in absurd (cc (h, no)))
-  | inr f ↦ f
-]
-
--- a byte that passes a test is none of those that do not
-none_of : (test : ℕ → Bool) (cs : List ℕ) (b : ℕ) → list_all (λ c. not (test c)) cs ≡ true → test b ≡ true → list_any (λ c. nat_eq c b) cs ≡ false
-none_of test [] b h e = refl
-none_of test (c ∷ cs) b h e =
-    let p = and_parts (not (test c)) (list_all (λ c. not (test c)) cs) h in
-    rw (unlike test c b p.0 e) (none_of test cs b p.1 e)
 
 flipped : (b c : ℕ) → (b == c) ≡ nat_eq c b
 flipped b c = grind (arith, nat_tests)
@@ -116,52 +104,47 @@ port_named x n = is_named x (plain_spelled x n.plain) n.no_word
 
 -- The names of numbered parts.
 
--- The letter of a numbered part, before `_` and its number: no word begins so.
-pub record IsLetter (b : ℕ) : Type 0 where
-  pub letter : is_ascii_alphabetic b ≡ true
-  pub no_word : (ds : List ℕ) → is_vhdl_word (b ∷ 95 ∷ ds) ≡ false
+-- no word has `_` as its second byte
+abbrev pub other_second : List ℕ → Bool
+other_second [] = true
+other_second (a ∷ []) = true
+other_second (a ∷ c ∷ w) = not (nat_eq 95 (to_ascii_lowercase c))
 
-pub of_table : IsLetter 107
-unfolding is_reserved is_used vhdl_words used_words
-of_table = record { letter = refl; no_word = λ ds. refl }
+is_other : (t : Bool) → not t ≡ true → t ≡ false
+is_other true h = absurd cc
+is_other false h = refl
 
-pub of_condition : IsLetter 99
-unfolding is_reserved is_used vhdl_words used_words
-of_condition = record { letter = refl; no_word = λ ds. refl }
+pub unlike_scored : (b : ℕ) (ds w : List ℕ) → other_second w ≡ true → str_eq_ignore_ascii_case (b ∷ 95 ∷ ds) w ≡ false
+unlike_scored b ds [] h = refl
+unlike_scored b ds (a ∷ []) h = and_no (nat_eq (to_ascii_lowercase b) (to_ascii_lowercase a)) false refl
+unlike_scored b ds (a ∷ c ∷ w) h =
+    and_no (nat_eq (to_ascii_lowercase b) (to_ascii_lowercase a)) (nat_eq 95 (to_ascii_lowercase c) && bytes_eq (str_to_ascii_lowercase ds) (str_to_ascii_lowercase w))
+    (rw (is_other (nat_eq 95 (to_ascii_lowercase c)) h) refl)
 
-pub of_state : IsLetter 115
-unfolding is_reserved is_used vhdl_words used_words
-of_state = record { letter = refl; no_word = λ ds. refl }
+none_scored : (b : ℕ) (ds : List ℕ) (words : List (List ℕ)) → list_all other_second words ≡ true → is_word words (b ∷ 95 ∷ ds) ≡ false
+none_scored b ds [] h = refl
+none_scored b ds (w ∷ words) h =
+    let p = and_parts (other_second w) (list_all other_second words) h in
+    rw (unlike_scored b ds w p.0) (none_scored b ds words p.1)
 
-pub of_columns : IsLetter 112
-unfolding is_reserved is_used vhdl_words used_words
-of_columns = record { letter = refl; no_word = λ ds. refl }
+reserved_unscored : list_all other_second vhdl_words ≡ true
+unfolding vhdl_words
+reserved_unscored = refl
 
-pub of_report : IsLetter 120
-unfolding is_reserved is_used vhdl_words used_words
-of_report = record { letter = refl; no_word = λ ds. refl }
+used_unscored : list_all other_second used_words ≡ true
+unfolding used_words
+used_unscored = refl
 
-pub of_data : IsLetter 100
-unfolding is_reserved is_used vhdl_words used_words
-of_data = record { letter = refl; no_word = λ ds. refl }
+neither : (a b : Bool) → a ≡ false → b ≡ false → (a || b) ≡ false
+neither a b e f = rw e f
 
-pub of_output : IsLetter 122
-unfolding is_reserved is_used vhdl_words used_words
-of_output = record { letter = refl; no_word = λ ds. refl }
-
-pub of_glitch : IsLetter 103
-unfolding is_reserved is_used vhdl_words used_words
-of_glitch = record { letter = refl; no_word = λ ds. refl }
+scored_no_word : (b : ℕ) (ds : List ℕ) → is_vhdl_word (b ∷ 95 ∷ ds) ≡ false
+unfolding is_reserved is_used
+scored_no_word b ds =
+    neither (is_reserved (b ∷ 95 ∷ ds)) (is_used (b ∷ 95 ∷ ds)) (none_scored b ds vhdl_words reserved_unscored) (none_scored b ds used_words used_unscored)
 
 digit_in_name : (c : ℕ) → is_ascii_digit c ≡ true → is_name_byte c ≡ true
 digit_in_name c h = grind (arith, nat_tests)
-
-pub all_digits : (x : List ℕ) → AllDigits 10 x → list_all is_ascii_digit x ≡ true
-all_digits [] h = refl
-all_digits (c ∷ x) h =
-    let range = digit_from_value c h.0 in
-    let digit : is_ascii_digit c ≡ true = grind (arith, nat_tests, range) in
-    and_from (is_ascii_digit c) (list_all is_ascii_digit x) digit (all_digits x h.1)
 
 digits_in_name : (x : List ℕ) → list_all is_ascii_digit x ≡ true → list_all is_name_byte x ≡ true
 digits_in_name [] h = refl
@@ -170,21 +153,16 @@ digits_in_name (c ∷ x) h =
     and_from (is_name_byte c) (list_all is_name_byte x) (digit_in_name c p.0) (digits_in_name x p.1)
 
 -- a letter, `_` and a number are a name
-pub part_named : (b n : ℕ) → IsLetter b → n < 2 ^ 64 → IsNamed (b ∷ 95 ∷ decimal n)
+pub part_named : (b n : ℕ) → is_ascii_alphabetic b ≡ true → n < 2 ^ 64 → IsNamed (b ∷ 95 ∷ decimal n)
 part_named b n l h =
     is_named (b ∷ 95 ∷ decimal n)
-    (and_from (is_ascii_alphabetic b) (list_all is_name_byte (95 ∷ decimal n)) l.letter (digits_in_name (decimal n) (all_digits (decimal n) (decimal_is_IsNumeral n h).0.1)))
-    (ap not (l.no_word (decimal n)))
+    (and_from (is_ascii_alphabetic b) (list_all is_name_byte (95 ∷ decimal n)) l (digits_in_name (decimal n) (all_digits (decimal n) (decimal_is_IsNumeral n h).0.1)))
+    (ap not (scored_no_word b (decimal n)))
 
-pub part : {t : Bool} (b n : ℕ) → IsLetter b → n < 2 ^ 64 → Spells Ends t (b ∷ 95 ∷ decimal n) (λ s. (b ∷ 95 ∷ decimal n) ∷ s) true
+pub part : {t : Bool} (b n : ℕ) → is_ascii_alphabetic b ≡ true → n < 2 ^ 64 → Spells Ends t (b ∷ 95 ∷ decimal n) (λ s. (b ∷ 95 ∷ decimal n) ∷ s) true
 part b n l h = name (b ∷ 95 ∷ decimal n) (part_named b n l h)
 
 -- Numbers.
-
--- digits, at most 15
-record AreFew (x : List ℕ) : Type 0 where
-  digits : list_all is_ascii_digit x ≡ true
-  few : length x ≤ 15
 
 digit_by : (mark tick quote letter digit : Bool) (ticked string word number sign n : ℕ) → mark ≡ false → tick ≡ false → quote ≡ false → letter ≡ false → digit ≡ true → number ≡ n
     → (if mark then 1 else (if tick then ticked else (if quote then string else (if letter then word else (if digit then number else sign))))) ≡ n
@@ -201,9 +179,6 @@ no_digit c e = elim (cases_Bool (is_ascii_digit c)) [
   | inl t ↦ absurd (cc (digit_in_name c t, e))
   | inr f ↦ f
 ]
-
-short : (n : ℕ) → n ≤ 15 → nat_le n 15 ≡ true
-short n h = grind (arith, nat_tests)
 
 number_token : (t : Bool) (b : ℕ) (w r : List ℕ) → AreFew (b ∷ w) → Ends r → token_length t (b ∷ w ++ r) ≡ suc (length w)
 number_token t b w r f e =
@@ -232,37 +207,9 @@ few_digits : {t : Bool} (x : List ℕ) → AreFew x → 0 < length x → Spells 
 few_digits [] f some = absurd (omega arith)
 few_digits {t = t} (b ∷ w) f some = record { is = digits_found t b w f }
 
-same_value : (n : ℕ) (x : List ℕ) → AllDigits 10 x → number_after n x ≡ digits_value_after 10 n x
-same_value n [] h = refl
-same_value n (c ∷ x) h =
-    let range = digit_from_value c h.0 in
-    let value : c - 48 ≡ digit_value c = grind (arith, nat_tests, range) in
-    ap (λ k. number_after (n * 10 + k) x) value ∙ same_value (n * 10 + digit_value c) x h.1
-
-pub below_word : (n : ℕ) → IsNumber n → n < 2 ^ 64
-below_word n h = omega (arith, h)
-
-few : (n : ℕ) → IsNumber n → AreFew (decimal n)
-few n h = record {
-  digits = all_digits (decimal n) (decimal_is_IsNumeral n (below_word n h)).0.1;
-  few = length-decimal-le 15 n (omega arith) h (below_word n h);
-}
-
 -- a number is one token
 pub number : {t : Bool} (n : ℕ) → IsNumber n → Spells Ends t (decimal n) (λ s. decimal n ∷ s) false
 number n h = few_digits (decimal n) (few n h) (decimal_is_IsNumeral n (below_word n h)).0.0
-
-is_number_of : (x : List ℕ) (n : ℕ) → AreFew x → 0 < length x → number_after 0 x ≡ n → number_of x ≡ Some n
-is_number_of [] n f some e = absurd (omega arith)
-is_number_of (b ∷ w) n f some e =
-    let digits : (is_ascii_digit b && list_all is_ascii_digit w) ≡ true = f.digits in
-    rw (digits, short (length (b ∷ w)) f.few) (ap Some e)
-
--- a number is what its digits spell
-pub number_is : (n : ℕ) → IsNumber n → number_of (decimal n) ≡ Some n
-number_is n h =
-    let d = decimal_is_IsNumeral n (below_word n h) in
-    is_number_of (decimal n) n (few n h) d.0.0 (same_value 0 (decimal n) d.0.1 ∙ d.1)
 
 -- a name is no number
 pub unnumbered : (x : List ℕ) → IsNamed x → number_of x ≡ None

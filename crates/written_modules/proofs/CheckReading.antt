@@ -21,8 +21,9 @@ use Rattle.specify_blocks.specs.VerilogModules.{port_name}
 use Rattle.specify_blocks.specs.VerilogBlocks.{edge_of, any_edge, an_event, an_edge_event, condition_name, condition, check_end, ordered_check, turned_check, opposite, width_check, same_condition, equal_to, same_number, second_period, period_check, check_of, check_of_kind, check, next_check}
 use Rattle.rule_readers.specs.Words.{begins_as}
 use Rattle.verilog_writer.specs.Nets.{port_at, wire_at, notifier_in}
-use Rattle.written_modules.proofs.Words.{number_is, unlike_word}
+use Rattle.written_modules.proofs.Words.{unlike_word}
 use Rattle.written_modules.proofs.TimingTokens.{IsNamedCondition, IsNamedCheck, edge_tokens, event_tokens, condition_tokens, end_tokens, ordered_tokens, turned_tokens, width_tokens, period_tokens, check_word, check_more, check_tokens}
+use Rattle.grammar_phrases.proofs.Bytes.{number_is}
 use Rattle.grammar_phrases.proofs.Derivations.{Reads, to_same, gives, token, in_turn, chosen, passed, Turn, turn}
 use Rattle.written_modules.proofs.NameReading.{expected, so_named}
 use Rattle.grammar_phrases.proofs.Places.{at_place}

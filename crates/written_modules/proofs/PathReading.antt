@@ -18,8 +18,8 @@ use Rattle.specify_blocks.specs.VerilogBlocks.{a_number, kept, port_of, an_input
 use Rattle.rule_readers.specs.declared.refusal.Refusal.TheVariants.{Syntax}
 use Rattle.rule_readers.specs.Words.{begins_by, allowed_by}
 use Rattle.verilog_writer.specs.Nets.{port_at, wire_at}
-use Rattle.written_modules.proofs.Words.{number_is}
 use Rattle.written_modules.proofs.TimingTokens.{IsNamedGate, IsNamedPath, gate_start, gate_more, delay_tokens, path_tokens}
+use Rattle.grammar_phrases.proofs.Bytes.{number_is}
 use Rattle.grammar_phrases.proofs.Derivations.{Reads, gives, token, in_turn, Turn, turn}
 use Rattle.written_modules.proofs.NameReading.{expected, known_as}
 use Rattle.grammar_phrases.proofs.Places.{at_place}

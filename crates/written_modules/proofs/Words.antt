@@ -1,36 +1,21 @@
 -- Names and numbers are tokens where a blank or a mark follows.
-use Rattle.std.proofs.Common.{◌≡◌, ℕ, suc, ◌+◌, ◌-◌, ◌*◌, ◌^◌, ◌<◌, ◌≤◌, Bool, true, false, not, ◌&&◌, ◌||◌, ◌==◌, nat_eq, nat_le, if◌then◌else◌, List, [], ◌∷◌, ◌++◌, length, inl, inr, Some, refl, sym, ap, ◌∙◌, arith, subst, codes, decimal}
-use Rattle.std.proofs.lemmas.Bool.{and_parts, and_from, eqb-true, cases_Bool}
+use Rattle.std.proofs.Common.{◌≡◌, ℕ, suc, ◌<◌, ◌≤◌, Bool, true, false, not, ◌&&◌, ◌||◌, ◌==◌, nat_eq, nat_le, if◌then◌else◌, List, [], ◌∷◌, ◌++◌, length, inl, inr, refl, sym, ap, ◌∙◌, arith, subst, codes, decimal}
+use Rattle.std.proofs.lemmas.Bool.{and_parts, and_from, cases_Bool}
 use Rattle.std.proofs.lemmas.Bool.Decides.{nat_tests}
 use Rattle.std.proofs.lemmas.Slice.Eq.{bytes_eq-Decides}
-use Rattle.std.proofs.lemmas.Fmt.{decimal_is_IsNumeral, length-decimal-le}
-use Rattle.std.proofs.lemmas.Str.Parse.{digit_from_value}
-use Rattle.std.specs.Char.{is_ascii_alphabetic, is_ascii_digit, digit_value}
+use Rattle.std.proofs.lemmas.Fmt.{decimal_is_IsNumeral}
+use Rattle.std.specs.Char.{is_ascii_alphabetic, is_ascii_digit}
 use Rattle.std.specs.Str.{bytes_eq}
-use Rattle.std.specs.Str.Parse.{AllDigits, digits_value_after}
 use Rattle.std.specs.List.{list_all, list_any, prefix_len}
 use Rattle.verilog_tokens.specs.Kept.{is_name_byte}
 use Rattle.verilog_tokens.specs.Words.{is_verilog_word, verilog_words}
-use Rattle.verilog_tokens.specs.Numbers.{number_after, number_of}
 use Rattle.verilog_tokens.specs.Tokens.{is_blank, is_mark, is_one_of, begins_with, begins_word, word_length, number_length, sign_length, is_open_after, is_name, separator_length, token_length}
 use Rattle.verilog_tokens.proofs.Padding.{word_before, over_token}
 use Rattle.specify_blocks.specs.WellFormed.{IsName, IsNumber}
+use Rattle.grammar_phrases.proofs.Bytes.{unlike, none_of, AreFew, short, below_word, few}
 use Rattle.written_modules.proofs.Spelling.{Spells, Ends, found}
 
 -- Bytes of one kind and of another.
-
-unlike : (test : ℕ → Bool) (c b : ℕ) → not (test c) ≡ true → test b ≡ true → nat_eq c b ≡ false
-unlike test c b h e = elim (cases_Bool (nat_eq c b)) [
-  | inl t ↦ (let same : test c ≡ true = subst (λ x. test x ≡ true) (sym (eqb-true c b t)) e in let no : not (test c) ≡ false = ap not same in absurd (cc (h, no)))
-  | inr f ↦ f
-]
-
--- a byte that passes a test is none of those that do not
-none_of : (test : ℕ → Bool) (cs : List ℕ) (b : ℕ) → list_all (λ c. not (test c)) cs ≡ true → test b ≡ true → list_any (λ c. nat_eq c b) cs ≡ false
-none_of test [] b h e = refl
-none_of test (c ∷ cs) b h e =
-    let p = and_parts (not (test c)) (list_all (λ c. not (test c)) cs) h in
-    rw (unlike test c b p.0 e) (none_of test cs b p.1 e)
 
 -- a byte that is one of those does not pass
 one_of : (test : ℕ → Bool) (cs : List ℕ) (b : ℕ) → list_all (λ c. not (test c)) cs ≡ true → list_any (λ c. nat_eq c b) cs ≡ true → test b ≡ false
@@ -134,11 +119,6 @@ no_more l ls (c ∷ ds) r n d h e =
     let no : not (is_ascii_digit l) ≡ true = ap not d in
     rw (unlike is_ascii_digit l c no p.0) refl
 
--- digits, at most 15
-record AreFew (x : List ℕ) : Type 0 where
-  digits : list_all is_ascii_digit x ≡ true
-  few : length x ≤ 15
-
 number_length_is : (unit low high fits : Bool) (run n : ℕ) → unit ≡ false → low ≡ false → high ≡ false → fits ≡ true → run ≡ n →
     (if unit then 3 else (if low || high then 4 else (if fits then run else 0))) ≡ n
 number_length_is unit low high fits run n a b c d e = rw (a, b, c, d) e
@@ -154,9 +134,6 @@ no_word_start : (b : ℕ) → is_ascii_digit b ≡ true → begins_word b ≡ fa
 no_word_start b e =
     let letter : is_ascii_alphabetic b ≡ false = grind (arith, nat_tests) in
     rw (letter, none_of is_ascii_digit (codes "_$`") b refl e) refl
-
-short : (n : ℕ) → n ≤ 15 → nat_le n 15 ≡ true
-short n h = grind (arith, nat_tests)
 
 number_token : (b : ℕ) (w r : List ℕ) → AreFew (b ∷ w) → Ends r → token_length false (b ∷ w ++ r) ≡ suc (length w)
 number_token b w r f e =
@@ -189,41 +166,6 @@ few_digits : (x : List ℕ) → AreFew x → 0 < length x → Spells Ends false 
 few_digits [] f some = absurd (omega arith)
 few_digits (b ∷ w) f some = record { is = digits_found b w f }
 
-all_digits : (x : List ℕ) → AllDigits 10 x → list_all is_ascii_digit x ≡ true
-all_digits [] h = refl
-all_digits (c ∷ x) h =
-    let range = digit_from_value c h.0 in
-    let digit : is_ascii_digit c ≡ true = grind (arith, nat_tests, range) in
-    and_from (is_ascii_digit c) (list_all is_ascii_digit x) digit (all_digits x h.1)
-
-same_value : (n : ℕ) (x : List ℕ) → AllDigits 10 x → number_after n x ≡ digits_value_after 10 n x
-same_value n [] h = refl
-same_value n (c ∷ x) h =
-    let range = digit_from_value c h.0 in
-    let value : c - 48 ≡ digit_value c = grind (arith, nat_tests, range) in
-    ap (λ k. number_after (n * 10 + k) x) value ∙ same_value (n * 10 + digit_value c) x h.1
-
-below_word : (n : ℕ) → IsNumber n → n < 2 ^ 64
-below_word n h = omega (arith, h)
-
-few : (n : ℕ) → IsNumber n → AreFew (decimal n)
-few n h = record {
-  digits = all_digits (decimal n) (decimal_is_IsNumeral n (below_word n h)).0.1;
-  few = length-decimal-le 15 n (omega arith) h (below_word n h);
-}
-
 -- a number is one token
 pub number : (n : ℕ) → IsNumber n → Spells Ends false (decimal n) (λ s. decimal n ∷ s) false
 number n h = few_digits (decimal n) (few n h) (decimal_is_IsNumeral n (below_word n h)).0.0
-
-is_number_of : (x : List ℕ) (n : ℕ) → AreFew x → 0 < length x → number_after 0 x ≡ n → number_of x ≡ Some n
-is_number_of [] n f some e = absurd (omega arith)
-is_number_of (b ∷ w) n f some e =
-    let digits : (is_ascii_digit b && list_all is_ascii_digit w) ≡ true = f.digits in
-    rw (digits, short (length (b ∷ w)) f.few) (ap Some e)
-
--- a number is what its digits spell
-pub number_is : (n : ℕ) → IsNumber n → number_of (decimal n) ≡ Some n
-number_is n h =
-    let d = decimal_is_IsNumeral n (below_word n h) in
-    is_number_of (decimal n) n (few n h) d.0.0 (same_value 0 (decimal n) d.0.1 ∙ d.1)

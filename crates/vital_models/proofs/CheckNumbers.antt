@@ -5,7 +5,7 @@ use Rattle.bool_functions.specs.declared.tree.Node.{Node}
 use Rattle.cell_machine.specs.declared.checks.Check.{Check}
 use Rattle.cell_machine.specs.CellData.{CellData}
 use Rattle.udp_tables.specs.Conditions.{conditions_of, condition_place}
-use Rattle.udp_tables.specs.TimingChecks.{check_by, number_behind, check_behind}
+use Rattle.udp_tables.specs.TimingChecks.{number_behind, check_behind}
 use Rattle.vital_models.specs.Generated.{place_of, check_of}
 
 number_alone : (cell : CellData) (o : Option Node) → option_map (number_behind 0 (conditions_of cell)) o ≡ option_map (place_of cell) o

@@ -3,3 +3,5 @@ pub mod Padding
 pub mod Longest
 pub mod Covered
 mod NoWord
+mod ByteTables
+mod TokenFirst

@@ -6,6 +6,7 @@ ghost use Rattle.std.specs.Char.{is_ascii_alphabetic};
 ghost use Rattle.std.specs.Str.{bytes_eq};
 ghost use Rattle.verilog_tokens.specs.Tokens as spec;
 
+use crate::symbols::is_symbol;
 use token_spans::{digits_length, is_blank, line_length, name_length};
 
 /// Whether a byte is a mark of one byte.
@@ -14,19 +15,6 @@ fn is_mark(byte: u8) -> bool
     ensures { result ≡ spec.is_mark byte }
 {
     matches!(byte, b'(' | b')' | b',' | b';' | b':')
-}
-
-/// Whether a byte is a symbol of a table.
-#[inline(always)]
-fn is_symbol(byte: u8) -> bool
-    ensures { result ≡ spec.is_symbol byte }
-{
-    match byte {
-        b'0' | b'1' | b'x' | b'X' | b'b' | b'B' | b'?' => true,
-        b'r' | b'R' | b'f' | b'F' | b'p' | b'P' | b'n' | b'N' | b'*' => true,
-        b'-' | b'(' | b')' | b':' | b';' => true,
-        _ => false,
-    }
 }
 
 /// How many bytes end a comment, up to and with the first slash right behind a star.

@@ -6,6 +6,7 @@ mod fronts;
 mod kept;
 mod laws;
 mod scanner;
+mod symbols;
 mod word_groups;
 mod words;
 

@@ -6,16 +6,8 @@ ghost use Rattle.std.specs.Char.{is_ascii_alphabetic};
 ghost use Rattle.std.specs.Str.{bytes_eq};
 ghost use Rattle.verilog_tokens.specs.Tokens as spec;
 
-use crate::symbols::is_symbol;
+use crate::bytes_told::{begins_word, is_mark, is_symbol};
 use token_spans::{digits_length, is_blank, line_length, name_length};
-
-/// Whether a byte is a mark of one byte.
-#[inline(always)]
-fn is_mark(byte: u8) -> bool
-    ensures { result ≡ spec.is_mark byte }
-{
-    matches!(byte, b'(' | b')' | b',' | b';' | b':')
-}
 
 /// How many bytes end a comment, up to and with the first slash right behind a star.
 fn comment_rest(bytes: &[u8]) -> Option<usize>
@@ -136,22 +128,6 @@ fn word_length(bytes: &[u8]) -> usize
         None => 0,
         Some((b'$' | b'`', rest)) => 1 + letters_length(rest),
         Some((_, rest)) => 1 + name_length(rest),
-    }
-}
-
-/// Whether a byte begins a word.
-#[inline(always)]
-fn begins_word(byte: u8) -> bool
-    ensures { result ≡ spec.begins_word byte }
-{
-    match byte {
-        b'A' | b'B' | b'C' | b'D' | b'E' | b'F' | b'G' | b'H' | b'I' | b'J' => true,
-        b'K' | b'L' | b'M' | b'N' | b'O' | b'P' | b'Q' | b'R' | b'S' | b'T' => true,
-        b'U' | b'V' | b'W' | b'X' | b'Y' | b'Z' | b'_' => true,
-        b'a' | b'b' | b'c' | b'd' | b'e' | b'f' | b'g' | b'h' | b'i' | b'j' => true,
-        b'k' | b'l' | b'm' | b'n' | b'o' | b'p' | b'q' | b'r' | b's' | b't' => true,
-        b'u' | b'v' | b'w' | b'x' | b'y' | b'z' | b'$' | b'`' => true,
-        _ => false,
     }
 }
 

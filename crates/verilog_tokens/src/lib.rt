@@ -2,11 +2,11 @@
 //! and annex B.)
 #![tactic(auto)]
 
+mod bytes_told;
 mod fronts;
 mod kept;
 mod laws;
 mod scanner;
-mod symbols;
 mod word_groups;
 mod words;
 

@@ -2,9 +2,9 @@ use Rattle.std.proofs.Common.{◌<◌, map, refl, arith}
 use Rattle.std.specs.List.{range_with_len}
 use Rattle.verilog_tokens.specs.Tokens as spec
 use Rattle.verilog_tokens.proofs.ByteTables.{told}
-use Rattle.verilog_tokens.proofs.symbols.is_symbol.Goals as goal
+use Rattle.verilog_tokens.proofs.bytes_told.is_mark.Goals as goal
 
 pub returns : goal.returns
 returns c =
     let h : c.args.byte < 256 = omega (arith, c.ranges.byte.fits) in
-    rw c.from.ensures (told spec.is_symbol c.args.byte (map spec.is_symbol (range_with_len 0 256)) _ refl refl h)
+    rw c.from.ensures (told spec.is_mark c.args.byte (map spec.is_mark (range_with_len 0 256)) _ refl refl h)

@@ -1,0 +1,10 @@
+use Rattle.std.proofs.Common.{◌<◌, map, refl, arith}
+use Rattle.std.specs.List.{range_with_len}
+use Rattle.verilog_tokens.specs.Tokens as spec
+use Rattle.verilog_tokens.proofs.ByteTables.{told}
+use Rattle.verilog_tokens.proofs.bytes_told.begins_word.Goals as goal
+
+pub returns : goal.returns
+returns c =
+    let h : c.args.byte < 256 = omega (arith, c.ranges.byte.fits) in
+    rw c.from.ensures (told spec.begins_word c.args.byte (map spec.begins_word (range_with_len 0 256)) _ refl refl h)

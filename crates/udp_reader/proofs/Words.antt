@@ -3,7 +3,7 @@ use Rattle.std.proofs.Common.{◌≡◌, ℕ, true, false, List, Option, Some, N
 use Rattle.std.specs.Str.{bytes_eq}
 use Rattle.grammar_rules.specs.Reading.{Outcome, choose, read}
 use Rattle.rule_readers.specs.declared.refusal.Refusal.{Refusal}
-use Rattle.rule_readers.specs.declared.refusal.Refusal.TheVariants.{Syntax, Undefined}
+use Rattle.rule_readers.specs.declared.refusal.Refusal.TheVariants.{Undefined}
 use Rattle.rule_readers.specs.Next.{is_next, next_bytes, rest}
 use Rattle.rule_readers.proofs.Repeats as repeats
 use Rattle.rule_readers.proofs.Values as values
@@ -26,7 +26,3 @@ known_some find s a e f = values.known_some is_name refl find s a e f
 -- a name that stands for no value
 pub known_none : {A : Type 0} (find : List ℕ → Option A) (s : List (List ℕ)) → is_name (next_bytes s) ≡ true → find (next_bytes s) ≡ None → read (known find) s ≡ Err (Undefined, s)
 known_none find s e f = values.known_none is_name refl find s e f
-
--- a token that is no name, or no token
-pub known_other : {A : Type 0} (find : List ℕ → Option A) (s : List (List ℕ)) → is_name (next_bytes s) ≡ false → read (known find) s ≡ Err (Syntax, s)
-known_other find s e = values.known_other is_name refl find s e

@@ -9,12 +9,12 @@ use Rattle.specify_blocks.specs.declared.model.VNet.TheVariants as net
 use Rattle.specify_blocks.specs.declared.model.Instance.{Instance}
 use Rattle.specify_blocks.specs.declared.model.VModule.{VModule}
 use Rattle.specify_blocks.specs.Nets.{same_net, net_driven, has_state, is_state, is_value, drivers}
-use Rattle.specify_blocks.specs.VerilogModules.{port_name, is_driven_already}
+use Rattle.specify_blocks.specs.VerilogModules.{port_name, is_driven_already, primitive_number}
 use Rattle.specify_blocks.specs.VerilogBlocks.{port_of}
 use Rattle.specify_blocks.proofs.InstanceLemmas.{drivers-cons}
 use Rattle.verilog_reader.specs.declared.driven_nets.DrivenNets.{DrivenNets}
 use Rattle.verilog_reader.specs.declared.first_names.FirstNames.{FirstNames}
-use Rattle.verilog_reader.specs.FirstNames.{place_by, own_name}
+use Rattle.verilog_reader.specs.FirstNames.{place_by, own_name, udp_name}
 use Rattle.verilog_reader.specs.DrivenNets.{AreDriven, driven_by, drives_state, drives_value}
 use Rattle.verilog_reader.specs.Netlist.{MayFind, AreKeptOf}
 use Rattle.verilog_reader.proofs.DrivenNets.{driven_more}
@@ -56,6 +56,11 @@ may_find : {X : Type 0} (name_of : X → List ℕ) (kept : Option FirstNames) (t
     → place_by found x ≡ position (λ y. bytes_eq x (name_of y)) things
 may_find name_of (Some other) things found x f e = let same : other ≡ found = cc in subst (λ o. place_by o x ≡ position (λ y. bytes_eq x (name_of y)) things) same (f.first x)
 may_find name_of None things found x f e = absurd cc
+
+-- the number of a primitive, where the names of the primitives are kept
+pub primitive_found : (kept : Option FirstNames) (udps : List Udp) (found : FirstNames) (x : List ℕ) → MayFind udp_name kept udps → kept ≡ Some found
+    → place_by found x ≡ primitive_number udps x
+primitive_found kept udps found x f e = may_find udp_name kept udps found x f e
 
 module _ (m : VModule) (ports wires : Option FirstNames) (driven : DrivenNets) (k : AreKeptOf m ports wires driven) where
   pub port_found : (found : FirstNames) (x : List ℕ) → ports ≡ Some found → place_by found x ≡ port_of m x

@@ -1,6 +1,7 @@
 pub mod Headers
 pub mod Begun
 pub mod File
+pub mod Checks
 pub mod TextLaws
 pub mod FirstNames
 pub mod SameNames

@@ -10,16 +10,16 @@ ghost use Rattle.rule_readers.specs.Reading.{Reads};
 use crate::netlist::Netlist;
 use crate::paths::{condition_name, input_name};
 use cell_machine::{Edge, Event};
-use rule_readers::{Cursor, Refusal, Stop};
+use rule_readers::{Cursor, Language, Stop};
 use udp_reader::Verilog;
 
 /// The events that a word before a port allows.
 fn edge_of(token: &[u8]) -> Option<Edge>
     ensures { result ≡ spec.edge_of token.now }
 {
-    if token == b"posedge".as_slice() {
+    if Verilog::is_same(token, b"posedge") {
         Some(Edge::Rise)
-    } else if token == b"negedge".as_slice() {
+    } else if Verilog::is_same(token, b"negedge") {
         Some(Edge::Fall)
     } else {
         None
@@ -41,15 +41,12 @@ fn any_edge(cursor: &mut Cursor<'_, Verilog>) -> Result<Edge, Stop>
 }
 
 /// The word before the port of an event, which has to be there.
-#[tactic(auto, using(rule_readers::proofs::Values::valued_some, rule_readers::proofs::Values::valued_none))]
+#[tactic(auto, using(rule_readers::proofs::Values::valued_found))]
 fn one_edge(cursor: &mut Cursor<'_, Verilog>) -> Result<Edge, Stop>
     ensures { Reads (read (valued spec.edge_of) cursor.old) result cursor.new }
 {
-    let Some(edge) = edge_of(cursor.bytes()) else {
-        return Err(Stop::Refused(Refusal::Syntax));
-    };
-    cursor.skip();
-    Ok(edge)
+    let found = edge_of(cursor.bytes());
+    cursor.value(found)
 }
 
 /// An event of an input.

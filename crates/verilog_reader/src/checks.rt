@@ -4,6 +4,7 @@ ghost use Rattle.std.specs.Prelude.{◌≡◌, IfOk};
 ghost use Rattle.grammar_rules.specs.Reading.{read};
 ghost use Rattle.specify_blocks.specs.VerilogBlocks as spec;
 ghost use Rattle.rule_readers.specs.Reading.{Reads};
+ghost use Rattle.verilog_reader.specs.Checks.{limited};
 
 use crate::check_parts::{an_edge_event, an_event, check_end, condition};
 use crate::netlist::Netlist;
@@ -11,7 +12,7 @@ use crate::numbers::number;
 use crate::paths::paths;
 use crate::period_lines::period_check;
 use cell_machine::{CheckKind, Edge, Event};
-use rule_readers::{Cursor, Stop};
+use rule_readers::{Cursor, Language, Stop};
 use sqlite_items::Items;
 use std::alloc::Global;
 use udp_reader::Verilog;
@@ -32,25 +33,49 @@ fn opposite(edge: Edge) -> Edge
 fn check_of(token: &[u8]) -> Option<CheckKind>
     ensures { result ≡ spec.check_of token.now }
 {
-    if token == b"$setup".as_slice() {
+    if Verilog::is_same(token, b"$setup") {
         Some(CheckKind::Setup)
-    } else if token == b"$hold".as_slice() {
+    } else if Verilog::is_same(token, b"$hold") {
         Some(CheckKind::Hold)
-    } else if token == b"$recovery".as_slice() {
+    } else if Verilog::is_same(token, b"$recovery") {
         Some(CheckKind::Recovery)
-    } else if token == b"$removal".as_slice() {
+    } else if Verilog::is_same(token, b"$removal") {
         Some(CheckKind::Removal)
-    } else if token == b"$width".as_slice() {
+    } else if Verilog::is_same(token, b"$width") {
         Some(CheckKind::Width)
-    } else if token == b"$period".as_slice() {
+    } else if Verilog::is_same(token, b"$period") {
         Some(CheckKind::Period)
     } else {
         None
     }
 }
 
+/// The limit and the end of a check of these events, behind its last event and its condition.
+#[tactic(auto, unfolding(crate::specs::Checks::limited))]
+fn limited(
+    cursor: &mut Cursor<'_, Verilog>,
+    model: &Netlist,
+    kind: CheckKind,
+    first: Event,
+    second: Event,
+    condition: Option<usize>,
+) -> Result<TimingCheck, Stop>
+    ensures { Reads (read (limited model.now kind first second condition) cursor.old) result cursor.new }
+{
+    cursor.expect(b",")?;
+    let limit = number(cursor)?;
+    check_end(cursor, model)?;
+    Ok(TimingCheck {
+        kind,
+        first,
+        second,
+        limit,
+        condition,
+    })
+}
+
 /// A check whose first argument is the earlier event.
-#[tactic(auto, unfolding(specify_blocks::specs::VerilogBlocks::ordered_check))]
+#[tactic(auto, unfolding(specify_blocks::specs::VerilogBlocks::ordered_check, crate::specs::Checks::limited))]
 fn ordered_check(
     cursor: &mut Cursor<'_, Verilog>,
     kind: CheckKind,
@@ -62,20 +87,11 @@ fn ordered_check(
     cursor.expect(b",")?;
     let second = an_event(cursor, model)?;
     let condition = condition(cursor, model)?;
-    cursor.expect(b",")?;
-    let limit = number(cursor)?;
-    check_end(cursor, model)?;
-    Ok(TimingCheck {
-        kind,
-        first,
-        second,
-        limit,
-        condition,
-    })
+    limited(cursor, model, kind, first, second, condition)
 }
 
 /// A check whose first argument is the later event.
-#[tactic(auto, unfolding(specify_blocks::specs::VerilogBlocks::turned_check))]
+#[tactic(auto, unfolding(specify_blocks::specs::VerilogBlocks::turned_check, crate::specs::Checks::limited))]
 fn turned_check(
     cursor: &mut Cursor<'_, Verilog>,
     kind: CheckKind,
@@ -87,16 +103,7 @@ fn turned_check(
     let condition = condition(cursor, model)?;
     cursor.expect(b",")?;
     let first = an_event(cursor, model)?;
-    cursor.expect(b",")?;
-    let limit = number(cursor)?;
-    check_end(cursor, model)?;
-    Ok(TimingCheck {
-        kind,
-        first,
-        second,
-        limit,
-        condition,
-    })
+    limited(cursor, model, kind, first, second, condition)
 }
 
 /// The width of a pulse.

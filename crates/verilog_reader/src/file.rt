@@ -12,7 +12,7 @@ use crate::instances::instances;
 use crate::netlist::Netlist;
 use crate::terminals::are_all_driven;
 use bool_functions::Names;
-use rule_readers::{Cursor, Refusal, Stop};
+use rule_readers::{Cursor, Language, Refusal, Stop};
 use specify_blocks::VModule;
 use sqlite_items::Items;
 use std::alloc::Global;
@@ -32,7 +32,7 @@ pub struct Before {
 fn is_design_start(token: &[u8]) -> bool
     ensures { result ≡ spec.is_design_start token.now }
 {
-    token == b"primitive".as_slice() || token == b"module".as_slice()
+    Verilog::is_same(token, b"primitive") || Verilog::is_same(token, b"module")
 }
 
 /// The first line of a text.
@@ -163,7 +163,7 @@ fn design(
 ) -> Result<Before, Stop>
     ensures { ReadsAs before_of (read (spec.design (before_of before) first.now) cursor.old) result cursor.new }
 {
-    if first == b"primitive".as_slice() {
+    if Verilog::is_same(first, b"primitive") {
         primitives_and_module(cursor, alloc, before)
     } else {
         next_module(cursor, alloc, before)

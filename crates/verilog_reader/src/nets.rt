@@ -7,8 +7,10 @@ ghost use Rattle.specify_blocks.specs.Nets as spec;
 ghost use Rattle.specify_blocks.specs.VerilogModules.{is_driven_already};
 ghost use Rattle.specify_blocks.specs.VerilogBlocks.{port_of};
 
+use rule_readers::Language;
 use specify_blocks::{Instance, VModule, VNet};
 use sqlite_items::Items;
+use udp_reader::Verilog;
 use udp_tables::{Udp, VPort};
 
 /// How many nets of a kind are looked for one after another.
@@ -22,14 +24,16 @@ pub fn port_of(model: &VModule, name: &[u8]) -> Option<usize>
         .ports
         .as_slice()
         .iter()
-        .position(|port| name == port.name.as_slice())
+        .position(|port| Verilog::is_same(name, port.name.as_slice()))
 }
 
 /// The number of the wire with this name.
 pub fn wire_of(wires: &[Items<u8>], name: &[u8]) -> Option<usize>
     ensures { result ≡ position (bytes_eq name.now) wires.now }
 {
-    wires.iter().position(|wire| name == wire.as_slice())
+    wires
+        .iter()
+        .position(|wire| Verilog::is_same(name, wire.as_slice()))
 }
 
 /// Whether this is the number of an output.

@@ -5,18 +5,15 @@ ghost use Rattle.grammar_rules.specs.Reading.{read};
 ghost use Rattle.specify_blocks.specs.VerilogBlocks as spec;
 ghost use Rattle.rule_readers.specs.Reading.{Reads};
 
-use rule_readers::{Cursor, Refusal, Stop};
+use rule_readers::{Cursor, Stop};
 use udp_reader::Verilog;
 use verilog_tokens::number_of;
 
 /// The number that stands next.
-#[tactic(auto, using(rule_readers::proofs::Values::valued_some, rule_readers::proofs::Values::valued_none), unfolding(specify_blocks::specs::VerilogBlocks::a_number))]
+#[tactic(auto, using(rule_readers::proofs::Values::valued_found), unfolding(specify_blocks::specs::VerilogBlocks::a_number))]
 pub fn number(cursor: &mut Cursor<'_, Verilog>) -> Result<u64, Stop>
     ensures { Reads (read spec.a_number cursor.old) result cursor.new }
 {
-    let Some(number) = number_of(cursor.bytes()) else {
-        return Err(Stop::Refused(Refusal::Syntax));
-    };
-    cursor.skip();
-    Ok(number)
+    let found = number_of(cursor.bytes());
+    cursor.value(found)
 }

@@ -1,11 +1,10 @@
 //! Paths of specify blocks. (IEEE 1364-2005, 14.2 and 14.3.)
 
-ghost use Rattle.std.specs.Prelude.{◌≡◌, ℕ, List, Option};
+ghost use Rattle.std.specs.Prelude.{◌≡◌};
 ghost use Rattle.std.specs.List.{position};
 ghost use Rattle.std.specs.Str.{bytes_eq};
 ghost use Rattle.grammar_rules.specs.Reading.{read};
 ghost use Rattle.udp_tables.specs.Ports.{is_input_port};
-ghost use Rattle.udp_tables.specs.VerilogRules.{known};
 ghost use Rattle.specify_blocks.specs.Nets as nets;
 ghost use Rattle.specify_blocks.specs.VerilogBlocks as spec;
 ghost use Rattle.rule_readers.specs.Reading.{Reads};
@@ -14,34 +13,20 @@ ghost use Rattle.rule_readers.specs.Next.{next_bytes, rest};
 use crate::netlist::Netlist;
 use crate::nets::is_output_port;
 use crate::numbers::number;
-use rule_readers::{Cursor, Refusal, Stop};
+use rule_readers::{Cursor, Language, Stop};
 use specify_blocks::{Gate, VPath};
 use sqlite_items::Items;
 use std::alloc::Global;
 use udp_reader::Verilog;
 use udp_tables::is_input_port;
-use verilog_tokens::is_name;
 
 /// Whether a path begins with this token.
 fn is_path_start(token: &[u8]) -> bool
     ensures { result ≡ spec.is_path_start token.now }
 {
-    token == b"if".as_slice() || token == b"ifnone".as_slice() || token == b"(".as_slice()
-}
-
-/// A name that stands for a number, where it was found to do so.
-#[tactic(auto, using(udp_reader::proofs::Words::known_some, udp_reader::proofs::Words::known_none, udp_reader::proofs::Words::known_other))]
-pub fn known_number(cursor: &mut Cursor<'_, Verilog>, found: Option<usize>) -> Result<usize, Stop>
-    ensures { (find : List ℕ → Option ℕ) → found ≡ find (next_bytes cursor.old) → Reads (read (known find) cursor.old) result cursor.new }
-{
-    if !is_name(cursor.bytes()) {
-        return Err(Stop::Refused(Refusal::Syntax));
-    }
-    let Some(number) = found else {
-        return Err(Stop::Refused(Refusal::Undefined));
-    };
-    cursor.skip();
-    Ok(number)
+    Verilog::is_same(token, b"if")
+        || Verilog::is_same(token, b"ifnone")
+        || Verilog::is_same(token, b"(")
 }
 
 /// The number of the input with this name.
@@ -80,7 +65,7 @@ pub fn input_name(cursor: &mut Cursor<'_, Verilog>, model: &Netlist) -> Result<u
     ensures { Reads (read (spec.an_input model.now) cursor.old) result cursor.new }
 {
     let found = input_of(model, cursor.bytes());
-    known_number(cursor, found)
+    cursor.known(found)
 }
 
 /// The name of an output.
@@ -89,7 +74,7 @@ fn output_name(cursor: &mut Cursor<'_, Verilog>, model: &Netlist) -> Result<usiz
     ensures { Reads (read (spec.an_output model.now) cursor.old) result cursor.new }
 {
     let found = output_of(model, cursor.bytes());
-    known_number(cursor, found)
+    cursor.known(found)
 }
 
 /// The name of a condition.
@@ -98,7 +83,7 @@ pub fn condition_name(cursor: &mut Cursor<'_, Verilog>, model: &Netlist) -> Resu
     ensures { Reads (read (spec.a_condition model.now) cursor.old) result cursor.new }
 {
     let found = condition_of(model, cursor.bytes());
-    known_number(cursor, found)
+    cursor.known(found)
 }
 
 /// What stands behind `if` and before the ports of a path.
@@ -129,9 +114,9 @@ fn path_gate(cursor: &mut Cursor<'_, Verilog>, model: &Netlist) -> Result<Gate, 
 {
     let first = cursor.bytes();
     cursor.skip();
-    if first == b"if".as_slice() {
+    if Verilog::is_same(first, b"if") {
         if_gate(cursor, model)
-    } else if first == b"ifnone".as_slice() {
+    } else if Verilog::is_same(first, b"ifnone") {
         ifnone_gate(cursor)
     } else {
         Ok(Gate::Always)

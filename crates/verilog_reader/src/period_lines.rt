@@ -13,7 +13,7 @@ use crate::netlist::Netlist;
 use crate::numbers::number;
 use crate::paths::input_name;
 use cell_machine::{CheckKind, Edge, Event};
-use rule_readers::{Cursor, Refusal, Stop};
+use rule_readers::{Cursor, Stop};
 use udp_reader::Verilog;
 use udp_tables::TimingCheck;
 use verilog_tokens::number_of;
@@ -55,18 +55,12 @@ fn same_condition(
 }
 
 /// The number of the line before.
-#[tactic(auto, using(crate::proofs::Periods::equal_number, crate::proofs::Periods::no_number))]
+#[tactic(auto, using(crate::proofs::Periods::number_found))]
 fn same_number(cursor: &mut Cursor<'_, Verilog>, limit: u64) -> Result<(), Stop>
     ensures { Reads (read (spec.same_number limit) cursor.old) result cursor.new }
 {
-    let Some(number) = number_of(cursor.bytes()) else {
-        return Err(Stop::Refused(Refusal::Syntax));
-    };
-    if number != limit {
-        return Err(Stop::Refused(Refusal::Unequal));
-    }
-    cursor.skip();
-    Ok(())
+    let found = number_of(cursor.bytes());
+    cursor.same_number(found, limit)
 }
 
 /// The line of the falls of a period.

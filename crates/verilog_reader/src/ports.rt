@@ -5,7 +5,7 @@ ghost use Rattle.std.specs.Str.{bytes_eq};
 ghost use Rattle.udp_tables.specs.VerilogRules.{is_among, place_from};
 ghost use Rattle.specify_blocks.specs.VerilogModules.{port_names, output_place};
 
-use rule_readers::is_among;
+use rule_readers::{Language, is_among};
 use sqlite_items::Items;
 use udp_reader::Verilog;
 use udp_tables::VPort;
@@ -15,7 +15,7 @@ fn has_port(ports: &[VPort], name: &[u8]) -> bool
     ensures { result ≡ is_among (port_names ports.now) name.now }
 {
     for port in ports {
-        if name == port.name.as_slice() {
+        if Verilog::is_same(name, port.name.as_slice()) {
             return true;
         }
     }
@@ -36,7 +36,7 @@ pub fn port_place(ports: &[VPort], from: usize, name: &[u8]) -> Option<usize>
     ensures within { IfSome result (λ place. place < length ports.now) }
 {
     for at in from..ports.len() {
-        if name == ports[at].name.as_slice() {
+        if Verilog::is_same(name, ports[at].name.as_slice()) {
             return Some(at);
         }
     }

@@ -9,4 +9,4 @@ pub returns : goal.returns
 unfolding a_condition
 returns c =
     let find : List ℕ → Option ℕ = λ x. kept (is_value c.args.model.now c.args.model.now.instances) (position (bytes_eq x) c.args.model.now.wires) in
-    c.known_number.ensures find (c.condition_of-found.ensures ∙ ap find c.bytes.ensures)
+    c.known.ensures find (λ named. c.condition_of-found.ensures ∙ ap find c.bytes.ensures)

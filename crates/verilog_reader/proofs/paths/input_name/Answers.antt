@@ -7,4 +7,4 @@ pub returns : goal.returns
 unfolding an_input
 returns c =
     let find : List ℕ → Option ℕ = λ x. kept (is_input_port c.args.model.now.ports) (port_of c.args.model.now x) in
-    c.known_number.ensures find (c.input_of-found.ensures ∙ ap find c.bytes.ensures)
+    c.known.ensures find (λ named. c.input_of-found.ensures ∙ ap find c.bytes.ensures)

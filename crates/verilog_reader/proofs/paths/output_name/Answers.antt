@@ -7,4 +7,4 @@ pub returns : goal.returns
 unfolding an_output
 returns c =
     let find : List ℕ → Option ℕ = λ x. kept (is_output_port c.args.model.now.ports) (port_of c.args.model.now x) in
-    c.known_number.ensures find (c.output_of-found.ensures ∙ ap find c.bytes.ensures)
+    c.known.ensures find (λ named. c.output_of-found.ensures ∙ ap find c.bytes.ensures)

@@ -1,22 +1,22 @@
-use Rattle.std.proofs.Common.{◌++◌, ◌∙◌}
-use Rattle.udp_reader.proofs.NewNames.{missing}
+use Rattle.std.proofs.Common.{◌++◌, ◌∙◌, ap}
+use Rattle.udp_tables.specs.VerilogRules.{is_among}
 use Rattle.specify_blocks.specs.VerilogModules.{port_names}
-use Rattle.verilog_reader.proofs.SameNames.{free, wire_added}
+use Rattle.verilog_reader.proofs.SameNames.{wire_named, wire_fresh}
 use Rattle.verilog_reader.proofs.wires.new_wire_name.Goals as goal
 
 pub returns-clause-reads : goal.returns-clause-reads
 returns-clause-reads c =
     let all = port_names c.args.ports.now ++ c.args.wires.now in
-    c.fresh_name.ensures all
-    (missing c.is_none.result c.in-Ok.added c.is_none.ensures
-    ∙ free c.args.names.now all c.bytes.result.now _ c.in-Ok.added c.add.new.self c.in-Ok.ensures.added c.requires c.bytes.ensures)
+    c.fresh_name.ensures all (c.has-taken.ensures ∙ c.requires c.bytes.result.now ∙ ap (is_among all) c.bytes.ensures)
 
 pub returns-clause-named : goal.returns-clause-named
 returns-clause-named c =
     let all = port_names c.args.ports.now ++ c.args.wires.now in
-    let reads =
-    c.fresh_name.ensures all
-    (missing c.is_none.result c.in-Ok.added c.is_none.ensures
-    ∙ free c.args.names.now all c.bytes.result.now _ c.in-Ok.added c.add.new.self c.in-Ok.ensures.added c.requires c.bytes.ensures) in
-    wire_added c.args.names.now c.add.new.self (port_names c.args.ports.now) c.args.wires.now c.args.cursor.now c.fresh_name.new.self c.bytes.result.now c.in-Ok.added
-    c.fresh_name.result c.in-Ok.ensures.added c.bytes.ensures c.requires reads
+    wire_named all c.args.cursor.now c.fresh_name.new.self c.fresh_name.result
+    (c.fresh_name.ensures all (c.has-taken.ensures ∙ c.requires c.bytes.result.now ∙ ap (is_among all) c.bytes.ensures))
+
+pub returns-clause-fresh : goal.returns-clause-fresh
+returns-clause-fresh c =
+    let all = port_names c.args.ports.now ++ c.args.wires.now in
+    wire_fresh c.args.names.now all c.args.cursor.now c.fresh_name.new.self c.fresh_name.result c.requires
+    (c.fresh_name.ensures all (c.has-taken.ensures ∙ c.requires c.bytes.result.now ∙ ap (is_among all) c.bytes.ensures))

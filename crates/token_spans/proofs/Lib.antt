@@ -8,3 +8,4 @@ pub mod Covered
 pub mod Order
 pub mod Spelled
 pub mod EachToken
+pub mod ByteTables

@@ -3,5 +3,4 @@ pub mod Padding
 pub mod Longest
 pub mod Covered
 mod NoWord
-mod ByteTables
 mod TokenFirst

@@ -3,3 +3,4 @@ pub mod Padding
 pub mod Longest
 pub mod Covered
 pub mod SecondBytes
+mod TokenFirst

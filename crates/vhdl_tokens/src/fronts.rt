@@ -3,16 +3,9 @@
 ghost use Rattle.std.specs.Prelude.{◌≡◌, ◌≤◌, length, IfSome};
 ghost use Rattle.vhdl_tokens.specs.Tokens as spec;
 
+use crate::bytes_told::{begins_word, is_mark};
 use crate::spelling::is_name;
 use token_spans::{digits_length, is_blank, line_length, name_length};
-
-/// Whether a byte is a delimiter of one byte that begins no other.
-#[inline(always)]
-fn is_mark(byte: u8) -> bool
-    ensures { result ≡ spec.is_mark byte }
-{
-    matches!(byte, b'(' | b')' | b',' | b';' | b'.')
-}
 
 /// How many bytes end a string, up to and with its closing quotation mark, which stands before its line end.
 fn string_rest(bytes: &[u8]) -> Option<usize>
@@ -128,7 +121,7 @@ pub fn token_length(last: &[u8], bytes: &[u8]) -> usize
         }
     } else if *first == b'"' {
         string_length(bytes)
-    } else if first.is_ascii_alphabetic() {
+    } else if begins_word(*first) {
         word_length(bytes)
     } else if first.is_ascii_digit() {
         number_length(bytes)

@@ -2,6 +2,7 @@
 //! 13.)
 #![tactic(auto)]
 
+mod bytes_told;
 mod fronts;
 mod laws;
 mod scanner;

@@ -31,19 +31,19 @@ impl<'a> Scanner<'a> {
     {
         let at = self.next;
         let (_, rest) = text.split_at(at);
-        let skipped = separator_length(rest);
-        if skipped > 0 {
-            self.next = behind_blanks(text, at + skipped);
+        let length = token_length(self.last, rest);
+        if length > 0 {
+            let end = at + length;
+            tokens.push(Span { at, end })?;
+            self.last = &rest[..length];
+            self.next = behind_blanks(text, end);
             return Ok(true);
         }
-        let length = token_length(self.last, rest);
-        if length == 0 {
+        let skipped = separator_length(rest);
+        if skipped == 0 {
             return Ok(false);
         }
-        let end = at + length;
-        tokens.push(Span { at, end })?;
-        self.last = &rest[..length];
-        self.next = behind_blanks(text, end);
+        self.next = behind_blanks(text, at + skipped);
         Ok(true)
     }
 }

@@ -1,0 +1,37 @@
+-- Where a token begins, no separator does.
+use Rattle.std.proofs.Common.{◌≡◌, ◌<◌, ℕ, zero, suc, Bool, true, false, nat_eq, List, [], ◌∷◌, refl, subst, arith, codes}
+use Rattle.std.proofs.lemmas.Bool.{eqb-true}
+use Rattle.vhdl_tokens.specs.Tokens.{is_blank, begins_with, separator_length, token_length}
+use Rattle.token_spans.proofs.Alike.{blanks}
+
+abbrev is_some_length : ℕ → Bool
+is_some_length zero = false
+is_some_length (suc n) = true
+
+at_blank : (t : Bool) (b : ℕ) (s : List ℕ) → is_blank b ≡ true → is_some_length (token_length t (b ∷ s)) ≡ false
+at_blank true b s e = blanks b e (λ c. is_some_length (token_length true (c ∷ s))) refl refl refl
+at_blank false b s e = blanks b e (λ c. is_some_length (token_length false (c ∷ s))) refl refl refl
+
+not_both : (n : ℕ) → is_some_length n ≡ false → 0 < n → ⊥
+not_both zero e h = omega (arith, h)
+not_both (suc n) e h = absurd cc
+
+at_dash : (t : Bool) (s : List ℕ) → token_length t (45 ∷ s) ≡ 0
+at_dash true s = refl
+at_dash false s = refl
+
+at_comment : (t : Bool) (b : ℕ) (s : List ℕ) → begins_with (b ∷ s) (codes "--") ≡ true → token_length t (b ∷ s) ≡ 0
+at_comment t b s e = by (nat_eq 45 b) refl
+  where
+    by : (x : Bool) → nat_eq 45 b ≡ x → token_length t (b ∷ s) ≡ 0
+    by true f = subst (λ (c : ℕ). token_length t (c ∷ s) ≡ 0) (eqb-true 45 b f) (at_dash t s)
+    by false f = let g = rw f at e in absurd cc
+
+pub no_separator : (t : Bool) (s : List ℕ) → 0 < token_length t s → separator_length s ≡ 0
+no_separator t [] h = refl
+no_separator t (b ∷ s) h = by (is_blank b) (begins_with (b ∷ s) (codes "--")) refl refl
+  where
+    by : (x y : Bool) → is_blank b ≡ x → begins_with (b ∷ s) (codes "--") ≡ y → separator_length (b ∷ s) ≡ 0
+    by true y e f = absurd (not_both (token_length t (b ∷ s)) (at_blank t b s e) h)
+    by false true e f = let k : token_length t (b ∷ s) ≡ 0 = at_comment t b s f in absurd (omega (arith, h, k))
+    by false false e f = rw (e, f) refl

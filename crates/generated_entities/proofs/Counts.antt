@@ -18,7 +18,8 @@ use Rattle.udp_tables.specs.declared.models.VPort.{VPort}
 use Rattle.vital_models.specs.Ports.{is_port, port_after, ports_after}
 use Rattle.vital_models.specs.Generated.{state_of, condition_of, path_of, paths_to, check_of, entity_of}
 use Rattle.vhdl_text.specs.WellFormed.{IsNumber, part_count}
-use Rattle.library_cells.proofs.CellParts.{Rules, few_pins, few_groups}
+use Rattle.udp_tables.proofs.CellParts.{Rules}
+use Rattle.library_cells.proofs.CellParts.{few_pins, few_groups}
 
 -- Conditions.
 

@@ -26,18 +26,19 @@ use Rattle.cell_machine.proofs.RuleLemmas.{rules_of}
 use Rattle.udp_tables.specs.CellPrimitives.{has_sources}
 use Rattle.udp_tables.specs.Conditions.{conditions_of, conditions_beside}
 use Rattle.udp_tables.proofs.CubeLemmas.{below-among}
-use Rattle.specify_blocks.proofs.ConditionLemmas.{support-ascending}
+use Rattle.udp_tables.proofs.ConditionLemmas.{support-ascending}
 use Rattle.udp_tables.specs.declared.timing_checks.TimingCheck.{TimingCheck}
 use Rattle.vital_models.specs.declared.model.OutValue.TheVariants as value
 use Rattle.vital_models.specs.Kept.{entity_name}
 use Rattle.vital_models.specs.Ports.{ports_of, port_number}
 use Rattle.vital_models.specs.Generated.{has_violation, ports_at, state_of, states_of, condition_of, source_at, output_table, value_of_output, place_of, all_zero, gate_by, path_of, output_of, check_of, entity_of}
-use Rattle.vital_models.proofs.ConditionFacts.{all-among, condition-over}
+use Rattle.udp_tables.proofs.ConditionUses.{all-among, condition-over}
 use Rattle.vital_models.proofs.Soundness.{entity_is_sound}
 use Rattle.vhdl_text.specs.VhdlDeclarations.{port_names}
 use Rattle.vhdl_text.specs.WellFormed.{IsPortName, IsWrittenState, IsWrittenTruth, IsWrittenLookup, IsWrittenValue, IsNumber, names_condition, IsWrittenPath, IsWrittenOutput, IsWellFormedEntity}
-use Rattle.library_cells.proofs.CellParts.{Rules, few_pins, group_support, outputs_hold, checks_hold, arcs_hold}
-use Rattle.library_cells.proofs.Conditions.{has_places, conditions_placed}
+use Rattle.udp_tables.proofs.CellParts.{Rules, outputs_hold, checks_hold, arcs_hold}
+use Rattle.library_cells.proofs.CellParts.{few_pins, group_support, arc_numbers, check_number}
+use Rattle.library_cells.proofs.Conditions.{condition_placed}
 use Rattle.generated_entities.specs.Laws.{EntityIsWellFormed}
 use Rattle.generated_entities.proofs.ListLemmas.{all_from}
 use Rattle.generated_entities.proofs.Tables.{rows_have_one_edge, states_have_rows, truths_have_rows}
@@ -47,27 +48,6 @@ use Rattle.generated_entities.proofs.PortNames.{ports_are_named}
 use Rattle.generated_entities.proofs.Conditions.{looked_up_in_order}
 use Rattle.generated_entities.proofs.Counts.{few_parts, few_paths}
 use Rattle.generated_entities.proofs.AssignedNames.{generated_assignable}
-
--- a time of at most 15 digits
-short : (n : ℕ) → IsTrue (nat_le n longest_time) → IsNumber n
-short n h = let most : n ≤ 999999999999999 = leb-true n longest_time h in omega (arith, most)
-
-arc_numbers : (pins : List Pin) (arc : Arc) → IsTrue (is_arc pins arc) → IsNumber arc.rise × IsNumber arc.fall
-arc_numbers pins arc h =
-    let a = and_parts (is_input_pin pins arc.from) _ h in
-    let b = and_parts (is_output_pin pins arc.to) _ a.1 in
-    let c = and_parts (nat_le arc.rise longest_time) _ b.1 in
-    let d = and_parts (nat_le arc.fall longest_time) _ c.1 in
-    (short arc.rise c.0, short arc.fall d.0)
-
-check_number : (pins : List Pin) (k : Check) → IsTrue (is_check pins k) → IsNumber k.limit
-check_number pins k h =
-    let a = and_parts (is_input_pin pins k.first.pin) _ h in
-    let b = and_parts (is_input_pin pins k.second.pin) _ a.1 in
-    let c = and_parts (has_events k k.kind) _ b.1 in
-    let d = and_parts (nat_lt 0 k.limit) _ c.1 in
-    let e = and_parts (nat_le k.limit longest_time) _ d.1 in
-    short k.limit e.0
 
 -- the support of each group ascends, of input pins
 supports :
@@ -147,7 +127,7 @@ module _ (cell : CellData) (h : Rules cell) where
     where
       some : 1 ≤ length (ports_at cell.pins (support_of f))
       some =
-          let placed = all-among has_places (conditions_of cell) f (conditions_placed cell (checks_hold cell h) (arcs_hold cell h)) m in
+          let placed = condition_placed cell (checks_hold cell h) (arcs_hold cell h) f m in
           let parts = and_parts (nat_lt 0 (length (support_of f))) (nat_le (length (support_of f)) 10) placed in
           let least : 0 < length (support_of f) = ltb-true 0 (length (support_of f)) parts.0 in
           let long : length (ports_at cell.pins (support_of f)) ≡ length (support_of f) = length-map (support_of f) (port_number cell.pins) in

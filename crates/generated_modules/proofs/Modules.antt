@@ -35,8 +35,10 @@ use Rattle.generated_modules.proofs.GivenNames.{given_is_name}
 use Rattle.generated_modules.proofs.InnerNames.{inner_are_named}
 use Rattle.generated_modules.proofs.PrimitiveNames.{primitive_is_name, primitive_count}
 use Rattle.generated_modules.proofs.Primitives.{function_well_formed, group_well_formed}
-use Rattle.library_cells.proofs.Conditions.{has_places, conditions_placed, few_conditions}
-use Rattle.library_cells.proofs.CellParts.{Rules, few_pins, distinct_pins, few_groups, group_support, outputs_hold, few_sources, few_outputs, few_checks, checks_hold, few_arcs, arcs_hold}
+use Rattle.library_cells.proofs.Conditions.{condition_placed, few_conditions}
+use Rattle.udp_tables.proofs.OutputLemmas.{among-at}
+use Rattle.udp_tables.proofs.CellParts.{Rules, outputs_hold, checks_hold, arcs_hold}
+use Rattle.library_cells.proofs.CellParts.{few_pins, distinct_pins, few_groups, group_support, few_sources, few_outputs, few_checks, few_arcs, arc_numbers, check_number}
 
 -- one for each number below another
 below_all : (P : Udp → Type 0) (f : ℕ → Udp) (n : ℕ) → ((i : ℕ) → i < n → P (f i)) → All P (each_below (λ i. f i ∷ []) n)
@@ -44,27 +46,6 @@ below_all P f zero h = All-nil P
 below_all P f (suc n) h =
     All-append P (each_below (λ i. f i ∷ []) n) (f n ∷ []) (below_all P f n (λ i k. h i (omega arith)))
     (All-cons P (f n) [] (h n (omega arith)) (All-nil P))
-
--- a time of at most 15 digits
-short : (n : ℕ) → IsTrue (nat_le n longest_time) → IsNumber n
-short n h = let most : n ≤ 999999999999999 = leb-true n longest_time h in omega (arith, most)
-
-arc_numbers : (pins : List Pin) (arc : Arc) → IsTrue (is_arc pins arc) → IsNumber arc.rise × IsNumber arc.fall
-arc_numbers pins arc h =
-    let a = and_parts (is_input_pin pins arc.from) _ h in
-    let b = and_parts (is_output_pin pins arc.to) _ a.1 in
-    let c = and_parts (nat_le arc.rise longest_time) _ b.1 in
-    let d = and_parts (nat_le arc.fall longest_time) _ c.1 in
-    (short arc.rise c.0, short arc.fall d.0)
-
-check_number : (pins : List Pin) (k : Check) → IsTrue (is_check pins k) → IsNumber k.limit
-check_number pins k h =
-    let a = and_parts (is_input_pin pins k.first.pin) _ h in
-    let b = and_parts (is_input_pin pins k.second.pin) _ a.1 in
-    let c = and_parts (has_events k k.kind) _ b.1 in
-    let d = and_parts (nat_lt 0 k.limit) _ c.1 in
-    let e = and_parts (nat_le k.limit longest_time) _ d.1 in
-    short k.limit e.0
 
 module _ (cell : CellData) (h : IsNumberedCell cell) where
   rules : Rules cell
@@ -96,8 +77,8 @@ module _ (cell : CellData) (h : IsNumberedCell cell) where
       let f : Node = condition_tree cell i in
       let groups = few_groups cell rules in
       let conditions = conditions_few in
-      let places = all-at has_places (conditions_of cell) i f (conditions_placed cell (checks_hold cell rules) (arcs_hold cell rules))
-      (slice_get-get_or (conditions_of cell) i node.Zero within) in
+      let places = condition_placed cell (checks_hold cell rules) (arcs_hold cell rules) f
+      (among-at (conditions_of cell) i f (slice_get-get_or (conditions_of cell) i node.Zero within)) in
       let parts = and_parts (nat_lt 0 (length (support_of f))) (nat_le (length (support_of f)) 10) places in
       let some : 0 < length (support_of f) = ltb-true 0 (length (support_of f)) parts.0 in
       function_well_formed (primitive_name cell.number (condition_number cell i)) (length (support_of f)) (condition_at (support_of f) f)

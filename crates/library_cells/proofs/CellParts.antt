@@ -1,5 +1,5 @@
 -- What the rules of cells say of a cell's groups, outputs, checks and arcs.
-use Rattle.std.proofs.Common.{◌≡◌, ℕ, zero, suc, ◌+◌, ◌<◌, ◌≤◌, Bool, ◌&&◌, IsTrue, List, [], ◌∷◌, length, map, sym, ◌∙◌, ap, subst, arith, nat_lt, nat_le, slice_get}
+use Rattle.std.proofs.Common.{◌≡◌, ℕ, zero, suc, ◌+◌, ◌^◌, ◌<◌, ◌≤◌, IsTrue, List, [], ◌∷◌, length, map, sym, ◌∙◌, ap, subst, arith, nat_lt, nat_le, slice_get}
 use Rattle.std.specs.List.{list_all}
 use Rattle.std.specs.Option.{option_map_or}
 use Rattle.std.proofs.lemmas.Bool.{and_parts, ltb-true, leb-true}
@@ -7,15 +7,14 @@ use Rattle.std.proofs.lemmas.List.{length-map}
 use Rattle.cell_machine.specs.declared.pins.Pin.{Pin}
 use Rattle.cell_machine.specs.declared.groups.StateGroup.{StateGroup}
 use Rattle.cell_machine.specs.declared.outputs.OutputPin.{OutputPin}
+use Rattle.cell_machine.specs.declared.checks.Check.{Check}
 use Rattle.cell_machine.specs.declared.arcs.Arc.{Arc}
 use Rattle.cell_machine.specs.Names.{source_name}
-use Rattle.cell_machine.specs.CellRules.{is_name, are_distinct, is_support, is_group, are_groups_from, is_output_of, is_check, is_arc, is_in_order, output_pins_from, HoldsRules}
+use Rattle.cell_machine.specs.CellRules.{longest_time, is_name, are_distinct, is_input_pin, is_output_pin, is_support, is_group, are_groups_from, is_output_of, has_events, is_check, is_arc, output_pins_from}
 use Rattle.cell_machine.specs.CellData.{CellData}
 use Rattle.cell_machine.specs.CellTrace.{support_at}
+use Rattle.udp_tables.proofs.CellParts.{Rules, groups_hold}
 use Rattle.specify_blocks.proofs.OutputPins.{outputs_are_pins, few_output_pins}
-
-abbrev pub Rules : CellData → Type 0
-Rules cell = HoldsRules cell.name cell.pins cell.groups cell.outputs cell.checks cell.arcs
 
 -- between these numbers
 pub record IsWithin (low high n : ℕ) : Type 0 where
@@ -42,6 +41,27 @@ few_sources pins groups output h =
     let few = and_parts (nat_le (length held) 10) _ h in
     subst (λ n. n ≤ 10) (length-map output.support (source_name (length pins))) (leb-true (length held) 10 few.0)
 
+-- times of at most 15 digits
+short : (n : ℕ) → IsTrue (nat_le n longest_time) → n < 10 ^ 15
+short n h = let most : n ≤ 999999999999999 = leb-true n longest_time h in omega (arith, most)
+
+pub arc_numbers : (pins : List Pin) (arc : Arc) → IsTrue (is_arc pins arc) → (arc.rise < 10 ^ 15) × (arc.fall < 10 ^ 15)
+arc_numbers pins arc h =
+    let a = and_parts (is_input_pin pins arc.from) _ h in
+    let b = and_parts (is_output_pin pins arc.to) _ a.1 in
+    let c = and_parts (nat_le arc.rise longest_time) _ b.1 in
+    let d = and_parts (nat_le arc.fall longest_time) _ c.1 in
+    (short arc.rise c.0, short arc.fall d.0)
+
+pub check_number : (pins : List Pin) (k : Check) → IsTrue (is_check pins k) → k.limit < 10 ^ 15
+check_number pins k h =
+    let a = and_parts (is_input_pin pins k.first.pin) _ h in
+    let b = and_parts (is_input_pin pins k.second.pin) _ a.1 in
+    let c = and_parts (has_events k k.kind) _ b.1 in
+    let d = and_parts (nat_lt 0 k.limit) _ c.1 in
+    let e = and_parts (nat_le k.limit longest_time) _ d.1 in
+    short k.limit e.0
+
 module _ (cell : CellData) (h : Rules cell) where
   pub few_pins : length cell.pins ≤ 64
   few_pins = leb-true (length cell.pins) 64 (and_parts (nat_le (length cell.pins) 64) _ h.of_pins).0
@@ -56,11 +76,7 @@ module _ (cell : CellData) (h : Rules cell) where
 
   pub group_support : (g : ℕ) → g < length cell.groups → IsWithin 1 8 (length (support_at cell g))
   group_support g within =
-      supports cell.pins (length cell.pins) cell.groups g
-      (and_parts (nat_le (length cell.groups) 16) (are_groups_from cell.pins (length cell.pins) cell.groups) h.of_groups).1 within
-
-  pub outputs_hold : IsTrue (list_all (is_output_of cell.pins cell.groups) cell.outputs)
-  outputs_hold = (and_parts _ (list_all (is_output_of cell.pins cell.groups) cell.outputs) h.of_outputs).1
+      supports cell.pins (length cell.pins) cell.groups g (groups_hold cell h) within
 
   pub few_outputs : length cell.outputs ≤ 64
   few_outputs =
@@ -74,14 +90,5 @@ module _ (cell : CellData) (h : Rules cell) where
   pub few_checks : length cell.checks ≤ 256
   few_checks = leb-true (length cell.checks) 256 (and_parts (nat_le (length cell.checks) 256) _ h.of_checks).0
 
-  pub checks_hold : IsTrue (list_all (is_check cell.pins) cell.checks)
-  checks_hold = (and_parts (nat_le (length cell.checks) 256) (list_all (is_check cell.pins) cell.checks) h.of_checks).1
-
   pub few_arcs : length cell.arcs ≤ 1024
   few_arcs = leb-true (length cell.arcs) 1024 (and_parts (nat_le (length cell.arcs) 1024) _ h.of_arcs).0
-
-  pub arcs_hold : IsTrue (list_all (is_arc cell.pins) cell.arcs)
-  arcs_hold =
-      let order : Bool = is_in_order (map (λ (arc : Arc). arc.to) cell.arcs) in
-      (and_parts (list_all (is_arc cell.pins) cell.arcs) order
-      (and_parts (nat_le (length cell.arcs) 1024) (list_all (is_arc cell.pins) cell.arcs && order) h.of_arcs).1).0

@@ -1,9 +1,9 @@
 -- The conditions of a cell: each names 1 to 10 pins, and there are not many.
-use Rattle.std.proofs.Common.{◌≡◌, ℕ, ◌+◌, ◌*◌, ◌≤◌, Bool, true, false, ◌&&◌, IsTrue, List, [], ◌∷◌, ◌++◌, length, filter, refl, arith, ◌∙◌, Option, Some, None, nat_lt, nat_le, if◌then◌else◌, length-append}
+use Rattle.std.proofs.Common.{◌≡◌, ℕ, ◌+◌, ◌*◌, ◌≤◌, Bool, true, false, ◌&&◌, IsTrue, List, [], ◌∷◌, ◌++◌, length, filter, inl, inr, subst, arith, Option, Some, None, nat_lt, nat_le, if◌then◌else◌, length-append}
 use Rattle.std.specs.List.{list_any, list_all, flat_map}
 use Rattle.std.proofs.lemmas.Bool.{and_parts, and_from}
-use Rattle.std.proofs.lemmas.List.Folds.{list_all-append}
 use Rattle.std.proofs.lemmas.List.Sums.{length-filter, count_by-le-length}
+use Rattle.trit_cubes.proofs.ListLemmas.{Among}
 use Rattle.bool_functions.specs.declared.tree.Node.{Node}
 use Rattle.bool_functions.specs.Support.{support_of}
 use Rattle.bool_functions.specs.SameTrees.{same_tree}
@@ -15,43 +15,30 @@ use Rattle.cell_machine.specs.CellTrace.{same_pins}
 use Rattle.cell_machine.specs.CellData.{CellData}
 use Rattle.cell_machine.proofs.RuleLemmas.{check_parts, arc_condition}
 use Rattle.udp_tables.specs.Conditions.{condition_list, conditions_by, arc_conditions, used_conditions, added, added_all, conditions_of}
-use Rattle.specify_blocks.proofs.ConditionLemmas.{flat-passes, filter-passes, all-added-pass}
+use Rattle.udp_tables.proofs.ConditionUses.{all-among, conditions-each}
 
 -- a function of 1 to 10 names
 abbrev pub has_places : Node → Bool
 has_places f = nat_lt 0 (length (support_of f)) && nat_le (length (support_of f)) 10
 
-placed : (pins : List Pin) (apart : List ℕ) (o : Option Node) → IsTrue (is_condition pins apart o) → IsTrue (list_all has_places (condition_list o))
-placed pins apart None h = refl
-placed pins apart (Some f) h =
-    let some = and_parts (nat_lt 0 (length (support_of f))) _ h in
-    let few = and_parts (nat_le (length (support_of f)) 10) _ some.1 in
-    and_from (has_places f) true (and_from (nat_lt 0 (length (support_of f))) (nat_le (length (support_of f)) 10) some.0 few.0) refl
+placed : (pins : List Pin) (apart : List ℕ) (o : Option Node) (f : Node) → IsTrue (is_condition pins apart o) → Among f (condition_list o) → IsTrue (has_places f)
+placed pins apart None f h m = absurd m
+placed pins apart (Some g) f h m =
+    let some = and_parts (nat_lt 0 (length (support_of g))) _ h in
+    let few = and_parts (nat_le (length (support_of g)) 10) _ some.1 in
+    elim m [
+      | inl e ↦ subst (λ t. IsTrue (has_places t)) e (and_from (nat_lt 0 (length (support_of g))) (nat_le (length (support_of g)) 10) some.0 few.0)
+      | inr k ↦ absurd k
+    ]
 
-arc_placed :
-    (pins : List Pin) (arcs : List Arc) → IsTrue (list_all (is_arc pins) arcs) → (arc : Arc) → IsTrue (is_arc pins arc)
-    → IsTrue (list_all has_places (arc_conditions arcs arc))
-arc_placed pins arcs all arc h = by arc.condition (arc_condition pins arc h)
-  where
-    by : (o : Option Node) → IsTrue (is_condition pins (arc.from ∷ []) o) → IsTrue (list_all has_places (conditions_by arcs arc o))
-    by None k =
-        flat-passes (is_arc pins) has_places (λ (other : Arc). condition_list other.condition) (filter (same_pins arc) arcs)
-        (λ other i. placed pins (other.from ∷ []) other.condition (arc_condition pins other i))
-        (filter-passes (is_arc pins) (same_pins arc) arcs all)
-    by (Some f) k = placed pins (arc.from ∷ []) (Some f) k
-
-pub conditions_placed :
+pub condition_placed :
     (cell : CellData) → IsTrue (list_all (is_check cell.pins) cell.checks) → IsTrue (list_all (is_arc cell.pins) cell.arcs)
-    → IsTrue (list_all has_places (conditions_of cell))
-conditions_placed cell checks arcs =
-    all-added-pass has_places [] (used_conditions cell) refl
-    (list_all-append has_places (flat_map (λ (k : Check). condition_list k.condition) cell.checks)
-    (flat_map (arc_conditions cell.arcs) cell.arcs)
-    ∙ and_from (list_all has_places (flat_map (λ (k : Check). condition_list k.condition) cell.checks)) _
-    (flat-passes (is_check cell.pins) has_places (λ (k : Check). condition_list k.condition) cell.checks
-    (λ k h. placed cell.pins (k.first.pin ∷ k.second.pin ∷ []) k.condition (check_parts cell.pins k h).enabled)
-    checks)
-    (flat-passes (is_arc cell.pins) has_places (arc_conditions cell.arcs) cell.arcs (arc_placed cell.pins cell.arcs arcs) arcs))
+    → (f : Node) → Among f (conditions_of cell) → IsTrue (has_places f)
+condition_placed cell checks arcs =
+    conditions-each (λ f. IsTrue (has_places f)) cell
+    (λ k m f h.
+    placed cell.pins (k.first.pin ∷ k.second.pin ∷ []) k.condition f (check_parts cell.pins k (all-among (is_check cell.pins) cell.checks k checks m)).enabled h)
+    (λ arc m f h. placed cell.pins (arc.from ∷ []) arc.condition f (arc_condition cell.pins arc (all-among (is_arc cell.pins) cell.arcs arc arcs m)) h)
 
 -- how many there are
 

@@ -1,5 +1,5 @@
 -- The module of a cell is sound.
-use Rattle.std.proofs.Common.{◌≡◌, ℕ, zero, suc, ◌+◌, ◌<◌, ◌≤◌, Bool, true, false, not, ◌&&◌, List, [], ◌∷◌, ◌++◌, length, map, refl, sym, ap, ◌∙◌, subst, arith, IsTrue, Option, Some, None, is_some, option_map, slice_get, get_or, nat_eq, nat_lt, All, codes, length-append, if◌then◌else◌}
+use Rattle.std.proofs.Common.{◌≡◌, ℕ, zero, suc, ◌+◌, ◌<◌, ◌≤◌, Bool, true, false, not, ◌&&◌, List, [], ◌∷◌, ◌++◌, length, map, inl, refl, sym, ap, ◌∙◌, subst, arith, IsTrue, Option, Some, None, is_some, option_map, slice_get, get_or, nat_eq, nat_lt, All, codes, length-append, if◌then◌else◌}
 use Rattle.std.specs.List.{list_any, list_all}
 use Rattle.std.specs.Option.{option_map_or}
 use Rattle.std.proofs.lemmas.List.{length-map, append-nil}
@@ -8,6 +8,7 @@ use Rattle.std.proofs.lemmas.List.Folds.{list_any-append, list_all-append}
 use Rattle.std.proofs.lemmas.Option.{slice_get_within, get_or_from_slice_get, slice_get-get_or, slice_get-map}
 use Rattle.std.proofs.lemmas.Bool.{and_parts, and_from, lt-ltb, ltb-true, ltb-false, eq-eqb, eqb-true}
 use Rattle.bool_functions.specs.declared.tree.Node.{Node}
+use Rattle.trit_cubes.proofs.ListLemmas.{Among}
 use Rattle.bool_functions.specs.declared.tree.Node.TheVariants as node
 use Rattle.bool_functions.specs.Tree.{value_of}
 use Rattle.bool_functions.specs.Support.{support_of}
@@ -30,9 +31,10 @@ use Rattle.udp_tables.specs.declared.table.Udp.{Udp}
 use Rattle.bool_functions.specs.SameTrees.{same_tree}
 use Rattle.udp_tables.specs.Edges.{each_below}
 use Rattle.cell_machine.specs.CellData.{CellData}
-use Rattle.udp_tables.specs.Conditions.{conditions_of, condition_place}
+use Rattle.udp_tables.specs.Conditions.{conditions_of, condition_place, condition_list, conditions_by}
 use Rattle.cell_machine.specs.CellTrace.{support_at, sources_at, output_value_at}
 use Rattle.udp_tables.specs.CellPrimitives.{has_notifier, group_inputs, group_primitive, condition_tree, condition_primitive, has_sources, output_primitive, primitive_name, output_number, condition_number}
+use Rattle.udp_tables.proofs.CellParts.{Rules, groups_hold, outputs_hold, checks_hold, arcs_hold}
 use Rattle.udp_tables.proofs.TableLemmas.{primitive-combinational}
 use Rattle.udp_tables.proofs.CellLaws.{groups_are_sequential-lem}
 use Rattle.cell_machine.specs.Outputs.{condition_at}
@@ -51,7 +53,9 @@ use Rattle.specify_blocks.proofs.PortLemmas.{input_port, output_port, hits, outp
 use Rattle.specify_blocks.proofs.InstanceLemmas.{drivers-append, or-left, or-right, is_state-more, no_port, wire_before, wire_after, wire_once, no_wire, port_hits, are-append, each_are, any_each}
 use Rattle.specify_blocks.proofs.PrimitiveLemmas.{numbered-length, inputs-length, group_primitive-at, condition_primitive-at, output_primitive-at}
 use Rattle.specify_blocks.proofs.ApartLemmas.{apart_pins, apart_sources, wire_apart, wire_apart_all, apart_noted, output_apart}
-use Rattle.specify_blocks.proofs.ConditionLemmas.{support-ascending, is_over, conditions_over, check_found, arc_found, place_at}
+use Rattle.udp_tables.proofs.ConditionLemmas.{support-ascending}
+use Rattle.udp_tables.proofs.ConditionUses.{condition-over, check-numbered, arc-numbered}
+use Rattle.udp_tables.proofs.OutputLemmas.{among-at}
 
 -- the support of each group
 group_support-at :
@@ -103,24 +107,7 @@ noted_length : (b : Bool) (nets : List VNet) (n : ℕ) → length nets ≡ n →
 noted_length false nets n h = ap length (append-nil nets) ∙ h
 noted_length true nets n h = let whole = length-append nets (net.Notifier ∷ []) in omega (arith, whole, h)
 
-module _ (cell : CellData) (h : HoldsRules cell.name cell.pins cell.groups cell.outputs cell.checks cell.arcs) where
-  groups_hold : IsTrue (are_groups_from cell.pins (length cell.pins) cell.groups)
-  groups_hold = (and_parts _ (are_groups_from cell.pins (length cell.pins) cell.groups) h.of_groups).1
-
-  outputs_hold : IsTrue (list_all (is_output_of cell.pins cell.groups) cell.outputs)
-  outputs_hold = (and_parts _ (list_all (is_output_of cell.pins cell.groups) cell.outputs) h.of_outputs).1
-
-  checks_hold : IsTrue (list_all (is_check cell.pins) cell.checks)
-  checks_hold = (and_parts _ (list_all (is_check cell.pins) cell.checks) h.of_checks).1
-
-  arcs_hold : IsTrue (list_all (is_arc cell.pins) cell.arcs)
-  arcs_hold =
-      (and_parts (list_all (is_arc cell.pins) cell.arcs) (is_in_order (map (λ (arc : Arc). arc.to) cell.arcs))
-      (and_parts _ (list_all (is_arc cell.pins) cell.arcs && is_in_order (map (λ (arc : Arc). arc.to) cell.arcs)) h.of_arcs).1).0
-
-  conditions_hold : IsTrue (list_all (is_over cell.pins) (conditions_of cell))
-  conditions_hold = conditions_over cell checks_hold arcs_hold
-
+module _ (cell : CellData) (h : Rules cell) where
   wires_long : length (wires_of cell) ≡ length cell.groups + condition_count cell
   wires_long =
       let whole = length-append (state_wires (length cell.groups)) (condition_wires (condition_count cell)) in
@@ -141,7 +128,7 @@ module _ (cell : CellData) (h : HoldsRules cell.name cell.pins cell.groups cell.
   group_is : (g : ℕ) (group : StateGroup) (before : List Instance) → slice_get cell.groups g ≡ Some group → IsInstance (module_of cell) before (group_instance cell g group)
   group_is g group before e =
       let within : g < length cell.groups = slice_get_within cell.groups g group e in
-      let support = group_support-at cell.pins (length cell.pins) cell.groups g group groups_hold e in
+      let support = group_support-at cell.pins (length cell.pins) cell.groups g group (groups_hold cell h) e in
       let some = and_parts _ _ support in
       let few = and_parts _ _ some.1 in
       let parts = and_parts (is_ascending group.support) (list_all (is_input_pin cell.pins) group.support) few.1 in
@@ -170,7 +157,7 @@ module _ (cell : CellData) (h : HoldsRules cell.name cell.pins cell.groups cell.
   condition_is : (i : ℕ) (f : Node) (before : List Instance) → slice_get (conditions_of cell) i ≡ Some f → IsInstance (module_of cell) before (condition_instance cell i f)
   condition_is i f before e =
       let within : i < condition_count cell = slice_get_within (conditions_of cell) i f e in
-      let named : IsTrue (list_all (is_input_pin cell.pins) (support_of f)) = all-at (is_over cell.pins) (conditions_of cell) i f conditions_hold e in
+      let named : IsTrue (list_all (is_input_pin cell.pins) (support_of f)) = condition-over cell (checks_hold cell h) (arcs_hold cell h) f (among-at (conditions_of cell) i f e) in
       let nets : List VNet = map (pin_net cell.pins) (support_of f) in
       let same : condition_tree cell i ≡ f = get_or_from_slice_get (conditions_of cell) i f node.Zero e in
       let long : length nets ≡ length (support_of (condition_tree cell i)) =
@@ -203,7 +190,7 @@ module _ (cell : CellData) (h : HoldsRules cell.name cell.pins cell.groups cell.
       → IsInstance (module_of cell) before (instance.Primitive j (pin_net cell.pins output.pin) (map (source_net cell.pins) output.support))
   output_is i j output before e at is states =
       let held : List ℕ = map (source_name (length cell.pins)) output.support in
-      let rule = all-at (is_output_of cell.pins cell.groups) cell.outputs i output outputs_hold e in
+      let rule = all-at (is_output_of cell.pins cell.groups) cell.outputs i output (outputs_hold cell h) e in
       let few = and_parts _ _ rule in
       let parts = and_parts (list_all (is_source cell.pins cell.groups) output.support) _ few.1 in
       let order = and_parts (is_ascending held) _ parts.1 in
@@ -392,18 +379,18 @@ module _ (cell : CellData) (h : HoldsRules cell.name cell.pins cell.groups cell.
       (condition_count cell))
       (outputs_all 0 cell.outputs))
 
-  -- the wire of a condition that is found
-  value_is : (f : Node) → IsTrue (list_any (same_tree f) (conditions_of cell)) → IsTrue (is_value (module_of cell) (instances_of cell) (wire_of cell f))
-  value_is f found =
-      let place = place_at f (conditions_of cell) found in
+  -- the wire of a condition that has its number
+  value_is : (f : Node) → condition_place (conditions_of cell) f < condition_count cell → IsTrue (is_value (module_of cell) (instances_of cell) (wire_of cell f))
+  value_is f within =
       let i : ℕ = condition_place (conditions_of cell) f in
-      let within : i < condition_count cell = slice_get_within (conditions_of cell) i place.0 place.1 in
+      let g : Node = get_or (conditions_of cell) i node.Zero in
+      let at : slice_get (conditions_of cell) i ≡ Some g = slice_get-get_or (conditions_of cell) i node.Zero within in
       let test : Instance → Bool = λ x. not (has_state (primitives_of cell) x) && same_net (net_driven x) (net.Wire (condition_wire cell i)) in
       let groups : List Instance = each_from (group_instance cell) 0 cell.groups in
       let conditions : List Instance = each_from (condition_instance cell) 0 (conditions_of cell) in
       let outputs : List Instance = output_instances cell (length cell.groups + condition_count cell) cell.outputs in
       let same : i ≡ 0 + i = omega arith in
-      let passes : IsTrue (test (condition_instance cell i place.0)) =
+      let passes : IsTrue (test (condition_instance cell i g)) =
       and_from (not (is_sequential (primitives_of cell) (condition_wire cell i))) (nat_eq (condition_wire cell i) (condition_wire cell i))
       (ap (λ o. not (option_map_or (λ (udp : Udp). udp.sequential) o false)) (condition_primitive-at cell i within))
       (eq-eqb (condition_wire cell i) (condition_wire cell i) refl) in
@@ -411,8 +398,8 @@ module _ (cell : CellData) (h : HoldsRules cell.name cell.pins cell.groups cell.
       ∙ or-right (list_any test groups) (list_any test (conditions ++ outputs))
       (list_any-append test conditions outputs
       ∙ or-left (list_any test conditions) (list_any test outputs)
-      (any_each test (condition_instance cell) 0 (conditions_of cell) i place.0 place.1
-      (subst (λ n. IsTrue (test (condition_instance cell n place.0))) same passes)))
+      (any_each test (condition_instance cell) 0 (conditions_of cell) i g at
+      (subst (λ n. IsTrue (test (condition_instance cell n g))) same passes)))
 
   gate_is :
       (k : ℕ) (arc : Arc) → slice_get cell.arcs k ≡ Some arc → (o : Option Node) → arc.condition ≡ o
@@ -422,7 +409,7 @@ module _ (cell : CellData) (h : HoldsRules cell.name cell.pins cell.groups cell.
       by : (b : Bool) → IsTrue (is_gate (module_of cell) (if b then gate.IfNone else gate.Always))
       by true = refl
       by false = refl
-  gate_is k arc at (Some f) e = value_is f (arc_found cell k arc f at e)
+  gate_is k arc at (Some f) e = value_is f (arc-numbered cell arc f (among-at cell.arcs k arc at) (subst (λ o. Among f (conditions_by cell.arcs arc o)) (sym e) (inl refl)))
 
   paths_are : All (IsPath (module_of cell)) (map (path_of cell) cell.arcs)
   paths_are =
@@ -430,7 +417,7 @@ module _ (cell : CellData) (h : HoldsRules cell.name cell.pins cell.groups cell.
       (λ k d within.
       let arc : Arc = get_or cell.arcs k d in
       let at : slice_get cell.arcs k ≡ Some arc = slice_get-get_or cell.arcs k d within in
-      let rule = all-at (is_arc cell.pins) cell.arcs k arc arcs_hold at in
+      let rule = all-at (is_arc cell.pins) cell.arcs k arc (arcs_hold cell h) at in
       let first = and_parts (is_input_pin cell.pins arc.from) _ rule in
       let second = and_parts (is_output_pin cell.pins arc.to) _ first.1 in
       record {
@@ -443,7 +430,7 @@ module _ (cell : CellData) (h : HoldsRules cell.name cell.pins cell.groups cell.
       (i : ℕ) (k : Check) → slice_get cell.checks i ≡ Some k → (o : Option Node) → k.condition ≡ o
       → IsTrue (is_enabling (module_of cell) (option_map (wire_of cell) o))
   enabling_is i k at None e = refl
-  enabling_is i k at (Some f) e = value_is f (check_found cell i k f at e)
+  enabling_is i k at (Some f) e = value_is f (check-numbered cell k f (among-at cell.checks i k at) (subst (λ o. Among f (condition_list o)) (sym e) (inl refl)))
 
   same_port : (p q : ℕ) (b : Bool) → IsTrue (nat_eq p q && b) → IsTrue (nat_eq (port_number cell.pins p) (port_number cell.pins q) && b)
   same_port p q b k =
@@ -470,7 +457,7 @@ module _ (cell : CellData) (h : HoldsRules cell.name cell.pins cell.groups cell.
       (λ i d within.
       let k : Check = get_or cell.checks i d in
       let at : slice_get cell.checks i ≡ Some k = slice_get-get_or cell.checks i d within in
-      let rule = all-at (is_check cell.pins) cell.checks i k checks_hold at in
+      let rule = all-at (is_check cell.pins) cell.checks i k (checks_hold cell h) at in
       let parts = check_parts cell.pins k rule in
       let first = and_parts (is_input_pin cell.pins k.first.pin) _ rule in
       let second = and_parts (is_input_pin cell.pins k.second.pin) _ first.1 in

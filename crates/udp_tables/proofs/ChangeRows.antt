@@ -6,42 +6,33 @@ use Rattle.std.proofs.lemmas.List.Folds.{list_all-append}
 use Rattle.trit_cubes.specs.declared.trits.Trit.{Trit}
 use Rattle.trit_cubes.specs.declared.trits.Trit.TheVariants.{Zero, One, Unknown}
 use Rattle.trit_cubes.specs.Filling.{same, covers}
-use Rattle.cell_machine.specs.Machine.{insert, without, init, last}
+use Rattle.cell_machine.specs.Machine.{insert, init, last}
 use Rattle.udp_tables.specs.declared.table.Level.TheVariants as level
 use Rattle.udp_tables.specs.declared.table.Entry.{Entry}
 use Rattle.udp_tables.specs.declared.table.Entry.TheVariants as entry
 use Rattle.udp_tables.specs.Tables.{columns_match}
+use Rattle.udp_tables.specs.Edges.{moves}
 use Rattle.udp_tables.specs.Primitive.{level_matches, entry_matches, is_level}
 use Rattle.udp_tables.specs.Generated.{level_entry}
-use Rattle.udp_tables.specs.Sequential.{row_matches, is_level_row, level_symbol, edge_entry, noted, state_row, edge_inputs, edge_row}
+use Rattle.udp_tables.specs.Sequential.{row_matches, is_level_row, level_symbol, edge_entry, noted, state_row, edge_inputs}
 use Rattle.udp_tables.proofs.TableLemmas.{entries-level}
-use Rattle.udp_tables.proofs.ColumnLemmas.{and-true, and-swap, length-insert, at-insert, without-insert, columns-insert, columns-push}
-use Rattle.udp_tables.proofs.CubeLemmas.{admits, same-self, covers-last}
+use Rattle.udp_tables.proofs.ColumnLemmas.{and-true, and-swap, length-insert, columns-push}
+use Rattle.udp_tables.proofs.CubeLemmas.{admits, same-self}
+use Rattle.udp_tables.proofs.ChangeColumns.{FitsEntries, levels-cover, change-kept, change-covers}
 use Rattle.udp_tables.proofs.GroupLemmas.{length-init}
 
--- levels of a cube match what the cube covers, whatever was before
+-- a level matches what a place of a cube admits, whatever was before
 entry-admits : (w old new : Trit) → entry_matches (level_entry w) old new ≡ admits w new
 entry-admits Zero old new = refl
 entry-admits One old new = refl
 entry-admits Unknown old new = refl
-
-pub levels-cover :
-    (c olds news : List Trit) → length olds ≡ length news → columns_match entry_matches (map level_entry c) olds news ≡ covers c news
-levels-cover [] [] [] e = refl
-levels-cover [] [] (n ∷ news) e = absurd (omega arith)
-levels-cover [] (o ∷ olds) [] e = absurd (omega arith)
-levels-cover [] (o ∷ olds) (n ∷ news) e = refl
-levels-cover (w ∷ c) [] [] e = refl
-levels-cover (w ∷ c) [] (n ∷ news) e = absurd (omega arith)
-levels-cover (w ∷ c) (o ∷ olds) [] e = absurd (omega arith)
-levels-cover (w ∷ c) (o ∷ olds) (n ∷ news) e = λ i. entry-admits w o n i && levels-cover c olds news (omega arith) i
 
 pub symbol-admits : (w t : Trit) → level_matches (level_symbol w) t ≡ admits w t
 symbol-admits Zero t = refl
 symbol-admits One t = refl
 symbol-admits Unknown t = refl
 
-pub change-admits :
+change-admits :
     (old new a b : Trit) → entry_matches (edge_entry old new) a b ≡ (not (same a b) && (admits old a && admits new b))
 change-admits Zero Zero a b = refl
 change-admits Zero One a b = refl
@@ -54,9 +45,17 @@ change-admits Unknown One a b = refl
 change-admits Unknown Unknown a b = sym (and-true (not (same a b)))
 
 -- a change entry does not match an input that keeps its value
-pub change-still : (old new t : Trit) → entry_matches (edge_entry old new) t t ≡ false
+change-still : (old new t : Trit) → entry_matches (edge_entry old new) t t ≡ false
 change-still old new t =
     change-admits old new t t ∙ ap (λ b. not b && (admits old t && admits new t)) (same-self t)
+
+entries-fit : FitsEntries Entry entry_matches level_entry edge_entry
+entries-fit =
+    record {
+      levels = entry-admits;
+      edges = λ old new a b rest m apart. change-admits old new a b ∙ ap (λ t. not t && (admits old a && admits new b)) apart;
+      stays = change-still;
+    }
 
 change-no-level : (old new : Trit) → is_level (edge_entry old new) ≡ false
 change-no-level Zero new = refl
@@ -100,7 +99,7 @@ pub state_row-matches :
 state_row-matches checks v c olds news x y s f g =
     and-true (columns_match entry_matches (noted checks (entry.Level level.Any) (map level_entry c)) (noted checks x olds) (noted checks y news))
     ∙ noted-free checks (map level_entry c) olds news x y (f ∙ sym (length-map c level_entry)) (g ∙ sym (length-map c level_entry))
-    ∙ levels-cover c olds news (f ∙ sym g)
+    ∙ levels-cover entries-fit c olds news (f ∙ sym g)
 
 -- the columns of a change
 pub change-levels : (checks : Bool) (p : ℕ) (c : List Trit) → 3 ≤ length c → list_all is_level (noted checks (entry.Level level.Any) (edge_inputs p c)) ≡ false
@@ -111,61 +110,41 @@ change-levels checks p (old ∷ new ∷ rest) l =
     (levels-insert p (edge_entry old new) (map level_entry (init rest))
     ∙ ap (λ b. b && list_all is_level (map level_entry (init rest))) (change-no-level old new))
 
-change-columns :
+-- without the notifier
+free-columns :
     (checks : Bool) (p : ℕ) (old new r : Trit) (rest olds news : List Trit) (x y : Trit)
-    → p ≤ length rest → length olds ≡ suc (length rest) → length news ≡ suc (length rest)
+    → length olds ≡ suc (length rest) → length news ≡ suc (length rest)
     → columns_match entry_matches (noted checks (entry.Level level.Any) (edge_inputs p (old ∷ new ∷ r ∷ rest))) (noted checks x olds) (noted checks y news)
-    ≡ (entry_matches (edge_entry old new) (get_or olds p Unknown) (get_or news p Unknown)
-    && columns_match entry_matches (map level_entry (init (r ∷ rest))) (without p olds) (without p news))
-change-columns checks p old new r rest olds news x y l f g =
+    ≡ columns_match entry_matches (edge_inputs p (old ∷ new ∷ r ∷ rest)) olds news
+free-columns checks p old new r rest olds news x y f g =
     let es : List Entry = map level_entry (init (r ∷ rest)) in
     let few : length es ≡ length rest = length-map (init (r ∷ rest)) level_entry ∙ length-init r rest in
     let all : length (insert p (edge_entry old new) es) ≡ suc (length es) = length-insert p (edge_entry old new) es in
     noted-free checks (insert p (edge_entry old new) es) olds news x y (omega arith) (omega arith)
-    ∙ columns-insert entry_matches p (edge_entry old new) es olds news (omega arith) (omega arith) (omega arith)
 
-pub change-kept :
+pub columns-kept :
     (checks : Bool) (p : ℕ) (c olds news : List Trit) (x y : Trit) (n : ℕ)
     → p < n → length c ≡ suc (suc n) → length olds ≡ n → length news ≡ n
     → get_or olds p Unknown ≡ get_or news p Unknown
     → columns_match entry_matches (noted checks (entry.Level level.Any) (edge_inputs p c)) (noted checks x olds) (noted checks y news) ≡ false
-change-kept checks p [] olds news x y n l e f g h = absurd (omega arith)
-change-kept checks p (old ∷ []) olds news x y n l e f g h = absurd (omega arith)
-change-kept checks p (old ∷ new ∷ []) olds news x y n l e f g h = absurd (omega arith)
-change-kept checks p (old ∷ new ∷ r ∷ rest) olds news x y n l e f g h =
-    let others : Bool = columns_match entry_matches (map level_entry (init (r ∷ rest))) (without p olds) (without p news) in
-    change-columns checks p old new r rest olds news x y (omega arith) (omega arith) (omega arith)
-    ∙ ap (λ t. entry_matches (edge_entry old new) t (get_or news p Unknown) && others) h
-    ∙ ap (λ b. b && others) (change-still old new (get_or news p Unknown))
+columns-kept checks p [] olds news x y n l e f g h = absurd (omega arith)
+columns-kept checks p (old ∷ []) olds news x y n l e f g h = absurd (omega arith)
+columns-kept checks p (old ∷ new ∷ []) olds news x y n l e f g h = absurd (omega arith)
+columns-kept checks p (old ∷ new ∷ r ∷ rest) olds news x y n l e f g h =
+    free-columns checks p old new r rest olds news x y (omega arith) (omega arith)
+    ∙ change-kept entries-fit p old new r rest olds news (omega arith) (omega arith) (omega arith) h
 
--- A row of a change matches the changes that its cube covers.
-regroup : (x y c d : Bool) → (((x && y) && c) && d) ≡ (x && (y && (c && d)))
-regroup true true c d = refl
-regroup true false c d = refl
-regroup false y c d = refl
-
-pub change-matches :
-    (checks : Bool) (p : ℕ) (v : Trit) (c : List Trit) (a b : Trit) (others : List Trit) (x s : Trit)
-    → p ≤ length others → length c ≡ suc (suc (suc (length others))) → same a b ≡ false
-    → row_matches (noted checks x (insert p a others)) (noted checks x (insert p b others)) s (edge_row checks p v c)
-    ≡ covers c (a ∷ b ∷ others ++ s ∷ [])
-change-matches checks p v [] a b others x s l e h = absurd (omega arith)
-change-matches checks p v (old ∷ []) a b others x s l e h = absurd (omega arith)
-change-matches checks p v (old ∷ new ∷ []) a b others x s l e h = absurd (omega arith)
-change-matches checks p v (old ∷ new ∷ r ∷ rest) a b others x s l e h =
-    let es : List Entry = map level_entry (init (r ∷ rest)) in
-    let state : Bool = level_matches (level_symbol (last Unknown (r ∷ rest))) s in
-    let olds : List Trit = insert p a others in
-    let news : List Trit = insert p b others in
+pub columns-cover :
+    (checks : Bool) (p : ℕ) (c : List Trit) (a b : Trit) (others : List Trit) (x t : Trit)
+    → p ≤ length others → length c ≡ suc (suc (suc (length others))) → same a b ≡ false → moves c ≡ true
+    → covers c (a ∷ b ∷ others ++ t ∷ [])
+    ≡ (columns_match entry_matches (noted checks (entry.Level level.Any) (edge_inputs p c)) (noted checks x (insert p a others)) (noted checks x (insert p b others))
+    && admits (last Unknown c) t)
+columns-cover checks p [] a b others x t l e apart m = absurd (omega arith)
+columns-cover checks p (old ∷ []) a b others x t l e apart m = absurd (omega arith)
+columns-cover checks p (old ∷ new ∷ []) a b others x t l e apart m = absurd (omega arith)
+columns-cover checks p (old ∷ new ∷ r ∷ rest) a b others x t l e apart m =
     let few : length others ≡ length rest = omega arith in
-    let columns = change-columns checks p old new r rest olds news x x (omega arith) (length-insert p a others ∙ ap suc few) (length-insert p b others ∙ ap suc few) in
-    let at_change : entry_matches (edge_entry old new) (get_or olds p Unknown) (get_or news p Unknown) ≡ (admits old a && admits new b)
-    = (λ i. entry_matches (edge_entry old new) (at-insert p a Unknown others l i) (at-insert p b Unknown others l i))
-    ∙ change-admits old new a b ∙ ap (λ t. not t && (admits old a && admits new b)) h in
-    let at_others : columns_match entry_matches es (without p olds) (without p news) ≡ covers (init (r ∷ rest)) others
-    = (λ i. columns_match entry_matches es (without-insert p a others l i) (without-insert p b others l i))
-    ∙ levels-cover (init (r ∷ rest)) others others refl in
-    ap (λ t. t && state) columns
-    ∙ (λ i. (at_change i && at_others i) && symbol-admits (last Unknown (r ∷ rest)) s i)
-    ∙ regroup (admits old a) (admits new b) (covers (init (r ∷ rest)) others) (admits (last Unknown (r ∷ rest)) s)
-    ∙ ap (λ t. admits old a && (admits new b && t)) (sym (covers-last (r ∷ rest) others s (omega arith)))
+    sym (ap (λ q. q && admits (last Unknown (r ∷ rest)) t)
+    (free-columns checks p old new r rest (insert p a others) (insert p b others) x x (length-insert p a others ∙ ap suc few) (length-insert p b others ∙ ap suc few))
+    ∙ change-covers entries-fit p old new r rest a b others t l (sym few) apart m)

@@ -59,6 +59,15 @@ insert-set p a [] l = absurd (omega arith)
 insert-set zero a (x ∷ xs) l = refl
 insert-set (suc p) a (x ∷ xs) l = ap (λ ys. x ∷ ys) (insert-set p a xs (omega arith))
 
+pub length-without : {X : Type 0} (p : ℕ) (d : X) (xs : List X) → p < length xs → suc (length (without p xs)) ≡ length xs
+length-without p d xs l = sym (length-insert p (get_or xs p d) (without p xs)) ∙ ap length (insert-without p d xs l)
+
+-- a list before and after a change of one place
+pub before-change :
+    {X Y : Type 0} (f : List X → List X → Y) (p : ℕ) (old d : X) (xs : List X) → p < length xs
+    → f (set xs p old) xs ≡ f (insert p old (without p xs)) (insert p (get_or xs p d) (without p xs))
+before-change f p old d xs l = λ i. f (sym (insert-set p old xs l) i) (sym (insert-without p d xs l) i)
+
 -- the column at a place apart
 pub columns-insert :
     {E : Type 0} (m : E → Trit → Trit → Bool) (p : ℕ) (e : E) (es : List E) (olds news : List Trit)

@@ -40,6 +40,9 @@ increasing-ascends (x ∷ y ∷ ys) h =
     let less : x < y = h 0 (omega arith) in
     ((less, above-less x y ys less rest.0), rest)
 
+pub support-ascending : (f : Node) → Ascending (support_of f)
+support-ascending f = increasing-ascends (support_of f) (support_ascends f)
+
 all-below : (n : ℕ) (xs : List ℕ) → ((i : ℕ) → Among i xs → i < n) → AllBelow n xs
 all-below n [] h = tt
 all-below n (x ∷ xs) h = (h x (inl refl), all-below n xs (λ i m. h i (inr m)))
@@ -59,7 +62,7 @@ condition-entry :
     → slice_get values (number p) ≡ Some (value_of (written no_values (support_of f) p) f)
 condition-entry f values p small h long =
     let places : bits_at (support_of f) (written no_values (support_of f) p) ≡ p
-    = picked-written (support_of f) p no_values (increasing-ascends (support_of f) (support_ascends f))
+    = picked-written (support_of f) p no_values (support-ascending f)
     (subst (λ n. AllBelow n (support_of f)) (sym length-no_values) (support-below f small)) (sym long) in
     ap (slice_get values) (sym (ap number_of_bits places ∙ number-same p)) ∙ h (written no_values (support_of f) p)
 

@@ -1,6 +1,6 @@
 -- The cubes of changes: which changes they cover, and that the primes of a step decide it.
 use Rattle.std.proofs.Common.{◌≡◌, ◌≢◌, ℕ, zero, suc, ◌<◌, Bool, true, false, ◌&&◌, ◌||◌, ◌⊎◌, inl, inr, List, [], ◌∷◌, ◌++◌, map, length, refl, sym, ◌∙◌, ap, subst, arith}
-use Rattle.std.proofs.lemmas.Bool.{and_parts, cases_lt}
+use Rattle.std.proofs.lemmas.Bool.{and_parts, cases_lt, false_from_ne_true}
 use Rattle.std.proofs.lemmas.List.{length_push}
 use Rattle.trit_cubes.specs.declared.trits.Trit.{Trit}
 use Rattle.trit_cubes.specs.declared.trits.Trit.TheVariants.{Zero, One, Unknown}
@@ -36,6 +36,9 @@ same-is One Unknown e = absurd cc
 same-is Unknown Zero e = absurd cc
 same-is Unknown One e = absurd cc
 same-is Unknown Unknown e = refl
+
+pub differ : (a b : Trit) → a ≢ b → same a b ≡ false
+differ a b h = false_from_ne_true (same a b) (λ e. h (sym (same-is a b e)))
 
 pub known-or : (v : Trit) → (v ≢ Unknown) ⊎ (v ≡ Unknown)
 known-or Zero = inl (λ e. cc)
@@ -95,6 +98,10 @@ pub edge-long : (step : Step) (n p : ℕ) (v : Trit) (c : List Trit) → Among c
 edge-long step n p v c a =
     prime_list-length (suc (suc n)) (gives v (edge_value step p)) c
     (among-filter moves c (prime_list (suc (suc n)) (gives v (edge_value step p))) a).0
+
+-- they have points that change
+pub edge-moves : (step : Step) (n p : ℕ) (v : Trit) (c : List Trit) → Among c (edge_cubes step n p v) → moves c ≡ true
+edge-moves step n p v c a = (among-filter moves c (prime_list (suc (suc n)) (gives v (edge_value step p))) a).1
 
 change-long : (a b : Trit) (others : List Trit) (s : Trit) (n : ℕ) → suc (length others) ≡ n → length (a ∷ b ∷ others ++ s ∷ []) ≡ suc (suc n)
 change-long a b others s n e = omega (arith, length_push others s)

@@ -1,7 +1,8 @@
 -- What the first row that is hit gives.
-use Rattle.std.proofs.Common.{◌≡◌, Bool, true, false, ◌||◌, List, [], ◌∷◌, inl, inr, refl, sym, ◌∙◌, ap}
+use Rattle.std.proofs.Common.{◌≡◌, Bool, true, false, cond, ◌||◌, List, [], ◌∷◌, ◌++◌, inl, inr, refl, sym, ◌∙◌, ap}
 use Rattle.std.specs.List.{list_any}
 use Rattle.std.proofs.lemmas.Bool.{cases_Bool, or_left, or_right}
+use Rattle.std.proofs.lemmas.List.Folds.{list_any-append}
 use Rattle.trit_cubes.proofs.ListLemmas.{Among}
 use Rattle.udp_tables.specs.Tables.{first}
 
@@ -21,6 +22,20 @@ found-any p x (y ∷ ys) h e =
       | inl k ↦ or_left (p y) (list_any p ys) (ap p k ∙ e)
       | inr k ↦ or_right (p y) (list_any p ys) (found-any p x ys k e)
     ]
+
+pub any-front : {X : Type 0} (p : X → Bool) (xs ys : List X) → list_any p xs ≡ true → list_any p (xs ++ ys) ≡ true
+any-front p xs ys h = list_any-append p xs ys ∙ ap (λ b. b || list_any p ys) h
+
+pub cond-same : {V : Type 0} (b : Bool) (v : V) → cond b v v ≡ v
+cond-same true v = refl
+cond-same false v = refl
+
+-- one list of rows after another
+pub first-append :
+    {R V : Type 0} (hit : R → Bool) (value : R → V) (xs ys : List R) (o : V)
+    → first hit value (xs ++ ys) o ≡ first hit value xs (first hit value ys o)
+first-append hit value [] ys o = refl
+first-append hit value (x ∷ xs) ys o = ap (cond (hit x) (value x)) (first-append hit value xs ys o)
 
 -- the value that all rows give that are hit, where there is one; else what stands for no row
 pub first-gives :

@@ -3,8 +3,12 @@ pub mod NumberLemmas
 pub mod CountLemmas
 pub mod CellLaws
 pub mod ConditionLemmas
+pub mod ConditionUses
 pub mod OutputLemmas
-pub mod CompactLemmas
+pub mod RowForms
+pub mod ForcedRows
+pub mod ChangeColumns
+pub mod CellParts
 pub mod LawLemmas
 pub mod ChangeRows
 pub mod StepRows

@@ -1,17 +1,16 @@
 -- Rows of a step whose changes serve: at each change of an input they give the machine's step, and at each change of the
 -- notifier the forced value.
-use Rattle.std.proofs.Common.{◌≡◌, ◌≢◌, ℕ, suc, ◌<◌, ◌≤◌, Bool, true, false, cond, not, ◌&&◌, List, [], ◌∷◌, ◌++◌, map, length, replicate, get_or, inl, inr, refl, sym, ◌∙◌, ap, subst, arith}
+use Rattle.std.proofs.Common.{◌≡◌, ◌≢◌, ℕ, suc, ◌<◌, Bool, true, false, cond, not, ◌&&◌, List, [], ◌∷◌, ◌++◌, map, length, replicate, get_or, inl, inr, refl, sym, ◌∙◌, ap}
 use Rattle.std.specs.List.{list_all, list_any}
-use Rattle.std.proofs.lemmas.Bool.{and_parts, and_from, and_left, cases_lt}
+use Rattle.std.proofs.lemmas.Bool.{and_parts, and_from, and_left}
 use Rattle.std.proofs.lemmas.List.{length-map, length-replicate}
 use Rattle.std.proofs.lemmas.List.Folds.{list_all-append}
 use Rattle.trit_cubes.specs.declared.trits.Trit.{Trit}
 use Rattle.trit_cubes.specs.declared.trits.Trit.TheVariants.{Zero, One, Unknown}
-use Rattle.trit_cubes.specs.Filling.{same, covers}
+use Rattle.trit_cubes.specs.Filling.{same}
 use Rattle.trit_cubes.specs.Sets.{gives}
 use Rattle.trit_cubes.specs.Prime.{prime_list}
-use Rattle.trit_cubes.proofs.ListLemmas.{Among, among-append, append-among_left, append-among_right}
-use Rattle.trit_cubes.proofs.SplitLemmas.{prime_list-length}
+use Rattle.trit_cubes.proofs.ListLemmas.{Among, among-append, append-among_right}
 use Rattle.cell_machine.specs.Machine.{Step, insert, machine_step, forced_at, forced}
 use Rattle.cell_machine.proofs.ForcedLemmas.{forced_is_step-lem}
 use Rattle.udp_tables.specs.declared.table.Entry.{Entry}
@@ -22,9 +21,10 @@ use Rattle.udp_tables.specs.Primitive.{entry_matches, is_level, next_of}
 use Rattle.udp_tables.specs.Generated.{level_entry, next_to}
 use Rattle.udp_tables.specs.Edges.{forced_rows, each_below}
 use Rattle.udp_tables.specs.Sequential.{row_matches, is_level_row, level_hit, edge_hit, row_next, udp_next, noted, state_row, notifier_rows, step_rows}
-use Rattle.udp_tables.proofs.FirstLemmas.{any-found, found-any, first-gives}
-use Rattle.udp_tables.proofs.ColumnLemmas.{and-false, length-insert, at-other, columns-push}
-use Rattle.udp_tables.proofs.CubeLemmas.{same-self, known-or, prime-gives, prime-found, value_rows-among, among-value_rows, below-among, among-below}
+use Rattle.udp_tables.proofs.FirstLemmas.{any-found, found-any, any-front, cond-same, first-gives}
+use Rattle.udp_tables.proofs.ColumnLemmas.{and-false, length-insert, columns-push}
+use Rattle.udp_tables.proofs.CubeLemmas.{same-self, known-or, value_rows-among, below-among, among-below}
+use Rattle.udp_tables.proofs.ForcedRows.{FitsForced, forced-given, forced-found, changed-own}
 use Rattle.udp_tables.proofs.ChangeRows.{state_row-levels, state_row-matches}
 
 -- what the rows of the changes of each input have to do
@@ -49,10 +49,6 @@ pub record Serves (checks : Bool) (n : ℕ) (step : Step) (changes : ℕ → Lis
       → list_any (row_matches (noted checks x (insert p a others)) (noted checks x (insert p b others)) s) (changes p) ≡ true
 
 -- a row that gives x in place of no row
-cond-same : {V : Type 0} (b : Bool) (v : V) → cond b v v ≡ v
-cond-same true v = refl
-cond-same false v = refl
-
 or_row-next :
     (alone : UdpRow) (rows : List UdpRow) (before after : List Trit) (s : Trit)
     → row_next s alone ≡ Unknown → udp_next (or_row alone rows) before after s ≡ udp_next rows before after s
@@ -101,20 +97,29 @@ notifier-still true n row olds news x s m f g =
       | inr k ↦ absurd k
     ]
 
--- a row of levels that matches gives the forced value
-forced-given :
-    (checks : Bool) (n : ℕ) (step : Step) (row : UdpRow) (olds news : List Trit) (x y s : Trit)
-    → Among row (forced_rows (state_row checks) n step) → length olds ≡ n → length news ≡ n
-    → row_matches (noted checks x olds) (noted checks y news) s row ≡ true
-    → (v : Trit) × (v ≢ Unknown) × (forced step news ≡ v) × (row_next s row ≡ v)
-forced-given checks n step row olds news x y s m f g h =
-    let cubes = λ (v : Trit). prime_list n (gives v (forced_at step)) in
-    let r = value_rows-among (state_row checks) cubes row m in
-    let long : length r.2 ≡ n = prime_list-length n (gives r.0 (forced_at step)) r.2 r.3 in
-    let covered : covers r.2 news ≡ true
-    = sym (state_row-matches checks r.0 r.2 olds news x y s (f ∙ sym long) (g ∙ sym long))
-    ∙ ap (row_matches (noted checks x olds) (noted checks y news) s) r.4 ∙ h in
-    (r.0, r.1, prime-gives n (forced_at step) r.0 r.2 news r.1 g r.3 covered, ap (row_next s) (sym r.4) ∙ next-value s r.0)
+-- the rows of levels fit, whether they are looked at alone or among all
+levels-fit :
+    (checks : Bool) (n : ℕ) (olds news : List Trit) (x y s : Trit)
+    → length olds ≡ n → length news ≡ n
+    → FitsForced UdpRow n news (state_row checks) (row_matches (noted checks x olds) (noted checks y news) s) (row_next s)
+levels-fit checks n olds news x y s f g =
+    record {
+      long = g;
+      made = λ v c long. state_row-matches checks v c olds news x y s (f ∙ sym long) (g ∙ sym long);
+      gives = λ v c. next-value s v;
+    }
+
+hits-fit :
+    (n : ℕ) (inputs : List Trit) (old new s : Trit)
+    → length inputs ≡ n → FitsForced UdpRow n inputs (state_row true) (level_hit (noted true old inputs) (noted true new inputs) s) (row_next s)
+hits-fit n inputs old new s f =
+    record {
+      long = f;
+      made = λ v c long.
+          ap (λ q. q && row_matches (noted true old inputs) (noted true new inputs) s (state_row true v c)) (state_row-levels true v c)
+          ∙ state_row-matches true v c inputs inputs old new s (f ∙ sym long) (f ∙ sym long);
+      gives = λ v c. next-value s v;
+    }
 
 forced-levels :
     (checks : Bool) (n : ℕ) (step : Step) (row : UdpRow) → Among row (forced_rows (state_row checks) n step) → is_level_row row ≡ true
@@ -138,39 +143,15 @@ change-given checks n step changes p a b others x s serves l long apart row m h 
       | inl front ↦
           elim (among-append row (forced_rows (state_row checks) n step) (notifier_rows checks n) front) [
             | inl k ↦
-                let r = forced-given checks n step row olds news x x s k f g h in
+                let r = forced-given step (levels-fit checks n olds news x x s f g) row k h in
                 r.3 ∙ sym (forced_is_step-lem step p a b others s r.0 r.2 r.1)
             | inr k ↦ let clash : false ≡ true = sym (notifier-still checks n row olds news x s k f g) ∙ h in absurd cc
           ]
       | inr k ↦
-          let r = below-among changes n row k in
-          own r.0 r.1 r.2
+          serves.right p row a b others x s l
+          (changed-own changes (row_matches (noted checks x olds) (noted checks x news) s) n p a b others l long
+          (λ q other inside c same_value. serves.still q other olds news x x s inside c f g same_value) row k h) long apart h
     ]
-  where
-    own :
-        (q : ℕ) → q < n → Among row (changes q) → row_next s row ≡ machine_step step p a b others s
-    own q inside k =
-        let f : length (insert p a others) ≡ n = length-insert p a others ∙ long in
-        let g : length (insert p b others) ≡ n = length-insert p b others ∙ long in
-        let within : p ≤ length others = omega arith in
-        elim (cases_lt q p) [
-          | inl less ↦
-              let differ : q ≢ p = omega arith in
-              let clash : false ≡ true
-              = sym (serves.still q row (insert p a others) (insert p b others) x x s inside k f g (at-other p q a b Unknown others differ within)) ∙ h in
-              absurd cc
-          | inr more ↦
-              elim (cases_lt p q) [
-                | inl less ↦
-                    let differ : q ≢ p = omega arith in
-                    let clash : false ≡ true
-                    = sym (serves.still q row (insert p a others) (insert p b others) x x s inside k f g (at-other p q a b Unknown others differ within)) ∙ h in
-                    absurd cc
-                | inr same_place ↦
-                    let e : q ≡ p = omega arith in
-                    serves.right p row a b others x s l (subst (λ i. Among row (changes i)) e k) long apart h
-              ]
-        ]
 
 pub step_rows-change :
     (checks : Bool) (n : ℕ) (step : Step) (changes : ℕ → List UdpRow) (p : ℕ) (a b : Trit) (others : List Trit) (x s : Trit)
@@ -213,7 +194,7 @@ level-given n step changes inputs old new s serves long row m h =
     elim (among-append row (forced_rows (state_row true) n step ++ notifier_rows true n) (each_below changes n) m) [
       | inl front ↦
           elim (among-append row (forced_rows (state_row true) n step) (notifier_rows true n) front) [
-            | inl k ↦ let r = forced-given true n step row inputs inputs old new s k long long both.1 in r.3 ∙ sym r.2
+            | inl k ↦ let r = forced-given step (levels-fit true n inputs inputs old new s long long) row k both.1 in r.3 ∙ sym r.2
             | inr k ↦ let clash : false ≡ true = sym (notifier-levels true n row k) ∙ both.0 in absurd cc
           ]
       | inr k ↦
@@ -249,7 +230,6 @@ step_rows-note n step changes inputs old new s serves long =
     let v : Trit = forced step inputs in
     let levels : List UdpRow = forced_rows (state_row true) n step in
     let rows : List UdpRow = levels ++ notifier_rows true n ++ each_below changes n in
-    let cubes = λ (w : Trit). prime_list n (gives w (forced_at step)) in
     let last_pass : first (edge_hit before after s) (row_next s) rows Unknown ≡ Unknown
     = first-gives (edge_hit before after s) (row_next s) Unknown Unknown rows
     (edge-given n step changes inputs old new s serves long) (λ _. refl) in
@@ -259,16 +239,9 @@ step_rows-note n step changes inputs old new s serves long =
     (λ none.
     elim (known-or v) [
       | inl known ↦
-          let r = prime-found n (forced_at step) v inputs known long refl in
-          let row : UdpRow = state_row true v r.0 in
-          let wide : length r.0 ≡ n = prime_list-length n (gives v (forced_at step)) r.0 r.1 in
-          let hit : level_hit before after s row ≡ true
-          = and_from (is_level_row row) (row_matches before after s row) (state_row-levels true v r.0)
-          (state_row-matches true v r.0 inputs inputs old new s (long ∙ sym wide) (long ∙ sym wide) ∙ r.2) in
           let some : list_any (level_hit before after s) rows ≡ true
-          = found-any (level_hit before after s) row rows
-          (append-among_left row (levels ++ notifier_rows true n) (each_below changes n)
-          (append-among_left row levels (notifier_rows true n) (among-value_rows (state_row true) cubes v r.0 known r.1))) hit in
+          = any-front (level_hit before after s) (levels ++ notifier_rows true n) (each_below changes n)
+          (any-front (level_hit before after s) levels (notifier_rows true n) (forced-found step (hits-fit n inputs old new s long) known)) in
           let clash : false ≡ true = sym none ∙ some in absurd cc
       | inr e ↦ last_pass ∙ sym e
     ])

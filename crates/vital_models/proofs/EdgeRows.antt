@@ -1,51 +1,98 @@
 -- The rows of changes serve, in both forms.
-use Rattle.std.proofs.Common.{◌≡◌, ℕ, suc, Bool, true, List, [], ◌∷◌, ◌++◌, length, refl, sym, ◌∙◌, ap, arith}
+use Rattle.std.proofs.Common.{◌≡◌, ℕ, suc, ◌<◌, ◌≤◌, Bool, true, false, ◌&&◌, List, [], ◌∷◌, map, length, get_or, refl, ap, arith}
 use Rattle.std.proofs.lemmas.Bool.{and_left}
 use Rattle.trit_cubes.specs.declared.trits.Trit.{Trit}
-use Rattle.trit_cubes.specs.Filling.{covers}
-use Rattle.trit_cubes.specs.Sets.{gives}
-use Rattle.trit_cubes.specs.Prime.{prime_list}
-use Rattle.trit_cubes.proofs.ListLemmas.{Among, among-filter}
-use Rattle.cell_machine.specs.Machine.{Step, insert, edge_value, machine_step}
+use Rattle.trit_cubes.specs.declared.trits.Trit.TheVariants.{One, Unknown}
+use Rattle.trit_cubes.specs.Filling.{same}
+use Rattle.trit_cubes.proofs.ListLemmas.{Among}
+use Rattle.cell_machine.specs.Machine.{Step, insert, last}
 use Rattle.udp_tables.specs.Tables.{columns_match}
-use Rattle.udp_tables.specs.Edges.{moves, edge_cubes, edge_rows}
-use Rattle.udp_tables.proofs.FirstLemmas.{found-any}
-use Rattle.udp_tables.proofs.CubeLemmas.{edge-long, edge-gives, edge-found, value_rows-among, among-value_rows}
+use Rattle.udp_tables.specs.Edges.{edge_cubes, edge_rows, with_last, compact_edge_rows}
+use Rattle.udp_tables.proofs.ColumnLemmas.{and-true}
+use Rattle.udp_tables.proofs.CubeLemmas.{edge-long, edge-moves}
+use Rattle.udp_tables.proofs.PairLemmas.{init-with}
+use Rattle.udp_tables.proofs.RowForms.{FitsCubes, FitsPairs, rows-each, rows-right, rows-found, compact-each, compact-right, compact-found}
 use Rattle.vital_models.specs.declared.table.VSymbol.TheVariants as symbol
 use Rattle.vital_models.specs.declared.table.Trits.TheVariants as trits
+use Rattle.vital_models.specs.declared.table.VStateRow.{VStateRow}
 use Rattle.vital_models.specs.Symbols.{trits_match, symbol_matches}
 use Rattle.vital_models.specs.LookUps.{state_matches, row_next}
-use Rattle.vital_models.specs.Rows.{violated, edge_columns, edge_row}
-use Rattle.vital_models.proofs.SymbolLemmas.{change-kept, change-matches}
+use Rattle.vital_models.specs.Rows.{level_of, level_symbol, edge_symbol, violated, edge_columns, edge_row, keep_row}
+use Rattle.vital_models.proofs.SymbolLemmas.{level-admits, columns-kept, columns-cover}
 use Rattle.vital_models.proofs.StateRows.{Serves, next-value}
 
--- the cubes of changes have points that change
-pub edge-moves : (step : Step) (n p : ℕ) (v : Trit) (c : List Trit) → Among c (edge_cubes step n p v) → moves c ≡ true
-edge-moves step n p v c a = (among-filter moves c (prime_list (suc (suc n)) (gives v (edge_value step p))) a).1
+columns-with : (p : ℕ) (t : Trit) (c : List Trit) → 3 ≤ length c → edge_columns p (with_last t c) ≡ edge_columns p c
+columns-with p t [] l = absurd (omega arith)
+columns-with p t (old ∷ []) l = absurd (omega arith)
+columns-with p t (old ∷ new ∷ []) l = absurd (omega arith)
+columns-with p t (old ∷ new ∷ r ∷ rest) l = ap (λ ts. insert p (edge_symbol old new) (map level_symbol ts)) (init-with t r rest)
+
+-- whether the columns of a cube match a change, without the state
+abbrev columns : Bool → ℕ → Trit → Trit → List Trit → Trit → Trit → List Trit → Bool
+columns checks p a b others x y c =
+    columns_match symbol_matches (violated checks (symbol.Level trits.Any) (edge_columns p c)) (violated checks x (insert p a others)) (violated checks y (insert p b others))
+
+-- whether a row matches a change
+abbrev hit : Bool → ℕ → Trit → Trit → List Trit → Trit → Trit → Trit → VStateRow → Bool
+hit checks p a b others x y s = state_matches (violated checks x (insert p a others)) (violated checks y (insert p b others)) s
+
+cubes-fit :
+    (checks : Bool) (n : ℕ) (step : Step) (p : ℕ) (a b : Trit) (others : List Trit) (x y s : Trit)
+    → p < n → suc (length others) ≡ n → same a b ≡ false
+    → FitsCubes VStateRow n step p a b others s (edge_row checks p) (hit checks p a b others x y s) (row_next s) (columns checks p a b others x y)
+cubes-fit checks n step p a b others x y s l long apart =
+    record {
+      long = long;
+      apart = apart;
+      parts = λ v c t m.
+          let wide : length c ≡ suc (suc n) = edge-long step n p v c m in
+          columns-cover checks p c a b others x y t (omega arith) (omega arith) apart (edge-moves step n p v c m);
+      made = λ v c. ap (λ q. columns checks p a b others x y c && q) (level-admits (last Unknown c) s);
+      gives = λ v c. next-value s v;
+    }
+
+pairs-fit :
+    (checks : Bool) (p : ℕ) (a b : Trit) (others : List Trit) (x y s : Trit)
+    → FitsPairs VStateRow s (keep_row checks p) (hit checks p a b others x y s) (row_next s) (columns checks p a b others x y)
+pairs-fit checks p a b others x y s =
+    record {
+      kept = λ c. and-true (columns checks p a b others x y c);
+      stays = λ c. refl;
+      free = λ t c l.
+          ap (λ es. columns_match symbol_matches (violated checks (symbol.Level trits.Any) es) (violated checks x (insert p a others)) (violated checks y (insert p b others)))
+          (columns-with p t c l);
+    }
+
+-- a row of a cube, with any symbol for the state, matches nothing where its pin keeps its value
+cube-still :
+    (checks : Bool) (n : ℕ) (step : Step) (p : ℕ) (olds news : List Trit) (x y : Trit) (state : Bool)
+    → p < n → length olds ≡ n → length news ≡ n → get_or olds p Unknown ≡ get_or news p Unknown
+    → (v : Trit) (c : List Trit) → Among c (edge_cubes step n p v)
+    → (columns_match symbol_matches (violated checks (symbol.Level trits.Any) (edge_columns p c)) (violated checks x olds) (violated checks y news) && state) ≡ false
+cube-still checks n step p olds news x y state l f g h v c m =
+    and_left (columns_match symbol_matches (violated checks (symbol.Level trits.Any) (edge_columns p c)) (violated checks x olds) (violated checks y news)) state
+    (columns-kept checks p c olds news x y n l (edge-long step n p v c m) f g h)
 
 pub edge_rows-serve : (checks : Bool) (n : ℕ) (step : Step) → Serves checks n step (edge_rows (edge_row checks) step n)
 edge_rows-serve checks n step =
     record {
       still = λ p row olds news x y s l m f g h.
-          let r = value_rows-among (edge_row checks p) (edge_cubes step n p) row m in
-          let wide : length r.2 ≡ suc (suc n) = edge-long step n p r.0 r.2 r.3 in
-          ap (state_matches (violated checks x olds) (violated checks y news) s) (sym r.4)
-          ∙ and_left
-          (columns_match symbol_matches (violated checks (symbol.Level trits.Any) (edge_columns p r.2)) (violated checks x olds) (violated checks y news))
-          (trits_match (edge_row checks p r.0 r.2).state s) (change-kept checks p r.2 olds news x y n l wide f g h);
-      right = λ p row a b others x y s l m long apart h.
-          let r = value_rows-among (edge_row checks p) (edge_cubes step n p) row m in
-          let wide : length r.2 ≡ suc (suc n) = edge-long step n p r.0 r.2 r.3 in
-          let covered : covers r.2 (a ∷ b ∷ others ++ s ∷ []) ≡ true
-          = sym (change-matches checks p r.0 r.2 a b others x y s (omega arith) (omega arith) apart (edge-moves step n p r.0 r.2 r.3))
-          ∙ ap (state_matches (violated checks x (insert p a others)) (violated checks y (insert p b others)) s) r.4 ∙ h in
-          ap (row_next s) (sym r.4) ∙ next-value s r.0
-          ∙ sym (edge-gives step n p r.0 r.2 a b others s r.1 long r.3 covered);
-      found = λ p a b others x y s l long apart known.
-          let v : Trit = machine_step step p a b others s in
-          let r = edge-found step n p v a b others s known long apart refl in
-          let wide : length r.0 ≡ suc (suc n) = edge-long step n p v r.0 r.1 in
-          found-any (state_matches (violated checks x (insert p a others)) (violated checks y (insert p b others)) s) (edge_row checks p v r.0)
-          (edge_rows (edge_row checks) step n p) (among-value_rows (edge_row checks p) (edge_cubes step n p) v r.0 known r.1)
-          (change-matches checks p v r.0 a b others x y s (omega arith) (omega arith) apart (edge-moves step n p v r.0 r.1) ∙ r.2);
+          rows-each (λ r. state_matches (violated checks x olds) (violated checks y news) s r ≡ false) (edge_row checks p) (edge_cubes step n p)
+          (λ v c k. cube-still checks n step p olds news x y (trits_match (level_of (last Unknown c)) s) l f g h v c k) row m;
+      right = λ p row a b others x y s l m long apart. rows-right (cubes-fit checks n step p a b others x y s l long apart) row m;
+      found = λ p a b others x y s l long apart. rows-found (cubes-fit checks n step p a b others x y s l long apart);
+    }
+
+pub compact_rows-serve :
+    (checks : Bool) (n : ℕ) (step : Step) → Serves checks n step (compact_edge_rows (edge_row checks) (keep_row checks) step n)
+compact_rows-serve checks n step =
+    record {
+      still = λ p row olds news x y s l m f g h.
+          compact-each (λ r. state_matches (violated checks x olds) (violated checks y news) s r ≡ false) (edge_row checks p) (keep_row checks p) (edge_cubes step n p)
+          (λ v c k. cube-still checks n step p olds news x y (trits_match (level_of (last Unknown c)) s) l f g h v c k)
+          (λ c k. cube-still checks n step p olds news x y true l f g h One c k) row m;
+      right = λ p row a b others x y s l m long apart.
+          compact-right (cubes-fit checks n step p a b others x y s l long apart) (pairs-fit checks p a b others x y s) row m;
+      found = λ p a b others x y s l long apart.
+          compact-found (cubes-fit checks n step p a b others x y s l long apart) (pairs-fit checks p a b others x y s);
     }

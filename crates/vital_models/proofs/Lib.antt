@@ -2,7 +2,6 @@ pub mod ListLemmas
 pub mod SymbolLemmas
 pub mod StateRows
 pub mod EdgeRows
-pub mod CompactRows
 pub mod TruthRows
 pub mod RowLawLemmas
 pub mod RowExamples
@@ -10,6 +9,5 @@ pub mod TranslationLemmas
 pub mod CellLaws
 pub mod PortFacts
 pub mod Widths
-pub mod ConditionFacts
 pub mod Soundness
 pub mod CheckNumbers

@@ -1,23 +1,17 @@
 -- The laws of the rows of steps, by the number of the changed pin.
-use Rattle.std.proofs.Common.{◌≡◌, ◌≢◌, ℕ, suc, ◌<◌, Bool, true, false, List, [], ◌∷◌, length, get_or, set, sym, ◌∙◌, ap, arith}
-use Rattle.std.proofs.lemmas.Bool.{false_from_ne_true}
+use Rattle.std.proofs.Common.{◌≡◌, ◌≢◌, ℕ, suc, ◌<◌, Bool, true, List, [], ◌∷◌, length, get_or, set, sym, ◌∙◌, arith}
 use Rattle.trit_cubes.specs.declared.trits.Trit.{Trit}
 use Rattle.trit_cubes.specs.declared.trits.Trit.TheVariants.{Zero, Unknown}
-use Rattle.trit_cubes.specs.Filling.{same}
-use Rattle.cell_machine.specs.Machine.{Step, insert, without, machine_step, forced}
+use Rattle.cell_machine.specs.Machine.{Step, without, machine_step, forced}
 use Rattle.udp_tables.specs.Edges.{edge_rows, compact_edge_rows}
-use Rattle.udp_tables.proofs.ColumnLemmas.{length-insert, insert-without, insert-set}
-use Rattle.udp_tables.proofs.CubeLemmas.{same-is}
+use Rattle.udp_tables.proofs.ColumnLemmas.{length-without, before-change}
+use Rattle.udp_tables.proofs.CubeLemmas.{differ}
 use Rattle.vital_models.specs.declared.table.VStateRow.{VStateRow}
 use Rattle.vital_models.specs.LookUps.{lookup_state}
 use Rattle.vital_models.specs.Rows.{violated, step_rows, edge_row, keep_row}
 use Rattle.vital_models.specs.RowLaws.{StateRowsAreMachine, CompactRowsAreMachine, FormsAgree}
 use Rattle.vital_models.proofs.StateRows.{Serves, step_rows-change, step_rows-keep, step_rows-force}
-use Rattle.vital_models.proofs.EdgeRows.{edge_rows-serve}
-use Rattle.vital_models.proofs.CompactRows.{compact_rows-serve}
-
-differ : (a b : Trit) → a ≢ b → same a b ≡ false
-differ a b h = false_from_ne_true (same a b) (λ e. h (sym (same-is a b e)))
+use Rattle.vital_models.proofs.EdgeRows.{edge_rows-serve, compact_rows-serve}
 
 pub change-at :
     (checks : Bool) (n : ℕ) (step : Step) (changes : ℕ → List VStateRow) (p : ℕ) (old : Trit) (inputs : List Trit) (x s : Trit)
@@ -26,13 +20,9 @@ pub change-at :
     ≡ machine_step step p old (get_or inputs p Unknown) (without p inputs) s
 change-at checks n step changes p old inputs x s serves long l apart =
     let within : p < length inputs = omega arith in
-    let new : Trit = get_or inputs p Unknown in
-    let others : List Trit = without p inputs in
-    let whole : insert p new others ≡ inputs = insert-without p Unknown inputs within in
-    let before : insert p old others ≡ set inputs p old = insert-set p old inputs within in
-    let few : suc (length others) ≡ n = sym (length-insert p new others) ∙ ap length whole ∙ long in
-    (λ i. lookup_state (step_rows checks n step changes) (violated checks x (sym before i)) (violated checks Zero (sym whole i)) s)
-    ∙ step_rows-change checks n step changes p old new others x s serves l few (differ old new apart)
+    before-change (λ before after. lookup_state (step_rows checks n step changes) (violated checks x before) (violated checks Zero after) s) p old Unknown inputs within
+    ∙ step_rows-change checks n step changes p old (get_or inputs p Unknown) (without p inputs) x s serves l
+    (length-without p Unknown inputs within ∙ long) (differ old (get_or inputs p Unknown) apart)
 
 pub force-at :
     (n : ℕ) (step : Step) (changes : ℕ → List VStateRow) (before inputs : List Trit) (s : Trit)

@@ -30,6 +30,7 @@ use Rattle.cell_machine.specs.CellData.{CellData}
 use Rattle.udp_tables.specs.Conditions.{conditions_of, conditions_beside, conditions_by, condition_list}
 use Rattle.cell_machine.specs.CellTrace.{support_at, step_at}
 use Rattle.udp_tables.specs.CellPrimitives.{has_sources}
+use Rattle.udp_tables.proofs.CellParts.{Rules, groups_hold, outputs_hold, checks_hold, arcs_hold}
 use Rattle.udp_tables.proofs.CubeLemmas.{below-among}
 use Rattle.vital_models.specs.declared.model.OutValue.TheVariants as value
 use Rattle.vital_models.specs.declared.model.VOutput.{VOutput}
@@ -40,7 +41,7 @@ use Rattle.vital_models.specs.Sound.{IsState, IsTruth, feeds, IsValue, is_condit
 use Rattle.udp_tables.specs.Ports.{is_input_port}
 use Rattle.vital_models.proofs.PortFacts.{input_port, output_ports}
 use Rattle.vital_models.proofs.Widths.{truth-width, width, state-width}
-use Rattle.vital_models.proofs.ConditionFacts.{all-among, check-numbered, arc-numbered, condition-over}
+use Rattle.udp_tables.proofs.ConditionUses.{all-among, check-numbered, arc-numbered, condition-over}
 
 -- what holds of each element
 all-from : {X : Type 0} (P : X → Type 0) (xs : List X) → ((x : X) → Among x xs → P x) → All P xs
@@ -87,21 +88,7 @@ gate-all : (e : VEntity) (is : List ℕ) → IsTrue (list_all (is_condition_numb
 gate-all e [] h = refl
 gate-all e (i ∷ is) h = h
 
-module _ (cell : CellData) (name : List ℕ) (h : HoldsRules cell.name cell.pins cell.groups cell.outputs cell.checks cell.arcs) where
-  groups_hold : IsTrue (are_groups_from cell.pins (length cell.pins) cell.groups)
-  groups_hold = (and_parts _ (are_groups_from cell.pins (length cell.pins) cell.groups) h.of_groups).1
-
-  outputs_hold : IsTrue (list_all (is_output_of cell.pins cell.groups) cell.outputs)
-  outputs_hold = (and_parts _ (list_all (is_output_of cell.pins cell.groups) cell.outputs) h.of_outputs).1
-
-  checks_hold : IsTrue (list_all (is_check cell.pins) cell.checks)
-  checks_hold = (and_parts _ (list_all (is_check cell.pins) cell.checks) h.of_checks).1
-
-  arcs_hold : IsTrue (list_all (is_arc cell.pins) cell.arcs)
-  arcs_hold =
-      (and_parts (list_all (is_arc cell.pins) cell.arcs) (is_in_order (map (λ (arc : Arc). arc.to) cell.arcs))
-      (and_parts _ (list_all (is_arc cell.pins) cell.arcs && is_in_order (map (λ (arc : Arc). arc.to) cell.arcs)) h.of_arcs).1).0
-
+module _ (cell : CellData) (name : List ℕ) (h : Rules cell) where
   abbrev entity : VEntity
   entity = entity_of cell name
 
@@ -116,7 +103,7 @@ module _ (cell : CellData) (name : List ℕ) (h : HoldsRules cell.name cell.pins
             (λ row m.
             state-width (has_violation cell) (length (support_at cell g)) (step_at cell g) row m
             ∙ ap (width (has_violation cell)) (sym (length-map (support_at cell g) (port_number cell.pins))));
-        fed = pins_feed (support_at cell g) (group_support-at cell.pins (length cell.pins) cell.groups g groups_hold);
+        fed = pins_feed (support_at cell g) (group_support-at cell.pins (length cell.pins) cell.groups g (groups_hold cell h));
         violated = by (has_violation cell) refl;
       }
     where
@@ -136,7 +123,7 @@ module _ (cell : CellData) (name : List ℕ) (h : HoldsRules cell.name cell.pins
       record {
         rows = all-from _ (condition_of cell.pins f).table.rows
             (λ row k. truth-width (length (support_of f)) (condition_at (support_of f) f) row k ∙ sym (length-map (support_of f) (port_number cell.pins)));
-        fed = pins_feed (support_of f) (condition-over cell checks_hold arcs_hold f m);
+        fed = pins_feed (support_of f) (condition-over cell (checks_hold cell h) (arcs_hold cell h) f m);
       }
 
   conditions_are : All (IsTruth entity) (map (condition_of cell.pins) (conditions_of cell))
@@ -186,13 +173,13 @@ module _ (cell : CellData) (name : List ℕ) (h : HoldsRules cell.name cell.pins
 
   path_is : (arc : Arc) → Among arc cell.arcs → IsPath entity (path_of cell arc)
   path_is arc m =
-      let starts = (and_parts (is_input_pin cell.pins arc.from) _ (all-among (is_arc cell.pins) cell.arcs arc arcs_hold m)).0 in
+      let starts = (and_parts (is_input_pin cell.pins arc.from) _ (all-among (is_arc cell.pins) cell.arcs arc (arcs_hold cell h) m)).0 in
       record { starts = input_port name cell.pins arc.from starts; gated = gate_is arc m arc.condition refl }
 
   output_is : (output : OutputPin) → Among output cell.outputs → IsOutput entity (output_of cell output)
   output_is output m =
       record {
-        valued = value_is output (all-among (is_output_of cell.pins cell.groups) cell.outputs output outputs_hold m);
+        valued = value_is output (all-among (is_output_of cell.pins cell.groups) cell.outputs output (outputs_hold cell h) m);
         paths =
             all-from (IsPath entity) (output_of cell output).paths
             (λ path k.
@@ -237,7 +224,7 @@ module _ (cell : CellData) (name : List ℕ) (h : HoldsRules cell.name cell.pins
 
   check_is : (k : Check) → Among k cell.checks → IsCheck entity (check_of cell k)
   check_is k m =
-      let holds = all-among (is_check cell.pins) cell.checks k checks_hold m in
+      let holds = all-among (is_check cell.pins) cell.checks k (checks_hold cell h) m in
       let parts = check_parts cell.pins k holds in
       let first = and_parts (is_input_pin cell.pins k.first.pin) _ holds in
       let second = and_parts (is_input_pin cell.pins k.second.pin) _ first.1 in

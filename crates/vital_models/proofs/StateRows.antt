@@ -1,25 +1,25 @@
 -- Rows of a step whose changes serve give the machine's steps.
-use Rattle.std.proofs.Common.{◌≡◌, ◌≢◌, ℕ, zero, suc, ◌<◌, ◌≤◌, Bool, true, false, cond, ◌&&◌, List, [], ◌∷◌, ◌++◌, length, replicate, get_or, inl, inr, refl, sym, ◌∙◌, ap, subst, arith}
+use Rattle.std.proofs.Common.{◌≡◌, ◌≢◌, ℕ, zero, suc, ◌<◌, Bool, true, false, cond, ◌&&◌, List, [], ◌∷◌, ◌++◌, length, replicate, get_or, inl, inr, refl, sym, ◌∙◌, ap, arith}
 use Rattle.std.specs.List.{list_any}
-use Rattle.std.proofs.lemmas.Bool.{cases_lt}
 use Rattle.trit_cubes.specs.declared.trits.Trit.{Trit}
 use Rattle.trit_cubes.specs.declared.trits.Trit.TheVariants.{Zero, One, Unknown}
 use Rattle.trit_cubes.specs.Filling.{same, covers}
 use Rattle.trit_cubes.specs.Sets.{gives}
-use Rattle.trit_cubes.specs.Prime.{prime_list}
 use Rattle.trit_cubes.proofs.ListLemmas.{Among, among-append, append-among_right}
-use Rattle.cell_machine.specs.Machine.{Step, insert, machine_step, forced_at, forced}
+use Rattle.cell_machine.specs.Machine.{Step, insert, machine_step, forced}
 use Rattle.cell_machine.proofs.ForcedLemmas.{forced_is_step-lem}
 use Rattle.udp_tables.specs.Tables.{first}
 use Rattle.udp_tables.specs.Edges.{forced_rows, each_below}
-use Rattle.udp_tables.proofs.FirstLemmas.{found-any, any-found, first-gives}
-use Rattle.udp_tables.proofs.ColumnLemmas.{length-insert, at-other}
-use Rattle.udp_tables.proofs.CubeLemmas.{known-or, prime-gives, prime-found, value_rows-among, among-value_rows, below-among, among-below}
+use Rattle.udp_tables.proofs.FirstLemmas.{found-any, any-found, cond-same, first-append, first-gives}
+use Rattle.udp_tables.proofs.ColumnLemmas.{length-insert}
+use Rattle.udp_tables.proofs.CubeLemmas.{known-or, among-below}
+use Rattle.udp_tables.proofs.ChangeColumns.{levels-cover}
+use Rattle.udp_tables.proofs.ForcedRows.{FitsForced, forced-given, forced-found, changed-own}
 use Rattle.vital_models.specs.declared.table.VStateRow.{VStateRow}
 use Rattle.vital_models.specs.Symbols.{next_of}
 use Rattle.vital_models.specs.LookUps.{state_matches, row_next, lookup_state}
 use Rattle.vital_models.specs.Rows.{violated, next_to, steady_row, level_row, violation_rows, closing_row, step_rows}
-use Rattle.vital_models.proofs.SymbolLemmas.{levels-cover, steady-matches, steady-moved, level_row-matches}
+use Rattle.vital_models.proofs.SymbolLemmas.{symbols-fit, steady-matches, steady-moved, level_row-matches}
 
 -- what the rows of the changes of each pin have to do
 pub record Serves (checks : Bool) (n : ℕ) (step : Step) (changes : ℕ → List VStateRow) : Type 0 where
@@ -45,17 +45,6 @@ next-value s Zero = refl
 next-value s One = refl
 next-value s Unknown = refl
 
--- one list of rows after another
-first-append :
-    {R V : Type 0} (hit : R → Bool) (value : R → V) (xs ys : List R) (o : V)
-    → first hit value (xs ++ ys) o ≡ first hit value xs (first hit value ys o)
-first-append hit value [] ys o = refl
-first-append hit value (x ∷ xs) ys o = ap (cond (hit x) (value x)) (first-append hit value xs ys o)
-
-cond-same : {V : Type 0} (b : Bool) (v : V) → cond b v v ≡ v
-cond-same true v = refl
-cond-same false v = refl
-
 -- the rows before the last one
 abbrev front : Bool → ℕ → Step → (ℕ → List VStateRow) → List VStateRow
 front checks n step changes =
@@ -80,32 +69,17 @@ violation-none true n row olds news x s m =
       | inr k ↦ absurd k
     ]
 
--- a row of levels that matches gives the forced value
-forced-given :
-    (checks : Bool) (n : ℕ) (step : Step) (row : VStateRow) (olds news : List Trit) (x y s : Trit)
-    → Among row (forced_rows (level_row checks) n step) → length olds ≡ n → length news ≡ n
-    → state_matches (violated checks x olds) (violated checks y news) s row ≡ true
-    → (v : Trit) × (v ≢ Unknown) × (forced step news ≡ v) × (row_next s row ≡ v)
-forced-given checks n step row olds news x y s m f g h =
-    let cubes = λ (v : Trit). prime_list n (gives v (forced_at step)) in
-    let r = value_rows-among (level_row checks) cubes row m in
-    let covered : covers r.2 news ≡ true
-    = sym (level_row-matches checks r.0 r.2 olds news x y s (f ∙ sym g))
-    ∙ ap (state_matches (violated checks x olds) (violated checks y news) s) r.4 ∙ h in
-    (r.0, r.1, prime-gives n (forced_at step) r.0 r.2 news r.1 g r.3 covered, ap (row_next s) (sym r.4) ∙ next-value s r.0)
-
--- some row of levels matches where the forced value is known
-forced-found :
-    (checks : Bool) (n : ℕ) (step : Step) (olds news : List Trit) (x y s : Trit)
-    → length olds ≡ n → length news ≡ n → forced step news ≢ Unknown
-    → list_any (state_matches (violated checks x olds) (violated checks y news) s) (forced_rows (level_row checks) n step) ≡ true
-forced-found checks n step olds news x y s f g known =
-    let cubes = λ (v : Trit). prime_list n (gives v (forced_at step)) in
-    let v : Trit = forced step news in
-    let r = prime-found n (forced_at step) v news known g refl in
-    found-any (state_matches (violated checks x olds) (violated checks y news) s) (level_row checks v r.0) (forced_rows (level_row checks) n step)
-    (among-value_rows (level_row checks) cubes v r.0 known r.1)
-    (level_row-matches checks v r.0 olds news x y s (f ∙ sym g) ∙ r.2)
+-- the rows of levels fit
+levels-fit :
+    (checks : Bool) (n : ℕ) (olds news : List Trit) (x y s : Trit)
+    → length olds ≡ n → length news ≡ n
+    → FitsForced VStateRow n news (level_row checks) (state_matches (violated checks x olds) (violated checks y news) s) (row_next s)
+levels-fit checks n olds news x y s f g =
+    record {
+      long = g;
+      made = λ v c long. level_row-matches checks v c olds news x y s (f ∙ sym g);
+      gives = λ v c. next-value s v;
+    }
 
 -- the first row keeps the state where nothing changes
 steady-hit :
@@ -149,39 +123,18 @@ change-given checks n step changes p a b others x s serves l long apart row m h 
       | inr rest ↦
           elim (among-append row (forced_rows (level_row checks) n step) (violation_rows checks n ++ each_below changes n) rest) [
             | inl k ↦
-                let r = forced-given checks n step row olds news x Zero s k f g h in
+                let r = forced-given step (levels-fit checks n olds news x Zero s f g) row k h in
                 r.3 ∙ sym (forced_is_step-lem step p a b others s r.0 r.2 r.1)
             | inr more ↦
                 elim (among-append row (violation_rows checks n) (each_below changes n) more) [
                   | inl k ↦ let clash : false ≡ true = sym (violation-none checks n row olds news x s k) ∙ h in absurd cc
-                  | inr k ↦ let r = below-among changes n row k in own r.0 r.1 r.2
+                  | inr k ↦
+                      serves.right p row a b others x Zero s l
+                      (changed-own changes (state_matches (violated checks x olds) (violated checks Zero news) s) n p a b others l long
+                      (λ q other inside c same_value. serves.still q other olds news x Zero s inside c f g same_value) row k h) long apart h
                 ]
           ]
     ]
-  where
-    own : (q : ℕ) → q < n → Among row (changes q) → row_next s row ≡ machine_step step p a b others s
-    own q inside k =
-        let f : length (insert p a others) ≡ n = length-insert p a others ∙ long in
-        let g : length (insert p b others) ≡ n = length-insert p b others ∙ long in
-        let within : p ≤ length others = omega arith in
-        elim (cases_lt q p) [
-          | inl less ↦
-              let differ : q ≢ p = omega arith in
-              let clash : false ≡ true
-              = sym (serves.still q row (insert p a others) (insert p b others) x Zero s inside k f g (at-other p q a b Unknown others differ within)) ∙ h in
-              absurd cc
-          | inr more ↦
-              elim (cases_lt p q) [
-                | inl less ↦
-                    let differ : q ≢ p = omega arith in
-                    let clash : false ≡ true
-                    = sym (serves.still q row (insert p a others) (insert p b others) x Zero s inside k f g (at-other p q a b Unknown others differ within)) ∙ h in
-                    absurd cc
-                | inr same_place ↦
-                    let e : q ≡ p = omega arith in
-                    serves.right p row a b others x Zero s l (subst (λ i. Among row (changes i)) e k) long apart h
-              ]
-        ]
 
 pub step_rows-change :
     (checks : Bool) (n : ℕ) (step : Step) (changes : ℕ → List VStateRow) (p : ℕ) (a b : Trit) (others : List Trit) (x s : Trit)
@@ -220,7 +173,7 @@ violation-decides :
     → first (state_matches (x ∷ olds) (Unknown ∷ inputs) s) (row_next s) (violation_rows true n ++ each_below changes n) Unknown ≡ Unknown
 violation-decides n changes x olds inputs s f g =
     ap (λ b. cond (b && true) Unknown (first (state_matches (x ∷ olds) (Unknown ∷ inputs) s) (row_next s) (each_below changes n) Unknown))
-    (levels-cover (replicate n Unknown) olds inputs (f ∙ sym g) ∙ free-covers n inputs g)
+    (levels-cover symbols-fit (replicate n Unknown) olds inputs (f ∙ sym g) ∙ free-covers n inputs g)
 
 -- With a violation the rows of levels decide, and else the row of the violation.
 pub step_rows-force :
@@ -237,9 +190,9 @@ step_rows-force n step changes x olds inputs s f g =
     ∙ first-append hit (row_next s) rows rest Unknown
     ∙ first-gives hit (row_next s) (forced step inputs) after rows
     (λ row m h.
-    let r = forced-given true n step row olds inputs x Unknown s m f g h in r.3 ∙ sym r.2)
+    let r = forced-given step (levels-fit true n olds inputs x Unknown s f g) row m h in r.3 ∙ sym r.2)
     (λ none.
     elim (known-or (forced step inputs)) [
-      | inl known ↦ let clash : false ≡ true = sym none ∙ forced-found true n step olds inputs x Unknown s f g known in absurd cc
+      | inl known ↦ let clash : false ≡ true = sym none ∙ forced-found step (levels-fit true n olds inputs x Unknown s f g) known in absurd cc
       | inr e ↦ unknown ∙ sym e
     ])

@@ -1,21 +1,20 @@
 -- What the symbols of generated rows match.
 use Rattle.std.proofs.Common.{◌≡◌, ℕ, zero, suc, ◌<◌, ◌≤◌, Bool, true, false, not, ◌&&◌, List, [], ◌∷◌, ◌++◌, map, length, replicate, get_or, refl, sym, ◌∙◌, ap, arith}
-use Rattle.std.proofs.lemmas.List.{length-map}
 use Rattle.trit_cubes.specs.declared.trits.Trit.{Trit}
 use Rattle.trit_cubes.specs.declared.trits.Trit.TheVariants.{Zero, One, Unknown}
 use Rattle.trit_cubes.specs.Filling.{same, covers}
-use Rattle.cell_machine.specs.Machine.{insert, without, init, last}
+use Rattle.cell_machine.specs.Machine.{insert, last}
 use Rattle.udp_tables.specs.Tables.{columns_match}
 use Rattle.udp_tables.specs.Edges.{moves}
-use Rattle.udp_tables.proofs.ColumnLemmas.{and-true, and-false, length-insert, at-insert, without-insert, columns-insert}
-use Rattle.udp_tables.proofs.CubeLemmas.{admits, same-self, covers-last}
-use Rattle.udp_tables.proofs.GroupLemmas.{length-init}
+use Rattle.udp_tables.proofs.ColumnLemmas.{and-true, and-false, length-insert, at-insert}
+use Rattle.udp_tables.proofs.CubeLemmas.{admits, same-self}
+use Rattle.udp_tables.proofs.ChangeColumns.{FitsEntries, levels-cover, change-kept, change-covers}
 use Rattle.vital_models.specs.declared.table.VSymbol.{VSymbol}
 use Rattle.vital_models.specs.declared.table.VSymbol.TheVariants as symbol
 use Rattle.vital_models.specs.declared.table.Trits.TheVariants as trits
 use Rattle.vital_models.specs.Symbols.{trits_match, level_matches, symbol_matches}
 use Rattle.vital_models.specs.LookUps.{state_matches}
-use Rattle.vital_models.specs.Rows.{level_of, level_symbol, edge_symbol, violated, level_row, edge_columns, edge_row}
+use Rattle.vital_models.specs.Rows.{level_of, level_symbol, edge_symbol, violated, level_row, edge_columns}
 
 -- levels of a cube match what the cube covers
 pub level-admits : (w t : Trit) → trits_match (level_of w) t ≡ admits w t
@@ -28,17 +27,6 @@ truth-covers [] [] = refl
 truth-covers [] (t ∷ ts) = refl
 truth-covers (w ∷ c) [] = refl
 truth-covers (w ∷ c) (t ∷ ts) = λ i. level-admits w t i && truth-covers c ts i
-
-pub levels-cover :
-    (c olds news : List Trit) → length olds ≡ length news → columns_match symbol_matches (map level_symbol c) olds news ≡ covers c news
-levels-cover [] [] [] e = refl
-levels-cover [] [] (n ∷ news) e = absurd (omega arith)
-levels-cover [] (o ∷ olds) [] e = absurd (omega arith)
-levels-cover [] (o ∷ olds) (n ∷ news) e = refl
-levels-cover (w ∷ c) [] [] e = refl
-levels-cover (w ∷ c) [] (n ∷ news) e = absurd (omega arith)
-levels-cover (w ∷ c) (o ∷ olds) [] e = absurd (omega arith)
-levels-cover (w ∷ c) (o ∷ olds) (n ∷ news) e = λ i. level-admits w n i && levels-cover c olds news (omega arith) i
 
 -- pins that keep their values
 pub steady-matches : (n : ℕ) (ts : List Trit) → length ts ≡ n → columns_match symbol_matches (replicate n symbol.Steady) ts ts ≡ true
@@ -85,7 +73,7 @@ falls Unknown b = sym (and-false (not (same Unknown b)))
 from-free : (x y : Bool) → (x && y) ≡ (x && (y && true))
 from-free x y = ap (λ z. x && z) (sym (and-true y))
 
-pub change-admits :
+change-admits :
     (old new a b : Trit) (rest : List Trit)
     → moves (old ∷ new ∷ rest) ≡ true
     → symbol_matches (edge_symbol old new) a b ≡ (not (same a b) && (admits old a && admits new b))
@@ -113,7 +101,7 @@ unmoved : (t : Trit) (b : Bool) → (not (same t t) && b) ≡ false
 unmoved t b = ap (λ s. not s && b) (same-self t)
 
 -- an edge does not match a column that keeps its value
-pub change-still : (old new t : Trit) → symbol_matches (edge_symbol old new) t t ≡ false
+change-still : (old new t : Trit) → symbol_matches (edge_symbol old new) t t ≡ false
 change-still Zero Zero t = unmoved t (same Zero t)
 change-still Zero One t = rise-still t
 change-still Zero Unknown t = unmoved t (same Zero t)
@@ -124,8 +112,16 @@ change-still Unknown Zero t = unmoved t (same Zero t)
 change-still Unknown One t = unmoved t (same One t)
 change-still Unknown Unknown t = ap not (same-self t)
 
+pub symbols-fit : FitsEntries VSymbol symbol_matches level_symbol edge_symbol
+symbols-fit =
+    record {
+      levels = λ w old new. level-admits w new;
+      edges = λ old new a b rest m apart. change-admits old new a b rest m ∙ ap (λ t. not t && (admits old a && admits new b)) apart;
+      stays = change-still;
+    }
+
 -- a free violation column matches all
-pub free-violation :
+free-violation :
     (checks : Bool) (es : List VSymbol) (olds news : List Trit) (x y : Trit)
     → columns_match symbol_matches (violated checks (symbol.Level trits.Any) es) (violated checks x olds) (violated checks y news)
     ≡ columns_match symbol_matches es olds news
@@ -140,63 +136,31 @@ pub level_row-matches :
 level_row-matches checks v c olds news x y s e =
     and-true (columns_match symbol_matches (violated checks (symbol.Level trits.Any) (map level_symbol c)) (violated checks x olds) (violated checks y news))
     ∙ free-violation checks (map level_symbol c) olds news x y
-    ∙ levels-cover c olds news e
+    ∙ levels-cover symbols-fit c olds news e
 
 -- the columns of a change
-change-columns :
-    (checks : Bool) (p : ℕ) (old new r : Trit) (rest olds news : List Trit) (x y : Trit)
-    → p ≤ length rest → length olds ≡ suc (length rest) → length news ≡ suc (length rest)
-    → columns_match symbol_matches (violated checks (symbol.Level trits.Any) (edge_columns p (old ∷ new ∷ r ∷ rest))) (violated checks x olds) (violated checks y news)
-    ≡ (symbol_matches (edge_symbol old new) (get_or olds p Unknown) (get_or news p Unknown)
-    && columns_match symbol_matches (map level_symbol (init (r ∷ rest))) (without p olds) (without p news))
-change-columns checks p old new r rest olds news x y l f g =
-    let es : List VSymbol = map level_symbol (init (r ∷ rest)) in
-    let few : length es ≡ length rest = length-map (init (r ∷ rest)) level_symbol ∙ length-init r rest in
-    free-violation checks (insert p (edge_symbol old new) es) olds news x y
-    ∙ columns-insert symbol_matches p (edge_symbol old new) es olds news (omega arith) (omega arith) (omega arith)
-
-pub change-kept :
+pub columns-kept :
     (checks : Bool) (p : ℕ) (c olds news : List Trit) (x y : Trit) (n : ℕ)
     → p < n → length c ≡ suc (suc n) → length olds ≡ n → length news ≡ n
     → get_or olds p Unknown ≡ get_or news p Unknown
     → columns_match symbol_matches (violated checks (symbol.Level trits.Any) (edge_columns p c)) (violated checks x olds) (violated checks y news) ≡ false
-change-kept checks p [] olds news x y n l e f g h = absurd (omega arith)
-change-kept checks p (old ∷ []) olds news x y n l e f g h = absurd (omega arith)
-change-kept checks p (old ∷ new ∷ []) olds news x y n l e f g h = absurd (omega arith)
-change-kept checks p (old ∷ new ∷ r ∷ rest) olds news x y n l e f g h =
-    let others : Bool = columns_match symbol_matches (map level_symbol (init (r ∷ rest))) (without p olds) (without p news) in
-    change-columns checks p old new r rest olds news x y (omega arith) (omega arith) (omega arith)
-    ∙ ap (λ t. symbol_matches (edge_symbol old new) t (get_or news p Unknown) && others) h
-    ∙ ap (λ b. b && others) (change-still old new (get_or news p Unknown))
+columns-kept checks p [] olds news x y n l e f g h = absurd (omega arith)
+columns-kept checks p (old ∷ []) olds news x y n l e f g h = absurd (omega arith)
+columns-kept checks p (old ∷ new ∷ []) olds news x y n l e f g h = absurd (omega arith)
+columns-kept checks p (old ∷ new ∷ r ∷ rest) olds news x y n l e f g h =
+    free-violation checks (edge_columns p (old ∷ new ∷ r ∷ rest)) olds news x y
+    ∙ change-kept symbols-fit p old new r rest olds news (omega arith) (omega arith) (omega arith) h
 
--- A row of a change matches the changes that its cube covers.
-regroup : (x y c d : Bool) → (((x && y) && c) && d) ≡ (x && (y && (c && d)))
-regroup true true c d = refl
-regroup true false c d = refl
-regroup false y c d = refl
-
-pub change-matches :
-    (checks : Bool) (p : ℕ) (v : Trit) (c : List Trit) (a b : Trit) (others : List Trit) (x y s : Trit)
+pub columns-cover :
+    (checks : Bool) (p : ℕ) (c : List Trit) (a b : Trit) (others : List Trit) (x y t : Trit)
     → p ≤ length others → length c ≡ suc (suc (suc (length others))) → same a b ≡ false → moves c ≡ true
-    → state_matches (violated checks x (insert p a others)) (violated checks y (insert p b others)) s (edge_row checks p v c)
-    ≡ covers c (a ∷ b ∷ others ++ s ∷ [])
-change-matches checks p v [] a b others x y s l e h m = absurd (omega arith)
-change-matches checks p v (old ∷ []) a b others x y s l e h m = absurd (omega arith)
-change-matches checks p v (old ∷ new ∷ []) a b others x y s l e h m = absurd (omega arith)
-change-matches checks p v (old ∷ new ∷ r ∷ rest) a b others x y s l e h m =
-    let es : List VSymbol = map level_symbol (init (r ∷ rest)) in
-    let state : Bool = trits_match (level_of (last Unknown (r ∷ rest))) s in
-    let olds : List Trit = insert p a others in
-    let news : List Trit = insert p b others in
-    let few : length others ≡ length rest = omega arith in
-    let columns = change-columns checks p old new r rest olds news x y (omega arith) (length-insert p a others ∙ ap suc few) (length-insert p b others ∙ ap suc few) in
-    let at_change : symbol_matches (edge_symbol old new) (get_or olds p Unknown) (get_or news p Unknown) ≡ (admits old a && admits new b)
-    = (λ i. symbol_matches (edge_symbol old new) (at-insert p a Unknown others l i) (at-insert p b Unknown others l i))
-    ∙ change-admits old new a b (r ∷ rest) m ∙ ap (λ t. not t && (admits old a && admits new b)) h in
-    let at_others : columns_match symbol_matches es (without p olds) (without p news) ≡ covers (init (r ∷ rest)) others
-    = (λ i. columns_match symbol_matches es (without-insert p a others l i) (without-insert p b others l i))
-    ∙ levels-cover (init (r ∷ rest)) others others refl in
-    ap (λ t. t && state) columns
-    ∙ (λ i. (at_change i && at_others i) && level-admits (last Unknown (r ∷ rest)) s i)
-    ∙ regroup (admits old a) (admits new b) (covers (init (r ∷ rest)) others) (admits (last Unknown (r ∷ rest)) s)
-    ∙ ap (λ t. admits old a && (admits new b && t)) (sym (covers-last (r ∷ rest) others s (omega arith)))
+    → covers c (a ∷ b ∷ others ++ t ∷ [])
+    ≡ (columns_match symbol_matches (violated checks (symbol.Level trits.Any) (edge_columns p c)) (violated checks x (insert p a others)) (violated checks y (insert p b others))
+    && admits (last Unknown c) t)
+columns-cover checks p [] a b others x y t l e apart m = absurd (omega arith)
+columns-cover checks p (old ∷ []) a b others x y t l e apart m = absurd (omega arith)
+columns-cover checks p (old ∷ new ∷ []) a b others x y t l e apart m = absurd (omega arith)
+columns-cover checks p (old ∷ new ∷ r ∷ rest) a b others x y t l e apart m =
+    sym (ap (λ q. q && admits (last Unknown (r ∷ rest)) t)
+    (free-violation checks (edge_columns p (old ∷ new ∷ r ∷ rest)) (insert p a others) (insert p b others) x y)
+    ∙ change-covers symbols-fit p old new r rest a b others t l (omega arith) apart m)

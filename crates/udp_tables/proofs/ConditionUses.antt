@@ -1,4 +1,5 @@
--- The conditions of a cell: each is over its input pins, and each that a check or an arc names has its number.
+-- The conditions of a cell: what holds of those of its checks and arcs holds of each, and each that a check or an arc names has its
+-- number.
 use Rattle.std.proofs.Common.{◌≡◌, ℕ, ◌<◌, Bool, true, false, not, ◌&&◌, List, [], ◌∷◌, ◌++◌, length, ◌⊎◌, inl, inr, refl, sym, subst, IsTrue, Option, Some, None, flat_map, if◌then◌else◌}
 use Rattle.std.specs.Prelude.{filter}
 use Rattle.std.specs.List.{list_any, list_all}
@@ -62,21 +63,6 @@ arc-numbered cell arc f m h =
     (append-among_right f (flat_map (λ (k : Check). condition_list k.condition) cell.checks) (flat_map (arc_conditions cell.arcs) cell.arcs)
     (flat-among (arc_conditions cell.arcs) f cell.arcs arc m h)))
 
--- a function over input pins alone
-abbrev pub is_over : List Pin → Node → Bool
-is_over pins f = list_all (is_input_pin pins) (support_of f)
-
-over : (pins : List Pin) (apart : List ℕ) (o : Option Node) (f : Node) → IsTrue (is_condition pins apart o) → Among f (condition_list o) → IsTrue (is_over pins f)
-over pins apart None f h m = absurd m
-over pins apart (Some g) f h m =
-    elim m [
-      | inl e ↦
-          subst (λ t. IsTrue (is_over pins t)) e
-          (list_all-implied (λ i. is_input_pin pins i && not (has apart i)) (is_input_pin pins) (support_of g)
-          (λ i k. (and_parts (is_input_pin pins i) (not (has apart i)) k).0) (and_parts _ _ (and_parts _ _ h).1).1)
-      | inr k ↦ absurd k
-    ]
-
 -- what trees are added to a list
 added-among : (trees : List Node) (f g : Node) (b : Bool) → Among g (if b then trees else trees ++ f ∷ []) → Among g trees ⊎ (f ≡ g)
 added-among trees f g true m = inl m
@@ -98,35 +84,53 @@ all-added-among trees (f ∷ fs) g m =
       | inr h ↦ inr (inr h)
     ]
 
-module _ (cell : CellData) (checks : IsTrue (list_all (is_check cell.pins) cell.checks)) (arcs : IsTrue (list_all (is_arc cell.pins) cell.arcs)) where
-  check-over : (k : Check) (f : Node) → Among k cell.checks → Among f (condition_list k.condition) → IsTrue (is_over cell.pins f)
-  check-over k f m h =
-      over cell.pins (k.first.pin ∷ k.second.pin ∷ []) k.condition f
-      (check_parts cell.pins k (all-among (is_check cell.pins) cell.checks k checks m)).enabled h
-
-  own-over : (arc : Arc) (f : Node) → Among arc cell.arcs → Among f (condition_list arc.condition) → IsTrue (is_over cell.pins f)
-  own-over arc f m h =
-      over cell.pins (arc.from ∷ []) arc.condition f
-      (arc_condition cell.pins arc (all-among (is_arc cell.pins) cell.arcs arc arcs m)) h
-
-  arc-over :
+-- what holds of the conditions of checks and of arcs holds of all
+module _
+    (P : Node → Type 0) (cell : CellData)
+    (of_checks : (k : Check) → Among k cell.checks → (f : Node) → Among f (condition_list k.condition) → P f)
+    (of_arcs : (arc : Arc) → Among arc cell.arcs → (f : Node) → Among f (condition_list arc.condition) → P f) where
+  of_arc :
       (arc : Arc) (o : Option Node) (f : Node)
-      → (Among f (condition_list o) → IsTrue (is_over cell.pins f)) → Among f (conditions_by cell.arcs arc o) → IsTrue (is_over cell.pins f)
-  arc-over arc (Some g) f own m = own m
-  arc-over arc None f own m =
+      → (Among f (condition_list o) → P f) → Among f (conditions_by cell.arcs arc o) → P f
+  of_arc arc (Some g) f own m = own m
+  of_arc arc None f own m =
       let r = among-flat (λ (other : Arc). condition_list other.condition) f (filter (same_pins arc) cell.arcs) m in
-      own-over r.0 f (among-filter (same_pins arc) r.0 cell.arcs r.1).0 r.2
+      of_arcs r.0 (among-filter (same_pins arc) r.0 cell.arcs r.1).0 f r.2
 
-  -- each condition of a cell is over its input pins
-  pub condition-over : (f : Node) → Among f (conditions_of cell) → IsTrue (is_over cell.pins f)
-  condition-over f m =
+  pub conditions-each : (f : Node) → Among f (conditions_of cell) → P f
+  conditions-each f m =
       elim (all-added-among [] (used_conditions cell) f m) [
         | inl h ↦ absurd h
         | inr h ↦
             elim (among-append f (flat_map (λ (k : Check). condition_list k.condition) cell.checks) (flat_map (arc_conditions cell.arcs) cell.arcs) h) [
-              | inl k ↦ let r = among-flat (λ (k : Check). condition_list k.condition) f cell.checks k in check-over r.0 f r.1 r.2
+              | inl k ↦ let r = among-flat (λ (k : Check). condition_list k.condition) f cell.checks k in of_checks r.0 r.1 f r.2
               | inr k ↦
                   let r = among-flat (arc_conditions cell.arcs) f cell.arcs k in
-                  arc-over r.0 r.0.condition f (λ own. own-over r.0 f r.1 own) r.2
+                  of_arc r.0 r.0.condition f (λ own. of_arcs r.0 r.1 f own) r.2
             ]
       ]
+
+-- a function over input pins alone
+abbrev pub is_over : List Pin → Node → Bool
+is_over pins f = list_all (is_input_pin pins) (support_of f)
+
+over : (pins : List Pin) (apart : List ℕ) (o : Option Node) (f : Node) → IsTrue (is_condition pins apart o) → Among f (condition_list o) → IsTrue (is_over pins f)
+over pins apart None f h m = absurd m
+over pins apart (Some g) f h m =
+    elim m [
+      | inl e ↦
+          subst (λ t. IsTrue (is_over pins t)) e
+          (list_all-implied (λ i. is_input_pin pins i && not (has apart i)) (is_input_pin pins) (support_of g)
+          (λ i k. (and_parts (is_input_pin pins i) (not (has apart i)) k).0) (and_parts _ _ (and_parts _ _ h).1).1)
+      | inr k ↦ absurd k
+    ]
+
+-- each condition of a cell is over its input pins
+pub condition-over :
+    (cell : CellData) → IsTrue (list_all (is_check cell.pins) cell.checks) → IsTrue (list_all (is_arc cell.pins) cell.arcs)
+    → (f : Node) → Among f (conditions_of cell) → IsTrue (is_over cell.pins f)
+condition-over cell checks arcs =
+    conditions-each (λ f. IsTrue (is_over cell.pins f)) cell
+    (λ k m f h.
+    over cell.pins (k.first.pin ∷ k.second.pin ∷ []) k.condition f (check_parts cell.pins k (all-among (is_check cell.pins) cell.checks k checks m)).enabled h)
+    (λ arc m f h. over cell.pins (arc.from ∷ []) arc.condition f (arc_condition cell.pins arc (all-among (is_arc cell.pins) cell.arcs arc arcs m)) h)

@@ -4,7 +4,6 @@ use Rattle.std.specs.List.{list_any}
 use Rattle.trit_cubes.specs.declared.trits.Trit.{Trit}
 use Rattle.trit_cubes.specs.declared.trits.Trit.TheVariants.{Zero, One, Unknown}
 use Rattle.trit_cubes.specs.Filling.{same, covers}
-use Rattle.trit_cubes.specs.Sets.{gives}
 use Rattle.trit_cubes.proofs.ListLemmas.{Among, among-append, append-among_right}
 use Rattle.cell_machine.specs.Machine.{Step, insert, machine_step, forced}
 use Rattle.cell_machine.proofs.ForcedLemmas.{forced_is_step-lem}

@@ -4,6 +4,7 @@ use Rattle.std.specs.Prelude.{ℕ, List, ◌++◌, codes, decimal, if◌then◌e
 use Rattle.cell_machine.specs.CellRules.{is_name}
 use Rattle.cell_reader.specs.declared.refusal.Refusal.{Refusal}
 use Rattle.cell_reader.specs.ReasonWords.{number_of_reason, word_of_reason}
+use Rattle.command_outcomes.specs.Refusals.{refusal_text}
 
 -- a name as the report shows it: one that no cell may bear, for its length or a byte of it, is a question mark
 unfoldable pub printed_name : List ℕ → List ℕ
@@ -13,20 +14,13 @@ printed_name name = if is_name name then name else codes "?"
 unfoldable pub cell_text : ℕ → List ℕ → List ℕ
 cell_text number name = codes "cell " ++ (decimal number ++ (codes " " ++ printed_name name))
 
--- the end of a line on a cell that is refused: the reason's number and word, and the offset of the statement or group that
--- meets it
-unfoldable pub refusal_text : Refusal → List ℕ
-refusal_text refusal =
-    codes " refused " ++ (decimal (number_of_reason refusal.reason) ++ (codes " " ++ (word_of_reason refusal.reason ++ (codes " at "
-    ++ (decimal refusal.at ++ codes "\n")))))
-
 -- a cell that is accepted
 unfoldable pub accepted_line : ℕ → List ℕ → List ℕ
 accepted_line number name = cell_text number name ++ codes " ok\n"
 
--- a cell that is refused
+-- a cell that is refused, with the offset of the statement or group that meets the reason
 unfoldable pub refused_line : ℕ → List ℕ → Refusal → List ℕ
-refused_line number name refusal = cell_text number name ++ refusal_text refusal
+refused_line number name refusal = cell_text number name ++ refusal_text (number_of_reason refusal.reason) (word_of_reason refusal.reason) refusal.at
 
 -- the last line of a library that was read to its end
 unfoldable pub totals_line : ℕ → ℕ → List ℕ

@@ -2,10 +2,11 @@
 ghost use Rattle.std.specs.Prelude.{◌≡◌};
 ghost use Rattle.text_io.specs.declared.slots.OutSlot.TheVariants.{Report};
 ghost use Rattle.text_io.specs.Desk.{HasCause, WritesText};
-ghost use Rattle.library_report.specs.CellLines.{cell_text, printed_name as printed_name_of, refusal_text, accepted_line, refused_line, totals_line};
+ghost use Rattle.library_report.specs.CellLines.{cell_text, printed_name as printed_name_of, accepted_line, refused_line, totals_line};
 
 use cell_parts::declarations::is_name;
 use cell_reader::Refusal;
+use command_outcomes::write_refusal;
 use itoa::Buffer;
 use text_io::{Desk, Failed, OutSlot, write_pieces, write_whole};
 
@@ -34,7 +35,14 @@ pub fn write_refused_cell<D: Desk>(
     ensures cause { HasCause (D.faults desk.old) (D.faults desk.new) result }
 {
     write_cell(desk, number, name)?;
-    write_refusal(desk, refusal)
+    let reason = refusal.reason;
+    write_refusal(
+        desk,
+        OutSlot::Report,
+        reason.number(),
+        reason.word(),
+        refusal.at,
+    )
 }
 
 /// The front of a line on a cell.
@@ -52,29 +60,6 @@ fn write_cell<D: Desk>(desk: &mut D, number: usize, name: &[u8]) -> Result<(), F
             digits.format(number).as_bytes(),
             b" ",
             printed_name(name),
-        ],
-    )
-}
-
-/// Why a cell is refused, and where.
-#[tactic(auto, unfolding(crate::specs::CellLines::refusal_text))]
-fn write_refusal<D: Desk>(desk: &mut D, refusal: &Refusal) -> Result<(), Failed>
-    ensures text { WritesText (D.state desk.old) (D.state desk.new) Report (refusal_text refusal.now) result }
-    ensures cause { HasCause (D.faults desk.old) (D.faults desk.new) result }
-{
-    let mut reason = Buffer::new();
-    let mut offset = Buffer::new();
-    write_pieces(
-        desk,
-        OutSlot::Report,
-        &[
-            b" refused ",
-            reason.format(refusal.reason.number()).as_bytes(),
-            b" ",
-            refusal.reason.word(),
-            b" at ",
-            offset.format(refusal.at).as_bytes(),
-            b"\n",
         ],
     )
 }

@@ -10,4 +10,4 @@ returns-in_err-write_cell-clause-text g c =
 pub returns-clause-text : goal.returns-clause-text
 unfolding refused_line
 returns-clause-text g c =
-    goes_on _ _ _ _ _ _ _ c.in_ok-write_cell.ensures.text.whole c.write_refusal.ensures.text
+    goes_on _ _ _ _ _ _ _ c.in_ok-write_cell.ensures.text.whole (rw (c.number.ensures, c.word.ensures) at c.write_refusal.ensures.text)

@@ -1,30 +1,34 @@
--- What is counted of the items of a library.
-use Rattle.std.proofs.Common.{◌≡◌, ℕ, ◌+◌, List, [], ◌∷◌, ◌++◌, length, None, Result, Ok, IsErr, refl, sym, ap, subst, ◌∙◌, append_assoc, length-append, arith}
-use Rattle.std.proofs.lemmas.List.{append-nil}
+-- What is counted of the cells of a library, one cell after another.
+use Rattle.std.proofs.Common.{◌≡◌, ℕ, ◌+◌, ◌<◌, List, [], ◌∷◌, ◌++◌, Some, None, Ok, sym, ap, ◌∙◌, arith}
+use Rattle.text_io.specs.Desk.{DeskState}
 use Rattle.text_io.specs.declared.slots.InSlot.TheVariants.{Library}
-use Rattle.text_io.specs.Desk.{DeskState, took}
-use Rattle.text_io.proofs.Took.{took-zero, took_more}
 use Rattle.liberty_groups.specs.declared.tree.Group.{Group}
-use Rattle.cell_machine.specs.CellData.{CellData}
-use Rattle.cell_cursor.specs.declared.item.LibraryItem.{LibraryItem}
-use Rattle.cell_cursor.specs.declared.cursor.CellCursor.{CellCursor}
-use Rattle.cell_cursor.specs.Stands.{Stands, Moves}
+use Rattle.cell_machine.specs.CellData.{data_of}
+use Rattle.cell_cursor.specs.Ends.{items_within}
 use Rattle.cell_reader.specs.declared.read.ReadCell.{ReadCell}
+use Rattle.cell_reader.specs.declared.refusal.Refusal.{Refusal}
 use Rattle.cell_reader.specs.LibraryCells.{CellEntry}
-use Rattle.library_items.specs.declared.stop.Stop.{Stop}
-use Rattle.library_items.specs.declared.progress.Progress.{Progress}
 use Rattle.library_items.specs.declared.ending.Ending.{Ending}
-use Rattle.library_items.specs.Progress.{no_progress, next_number, next_data, after_item, progress_after}
-use Rattle.library_items.specs.Steps.{IsAtEnd, TellsEnd}
+use Rattle.library_items.specs.declared.next.NextCell.TheVariants as next
+use Rattle.library_items.specs.declared.progress.Progress.{Progress}
+use Rattle.library_items.specs.Folds.{IsNumberedNext, FoldsCells}
+use Rattle.library_items.specs.KeptCells.{kept_by, next_entry, kept_cells}
 use Rattle.library_items.specs.NextCells.{IsAcceptedNext}
-use Rattle.library_items.specs.KeptCells.{item_kept, kept_cells}
-use Rattle.library_items.proofs.Fronts.{IfSome-each, IfOk-error}
-use Rattle.library_items.proofs.Following.{follows_start, follows_next, all_given}
+use Rattle.library_items.specs.Progress.{no_progress, next_refusal, next_data}
+use Rattle.library_items.proofs.Fronts.{IfSome-each}
 use Rattle.selftest_runs.specs.declared.counts.Counts.{Counts}
 use Rattle.selftest_runs.specs.Counts.{no_counts, plus}
-use Rattle.selftest_runs.specs.LibraryCounts.{counted, all_counts, counts_within, HasCounted, CountsCells}
+use Rattle.selftest_runs.specs.CellCounts.{cell_counts}
+use Rattle.selftest_runs.specs.LibraryCounts.{counted, all_counts, counts_within, CountsCells}
 
 -- Sums of counts.
+
+plus-none : (a : Counts) → plus a no_counts ≡ a
+plus-none a =
+    let known : a.known + 0 ≡ a.known = omega arith in
+    let verilog : a.verilog + 0 ≡ a.verilog = omega arith in
+    let vital : a.vital + 0 ≡ a.vital = omega arith in
+    λ i. record { known = known i; verilog = verilog i; vital = vital i }
 
 none-plus : (a : Counts) → plus no_counts a ≡ a
 none-plus a =
@@ -40,92 +44,47 @@ plus-plus a b c =
     let vital : (a.vital + b.vital) + c.vital ≡ a.vital + (b.vital + c.vital) = omega arith in
     λ i. record { known = known i; verilog = verilog i; vital = vital i }
 
-all_counts-append : (xs ys : List CellEntry) → all_counts (xs ++ ys) ≡ plus (all_counts xs) (all_counts ys)
-all_counts-append [] ys = sym (none-plus (all_counts ys))
-all_counts-append (x ∷ xs) ys = ap (plus (counted x)) (all_counts-append xs ys) ∙ sym (plus-plus (counted x) (all_counts xs) (all_counts ys))
+-- one cell more
+all_counts-more : (cells : List CellEntry) (x : CellEntry) → all_counts (cells ++ x ∷ []) ≡ plus (all_counts cells) (counted x)
+all_counts-more [] x = plus-none (counted x) ∙ sym (none-plus (counted x))
+all_counts-more (y ∷ cells) x = ap (plus (counted y)) (all_counts-more cells x) ∙ sym (plus-plus (counted y) (all_counts cells) (counted x))
 
--- The next cell is read with its number.
-pub accepted_number : (p : Progress) (group : Group) (read : ReadCell) (entity : List ℕ) → IsAcceptedNext p group read entity → read.cell.number ≡ next_number p
+-- The next cell.
+
+-- it is read with its number
+pub accepted_number : (group : Group) (read : ReadCell) (entity : List ℕ) → (p : Progress) × IsNumberedNext p group (next.Accepted read entity)
+    → read.cell.number < 2147483648
 unfolding next_data
-accepted_number p group read entity h = ap (λ (d : CellData). d.number) h.same_cell
+accepted_number group read entity (p, h) = rw (ap (λ d. d.number) h.is.same_cell) h.numbered
 
--- What is kept of some items, and then of one more.
+-- what is counted of it
+pub accepted_counted : (p : Progress) (group : Group) (read : ReadCell) (entity : List ℕ) (before more after : Counts) (cells : List CellEntry)
+    → IsAcceptedNext p group read entity → before ≡ all_counts cells → more ≡ cell_counts (data_of read.cell) entity → after ≡ plus before more
+    → after ≡ all_counts (cells ++ next_entry p group ∷ [])
+accepted_counted p group read entity before more after cells h so_far here sum =
+    let entry : next_entry p group ≡ kept_by p group None = ap (kept_by p group) h.unrefused in
+    let this : more ≡ counted (next_entry p group) =
+    here ∙ (λ i. cell_counts (h.same_cell i) (h.same_entity i)) ∙ sym (ap counted entry) in
+    sum ∙ (λ i. plus (so_far i) (this i)) ∙ sym (all_counts-more cells (next_entry p group))
 
-kept-append : (p : Progress) (xs ys : List LibraryItem) → kept_cells p (xs ++ ys) ≡ kept_cells p xs ++ kept_cells (progress_after p xs) ys
-kept-append p [] ys = refl
-kept-append p (x ∷ xs) ys =
-    ap (λ cells. item_kept p x ++ cells) (kept-append (after_item p x) xs ys) ∙ sym (append_assoc (item_kept p x) _ _)
+pub refused_counted : (p : Progress) (group : Group) (refusal : Refusal) (counts : Counts) (cells : List CellEntry)
+    → next_refusal p group ≡ Some refusal → counts ≡ all_counts cells → counts ≡ all_counts (cells ++ next_entry p group ∷ [])
+refused_counted p group refusal counts cells h so_far =
+    let none : counted (next_entry p group) ≡ no_counts = ap (λ why. counted (kept_by p group why)) h in
+    so_far ∙ sym (plus-none (all_counts cells)) ∙ ap (plus (all_counts cells)) (sym none) ∙ sym (all_counts-more cells (next_entry p group))
 
-kept-more : (p q : Progress) (xs : List LibraryItem) (x : LibraryItem) → q ≡ progress_after p xs
-    → kept_cells p xs ++ item_kept q x ≡ kept_cells p (xs ++ x ∷ [])
-kept-more p q xs x e =
-    ap (λ r. kept_cells p xs ++ item_kept r x) e
-    ∙ ap (λ cells. kept_cells p xs ++ cells) (sym (append-nil (item_kept (progress_after p xs) x)))
-    ∙ sym (kept-append p xs (x ∷ []))
+-- The library.
 
--- The loop.
+-- this was counted of the cells
+abbrev IsCounted : Counts → List CellEntry → Type 0
+IsCounted counts cells = counts ≡ all_counts cells
 
--- before the first item
-counted_first : (limit : ℕ) (base : DeskState) (c : CellCursor) → c.limit ≡ limit → Stands c [] [] → c.answer ≡ None → HasCounted limit base base no_progress no_counts c
-unfolding follows_start
-counted_first limit base c l h e = record {
-  follows = follows_start limit base no_progress c l h e;
-  state = sym (took-zero base Library);
-  counted = refl;
-}
-
-pub counted_start : (limit : ℕ) (base : DeskState) (p : Progress) (counts : Counts) (c : CellCursor) → c.limit ≡ limit → Stands c [] [] → c.answer ≡ None
-    → p ≡ no_progress → counts ≡ no_counts → HasCounted limit base base p counts c
-counted_start limit base p counts c l h e fresh none =
-    subst (λ q. HasCounted limit base base q counts c) (sym fresh)
-    (subst (λ (found : Counts). HasCounted limit base base no_progress found c) (sym none) (counted_first limit base c l h e))
-
--- some bytes of the library more
-more_taken : (base now next : DeskState) (a b : List ℕ) → now ≡ took base Library (length a) → next ≡ took now Library (length b)
-    → next ≡ took base Library (length (a ++ b))
-more_taken base now next a b first second =
-    took_more base now next Library (length a) (length b) first second ∙ ap (took base Library) (sym (length-append a b))
-
--- after one more item
-pub counted_next : (limit : ℕ) (base now next : DeskState) (p q : Progress) (counts more : Counts) (c d : CellCursor) (x : LibraryItem)
-    → HasCounted limit base now p counts c → Moves c d now next (x ∷ []) → (IsAtEnd c now → IsAtEnd d next) → more ≡ plus counts (all_counts (item_kept p x)) → q ≡ after_item p x
-    → HasCounted limit base next q more d
-unfolding follows_next
-counted_next limit base now next p q counts more c d x h m a w e = record {
-  follows = follows_next limit (base.left Library) now next next no_progress p q c d x h.follows m a refl e;
-  state = more_taken base now next h.follows.taken m.taken h.state m.takes.state;
-  counted = w ∙ ap (λ first. plus first (all_counts (item_kept p x))) h.counted
-      ∙ sym (all_counts-append (kept_cells no_progress h.follows.items) (item_kept p x))
-      ∙ ap all_counts (kept-more no_progress p h.follows.items x h.follows.progress);
-}
-
--- a stop before anything was read
-pub counts_first : (limit : ℕ) (base : DeskState) (r : Result Counts Stop) → IsErr r → CountsCells limit base base r
-counts_first limit base r e = record { taken = 0; state = sym (took-zero base Library); counts = IfOk-error r _ e }
-
--- a stop where the next item is sought
-pub counts_seeking : (limit : ℕ) (base now next : DeskState) (p : Progress) (counts : Counts) (c d : CellCursor) (given : List LibraryItem) (r : Result Counts Stop)
-    → HasCounted limit base now p counts c → Moves c d now next given → IsErr r → CountsCells limit base next r
-counts_seeking limit base now next p counts c d given r h m e = record {
-  taken = length (h.follows.taken ++ m.taken);
-  state = more_taken base now next h.follows.taken m.taken h.state m.takes.state;
-  counts = IfOk-error r _ e;
-}
-
--- a stop between two items
-pub counts_between : (limit : ℕ) (base now : DeskState) (p : Progress) (counts : Counts) (c : CellCursor) (r : Result Counts Stop)
-    → HasCounted limit base now p counts c → IsErr r → CountsCells limit base now r
-counts_between limit base now p counts c r h e = record { taken = length h.follows.taken; state = h.state; counts = IfOk-error r _ e }
-
--- at the end
-pub counts_all : (limit : ℕ) (base now next : DeskState) (p : Progress) (counts : Counts) (c d : CellCursor) (e : Ending)
-    → HasCounted limit base now p counts c → Moves c d now next [] → (IsAtEnd c now → IsAtEnd d next) → TellsEnd d e
-    → CountsCells limit base next (Ok counts)
+pub counts_all : (limit : ℕ) (old new : DeskState) (counts : Counts) (e : Ending)
+    → FoldsCells (IsCounted counts) limit old new (Ok e) → CountsCells limit old new (Ok counts)
 unfolding counts_within
-counts_all limit base now next p counts c d e h m a t = record {
-  taken = length (h.follows.taken ++ m.taken);
-  state = more_taken base now next h.follows.taken m.taken h.state m.takes.state;
-  counts = IfSome-each (base.left Library) (λ bytes. counts ≡ counts_within limit bytes) (λ bytes left.
-      let known = all_given limit (base.left Library) now next no_progress p c d e bytes h.follows m a t left in
-      h.counted ∙ ap (λ items. all_counts (kept_cells no_progress items)) known.0);
+counts_all limit old new counts e f = record {
+  taken = f.taken;
+  state = f.state;
+  counts = IfSome-each (old.left Library) (λ bytes. counts ≡ counts_within limit bytes) (λ bytes left.
+      let told = rw left at f.cells.told in f.cells.made ∙ ap all_counts told.0);
 }

@@ -1,15 +1,12 @@
 -- What is counted of the cells of a library. This project's rules.
-use Rattle.std.specs.Prelude.{◌≡◌, ℕ, List, [], ◌∷◌, length, Result, IfOk, IfSome}
+use Rattle.std.specs.Prelude.{◌≡◌, ℕ, List, [], ◌∷◌, Result, IfOk, IfSome}
 use Rattle.text_io.specs.declared.slots.InSlot.TheVariants.{Library}
 use Rattle.text_io.specs.Desk.{DeskState, took}
 use Rattle.cell_reader.specs.LibraryCells.{CellEntry, Accepted, Refused}
-use Rattle.cell_cursor.specs.declared.cursor.CellCursor.{CellCursor}
 use Rattle.cell_cursor.specs.Ends.{items_within}
 use Rattle.library_items.specs.declared.stop.Stop.{Stop}
-use Rattle.library_items.specs.declared.progress.Progress.{Progress}
 use Rattle.library_items.specs.Progress.{no_progress}
 use Rattle.library_items.specs.KeptCells.{kept_cells}
-use Rattle.library_items.specs.Reached.{Follows}
 use Rattle.selftest_runs.specs.declared.counts.Counts.{Counts}
 use Rattle.selftest_runs.specs.Counts.{no_counts, plus}
 use Rattle.selftest_runs.specs.CellCounts.{cell_counts}
@@ -27,12 +24,6 @@ all_counts (cell ∷ cells) = plus (counted cell) (all_counts cells)
 -- What is counted of the cells of a library. Of cells of one name the first counts. How the library ends does not matter.
 unfoldable pub counts_within : ℕ → List ℕ → Counts
 counts_within limit bytes = all_counts (kept_cells no_progress (items_within limit bytes))
-
--- This was counted of the items, and the desk is as after reading the bytes that the cursor has taken.
-pub record HasCounted (limit : ℕ) (base now : DeskState) (progress : Progress) (counts : Counts) (cursor : CellCursor) : Type 0 where
-  pub follows : Follows limit (base.left Library) now no_progress progress cursor
-  pub state : now ≡ took base Library (length follows.taken)
-  pub counted : counts ≡ all_counts (kept_cells no_progress follows.items)
 
 -- After a call that counts the cells of the library that is bound: some bytes of it were taken, and nothing else changed. Where the
 -- desk tells what is left of it, the answer is what is counted of these bytes.

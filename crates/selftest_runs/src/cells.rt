@@ -27,28 +27,20 @@ fn drawn_changes(alloc: Global, number: usize, inputs: usize) -> Result<Items<Ch
     Ok(cell_changes(alloc, number as u64, inputs)?)
 }
 
-/// How many output values of a cell after these changes are 0 or 1.
-fn known_of(alloc: Global, cell: &Cell, changes: &[Change]) -> Result<u64, AllocError>
-    requires { IsProperFrom (inputs_of (data_of cell.now)) [] changes.now }
-    ensures { IfOk result (λ known. known ≡ known_in (cell_trace (data_of cell.now) changes.now)) }
-{
-    let mut liberty = LibertySim::start(alloc, cell)?;
-    known_values(&mut liberty, changes)
-}
-
-/// What is counted of a cell on these changes.
+/// What is counted of a cell on these changes, after which so many of its output values are 0 or 1.
 #[tactic(auto, unfolding(crate::specs::CellCounts::counts_on))]
 fn counts_on(
     alloc: Global,
     cell: &Cell,
     entity: &[u8],
     changes: &[Change],
+    known: u64,
 ) -> Result<Counts, AllocError>
     requires name { IsNameOfEntity (data_of cell.now) entity.now }
     requires proper { IsProperFrom (inputs_of (data_of cell.now)) [] changes.now }
+    requires known { known ≡ known_in (cell_trace (data_of cell.now) changes.now) }
     ensures { IfOk result (λ counts. counts ≡ counts_on changes.now (data_of cell.now) entity.now) }
 {
-    let known = known_of(alloc, cell, changes)?;
     let verilog = is_damaged_module_caught(alloc, cell, changes)?;
     let vital = is_damaged_entity_caught(alloc, cell, entity, changes)?;
     Ok(Counts {
@@ -66,7 +58,9 @@ pub fn count_cell(alloc: Global, cell: &Cell, entity: &[u8]) -> Result<Counts, A
     requires number { cell.now.number < 2147483648 }
     ensures { IfOk result (λ counts. counts ≡ cell_counts (data_of cell.now) entity.now) }
 {
-    let inputs = LibertySim::start(alloc, cell)?.inputs();
-    let changes = drawn_changes(alloc, cell.number, inputs)?;
-    counts_on(alloc, cell, entity, changes.as_slice())
+    let mut liberty = LibertySim::start(alloc, cell)?;
+    let drawn = drawn_changes(alloc, cell.number, liberty.inputs())?;
+    let changes = drawn.as_slice();
+    let known = known_values(&mut liberty, changes)?;
+    counts_on(alloc, cell, entity, changes, known)
 }

@@ -1,0 +1,18 @@
+use Rattle.std.proofs.Common.{ap, ◌∙◌}
+use Rattle.cell_machine.specs.CellData.{data_of}
+use Rattle.selftest_runs.specs.CellCounts.{cell_counts}
+use Rattle.selftest_runs.proofs.CountedCells.{accepted_number, accepted_counted, refused_counted}
+use Rattle.selftest_runs.proofs.library.CountsCellFold.take.Goals as goal
+
+pub count_cell-requires-clause-number : goal.count_cell-requires-clause-number
+count_cell-requires-clause-number c =
+    accepted_number c.args._group.now c.in-Accepted.read c.in-Accepted.entity (rw c.in-Accepted.is at c.requires.next)
+
+pub returns-in_ok-self-clause-made : goal.returns-in_ok-self-clause-made
+returns-in_ok-self-clause-made c = λ p h cells e.
+    accepted_counted p c.args._group.now c.in-Accepted.read c.in-Accepted.entity c.args.self.now c.in_ok-more.more c.in_ok-self.field-0 cells
+    (rw c.in-Accepted.is at h) e (c.in_ok-more.ensures ∙ ap (cell_counts (data_of c.in-Accepted.read.cell)) c.as_slice.ensures) c.in_ok-self.ensures
+
+pub returns-in_default-clause-made : goal.returns-in_default-clause-made
+returns-in_default-clause-made c = λ p h cells e.
+    refused_counted p c.args._group.now c.in_default.field-0 c.args.self.now cells (rw c.in_default.is at h) e

@@ -1,5 +1,5 @@
 -- How a simulation ends whose stimulus has a bad line: the status, and the line that tells it. (This project's rules and formats.)
-use Rattle.std.specs.Prelude.{ℕ, List, [], ◌++◌, codes, decimal, Option, Some, None, slice_get, if◌then◌else◌}
+use Rattle.std.specs.Prelude.{ℕ, List, [], ◌++◌, codes, Option, Some, None, slice_get, if◌then◌else◌}
 use Rattle.std.specs.Option.{option_map_or}
 use Rattle.cell_machine.specs.CellRules.{is_name}
 use Rattle.cell_reader.specs.declared.refusal.Refusal.{Refusal}
@@ -7,6 +7,7 @@ use Rattle.cell_reader.specs.LibraryCells.{CellEntry, Accepted, Refused, name_of
 use Rattle.cell_reader.specs.ReasonWords.{number_of_reason, word_of_reason}
 use Rattle.stimulus.specs.declared.faults.Cause.{Cause}
 use Rattle.stimulus.specs.declared.faults.Cause.TheVariants as cause
+use Rattle.command_outcomes.specs.Refusals.{refusal_text}
 use Rattle.command_outcomes.specs.declared.status.Status.{Status}
 use Rattle.command_outcomes.specs.declared.status.Status.TheVariants as status
 use Rattle.model_replay.specs.FaultLines.{stimulus_fault_line}
@@ -19,15 +20,9 @@ shown_name name = if is_name name then name else codes "?"
 unfoldable pub refused_name_text : List ℕ → List ℕ
 refused_name_text name = codes "cell " ++ shown_name name
 
--- the end of such a line: the reason's number and word, and the offset of the statement or group that meets it
-unfoldable pub refused_reason_text : Refusal → List ℕ
-refused_reason_text refusal =
-    codes " refused " ++ (decimal (number_of_reason refusal.reason) ++ (codes " " ++ (word_of_reason refusal.reason ++ (codes " at "
-    ++ (decimal refusal.at ++ codes "\n")))))
-
--- a cell that is refused
+-- a cell that is refused, with the offset of the statement or group that meets the reason
 unfoldable pub refused_cell_line : List ℕ → Refusal → List ℕ
-refused_cell_line name refusal = refused_name_text name ++ refused_reason_text refusal
+refused_cell_line name refusal = refused_name_text name ++ refusal_text (number_of_reason refusal.reason) (word_of_reason refusal.reason) refusal.at
 
 -- a cell whose module is absent or has other ports
 unfoldable pub verilog_ports_line : List ℕ → List ℕ

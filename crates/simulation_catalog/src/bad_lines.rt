@@ -4,12 +4,11 @@ ghost use Rattle.std.specs.Option.{option_copied, option_map, option_map_or};
 ghost use Rattle.text_io.specs.declared.slots.OutSlot.TheVariants.{Faults};
 ghost use Rattle.text_io.specs.Desk.{HasCause, WritesText};
 ghost use Rattle.cell_reader.specs.LibraryCells.{described, all_described, name_of};
-ghost use Rattle.simulation_catalog.specs.FaultLines.{shown_name as shown_name_of, refused_name_text, refused_reason_text, refused_cell_line, verilog_ports_line, vital_ports_line, refused_line_by, cause_line, cause_status as cause_status_of};
+ghost use Rattle.simulation_catalog.specs.FaultLines.{shown_name as shown_name_of, refused_name_text, refused_cell_line, verilog_ports_line, vital_ports_line, refused_line_by, cause_line, cause_status as cause_status_of};
 
 use cell_parts::declarations::is_name;
 use cell_reader::{LibraryCell, Refusal};
-use command_outcomes::Status;
-use itoa::Buffer;
+use command_outcomes::{Status, write_refusal};
 use model_replay::write_stimulus_fault;
 use stimulus::Cause;
 use text_io::{Desk, Failed, OutSlot, write_pieces};
@@ -83,7 +82,7 @@ fn write_refused<D: Desk>(desk: &mut D, cell: Option<&LibraryCell>) -> Result<()
 {
     match cell {
         Some(LibraryCell::Refused { name, refusal }) => {
-            write_refusal(desk, name.as_slice(), refusal)
+            write_refused_cell(desk, name.as_slice(), refusal)
         }
         Some(LibraryCell::Accepted { .. }) | None => Ok(()),
     }
@@ -91,12 +90,19 @@ fn write_refused<D: Desk>(desk: &mut D, cell: Option<&LibraryCell>) -> Result<()
 
 /// Tells why the cell with this name is refused, and where.
 #[tactic(auto, unfolding(text_io::specs::Desk::wrote))]
-fn write_refusal<D: Desk>(desk: &mut D, name: &[u8], refusal: &Refusal) -> Result<(), Failed>
+fn write_refused_cell<D: Desk>(desk: &mut D, name: &[u8], refusal: &Refusal) -> Result<(), Failed>
     ensures text { WritesText (D.state desk.old) (D.state desk.new) Faults (refused_cell_line name.now refusal.now) result }
     ensures cause { HasCause (D.faults desk.old) (D.faults desk.new) result }
 {
     write_refused_name(desk, name)?;
-    write_refused_reason(desk, refusal)
+    let reason = refusal.reason;
+    write_refusal(
+        desk,
+        OutSlot::Faults,
+        reason.number(),
+        reason.word(),
+        refusal.at,
+    )
 }
 
 /// Tells the name of a cell that is refused.
@@ -106,29 +112,6 @@ fn write_refused_name<D: Desk>(desk: &mut D, name: &[u8]) -> Result<(), Failed>
     ensures cause { HasCause (D.faults desk.old) (D.faults desk.new) result }
 {
     write_pieces(desk, OutSlot::Faults, &[b"cell ", shown_name(name)])
-}
-
-/// Tells why a cell is refused, and where.
-#[tactic(auto, unfolding(crate::specs::FaultLines::refused_reason_text))]
-fn write_refused_reason<D: Desk>(desk: &mut D, refusal: &Refusal) -> Result<(), Failed>
-    ensures text { WritesText (D.state desk.old) (D.state desk.new) Faults (refused_reason_text refusal.now) result }
-    ensures cause { HasCause (D.faults desk.old) (D.faults desk.new) result }
-{
-    let mut reason = Buffer::new();
-    let mut offset = Buffer::new();
-    write_pieces(
-        desk,
-        OutSlot::Faults,
-        &[
-            b" refused ",
-            reason.format(refusal.reason.number()).as_bytes(),
-            b" ",
-            refusal.reason.word(),
-            b" at ",
-            offset.format(refusal.at).as_bytes(),
-            b"\n",
-        ],
-    )
 }
 
 /// Tells that the module of the cell with this name is absent or has other ports.

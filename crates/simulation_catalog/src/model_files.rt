@@ -2,7 +2,6 @@
 ghost use Rattle.std.specs.Prelude.{◌≡◌, IfOk};
 ghost use Rattle.bool_functions.specs.NameList.{AreDistinct};
 ghost use Rattle.cell_machine.specs.CellData.{data_of};
-ghost use Rattle.specify_blocks.specs.Names.{module_name as module_name_of};
 ghost use Rattle.simulation_catalog.specs.NamedModels.{module_names as module_names_of, lowered_names as lowered_names_of, shown, has_ports, module_ports, entity_ports, verilog_number as verilog_number_of, vital_number as vital_number_of};
 ghost use Rattle.simulation_catalog.specs.declared.same_ports.Spelling.TheVariants as spelling;
 
@@ -10,12 +9,9 @@ use crate::numbers::Found;
 use crate::same_ports::Spelling;
 use bool_functions::Names;
 use cell_machine::Cell;
-use specify_blocks::{VModule, verilog_ports};
-use sqlite_items::Items;
+use specify_blocks::{VModule, module_name, verilog_ports};
 use std::alloc::{AllocError, Global};
 use udp_tables::VPort;
-use verilog_tokens::is_kept_cell_name;
-use vhdl_names::numbered_name;
 use vital_models::{VEntity, vital_ports};
 
 /// The modules of a Verilog file and the entities of a VHDL file, with their names.
@@ -53,7 +49,7 @@ impl<'a> ModelFiles<'a> {
     fn verilog_number(&self, alloc: Global, cell: &Cell) -> Result<Option<usize>, AllocError>
         ensures { IfOk result (λ number. number ≡ verilog_number_of (shown self.now) (data_of cell.now)) }
     {
-        let name = module_name(alloc, cell)?;
+        let name = module_name(alloc, cell.number, cell.name.as_slice())?;
         let ports = verilog_ports(alloc, cell.pins.as_slice())?;
         match self.module_names.number(name.as_slice()) {
             None => Ok(None),
@@ -97,18 +93,6 @@ impl<'a> ModelFiles<'a> {
             Some(entity) => Spelling::AnyCase.same_ports(ports, entity.ports.as_slice()),
             None => false,
         }
-    }
-}
-
-/// The name of the module of a cell: the cell's, or `cell` and its number where Verilog does not keep that.
-fn module_name(alloc: Global, cell: &Cell) -> Result<Items<u8>, AllocError>
-    ensures { IfOk result (λ name. name ≡ module_name_of cell.now.number cell.now.name) }
-{
-    let name = cell.name.as_slice();
-    if is_kept_cell_name(name) {
-        Ok(Items::from_slice(alloc, name)?)
-    } else {
-        Ok(numbered_name(alloc, b"cell", cell.number)?)
     }
 }
 

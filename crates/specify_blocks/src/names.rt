@@ -7,12 +7,9 @@ use sqlite_items::Items;
 use std::alloc::{AllocError, Global};
 use verilog_tokens::is_kept_cell_name;
 
-/// The name of the module of a cell: the cell's, or `cell` and its number where Verilog does not keep that.
-pub(crate) fn module_name(
-    alloc: Global,
-    number: usize,
-    name: &[u8],
-) -> Result<Items<u8>, AllocError>
+/// The name of the module of a cell with this number and name: the cell's, or `cell` and its number where Verilog does not keep
+/// that. `AllocError` comes only where memory is wanting.
+pub fn module_name(alloc: Global, number: usize, name: &[u8]) -> Result<Items<u8>, AllocError>
     ensures { IfOk result (λ given. given ≡ module_name number name.now) }
 {
     if is_kept_cell_name(name) {

@@ -1,6 +1,6 @@
 use Rattle.text_io.proofs.Wrote.{goes_on, stops}
 use Rattle.simulation_catalog.specs.FaultLines.{refused_cell_line}
-use Rattle.simulation_catalog.proofs.bad_lines.write_refusal.Goals as goal
+use Rattle.simulation_catalog.proofs.bad_lines.write_refused_cell.Goals as goal
 
 pub returns-in_err-write_refused_name-clause-text : goal.returns-in_err-write_refused_name-clause-text
 unfolding refused_cell_line
@@ -10,4 +10,4 @@ returns-in_err-write_refused_name-clause-text g c =
 pub returns-clause-text : goal.returns-clause-text
 unfolding refused_cell_line
 returns-clause-text g c =
-    goes_on _ _ _ _ _ _ _ c.in_ok-write_refused_name.ensures.text.whole c.write_refused_reason.ensures.text
+    goes_on _ _ _ _ _ _ _ c.in_ok-write_refused_name.ensures.text.whole (rw (c.number.ensures, c.word.ensures) at c.write_refusal.ensures.text)

@@ -3,7 +3,7 @@ use Rattle.std.proofs.Common.{◌≡◌, ℕ, zero, suc, ◌+◌, ◌<◌, ◌�
 use Rattle.std.specs.Prelude.{All, filter}
 use Rattle.std.specs.List.{list_all}
 use Rattle.std.specs.Option.{option_map_or}
-use Rattle.std.proofs.lemmas.Bool.{and_parts, lt-ltb, ltb-true, leb-true}
+use Rattle.std.proofs.lemmas.Bool.{and_parts, lt-ltb, ltb-true}
 use Rattle.std.proofs.lemmas.List.{length-map}
 use Rattle.trit_cubes.proofs.ListLemmas.{Among, among-map, among-filter}
 use Rattle.bool_functions.specs.declared.tree.Node.{Node}
@@ -12,13 +12,12 @@ use Rattle.bool_functions.specs.Support.{support_of}
 use Rattle.cell_machine.specs.declared.pins.Pin.{Pin}
 use Rattle.cell_machine.specs.declared.groups.StateGroup.{StateGroup}
 use Rattle.cell_machine.specs.declared.outputs.OutputPin.{OutputPin}
-use Rattle.cell_machine.specs.declared.checks.Check.{Check}
 use Rattle.cell_machine.specs.declared.arcs.Arc.{Arc}
 use Rattle.cell_machine.specs.Names.{source_name}
 use Rattle.cell_machine.specs.Values.{no_values}
 use Rattle.cell_machine.specs.Outputs.{output_at, condition_at}
 use Rattle.cell_machine.specs.Supports.{Ascending}
-use Rattle.cell_machine.specs.CellRules.{longest_time, is_input_pin, is_output_pin, is_ascending, is_support, is_group, are_groups_from, is_source, has_events, is_output_of, is_check, is_arc}
+use Rattle.cell_machine.specs.CellRules.{is_input_pin, is_ascending, is_support, is_group, are_groups_from, is_source, is_output_of, is_check, is_arc}
 use Rattle.cell_machine.specs.CellData.{CellData}
 use Rattle.cell_machine.specs.CellTrace.{support_at, step_at}
 use Rattle.cell_machine.proofs.StepLemmas.{ascending}

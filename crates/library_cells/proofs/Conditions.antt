@@ -14,7 +14,7 @@ use Rattle.cell_machine.specs.CellRules.{is_condition, is_check, is_arc}
 use Rattle.cell_machine.specs.CellTrace.{same_pins}
 use Rattle.cell_machine.specs.CellData.{CellData}
 use Rattle.cell_machine.proofs.RuleLemmas.{check_parts, arc_condition}
-use Rattle.udp_tables.specs.Conditions.{condition_list, conditions_by, arc_conditions, used_conditions, added, added_all, conditions_of}
+use Rattle.udp_tables.specs.Conditions.{condition_list, conditions_by, arc_conditions, added, added_all, conditions_of}
 use Rattle.udp_tables.proofs.ConditionUses.{all-among, conditions-each}
 
 -- a function of 1 to 10 names

@@ -4,7 +4,6 @@ use Rattle.text_io.specs.Desk.{DeskState}
 use Rattle.text_io.specs.declared.slots.InSlot.TheVariants.{Library}
 use Rattle.liberty_groups.specs.declared.tree.Group.{Group}
 use Rattle.cell_machine.specs.CellData.{data_of}
-use Rattle.cell_cursor.specs.Ends.{items_within}
 use Rattle.cell_reader.specs.declared.read.ReadCell.{ReadCell}
 use Rattle.cell_reader.specs.declared.refusal.Refusal.{Refusal}
 use Rattle.cell_reader.specs.LibraryCells.{CellEntry}
@@ -12,9 +11,9 @@ use Rattle.library_items.specs.declared.ending.Ending.{Ending}
 use Rattle.library_items.specs.declared.next.NextCell.TheVariants as next
 use Rattle.library_items.specs.declared.progress.Progress.{Progress}
 use Rattle.library_items.specs.Folds.{IsNumberedNext, FoldsCells}
-use Rattle.library_items.specs.KeptCells.{kept_by, next_entry, kept_cells}
+use Rattle.library_items.specs.KeptCells.{kept_by, next_entry}
 use Rattle.library_items.specs.NextCells.{IsAcceptedNext}
-use Rattle.library_items.specs.Progress.{no_progress, next_refusal, next_data}
+use Rattle.library_items.specs.Progress.{next_refusal, next_data}
 use Rattle.library_items.proofs.Fronts.{IfSome-each}
 use Rattle.selftest_runs.specs.declared.counts.Counts.{Counts}
 use Rattle.selftest_runs.specs.Counts.{no_counts, plus}

@@ -23,12 +23,11 @@ use Rattle.cell_machine.specs.declared.checks.Check.{Check}
 use Rattle.cell_machine.specs.declared.arcs.Arc.{Arc}
 use Rattle.cell_machine.specs.Names.{source_name}
 use Rattle.cell_machine.specs.Values.{no_values}
-use Rattle.cell_machine.specs.CellRules.{is_ascending, is_input_pin, is_output_pin, output_pins_from, is_output, is_support, is_group, are_groups_from, is_source, is_output_of, has_events, are_opposite, is_any_edge, is_check, is_arc, HoldsRules, is_in_order}
+use Rattle.cell_machine.specs.CellRules.{is_ascending, is_input_pin, is_output_pin, output_pins_from, is_output, is_support, is_group, are_groups_from, is_source, is_output_of, has_events, are_opposite, is_any_edge, is_check, is_arc}
 use Rattle.cell_machine.proofs.OutputFacts.{all-at}
 use Rattle.cell_machine.proofs.StepLemmas.{ascending}
 use Rattle.cell_machine.proofs.RuleLemmas.{check_parts}
 use Rattle.udp_tables.specs.declared.table.Udp.{Udp}
-use Rattle.bool_functions.specs.SameTrees.{same_tree}
 use Rattle.udp_tables.specs.Edges.{each_below}
 use Rattle.cell_machine.specs.CellData.{CellData}
 use Rattle.udp_tables.specs.Conditions.{conditions_of, condition_place, condition_list, conditions_by}

@@ -23,7 +23,7 @@ use Rattle.cell_machine.specs.declared.arcs.Arc.{Arc}
 use Rattle.cell_machine.specs.Values.{no_values}
 use Rattle.cell_machine.specs.Outputs.{output_at, condition_at}
 use Rattle.cell_machine.specs.CellRules as rule
-use Rattle.cell_machine.specs.CellRules.{is_input_pin, output_pins_from, is_support, is_ascending, is_group, are_groups_from, is_source, is_output_of, is_any_edge, are_opposite, is_check, is_arc, HoldsRules, is_in_order}
+use Rattle.cell_machine.specs.CellRules.{is_input_pin, output_pins_from, is_support, is_ascending, is_group, are_groups_from, is_source, is_output_of, is_any_edge, are_opposite, is_check, is_arc}
 use Rattle.cell_machine.proofs.RuleLemmas.{check_parts}
 use Rattle.udp_tables.specs.Edges.{each_below}
 use Rattle.cell_machine.specs.CellData.{CellData}

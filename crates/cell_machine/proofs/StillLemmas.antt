@@ -23,7 +23,7 @@ use Rattle.cell_machine.specs.Delay.{least_delay}
 use Rattle.cell_machine.specs.CellTrace.{inputs_of, input_check, state_after, states_after, named_groups, source_value, output_value, output_after, paths_between, delay_at, delay_after}
 use Rattle.cell_machine.specs.Laws.{SameValueChangesNothing, Refines, AllRefine, FewerUnknownsKeepOutputs}
 
-same-equal : (a b : Trit) → not (same a b) ≡ false → b ≡ a
+pub same-equal : (a b : Trit) → not (same a b) ≡ false → b ≡ a
 same-equal Zero Zero h = refl
 same-equal One One h = refl
 same-equal Unknown Unknown h = refl
@@ -53,7 +53,7 @@ and_false true = refl
 and_false false = refl
 
 -- no event of any kind
-no-event : (e : Event) (v : List Trit) (c : Change) → c.to ≡ value_before v c → is_event_of e v c ≡ false
+pub no-event : (e : Event) (v : List Trit) (c : Change) → c.to ≡ value_before v c → is_event_of e v c ≡ false
 no-event e v c to =
     ap (λ b. nat_eq c.pin e.pin && moves e.edge (value_before v c) b) to
     ∙ ap (λ b. nat_eq c.pin e.pin && b) (moves-self e.edge (value_before v c))

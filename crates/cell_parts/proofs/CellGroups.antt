@@ -1,28 +1,25 @@
 -- The state groups of a cell of which nothing is refused keep the rules of cells.
-use Rattle.std.proofs.Common.{◌≡◌, ℕ, suc, ◌+◌, ◌*◌, ◌≤◌, Bool, true, false, List, [], ◌∷◌, ◌++◌, length, map, refl, sym, ◌∙◌, ap, subst, arith, IsTrue, Option, Some, None, inl, inr, nat_le, slice_index}
-use Rattle.std.specs.Prelude.{flat_map, codes, if◌then◌else◌}
-use Rattle.std.proofs.lemmas.Bool.{cases_Bool, and_from, and_parts, le-leb}
+use Rattle.std.proofs.Common.{◌≡◌, ℕ, suc, ◌+◌, ◌*◌, ◌≤◌, Bool, true, false, List, [], ◌∷◌, ◌++◌, length, map, refl, sym, ap, subst, arith, IsTrue, Option, Some, None, nat_le, slice_index}
+use Rattle.std.specs.Prelude.{flat_map, if◌then◌else◌}
+use Rattle.std.proofs.lemmas.Bool.{and_from, and_parts, le-leb}
 use Rattle.liberty_groups.specs.declared.tree.Group.{Group}
-use Rattle.statetables.specs.declared.table.StateTable.{StateTable}
 use Rattle.cell_machine.specs.declared.groups.StateGroup.{StateGroup}
 use Rattle.cell_machine.specs.declared.pins.Pin.{Pin}
 use Rattle.cell_machine.specs.CellRules.{is_group, are_groups_from, are_distinct}
-use Rattle.timing_arcs.specs.Attributes.{attribute_of}
 use Rattle.cell_parts.specs.declared.state_readings.StateReading.{StateReading}
-use Rattle.cell_parts.specs.Groups.{names_in, inner_groups, state_groups}
+use Rattle.cell_parts.specs.Groups.{inner_groups, state_groups}
 use Rattle.cell_parts.specs.Pins.{pins_of, pin_names}
-use Rattle.cell_parts.specs.States.{Arguments, StateName, arguments_of, is_table, node_named, states_with, states_in, states_of}
+use Rattle.cell_parts.specs.States.{Arguments, StateName, arguments_of, is_table, states_in, states_of}
 use Rattle.cell_parts.specs.Vocabulary.{Vocabulary, vocabulary}
 use Rattle.cell_parts.specs.Texts.{class_at}
 use Rattle.cell_parts.specs.TextFaults.{malformed_in, unknown_in, coupled_in}
 use Rattle.cell_parts.specs.StateReadings.{state_reading, reading_of_texts, reading_of_table}
 use Rattle.cell_parts.specs.Limits.{state_at, no_support_in, wide_support_in}
-use Rattle.cell_parts.specs.Building.{kind_of_texts, node_groups, table_in, table_groups, groups_with, groups_in, groups_from}
+use Rattle.cell_parts.specs.Building.{kind_of_texts, table_groups, groups_with, groups_in, groups_from}
 use Rattle.cell_parts.specs.CellLaws.{numbers_of, groups_of, CellMeetsNone, GroupsKeepRules}
 use Rattle.cell_parts.proofs.Distinct.{nil_parts, pins_are_distinct}
 use Rattle.cell_parts.proofs.PinRules.{within_limit}
-use Rattle.cell_parts.proofs.Turns.{count_shown}
-use Rattle.cell_parts.proofs.GroupCount.{group_count}
+use Rattle.cell_parts.proofs.GroupCount.{count_with, group_count}
 use Rattle.cell_parts.proofs.Numbering.{NumberIs, numbers_are}
 use Rattle.cell_parts.proofs.OwnNames.{OwnIn, OwnNumbers, own_numbers_of}
 use Rattle.cell_parts.proofs.GroupRules.{IsSoundReading, sound_reading}
@@ -43,25 +40,6 @@ groups_append pins n (x ∷ xs) ys h k =
     let place : n + 2 * suc (length xs) ≡ n + 2 + 2 * length xs = omega arith in
     and_from (is_group pins n x) (are_groups_from pins (n + 2) (xs ++ ys)) parts.0
     (groups_append pins (n + 2) xs ys parts.1 (subst (λ m. IsTrue (are_groups_from pins m ys)) place k))
-
-node_count : (table : StateTable) (r : StateReading) (node : ℕ) (names : List (List ℕ)) → length (node_groups table r node names) ≡ length names
-node_count table r node [] = refl
-node_count table r node (name ∷ names) = ap suc (node_count table r (node + 1) names)
-
-count_with :
-    (to : List ℕ) (group : Group) (r : StateReading) (arguments : Option Arguments)
-    → length (groups_with to group r arguments) ≡ length (states_with (is_table group) arguments)
-count_with to group r None = refl
-count_with to group r (Some arguments) =
-    elim (cases_Bool (is_table group)) [
-      | inl e ↦
-          rw e
-          (node_count
-          (table_in (length (names_in arguments.first)) (length (names_in arguments.second)) (attribute_of group (codes "table")))
-          r 0 (names_in arguments.second)
-          ∙ sym (count_shown node_named (names_in arguments.second)))
-      | inr e ↦ rw e refl
-    ]
 
 -- a reading of which nothing is refused
 record IsUnrefused (r : StateReading) : Type 0 where

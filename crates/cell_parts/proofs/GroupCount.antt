@@ -17,7 +17,8 @@ node_count : (table : StateTable) (r : StateReading) (node : ℕ) (names : List 
 node_count table r node [] = refl
 node_count table r node (name ∷ names) = ap suc (node_count table r (node + 1) names)
 
-count_with :
+-- one state group for each state that a group declares
+pub count_with :
     (to : List ℕ) (group : Group) (r : StateReading) (arguments : Option Arguments)
     → length (groups_with to group r arguments) ≡ length (states_with (is_table group) arguments)
 count_with to group r None = refl

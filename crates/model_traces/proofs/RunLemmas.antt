@@ -1,18 +1,17 @@
 -- What a run keeps is what the whole history says.
-use Rattle.std.proofs.Common.{◌≡◌, ℕ, Bool, true, false, not, ◌&&◌, List, [], ◌∷◌, length, map, replicate, set, refl, ap, sym, ◌∙◌, Some, nat_eq, if◌then◌else◌}
+use Rattle.std.proofs.Common.{◌≡◌, ℕ, Bool, true, false, List, [], ◌∷◌, length, map, replicate, set, refl, ap, sym, ◌∙◌, Some, if◌then◌else◌}
 use Rattle.std.proofs.lemmas.List.{set-get_or}
 use Rattle.trit_cubes.specs.declared.trits.Trit.{Trit}
-use Rattle.trit_cubes.specs.declared.trits.Trit.TheVariants.{Zero, One, Unknown}
-use Rattle.trit_cubes.specs.Filling.{same}
+use Rattle.trit_cubes.specs.declared.trits.Trit.TheVariants.{Unknown}
 use Rattle.cell_machine.specs.declared.changes.Change.{Change}
 use Rattle.cell_machine.specs.declared.checks.Event.{Event}
-use Rattle.cell_machine.specs.declared.checks.Edge.{Edge}
 use Rattle.cell_machine.specs.declared.checks.Edge.TheVariants as edge
-use Rattle.cell_machine.specs.Edges.{is_rise, moves}
+use Rattle.cell_machine.specs.Edges.{is_rise}
 use Rattle.cell_machine.specs.History.{inputs_after, value_before, is_event}
-use Rattle.cell_machine.specs.Report.{is_period, is_event_of, last_event}
+use Rattle.cell_machine.specs.Report.{is_period, last_event}
 use Rattle.cell_machine.specs.Each.{each}
 use Rattle.cell_machine.proofs.EachLemmas.{each-map}
+use Rattle.cell_machine.proofs.StillLemmas.{same-equal, no-event}
 use Rattle.udp_tables.specs.declared.models.VPort.{VPort}
 use Rattle.udp_tables.specs.declared.timing_checks.TimingCheck.{TimingCheck}
 use Rattle.specify_blocks.specs.declared.model.VModule.{VModule}
@@ -22,42 +21,6 @@ use Rattle.model_traces.specs.CheckEvents.{second_of, opening_event}
 use Rattle.model_traces.specs.CheckTimes.{no_stamps, stamped, same_edge, opened_by, opened}
 use Rattle.model_traces.specs.ModuleRun.{entered, kept, notified, shaken, reports_at, happened, run_after}
 use Rattle.model_traces.specs.Laws.{last_stamps, RunHoldsInputs, RunKeepsLastEvents}
-
-pub same-equal : (a b : Trit) → not (same a b) ≡ false → b ≡ a
-same-equal Zero Zero h = refl
-same-equal One One h = refl
-same-equal Unknown Unknown h = refl
-same-equal Zero One h = absurd cc
-same-equal Zero Unknown h = absurd cc
-same-equal One Zero h = absurd cc
-same-equal One Unknown h = absurd cc
-same-equal Unknown Zero h = absurd cc
-same-equal Unknown One h = absurd cc
-
-same-self : (a : Trit) → same a a ≡ true
-same-self Zero = refl
-same-self One = refl
-same-self Unknown = refl
-
-moves-self : (e : Edge) (a : Trit) → moves e a a ≡ false
-moves-self edge.Any a = ap not (same-self a)
-moves-self edge.Rise Zero = refl
-moves-self edge.Rise One = refl
-moves-self edge.Rise Unknown = refl
-moves-self edge.Fall Zero = refl
-moves-self edge.Fall One = refl
-moves-self edge.Fall Unknown = refl
-
-and_false : (b : Bool) → (b && false) ≡ false
-and_false true = refl
-and_false false = refl
-
--- no event of any kind
-pub no-event : (e : Event) (v : List Trit) (c : Change) → c.to ≡ value_before v c → is_event_of e v c ≡ false
-no-event e v c to =
-    ap (λ b. nat_eq c.pin e.pin && moves e.edge (value_before v c) b) to
-    ∙ ap (λ b. nat_eq c.pin e.pin && b) (moves-self e.edge (value_before v c))
-    ∙ and_false (nat_eq c.pin e.pin)
 
 shaken-inputs : (m : VModule) (reports : List Bool) (r : ModuleRun) → (shaken m reports r).inputs ≡ r.inputs
 shaken-inputs m [] r = refl

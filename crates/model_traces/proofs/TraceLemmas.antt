@@ -11,7 +11,7 @@ use Rattle.cell_machine.specs.History.{inputs_after, value_before, is_event, IsP
 use Rattle.cell_machine.specs.Report.{InputCheck, opening, is_within, last_event, report, any_true}
 use Rattle.cell_machine.specs.Lines.{Line, lines_from, trace}
 use Rattle.model_traces.specs.SequentialStates.{picked}
-use Rattle.model_traces.proofs.RunLemmas.{same-equal, no-event}
+use Rattle.cell_machine.proofs.StillLemmas.{same-equal, no-event}
 
 lines-same :
     (n : ℕ) (f g : List Change → Line)

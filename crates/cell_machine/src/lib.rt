@@ -46,3 +46,4 @@ pub use pins::{Direction, Pin};
 pub use shown::Shown;
 pub use simulators::{CellSim, Sizes};
 pub use times::{is_within, renewed};
+pub use values::Values;

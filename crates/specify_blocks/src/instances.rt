@@ -9,12 +9,9 @@ ghost use Rattle.specify_blocks.specs.Generated.{each_from, group_instance, cond
 use crate::model::{Instance, VNet};
 use crate::nets::{add_notifier, pin_net, pin_nets, source_nets};
 use bool_functions::Function;
-use cell_machine::{Cell, OutputPin, StateGroup};
+use cell_machine::{Cell, OutputPin, StateGroup, Values};
 use sqlite_items::Items;
 use std::alloc::{AllocError, Global};
-
-/// The most names of a cell: 64 pins, and two variables for each of 16 groups.
-const NAMES: usize = 96;
 
 /// The instances of a cell's module, where these are the cell's conditions: groups, conditions, outputs.
 pub(crate) fn instances_of(
@@ -122,7 +119,6 @@ fn add_outputs(
 }
 
 /// The instance of an output's primitive, or the `buf` of a constant.
-#[tactic(auto, unfolding(cell_machine::specs::Values::no_values))]
 fn output_instance(
     alloc: Global,
     cell: &Cell,
@@ -143,7 +139,7 @@ fn output_instance(
     } else {
         Ok(Instance::Constant {
             output: net,
-            one: output.function.value(&[false; NAMES]),
+            one: Values::new().value(&output.function),
         })
     }
 }

@@ -11,13 +11,10 @@ use crate::ports::vital_ports;
 use crate::tables::{condition_table, has_violation, output_table, state_table};
 use crate::timing::{entity_checks, paths_to};
 use bool_functions::Function;
-use cell_machine::{Cell, OutputPin, Pin, Source};
+use cell_machine::{Cell, OutputPin, Pin, Source, Values};
 use sqlite_items::Items;
 use std::alloc::{AllocError, Global};
 use udp_tables::{conditions, port_number};
-
-/// The most names of a cell: 64 pins, and two variables for each of 16 groups.
-const NAMES: usize = 96;
 
 /// The entity of a cell, with this name: a state for each group, a truth table for each condition and for each output that
 /// depends on something, a path for each arc, and the checks. What it answers is sound. `AllocError` comes only where memory is
@@ -145,7 +142,6 @@ fn output_of(
 }
 
 /// The value of the output with this number: a constant where it depends on nothing, else a table.
-#[tactic(auto, unfolding(cell_machine::specs::Values::no_values))]
 fn value_of(
     alloc: Global,
     cell: &Cell,
@@ -164,7 +160,7 @@ fn value_of(
             inputs: sources_at(alloc, cell.pins.as_slice(), output.support.as_slice())?,
         })
     } else {
-        Ok(OutValue::Constant(output.function.value(&[false; NAMES])))
+        Ok(OutValue::Constant(Values::new().value(&output.function)))
     }
 }
 

@@ -15,7 +15,7 @@ use crate::limits::{active_low, both_limits, enabled, one_limit, referred, teste
 use crate::pulses::{a_pulse, pulse_check};
 use crate::words::expect_all;
 use cell_machine::{CheckKind, Edge, Event};
-use rule_readers::{Cursor, Refusal, Stop};
+use rule_readers::{Cursor, Stop};
 use sqlite_items::Items;
 use std::alloc::Global;
 use udp_tables::TimingCheck;
@@ -52,15 +52,12 @@ fn setup_or_hold(token: &[u8]) -> Option<CheckKind>
 }
 
 /// The kind of a check of setup or hold that stands next.
-#[tactic(auto, using(rule_readers::proofs::Values::valued_some, rule_readers::proofs::Values::valued_none))]
+#[tactic(auto, using(rule_readers::proofs::Values::valued_found))]
 fn a_setup_or_hold(cursor: &mut Cursor<'_, Vhdl>) -> Result<CheckKind, Stop>
     ensures { Reads (read (valued spec.setup_or_hold) cursor.old) result cursor.new }
 {
-    let Some(kind) = setup_or_hold(cursor.bytes()) else {
-        return Err(Stop::Refused(Refusal::Syntax));
-    };
-    cursor.skip();
-    Ok(kind)
+    let found = setup_or_hold(cursor.bytes());
+    cursor.value(found)
 }
 
 /// The check of these events, in the order in which a kind of check has them.
@@ -155,15 +152,12 @@ fn recovery_or_removal(token: &[u8]) -> Option<CheckKind>
 }
 
 /// The kind of a check of recovery or removal that stands next.
-#[tactic(auto, using(rule_readers::proofs::Values::valued_some, rule_readers::proofs::Values::valued_none))]
+#[tactic(auto, using(rule_readers::proofs::Values::valued_found))]
 fn a_recovery_or_removal(cursor: &mut Cursor<'_, Vhdl>) -> Result<CheckKind, Stop>
     ensures { Reads (read (valued spec.recovery_or_removal) cursor.old) result cursor.new }
 {
-    let Some(kind) = recovery_or_removal(cursor.bytes()) else {
-        return Err(Stop::Refused(Refusal::Syntax));
-    };
-    cursor.skip();
-    Ok(kind)
+    let found = recovery_or_removal(cursor.bytes());
+    cursor.value(found)
 }
 
 /// A call of VitalRecoveryRemovalCheck, behind its word.

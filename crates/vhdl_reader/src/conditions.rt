@@ -13,7 +13,7 @@ use crate::language::Vhdl;
 use crate::names::{input_at, inputs, list_end};
 use crate::ports::Ports;
 use crate::symbols::truth_width;
-use crate::words::{expect_all, is_number_token, is_numbered, known_number};
+use crate::words::{expect_all, is_number_token, is_numbered};
 use rule_readers::{Cursor, Refusal, Stop};
 use sqlite_items::Items;
 use std::alloc::{AllocError, Global};
@@ -108,7 +108,7 @@ fn condition_name(
     ensures { Reads (read (rules.known (spec.condition_of scope.now uses.now)) cursor.old) result cursor.new }
 {
     let found = condition_of(alloc, scope, uses, cursor.bytes())?;
-    known_number(cursor, found)
+    cursor.known(found)
 }
 
 /// How many inputs the table of a condition has.
@@ -151,7 +151,7 @@ fn same_name(
         return Err(Stop::Refused(Refusal::Syntax));
     }
     let found = input_at(ports, inputs, place, token)?;
-    known_number(cursor, found)
+    cursor.known(found)
 }
 
 /// The next input of a list, where so many of it stand before.

@@ -99,15 +99,12 @@ fn is_input_word(token: &[u8]) -> Option<bool>
 }
 
 /// The direction of a port: whether it is an input.
-#[tactic(auto, using(rule_readers::proofs::Values::valued_some, rule_readers::proofs::Values::valued_none))]
+#[tactic(auto, using(rule_readers::proofs::Values::valued_found))]
 fn direction(cursor: &mut Cursor<'_, Vhdl>) -> Result<bool, Stop>
     ensures { Reads (read (valued spec.is_input_word) cursor.old) result cursor.new }
 {
-    let Some(input) = is_input_word(cursor.bytes()) else {
-        return Err(Stop::Refused(Refusal::Syntax));
-    };
-    cursor.skip();
-    Ok(input)
+    let found = is_input_word(cursor.bytes());
+    cursor.value(found)
 }
 
 /// One more port of this entity.

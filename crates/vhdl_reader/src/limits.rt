@@ -14,7 +14,7 @@ use crate::language::Vhdl;
 use crate::names::an_input;
 use crate::words::{expect_all, numbered, time};
 use cell_machine::{CheckKind, Edge};
-use rule_readers::{Cursor, Refusal, Stop};
+use rule_readers::{Cursor, Stop};
 use sqlite_items::Items;
 use std::alloc::Global;
 use vhdl_tokens::{is_same, number_of};
@@ -145,15 +145,12 @@ fn reference_edge(token: &[u8]) -> Option<Edge>
 }
 
 /// The edge of the reference that stands next.
-#[tactic(auto, using(rule_readers::proofs::Values::valued_some, rule_readers::proofs::Values::valued_none))]
+#[tactic(auto, using(rule_readers::proofs::Values::valued_found))]
 fn an_edge(cursor: &mut Cursor<'_, Vhdl>) -> Result<Edge, Stop>
     ensures { Reads (read (valued spec.reference_edge) cursor.old) result cursor.new }
 {
-    let Some(edge) = reference_edge(cursor.bytes()) else {
-        return Err(Stop::Refused(Refusal::Syntax));
-    };
-    cursor.skip();
-    Ok(edge)
+    let found = reference_edge(cursor.bytes());
+    cursor.value(found)
 }
 
 /// The transition of the reference, and the end of the call.
@@ -168,18 +165,12 @@ pub fn transition(cursor: &mut Cursor<'_, Vhdl>) -> Result<Edge, Stop>
 }
 
 /// The second limit, which has to be this one.
-#[tactic(auto, unfolding(vhdl_text::specs::VhdlChecks::same_number), using(crate::proofs::NextLimits::equal_number, crate::proofs::NextLimits::no_number))]
+#[tactic(auto, using(crate::proofs::NextLimits::number_found))]
 fn same_number(cursor: &mut Cursor<'_, Vhdl>, limit: u64) -> Result<(), Stop>
     ensures { Reads (read (spec.same_number limit) cursor.old) result cursor.new }
 {
-    let Some(number) = number_of(cursor.bytes()) else {
-        return Err(Stop::Refused(Refusal::Syntax));
-    };
-    if number != limit {
-        return Err(Stop::Refused(Refusal::Unequal));
-    }
-    cursor.skip();
-    Ok(())
+    let found = number_of(cursor.bytes());
+    cursor.same_number(found, limit)
 }
 
 /// The word of the second limit.
@@ -242,15 +233,12 @@ fn control_edge(token: &[u8]) -> Option<Edge>
 }
 
 /// The edge with which a control ends, by the word that stands next.
-#[tactic(auto, using(rule_readers::proofs::Values::valued_some, rule_readers::proofs::Values::valued_none))]
+#[tactic(auto, using(rule_readers::proofs::Values::valued_found))]
 fn a_control_edge(cursor: &mut Cursor<'_, Vhdl>) -> Result<Edge, Stop>
     ensures { Reads (read (valued spec.control_edge) cursor.old) result cursor.new }
 {
-    let Some(edge) = control_edge(cursor.bytes()) else {
-        return Err(Stop::Refused(Refusal::Syntax));
-    };
-    cursor.skip();
-    Ok(edge)
+    let found = control_edge(cursor.bytes());
+    cursor.value(found)
 }
 
 /// Whether a control is active low, as the edge with which it ends.

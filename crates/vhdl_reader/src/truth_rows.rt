@@ -18,15 +18,12 @@ use std::alloc::Global;
 use vital_models::{Trits, TruthRow, TruthTable};
 
 /// A level of a row.
-#[tactic(auto, using(rule_readers::proofs::Values::valued_some, rule_readers::proofs::Values::valued_none))]
+#[tactic(auto, using(rule_readers::proofs::Values::valued_found))]
 fn a_level(cursor: &mut Cursor<'_, Vhdl>) -> Result<Trits, Stop>
     ensures { Reads (read (valued spec.level_of) cursor.old) result cursor.new }
 {
-    let Some(level) = level_of(cursor.bytes()) else {
-        return Err(Stop::Refused(Refusal::Syntax));
-    };
-    cursor.skip();
-    Ok(level)
+    let found = level_of(cursor.bytes());
+    cursor.value(found)
 }
 
 /// One more level of a row.

@@ -92,15 +92,12 @@ fn bit(token: &[u8]) -> Option<bool>
 }
 
 /// The bit that stands next.
-#[tactic(auto, using(rule_readers::proofs::Values::valued_some, rule_readers::proofs::Values::valued_none))]
+#[tactic(auto, using(rule_readers::proofs::Values::valued_found))]
 fn a_bit(cursor: &mut Cursor<'_, Vhdl>) -> Result<bool, Stop>
     ensures { Reads (read (valued spec.bit) cursor.old) result cursor.new }
 {
-    let Some(bit) = bit(cursor.bytes()) else {
-        return Err(Stop::Refused(Refusal::Syntax));
-    };
-    cursor.skip();
-    Ok(bit)
+    let found = bit(cursor.bytes());
+    cursor.value(found)
 }
 
 /// A constant.

@@ -13,7 +13,7 @@ use crate::ports::Ports;
 use crate::scope::width_at;
 use crate::variable_names::{VariableOf, awaits_violation, variable_name};
 use crate::words::{expect_all, numbered, this_number};
-use rule_readers::{Cursor, Refusal, Stop};
+use rule_readers::{Cursor, Stop};
 use sqlite_items::Items;
 use std::alloc::{AllocError, Global};
 use vhdl_text::{Tables, Variables};
@@ -33,15 +33,12 @@ fn is_period_type(token: &[u8]) -> Option<bool>
 }
 
 /// The type of the data of a check.
-#[tactic(auto, using(rule_readers::proofs::Values::valued_some, rule_readers::proofs::Values::valued_none))]
+#[tactic(auto, using(rule_readers::proofs::Values::valued_found))]
 fn period_type(cursor: &mut Cursor<'_, Vhdl>) -> Result<bool, Stop>
     ensures { Reads (read (valued spec.is_period_type) cursor.old) result cursor.new }
 {
-    let Some(is_period) = is_period_type(cursor.bytes()) else {
-        return Err(Stop::Refused(Refusal::Syntax));
-    };
-    cursor.skip();
-    Ok(is_period)
+    let found = is_period_type(cursor.bytes());
+    cursor.value(found)
 }
 
 /// The first data of a check of this type, and the end of its declaration.

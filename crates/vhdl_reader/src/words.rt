@@ -1,8 +1,6 @@
 //! Words, numbers and times at the next token.
 
-ghost use Rattle.std.specs.Prelude.{◌≡◌, ℕ, List, Option, true, map, IfOk};
-ghost use Rattle.rule_readers.specs.Next.{next_bytes};
-ghost use Rattle.vhdl_tokens.specs.Tokens.{is_name};
+ghost use Rattle.std.specs.Prelude.{◌≡◌, map, IfOk};
 ghost use Rattle.vhdl_tokens.specs.Spelling.{is_same};
 ghost use Rattle.grammar_rules.specs.Reading.{read};
 ghost use Rattle.vhdl_text.specs.VhdlRules as spec;
@@ -12,7 +10,7 @@ use crate::language::Vhdl;
 use rule_readers::{Cursor, Refusal, Stop};
 use std::alloc::{AllocError, Global};
 use vhdl_names::numbered_name;
-use vhdl_tokens::{is_name, is_same, number_of};
+use vhdl_tokens::{is_same, number_of};
 
 /// Tokens that must stand next, one behind the other.
 #[tactic(auto, using(crate::proofs::NextWords::expect_next, crate::proofs::NextWords::expect_other))]
@@ -50,15 +48,12 @@ pub fn this_number(cursor: &mut Cursor<'_, Vhdl>, number: usize) -> Result<(), S
 }
 
 /// The number that stands next.
-#[tactic(auto, using(rule_readers::proofs::Values::valued_some, rule_readers::proofs::Values::valued_none), unfolding(vhdl_text::specs::VhdlRules::a_number))]
+#[tactic(auto, using(rule_readers::proofs::Values::valued_found), unfolding(vhdl_text::specs::VhdlRules::a_number))]
 pub fn number(cursor: &mut Cursor<'_, Vhdl>) -> Result<u64, Stop>
     ensures { Reads (read spec.a_number cursor.old) result cursor.new }
 {
-    let Some(number) = number_of(cursor.bytes()) else {
-        return Err(Stop::Refused(Refusal::Syntax));
-    };
-    cursor.skip();
-    Ok(number)
+    let found = number_of(cursor.bytes());
+    cursor.value(found)
 }
 
 /// The time in picoseconds that stands next.
@@ -99,19 +94,4 @@ pub fn is_numbered(
 {
     let name = numbered_name(alloc, word, number)?;
     Ok(is_same(token, name.as_slice()))
-}
-
-/// A name that stands for a number, where it was found to do so.
-#[tactic(auto, using(crate::proofs::NextWords::known_some, crate::proofs::NextWords::known_none, crate::proofs::NextWords::known_other))]
-pub fn known_number(cursor: &mut Cursor<'_, Vhdl>, found: Option<usize>) -> Result<usize, Stop>
-    ensures { (find : List ℕ → Option ℕ) → (is_name (next_bytes cursor.old) ≡ true → found ≡ find (next_bytes cursor.old)) → Reads (read (spec.known find) cursor.old) result cursor.new }
-{
-    if !is_name(cursor.bytes()) {
-        return Err(Stop::Refused(Refusal::Syntax));
-    }
-    let Some(number) = found else {
-        return Err(Stop::Refused(Refusal::Undefined));
-    };
-    cursor.skip();
-    Ok(number)
 }

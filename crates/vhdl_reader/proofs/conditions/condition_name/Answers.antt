@@ -4,5 +4,5 @@ use Rattle.vhdl_reader.proofs.conditions.condition_name.Goals as goal
 
 pub returns : goal.returns
 returns c =
-    c.known_number.ensures (condition_of c.args.scope.now c.args.uses.now)
+    c.known.ensures (condition_of c.args.scope.now c.args.uses.now)
     (λ _. c.in_ok-found.ensures ∙ ap (condition_of c.args.scope.now c.args.uses.now) c.bytes.ensures)

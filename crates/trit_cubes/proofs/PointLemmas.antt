@@ -7,7 +7,7 @@ use Rattle.std.proofs.lemmas.Nat.Bits.{bit_at-suc, shr_and_one, bit_at_lowest}
 use Rattle.trit_cubes.specs.declared.trits.Trit.{Trit}
 use Rattle.trit_cubes.specs.declared.trits.Trit.TheVariants.{Unknown}
 use Rattle.trit_cubes.specs.Filling.{bit, number, same}
-use Rattle.trit_cubes.specs.Sets.{IsTableOf, AreValuesOf, has, gives, point_of}
+use Rattle.trit_cubes.specs.Sets.{AreValuesOf, has, gives, point_of}
 
 bit-is : (b : Bool) → (bit b == 1) ≡ b
 bit-is true = refl
@@ -52,18 +52,7 @@ point_of-more n k i point l m e =
     take_more_set point i b m ∙ ap (λ q. q ++ b ∷ []) e
     ∙ sym (take_more (point_of n k) i b (rw (length-point_of n k) l) ∙ ap (λ x. take i (point_of n k) ++ x ∷ []) (get_or_from_slice_get (point_of n k) i b b at))
 
--- a table whose entries are those of the points of their places
-pub table-points : (n : ℕ) (set : List Bool → Bool) (table : List Bool) → length table ≡ 2 ^ n
-    → ((j : ℕ) → j < 2 ^ n → slice_index_or table j false ≡ set (point_of n j)) → IsTableOf n set table
-table-points n set table long h =
-    record {
-      entries = long;
-      values = λ p e.
-          let below : number p < 2 ^ n = rw (← e) (number-below p) in
-          h (number p) below ∙ ap set (ap (λ m. point_of m (number p)) (sym e) ∙ point_of-number p);
-    }
-
--- and so a list of values
+-- a list whose entries are the values at the points of their places
 pub values-points : (n : ℕ) (f : List Bool → Trit) (values : List Trit) → length values ≡ 2 ^ n
     → ((j : ℕ) → j < 2 ^ n → slice_index_or values j Unknown ≡ f (point_of n j)) → AreValuesOf n f values
 values-points n f values long h =

@@ -8,15 +8,6 @@ use Rattle.trit_cubes.specs.Filling.{number, same}
 abbrev pub has : List Bool → List Bool → Bool
 has table p = slice_index_or table (number p) false
 
--- the table has an entry for each point of n places, and each says whether the point is in the set
-pub record IsTableOf (n : ℕ) (set : List Bool → Bool) (table : List Bool) : Type 0 where
-  pub entries : length table ≡ 2 ^ n
-  pub values : (p : List Bool) → length p ≡ n → has table p ≡ set p
-
--- a closure that returns this tests whether a point of n places is in the set
-pub record Tests (returns : List Bool → Bool → Type 0) (n : ℕ) (set : List Bool → Bool) : Type 0 where
-  pub at_point : (p : List Bool) → length p ≡ n → (b : Bool) → returns p b → b ≡ set p
-
 -- the first n places of the point with this number
 abbrev pub point_of : ℕ → ℕ → List Bool
 point_of zero k = []

@@ -5,9 +5,9 @@ mod covering;
 mod cubes;
 pub mod laws;
 mod merging;
+mod points;
 mod resolution;
 mod splitting;
-mod tabulation;
 #[cfg(test)]
 mod tests;
 mod trits;
@@ -21,6 +21,5 @@ pub use cubes::Cube;
 pub use merging::merge_primes;
 pub use resolution::resolve;
 pub use splitting::primes;
-pub use tabulation::table_of;
 pub use trits::Trit;
 pub use valuation::{primes_where, values_of};

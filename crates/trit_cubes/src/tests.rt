@@ -3,9 +3,9 @@
 use crate::cubes::Cube;
 use crate::merging::merge_primes;
 use crate::splitting::primes;
-use crate::tabulation::table_of;
 use crate::trits::Trit;
 use crate::trying::primes_by_trying;
+use crate::valuation::{primes_where, values_of};
 use std::alloc::Global;
 use std::test::Fail;
 
@@ -52,12 +52,12 @@ fn primes_merge(rt: HostRuntime) -> Result<(), Fail> {
 #[test]
 fn each_odd_point_of_ten_places_is_a_prime(rt: HostRuntime) -> Result<(), Fail> {
     let alloc = rt.alloc();
-    let odd = table_of(
+    let odd = values_of(
         alloc,
         10,
-        &|point: &[bool]| point.iter().filter(|bit| **bit).count() % 2 == 1,
+        &|point: &[bool]| Trit::from(point.iter().filter(|bit| **bit).count() % 2 == 1),
     )?;
-    let found = primes(alloc, 10, &odd)?;
+    let found = primes_where(alloc, 10, &odd, Trit::One)?;
     assert_eq!(rt; found.len(), 512);
     Ok(())
 }

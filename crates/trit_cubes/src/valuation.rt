@@ -8,8 +8,8 @@ ghost use Rattle.trit_cubes.specs.Sets.{Gives, AreValuesOf, gives};
 ghost use Rattle.trit_cubes.specs.Prime.{prime_list};
 
 use crate::cubes::Cube;
+use crate::points::point_of;
 use crate::splitting::primes;
-use crate::tabulation::point_of;
 use crate::trits::Trit;
 use std::alloc::{AllocError, Global};
 

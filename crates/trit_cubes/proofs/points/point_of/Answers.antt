@@ -1,6 +1,6 @@
 use Rattle.std.proofs.Common.{length-set, ◌∙◌, arith}
 use Rattle.trit_cubes.proofs.PointLemmas.{point_of-more}
-use Rattle.trit_cubes.proofs.tabulation.point_of.Goals as goal
+use Rattle.trit_cubes.proofs.points.point_of.Goals as goal
 
 pub loop-i-preserved : goal.loop-i-preserved
 loop-i-preserved c = (

@@ -1,7 +1,5 @@
 -- What stands beside a module, and finds its nets.
 use Rattle.std.specs.Prelude.{ℕ, List, Option, Some, None}
-use Rattle.specify_blocks.specs.declared.model.VPath.{VPath}
-use Rattle.udp_tables.specs.declared.timing_checks.TimingCheck.{TimingCheck}
 use Rattle.specify_blocks.specs.declared.model.VModule.{VModule}
 use Rattle.specify_blocks.specs.VerilogModules.{port_name}
 use Rattle.verilog_reader.specs.declared.driven_nets.DrivenNets.{DrivenNets}
@@ -19,17 +17,3 @@ pub record AreKeptOf (m : VModule) (of_ports of_wires : Option FirstNames) (mark
   pub ports : MayFind port_name of_ports m.ports
   pub wires : MayFind own_name of_wires m.wires
   pub driven : AreDriven marks m.udps m.instances
-
--- the module with a specify block
-abbrev pub with_block : VModule → List VPath → List TimingCheck → VModule
-with_block m paths checks =
-    record {
-      name = m.name;
-      ports = m.ports;
-      wires = m.wires;
-      notifier = m.notifier;
-      udps = m.udps;
-      instances = m.instances;
-      paths = paths;
-      checks = checks;
-    }

@@ -67,8 +67,7 @@ impl Netlist {
     ghost use Rattle.specify_blocks.specs.declared.model.VNet.TheVariants as net;
     ghost use Rattle.specify_blocks.specs.Nets as nets;
     ghost use Rattle.specify_blocks.specs.VerilogModules.{is_driven_already, with_instance};
-    ghost use Rattle.specify_blocks.specs.VerilogBlocks.{port_of};
-    ghost use Rattle.verilog_reader.specs.Netlist.{with_block};
+    ghost use Rattle.specify_blocks.specs.VerilogBlocks.{port_of, with_block};
 
     /// A module, with what finds its nets.
     pub fn new(alloc: Global, model: VModule) -> Result<Netlist, Stop>

@@ -2,6 +2,7 @@
 ghost use Rattle.std.specs.Prelude.{◌≡◌, IfOk};
 ghost use Rattle.bool_functions.specs.NameList.{AreDistinct};
 ghost use Rattle.cell_machine.specs.CellData.{data_of};
+ghost use Rattle.specify_blocks.specs.Names.{module_name as module_name_of};
 ghost use Rattle.simulation_catalog.specs.NamedModels.{module_names as module_names_of, lowered_names as lowered_names_of, shown, has_ports, module_ports, entity_ports, verilog_number as verilog_number_of, vital_number as vital_number_of};
 ghost use Rattle.simulation_catalog.specs.declared.same_ports.Spelling.TheVariants as spelling;
 
@@ -10,6 +11,7 @@ use crate::same_ports::Spelling;
 use bool_functions::Names;
 use cell_machine::Cell;
 use specify_blocks::{VModule, module_name, verilog_ports};
+use sqlite_items::Items;
 use std::alloc::{AllocError, Global};
 use udp_tables::VPort;
 use vital_models::{VEntity, vital_ports};
@@ -49,7 +51,7 @@ impl<'a> ModelFiles<'a> {
     fn verilog_number(&self, alloc: Global, cell: &Cell) -> Result<Option<usize>, AllocError>
         ensures { IfOk result (λ number. number ≡ verilog_number_of (shown self.now) (data_of cell.now)) }
     {
-        let name = module_name(alloc, cell.number, cell.name.as_slice())?;
+        let name = name_of_module(alloc, cell)?;
         let ports = verilog_ports(alloc, cell.pins.as_slice())?;
         match self.module_names.number(name.as_slice()) {
             None => Ok(None),
@@ -94,6 +96,13 @@ impl<'a> ModelFiles<'a> {
             None => false,
         }
     }
+}
+
+/// The name of the module of a cell.
+fn name_of_module(alloc: Global, cell: &Cell) -> Result<Items<u8>, AllocError>
+    ensures { IfOk result (λ name. name ≡ module_name_of cell.now.number cell.now.name) }
+{
+    module_name(alloc, cell.number, cell.name.as_slice())
 }
 
 /// The names of modules, in their order, where no two have one name.

@@ -3,3 +3,4 @@ pub mod Choices
 pub mod Values
 pub mod TextAnswers
 pub mod Passing
+pub mod Places

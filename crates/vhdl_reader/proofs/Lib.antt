@@ -13,6 +13,6 @@ pub mod WellRead
 pub mod LoweredNames
 pub mod ValueCounts
 pub mod StoppedTurns
-pub mod Places
 pub mod SourceNumbers
 pub mod SameBytes
+pub mod EitherWords

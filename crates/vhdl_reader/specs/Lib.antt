@@ -4,3 +4,4 @@ pub mod File
 pub mod Lowered
 pub mod SourceParts
 pub mod Tails
+pub mod EitherWord

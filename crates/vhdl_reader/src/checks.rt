@@ -13,7 +13,7 @@ use crate::declarations::Declarations;
 use crate::language::Vhdl;
 use crate::limits::{active_low, both_limits, enabled, one_limit, referred, tested, transition};
 use crate::pulses::{a_pulse, pulse_check};
-use crate::words::expect_all;
+use crate::words::{either_word, expect_all};
 use cell_machine::{CheckKind, Edge, Event};
 use rule_readers::{Cursor, Stop};
 use sqlite_items::Items;
@@ -38,26 +38,17 @@ enum Procedure {
     PeriodPulse,
 }
 
-/// The kind of a check of setup or hold, by the word of its first limit.
-fn setup_or_hold(token: &[u8]) -> Option<CheckKind>
-    ensures { result ≡ spec.setup_or_hold token.now }
-{
-    if is_same(token, b"SetupHigh") {
-        Some(CheckKind::Setup)
-    } else if is_same(token, b"HoldHigh") {
-        Some(CheckKind::Hold)
-    } else {
-        None
-    }
-}
-
 /// The kind of a check of setup or hold that stands next.
-#[tactic(auto, using(rule_readers::proofs::Values::valued_found))]
 fn a_setup_or_hold(cursor: &mut Cursor<'_, Vhdl>) -> Result<CheckKind, Stop>
     ensures { Reads (read (valued spec.setup_or_hold) cursor.old) result cursor.new }
 {
-    let found = setup_or_hold(cursor.bytes());
-    cursor.value(found)
+    either_word(
+        cursor,
+        b"SetupHigh",
+        CheckKind::Setup,
+        b"HoldHigh",
+        CheckKind::Hold,
+    )
 }
 
 /// The check of these events, in the order in which a kind of check has them.
@@ -138,26 +129,17 @@ fn setup_hold(
     Ok(Checks { checks, uses: more })
 }
 
-/// The kind of a check of recovery or removal, by the word of its limit.
-fn recovery_or_removal(token: &[u8]) -> Option<CheckKind>
-    ensures { result ≡ spec.recovery_or_removal token.now }
-{
-    if is_same(token, b"Recovery") {
-        Some(CheckKind::Recovery)
-    } else if is_same(token, b"Removal") {
-        Some(CheckKind::Removal)
-    } else {
-        None
-    }
-}
-
 /// The kind of a check of recovery or removal that stands next.
-#[tactic(auto, using(rule_readers::proofs::Values::valued_found))]
 fn a_recovery_or_removal(cursor: &mut Cursor<'_, Vhdl>) -> Result<CheckKind, Stop>
     ensures { Reads (read (valued spec.recovery_or_removal) cursor.old) result cursor.new }
 {
-    let found = recovery_or_removal(cursor.bytes());
-    cursor.value(found)
+    either_word(
+        cursor,
+        b"Recovery",
+        CheckKind::Recovery,
+        b"Removal",
+        CheckKind::Removal,
+    )
 }
 
 /// A call of VitalRecoveryRemovalCheck, behind its word.

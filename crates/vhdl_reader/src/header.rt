@@ -11,7 +11,7 @@ ghost use Rattle.vhdl_text.specs.VhdlDeclarations as spec;
 
 use crate::language::Vhdl;
 use crate::ports::Ports;
-use crate::words::expect_all;
+use crate::words::{either_word, expect_all};
 use rule_readers::{Cursor, Refusal, Stop};
 use sqlite_items::Items;
 use std::alloc::Global;
@@ -85,26 +85,11 @@ fn port_name(
     Ok(name)
 }
 
-/// Whether a token says that a port is an input, or an output.
-fn is_input_word(token: &[u8]) -> Option<bool>
-    ensures { result ≡ spec.is_input_word token.now }
-{
-    if is_same(token, b"in") {
-        Some(true)
-    } else if is_same(token, b"out") {
-        Some(false)
-    } else {
-        None
-    }
-}
-
 /// The direction of a port: whether it is an input.
-#[tactic(auto, using(rule_readers::proofs::Values::valued_found))]
 fn direction(cursor: &mut Cursor<'_, Vhdl>) -> Result<bool, Stop>
     ensures { Reads (read (valued spec.is_input_word) cursor.old) result cursor.new }
 {
-    let found = is_input_word(cursor.bytes());
-    cursor.value(found)
+    either_word(cursor, b"in", true, b"out", false)
 }
 
 /// One more port of this entity.

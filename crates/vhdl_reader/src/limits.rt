@@ -12,12 +12,12 @@ use crate::conditions::condition;
 use crate::declarations::Declarations;
 use crate::language::Vhdl;
 use crate::names::an_input;
-use crate::words::{expect_all, numbered, time};
+use crate::words::{either_word, expect_all, numbered, time};
 use cell_machine::{CheckKind, Edge};
 use rule_readers::{Cursor, Stop};
 use sqlite_items::Items;
 use std::alloc::Global;
-use vhdl_tokens::{is_same, number_of};
+use vhdl_tokens::number_of;
 
 /// Whether the data of the check with this number, from 0, are of this type.
 fn has_data(scope: &Declarations, is_period: bool, check: usize) -> bool
@@ -131,26 +131,11 @@ pub fn enabled(
     Ok((None, uses))
 }
 
-/// The edge of the reference.
-fn reference_edge(token: &[u8]) -> Option<Edge>
-    ensures { result ≡ spec.reference_edge token.now }
-{
-    if is_same(token, b"'R'") {
-        Some(Edge::Rise)
-    } else if is_same(token, b"'F'") {
-        Some(Edge::Fall)
-    } else {
-        None
-    }
-}
-
 /// The edge of the reference that stands next.
-#[tactic(auto, using(rule_readers::proofs::Values::valued_found))]
 fn an_edge(cursor: &mut Cursor<'_, Vhdl>) -> Result<Edge, Stop>
     ensures { Reads (read (valued spec.reference_edge) cursor.old) result cursor.new }
 {
-    let found = reference_edge(cursor.bytes());
-    cursor.value(found)
+    either_word(cursor, b"'R'", Edge::Rise, b"'F'", Edge::Fall)
 }
 
 /// The transition of the reference, and the end of the call.
@@ -219,26 +204,11 @@ pub fn one_limit(cursor: &mut Cursor<'_, Vhdl>) -> Result<u64, Stop>
     Ok(limit)
 }
 
-/// The edge with which a control ends.
-fn control_edge(token: &[u8]) -> Option<Edge>
-    ensures { result ≡ spec.control_edge token.now }
-{
-    if is_same(token, b"true") {
-        Some(Edge::Rise)
-    } else if is_same(token, b"false") {
-        Some(Edge::Fall)
-    } else {
-        None
-    }
-}
-
 /// The edge with which a control ends, by the word that stands next.
-#[tactic(auto, using(rule_readers::proofs::Values::valued_found))]
 fn a_control_edge(cursor: &mut Cursor<'_, Vhdl>) -> Result<Edge, Stop>
     ensures { Reads (read (valued spec.control_edge) cursor.old) result cursor.new }
 {
-    let found = control_edge(cursor.bytes());
-    cursor.value(found)
+    either_word(cursor, b"true", Edge::Rise, b"false", Edge::Fall)
 }
 
 /// Whether a control is active low, as the edge with which it ends.

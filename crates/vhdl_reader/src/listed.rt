@@ -42,7 +42,7 @@ fn is_listed(numbers: &[usize], number: usize) -> bool
 }
 
 /// The first numbers of a list, which are compared one by one.
-#[tactic(auto, using(crate::proofs::Places::take_all))]
+#[tactic(auto, using(rule_readers::proofs::Places::take_all))]
 fn near(numbers: &[usize]) -> &[usize]
     ensures { result.now ≡ take 16 numbers.now }
 {
@@ -55,7 +55,7 @@ fn near(numbers: &[usize]) -> &[usize]
 
 /// The set beside a list of numbers, where one more comes behind them, which is none of them. An `Err` comes only where memory is
 /// wanting.
-#[tactic(auto, using(crate::proofs::Places::none_behind, crate::proofs::Places::drop_near, crate::proofs::Places::drop_far))]
+#[tactic(auto, using(rule_readers::proofs::Places::none_behind, rule_readers::proofs::Places::drop_near, rule_readers::proofs::Places::drop_far))]
 fn far_with(
     mut far: IndexSet<usize>,
     numbers: &[usize],

@@ -15,12 +15,12 @@ use crate::declarations::Declarations;
 use crate::language::Vhdl;
 use crate::sources::sources_of;
 use crate::symbols::truth_width;
-use crate::words::{expect_all, is_numbered, numbered};
+use crate::words::{either_word, expect_all, is_numbered, numbered};
 use rule_readers::{Cursor, Refusal, Stop};
 use sqlite_items::Items;
 use std::alloc::{AllocError, Global};
 use vhdl_text::Assigned;
-use vhdl_tokens::{is_name, is_same};
+use vhdl_tokens::is_name;
 
 /// How many inputs the table of an output with this number has.
 fn output_width(scope: &Declarations, table: usize) -> usize
@@ -78,26 +78,11 @@ fn next_lookup(
     lookup(cursor, alloc, scope, values.lookups())
 }
 
-/// The bit that a literal stands for.
-fn bit(token: &[u8]) -> Option<bool>
-    ensures { result ≡ spec.bit token.now }
-{
-    if is_same(token, b"'0'") {
-        Some(false)
-    } else if is_same(token, b"'1'") {
-        Some(true)
-    } else {
-        None
-    }
-}
-
 /// The bit that stands next.
-#[tactic(auto, using(rule_readers::proofs::Values::valued_found))]
 fn a_bit(cursor: &mut Cursor<'_, Vhdl>) -> Result<bool, Stop>
     ensures { Reads (read (valued spec.bit) cursor.old) result cursor.new }
 {
-    let found = bit(cursor.bytes());
-    cursor.value(found)
+    either_word(cursor, b"'0'", false, b"'1'", true)
 }
 
 /// A constant.

@@ -12,33 +12,23 @@ use crate::language::Vhdl;
 use crate::ports::Ports;
 use crate::scope::width_at;
 use crate::variable_names::{VariableOf, awaits_violation, variable_name};
-use crate::words::{expect_all, numbered, this_number};
+use crate::words::{either_word, expect_all, numbered, this_number};
 use rule_readers::{Cursor, Stop};
 use sqlite_items::Items;
 use std::alloc::{AllocError, Global};
 use vhdl_text::{Tables, Variables};
-use vhdl_tokens::is_same;
-
-/// Whether a type is of the data of a pulse or of a period, or else of those of other checks.
-fn is_period_type(token: &[u8]) -> Option<bool>
-    ensures { result ≡ spec.is_period_type token.now }
-{
-    if is_same(token, b"VitalTimingDataType") {
-        Some(false)
-    } else if is_same(token, b"VitalPeriodDataType") {
-        Some(true)
-    } else {
-        None
-    }
-}
 
 /// The type of the data of a check.
-#[tactic(auto, using(rule_readers::proofs::Values::valued_found))]
 fn period_type(cursor: &mut Cursor<'_, Vhdl>) -> Result<bool, Stop>
     ensures { Reads (read (valued spec.is_period_type) cursor.old) result cursor.new }
 {
-    let found = is_period_type(cursor.bytes());
-    cursor.value(found)
+    either_word(
+        cursor,
+        b"VitalTimingDataType",
+        false,
+        b"VitalPeriodDataType",
+        true,
+    )
 }
 
 /// The first data of a check of this type, and the end of its declaration.

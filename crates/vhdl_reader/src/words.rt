@@ -5,6 +5,8 @@ ghost use Rattle.vhdl_tokens.specs.Spelling.{is_same};
 ghost use Rattle.grammar_rules.specs.Reading.{read};
 ghost use Rattle.vhdl_text.specs.VhdlRules as spec;
 ghost use Rattle.rule_readers.specs.Reading.{Reads};
+ghost use Rattle.rule_readers.specs.Words.{valued};
+ghost use Rattle.vhdl_reader.specs.EitherWord.{either_word};
 
 use crate::language::Vhdl;
 use rule_readers::{Cursor, Refusal, Stop};
@@ -53,6 +55,27 @@ pub fn number(cursor: &mut Cursor<'_, Vhdl>) -> Result<u64, Stop>
     ensures { Reads (read spec.a_number cursor.old) result cursor.new }
 {
     let found = number_of(cursor.bytes());
+    cursor.value(found)
+}
+
+/// What the next token stands for, which has to be one of these two words.
+#[tactic(auto, using(crate::proofs::EitherWords::either_found))]
+pub fn either_word<A: Drop>(
+    cursor: &mut Cursor<'_, Vhdl>,
+    first: &[u8],
+    one: A,
+    second: &[u8],
+    other: A,
+) -> Result<A, Stop>
+    ensures { Reads (read (valued (either_word first.now one second.now other)) cursor.old) result cursor.new }
+{
+    let found = if cursor.is_next(first) {
+        Some(one)
+    } else if cursor.is_next(second) {
+        Some(other)
+    } else {
+        None
+    };
     cursor.value(found)
 }
 

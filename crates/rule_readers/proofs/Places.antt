@@ -2,7 +2,7 @@
 use Rattle.std.proofs.Common.{◌≡◌, ℕ, zero, suc, ◌<◌, ◌≤◌, Bool, true, false, ◌||◌, List, [], ◌∷◌, ◌++◌, length, take, drop, refl, sym, ap, ◌∙◌, arith}
 use Rattle.std.specs.List.{list_any}
 
-either_of : (a b c : Bool) → (a || (b || c)) ≡ ((a || b) || c)
+pub either_of : (a b c : Bool) → (a || (b || c)) ≡ ((a || b) || c)
 either_of true b c = refl
 either_of false b c = refl
 

@@ -7,7 +7,6 @@ use Rattle.std.proofs.lemmas.List.Recursion.{is_count_by}
 use Rattle.cell_machine.specs.declared.pins.Pin.{Pin}
 use Rattle.cell_machine.specs.declared.pins.Direction.{Direction}
 use Rattle.cell_machine.specs.declared.pins.Direction.TheVariants.{Input, Output, Internal}
-use Rattle.cell_machine.specs.declared.outputs.OutputPin.{OutputPin}
 use Rattle.cell_machine.specs.CellData.{CellData}
 use Rattle.cell_machine.specs.CellRules.{is_cell}
 use Rattle.cell_machine.specs.CellTrace.{inputs_of, cell_machine_of}
@@ -25,6 +24,7 @@ use Rattle.model_traces.specs.PortNumbers.{is_input, input_count, output_by, out
 use Rattle.model_traces.specs.ModuleTrace.{module_machine}
 use Rattle.model_traces.specs.EntityTrace.{entity_machine}
 use Rattle.model_traces.specs.ModuleFits as modules_of
+use Rattle.model_traces.proofs.FitLemmas.{fit-length}
 use Rattle.model_traces.proofs.ModelAgreement.{generated-modules, generated-entities}
 use Rattle.stimulus.specs.declared.ports.Standing.{Standing}
 use Rattle.section_runs.specs.Comparison.{HavePorts}
@@ -106,12 +106,6 @@ output_pins_from n k (pin ∷ pins) = by pin.name pin.direction (output_pins_fro
 
 -- The modules and the entities that are generated.
 
-fitting_outputs : (d : CellData) (m : VModule) (outputs : List OutputPin) (ps : List ℕ) → modules_of.FitOutputs d m outputs ps → length outputs ≡ length ps
-fitting_outputs d m [] [] f = refl
-fitting_outputs d m [] (p ∷ ps) f = absurd f
-fitting_outputs d m (output ∷ outputs) [] f = absurd f
-fitting_outputs d m (output ∷ outputs) (p ∷ ps) f = ap suc (fitting_outputs d m outputs ps f.1)
-
 counted : (n : ℕ) (ports : List VPort) → length (output_ports_from n ports) ≡ length (outputs_from n ports)
 counted n [] = refl
 counted n (port ∷ ports) =
@@ -134,7 +128,7 @@ have_ports standing cell entity m e rules same other generated sound =
     let fits = generated-modules cell rules in
     let entity_fits = generated-entities cell entity rules in
     let inputs : length (pin_names Input cell.pins) ≡ inputs_of cell = input_pins cell in
-    let outputs : length cell.outputs ≡ length (output_ports (in_verilog.ports_of cell.pins)) = fitting_outputs cell (module_of cell) cell.outputs (output_ports (in_verilog.ports_of cell.pins)) fits.outputs in
+    let outputs : length cell.outputs ≡ length (output_ports (in_verilog.ports_of cell.pins)) = sym (fit-length (modules_of.FitsOutput cell (module_of cell)) cell.outputs (output_ports (in_verilog.ports_of cell.pins)) fits.outputs) in
     let names : length (pin_names Output cell.pins) ≡ length (output_ports (in_verilog.ports_of cell.pins)) = output_pins_from 0 1 cell.pins in
     let written : length cell.outputs ≡ length (output_ports (in_vital.ports_of entity cell.pins)) =
     sym (length-map cell.outputs _) ∙ driven (entity_of cell entity) generated in

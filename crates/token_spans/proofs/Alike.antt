@@ -5,19 +5,19 @@ use Rattle.std.specs.List.{prefix_len, list_all}
 use Rattle.std.specs.Char.{is_ascii_digit}
 use Rattle.token_spans.specs.Tokens.{is_blank, is_name_byte, begins_with}
 
--- the bytes of blanks
-pub blanks : (c : ℕ) → is_blank c ≡ true → (f : ℕ → Bool) → f 32 ≡ false → f 9 ≡ false → f 10 ≡ false → f c ≡ false
-blanks c b f space tab line_end = first (nat_eq 32 c) refl b
+-- what a space, a tab and a line end have in common, each blank has
+pub blanks : {A : Type 0} {z : A} (c : ℕ) → is_blank c ≡ true → (f : ℕ → A) → f 32 ≡ z → f 9 ≡ z → f 10 ≡ z → f c ≡ z
+blanks {A} {z} c b f space tab line_end = first (nat_eq 32 c) refl b
   where
-    third : (t : Bool) → nat_eq 10 c ≡ t → (t || false) ≡ true → f c ≡ false
+    third : (t : Bool) → nat_eq 10 c ≡ t → (t || false) ≡ true → f c ≡ z
     third true e h = ap f (sym (eqb-true 10 c e)) ∙ line_end
     third false e h = absurd cc
 
-    second : (t : Bool) → nat_eq 9 c ≡ t → (t || (nat_eq 10 c || false)) ≡ true → f c ≡ false
+    second : (t : Bool) → nat_eq 9 c ≡ t → (t || (nat_eq 10 c || false)) ≡ true → f c ≡ z
     second true e h = ap f (sym (eqb-true 9 c e)) ∙ tab
     second false e h = third (nat_eq 10 c) refl h
 
-    first : (t : Bool) → nat_eq 32 c ≡ t → (t || (nat_eq 9 c || (nat_eq 10 c || false))) ≡ true → f c ≡ false
+    first : (t : Bool) → nat_eq 32 c ≡ t → (t || (nat_eq 9 c || (nat_eq 10 c || false))) ≡ true → f c ≡ z
     first true e h = ap f (sym (eqb-true 32 c e)) ∙ space
     first false e h = second (nat_eq 9 c) refl h
 

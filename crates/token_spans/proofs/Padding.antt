@@ -1,5 +1,5 @@
 -- What is added between tokens changes none.
-use Rattle.std.proofs.Common.{◌≡◌, ℕ, zero, suc, ◌+◌, Bool, true, false, not, ◌==◌, List, [], ◌∷◌, ◌++◌, length, take, Option, refl, sym, ap, ◌∙◌, arith, subst}
+use Rattle.std.proofs.Common.{◌≡◌, ℕ, zero, suc, ◌+◌, ◌<◌, Bool, true, false, not, ◌==◌, List, [], ◌∷◌, ◌++◌, length, take, Option, refl, sym, ap, ◌∙◌, arith, subst, append_assoc}
 use Rattle.std.proofs.lemmas.Bool.{and_parts}
 use Rattle.std.specs.List.{prefix_len, list_all}
 use Rattle.token_spans.specs.Tokens.{Token, Lexis, is_blank, at_front, after, scan}
@@ -22,7 +22,7 @@ front_is [] r = refl
 front_is (c ∷ w) r = ap (λ (s : List ℕ). c ∷ s) (front_is w r)
 
 -- the bytes before a line end
-pub line_run : (body r : List ℕ) → list_all (λ c. not (c == 10)) body ≡ true → prefix_len (λ c. not (c == 10)) (body ++ (10 ∷ r)) ≡ length body
+line_run : (body r : List ℕ) → list_all (λ c. not (c == 10)) body ≡ true → prefix_len (λ c. not (c == 10)) (body ++ (10 ∷ r)) ≡ length body
 line_run [] r e = refl
 line_run (c ∷ body) r e =
     let s = and_parts (not (c == 10)) (list_all (λ c. not (c == 10)) body) e in
@@ -72,13 +72,32 @@ module _ (l : Lexis) where
       spelled (scan l t at 0 (b ∷ r)) ≡ spelled (scan l t z 0 r)
   over_blank blank_length t at z b r e = over_separator t at z b [] r (blank_length b r e)
 
--- In a language, what is added begins with a blank or is nothing, and is passed over; and where a token begins, the token stays,
--- and no separator begins, however the bytes behind it change behind a blank.
+  -- a comment of one line is passed over, with its line end
+  pub over_line : ((b : ℕ) (s : List ℕ) → is_blank b ≡ true → l.separator_length (b ∷ s) ≡ 1) → (c : ℕ)
+      → ((s : List ℕ) → l.separator_length (c ∷ c ∷ s) ≡ 1 + (1 + prefix_len (λ b. not (b == 10)) s))
+      → (t : Bool) (at z : ℕ) (body r : List ℕ) → list_all (λ b. not (b == 10)) body ≡ true
+      → spelled (scan l t at 0 (c ∷ c ∷ body ++ (10 ∷ r))) ≡ spelled (scan l t z 0 r)
+  over_line blank_length c long t at z body r e =
+      let n : l.separator_length (c ∷ c ∷ body ++ (10 ∷ r)) ≡ suc (length (c ∷ body)) = omega (arith, long (body ++ (10 ∷ r)), line_run body r e) in
+      over_separator t at 0 c (c ∷ body) (10 ∷ r) n ∙ over_blank blank_length t 0 z 10 r refl
+
+  -- a blank and a comment behind it are passed over, where the comment is in front of any bytes
+  pub over_comment : ((b : ℕ) (s : List ℕ) → is_blank b ≡ true → l.separator_length (b ∷ s) ≡ 1) → (t : Bool) (at z b : ℕ) (front body end : List ℕ)
+      → is_blank b ≡ true → ((r : List ℕ) → spelled (scan l t 0 0 (front ++ (body ++ (end ++ r)))) ≡ spelled (scan l t z 0 r))
+      → {s : List ℕ} (rest r : List ℕ) → s ≡ b ∷ front ++ (body ++ (end ++ rest)) → spelled (scan l t at 0 (s ++ r)) ≡ spelled (scan l t z 0 (rest ++ r))
+  over_comment blank_length t at z b front body end e over {s} rest r g =
+      let inner : (body ++ (end ++ rest)) ++ r ≡ body ++ (end ++ (rest ++ r)) = append_assoc body (end ++ rest) r ∙ ap (λ (x : List ℕ). body ++ x) (append_assoc end rest r) in
+      let same : (front ++ (body ++ (end ++ rest))) ++ r ≡ front ++ (body ++ (end ++ (rest ++ r))) = append_assoc front (body ++ (end ++ rest)) r ∙ ap (λ (x : List ℕ). front ++ x) inner in
+      ap (λ (x : List ℕ). spelled (scan l t at 0 (x ++ r))) g
+      ∙ over_blank blank_length t at 0 b ((front ++ (body ++ (end ++ rest))) ++ r) e
+      ∙ ap (λ (x : List ℕ). spelled (scan l t 0 0 x)) same ∙ over (rest ++ r)
+
+-- In a language, what is added begins with a blank or is nothing, and is passed over; where a token begins, no separator does; and a
+-- token stays, however the bytes behind it change behind a blank.
 pub record Lets (l : Lexis) (IsSeparation : List ℕ → Type 0) : Type 0 where
   pub added : (s : List ℕ) → IsSeparation s → (t : Bool) (at z : ℕ) (r : List ℕ) → spelled (scan l t at 0 (s ++ r)) ≡ spelled (scan l t z 0 r)
   pub alike_added : (s : List ℕ) → IsSeparation s → (r p : List ℕ) → Alike r p → Alike r (s ++ p)
-  pub no_separator : (t : Bool) (b : ℕ) (w r p : List ℕ) → Alike r p → l.separator_length (b ∷ w ++ r) ≡ 0 →
-      l.token_length t (b ∷ w ++ r) ≡ suc (length w) → l.separator_length (b ∷ w ++ p) ≡ 0
+  pub token_first : (t : Bool) (s : List ℕ) → 0 < l.token_length t s → l.separator_length s ≡ 0
   pub token_stays : (t : Bool) (b : ℕ) (w r p : List ℕ) → Alike r p → l.token_length t (b ∷ w ++ r) ≡ suc (length w) → l.token_length t (b ∷ w ++ p) ≡ suc (length w)
 
 module _ (l : Lexis) (IsSeparation : List ℕ → Type 0) (lets : Lets l IsSeparation) where
@@ -101,11 +120,11 @@ module _ (l : Lexis) (IsSeparation : List ℕ → Type 0) (lets : Lets l IsSepar
   padded_same (pad.token {flag = t} c s rest more e f g k h) at z =
       let n : l.separator_length (c ∷ s ++ rest) ≡ 0 = ap l.separator_length (sym e) ∙ g in
       let stands : l.token_length t (c ∷ s ++ rest) ≡ suc (length s) = ap (l.token_length t) (sym e) ∙ k in
-      let a : Alike rest more = padded_alike h in
+      let stays : l.token_length t (c ∷ s ++ more) ≡ suc (length s) = lets.token_stays t c s rest more (padded_alike h) stands in
       ap (λ (x : List ℕ). spelled (scan l t at 0 x)) e
       ∙ over_token l t at 0 c s rest n stands
       ∙ ap (word_before (c ∷ s)) (padded_same h 0 0)
-      ∙ sym (over_token l t z 0 c s more (lets.no_separator t c s rest more a n stands) (lets.token_stays t c s rest more a stands))
+      ∙ sym (over_token l t z 0 c s more (lets.token_first t (c ∷ s ++ more) (omega (arith, stays))) stays)
       ∙ ap (λ (x : List ℕ). spelled (scan l t z 0 x)) (sym f)
 
   -- what is added between tokens changes none

@@ -1,20 +1,12 @@
 -- Where a token begins, no separator does.
-use Rattle.std.proofs.Common.{◌≡◌, ◌<◌, ℕ, zero, suc, Bool, true, false, nat_eq, List, [], ◌∷◌, refl, subst, arith, codes}
+use Rattle.std.proofs.Common.{◌≡◌, ◌<◌, ℕ, Bool, true, false, nat_eq, List, [], ◌∷◌, refl, subst, arith, codes}
 use Rattle.std.proofs.lemmas.Bool.{eqb-true}
 use Rattle.vhdl_tokens.specs.Tokens.{is_blank, begins_with, separator_length, token_length}
 use Rattle.token_spans.proofs.Alike.{blanks}
 
-abbrev is_some_length : ℕ → Bool
-is_some_length zero = false
-is_some_length (suc n) = true
-
-at_blank : (t : Bool) (b : ℕ) (s : List ℕ) → is_blank b ≡ true → is_some_length (token_length t (b ∷ s)) ≡ false
-at_blank true b s e = blanks b e (λ c. is_some_length (token_length true (c ∷ s))) refl refl refl
-at_blank false b s e = blanks b e (λ c. is_some_length (token_length false (c ∷ s))) refl refl refl
-
-not_both : (n : ℕ) → is_some_length n ≡ false → 0 < n → ⊥
-not_both zero e h = omega (arith, h)
-not_both (suc n) e h = absurd cc
+at_blank : (t : Bool) (b : ℕ) (s : List ℕ) → is_blank b ≡ true → token_length t (b ∷ s) ≡ 0
+at_blank true b s e = blanks b e (λ c. token_length true (c ∷ s)) refl refl refl
+at_blank false b s e = blanks b e (λ c. token_length false (c ∷ s)) refl refl refl
 
 at_dash : (t : Bool) (s : List ℕ) → token_length t (45 ∷ s) ≡ 0
 at_dash true s = refl
@@ -32,6 +24,6 @@ no_separator t [] h = refl
 no_separator t (b ∷ s) h = by (is_blank b) (begins_with (b ∷ s) (codes "--")) refl refl
   where
     by : (x y : Bool) → is_blank b ≡ x → begins_with (b ∷ s) (codes "--") ≡ y → separator_length (b ∷ s) ≡ 0
-    by true y e f = absurd (not_both (token_length t (b ∷ s)) (at_blank t b s e) h)
+    by true y e f = let k : token_length t (b ∷ s) ≡ 0 = at_blank t b s e in absurd (omega (arith, h, k))
     by false true e f = let k : token_length t (b ∷ s) ≡ 0 = at_comment t b s f in absurd (omega (arith, h, k))
     by false false e f = rw (e, f) refl

@@ -1,37 +1,13 @@
 -- The first names of a list and those behind them.
-use Rattle.std.proofs.Common.{◌≡◌, ℕ, zero, suc, ◌<◌, ◌≤◌, Bool, true, false, ◌||◌, List, [], ◌∷◌, ◌++◌, map, length, take, drop, Option, Some, None, refl, sym, ap, ◌∙◌, arith}
+use Rattle.std.proofs.Common.{◌≡◌, ℕ, zero, suc, ◌<◌, ◌≤◌, Bool, true, false, ◌||◌, List, [], ◌∷◌, ◌++◌, map, length, take, drop, Option, Some, None, refl, sym, ap, subst, ◌∙◌}
 use Rattle.std.specs.List.{list_any}
 use Rattle.std.specs.Option.{is_some}
 use Rattle.std.specs.Str.{bytes_eq}
+use Rattle.std.proofs.lemmas.List.{length-map}
 use Rattle.bool_functions.specs.NameList.{Adds, number_of}
 use Rattle.bool_functions.proofs.NameLists.{position-none, position-some}
-
-either_of : (a b c : Bool) → (a || (b || c)) ≡ ((a || b) || c)
-either_of true b c = refl
-either_of false b c = refl
-
-second_false : (a b : Bool) → (a || b) ≡ false → b ≡ false
-second_false true b e = absurd cc
-second_false false b e = e
-
-module _ {X : Type 0} where
-  pub take_all : (n : ℕ) (xs : List X) → length xs ≤ n → xs ≡ take n xs
-  take_all zero [] h = refl
-  take_all zero (x ∷ xs) h = absurd (omega arith)
-  take_all (suc n) [] h = refl
-  take_all (suc n) (x ∷ xs) h = ap (λ ys. x ∷ ys) (take_all n xs (omega arith))
-
-  any_parted : (p : X → Bool) (n : ℕ) (xs : List X) → list_any p xs ≡ (list_any p (take n xs) || list_any p (drop n xs))
-  any_parted p zero xs = refl
-  any_parted p (suc n) [] = refl
-  any_parted p (suc n) (x ∷ xs) = ap (λ b. p x || b) (any_parted p n xs) ∙ either_of (p x) _ _
-
-  pub none_behind : (p : X → Bool) (n : ℕ) (xs : List X) → list_any p xs ≡ false → list_any p (drop n xs) ≡ false
-  none_behind p n xs e = second_false (list_any p (take n xs)) _ (sym (any_parted p n xs) ∙ e)
-
-  drop_none : (n : ℕ) → ◌≡◌ {A = List X} [] (drop n [])
-  drop_none zero = refl
-  drop_none (suc n) = refl
+use Rattle.rule_readers.proofs.Places.{either_of}
+use Rattle.rule_readers.proofs.Places as places
 
 -- names that are shown, each by its bytes
 module _ {X Y : Type 0} (f : X → Y) where
@@ -43,14 +19,10 @@ module _ {X Y : Type 0} (f : X → Y) where
 
   -- what stands behind the first n, where one more comes behind all
   pub drop_near : (n : ℕ) (xs : List X) (y : Y) → length xs < n → drop n (map f xs) ≡ drop n (map f xs ++ y ∷ [])
-  drop_near zero xs y h = absurd (omega arith)
-  drop_near (suc n) [] y h = drop_none n
-  drop_near (suc n) (x ∷ xs) y h = drop_near n xs y (omega arith)
+  drop_near n xs y h = places.drop_near n (map f xs) y (subst (λ k. k < n) (sym (length-map xs f)) h)
 
   pub drop_far : (n : ℕ) (xs : List X) (y : Y) → n ≤ length xs → drop n (map f xs) ++ y ∷ [] ≡ drop n (map f xs ++ y ∷ [])
-  drop_far zero xs y h = refl
-  drop_far (suc n) [] y h = absurd (omega arith)
-  drop_far (suc n) (x ∷ xs) y h = drop_far n xs y (omega arith)
+  drop_far n xs y h = places.drop_far n (map f xs) y (subst (λ k. n ≤ k) (sym (length-map xs f)) h)
 
   pub shown_push : (xs : List X) (x : X) → map f xs ++ f x ∷ [] ≡ map f (xs ++ x ∷ [])
   shown_push [] x = refl

@@ -44,7 +44,7 @@ fn is_one(names: &[&[u8]], name: &[u8]) -> bool
 }
 
 /// The first names of a list, which are compared one by one.
-#[tactic(auto, using(crate::proofs::NearNames::take_all))]
+#[tactic(auto, using(rule_readers::proofs::Places::take_all))]
 fn near<'a, 'b>(names: &'b [&'a [u8]]) -> &'b [&'a [u8]]
     ensures { result.now ≡ take 16 names.now }
 {
@@ -64,7 +64,7 @@ fn is_found(names: &Names, name: &[u8]) -> bool
 }
 
 /// The list beside declared names, where one more is declared behind them, which is none of them.
-#[tactic(auto, using(crate::proofs::NearNames::none_behind, crate::proofs::NearNames::drop_near, crate::proofs::NearNames::drop_far, crate::proofs::NearNames::added))]
+#[tactic(auto, using(rule_readers::proofs::Places::none_behind, crate::proofs::NearNames::drop_near, crate::proofs::NearNames::drop_far, crate::proofs::NearNames::added))]
 fn far_with(mut far: Names, names: &[&[u8]], name: &[u8]) -> Result<Names, Stop>
     requires kept { far ≡ drop 16 (map (λ other. other.now) names.now) }
     requires fresh { list_any (bytes_eq name.now) (map (λ other. other.now) names.now) ≡ false }

@@ -1,7 +1,8 @@
 use Rattle.std.proofs.Common.{◌≡◌, ◌≤◌, false, ◌++◌, ◌∷◌, [], length, ap, ◌∙◌, bytes_eq, arith}
 use Rattle.std.specs.List.{list_any}
 use Rattle.std.proofs.lemmas.Bool.Decides.{nat_tests}
-use Rattle.udp_reader.proofs.NearNames.{added, none_behind, drop_far}
+use Rattle.rule_readers.proofs.Places.{none_behind}
+use Rattle.udp_reader.proofs.NearNames.{added, drop_far}
 use Rattle.udp_reader.proofs.text_names.far_with.Goals as goal
 
 pub returns-in-Ok-clause-more : goal.returns-in-Ok-clause-more

@@ -5,6 +5,7 @@ use Rattle.grammar_rules.specs.Reading.{Outcome, choose, read}
 use Rattle.rule_readers.specs.declared.refusal.Refusal.{Refusal}
 use Rattle.rule_readers.specs.declared.refusal.Refusal.TheVariants.{Undefined}
 use Rattle.rule_readers.specs.Next.{is_next, next_bytes, rest}
+use Rattle.rule_readers.proofs.Values as values
 use Rattle.vhdl_tokens.specs.Tokens.{is_name}
 use Rattle.vhdl_tokens.specs.Spelling.{is_same}
 use Rattle.vhdl_text.specs.declared.scope.Tables.{Tables}
@@ -12,15 +13,14 @@ use Rattle.vhdl_text.specs.VhdlRules.{known}
 use Rattle.vhdl_text.specs.VhdlTables.{constant_of, begins_state_table, is_before_outputs}
 use Rattle.vhdl_reader.specs.declared.constants.ConstantOf.{ConstantOf as Kind}
 use Rattle.vhdl_reader.specs.Kinds.{constant_kind}
-use Rattle.vhdl_reader.proofs.NextWords.{known_some, known_none}
 
 module _ (tables : Tables) (s : List (List ℕ)) (n : is_name (next_bytes s) ≡ true) where
   pub constant_some : (kind : Kind) → option_map constant_kind (Some kind) ≡ constant_of tables (next_bytes s) →
       read (known (constant_of tables)) s ≡ Ok (constant_kind kind, rest s)
-  constant_some kind e = known_some (constant_of tables) s (constant_kind kind) n (sym e)
+  constant_some kind e = values.known_some is_name refl (constant_of tables) s (constant_kind kind) n (sym e)
 
   pub constant_none : option_map constant_kind None ≡ constant_of tables (next_bytes s) → read (known (constant_of tables)) s ≡ Err (Undefined, s)
-  constant_none e = known_none (constant_of tables) s n (sym e)
+  constant_none e = values.known_none is_name refl (constant_of tables) s n (sym e)
 
 module _ {B : Type 0} (tables : Tables) (s : List (List ℕ)) (go : Unit {0} → List (List ℕ) → Outcome (List ℕ) Refusal B) (other : Outcome (List ℕ) Refusal B) where
   -- the table of a state begins

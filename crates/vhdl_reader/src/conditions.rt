@@ -137,7 +137,7 @@ fn first_list(
 }
 
 /// The name of the input at this place of a list.
-#[tactic(auto, using(crate::proofs::NextWords::known_other))]
+#[tactic(auto, using(rule_readers::proofs::Values::known_other))]
 fn same_name(
     cursor: &mut Cursor<'_, Vhdl>,
     ports: &Ports,

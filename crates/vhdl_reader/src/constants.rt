@@ -50,7 +50,7 @@ fn constant_of(
 }
 
 /// The name of the next constant.
-#[tactic(auto, using(crate::proofs::NextConstant::constant_some, crate::proofs::NextConstant::constant_none, crate::proofs::NextWords::known_other))]
+#[tactic(auto, using(crate::proofs::NextConstant::constant_some, crate::proofs::NextConstant::constant_none, rule_readers::proofs::Values::known_other))]
 fn constant_name(
     cursor: &mut Cursor<'_, Vhdl>,
     alloc: Global,

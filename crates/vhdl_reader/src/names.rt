@@ -57,7 +57,7 @@ pub fn input_at(
 }
 
 /// The name of an input.
-#[tactic(auto, unfolding(vhdl_text::specs::VhdlNames::an_input), using(crate::proofs::NextWords::known_some, crate::proofs::NextWords::known_none, crate::proofs::NextWords::known_other))]
+#[tactic(auto, unfolding(vhdl_text::specs::VhdlNames::an_input), using(rule_readers::proofs::Values::known_other))]
 pub fn an_input(cursor: &mut Cursor<'_, Vhdl>, ports: &Ports) -> Result<usize, Stop>
     ensures { Reads (read (spec.an_input ports.now) cursor.old) result cursor.new }
 {
@@ -65,11 +65,8 @@ pub fn an_input(cursor: &mut Cursor<'_, Vhdl>, ports: &Ports) -> Result<usize, S
     if !is_name(token) {
         return Err(Stop::Refused(Refusal::Syntax));
     }
-    let Some(port) = input_of(ports, token)? else {
-        return Err(Stop::Refused(Refusal::Undefined));
-    };
-    cursor.skip();
-    Ok(port)
+    let found = input_of(ports, token)?;
+    cursor.known(found)
 }
 
 /// The name of an input behind these in a list.

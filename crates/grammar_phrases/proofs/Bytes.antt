@@ -1,12 +1,12 @@
 -- Bytes of one kind and of another, and the digits of numbers.
-use Rattle.std.proofs.Common.{◌≡◌, ℕ, ◌+◌, ◌-◌, ◌*◌, ◌^◌, ◌<◌, ◌≤◌, Bool, true, false, not, ◌&&◌, nat_eq, nat_le, List, [], ◌∷◌, length, inl, inr, Some, refl, sym, ap, ◌∙◌, arith, subst, decimal}
+use Rattle.std.proofs.Common.{◌≡◌, ℕ, ◌+◌, ◌-◌, ◌*◌, ◌^◌, ◌<◌, ◌≤◌, Bool, true, false, not, ◌&&◌, nat_eq, nat_le, List, [], ◌∷◌, ◌++◌, length, inl, inr, Some, refl, sym, ap, ◌∙◌, arith, subst, decimal}
 use Rattle.std.proofs.lemmas.Bool.{and_parts, and_from, eqb-true, cases_Bool}
 use Rattle.std.proofs.lemmas.Bool.Decides.{nat_tests}
 use Rattle.std.proofs.lemmas.Fmt.{decimal_is_IsNumeral, length-decimal-le}
 use Rattle.std.proofs.lemmas.Str.Parse.{digit_from_value}
 use Rattle.std.specs.Char.{is_ascii_digit, digit_value}
 use Rattle.std.specs.Str.Parse.{AllDigits, digits_value_after}
-use Rattle.std.specs.List.{list_all, list_any}
+use Rattle.std.specs.List.{list_all, list_any, prefix_len}
 use Rattle.token_spans.specs.Numbers.{number_after, number_of}
 
 pub unlike : (test : ℕ → Bool) (c b : ℕ) → not (test c) ≡ true → test b ≡ true → nat_eq c b ≡ false
@@ -21,6 +21,14 @@ none_of test [] b h e = refl
 none_of test (c ∷ cs) b h e =
     let p = and_parts (not (test c)) (list_all (λ c. not (test c)) cs) h in
     rw (unlike test c b p.0 e) (none_of test cs b p.1 e)
+
+-- a run of bytes that pass ends where none of them follows
+pub run_ends : (test : ℕ → Bool) (w r : List ℕ) → list_all test w ≡ true → prefix_len test r ≡ 0 → prefix_len test (w ++ r) ≡ length w
+run_ends test [] r h e = e
+run_ends test (c ∷ w) r h e =
+    let p = and_parts (test c) (list_all test w) h in
+    let i : prefix_len test (w ++ r) ≡ length w = run_ends test w r p.1 e in
+    rw p.0 (omega arith)
 
 -- digits, at most 15
 pub record AreFew (x : List ℕ) : Type 0 where

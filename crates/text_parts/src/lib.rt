@@ -6,4 +6,4 @@ mod lists;
 mod parts;
 
 pub use lists::{Each, ItemText};
-pub use parts::{Bytes, Decimal, Part, Put};
+pub use parts::{Bytes, Decimal, Part, Put, When};

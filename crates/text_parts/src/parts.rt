@@ -1,5 +1,5 @@
 //! Parts of a text.
-ghost use Rattle.std.specs.Prelude.{◌++◌, IsTrue, decimal};
+ghost use Rattle.std.specs.Prelude.{[], ◌++◌, IsTrue, decimal, if◌then◌else◌};
 ghost use Rattle.text_io.specs.declared.slots.Slot.TheVariants.{Output};
 ghost use Rattle.text_io.specs.Desk.{is_bound, HasCause};
 ghost use Rattle.text_io.specs.Line.{PutsText};
@@ -65,6 +65,22 @@ impl<A: Part, B: Part> Part for (A, B) {
     fn put<D: Desk>(&self, line: &mut Line, desk: &mut D, slot: OutSlot) -> Put {
         self.0.put(line, desk, slot)?;
         self.1.put(line, desk, slot)
+    }
+}
+
+/// A part where this holds, and else nothing.
+#[derive(Drop)]
+pub struct When<P>(pub bool, pub P);
+
+impl<P: Part> Part for When<P> {
+    ghost text = { λ w. if w.0 then P.text w.1 else [] };
+
+    fn put<D: Desk>(&self, line: &mut Line, desk: &mut D, slot: OutSlot) -> Put {
+        if self.0 {
+            self.1.put(line, desk, slot)
+        } else {
+            line.put(desk, slot, b"")
+        }
     }
 }
 

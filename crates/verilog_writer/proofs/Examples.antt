@@ -11,23 +11,28 @@ use Rattle.specify_blocks.specs.declared.model.Instance.TheVariants as instance
 use Rattle.specify_blocks.specs.declared.model.Gate.{Gate}
 use Rattle.specify_blocks.specs.declared.model.Gate.TheVariants as gate
 use Rattle.specify_blocks.specs.declared.model.VPath.{VPath}
+use Rattle.udp_tables.specs.declared.models.VPort.{VPort}
 use Rattle.udp_tables.specs.declared.timing_checks.TimingCheck.{TimingCheck}
 use Rattle.specify_blocks.specs.declared.model.VModule.{VModule}
 use Rattle.verilog_writer.specs.Timing.{gate_text, delays_text, path_text, ordered_text, turned_text, width_text, period_line, period_text, check_text, lines_text, block_text}
 use Rattle.verilog_writer.specs.Model.{module_opening_text, next_port_text, module_header_text, input_port_text, output_port_text, wire_text, declarations_text, terminal_text, driver_text, call_text, constant_text, module_only_text}
 
+abbrev port : List ℕ → Bool → VPort
+port name input = record { name = name; input = input }
+
 primitive : List ℕ → Bool → Udp
 primitive name sequential = record { name = name; output = codes "q"; inputs = []; sequential = sequential; rows = [] }
+
+check : CheckKind → ℕ → ℕ → Edge → ℕ → Edge → Option ℕ → TimingCheck
+check kind limit p e q f condition =
+    record { kind = kind; first = record { pin = p; edge = e }; second = record { pin = q; edge = f }; limit = limit; condition = condition }
 
 -- A flip-flop with a setup of 50 of D before rising CK, and delays of 100 and 120 from CK to Q.
 flip_flop : VModule
 flip_flop =
     record {
       name = codes "DFFT";
-      ports =
-          record { name = codes "CK"; input = true }
-          ∷ record { name = codes "D"; input = true }
-          ∷ record { name = codes "Q"; input = false } ∷ [];
+      ports = port (codes "CK") true ∷ port (codes "D") true ∷ port (codes "Q") false ∷ [];
       wires = codes "lib_s1" ∷ [];
       notifier = Some (codes "lib_n");
       udps = primitive (codes "lib_1_1") true ∷ primitive (codes "lib_1_2") false ∷ [];
@@ -35,20 +40,13 @@ flip_flop =
           instance.Primitive 0 (net.Wire 0) (net.Port 0 ∷ net.Port 1 ∷ net.Notifier ∷ [])
           ∷ instance.Primitive 1 (net.Port 2) (net.Wire 0 ∷ []) ∷ [];
       paths = record { from = 0; to = 2; rise = 100; fall = 120; gate = gate.Always } ∷ [];
-      checks =
-          record {
-            kind = check_kind.Setup;
-            first = record { pin = 1; edge = edge.Any };
-            second = record { pin = 0; edge = edge.Rise };
-            limit = 50;
-            condition = None;
-          } ∷ [];
+      checks = check check_kind.Setup 50 1 edge.Any 0 edge.Rise None ∷ [];
     }
 
 its-text :
     module_only_text flip_flop
     ≡ codes "module DFFT (CK, D, Q);\n  input CK;\n  input D;\n  output Q;\n  wire lib_s1;\n  reg lib_n;\n  lib_1_1 (lib_s1, CK, D, lib_n);\n  lib_1_2 (Q, lib_s1);\n  specify\n    (CK => Q) = (100, 120);\n    $setup(D, posedge CK, 50, lib_n);\n  endspecify\nendmodule\n"
-unfolding flip_flop primitive digits gate_text delays_text path_text ordered_text check_text lines_text block_text module_opening_text next_port_text module_header_text input_port_text output_port_text wire_text declarations_text terminal_text driver_text call_text module_only_text
+unfolding check flip_flop primitive digits gate_text delays_text path_text ordered_text check_text lines_text block_text module_opening_text next_port_text module_header_text input_port_text output_port_text wire_text declarations_text terminal_text driver_text call_text module_only_text
 its-text = refl
 
 -- A cell with the one output Y, which is always 1.
@@ -56,7 +54,7 @@ tied : VModule
 tied =
     record {
       name = codes "TIE";
-      ports = record { name = codes "Y"; input = false } ∷ [];
+      ports = port (codes "Y") false ∷ [];
       wires = [];
       notifier = None;
       udps = [];
@@ -81,35 +79,26 @@ other-path : path_text flip_flop (path gate.IfNone) ≡ codes "    ifnone (CK =>
 unfolding flip_flop path digits gate_text delays_text path_text
 other-path = refl
 
--- checks of D and CK, with a condition where there is one
-check : CheckKind → Edge → Edge → Option ℕ → TimingCheck
-check what first second condition =
-    record {
-      kind = what;
-      first = record { pin = 0; edge = first };
-      second = record { pin = 1; edge = second };
-      limit = 8;
-      condition = condition;
-    }
+-- Checks of CK and D.
 
-hold-text : check_text flip_flop (check check_kind.Hold edge.Rise edge.Any (Some 0)) ≡ codes "    $hold(posedge CK, D &&& lib_s1, 8, lib_n);\n"
+hold-text : check_text flip_flop (check check_kind.Hold 8 0 edge.Rise 1 edge.Any (Some 0)) ≡ codes "    $hold(posedge CK, D &&& lib_s1, 8, lib_n);\n"
 unfolding flip_flop check digits ordered_text check_text
 hold-text = refl
 
-recovery-text : check_text flip_flop (check check_kind.Recovery edge.Fall edge.Rise None) ≡ codes "    $recovery(negedge CK, posedge D, 8, lib_n);\n"
+recovery-text : check_text flip_flop (check check_kind.Recovery 8 0 edge.Fall 1 edge.Rise None) ≡ codes "    $recovery(negedge CK, posedge D, 8, lib_n);\n"
 unfolding flip_flop check digits ordered_text check_text
 recovery-text = refl
 
-removal-text : check_text flip_flop (check check_kind.Removal edge.Rise edge.Fall (Some 0)) ≡ codes "    $removal(negedge D &&& lib_s1, posedge CK, 8, lib_n);\n"
+removal-text : check_text flip_flop (check check_kind.Removal 8 0 edge.Rise 1 edge.Fall (Some 0)) ≡ codes "    $removal(negedge D &&& lib_s1, posedge CK, 8, lib_n);\n"
 unfolding flip_flop check digits turned_text check_text
 removal-text = refl
 
-width-text : check_text flip_flop (check check_kind.Width edge.Rise edge.Fall (Some 0)) ≡ codes "    $width(posedge CK &&& lib_s1, 8, 0, lib_n);\n"
+width-text : check_text flip_flop (check check_kind.Width 8 0 edge.Rise 1 edge.Fall (Some 0)) ≡ codes "    $width(posedge CK &&& lib_s1, 8, 0, lib_n);\n"
 unfolding flip_flop check digits width_text check_text
 width-text = refl
 
 period-text :
-    check_text flip_flop (check check_kind.Period edge.Any edge.Any None)
+    check_text flip_flop (check check_kind.Period 8 0 edge.Any 1 edge.Any None)
     ≡ codes "    $period(posedge CK, 8, lib_n);\n    $period(negedge CK, 8, lib_n);\n"
 unfolding flip_flop check digits period_line period_text check_text
 period-text = refl

@@ -3,5 +3,4 @@ pub mod Primitive
 pub mod Nets
 pub mod Timing
 pub mod Model
-pub mod CheckEnds
 pub mod Names

@@ -48,18 +48,21 @@ abbrev pub condition_text : VModule → Option ℕ → List ℕ
 condition_text m None = []
 condition_text m (Some w) = wire_at m w
 
+-- the limit of a check and the end of its line, with these bytes between the limit and the register of the checks
+abbrev pub limit_text : List ℕ → VModule → TimingCheck → List ℕ
+limit_text between m k = decimal k.limit ++ (between ++ (notifier_in m ++ codes ");\n"))
+
+-- the condition of a check, its limit and the end of its line
+abbrev pub conditional_text : List ℕ → VModule → TimingCheck → List ℕ
+conditional_text between m k = joint_text k.condition ++ (condition_text m k.condition ++ (codes ", " ++ limit_text between m k))
+
 -- a check with the first event and then the second one, where its condition is
 unfoldable pub ordered_text : List ℕ → VModule → TimingCheck → List ℕ
 ordered_text word m k =
     word
     ++ (edge_text k.first.edge
     ++ (port_at m k.first.pin
-    ++ (codes ", "
-    ++ (edge_text k.second.edge
-    ++ (port_at m k.second.pin
-    ++ (joint_text k.condition
-    ++ (condition_text m k.condition
-    ++ (codes ", " ++ (decimal k.limit ++ (codes ", " ++ (notifier_in m ++ codes ");\n")))))))))))
+    ++ (codes ", " ++ (edge_text k.second.edge ++ (port_at m k.second.pin ++ conditional_text (codes ", ") m k)))))
 
 -- a check with the second event, where its condition is, and then the first one
 unfoldable pub turned_text : List ℕ → VModule → TimingCheck → List ℕ
@@ -69,29 +72,15 @@ turned_text word m k =
     ++ (port_at m k.second.pin
     ++ (joint_text k.condition
     ++ (condition_text m k.condition
-    ++ (codes ", "
-    ++ (edge_text k.first.edge
-    ++ (port_at m k.first.pin
-    ++ (codes ", " ++ (decimal k.limit ++ (codes ", " ++ (notifier_in m ++ codes ");\n")))))))))))
+    ++ (codes ", " ++ (edge_text k.first.edge ++ (port_at m k.first.pin ++ (codes ", " ++ limit_text (codes ", ") m k))))))))
 
 -- a check of its first event alone, with a threshold of 0
 unfoldable pub width_text : List ℕ → VModule → TimingCheck → List ℕ
-width_text word m k =
-    word
-    ++ (edge_text k.first.edge
-    ++ (port_at m k.first.pin
-    ++ (joint_text k.condition
-    ++ (condition_text m k.condition
-    ++ (codes ", " ++ (decimal k.limit ++ (codes ", 0, " ++ (notifier_in m ++ codes ");\n"))))))))
+width_text word m k = word ++ (edge_text k.first.edge ++ (port_at m k.first.pin ++ conditional_text (codes ", 0, ") m k))
 
 -- a period of one kind of event
 unfoldable pub period_line : List ℕ → VModule → TimingCheck → List ℕ
-period_line word m k =
-    word
-    ++ (port_at m k.first.pin
-    ++ (joint_text k.condition
-    ++ (condition_text m k.condition
-    ++ (codes ", " ++ (decimal k.limit ++ (codes ", " ++ (notifier_in m ++ codes ");\n")))))))
+period_line word m k = word ++ (port_at m k.first.pin ++ conditional_text (codes ", ") m k)
 
 -- a period: of its rises, and of its falls
 unfoldable pub period_text : VModule → TimingCheck → List ℕ

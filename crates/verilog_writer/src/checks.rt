@@ -1,7 +1,6 @@
 //! The lines of checks in a specify block.
 ghost use Rattle.std.specs.Prelude.{◌≡◌, codes};
-ghost use Rattle.verilog_writer.specs.CheckEnds.{limit_text, conditional_text};
-ghost use Rattle.verilog_writer.specs.Timing.{edge_text, joint_text, condition_text, ordered_text, turned_text, width_text, period_line, period_text, check_text};
+ghost use Rattle.verilog_writer.specs.Timing.{edge_text, joint_text, condition_text, limit_text, conditional_text, ordered_text, turned_text, width_text, period_line, period_text, check_text};
 
 use crate::nets::{notifier_in, port_at, wire_at};
 use cell_machine::{CheckKind, Edge};
@@ -41,53 +40,50 @@ fn condition_text(model: &VModule, condition: Option<usize>) -> &[u8]
     }
 }
 
+/// A check of a module.
+type Call<'a> = (&'a VModule, &'a TimingCheck);
+
 /// The limit of a check and the end of its line, with these bytes between the limit and the register of the checks.
 #[derive(Drop)]
-struct Limit<'a>(&'a VModule, &'a TimingCheck, &'a [u8]);
+struct Limit<'a>(Call<'a>, &'a [u8]);
 
 impl Part for Limit<'_> {
-    ghost text = { λ m. limit_text m.2.now m.0.now m.1.now };
+    ghost text = { λ m. limit_text m.1.now m.0.0.now m.0.1.now };
 
     fn put<D: Desk>(&self, line: &mut Line, desk: &mut D, slot: OutSlot) -> Put {
-        parts!(
-            Decimal(self.1.limit as u128),
-            Bytes(self.2),
-            Bytes(notifier_in(self.0)),
-            Bytes(b");\n")
-        )
-        .put(line, desk, slot)
+        let (model, check) = self.0;
+        let limit = Decimal(check.limit as u128);
+        let notifier = Bytes(notifier_in(model));
+        parts!(limit, Bytes(self.1), notifier, Bytes(b");\n")).put(line, desk, slot)
     }
 }
 
 /// The condition of a check, where there is one, its limit and the end of its line, with these bytes behind the limit.
 #[derive(Drop)]
-struct Conditional<'a>(&'a VModule, &'a TimingCheck, &'a [u8]);
+struct Conditional<'a>(Call<'a>, &'a [u8]);
 
 impl Part for Conditional<'_> {
-    ghost text = { λ m. conditional_text m.2.now m.0.now m.1.now };
+    ghost text = { λ m. conditional_text m.1.now m.0.0.now m.0.1.now };
 
     fn put<D: Desk>(&self, line: &mut Line, desk: &mut D, slot: OutSlot) -> Put {
-        let (model, check) = (self.0, self.1);
-        parts!(
-            Bytes(joint_text(check.condition)),
-            Bytes(condition_text(model, check.condition)),
-            Bytes(b", "),
-            Limit(model, check, self.2)
-        )
-        .put(line, desk, slot)
+        let (model, check) = self.0;
+        let joint = Bytes(joint_text(check.condition));
+        let condition = Bytes(condition_text(model, check.condition));
+        let limit = Limit(self.0, self.1);
+        parts!(joint, condition, Bytes(b", "), limit).put(line, desk, slot)
     }
 }
 
 /// A check that begins with this word, with its first event before the second one.
 #[derive(Drop)]
-struct Ordered<'a>(&'a [u8], &'a VModule, &'a TimingCheck);
+struct Ordered<'a>(&'a [u8], Call<'a>);
 
 impl Part for Ordered<'_> {
-    ghost text = { λ m. ordered_text m.0.now m.1.now m.2.now };
+    ghost text = { λ m. ordered_text m.0.now m.1.0.now m.1.1.now };
 
     #[tactic(auto, unfolding(crate::specs::Timing::ordered_text))]
     fn put<D: Desk>(&self, line: &mut Line, desk: &mut D, slot: OutSlot) -> Put {
-        let (model, check) = (self.1, self.2);
+        let (model, check) = self.1;
         parts!(
             Bytes(self.0),
             Bytes(edge_text(check.first.edge)),
@@ -95,7 +91,7 @@ impl Part for Ordered<'_> {
             Bytes(b", "),
             Bytes(edge_text(check.second.edge)),
             Bytes(port_at(model, check.second.pin)),
-            Conditional(model, check, b", ")
+            Conditional(self.1, b", ")
         )
         .put(line, desk, slot)
     }
@@ -103,14 +99,14 @@ impl Part for Ordered<'_> {
 
 /// A check with its second event before the first one.
 #[derive(Drop)]
-struct Turned<'a>(&'a VModule, &'a TimingCheck);
+struct Turned<'a>(Call<'a>);
 
 impl Part for Turned<'_> {
-    ghost text = { λ m. turned_text (codes "    $removal(") m.0.now m.1.now };
+    ghost text = { λ m. turned_text (codes "    $removal(") m.0.0.now m.0.1.now };
 
     #[tactic(auto, unfolding(crate::specs::Timing::turned_text))]
     fn put<D: Desk>(&self, line: &mut Line, desk: &mut D, slot: OutSlot) -> Put {
-        let (model, check) = (self.0, self.1);
+        let (model, check) = self.0;
         parts!(
             Bytes(b"    $removal("),
             Bytes(edge_text(check.second.edge)),
@@ -121,7 +117,7 @@ impl Part for Turned<'_> {
             Bytes(edge_text(check.first.edge)),
             Bytes(port_at(model, check.first.pin)),
             Bytes(b", "),
-            Limit(model, check, b", ")
+            Limit(self.0, b", ")
         )
         .put(line, desk, slot)
     }
@@ -129,55 +125,47 @@ impl Part for Turned<'_> {
 
 /// A check of which the first event alone is written.
 #[derive(Drop)]
-struct Width<'a>(&'a VModule, &'a TimingCheck);
+struct Width<'a>(Call<'a>);
 
 impl Part for Width<'_> {
-    ghost text = { λ m. width_text (codes "    $width(") m.0.now m.1.now };
+    ghost text = { λ m. width_text (codes "    $width(") m.0.0.now m.0.1.now };
 
     #[tactic(auto, unfolding(crate::specs::Timing::width_text))]
     fn put<D: Desk>(&self, line: &mut Line, desk: &mut D, slot: OutSlot) -> Put {
-        let (model, check) = (self.0, self.1);
-        parts!(
-            Bytes(b"    $width("),
-            Bytes(edge_text(check.first.edge)),
-            Bytes(port_at(model, check.first.pin)),
-            Conditional(model, check, b", 0, ")
-        )
-        .put(line, desk, slot)
+        let (model, check) = self.0;
+        let edge = Bytes(edge_text(check.first.edge));
+        let port = Bytes(port_at(model, check.first.pin));
+        let rest = Conditional(self.0, b", 0, ");
+        parts!(Bytes(b"    $width("), edge, port, rest).put(line, desk, slot)
     }
 }
 
 /// The line of a period of one kind of event, which begins with this word.
 #[derive(Drop)]
-struct PeriodLine<'a>(&'a [u8], &'a VModule, &'a TimingCheck);
+struct PeriodLine<'a>(&'a [u8], Call<'a>);
 
 impl Part for PeriodLine<'_> {
-    ghost text = { λ m. period_line m.0.now m.1.now m.2.now };
+    ghost text = { λ m. period_line m.0.now m.1.0.now m.1.1.now };
 
     #[tactic(auto, unfolding(crate::specs::Timing::period_line))]
     fn put<D: Desk>(&self, line: &mut Line, desk: &mut D, slot: OutSlot) -> Put {
-        let (model, check) = (self.1, self.2);
-        parts!(
-            Bytes(self.0),
-            Bytes(port_at(model, check.first.pin)),
-            Conditional(model, check, b", ")
-        )
-        .put(line, desk, slot)
+        let (model, check) = self.1;
+        let port = Bytes(port_at(model, check.first.pin));
+        parts!(Bytes(self.0), port, Conditional(self.1, b", ")).put(line, desk, slot)
     }
 }
 
 /// A period: a line of its rises, and one of its falls.
 #[derive(Drop)]
-struct Period<'a>(&'a VModule, &'a TimingCheck);
+struct Period<'a>(Call<'a>);
 
 impl Part for Period<'_> {
-    ghost text = { λ m. period_text m.0.now m.1.now };
+    ghost text = { λ m. period_text m.0.0.now m.0.1.now };
 
     #[tactic(auto, unfolding(crate::specs::Timing::period_text))]
     fn put<D: Desk>(&self, line: &mut Line, desk: &mut D, slot: OutSlot) -> Put {
-        let (model, check) = (self.0, self.1);
-        let rises = PeriodLine(b"    $period(posedge ", model, check);
-        let falls = PeriodLine(b"    $period(negedge ", model, check);
+        let rises = PeriodLine(b"    $period(posedge ", self.0);
+        let falls = PeriodLine(b"    $period(negedge ", self.0);
         parts!(rises, falls).put(line, desk, slot)
     }
 }
@@ -190,21 +178,15 @@ impl ItemText<TimingCheck> for CheckLines<'_> {
     ghost text = { λ m check. check_text m.0.now check };
 
     #[tactic(auto, unfolding(crate::specs::Timing::check_text))]
-    fn put<D: Desk>(
-        &self,
-        check: &TimingCheck,
-        line: &mut Line,
-        desk: &mut D,
-        slot: OutSlot,
-    ) -> Put {
-        let model = self.0;
-        match check.kind {
-            CheckKind::Setup => Ordered(b"    $setup(", model, check).put(line, desk, slot),
-            CheckKind::Hold => Ordered(b"    $hold(", model, check).put(line, desk, slot),
-            CheckKind::Recovery => Ordered(b"    $recovery(", model, check).put(line, desk, slot),
-            CheckKind::Removal => Turned(model, check).put(line, desk, slot),
-            CheckKind::Width => Width(model, check).put(line, desk, slot),
-            CheckKind::Period => Period(model, check).put(line, desk, slot),
+    fn put<D: Desk>(&self, one: &TimingCheck, line: &mut Line, desk: &mut D, slot: OutSlot) -> Put {
+        let call = (self.0, one);
+        match one.kind {
+            CheckKind::Setup => Ordered(b"    $setup(", call).put(line, desk, slot),
+            CheckKind::Hold => Ordered(b"    $hold(", call).put(line, desk, slot),
+            CheckKind::Recovery => Ordered(b"    $recovery(", call).put(line, desk, slot),
+            CheckKind::Removal => Turned(call).put(line, desk, slot),
+            CheckKind::Width => Width(call).put(line, desk, slot),
+            CheckKind::Period => Period(call).put(line, desk, slot),
         }
     }
 }

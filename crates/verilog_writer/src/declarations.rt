@@ -1,6 +1,6 @@
 //! The header and the declarations of a module.
 ghost use Rattle.std.specs.Prelude.{if◌then◌else◌};
-ghost use Rattle.verilog_writer.specs.Model.{module_opening_text, next_port_text, ports_text, module_header_text, input_port_text, output_port_text, register_text, declarations_text};
+ghost use Rattle.verilog_writer.specs.Model.{next_port_text, ports_text, module_header_text, input_port_text, output_port_text, register_text, declarations_text};
 
 use crate::names::NameLines;
 use specify_blocks::VModule;
@@ -32,24 +32,11 @@ impl Part for Ports<'_> {
     fn put<D: Desk>(&self, line: &mut Line, desk: &mut D, slot: OutSlot) -> Put {
         match self.0.split_first() {
             Some((first, items)) => {
-                let text = NextPorts;
-                parts!(Bytes(first.name.as_slice()), Each(text, items)).put(line, desk, slot)
+                let rest = Each(NextPorts, items);
+                parts!(Bytes(first.name.as_slice()), rest).put(line, desk, slot)
             }
             None => line.put(desk, slot, b""),
         }
-    }
-}
-
-/// The header up to its ports.
-#[derive(Drop)]
-struct Opening<'a>(&'a VModule);
-
-impl Part for Opening<'_> {
-    ghost text = { λ m. module_opening_text m.0.now };
-
-    #[tactic(auto, unfolding(crate::specs::Model::module_opening_text))]
-    fn put<D: Desk>(&self, line: &mut Line, desk: &mut D, slot: OutSlot) -> Put {
-        line.put_pieces(desk, slot, &[b"module ", self.0.name.as_slice(), b" ("])
     }
 }
 
@@ -60,10 +47,12 @@ pub(crate) struct Header<'a>(pub(crate) &'a VModule);
 impl Part for Header<'_> {
     ghost text = { λ m. module_header_text m.0.now };
 
-    #[tactic(auto, unfolding(crate::specs::Model::module_header_text))]
+    #[tactic(auto, unfolding(crate::specs::Model::module_header_text, crate::specs::Model::module_opening_text))]
     fn put<D: Desk>(&self, line: &mut Line, desk: &mut D, slot: OutSlot) -> Put {
+        let name = Bytes(self.0.name.as_slice());
+        let opening = parts!(Bytes(b"module "), name, Bytes(b" ("));
         let ports = Ports(self.0.ports.as_slice());
-        parts!(Opening(self.0), ports, Bytes(b");\n")).put(line, desk, slot)
+        parts!(opening, ports, Bytes(b");\n")).put(line, desk, slot)
     }
 }
 

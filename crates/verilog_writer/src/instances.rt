@@ -1,5 +1,5 @@
 //! The text of a module's instances.
-ghost use Rattle.verilog_writer.specs.Model.{terminal_text, driver_text, call_text, constant_text, instance_text};
+ghost use Rattle.verilog_writer.specs.Model.{terminal_text, call_text, constant_text, instance_text};
 
 use crate::nets::{net_at, primitive_at};
 use specify_blocks::{Instance, VModule, VNet};
@@ -19,64 +19,34 @@ impl ItemText<VNet> for Terminals<'_> {
     }
 }
 
-/// An instance of a primitive up to its output.
+/// An instance of a primitive with this number: its output, and its inputs.
 #[derive(Drop)]
-struct Driver<'a> {
-    model: &'a VModule,
-    udp: usize,
-    output: VNet,
-}
-
-impl Part for Driver<'_> {
-    ghost text = { λ m. driver_text m.model.now m.udp m.output };
-
-    #[tactic(auto, unfolding(crate::specs::Model::driver_text))]
-    fn put<D: Desk>(&self, line: &mut Line, desk: &mut D, slot: OutSlot) -> Put {
-        let name = primitive_at(self.model, self.udp);
-        let output = net_at(self.model, self.output);
-        line.put_pieces(desk, slot, &[b"  ", name, b" (", output])
-    }
-}
-
-/// An instance of a primitive.
-#[derive(Drop)]
-struct Call<'a> {
-    model: &'a VModule,
-    udp: usize,
-    output: VNet,
-    inputs: &'a [VNet],
-}
+struct Call<'a>(&'a VModule, usize, VNet, &'a [VNet]);
 
 impl Part for Call<'_> {
-    ghost text = { λ m. call_text m.model.now m.udp m.output m.inputs.now };
+    ghost text = { λ m. call_text m.0.now m.1 m.2 m.3.now };
 
-    #[tactic(auto, unfolding(crate::specs::Model::call_text))]
+    #[tactic(auto, unfolding(crate::specs::Model::call_text, crate::specs::Model::driver_text))]
     fn put<D: Desk>(&self, line: &mut Line, desk: &mut D, slot: OutSlot) -> Put {
-        let driver = Driver {
-            model: self.model,
-            udp: self.udp,
-            output: self.output,
-        };
-        let terminals = Each(Terminals(self.model), self.inputs);
+        let name = Bytes(primitive_at(self.0, self.1));
+        let output = Bytes(net_at(self.0, self.2));
+        let driver = parts!(Bytes(b"  "), name, Bytes(b" ("), output);
+        let terminals = Each(Terminals(self.0), self.3);
         parts!(driver, terminals, Bytes(b");\n")).put(line, desk, slot)
     }
 }
 
-/// A buffer with a constant input.
+/// A buffer of this output with a constant input.
 #[derive(Drop)]
-struct Constant<'a> {
-    model: &'a VModule,
-    output: VNet,
-    one: bool,
-}
+struct Constant<'a>(&'a VModule, VNet, bool);
 
 impl Part for Constant<'_> {
-    ghost text = { λ m. constant_text m.model.now m.output m.one };
+    ghost text = { λ m. constant_text m.0.now m.1 m.2 };
 
     #[tactic(auto, unfolding(crate::specs::Model::constant_text))]
     fn put<D: Desk>(&self, line: &mut Line, desk: &mut D, slot: OutSlot) -> Put {
-        let net = net_at(self.model, self.output);
-        if self.one {
+        let net = net_at(self.0, self.1);
+        if self.2 {
             line.put_pieces(desk, slot, &[b"  buf (", net, b", 1'b1);\n"])
         } else {
             line.put_pieces(desk, slot, &[b"  buf (", net, b", 1'b0);\n"])
@@ -91,32 +61,16 @@ pub(crate) struct InstanceLines<'a>(pub(crate) &'a VModule);
 impl ItemText<Instance> for InstanceLines<'_> {
     ghost text = { λ m instance. instance_text m.0.now instance };
 
-    fn put<D: Desk>(
-        &self,
-        instance: &Instance,
-        line: &mut Line,
-        desk: &mut D,
-        slot: OutSlot,
-    ) -> Put {
-        let model = self.0;
-        match instance {
+    fn put<D: Desk>(&self, item: &Instance, line: &mut Line, desk: &mut D, slot: OutSlot) -> Put {
+        match item {
             Instance::Primitive {
                 udp,
                 output,
                 inputs,
-            } => Call {
-                model,
-                udp: *udp,
-                output: *output,
-                inputs: inputs.as_slice(),
+            } => Call(self.0, *udp, *output, inputs.as_slice()).put(line, desk, slot),
+            Instance::Constant { output, one } => {
+                Constant(self.0, *output, *one).put(line, desk, slot)
             }
-            .put(line, desk, slot),
-            Instance::Constant { output, one } => Constant {
-                model,
-                output: *output,
-                one: *one,
-            }
-            .put(line, desk, slot),
         }
     }
 }

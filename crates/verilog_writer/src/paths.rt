@@ -1,5 +1,5 @@
 //! The lines of paths in a specify block.
-ghost use Rattle.verilog_writer.specs.Timing.{gate_text, delays_text, path_text};
+ghost use Rattle.verilog_writer.specs.Timing.{gate_text, path_text};
 
 use crate::nets::{port_at, wire_at};
 use specify_blocks::{Gate, VModule, VPath};
@@ -8,20 +8,17 @@ use text_parts::{Bytes, Decimal, ItemText, Part, Put, parts};
 
 /// What stands before a path.
 #[derive(Drop)]
-struct PathGate<'a> {
-    model: &'a VModule,
-    gate: Gate,
-}
+struct PathGate<'a>(&'a VModule, Gate);
 
 impl Part for PathGate<'_> {
-    ghost text = { λ m. gate_text m.model.now m.gate };
+    ghost text = { λ m. gate_text m.0.now m.1 };
 
     #[tactic(auto, unfolding(crate::specs::Timing::gate_text))]
     fn put<D: Desk>(&self, line: &mut Line, desk: &mut D, slot: OutSlot) -> Put {
-        match self.gate {
+        match self.1 {
             Gate::Always => line.put(desk, slot, b"    "),
             Gate::If(wire) => {
-                let wire = wire_at(self.model, wire);
+                let wire = wire_at(self.0, wire);
                 line.put_pieces(desk, slot, &[b"    if (", wire, b") "])
             }
             Gate::IfNone => line.put(desk, slot, b"    ifnone "),
@@ -29,44 +26,27 @@ impl Part for PathGate<'_> {
     }
 }
 
-/// The ports of a path, and its delays.
-#[derive(Drop)]
-struct Delays<'a> {
-    model: &'a VModule,
-    path: &'a VPath,
-}
-
-impl Part for Delays<'_> {
-    ghost text = { λ m. delays_text m.model.now m.path.now };
-
-    #[tactic(auto, unfolding(crate::specs::Timing::delays_text))]
-    fn put<D: Desk>(&self, line: &mut Line, desk: &mut D, slot: OutSlot) -> Put {
-        parts!(
-            Bytes(b"("),
-            Bytes(port_at(self.model, self.path.from)),
-            Bytes(b" => "),
-            Bytes(port_at(self.model, self.path.to)),
-            Bytes(b") = ("),
-            Decimal(self.path.rise as u128),
-            Bytes(b", "),
-            Decimal(self.path.fall as u128),
-            Bytes(b");\n")
-        )
-        .put(line, desk, slot)
-    }
-}
-
-/// Lines of paths.
+/// Lines of paths: what stands before a path, and its ports with its delays.
 #[derive(Drop)]
 pub(crate) struct PathLines<'a>(pub(crate) &'a VModule);
 
 impl ItemText<VPath> for PathLines<'_> {
     ghost text = { λ m path. path_text m.0.now path };
 
-    #[tactic(auto, unfolding(crate::specs::Timing::path_text))]
+    #[tactic(auto, unfolding(crate::specs::Timing::path_text, crate::specs::Timing::delays_text))]
     fn put<D: Desk>(&self, path: &VPath, line: &mut Line, desk: &mut D, slot: OutSlot) -> Put {
-        let model = self.0;
-        let gate = path.gate;
-        parts!(PathGate { model, gate }, Delays { model, path }).put(line, desk, slot)
+        parts!(
+            PathGate(self.0, path.gate),
+            Bytes(b"("),
+            Bytes(port_at(self.0, path.from)),
+            Bytes(b" => "),
+            Bytes(port_at(self.0, path.to)),
+            Bytes(b") = ("),
+            Decimal(path.rise as u128),
+            Bytes(b", "),
+            Decimal(path.fall as u128),
+            Bytes(b");\n")
+        )
+        .put(line, desk, slot)
     }
 }

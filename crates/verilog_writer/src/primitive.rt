@@ -2,7 +2,7 @@
 ghost use Rattle.std.specs.Prelude.{IsTrue};
 ghost use Rattle.text_io.specs.declared.slots.Slot.TheVariants.{Output};
 ghost use Rattle.text_io.specs.Desk.{is_bound, HasCause, WritesText};
-ghost use Rattle.verilog_writer.specs.Primitive.{primitive_text, header_text, opening_text, port_text, output_text};
+ghost use Rattle.verilog_writer.specs.Primitive.{primitive_text, header_text, port_text, output_text};
 
 use crate::names::NameLines;
 use crate::table::Table;
@@ -21,20 +21,6 @@ pub fn write_udp<D: Desk>(desk: &mut D, slot: OutSlot, udp: &Udp) -> Result<(), 
     let mut line = Line::new();
     Primitive(udp).put(&mut line, desk, slot)?;
     line.flush(desk, slot)
-}
-
-/// The header up to the output.
-#[derive(Drop)]
-struct Opening<'a>(&'a Udp);
-
-impl Part for Opening<'_> {
-    ghost text = { λ m. opening_text m.0.now };
-
-    #[tactic(auto, unfolding(crate::specs::Primitive::opening_text))]
-    fn put<D: Desk>(&self, line: &mut Line, desk: &mut D, slot: OutSlot) -> Put {
-        let (name, output) = (self.0.name.as_slice(), self.0.output.as_slice());
-        line.put_pieces(desk, slot, &[b"primitive ", name, b" (", output])
-    }
 }
 
 /// Inputs in the header.
@@ -57,10 +43,13 @@ struct Header<'a>(&'a Udp);
 impl Part for Header<'_> {
     ghost text = { λ m. header_text m.0.now };
 
-    #[tactic(auto, unfolding(crate::specs::Primitive::header_text))]
+    #[tactic(auto, unfolding(crate::specs::Primitive::header_text, crate::specs::Primitive::opening_text))]
     fn put<D: Desk>(&self, line: &mut Line, desk: &mut D, slot: OutSlot) -> Put {
+        let name = Bytes(self.0.name.as_slice());
+        let output = Bytes(self.0.output.as_slice());
+        let opening = parts!(Bytes(b"primitive "), name, Bytes(b" ("), output);
         let inputs = Each(HeaderInputs, self.0.inputs.as_slice());
-        parts!(Opening(self.0), inputs, Bytes(b");\n")).put(line, desk, slot)
+        parts!(opening, inputs, Bytes(b");\n")).put(line, desk, slot)
     }
 }
 

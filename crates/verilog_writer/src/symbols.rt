@@ -23,9 +23,9 @@ pub(crate) fn next_text(next: Next) -> &'static [u8]
     ensures { result.now ≡ next_text next }
 {
     match next {
-        Next::Zero => b"0",
-        Next::One => b"1",
-        Next::Unknown => b"x",
         Next::Keep => b"-",
+        Next::Zero => level_text(Level::Zero),
+        Next::One => level_text(Level::One),
+        Next::Unknown => level_text(Level::Unknown),
     }
 }

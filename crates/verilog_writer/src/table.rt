@@ -33,19 +33,16 @@ impl ItemText<Entry> for Entries {
 
 /// What stands after the entries of a row.
 #[derive(Drop)]
-struct Outcome<'a> {
-    sequential: bool,
-    row: &'a UdpRow,
-}
+struct Outcome<'a>(bool, &'a UdpRow);
 
 impl Part for Outcome<'_> {
-    ghost text = { λ m. outcome_text m.sequential m.row.now };
+    ghost text = { λ m. outcome_text m.0 m.1.now };
 
     #[tactic(auto, unfolding(crate::specs::Primitive::outcome_text))]
     fn put<D: Desk>(&self, line: &mut Line, desk: &mut D, slot: OutSlot) -> Put {
-        let state = level_text(self.row.state);
-        let next = next_text(self.row.next);
-        if self.sequential {
+        let state = level_text(self.1.state);
+        let next = next_text(self.1.next);
+        if self.0 {
             line.put_pieces(desk, slot, &[b": ", state, b" : ", next, b";\n"])
         } else {
             line.put_pieces(desk, slot, &[b": ", next, b";\n"])
@@ -62,9 +59,8 @@ impl ItemText<UdpRow> for Rows {
 
     #[tactic(auto, unfolding(crate::specs::Primitive::row_text))]
     fn put<D: Desk>(&self, row: &UdpRow, line: &mut Line, desk: &mut D, slot: OutSlot) -> Put {
-        let sequential = self.0;
         let entries = Each(Entries, row.inputs.as_slice());
-        parts!(Bytes(b"    "), entries, Outcome { sequential, row }).put(line, desk, slot)
+        parts!(Bytes(b"    "), entries, Outcome(self.0, row)).put(line, desk, slot)
     }
 }
 

@@ -111,18 +111,18 @@ input x n = behind input_word (joins (name x n) (λ r q. refl) line_end)
 
 -- Rows.
 
+a_next : (n : Next) → Spells Anything true (next_text n) (λ s. next_text n ∷ s) true
+a_next next.Zero = literal 1 (λ r. refl)
+a_next next.One = literal 1 (λ r. refl)
+a_next next.Unknown = literal 1 (λ r. refl)
+a_next next.Keep = literal 1 (λ r. refl)
+
 pub a_level : (l : Level) → Spells Anything true (level_text l) (λ s. level_text l ∷ s) true
 a_level level.Zero = literal 1 (λ r. refl)
 a_level level.One = literal 1 (λ r. refl)
 a_level level.Unknown = literal 1 (λ r. refl)
 a_level level.Any = literal 1 (λ r. refl)
 a_level level.Binary = literal 1 (λ r. refl)
-
-a_next : (n : Next) → Spells Anything true (next_text n) (λ s. next_text n ∷ s) true
-a_next next.Zero = literal 1 (λ r. refl)
-a_next next.One = literal 1 (λ r. refl)
-a_next next.Unknown = literal 1 (λ r. refl)
-a_next next.Keep = literal 1 (λ r. refl)
 
 -- the first token of an entry, and the others
 abbrev pub entry_start : Entry → List ℕ

@@ -12,7 +12,7 @@ use Rattle.verilog_tokens.specs.Words.{is_verilog_word, verilog_words}
 use Rattle.verilog_tokens.specs.Tokens.{is_blank, is_mark, is_one_of, begins_with, begins_word, word_length, number_length, sign_length, is_open_after, is_name, separator_length, token_length}
 use Rattle.verilog_tokens.proofs.Padding.{word_before, over_token}
 use Rattle.specify_blocks.specs.WellFormed.{IsName, IsNumber}
-use Rattle.grammar_phrases.proofs.Bytes.{unlike, none_of, AreFew, short, below_word, few}
+use Rattle.grammar_phrases.proofs.Bytes.{unlike, none_of, run_ends, AreFew, short, below_word, few}
 use Rattle.written_modules.proofs.Spelling.{Spells, Ends, found}
 
 -- Bytes of one kind and of another.
@@ -34,14 +34,10 @@ ends_by test h c e = elim (cases_Bool (is_blank c)) [
   | inr f ↦ one_of test (codes "(),;:") c h.1 (rw f at e)
 ]
 
--- a run of bytes that pass ends where a blank or a mark follows
-run_ends : (test : ℕ → Bool) → NoEnd test → (w r : List ℕ) → list_all test w ≡ true → Ends r → prefix_len test (w ++ r) ≡ length w
-run_ends test n [] [] h e = refl
-run_ends test n [] (c ∷ r) h e = rw (ends_by test n c e) refl
-run_ends test n (c ∷ w) r h e =
-    let p = and_parts (test c) (list_all test w) h in
-    let i : prefix_len test (w ++ r) ≡ length w = run_ends test n w r p.1 e in
-    rw p.0 (omega arith)
+-- where a blank or a mark follows there is none that passes
+none_follow : (test : ℕ → Bool) → NoEnd test → (r : List ℕ) → Ends r → prefix_len test r ≡ 0
+none_follow test n [] e = refl
+none_follow test n (c ∷ r) e = rw (ends_by test n c e) refl
 
 no_separator : (b : ℕ) (s : List ℕ) → is_blank b ≡ false → nat_eq 47 b ≡ false → separator_length (b ∷ s) ≡ 0
 no_separator b s e f = rw (e, f) refl
@@ -91,7 +87,7 @@ name_found b w n r e =
     over_token false 0 0 b w r
     (no_separator b (w ++ r) (none_of begins_name (codes " \t\n") b refl p.0) (unlike begins_name 47 b refl p.0))
     (word_length_is b w r (none_of begins_name (codes "(),;:") b refl p.0) (starts_word b p.0) (none_of begins_name (codes "$`") b refl p.0)
-    (run_ends is_name_byte (refl, refl) w r p.1 e))
+    (run_ends is_name_byte w r p.1 (none_follow is_name_byte (refl, refl) r e)))
     ∙ ap (λ (t : Bool). word_before (b ∷ w) (found t r)) (stays_shut (b ∷ w) (unlike_word (b ∷ w) (codes "table") table_word n))
 
 -- a name is one token
@@ -138,7 +134,7 @@ no_word_start b e =
 number_token : (b : ℕ) (w r : List ℕ) → AreFew (b ∷ w) → Ends r → token_length false (b ∷ w ++ r) ≡ suc (length w)
 number_token b w r f e =
     let p = and_parts (is_ascii_digit b) (list_all is_ascii_digit w) f.digits in
-    let run : prefix_len is_ascii_digit (b ∷ w ++ r) ≡ suc (length w) = run_ends is_ascii_digit (refl, refl) (b ∷ w) r f.digits e in
+    let run : prefix_len is_ascii_digit (b ∷ w ++ r) ≡ suc (length w) = run_ends is_ascii_digit (b ∷ w) r f.digits (none_follow is_ascii_digit (refl, refl) r e) in
     let fits : nat_le (prefix_len is_ascii_digit (b ∷ w ++ r)) 15 ≡ true = short (prefix_len is_ascii_digit (b ∷ w ++ r)) (subst (λ n. n ≤ 15) (sym run) f.few) in
     digit_length_is b (w ++ r) (suc (length w)) (none_of is_ascii_digit (codes "(),;:") b refl p.0) (no_word_start b p.0) p.0
     (number_length_is (begins_with (b ∷ w ++ r) (codes "1ps")) (begins_with (b ∷ w ++ r) (codes "1'b0")) (begins_with (b ∷ w ++ r) (codes "1'b1"))

@@ -4,4 +4,4 @@ use Rattle.verilog_writer.proofs.checks.CheckLinesItemTextTimingCheck.put.Goals 
 
 pub returns-in-Setup-clause-text : goal.returns-in-Setup-clause-text
 returns-in-Setup-clause-text g c =
-    as_kind _ _ _ _ _ c.args.self.now.0.now c.args.check.now check_kind.Setup _ c.in-Setup.is c.put.ensures.text
+    as_kind _ _ _ _ _ c.args.self.now.0.now c.args.one.now check_kind.Setup _ c.in-Setup.is c.put.ensures.text

@@ -1,5 +1,5 @@
 -- The text of small entities, by computing.
-use Rattle.std.proofs.Common.{◌≡◌, ℕ, true, false, List, [], ◌∷◌, None, codes, refl}
+use Rattle.std.proofs.Common.{◌≡◌, ℕ, Bool, true, false, List, [], ◌∷◌, None, codes, refl}
 use Rattle.std.specs.Fmt.{digits}
 use Rattle.trit_cubes.specs.declared.trits.Trit.TheVariants as trit
 use Rattle.cell_machine.specs.declared.outputs.Source.TheVariants as source
@@ -16,6 +16,7 @@ use Rattle.vital_models.specs.declared.table.VNext.TheVariants as next
 use Rattle.vital_models.specs.declared.table.VStateRow.{VStateRow}
 use Rattle.vital_models.specs.declared.model.OutValue.TheVariants as value
 use Rattle.vital_models.specs.declared.model.HGate.TheVariants as gate
+use Rattle.udp_tables.specs.declared.models.VPort.{VPort}
 use Rattle.udp_tables.specs.declared.timing_checks.TimingCheck.{TimingCheck}
 use Rattle.vital_models.specs.declared.model.VEntity.{VEntity}
 use Rattle.vhdl_writer.specs.Names.{input_text, inputs_text, next_input_text, violated_text, source_name, source_text, sources_text, condition_text}
@@ -25,18 +26,22 @@ use Rattle.vhdl_writer.specs.Statements.{one_text, setup_hold_text, recovery_rem
 use Rattle.vhdl_writer.specs.Outputs.{lookup_text, value_line, not_zero_text, zero_text, all_zero_text, path_text, paths_text, direct_text}
 use Rattle.vhdl_writer.specs.Entity.{statements_text, entity_text}
 
+abbrev port : List ℕ → Bool → VPort
+port name input = record { name = name; input = input }
+
 row : List VSymbol → Trits → VNext → VStateRow
 row inputs state result = record { inputs = inputs; state = state; result = result }
+
+check : CheckKind → ℕ → ℕ → Edge → ℕ → Edge → TimingCheck
+check kind limit p e q f =
+    record { kind = kind; first = record { pin = p; edge = e }; second = record { pin = q; edge = f }; limit = limit; condition = None }
 
 -- A flip-flop with a setup of 50 of D before rising CK, and delays of 100 and 120 from CK to Q.
 flip-flop : VEntity
 flip-flop =
     record {
       name = codes "DFFT";
-      ports =
-          record { name = codes "CK"; input = true }
-          ∷ record { name = codes "D"; input = true }
-          ∷ record { name = codes "Q"; input = false } ∷ [];
+      ports = port (codes "CK") true ∷ port (codes "D") true ∷ port (codes "Q") false ∷ [];
       states =
           record {
             table = record {
@@ -67,18 +72,11 @@ flip-flop =
             }) (source.State 0 ∷ []);
             paths = record { from = 0; rise = 100; fall = 120; gate = gate.Always } ∷ [];
           } ∷ [];
-      checks =
-          record {
-            kind = check_kind.Setup;
-            first = record { pin = 1; edge = edge.Any };
-            second = record { pin = 0; edge = edge.Rise };
-            limit = 50;
-            condition = None;
-          } ∷ [];
+      checks = check check_kind.Setup 50 1 edge.Any 0 edge.Rise ∷ [];
     }
 
 flip-flop-text : entity_text flip-flop ≡ codes "library IEEE;\nuse IEEE.std_logic_1164.all;\nuse IEEE.VITAL_Timing.all;\nuse IEEE.VITAL_Primitives.all;\nentity DFFT is\n  port (CK : in std_ulogic; D : in std_ulogic; Q : out std_ulogic);\nend DFFT;\narchitecture vital of DFFT is\n  constant k_1 : VitalStateTableType := (\n    ('0', 'S', 'S', '-', 'S'),\n    ('X', '-', '-', '-', 'X'),\n    ('-', '/', '1', '-', '1'),\n    ('-', 'n', '-', '1', '1'),\n    ('-', 'N', '-', '1', '1'),\n    ('-', '*', '1', '1', '1'),\n    ('-', '/', '0', '-', '0'),\n    ('-', 'n', '-', '0', '0'),\n    ('-', 'N', '-', '0', '0'),\n    ('-', '*', '0', '0', '0'),\n    ('-', '-', '*', '1', '1'),\n    ('-', '-', '*', '0', '0'),\n    ('-', '-', '-', '-', 'X'));\n  constant k_2 : VitalTruthTableType := (\n    ('1', '1'),\n    ('0', '0'));\nbegin\n  process (CK, D)\n    variable x_1 : X01 := '0';\n    variable d_1 : VitalTimingDataType := VitalTimingDataInit;\n    variable viol : X01 := '0';\n    variable s_1 : std_logic := 'X';\n    variable p_1 : std_logic_vector (1 to 3) := (others => 'X');\n    variable z_1 : std_logic := 'X';\n    variable g_1 : VitalGlitchDataType;\n  begin\n    VitalSetupHoldCheck (Violation => x_1, TimingData => d_1, TestSignal => D, RefSignal => CK, SetupHigh => 50 ps, SetupLow => 50 ps, CheckEnabled => true, RefTransition => 'R');\n    viol := x_1;\n    VitalStateTable (Result => s_1, PreviousDataIn => p_1, StateTable => k_1, DataIn => (viol, CK, D));\n    z_1 := VitalTruthTable (TruthTable => k_2, DataIn => (0 => s_1));\n    VitalPathDelay01 (OutSignal => Q, GlitchData => g_1, OutSignalName => \"Q\", OutTemp => z_1, Paths => (0 => (CK'last_event, (100 ps, 120 ps), true)), Mode => VitalTransport);\n  end process;\nend vital;\n"
-unfolding row flip-flop digits input_text inputs_text next_input_text violated_text source_name source_text sources_text condition_text symbol_apart_text level_apart_text state_row_text truth_row_text truth_rows_text state_rows_text state_constant_text condition_constant_text is_looked_up output_table_text constants_text port_text some_ports_text header_text signal_text process_text check_variables_text state_variables_text glitch_data_text output_variables_text variables_text one_text setup_hold_text recovery_removal_text period_pulse_text check_text report_text reports_text state_text lookup_text value_line not_zero_text zero_text all_zero_text path_text paths_text direct_text statements_text entity_text
+unfolding row check flip-flop digits input_text inputs_text next_input_text violated_text source_name source_text sources_text condition_text symbol_apart_text level_apart_text state_row_text truth_row_text truth_rows_text state_rows_text state_constant_text condition_constant_text is_looked_up output_table_text constants_text port_text some_ports_text header_text signal_text process_text check_variables_text state_variables_text glitch_data_text output_variables_text variables_text one_text setup_hold_text recovery_removal_text period_pulse_text check_text report_text reports_text state_text lookup_text value_line not_zero_text zero_text all_zero_text path_text paths_text direct_text statements_text entity_text
 flip-flop-text = refl
 
 -- A cell with the one output Y, which is always 1.
@@ -86,7 +84,7 @@ tied : VEntity
 tied =
     record {
       name = codes "TIE";
-      ports = record { name = codes "Y"; input = false } ∷ [];
+      ports = port (codes "Y") false ∷ [];
       states = [];
       conditions = [];
       outputs = record { port = 0; value = value.Constant true; paths = [] } ∷ [];
@@ -104,7 +102,7 @@ control : VEntity
 control =
     record {
       name = codes "C";
-      ports = record { name = codes "RN"; input = true } ∷ record { name = codes "CK"; input = true } ∷ [];
+      ports = port (codes "RN") true ∷ port (codes "CK") true ∷ [];
       states = [];
       conditions =
           record {
@@ -115,20 +113,16 @@ control =
       checks = [];
     }
 
-check : CheckKind → ℕ → Edge → ℕ → Edge → TimingCheck
-check kind p e q f =
-    record { kind = kind; first = record { pin = p; edge = e }; second = record { pin = q; edge = f }; limit = 7; condition = None }
-
 checks-text :
-    (check_text control 1 (check check_kind.Hold 1 edge.Fall 0 edge.Any)
+    (check_text control 1 (check check_kind.Hold 7 1 edge.Fall 0 edge.Any)
     ≡ codes "    VitalSetupHoldCheck (Violation => x_1, TimingData => d_1, TestSignal => RN, RefSignal => CK, HoldHigh => 7 ps, HoldLow => 7 ps, CheckEnabled => true, RefTransition => 'F');\n")
-    × (check_text control 1 (check check_kind.Recovery 0 edge.Rise 1 edge.Rise)
+    × (check_text control 1 (check check_kind.Recovery 7 0 edge.Rise 1 edge.Rise)
     ≡ codes "    VitalRecoveryRemovalCheck (Violation => x_1, TimingData => d_1, TestSignal => RN, RefSignal => CK, Recovery => 7 ps, ActiveLow => true, CheckEnabled => true, RefTransition => 'R');\n")
-    × (check_text control 2 (check check_kind.Removal 1 edge.Rise 0 edge.Fall)
+    × (check_text control 2 (check check_kind.Removal 7 1 edge.Rise 0 edge.Fall)
     ≡ codes "    VitalRecoveryRemovalCheck (Violation => x_2, TimingData => d_2, TestSignal => RN, RefSignal => CK, Removal => 7 ps, ActiveLow => false, CheckEnabled => true, RefTransition => 'R');\n")
-    × (check_text control 1 (check check_kind.Width 1 edge.Rise 1 edge.Fall)
+    × (check_text control 1 (check check_kind.Width 7 1 edge.Rise 1 edge.Fall)
     ≡ codes "    VitalPeriodPulseCheck (Violation => x_1, PeriodData => d_1, TestSignal => CK, PulseWidthHigh => 7 ps, CheckEnabled => true);\n")
-    × (check_text control 1 (check check_kind.Period 1 edge.Any 1 edge.Any)
+    × (check_text control 1 (check check_kind.Period 7 1 edge.Any 1 edge.Any)
     ≡ codes "    VitalPeriodPulseCheck (Violation => x_1, PeriodData => d_1, TestSignal => CK, Period => 7 ps, CheckEnabled => true);\n")
 unfolding control check digits input_text inputs_text next_input_text violated_text source_name source_text sources_text condition_text symbol_apart_text level_apart_text state_row_text truth_row_text truth_rows_text state_rows_text state_constant_text condition_constant_text is_looked_up output_table_text constants_text port_text some_ports_text header_text signal_text process_text check_variables_text state_variables_text glitch_data_text output_variables_text variables_text one_text setup_hold_text recovery_removal_text period_pulse_text check_text report_text reports_text state_text lookup_text value_line not_zero_text zero_text all_zero_text path_text paths_text direct_text statements_text entity_text
 checks-text = (refl, refl, refl, refl, refl)

@@ -64,12 +64,9 @@ process_text e =
 
 -- the type of the data of a check, and what they are at first
 abbrev pub data_text : CheckKind → List ℕ
-data_text check_kind.Setup = codes " : VitalTimingDataType := VitalTimingDataInit;\n"
-data_text check_kind.Hold = codes " : VitalTimingDataType := VitalTimingDataInit;\n"
-data_text check_kind.Recovery = codes " : VitalTimingDataType := VitalTimingDataInit;\n"
-data_text check_kind.Removal = codes " : VitalTimingDataType := VitalTimingDataInit;\n"
 data_text check_kind.Width = codes " : VitalPeriodDataType := VitalPeriodDataInit;\n"
 data_text check_kind.Period = codes " : VitalPeriodDataType := VitalPeriodDataInit;\n"
+data_text _ = codes " : VitalTimingDataType := VitalTimingDataInit;\n"
 
 -- the variables of a check: its report and its data
 unfoldable pub check_variables_text : ℕ → TimingCheck → List ℕ

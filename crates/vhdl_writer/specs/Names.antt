@@ -22,13 +22,17 @@ inputs_at e i = option_map_or (λ (truth : VTruth). truth.inputs) (slice_get e.c
 abbrev pub list_start : ℕ → List ℕ
 list_start n = if nat_eq n 1 then codes "(0 => " else codes "("
 
+-- a list of names, each of which this function writes
+abbrev pub listed_text : {X : Type 0} → (ℕ → X → List ℕ) → List X → List ℕ
+listed_text f items = list_start (length items) ++ (numbered_texts f 1 items ++ codes ")")
+
 -- the name of an input in a list of such
 unfoldable pub input_text : VEntity → ℕ → ℕ → List ℕ
 input_text e n p = apart_text (codes ", ") n ++ port_at e p
 
 -- a list of inputs
 unfoldable pub inputs_text : VEntity → List ℕ → List ℕ
-inputs_text e inputs = list_start (length inputs) ++ (numbered_texts (input_text e) 1 inputs ++ codes ")")
+inputs_text e inputs = listed_text (input_text e) inputs
 
 -- the name of an input behind another name
 unfoldable pub next_input_text : VEntity → ℕ → ℕ → List ℕ
@@ -57,7 +61,7 @@ source_text e n s = apart_text (codes ", ") n ++ source_name e s
 
 -- a list of inputs and states
 unfoldable pub sources_text : VEntity → List Source → List ℕ
-sources_text e sources = list_start (length sources) ++ (numbered_texts (source_text e) 1 sources ++ codes ")")
+sources_text e sources = listed_text (source_text e) sources
 
 -- the look-up of a condition (IEEE 1076.4-2000, VitalTruthTable)
 unfoldable pub condition_text : VEntity → ℕ → List ℕ

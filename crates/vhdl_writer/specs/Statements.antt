@@ -32,11 +32,14 @@ reference_at k check_kind.Hold = k.first
 reference_at k check_kind.Removal = k.first
 reference_at k _ = k.second
 
--- the edge of the reference, and the end of the call. The reference of a sound check has one edge.
+-- one of two texts, for a rise and for a fall. An event that is written so has one edge in a sound check.
+abbrev pub by_edge : List ℕ → List ℕ → Edge → List ℕ
+by_edge rise fall edge.Fall = fall
+by_edge rise fall _ = rise
+
+-- the edge of the reference, and the end of the call
 abbrev pub transition_text : Edge → List ℕ
-transition_text edge.Any = codes ", RefTransition => 'R');\n"
-transition_text edge.Rise = codes ", RefTransition => 'R');\n"
-transition_text edge.Fall = codes ", RefTransition => 'F');\n"
+transition_text g = by_edge (codes ", RefTransition => 'R');\n") (codes ", RefTransition => 'F');\n") g
 
 -- the words before the two limits of setup and of hold
 abbrev pub high_word : CheckKind → List ℕ
@@ -72,11 +75,9 @@ abbrev pub recovery_word : CheckKind → List ℕ
 recovery_word check_kind.Removal = codes ", Removal => "
 recovery_word _ = codes ", Recovery => "
 
--- whether the control is active low: it ends with a rise. The control of a sound check has one edge.
+-- whether the control is active low: it ends with a rise
 abbrev pub active_text : Edge → List ℕ
-active_text edge.Any = codes " ps, ActiveLow => true, CheckEnabled => "
-active_text edge.Rise = codes " ps, ActiveLow => true, CheckEnabled => "
-active_text edge.Fall = codes " ps, ActiveLow => false, CheckEnabled => "
+active_text g = by_edge (codes " ps, ActiveLow => true, CheckEnabled => ") (codes " ps, ActiveLow => false, CheckEnabled => ") g
 
 -- the call of VitalRecoveryRemovalCheck for a check with this number
 unfoldable pub recovery_removal_text : VEntity → ℕ → TimingCheck → List ℕ
@@ -88,9 +89,7 @@ recovery_removal_text e n k =
 
 -- the word before the least width of a pulse that begins with this edge
 abbrev pub width_word : Edge → List ℕ
-width_word edge.Any = codes ", PulseWidthHigh => "
-width_word edge.Rise = codes ", PulseWidthHigh => "
-width_word edge.Fall = codes ", PulseWidthLow => "
+width_word g = by_edge (codes ", PulseWidthHigh => ") (codes ", PulseWidthLow => ") g
 
 -- the word before the limit of a width and of a period
 abbrev pub pulse_word : TimingCheck → CheckKind → List ℕ

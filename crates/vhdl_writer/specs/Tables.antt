@@ -21,11 +21,17 @@ use Rattle.vital_models.specs.declared.model.VOutput.{VOutput}
 use Rattle.vital_models.specs.declared.model.VEntity.{VEntity}
 use Rattle.vhdl_writer.specs.Joined.{numbered_texts}
 
+-- the symbol of what a row of a truth table gives
+abbrev pub value_text : Trit → List ℕ
+value_text trit.Zero = codes "'0'"
+value_text trit.One = codes "'1'"
+value_text trit.Unknown = codes "'X'"
+
 -- the symbol of a level
 abbrev pub level_text : Trits → List ℕ
-level_text trits.Zero = codes "'0'"
-level_text trits.One = codes "'1'"
-level_text trits.Unknown = codes "'X'"
+level_text trits.Zero = value_text trit.Zero
+level_text trits.One = value_text trit.One
+level_text trits.Unknown = value_text trit.Unknown
 level_text trits.Any = codes "'-'"
 level_text trits.Binary = codes "'B'"
 
@@ -43,16 +49,10 @@ symbol_text symbol.Change = codes "'*'"
 
 -- the symbol of what a row of a state's table gives
 abbrev pub next_text : VNext → List ℕ
-next_text next.Zero = codes "'0'"
-next_text next.One = codes "'1'"
-next_text next.Unknown = codes "'X'"
+next_text next.Zero = value_text trit.Zero
+next_text next.One = value_text trit.One
+next_text next.Unknown = value_text trit.Unknown
 next_text next.Keep = codes "'S'"
-
--- the symbol of what a row of a truth table gives
-abbrev pub value_text : Trit → List ℕ
-value_text trit.Zero = codes "'0'"
-value_text trit.One = codes "'1'"
-value_text trit.Unknown = codes "'X'"
 
 -- what stands before the symbols of the row with this number, of so many rows
 abbrev pub row_start : ℕ → ℕ → List ℕ

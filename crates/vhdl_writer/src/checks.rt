@@ -1,9 +1,9 @@
 //! Calls of timing checks. (IEEE 1076.4-2000, VitalSetupHoldCheck, VitalRecoveryRemovalCheck and VitalPeriodPulseCheck.)
 ghost use Rattle.std.specs.Prelude.{◌≡◌};
-ghost use Rattle.vhdl_writer.specs.Statements.{enabled_text, test_at, reference_at, transition_text, high_word, low_word, referring_text, setup_hold_text, recovery_word, active_text, recovery_removal_text, width_word, pulse_word, period_pulse_text, check_text};
+ghost use Rattle.vhdl_writer.specs.Statements.{enabled_text, test_at, reference_at, by_edge, transition_text, high_word, low_word, referring_text, setup_hold_text, recovery_word, recovery_removal_text, pulse_word, period_pulse_text, check_text};
 
 use crate::names::{Condition, port_at};
-use crate::parts::ItemText;
+use crate::parts::{CheckAt, ItemText};
 use cell_machine::{CheckKind, Edge, Event};
 use text_io::{Desk, Line, OutSlot};
 use text_parts::{Bytes, Decimal, Part, Put, parts};
@@ -21,8 +21,7 @@ impl Part for Enabled<'_> {
     fn put<D: Desk>(&self, line: &mut Line, desk: &mut D, slot: OutSlot) -> Put {
         match self.1 {
             Some(number) => {
-                let entity = self.0;
-                parts!(Condition { entity, number }, Bytes(b" = '1'")).put(line, desk, slot)
+                parts!(Condition(self.0, number), Bytes(b" = '1'")).put(line, desk, slot)
             }
             None => line.put(desk, slot, b"true"),
         }
@@ -52,14 +51,25 @@ fn reference_of(check: &TimingCheck) -> Event
     }
 }
 
+/// One of two texts, for a rise and for a fall.
+fn by_edge<'a>(rise: &'a [u8], fall: &'a [u8], edge: Edge) -> &'a [u8]
+    ensures { result.now ≡ by_edge rise.now fall.now edge }
+{
+    match edge {
+        Edge::Fall => fall,
+        _ => rise,
+    }
+}
+
 /// The edge of the reference, and the end of the call.
 fn transition_text(edge: Edge) -> &'static [u8]
     ensures { result.now ≡ transition_text edge }
 {
-    match edge {
-        Edge::Any | Edge::Rise => b", RefTransition => 'R');\n",
-        Edge::Fall => b", RefTransition => 'F');\n",
-    }
+    by_edge(
+        b", RefTransition => 'R');\n",
+        b", RefTransition => 'F');\n",
+        edge,
+    )
 }
 
 /// The word before the first limit of setup and of hold.
@@ -142,16 +152,6 @@ fn recovery_word(kind: CheckKind) -> &'static [u8]
     }
 }
 
-/// Whether the control, which ends with this edge, is active low.
-fn active_text(edge: Edge) -> &'static [u8]
-    ensures { result.now ≡ active_text edge }
-{
-    match edge {
-        Edge::Any | Edge::Rise => b" ps, ActiveLow => true, CheckEnabled => ",
-        Edge::Fall => b" ps, ActiveLow => false, CheckEnabled => ",
-    }
-}
-
 /// The call of VitalRecoveryRemovalCheck for a check.
 #[derive(Drop)]
 struct RecoveryRemoval<'a>(Call<'a>);
@@ -163,25 +163,20 @@ impl Part for RecoveryRemoval<'_> {
         let (entity, _, check) = self.0;
         let test = test_of(check);
         let reference = reference_of(check);
+        let active = by_edge(
+            b" ps, ActiveLow => true, CheckEnabled => ",
+            b" ps, ActiveLow => false, CheckEnabled => ",
+            test.edge,
+        );
         let limit = parts!(
             Bytes(recovery_word(check.kind)),
             Decimal(check.limit as u128),
-            Bytes(active_text(test.edge)),
+            Bytes(active),
             Enabled(entity, check.condition),
             Bytes(transition_text(reference.edge))
         );
         let start = b"    VitalRecoveryRemovalCheck (Violation => x_";
         Referring(start, self.0, limit).put(line, desk, slot)
-    }
-}
-
-/// The word before the least width of a pulse that begins with this edge.
-fn width_word(edge: Edge) -> &'static [u8]
-    ensures { result.now ≡ width_word edge }
-{
-    match edge {
-        Edge::Any | Edge::Rise => b", PulseWidthHigh => ",
-        Edge::Fall => b", PulseWidthLow => ",
     }
 }
 
@@ -191,7 +186,11 @@ fn pulse_word(check: &TimingCheck) -> &'static [u8]
 {
     match check.kind {
         CheckKind::Period => b", Period => ",
-        _ => width_word(check.first.edge),
+        _ => by_edge(
+            b", PulseWidthHigh => ",
+            b", PulseWidthLow => ",
+            check.first.edge,
+        ),
     }
 }
 
@@ -229,16 +228,9 @@ impl ItemText<TimingCheck> for CheckCalls<'_> {
     ghost text = { λ m n k. check_text m.0.now n k };
 
     #[tactic(auto, unfolding(crate::specs::Statements::check_text))]
-    fn put<D: Desk>(
-        &self,
-        number: usize,
-        check: &TimingCheck,
-        line: &mut Line,
-        desk: &mut D,
-        slot: OutSlot,
-    ) -> Put {
-        let call = (self.0, number, check);
-        match check.kind {
+    fn put<D: Desk>(&self, at: &CheckAt, line: &mut Line, desk: &mut D, slot: OutSlot) -> Put {
+        let call = (self.0, at.number, at.item);
+        match at.item.kind {
             CheckKind::Setup | CheckKind::Hold => SetupHold(call).put(line, desk, slot),
             CheckKind::Recovery | CheckKind::Removal => {
                 RecoveryRemoval(call).put(line, desk, slot)

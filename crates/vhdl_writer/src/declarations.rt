@@ -1,11 +1,11 @@
 //! An entity with its ports, and the beginning of its process. (IEEE 1076-1993, 1.1, 1.2 and 9.2.)
 ghost use Rattle.std.specs.Prelude.{◌≡◌};
-ghost use Rattle.vhdl_writer.specs.Declarations.{direction_text, port_text, ports_text, header_text, is_input, first_input, signal_start, signal_text, signals_end, process_text};
+ghost use Rattle.vhdl_writer.specs.Declarations.{direction_text, port_text, header_text, is_input, first_input, signal_start, signal_text, signals_end, process_text};
 
 use crate::names::apart;
-use crate::parts::{Each, ItemText};
+use crate::parts::{At, Each, ItemText};
 use text_io::{Desk, Line, OutSlot};
-use text_parts::{Bytes, Part, Put, parts};
+use text_parts::{Bytes, Part, Put, When, parts};
 use udp_tables::VPort;
 use vital_models::VEntity;
 
@@ -28,58 +28,32 @@ impl ItemText<VPort> for ListedPorts {
     ghost text = { λ _ n port. port_text n port };
 
     #[tactic(auto, unfolding(crate::specs::Declarations::port_text))]
-    fn put<D: Desk>(
-        &self,
-        number: usize,
-        item: &VPort,
-        line: &mut Line,
-        desk: &mut D,
-        slot: OutSlot,
-    ) -> Put {
-        parts!(
-            Bytes(apart(b"; ", number)),
-            Bytes(item.name.as_slice()),
-            Bytes(direction_text(item))
-        )
-        .put(line, desk, slot)
+    fn put<D: Desk>(&self, at: &At<VPort>, line: &mut Line, desk: &mut D, slot: OutSlot) -> Put {
+        let name = Bytes(at.item.name.as_slice());
+        let direction = Bytes(direction_text(at.item));
+        parts!(Bytes(apart(b"; ", at.number)), name, direction).put(line, desk, slot)
     }
 }
 
-/// The list of ports, where there are ports.
-#[derive(Drop)]
-struct Ports<'a>(&'a [VPort]);
-
-impl Part for Ports<'_> {
-    ghost text = { λ m. ports_text m.0.now };
-
-    #[tactic(auto, unfolding(crate::specs::Declarations::some_ports_text))]
-    fn put<D: Desk>(&self, line: &mut Line, desk: &mut D, slot: OutSlot) -> Put {
-        if self.0.is_empty() {
-            line.put(desk, slot, b"")
-        } else {
-            let ports = Each(ListedPorts, self.0);
-            parts!(Bytes(b"  port ("), ports, Bytes(b");\n")).put(line, desk, slot)
-        }
-    }
-}
-
-/// The packages that an entity uses, and its header.
+/// The packages that an entity uses, and its header, with a list of ports where there are ports.
 #[derive(Drop)]
 pub(crate) struct Header<'a>(pub(crate) &'a VEntity);
 
 impl Part for Header<'_> {
     ghost text = { λ m. header_text m.0.now };
 
-    #[tactic(auto, unfolding(crate::specs::Declarations::header_text))]
+    #[tactic(auto, unfolding(crate::specs::Declarations::header_text, crate::specs::Declarations::some_ports_text))]
     fn put<D: Desk>(&self, line: &mut Line, desk: &mut D, slot: OutSlot) -> Put {
         let name = self.0.name.as_slice();
+        let ports = self.0.ports.as_slice();
+        let listed = parts!(Bytes(b"  port ("), Each(ListedPorts, ports), Bytes(b");\n"));
         parts!(
             Bytes(
                 b"library IEEE;\nuse IEEE.std_logic_1164.all;\nuse IEEE.VITAL_Timing.all;\nuse IEEE.VITAL_Primitives.all;\nentity "
             ),
             Bytes(name),
             Bytes(b" is\n"),
-            Ports(self.0.ports.as_slice()),
+            When(ports.len() > 0, listed),
             Bytes(b"end "),
             Bytes(name),
             Bytes(b";\narchitecture vital of "),
@@ -122,23 +96,10 @@ impl ItemText<VPort> for Signals {
     ghost text = { λ m n port. signal_text m.0 n port };
 
     #[tactic(auto, unfolding(crate::specs::Declarations::signal_text))]
-    fn put<D: Desk>(
-        &self,
-        number: usize,
-        item: &VPort,
-        line: &mut Line,
-        desk: &mut D,
-        slot: OutSlot,
-    ) -> Put {
-        if item.input {
-            parts!(
-                Bytes(signal_start(self.0, number)),
-                Bytes(item.name.as_slice())
-            )
-            .put(line, desk, slot)
-        } else {
-            line.put(desk, slot, b"")
-        }
+    fn put<D: Desk>(&self, at: &At<VPort>, line: &mut Line, desk: &mut D, slot: OutSlot) -> Put {
+        let start = Bytes(signal_start(self.0, at.number));
+        let signal = (start, Bytes(at.item.name.as_slice()));
+        When(at.item.input, signal).put(line, desk, slot)
     }
 }
 
@@ -160,12 +121,8 @@ impl Part for Process<'_> {
     fn put<D: Desk>(&self, line: &mut Line, desk: &mut D, slot: OutSlot) -> Put {
         let items = self.0.ports.as_slice();
         let first = first_input(items);
-        let text = Signals(first);
-        parts!(
-            Bytes(b"begin\n  process"),
-            Each(text, items),
-            Bytes(signals_end(first))
-        )
-        .put(line, desk, slot)
+        let signals = Each(Signals(first), items);
+        let end = Bytes(signals_end(first));
+        parts!(Bytes(b"begin\n  process"), signals, end).put(line, desk, slot)
     }
 }

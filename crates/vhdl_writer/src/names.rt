@@ -1,9 +1,9 @@
 //! The names of an entity's parts by their numbers, and lists of them in calls.
 ghost use Rattle.std.specs.Prelude.{◌≡◌};
 ghost use Rattle.vhdl_writer.specs.Joined.{apart_text};
-ghost use Rattle.vhdl_writer.specs.Names.{port_at, inputs_at, list_start, violated_start, input_text, inputs_text, next_input_text, columns_text, source_name, source_text, sources_text, condition_text};
+ghost use Rattle.vhdl_writer.specs.Names.{port_at, inputs_at, list_start, violated_start, listed_text, input_text, next_input_text, columns_text, source_name, source_text, condition_text};
 
-use crate::parts::{Each, ItemText};
+use crate::parts::{At, Each, ItemText};
 use cell_machine::Source;
 use text_io::{Desk, Line, OutSlot};
 use text_parts::{Bytes, Decimal, Part, Put, parts};
@@ -50,40 +50,58 @@ fn violated_start(count: usize) -> &'static [u8]
     if count == 0 { b"(0 => viol" } else { b"(viol" }
 }
 
-/// Inputs of an entity in a list of such.
+/// Inputs, and inputs and states, of an entity in a list of such.
 #[derive(Drop)]
-struct ListedInput<'a>(&'a VEntity);
+pub(crate) struct Names<'a>(pub(crate) &'a VEntity);
 
-impl ItemText<usize> for ListedInput<'_> {
+impl ItemText<usize> for Names<'_> {
     ghost text = { λ m n p. input_text m.0.now n p };
 
     #[tactic(auto, unfolding(crate::specs::Names::input_text))]
-    fn put<D: Desk>(
-        &self,
-        number: usize,
-        item: &usize,
-        line: &mut Line,
-        desk: &mut D,
-        slot: OutSlot,
-    ) -> Put {
-        parts!(Bytes(apart(b", ", number)), Bytes(port_at(self.0, *item))).put(line, desk, slot)
+    fn put<D: Desk>(&self, at: &At<usize>, line: &mut Line, desk: &mut D, slot: OutSlot) -> Put {
+        let name = Bytes(port_at(self.0, *at.item));
+        parts!(Bytes(apart(b", ", at.number)), name).put(line, desk, slot)
     }
 }
 
-/// A list of inputs of an entity.
+/// The name of an input or of a state.
 #[derive(Drop)]
-struct Inputs<'a> {
-    entity: &'a VEntity,
-    inputs: &'a [usize],
+struct SourceName<'a>(&'a VEntity, Source);
+
+impl Part for SourceName<'_> {
+    ghost text = { λ m. source_name m.0.now m.1 };
+
+    #[tactic(auto, unfolding(crate::specs::Names::source_name))]
+    fn put<D: Desk>(&self, line: &mut Line, desk: &mut D, slot: OutSlot) -> Put {
+        match self.1 {
+            Source::Pin(port) => Bytes(port_at(self.0, port)).put(line, desk, slot),
+            Source::State(state) => {
+                parts!(Bytes(b"s_"), Decimal(state as u128 + 1)).put(line, desk, slot)
+            }
+        }
+    }
 }
 
-impl Part for Inputs<'_> {
-    ghost text = { λ m. inputs_text m.entity.now m.inputs.now };
+impl ItemText<Source> for Names<'_> {
+    ghost text = { λ m n s. source_text m.0.now n s };
 
-    #[tactic(auto, unfolding(crate::specs::Names::inputs_text))]
+    #[tactic(auto, unfolding(crate::specs::Names::source_text))]
+    fn put<D: Desk>(&self, at: &At<Source>, line: &mut Line, desk: &mut D, slot: OutSlot) -> Put {
+        let name = SourceName(self.0, *at.item);
+        parts!(Bytes(apart(b", ", at.number)), name).put(line, desk, slot)
+    }
+}
+
+/// A list of names: of one alone its index stands before it.
+#[derive(Drop)]
+pub(crate) struct Listed<'a, M, T>(pub(crate) Each<'a, M, T>);
+
+impl<M: ItemText<T>, T> Part for Listed<'_, M, T> {
+    ghost text = { λ l. listed_text (M.text l.0.0) l.0.1.now };
+
     fn put<D: Desk>(&self, line: &mut Line, desk: &mut D, slot: OutSlot) -> Put {
-        let names = Each(ListedInput(self.entity), self.inputs);
-        parts!(Bytes(list_start(self.inputs.len())), names, Bytes(b")")).put(line, desk, slot)
+        let start = Bytes(list_start(self.0.1.len()));
+        parts!(start, &self.0, Bytes(b")")).put(line, desk, slot)
     }
 }
 
@@ -95,124 +113,45 @@ impl ItemText<usize> for NextInput<'_> {
     ghost text = { λ m n p. next_input_text m.0.now n p };
 
     #[tactic(auto, unfolding(crate::specs::Names::next_input_text))]
-    fn put<D: Desk>(
-        &self,
-        _number: usize,
-        item: &usize,
-        line: &mut Line,
-        desk: &mut D,
-        slot: OutSlot,
-    ) -> Put {
-        parts!(Bytes(b", "), Bytes(port_at(self.0, *item))).put(line, desk, slot)
+    fn put<D: Desk>(&self, at: &At<usize>, line: &mut Line, desk: &mut D, slot: OutSlot) -> Put {
+        parts!(Bytes(b", "), Bytes(port_at(self.0, *at.item))).put(line, desk, slot)
     }
 }
 
 /// The columns of the table of a state.
 #[derive(Drop)]
-pub(crate) struct Columns<'a> {
-    pub(crate) entity: &'a VEntity,
-    pub(crate) state: &'a VState,
-}
+pub(crate) struct StateColumns<'a>(pub(crate) &'a VEntity, pub(crate) &'a VState);
 
-impl Part for Columns<'_> {
-    ghost text = { λ m. columns_text m.entity.now m.state.now };
+impl Part for StateColumns<'_> {
+    ghost text = { λ m. columns_text m.0.now m.1.now };
 
-    #[tactic(auto, unfolding(crate::specs::Names::violated_text))]
+    #[tactic(auto, unfolding(crate::specs::Names::violated_text, crate::specs::Names::inputs_text))]
     fn put<D: Desk>(&self, line: &mut Line, desk: &mut D, slot: OutSlot) -> Put {
-        let entity = self.entity;
-        let inputs = self.state.inputs.as_slice();
-        if self.state.violation {
-            let names = Each(NextInput(entity), inputs);
+        let inputs = self.1.inputs.as_slice();
+        if self.1.violation {
+            let names = Each(NextInput(self.0), inputs);
             parts!(Bytes(violated_start(inputs.len())), names, Bytes(b")")).put(line, desk, slot)
         } else {
-            Inputs { entity, inputs }.put(line, desk, slot)
+            Listed(Each(Names(self.0), inputs)).put(line, desk, slot)
         }
-    }
-}
-
-/// The name of an input or of a state.
-#[derive(Drop)]
-struct SourceName<'a> {
-    entity: &'a VEntity,
-    source: Source,
-}
-
-impl Part for SourceName<'_> {
-    ghost text = { λ m. source_name m.entity.now m.source };
-
-    #[tactic(auto, unfolding(crate::specs::Names::source_name))]
-    fn put<D: Desk>(&self, line: &mut Line, desk: &mut D, slot: OutSlot) -> Put {
-        match self.source {
-            Source::Pin(port) => Bytes(port_at(self.entity, port)).put(line, desk, slot),
-            Source::State(state) => {
-                parts!(Bytes(b"s_"), Decimal(state as u128 + 1)).put(line, desk, slot)
-            }
-        }
-    }
-}
-
-/// Inputs and states of an entity in a list of such.
-#[derive(Drop)]
-struct ListedSource<'a>(&'a VEntity);
-
-impl ItemText<Source> for ListedSource<'_> {
-    ghost text = { λ m n s. source_text m.0.now n s };
-
-    #[tactic(auto, unfolding(crate::specs::Names::source_text))]
-    fn put<D: Desk>(
-        &self,
-        number: usize,
-        item: &Source,
-        line: &mut Line,
-        desk: &mut D,
-        slot: OutSlot,
-    ) -> Put {
-        let name = SourceName {
-            entity: self.0,
-            source: *item,
-        };
-        parts!(Bytes(apart(b", ", number)), name).put(line, desk, slot)
-    }
-}
-
-/// A list of inputs and states of an entity.
-#[derive(Drop)]
-pub(crate) struct Sources<'a> {
-    pub(crate) entity: &'a VEntity,
-    pub(crate) sources: &'a [Source],
-}
-
-impl Part for Sources<'_> {
-    ghost text = { λ m. sources_text m.entity.now m.sources.now };
-
-    #[tactic(auto, unfolding(crate::specs::Names::sources_text))]
-    fn put<D: Desk>(&self, line: &mut Line, desk: &mut D, slot: OutSlot) -> Put {
-        let names = Each(ListedSource(self.entity), self.sources);
-        parts!(Bytes(list_start(self.sources.len())), names, Bytes(b")")).put(line, desk, slot)
     }
 }
 
 /// The look-up of a condition.
 #[derive(Drop)]
-pub(crate) struct Condition<'a> {
-    pub(crate) entity: &'a VEntity,
-    pub(crate) number: usize,
-}
+pub(crate) struct Condition<'a>(pub(crate) &'a VEntity, pub(crate) usize);
 
 impl Part for Condition<'_> {
-    ghost text = { λ m. condition_text m.entity.now m.number };
+    ghost text = { λ m. condition_text m.0.now m.1 };
 
-    #[tactic(auto, unfolding(crate::specs::Names::condition_text))]
+    #[tactic(auto, unfolding(crate::specs::Names::condition_text, crate::specs::Names::inputs_text))]
     fn put<D: Desk>(&self, line: &mut Line, desk: &mut D, slot: OutSlot) -> Put {
-        let inputs = Inputs {
-            entity: self.entity,
-            inputs: inputs_at(self.entity, self.number),
-        };
+        let inputs = Each(Names(self.0), inputs_at(self.0, self.1));
         parts!(
             Bytes(b"VitalTruthTable (TruthTable => c_"),
-            Decimal(self.number as u128 + 1),
+            Decimal(self.1 as u128 + 1),
             Bytes(b", DataIn => "),
-            inputs,
+            Listed(inputs),
             Bytes(b")")
         )
         .put(line, desk, slot)

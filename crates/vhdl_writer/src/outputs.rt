@@ -1,8 +1,8 @@
 //! The statements that assign outputs. (IEEE 1076.4-2000, VitalTruthTable and VitalPathDelay01; IEEE 1076-1993, 8.4 and 8.5.)
 ghost use Rattle.vhdl_writer.specs.Outputs.{lookup_text, assigned_text, value_line, zero_text, gate_text, path_text, paths_text, output_line};
 
-use crate::names::{Condition, Sources, apart, port_at};
-use crate::parts::{Each, ItemText};
+use crate::names::{Condition, Listed, Names, apart, port_at};
+use crate::parts::{At, Each, ItemText};
 use crate::tables::table_number;
 use cell_machine::Source;
 use text_io::{Desk, Line, OutSlot};
@@ -11,25 +11,18 @@ use vital_models::{HGate, HPath, OutValue, VEntity, VOutput};
 
 /// The look-up of the table of the output with this number.
 #[derive(Drop)]
-struct Lookup<'a> {
-    entity: &'a VEntity,
-    number: usize,
-    sources: &'a [Source],
-}
+struct Lookup<'a>(&'a VEntity, usize, &'a [Source]);
 
 impl Part for Lookup<'_> {
-    ghost text = { λ m. lookup_text m.entity.now m.number m.sources.now };
+    ghost text = { λ m. lookup_text m.0.now m.1 m.2.now };
 
     fn put<D: Desk>(&self, line: &mut Line, desk: &mut D, slot: OutSlot) -> Put {
-        let sources = Sources {
-            entity: self.entity,
-            sources: self.sources,
-        };
+        let sources = Each(Names(self.0), self.2);
         parts!(
             Bytes(b"VitalTruthTable (TruthTable => k_"),
-            Decimal(table_number(self.entity, self.number)),
+            Decimal(table_number(self.0, self.1)),
             Bytes(b", DataIn => "),
-            sources,
+            Listed(sources),
             Bytes(b")")
         )
         .put(line, desk, slot)
@@ -38,25 +31,18 @@ impl Part for Lookup<'_> {
 
 /// The value of the output with this number.
 #[derive(Drop)]
-struct Value<'a> {
-    entity: &'a VEntity,
-    number: usize,
-    value: &'a OutValue,
-}
+struct Value<'a>(&'a VEntity, usize, &'a OutValue);
 
 impl Part for Value<'_> {
-    ghost text = { λ m. assigned_text m.entity.now m.number m.value.now };
+    ghost text = { λ m. assigned_text m.0.now m.1 m.2.now };
 
     fn put<D: Desk>(&self, line: &mut Line, desk: &mut D, slot: OutSlot) -> Put {
-        match self.value {
+        match self.2 {
             OutValue::Constant(true) => line.put(desk, slot, b"'1'"),
             OutValue::Constant(false) => line.put(desk, slot, b"'0'"),
-            OutValue::Table { inputs, .. } => Lookup {
-                entity: self.entity,
-                number: self.number,
-                sources: inputs.as_slice(),
+            OutValue::Table { inputs, .. } => {
+                Lookup(self.0, self.1, inputs.as_slice()).put(line, desk, slot)
             }
-            .put(line, desk, slot),
         }
     }
 }
@@ -69,22 +55,12 @@ impl ItemText<VOutput> for ValueLines<'_> {
     ghost text = { λ m n output. value_line m.0.now n output };
 
     #[tactic(auto, unfolding(crate::specs::Outputs::value_line))]
-    fn put<D: Desk>(
-        &self,
-        number: usize,
-        item: &VOutput,
-        line: &mut Line,
-        desk: &mut D,
-        slot: OutSlot,
-    ) -> Put {
-        let value = Value {
-            entity: self.0,
-            number,
-            value: &item.value,
-        };
+    fn put<D: Desk>(&self, at: &At<VOutput>, line: &mut Line, desk: &mut D, slot: OutSlot) -> Put {
+        let number = Decimal(at.number as u128);
+        let value = Value(self.0, at.number, &at.item.value);
         parts!(
             Bytes(b"    z_"),
-            Decimal(number as u128),
+            number,
             Bytes(b" := "),
             value,
             Bytes(b";\n")
@@ -101,40 +77,31 @@ impl ItemText<usize> for Zeros<'_> {
     ghost text = { λ m n i. zero_text m.0.now n i };
 
     #[tactic(auto, unfolding(crate::specs::Outputs::zero_text))]
-    fn put<D: Desk>(
-        &self,
-        number: usize,
-        item: &usize,
-        line: &mut Line,
-        desk: &mut D,
-        slot: OutSlot,
-    ) -> Put {
-        let condition = Condition {
-            entity: self.0,
-            number: *item,
-        };
-        parts!(Bytes(apart(b" and ", number)), condition, Bytes(b" = '0'")).put(line, desk, slot)
+    fn put<D: Desk>(&self, at: &At<usize>, line: &mut Line, desk: &mut D, slot: OutSlot) -> Put {
+        let condition = Condition(self.0, *at.item);
+        parts!(
+            Bytes(apart(b" and ", at.number)),
+            condition,
+            Bytes(b" = '0'")
+        )
+        .put(line, desk, slot)
     }
 }
 
 /// When a path counts.
 #[derive(Drop)]
-struct Gate<'a> {
-    entity: &'a VEntity,
-    gate: &'a HGate,
-}
+struct Gate<'a>(&'a VEntity, &'a HGate);
 
 impl Part for Gate<'_> {
-    ghost text = { λ m. gate_text m.entity.now m.gate.now };
+    ghost text = { λ m. gate_text m.0.now m.1.now };
 
     #[tactic(auto, unfolding(crate::specs::Outputs::not_zero_text, crate::specs::Outputs::all_zero_text))]
     fn put<D: Desk>(&self, line: &mut Line, desk: &mut D, slot: OutSlot) -> Put {
-        let entity = self.entity;
-        match self.gate {
+        let entity = self.0;
+        match self.1 {
             HGate::Always => line.put(desk, slot, b"true"),
             HGate::NotZero(number) => {
-                let number = *number;
-                parts!(Condition { entity, number }, Bytes(b" /= '0'")).put(line, desk, slot)
+                parts!(Condition(entity, *number), Bytes(b" /= '0'")).put(line, desk, slot)
             }
             HGate::AllZero(conditions) => Each(Zeros(entity), conditions.as_slice()).put(
                 line, desk, slot,
@@ -150,29 +117,19 @@ struct Paths<'a>(&'a VEntity);
 impl ItemText<HPath> for Paths<'_> {
     ghost text = { λ m n path. path_text m.0.now n path };
 
-    fn put<D: Desk>(
-        &self,
-        number: usize,
-        item: &HPath,
-        line: &mut Line,
-        desk: &mut D,
-        slot: OutSlot,
-    ) -> Put {
-        let gate = Gate {
-            entity: self.0,
-            gate: &item.gate,
-        };
+    fn put<D: Desk>(&self, at: &At<HPath>, line: &mut Line, desk: &mut D, slot: OutSlot) -> Put {
+        let (entity, path) = (self.0, at.item);
         parts!(
-            Bytes(apart(b", ", number)),
-            Decimal(number.saturating_sub(1) as u128),
+            Bytes(apart(b", ", at.number)),
+            Decimal(at.number.saturating_sub(1) as u128),
             Bytes(b" => ("),
-            Bytes(port_at(self.0, item.from)),
+            Bytes(port_at(entity, path.from)),
             Bytes(b"'last_event, ("),
-            Decimal(item.rise as u128),
+            Decimal(path.rise as u128),
             Bytes(b" ps, "),
-            Decimal(item.fall as u128),
+            Decimal(path.fall as u128),
             Bytes(b" ps), "),
-            gate,
+            Gate(entity, &path.gate),
             Bytes(b")")
         )
         .put(line, desk, slot)
@@ -181,27 +138,23 @@ impl ItemText<HPath> for Paths<'_> {
 
 /// The call of the paths of the output with this number.
 #[derive(Drop)]
-struct PathCall<'a> {
-    entity: &'a VEntity,
-    number: usize,
-    output: &'a VOutput,
-}
+struct PathCall<'a>(&'a VEntity, usize, &'a VOutput);
 
 impl Part for PathCall<'_> {
-    ghost text = { λ m. paths_text m.entity.now m.number m.output.now };
+    ghost text = { λ m. paths_text m.0.now m.1 m.2.now };
 
     fn put<D: Desk>(&self, line: &mut Line, desk: &mut D, slot: OutSlot) -> Put {
-        let port = port_at(self.entity, self.output.port);
-        let paths = Each(Paths(self.entity), self.output.paths.as_slice());
+        let port = port_at(self.0, self.2.port);
+        let paths = Each(Paths(self.0), self.2.paths.as_slice());
         parts!(
             Bytes(b"    VitalPathDelay01 (OutSignal => "),
             Bytes(port),
             Bytes(b", GlitchData => g_"),
-            Decimal(self.number as u128),
+            Decimal(self.1 as u128),
             Bytes(b", OutSignalName => \""),
             Bytes(port),
             Bytes(b"\", OutTemp => z_"),
-            Decimal(self.number as u128),
+            Decimal(self.1 as u128),
             Bytes(b", Paths => ("),
             paths,
             Bytes(b"), Mode => VitalTransport);\n")
@@ -218,31 +171,20 @@ impl ItemText<VOutput> for OutputLines<'_> {
     ghost text = { λ m n output. output_line m.0.now n output };
 
     #[tactic(auto, unfolding(crate::specs::Outputs::direct_text))]
-    fn put<D: Desk>(
-        &self,
-        number: usize,
-        output: &VOutput,
-        line: &mut Line,
-        desk: &mut D,
-        slot: OutSlot,
-    ) -> Put {
-        let entity = self.0;
-        if output.paths.as_slice().is_empty() {
+    fn put<D: Desk>(&self, at: &At<VOutput>, line: &mut Line, desk: &mut D, slot: OutSlot) -> Put {
+        if at.item.paths.as_slice().is_empty() {
+            let port = Bytes(port_at(self.0, at.item.port));
+            let number = Decimal(at.number as u128);
             parts!(
                 Bytes(b"    "),
-                Bytes(port_at(entity, output.port)),
+                port,
                 Bytes(b" <= z_"),
-                Decimal(number as u128),
+                number,
                 Bytes(b";\n")
             )
             .put(line, desk, slot)
         } else {
-            PathCall {
-                entity,
-                number,
-                output,
-            }
-            .put(line, desk, slot)
+            PathCall(self.0, at.number, at.item).put(line, desk, slot)
         }
     }
 }

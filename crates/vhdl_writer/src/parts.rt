@@ -8,6 +8,17 @@ ghost use Rattle.vhdl_writer.specs.Joined.{numbered_texts};
 
 use text_io::{Desk, Line, OutSlot};
 use text_parts::{Part, Put};
+use udp_tables::TimingCheck;
+
+/// An item at its place in a list: its number, from 1, and the item.
+#[derive(Drop)]
+pub(crate) struct At<'a, T> {
+    pub(crate) number: usize,
+    pub(crate) item: &'a T,
+}
+
+/// A check at its place.
+pub(crate) type CheckAt<'a> = At<'a, TimingCheck>;
 
 /// What the items of a list are as text, where each has a number.
 pub(crate) trait ItemText<T> {
@@ -15,17 +26,10 @@ pub(crate) trait ItemText<T> {
 
     ghost text: { Self → ℕ → T → List ℕ };
 
-    /// Puts the text of an item with this number, as `Part::put` does.
-    fn put<D: Desk>(
-        &self,
-        number: usize,
-        item: &T,
-        line: &mut Line,
-        desk: &mut D,
-        slot: OutSlot,
-    ) -> Put
+    /// Puts the text of an item with its number, as `Part::put` does.
+    fn put<D: Desk>(&self, at: &At<T>, line: &mut Line, desk: &mut D, slot: OutSlot) -> Put
         requires { IsTrue (is_bound (D.state desk.old) (Output slot)) }
-        ensures text { PutsText (D.state desk.old) (D.state desk.new) slot line.old (text self.now number item.now) line.new result }
+        ensures text { PutsText (D.state desk.old) (D.state desk.new) slot line.old (text self.now at.now.number at.now.item.now) line.new result }
         ensures cause { HasCause (D.faults desk.old) (D.faults desk.new) result };
 }
 
@@ -38,7 +42,8 @@ impl<M: ItemText<T>, T> Part for Each<'_, M, T> {
 
     fn put<D: Desk>(&self, line: &mut Line, desk: &mut D, slot: OutSlot) -> Put {
         for (index, item) in self.1.iter().enumerate() {
-            self.0.put(index + 1, item, line, desk, slot)?;
+            let number = index + 1;
+            self.0.put(&At { number, item }, line, desk, slot)?;
         }
         Ok(())
     }

@@ -2,7 +2,7 @@
 ghost use Rattle.std.specs.Prelude.{◌≡◌};
 ghost use Rattle.vhdl_writer.specs.Tables.{level_text, symbol_text, next_text, value_text, symbol_apart_text, level_apart_text};
 
-use crate::parts::ItemText;
+use crate::parts::{At, ItemText};
 use text_io::{Desk, Line, OutSlot};
 use text_parts::{Bytes, Part, Put, parts};
 use trit_cubes::Trit;
@@ -13,11 +13,11 @@ pub(crate) fn level_text(level: Trits) -> &'static [u8]
     ensures { result.now ≡ level_text level }
 {
     match level {
-        Trits::Zero => b"'0'",
-        Trits::One => b"'1'",
-        Trits::Unknown => b"'X'",
         Trits::Any => b"'-'",
         Trits::Binary => b"'B'",
+        Trits::Zero => value_text(Trit::Zero),
+        Trits::One => value_text(Trit::One),
+        Trits::Unknown => value_text(Trit::Unknown),
     }
 }
 
@@ -43,10 +43,10 @@ pub(crate) fn next_text(next: VNext) -> &'static [u8]
     ensures { result.now ≡ next_text next }
 {
     match next {
-        VNext::Zero => b"'0'",
-        VNext::One => b"'1'",
-        VNext::Unknown => b"'X'",
         VNext::Keep => b"'S'",
+        VNext::Zero => value_text(Trit::Zero),
+        VNext::One => value_text(Trit::One),
+        VNext::Unknown => value_text(Trit::Unknown),
     }
 }
 
@@ -61,42 +61,24 @@ pub(crate) fn value_text(value: Trit) -> &'static [u8]
     }
 }
 
-/// Columns of a row of a state's table, with what separates each from the next one.
+/// Columns of a row of a table, with what separates each from the next one.
 #[derive(Drop)]
-pub(crate) struct SymbolsApart;
+pub(crate) struct Columns;
 
-impl ItemText<VSymbol> for SymbolsApart {
+impl ItemText<VSymbol> for Columns {
     ghost text = { λ _ n s. symbol_apart_text n s };
 
     #[tactic(auto, unfolding(crate::specs::Tables::symbol_apart_text))]
-    fn put<D: Desk>(
-        &self,
-        _number: usize,
-        item: &VSymbol,
-        line: &mut Line,
-        desk: &mut D,
-        slot: OutSlot,
-    ) -> Put {
-        parts!(Bytes(symbol_text(*item)), Bytes(b", ")).put(line, desk, slot)
+    fn put<D: Desk>(&self, at: &At<VSymbol>, line: &mut Line, desk: &mut D, slot: OutSlot) -> Put {
+        parts!(Bytes(symbol_text(*at.item)), Bytes(b", ")).put(line, desk, slot)
     }
 }
 
-/// Columns of a row of a truth table, with what separates each from the next one.
-#[derive(Drop)]
-pub(crate) struct LevelsApart;
-
-impl ItemText<Trits> for LevelsApart {
+impl ItemText<Trits> for Columns {
     ghost text = { λ _ n level. level_apart_text n level };
 
     #[tactic(auto, unfolding(crate::specs::Tables::level_apart_text))]
-    fn put<D: Desk>(
-        &self,
-        _number: usize,
-        item: &Trits,
-        line: &mut Line,
-        desk: &mut D,
-        slot: OutSlot,
-    ) -> Put {
-        parts!(Bytes(level_text(*item)), Bytes(b", ")).put(line, desk, slot)
+    fn put<D: Desk>(&self, at: &At<Trits>, line: &mut Line, desk: &mut D, slot: OutSlot) -> Put {
+        parts!(Bytes(level_text(*at.item)), Bytes(b", ")).put(line, desk, slot)
     }
 }

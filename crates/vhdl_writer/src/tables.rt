@@ -1,9 +1,9 @@
 //! The constants of an architecture: its tables. (IEEE 1076.4-2000, VitalTruthTableType and VitalStateTableType.)
 ghost use Rattle.std.specs.Prelude.{◌≡◌, count_by, take};
-ghost use Rattle.vhdl_writer.specs.Tables.{row_start, state_row_text, truth_row_text, truth_rows_text, state_rows_text, constant_text, state_constant_text, condition_constant_text, is_looked_up, table_number, output_table_text, output_constant_text, constants_text};
+ghost use Rattle.vhdl_writer.specs.Tables.{row_start, state_row_text, truth_row_text, truth_rows_text, constant_text, state_constant_text, condition_constant_text, is_looked_up, table_number, output_table_text, output_constant_text, constants_text};
 
-use crate::parts::{Each, ItemText};
-use crate::symbols::{LevelsApart, SymbolsApart, level_text, next_text, value_text};
+use crate::parts::{At, Each, ItemText};
+use crate::symbols::{Columns, level_text, next_text, value_text};
 use text_io::{Desk, Line, OutSlot};
 use text_parts::{Bytes, Decimal, Part, Put, parts};
 use vital_models::{OutValue, TruthRow, TruthTable, VEntity, VOutput, VState, VStateRow, VTruth};
@@ -21,59 +21,39 @@ fn row_start(count: usize, number: usize) -> &'static [u8]
     }
 }
 
-/// Rows of the table of a state, of so many.
-#[derive(Drop)]
-struct StateRows(usize);
+/// A row of a state's table at its place.
+type StateRowAt<'a> = At<'a, VStateRow>;
 
-impl ItemText<VStateRow> for StateRows {
+/// Rows of a table, of so many.
+#[derive(Drop)]
+struct Rows(usize);
+
+impl ItemText<VStateRow> for Rows {
     ghost text = { λ m n row. state_row_text m.0 n row };
 
     #[tactic(auto, unfolding(crate::specs::Tables::state_row_text))]
-    fn put<D: Desk>(
-        &self,
-        number: usize,
-        item: &VStateRow,
-        line: &mut Line,
-        desk: &mut D,
-        slot: OutSlot,
-    ) -> Put {
-        let symbols = Each(SymbolsApart, item.inputs.as_slice());
+    fn put<D: Desk>(&self, at: &StateRowAt, line: &mut Line, desk: &mut D, slot: OutSlot) -> Put {
         parts!(
-            Bytes(row_start(self.0, number)),
-            symbols,
-            Bytes(level_text(item.state)),
+            Bytes(row_start(self.0, at.number)),
+            Each(Columns, at.item.inputs.as_slice()),
+            Bytes(level_text(at.item.state)),
             Bytes(b", "),
-            Bytes(next_text(item.result)),
+            Bytes(next_text(at.item.result)),
             Bytes(b")")
         )
         .put(line, desk, slot)
     }
 }
 
-/// Rows of a truth table, of so many.
-#[derive(Drop)]
-struct TruthRows(usize);
-
-impl ItemText<TruthRow> for TruthRows {
+impl ItemText<TruthRow> for Rows {
     ghost text = { λ m n row. truth_row_text m.0 n row };
 
     #[tactic(auto, unfolding(crate::specs::Tables::truth_row_text))]
-    fn put<D: Desk>(
-        &self,
-        number: usize,
-        item: &TruthRow,
-        line: &mut Line,
-        desk: &mut D,
-        slot: OutSlot,
-    ) -> Put {
-        let levels = Each(LevelsApart, item.inputs.as_slice());
-        parts!(
-            Bytes(row_start(self.0, number)),
-            levels,
-            Bytes(value_text(item.result)),
-            Bytes(b")")
-        )
-        .put(line, desk, slot)
+    fn put<D: Desk>(&self, at: &At<TruthRow>, line: &mut Line, desk: &mut D, slot: OutSlot) -> Put {
+        let start = Bytes(row_start(self.0, at.number));
+        let columns = Each(Columns, at.item.inputs.as_slice());
+        let result = Bytes(value_text(at.item.result));
+        parts!(start, columns, result, Bytes(b")")).put(line, desk, slot)
     }
 }
 
@@ -87,23 +67,7 @@ impl Part for Truth<'_> {
     #[tactic(auto, unfolding(crate::specs::Tables::truth_rows_text))]
     fn put<D: Desk>(&self, line: &mut Line, desk: &mut D, slot: OutSlot) -> Put {
         let items = self.0.rows.as_slice();
-        let text = TruthRows(items.len());
-        Each(text, items).put(line, desk, slot)
-    }
-}
-
-/// All rows of the table of a state.
-#[derive(Drop)]
-struct States<'a>(&'a VState);
-
-impl Part for States<'_> {
-    ghost text = { λ m. state_rows_text m.0.now };
-
-    #[tactic(auto, unfolding(crate::specs::Tables::state_rows_text))]
-    fn put<D: Desk>(&self, line: &mut Line, desk: &mut D, slot: OutSlot) -> Put {
-        let items = self.0.table.rows.as_slice();
-        let text = StateRows(items.len());
-        Each(text, items).put(line, desk, slot)
+        Each(Rows(items.len()), items).put(line, desk, slot)
     }
 }
 
@@ -126,46 +90,30 @@ impl<P: Part> Part for Constant<'_, P> {
     }
 }
 
-/// Constants of the tables of states.
+/// Constants of the tables of states, of conditions, and of those outputs that have one.
 #[derive(Drop)]
-struct StateConstants;
+struct ConstantLines<'a>(&'a VEntity);
 
-impl ItemText<VState> for StateConstants {
+impl ItemText<VState> for ConstantLines<'_> {
     ghost text = { λ _ n state. state_constant_text n state };
 
-    #[tactic(auto, unfolding(crate::specs::Tables::state_constant_text))]
-    fn put<D: Desk>(
-        &self,
-        number: usize,
-        item: &VState,
-        line: &mut Line,
-        desk: &mut D,
-        slot: OutSlot,
-    ) -> Put {
+    #[tactic(auto, unfolding(crate::specs::Tables::state_constant_text, crate::specs::Tables::state_rows_text))]
+    fn put<D: Desk>(&self, at: &At<VState>, line: &mut Line, desk: &mut D, slot: OutSlot) -> Put {
+        let items = at.item.table.rows.as_slice();
+        let rows = Each(Rows(items.len()), items);
         let between = b" : VitalStateTableType := (";
-        Constant(b"  constant k_", number as u128, between, States(item)).put(line, desk, slot)
+        Constant(b"  constant k_", at.number as u128, between, rows).put(line, desk, slot)
     }
 }
 
-/// Constants of the tables of conditions.
-#[derive(Drop)]
-struct ConditionConstants;
-
-impl ItemText<VTruth> for ConditionConstants {
+impl ItemText<VTruth> for ConstantLines<'_> {
     ghost text = { λ _ n truth. condition_constant_text n truth };
 
     #[tactic(auto, unfolding(crate::specs::Tables::condition_constant_text))]
-    fn put<D: Desk>(
-        &self,
-        number: usize,
-        item: &VTruth,
-        line: &mut Line,
-        desk: &mut D,
-        slot: OutSlot,
-    ) -> Put {
-        let rows = Truth(&item.table);
+    fn put<D: Desk>(&self, at: &At<VTruth>, line: &mut Line, desk: &mut D, slot: OutSlot) -> Put {
+        let rows = Truth(&at.item.table);
         let between = b" : VitalTruthTableType := (";
-        Constant(b"  constant c_", number as u128, between, rows).put(line, desk, slot)
+        Constant(b"  constant c_", at.number as u128, between, rows).put(line, desk, slot)
     }
 }
 
@@ -211,46 +159,28 @@ pub(crate) fn table_number(entity: &VEntity, number: usize) -> u128
 
 /// The constant of a table of the output with this number.
 #[derive(Drop)]
-struct OutputTable<'a> {
-    entity: &'a VEntity,
-    number: usize,
-    table: &'a TruthTable,
-}
+struct OutputTable<'a>(&'a VEntity, usize, &'a TruthTable);
 
 impl Part for OutputTable<'_> {
-    ghost text = { λ m. output_table_text m.entity.now m.number m.table.now };
+    ghost text = { λ m. output_table_text m.0.now m.1 m.2.now };
 
     #[tactic(auto, unfolding(crate::specs::Tables::output_table_text))]
     fn put<D: Desk>(&self, line: &mut Line, desk: &mut D, slot: OutSlot) -> Put {
-        let number = table_number(self.entity, self.number);
+        let number = table_number(self.0, self.1);
         let between = b" : VitalTruthTableType := (";
-        Constant(b"  constant k_", number, between, Truth(self.table)).put(line, desk, slot)
+        Constant(b"  constant k_", number, between, Truth(self.2)).put(line, desk, slot)
     }
 }
 
-/// Constants of the tables of outputs, of those that have one.
-#[derive(Drop)]
-struct OutputConstants<'a>(&'a VEntity);
-
-impl ItemText<VOutput> for OutputConstants<'_> {
+impl ItemText<VOutput> for ConstantLines<'_> {
     ghost text = { λ m n output. output_constant_text m.0.now n output };
 
-    fn put<D: Desk>(
-        &self,
-        number: usize,
-        item: &VOutput,
-        line: &mut Line,
-        desk: &mut D,
-        slot: OutSlot,
-    ) -> Put {
-        match &item.value {
+    fn put<D: Desk>(&self, at: &At<VOutput>, line: &mut Line, desk: &mut D, slot: OutSlot) -> Put {
+        match &at.item.value {
             OutValue::Constant(_) => line.put(desk, slot, b""),
-            OutValue::Table { table, .. } => OutputTable {
-                entity: self.0,
-                number,
-                table,
+            OutValue::Table { table, .. } => {
+                OutputTable(self.0, at.number, table).put(line, desk, slot)
             }
-            .put(line, desk, slot),
         }
     }
 }
@@ -264,9 +194,9 @@ impl Part for Constants<'_> {
 
     #[tactic(auto, unfolding(crate::specs::Tables::constants_text))]
     fn put<D: Desk>(&self, line: &mut Line, desk: &mut D, slot: OutSlot) -> Put {
-        let states = Each(StateConstants, self.0.states.as_slice());
-        let conditions = Each(ConditionConstants, self.0.conditions.as_slice());
-        let outputs = Each(OutputConstants(self.0), self.0.outputs.as_slice());
+        let states = Each(ConstantLines(self.0), self.0.states.as_slice());
+        let conditions = Each(ConstantLines(self.0), self.0.conditions.as_slice());
+        let outputs = Each(ConstantLines(self.0), self.0.outputs.as_slice());
         parts!(states, conditions, outputs).put(line, desk, slot)
     }
 }

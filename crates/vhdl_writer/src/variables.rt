@@ -1,11 +1,11 @@
 //! The variables of an entity's process. (IEEE 1076-1993, 4.3.1.3; IEEE 1076.4-2000, the types of checks and of path delays.)
 ghost use Rattle.std.specs.Prelude.{◌≡◌};
-ghost use Rattle.vhdl_writer.specs.Declarations.{data_text, check_variables_text, violation_variable_text, width_of, state_variables_text, glitch_data_text, glitch_text, output_variables_text, variables_text};
+ghost use Rattle.vhdl_writer.specs.Declarations.{data_text, check_variables_text, violation_variable_text, width_of, state_variables_text, output_variables_text, variables_text};
 
-use crate::parts::{Each, ItemText};
+use crate::parts::{At, CheckAt, Each, ItemText};
 use cell_machine::CheckKind;
 use text_io::{Desk, Line, OutSlot};
-use text_parts::{Bytes, Decimal, Part, Put, parts};
+use text_parts::{Bytes, Decimal, Part, Put, When, parts};
 use udp_tables::TimingCheck;
 use vital_models::{VEntity, VOutput, VState, VStateRow};
 
@@ -14,37 +14,28 @@ fn data_text(kind: CheckKind) -> &'static [u8]
     ensures { result.now ≡ data_text kind }
 {
     match kind {
-        CheckKind::Setup | CheckKind::Hold | CheckKind::Recovery | CheckKind::Removal => {
-            b" : VitalTimingDataType := VitalTimingDataInit;\n"
-        }
         CheckKind::Width | CheckKind::Period => {
             b" : VitalPeriodDataType := VitalPeriodDataInit;\n"
         }
+        _ => b" : VitalTimingDataType := VitalTimingDataInit;\n",
     }
 }
 
-/// Variables of checks.
+/// Variables of checks, of states and of outputs.
 #[derive(Drop)]
-struct CheckVariables;
+struct VariableLines;
 
-impl ItemText<TimingCheck> for CheckVariables {
+impl ItemText<TimingCheck> for VariableLines {
     ghost text = { λ _ n k. check_variables_text n k };
 
     #[tactic(auto, unfolding(crate::specs::Declarations::check_variables_text))]
-    fn put<D: Desk>(
-        &self,
-        number: usize,
-        item: &TimingCheck,
-        line: &mut Line,
-        desk: &mut D,
-        slot: OutSlot,
-    ) -> Put {
+    fn put<D: Desk>(&self, at: &CheckAt, line: &mut Line, desk: &mut D, slot: OutSlot) -> Put {
         parts!(
             Bytes(b"    variable x_"),
-            Decimal(number as u128),
+            Decimal(at.number as u128),
             Bytes(b" : X01 := '0';\n    variable d_"),
-            Decimal(number as u128),
-            Bytes(data_text(item.kind))
+            Decimal(at.number as u128),
+            Bytes(data_text(at.item.kind))
         )
         .put(line, desk, slot)
     }
@@ -71,97 +62,39 @@ fn width_of(rows: &[VStateRow]) -> usize
     }
 }
 
-/// Variables of states.
-#[derive(Drop)]
-struct StateVariables;
-
-impl ItemText<VState> for StateVariables {
+impl ItemText<VState> for VariableLines {
     ghost text = { λ _ n state. state_variables_text n state };
 
     #[tactic(auto, unfolding(crate::specs::Declarations::state_variables_text))]
-    fn put<D: Desk>(
-        &self,
-        number: usize,
-        item: &VState,
-        line: &mut Line,
-        desk: &mut D,
-        slot: OutSlot,
-    ) -> Put {
+    fn put<D: Desk>(&self, at: &At<VState>, line: &mut Line, desk: &mut D, slot: OutSlot) -> Put {
+        let number = at.number as u128;
         parts!(
             Bytes(b"    variable s_"),
-            Decimal(number as u128),
+            Decimal(number),
             Bytes(b" : std_logic := 'X';\n    variable p_"),
-            Decimal(number as u128),
+            Decimal(number),
             Bytes(b" : std_logic_vector (1 to "),
-            Decimal(width_of(item.table.rows.as_slice()) as u128),
+            Decimal(width_of(at.item.table.rows.as_slice()) as u128),
             Bytes(b") := (others => 'X');\n")
         )
         .put(line, desk, slot)
     }
 }
 
-/// The data of the delays of the output with this number.
-#[derive(Drop)]
-struct GlitchData(usize);
-
-impl Part for GlitchData {
-    ghost text = { λ m. glitch_data_text m.0 };
-
-    #[tactic(auto, unfolding(crate::specs::Declarations::glitch_data_text))]
-    fn put<D: Desk>(&self, line: &mut Line, desk: &mut D, slot: OutSlot) -> Put {
-        parts!(
-            Bytes(b"    variable g_"),
-            Decimal(self.0 as u128),
-            Bytes(b" : VitalGlitchDataType;\n")
-        )
-        .put(line, desk, slot)
-    }
-}
-
-/// The data of the delays of the output with this number, where it has paths.
-#[derive(Drop)]
-struct Glitch<'a> {
-    number: usize,
-    output: &'a VOutput,
-}
-
-impl Part for Glitch<'_> {
-    ghost text = { λ m. glitch_text m.number m.output.now };
-
-    fn put<D: Desk>(&self, line: &mut Line, desk: &mut D, slot: OutSlot) -> Put {
-        if self.output.paths.as_slice().is_empty() {
-            line.put(desk, slot, b"")
-        } else {
-            GlitchData(self.number).put(line, desk, slot)
-        }
-    }
-}
-
-/// Variables of outputs.
-#[derive(Drop)]
-struct OutputVariables;
-
-impl ItemText<VOutput> for OutputVariables {
+impl ItemText<VOutput> for VariableLines {
     ghost text = { λ _ n output. output_variables_text n output };
 
-    #[tactic(auto, unfolding(crate::specs::Declarations::output_variables_text))]
-    fn put<D: Desk>(
-        &self,
-        number: usize,
-        item: &VOutput,
-        line: &mut Line,
-        desk: &mut D,
-        slot: OutSlot,
-    ) -> Put {
-        let glitch = Glitch {
-            number,
-            output: item,
-        };
+    #[tactic(auto, unfolding(crate::specs::Declarations::output_variables_text, crate::specs::Declarations::glitch_data_text))]
+    fn put<D: Desk>(&self, at: &At<VOutput>, line: &mut Line, desk: &mut D, slot: OutSlot) -> Put {
+        let number = at.number as u128;
+        let paths = at.item.paths.as_slice();
+        let data = Bytes(b" : VitalGlitchDataType;\n");
+        let glitch = parts!(Bytes(b"    variable g_"), Decimal(number), data);
         parts!(
             Bytes(b"    variable z_"),
-            Decimal(number as u128),
+            Decimal(number),
             Bytes(b" : std_logic := 'X';\n"),
-            glitch
+            When(paths.len() > 0, glitch)
         )
         .put(line, desk, slot)
     }
@@ -176,10 +109,10 @@ impl Part for Variables<'_> {
 
     #[tactic(auto, unfolding(crate::specs::Declarations::variables_text))]
     fn put<D: Desk>(&self, line: &mut Line, desk: &mut D, slot: OutSlot) -> Put {
-        let checks = Each(CheckVariables, self.0.checks.as_slice());
+        let checks = Each(VariableLines, self.0.checks.as_slice());
         let violation = Bytes(violation_variable(self.0.checks.as_slice()));
-        let states = Each(StateVariables, self.0.states.as_slice());
-        let outputs = Each(OutputVariables, self.0.outputs.as_slice());
+        let states = Each(VariableLines, self.0.states.as_slice());
+        let outputs = Each(VariableLines, self.0.outputs.as_slice());
         parts!(checks, violation, states, outputs).put(line, desk, slot)
     }
 }

@@ -1,13 +1,12 @@
 -- What holds of a check of a written entity.
 use Rattle.std.proofs.Common.{◌≡◌, ℕ, ◌+◌, ◌<◌, IsTrue, List, [], ◌∷◌, ◌++◌, length, flat_map, Option, Some, None, refl, sym, subst}
 use Rattle.cell_machine.specs.declared.checks.CheckKind.{CheckKind}
-use Rattle.cell_machine.specs.declared.checks.CheckKind.TheVariants as check_kind
 use Rattle.udp_tables.specs.declared.timing_checks.TimingCheck.{TimingCheck}
 use Rattle.vital_models.specs.declared.model.VEntity.{VEntity}
 use Rattle.vital_models.specs.Sound.{IsCheck}
 use Rattle.vhdl_text.specs.WellFormed.{IsNumber, IsWellFormedEntity, conditions_of_check, conditions_of_output}
 use Rattle.vhdl_writer.specs.Statements.{test_at, reference_at}
-use Rattle.written_entities.proofs.Parts.{fact_at, place_below, check_number}
+use Rattle.written_entities.proofs.Parts.{by_kind, fact_at, place_below, check_number}
 use Rattle.written_entities.proofs.LookUpOrder.{seen_after, looks_at}
 use Rattle.written_entities.proofs.ConditionReading.{Looks, looks_below}
 
@@ -20,20 +19,16 @@ pub record IsWrittenCheck (e : VEntity) (n : ℕ) (k : TimingCheck) : Type 0 whe
   pub condition : (i : ℕ) → k.condition ≡ Some i → i < length e.conditions
 
 pub test_pin : (e : VEntity) (n : ℕ) (k : TimingCheck) → IsWrittenCheck e n k → (kind : CheckKind) → IsTrue (Rattle.udp_tables.specs.Ports.is_input_port e.ports (test_at k kind).pin)
-test_pin e n k h check_kind.Setup = h.sound.first
-test_pin e n k h check_kind.Hold = h.sound.second
-test_pin e n k h check_kind.Recovery = h.sound.first
-test_pin e n k h check_kind.Removal = h.sound.second
-test_pin e n k h check_kind.Width = h.sound.first
-test_pin e n k h check_kind.Period = h.sound.first
+test_pin e n k h =
+    let first = h.sound.first in
+    let second = h.sound.second in
+    by_kind (λ (kind : CheckKind). IsTrue (Rattle.udp_tables.specs.Ports.is_input_port e.ports (test_at k kind).pin)) first second first second first first
 
 pub reference_pin : (e : VEntity) (n : ℕ) (k : TimingCheck) → IsWrittenCheck e n k → (kind : CheckKind) → IsTrue (Rattle.udp_tables.specs.Ports.is_input_port e.ports (reference_at k kind).pin)
-reference_pin e n k h check_kind.Setup = h.sound.second
-reference_pin e n k h check_kind.Hold = h.sound.first
-reference_pin e n k h check_kind.Recovery = h.sound.second
-reference_pin e n k h check_kind.Removal = h.sound.first
-reference_pin e n k h check_kind.Width = h.sound.second
-reference_pin e n k h check_kind.Period = h.sound.second
+reference_pin e n k h =
+    let first = h.sound.first in
+    let second = h.sound.second in
+    by_kind (λ (kind : CheckKind). IsTrue (Rattle.udp_tables.specs.Ports.is_input_port e.ports (reference_at k kind).pin)) second first second first second second
 
 -- The conditions of a check.
 

@@ -14,7 +14,7 @@ use Rattle.vhdl_writer.specs.Names.{port_at}
 use Rattle.vhdl_writer.specs.Statements.{one_text, enabled_text, test_at, reference_at, transition_text, high_word, low_word, setup_hold_text, recovery_word, active_text, recovery_removal_text, width_word, pulse_word, period_pulse_text, kind_text, check_text}
 use Rattle.grammar_phrases.proofs.Fronts.{Front, Anything}
 use Rattle.grammar_phrases.proofs.Spelling.{joins, behind, anywhere}
-use Rattle.written_entities.proofs.Spelling.{Spells, literal}
+use Rattle.written_entities.proofs.Spelling.{Spells, argument, literal}
 use Rattle.written_entities.proofs.Words.{Ends, word, name, number, true_word}
 use Rattle.written_entities.proofs.Counting.{counted, counted_anywhere}
 use Rattle.written_entities.proofs.Parts.{part_behind, IsBehind, by_kind}
@@ -92,20 +92,18 @@ period_pulse_front e n k s =
 
 -- the word of a check's procedure, and what stands behind it
 abbrev pub check_word : CheckKind → List ℕ
-check_word check_kind.Setup = codes "VitalSetupHoldCheck"
-check_word check_kind.Hold = codes "VitalSetupHoldCheck"
 check_word check_kind.Recovery = codes "VitalRecoveryRemovalCheck"
 check_word check_kind.Removal = codes "VitalRecoveryRemovalCheck"
 check_word check_kind.Width = codes "VitalPeriodPulseCheck"
 check_word check_kind.Period = codes "VitalPeriodPulseCheck"
+check_word _ = codes "VitalSetupHoldCheck"
 
 abbrev pub check_more : VEntity → ℕ → TimingCheck → CheckKind → Front
-check_more e n k check_kind.Setup s = setup_hold_front e n k s
-check_more e n k check_kind.Hold s = setup_hold_front e n k s
 check_more e n k check_kind.Recovery s = recovery_removal_front e n k s
 check_more e n k check_kind.Removal s = recovery_removal_front e n k s
 check_more e n k check_kind.Width s = period_pulse_front e n k s
 check_more e n k check_kind.Period s = period_pulse_front e n k s
+check_more e n k _ s = setup_hold_front e n k s
 
 abbrev pub check_front : VEntity → ℕ → TimingCheck → Front
 check_front e n k s = check_word k.kind ∷ check_more e n k k.kind s
@@ -118,18 +116,6 @@ recovery_removal_word = literal 44 (λ r. refl)
 
 period_pulse_word : {t : Bool} → Spells Anything t (codes "    VitalPeriodPulseCheck (Violation => ") (λ s. codes "VitalPeriodPulseCheck" ∷ codes "(" ∷ codes "Violation" ∷ codes "=>" ∷ s) false
 period_pulse_word = literal 40 (λ r. refl)
-
-timing_word : {t : Bool} → Spells Anything t (codes ", TimingData => ") (λ s. codes "," ∷ codes "TimingData" ∷ codes "=>" ∷ s) false
-timing_word = literal 16 (λ r. refl)
-
-period_word : {t : Bool} → Spells Anything t (codes ", PeriodData => ") (λ s. codes "," ∷ codes "PeriodData" ∷ codes "=>" ∷ s) false
-period_word = literal 16 (λ r. refl)
-
-test_word : {t : Bool} → Spells Anything t (codes ", TestSignal => ") (λ s. codes "," ∷ codes "TestSignal" ∷ codes "=>" ∷ s) false
-test_word = literal 16 (λ r. refl)
-
-reference_word : {t : Bool} → Spells Anything t (codes ", RefSignal => ") (λ s. codes "," ∷ codes "RefSignal" ∷ codes "=>" ∷ s) false
-reference_word = literal 15 (λ r. refl)
 
 setup_high : IsBehind (codes ", SetupHigh => ") (λ s. codes "," ∷ codes "SetupHigh" ∷ codes "=>" ∷ s)
 setup_high = record { spelled = literal 15 (λ r. refl); begins = λ r. refl }
@@ -202,9 +188,9 @@ referring_spelled : {start rest : List ℕ} {f g : Front} (e : VEntity) (n : ℕ
     ++ (codes ", RefSignal => " ++ (port_at e (reference_at k k.kind).pin ++ rest)))))))) (λ s. f ((120 ∷ 95 ∷ decimal n) ∷ codes "," ∷ codes "TimingData" ∷ codes "=>" ∷ (100 ∷ 95 ∷ decimal n)
     ∷ codes "," ∷ codes "TestSignal" ∷ codes "=>" ∷ port_at e (test_at k k.kind).pin ∷ codes "," ∷ codes "RefSignal" ∷ codes "=>" ∷ port_at e (reference_at k k.kind).pin ∷ g s)) false
 referring_spelled e n k h start begins limits =
-    part_behind 120 n refl h.number start (λ r q. refl) (part_behind 100 n refl h.number timing_word (λ r q. refl)
-    (behind test_word (joins (name (port_at e (test_at k k.kind).pin) (input_named e h.formed (test_at k k.kind).pin (test_pin e n k h k.kind))) (λ r q. refl)
-    (behind reference_word (joins (name (port_at e (reference_at k k.kind).pin) (input_named e h.formed (reference_at k k.kind).pin (reference_pin e n k h k.kind))) (λ r q. begins r) limits)))))
+    part_behind 120 n refl h.number start (λ r q. refl) (part_behind 100 n refl h.number (argument (codes "TimingData") 16 (λ r. refl)) (λ r q. refl)
+    (behind (argument (codes "TestSignal") 16 (λ r. refl)) (joins (name (port_at e (test_at k k.kind).pin) (input_named e h.formed (test_at k k.kind).pin (test_pin e n k h k.kind))) (λ r q. refl)
+    (behind (argument (codes "RefSignal") 15 (λ r. refl)) (joins (name (port_at e (reference_at k k.kind).pin) (input_named e h.formed (reference_at k k.kind).pin (reference_pin e n k h k.kind))) (λ r q. begins r) limits)))))
 
 setup_hold_spelled : (e : VEntity) (n : ℕ) (k : TimingCheck) → IsWrittenCheck e n k → Spells Anything false (setup_hold_text e n k) (λ s. codes "VitalSetupHoldCheck" ∷ setup_hold_front e n k s) false
 unfolding setup_hold_text
@@ -245,8 +231,8 @@ pulse k =
 period_pulse_spelled : (e : VEntity) (n : ℕ) (k : TimingCheck) → IsWrittenCheck e n k → Spells Anything false (period_pulse_text e n k) (λ s. codes "VitalPeriodPulseCheck" ∷ period_pulse_front e n k s) false
 unfolding period_pulse_text
 period_pulse_spelled e n k h =
-    part_behind 120 n refl h.number period_pulse_word (λ r q. refl) (part_behind 100 n refl h.number period_word (λ r q. refl)
-    (behind test_word (joins (name (port_at e k.first.pin) (input_named e h.formed k.first.pin h.sound.first)) (λ r q. behind_begins Ends (pulse_word k k.kind) _ (pulse k k.kind).begins r)
+    part_behind 120 n refl h.number period_pulse_word (λ r q. refl) (part_behind 100 n refl h.number (argument (codes "PeriodData") 16 (λ r. refl)) (λ r q. refl)
+    (behind (argument (codes "TestSignal") 16 (λ r. refl)) (joins (name (port_at e k.first.pin) (input_named e h.formed k.first.pin h.sound.first)) (λ r q. behind_begins Ends (pulse_word k k.kind) _ (pulse k k.kind).begins r)
     (behind (pulse k k.kind).spelled (joins (number k.limit h.limit) (λ r q. refl)
     (behind enabled_word (joins (enabled_spelled e h.formed k.condition h.condition) (λ r q. refl) call_end)))))))
 

@@ -27,7 +27,7 @@ use Rattle.grammar_phrases.proofs.Derivations.{Reads, gives, token, in_turn, no_
 use Rattle.grammar_phrases.proofs.Places.{get_at}
 use Rattle.written_entities.proofs.Assigned.{IsAssigned, assigned}
 use Rattle.grammar_phrases.proofs.Spelling.{joins, behind}
-use Rattle.written_entities.proofs.Spelling.{Spells, literal}
+use Rattle.written_entities.proofs.Spelling.{Spells, argument, literal}
 use Rattle.written_entities.proofs.Words.{IsNamed, name, part_named, port_named}
 use Rattle.written_entities.proofs.NameReading.{same_name, same_self, expected, two_expected, three_expected, six_expected, so_named, part_read}
 use Rattle.written_entities.proofs.Counting.{counted, counted_anywhere, apart_front, over}
@@ -56,15 +56,6 @@ line_front e n output s = line_by_paths e n output.port output.paths s
 
 path_call_word : {t : Bool} → Spells Anything t (codes "    VitalPathDelay01 (OutSignal => ") (λ s. codes "VitalPathDelay01" ∷ codes "(" ∷ codes "OutSignal" ∷ codes "=>" ∷ s) false
 path_call_word = literal 35 (λ r. refl)
-
-glitch_word : {t : Bool} → Spells Anything t (codes ", GlitchData => ") (λ s. codes "," ∷ codes "GlitchData" ∷ codes "=>" ∷ s) false
-glitch_word = literal 16 (λ r. refl)
-
-signal_name_word : {t : Bool} → Spells Anything t (codes ", OutSignalName => ") (λ s. codes "," ∷ codes "OutSignalName" ∷ codes "=>" ∷ s) false
-signal_name_word = literal 19 (λ r. refl)
-
-value_word : {t : Bool} → Spells Anything t (codes ", OutTemp => ") (λ s. codes "," ∷ codes "OutTemp" ∷ codes "=>" ∷ s) false
-value_word = literal 13 (λ r. refl)
 
 paths_word : {t : Bool} → Spells Anything t (codes ", Paths => (") (λ s. codes "," ∷ codes "Paths" ∷ codes "=>" ∷ codes "(" ∷ s) false
 paths_word = literal 12 (λ r. refl)
@@ -154,8 +145,8 @@ call_spelled e n output seen path all others same m x h =
     let p : List ℕ = port_at e output.port in
     let list : Spells Anything false (numbered_texts (path_text e) 1 output.paths) (apart_front (λ q. codes "," ∷ q) (path_front e) (path ∷ all)) false =
     subst (λ (l : List HPath). Spells Anything false (numbered_texts (path_text e) 1 l) (apart_front (λ q. codes "," ∷ q) (path_front e) (path ∷ all)) false) (sym same) (paths_spelled e seen path all others h) in
-    behind path_call_word (joins (name p x) (λ r q. refl) (part_behind 103 n refl m glitch_word (λ r q. refl) (quoted_behind p x signal_name_word
-    (part_behind 122 n refl m value_word (λ r q. refl) (behind paths_word (behind list paths_end))))))
+    behind path_call_word (joins (name p x) (λ r q. refl) (part_behind 103 n refl m (argument (codes "GlitchData") 16 (λ r. refl)) (λ r q. refl) (quoted_behind p x (argument (codes "OutSignalName") 19 (λ r. refl))
+    (part_behind 122 n refl m (argument (codes "OutTemp") 13 (λ r. refl)) (λ r q. refl) (behind paths_word (behind list paths_end))))))
 
 direct_spelled : (e : VEntity) (n : ℕ) (output : VOutput) → IsNumber n → IsNamed (port_at e output.port) → Spells Anything false (direct_text e n output) (line_by_paths e n output.port []) false
 unfolding direct_text

@@ -28,7 +28,7 @@ use Rattle.vhdl_writer.specs.Tables.{level_text, symbol_text, next_text, value_t
 use Rattle.grammar_phrases.proofs.Fronts.{each}
 use Rattle.grammar_phrases.proofs.Derivations.{Reads, from_same, to_same, gives, token, in_turn, turn, turns, no_turn}
 use Rattle.grammar_phrases.proofs.Places.{get_at}
-use Rattle.written_entities.proofs.TableTokens.{level_front, symbol_front, truth_row_front, state_row_front}
+use Rattle.written_entities.proofs.TableTokens.{value_level, as_level, next_symbol_of, as_symbol, level_front, symbol_front, truth_row_front, state_row_front}
 
 -- a token that must stand here
 pub expected : {text : List ℕ} {s : List (List ℕ)} → is_same text text ≡ true → Reads (expect text) (text ∷ s) tt s
@@ -85,17 +85,6 @@ levels_read x xs v s = in_turn (next_level_read [] x) (more_levels (x ∷ []) xs
 
 row_fits : {R : Type 0} (fit : R → Bool) (found : Option R) (row : R) → found ≡ Some row → fit row ≡ true → row_end fit found (codes ")") ≡ Fits row
 row_fits fit found row e f = rw (e, f) refl
-
--- the level that a value has
-abbrev value_level : Trit → Trits
-value_level trit.Zero = trits.Zero
-value_level trit.One = trits.One
-value_level trit.Unknown = trits.Unknown
-
-as_level : (v : Trit) → value_text v ≡ level_text (value_level v)
-as_level trit.Zero = refl
-as_level trit.One = refl
-as_level trit.Unknown = refl
 
 value_back : (v : Trit) → value_of (value_level v) ≡ Some v
 value_back trit.Zero = refl
@@ -189,19 +178,6 @@ no_second before y after h = elim (cases_Bool (list_any is_edge before)) [
   | inl t ↦ rw (second_edge before y after h t) refl
   | inr f ↦ rw f (and_false (is_edge y))
 ]
-
--- the symbol of what a row gives
-abbrev next_symbol_of : VNext → VSymbol
-next_symbol_of next.Zero = symbol.Level trits.Zero
-next_symbol_of next.One = symbol.Level trits.One
-next_symbol_of next.Unknown = symbol.Level trits.Unknown
-next_symbol_of next.Keep = symbol.Steady
-
-as_symbol : (n : VNext) → next_text n ≡ symbol_text (next_symbol_of n)
-as_symbol next.Zero = refl
-as_symbol next.One = refl
-as_symbol next.Unknown = refl
-as_symbol next.Keep = refl
 
 next_back : (n : VNext) → next_in (next_symbol_of n) ≡ Some n
 next_back next.Zero = refl

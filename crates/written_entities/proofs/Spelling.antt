@@ -1,5 +1,5 @@
 -- How the tokens of a VHDL text come from those of its pieces.
-use Rattle.std.proofs.Common.{◌≡◌, ℕ, ◌+◌, ◌≤◌, Bool, List, [], ◌∷◌, ◌++◌, ap, ◌∙◌, arith}
+use Rattle.std.proofs.Common.{◌≡◌, ℕ, ◌+◌, ◌≤◌, Bool, false, List, [], ◌∷◌, ◌++◌, ap, ◌∙◌, arith, codes}
 use Rattle.vhdl_tokens.specs.Tokens.{scan}
 use Rattle.vhdl_tokens.specs.Separators.{spelled}
 use Rattle.vhdl_tokens.proofs.Padding.{Found, any_offset}
@@ -18,6 +18,12 @@ Spells = SpellsBy found
 -- bytes of which the tokens are found by computing, so many of them
 pub literal : {t u : Bool} {text : List ℕ} {f : Front} (n : ℕ) → ((r : List ℕ) → found t (text ++ r) ≡ in_front f (spelled (scan u n 0 r))) → Spells Anything t text f u
 literal {u = u} {f = f} n h = record { is = λ r p. h r ∙ ap (in_front f) (any_offset u n 0 0 r) }
+
+-- what stands before an argument of a call that has this name: so many bytes, of which the tokens are found by computing
+pub argument : {t : Bool} (name : List ℕ) (n : ℕ)
+    → ((r : List ℕ) → found t ((codes ", " ++ (name ++ codes " => ")) ++ r) ≡ in_front (λ s. codes "," ∷ name ∷ codes "=>" ∷ s) (spelled (scan false n 0 r)))
+    → Spells Anything t (codes ", " ++ (name ++ codes " => ")) (λ s. codes "," ∷ name ∷ codes "=>" ∷ s) false
+argument name n h = literal n h
 
 -- texts of numbered items one behind the other, where from this number on the number says nothing to their tokens
 pub numbered_spelled : {A : Type 0} {t : Bool} (text : ℕ → A → List ℕ) (f : A → Front) (least : ℕ) → ((n : ℕ) (x : A) → least ≤ n → Spells Anything t (text n x) (f x) t)

@@ -23,7 +23,7 @@ use Rattle.vhdl_writer.specs.Statements.{state_text}
 use Rattle.grammar_phrases.proofs.Fronts.{Front, Anything}
 use Rattle.grammar_phrases.proofs.Derivations.{Reads, to_same, gives, token, in_turn, chosen, passed, no_turn, turn, turns, goes_on}
 use Rattle.grammar_phrases.proofs.Spelling.{joins, behind}
-use Rattle.written_entities.proofs.Spelling.{Spells, literal}
+use Rattle.written_entities.proofs.Spelling.{Spells, argument, literal}
 use Rattle.written_entities.proofs.Words.{Ends, IsNamed, word, name, unnumbered}
 use Rattle.written_entities.proofs.NameReading.{two_expected, three_expected, four_expected, expected, unlike_word, part_read}
 use Rattle.written_entities.proofs.Counting.{counted, counted_spelled, counted_anywhere, begins_at, over}
@@ -57,12 +57,6 @@ state_front e n state s = codes "VitalStateTable" ∷ state_more e n state s
 
 state_table_word : {t : Bool} → Spells Anything t (codes "    VitalStateTable (Result => ") (λ s. codes "VitalStateTable" ∷ codes "(" ∷ codes "Result" ∷ codes "=>" ∷ s) false
 state_table_word = literal 31 (λ r. refl)
-
-previous_word : {t : Bool} → Spells Anything t (codes ", PreviousDataIn => ") (λ s. codes "," ∷ codes "PreviousDataIn" ∷ codes "=>" ∷ s) false
-previous_word = literal 20 (λ r. refl)
-
-table_word : {t : Bool} → Spells Anything t (codes ", StateTable => ") (λ s. codes "," ∷ codes "StateTable" ∷ codes "=>" ∷ s) false
-table_word = literal 16 (λ r. refl)
 
 only_start : {t : Bool} → Spells Anything t (codes "(0 => ") (λ s. codes "(" ∷ codes "0" ∷ codes "=>" ∷ s) false
 only_start = literal 6 (λ r. refl)
@@ -129,7 +123,7 @@ has_inputs e w before state after same h = some_inputs state.violation state.inp
 state_spelled : (e : VEntity) (n : ℕ) (state : VState) → IsNumber n → IsFed e state.inputs → (state.violation ≡ false → 1 ≤ length state.inputs) → Spells Anything false (state_text e n state) (state_front e n state) false
 unfolding state_text
 state_spelled e n state m h some =
-    part_behind 115 n refl m state_table_word (λ r q. refl) (part_behind 112 n refl m previous_word (λ r q. refl) (part_behind 107 n refl m table_word (λ r q. refl)
+    part_behind 115 n refl m state_table_word (λ r q. refl) (part_behind 112 n refl m (argument (codes "PreviousDataIn") 20 (λ r. refl)) (λ r q. refl) (part_behind 107 n refl m (argument (codes "StateTable") 16 (λ r. refl)) (λ r q. refl)
     (behind data_word (behind (columns_spelled e state.violation state.inputs h some) call_end))))
 
 pub states_spelled : (e : VEntity) → IsWellFormedEntity e → Spells Anything false (numbered_texts (state_text e) 1 e.states) (counted (state_front e) 1 e.states) false

@@ -32,47 +32,56 @@ rows_read {R = R} front element (row ∷ one ∷ rows) some h s =
 equal : (a b : ℕ) → a ≡ b → nat_eq a b ≡ true
 equal a b e = grind (arith, nat_tests)
 
+-- a row that has so many columns
+abbrev HasWidth : {R : Type 0} → (R → ℕ) → ℕ → R → Type 0
+HasWidth width columns row = width row ≡ columns
+
+-- a row behind others has as many columns as the first one
+same_width : {R : Type 0} (width : R → ℕ) (columns : ℕ) (first : R) (before : List R) (row : R) (after : List R) → AllByRecursion (HasWidth width columns) ((first ∷ before) ++ row ∷ after)
+    → nat_eq (width row) (width first) ≡ true
+same_width width columns first before row after h =
+    equal (width row) (width first) (at_place (HasWidth width columns) before row after h.1 ∙ sym h.0)
+
+-- how many columns a row has
+abbrev truth_width : TruthRow → ℕ
+truth_width row = length row.inputs
+
+abbrev state_width : VStateRow → ℕ
+state_width row = length row.inputs
+
 -- Truth tables.
 
-abbrev TruthWidth : ℕ → TruthRow → Type 0
-TruthWidth columns row = length row.inputs ≡ columns
-
-truth_as_long : (columns : ℕ) (before : List TruthRow) (row : TruthRow) (after : List TruthRow) → AllByRecursion (TruthWidth columns) (before ++ row ∷ after)
+truth_as_long : (columns : ℕ) (before : List TruthRow) (row : TruthRow) (after : List TruthRow) → AllByRecursion (HasWidth truth_width columns) (before ++ row ∷ after)
     → is_as_long_as_truth_rows before row ≡ true
 truth_as_long columns [] row after h = refl
-truth_as_long columns (first ∷ before) row after h =
-    equal (length row.inputs) (length first.inputs) (at_place (TruthWidth columns) before row after h.1 ∙ sym h.0)
+truth_as_long columns (first ∷ before) row after h = same_width truth_width columns first before row after h
 
 -- a truth table is read
-pub truth_table_read : (columns : ℕ) (table : TruthTable) (s : List (List ℕ)) → 1 ≤ columns → 1 ≤ length table.rows → AllByRecursion (TruthWidth columns) table.rows
+pub truth_table_read : (columns : ℕ) (table : TruthTable) (s : List (List ℕ)) → 1 ≤ columns → 1 ≤ length table.rows → AllByRecursion (HasWidth truth_width columns) table.rows
     → Reads truth_table (codes "(" ∷ rows_front truth_row_front table.rows (codes ")" ∷ s)) table s
 unfolding truth_table
 truth_table_read columns table s some most all =
     in_turn (expected refl)
     (in_turn (rows_read truth_row_front truth_row table.rows most
-    (λ before row after q e. (let here = subst (AllByRecursion (TruthWidth columns)) (sym e) all in
-    truth_row_read before row q (subst (λ n. 1 ≤ n) (sym (at_place (TruthWidth columns) before row after here)) some) (truth_as_long columns before row after here))) s)
+    (λ before row after q e. (let here = subst (AllByRecursion (HasWidth truth_width columns)) (sym e) all in
+    truth_row_read before row q (subst (λ n. 1 ≤ n) (sym (at_place (HasWidth truth_width columns) before row after here)) some) (truth_as_long columns before row after here))) s)
     (in_turn (expected refl) gives))
 
 -- Tables of states.
 
-abbrev StateWidth : ℕ → VStateRow → Type 0
-StateWidth columns row = length row.inputs ≡ columns
-
-state_as_long : (columns : ℕ) (before : List VStateRow) (row : VStateRow) (after : List VStateRow) → AllByRecursion (StateWidth columns) (before ++ row ∷ after)
+state_as_long : (columns : ℕ) (before : List VStateRow) (row : VStateRow) (after : List VStateRow) → AllByRecursion (HasWidth state_width columns) (before ++ row ∷ after)
     → is_as_long_as_state_rows before row ≡ true
 state_as_long columns [] row after h = refl
-state_as_long columns (first ∷ before) row after h =
-    equal (length row.inputs) (length first.inputs) (at_place (StateWidth columns) before row after h.1 ∙ sym h.0)
+state_as_long columns (first ∷ before) row after h = same_width state_width columns first before row after h
 
 -- the table of a state is read
-pub state_table_read : (columns : ℕ) (table : VStateTable) (s : List (List ℕ)) → 1 ≤ columns → 1 ≤ length table.rows → AllByRecursion (StateWidth columns) table.rows
+pub state_table_read : (columns : ℕ) (table : VStateTable) (s : List (List ℕ)) → 1 ≤ columns → 1 ≤ length table.rows → AllByRecursion (HasWidth state_width columns) table.rows
     → AllByRecursion HasOneEdge table.rows → Reads state_table (codes "(" ∷ rows_front state_row_front table.rows (codes ")" ∷ s)) table s
 unfolding state_table
 state_table_read columns table s some most all edges =
     in_turn (expected refl)
     (in_turn (rows_read state_row_front state_row table.rows most
-    (λ before row after q e. (let here = subst (AllByRecursion (StateWidth columns)) (sym e) all in
-    state_row_read before row q (subst (λ n. 1 ≤ n) (sym (at_place (StateWidth columns) before row after here)) some)
+    (λ before row after q e. (let here = subst (AllByRecursion (HasWidth state_width columns)) (sym e) all in
+    state_row_read before row q (subst (λ n. 1 ≤ n) (sym (at_place (HasWidth state_width columns) before row after here)) some)
     (at_place HasOneEdge before row after (subst (AllByRecursion HasOneEdge) (sym e) edges)) (state_as_long columns before row after here))) s)
     (in_turn (expected refl) gives))

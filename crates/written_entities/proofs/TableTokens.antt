@@ -46,16 +46,39 @@ a_symbol symbol.From0 = literal 3 (λ r. refl)
 a_symbol symbol.From1 = literal 3 (λ r. refl)
 a_symbol symbol.Change = literal 3 (λ r. refl)
 
+-- the symbol of what a row gives
+abbrev pub next_symbol_of : VNext → VSymbol
+next_symbol_of next.Zero = symbol.Level trits.Zero
+next_symbol_of next.One = symbol.Level trits.One
+next_symbol_of next.Unknown = symbol.Level trits.Unknown
+next_symbol_of next.Keep = symbol.Steady
+
+pub as_symbol : (n : VNext) → next_text n ≡ symbol_text (next_symbol_of n)
+as_symbol next.Zero = refl
+as_symbol next.One = refl
+as_symbol next.Unknown = refl
+as_symbol next.Keep = refl
+
+-- the level that a value has
+abbrev pub value_level : Trit → Trits
+value_level trit.Zero = trits.Zero
+value_level trit.One = trits.One
+value_level trit.Unknown = trits.Unknown
+
+pub as_level : (v : Trit) → value_text v ≡ level_text (value_level v)
+as_level trit.Zero = refl
+as_level trit.One = refl
+as_level trit.Unknown = refl
+
+-- text that is written as another one is
+written_as : (x y : List ℕ) → x ≡ y → Spells Anything false y (λ s. y ∷ s) false → Spells Anything false x (λ s. x ∷ s) false
+written_as x y e h = subst (λ (z : List ℕ). Spells Anything false z (λ s. z ∷ s) false) (sym e) h
+
 a_next : (n : VNext) → Spells Anything false (next_text n) (λ s. next_text n ∷ s) false
-a_next next.Zero = literal 3 (λ r. refl)
-a_next next.One = literal 3 (λ r. refl)
-a_next next.Unknown = literal 3 (λ r. refl)
-a_next next.Keep = literal 3 (λ r. refl)
+a_next n = written_as (next_text n) (symbol_text (next_symbol_of n)) (as_symbol n) (a_symbol (next_symbol_of n))
 
 a_value : (v : Trit) → Spells Anything false (value_text v) (λ s. value_text v ∷ s) false
-a_value trit.Zero = literal 3 (λ r. refl)
-a_value trit.One = literal 3 (λ r. refl)
-a_value trit.Unknown = literal 3 (λ r. refl)
+a_value v = written_as (value_text v) (level_text (value_level v)) (as_level v) (a_level (value_level v))
 
 -- a symbol before a comma
 abbrev pub level_front : Trits → Front

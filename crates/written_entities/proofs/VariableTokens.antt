@@ -27,12 +27,9 @@ use Rattle.written_entities.proofs.Tests.{some_items}
 -- Tokens.
 
 abbrev pub is_period : CheckKind → Bool
-is_period check_kind.Setup = false
-is_period check_kind.Hold = false
-is_period check_kind.Recovery = false
-is_period check_kind.Removal = false
 is_period check_kind.Width = true
 is_period check_kind.Period = true
+is_period _ = false
 
 abbrev pub data_type : Bool → List ℕ
 data_type true = codes "VitalPeriodDataType"

@@ -12,7 +12,7 @@ use Rattle.vhdl_tokens.specs.Tokens.{is_blank, is_mark, is_name_byte, is_name, w
 use Rattle.vhdl_tokens.specs.Numbers.{number_of}
 use Rattle.vhdl_text.specs.WellFormed.{is_spelled_as_name, IsEntityName, IsPortName, IsNumber}
 use Rattle.vhdl_tokens.proofs.Padding.{word_before, over_token}
-use Rattle.grammar_phrases.proofs.Bytes.{unlike, none_of, AreFew, short, all_digits, below_word, few}
+use Rattle.grammar_phrases.proofs.Bytes.{unlike, none_of, run_ends, AreFew, short, all_digits, below_word, few}
 use Rattle.written_entities.proofs.Tests.{and_no}
 use Rattle.written_entities.proofs.Spelling.{Spells, found}
 
@@ -26,14 +26,10 @@ Ends (c ∷ r) = is_name_byte c ≡ false
 flipped : (b c : ℕ) → (b == c) ≡ nat_eq c b
 flipped b c = grind (arith, nat_tests)
 
--- a run of bytes that pass ends where no byte of a name follows
-run_ends : (test : ℕ → Bool) → ((c : ℕ) → is_name_byte c ≡ false → test c ≡ false) → (w r : List ℕ) → list_all test w ≡ true → Ends r → prefix_len test (w ++ r) ≡ length w
-run_ends test n [] [] h e = refl
-run_ends test n [] (c ∷ r) h e = rw (n c e) refl
-run_ends test n (c ∷ w) r h e =
-    let p = and_parts (test c) (list_all test w) h in
-    let i : prefix_len test (w ++ r) ≡ length w = run_ends test n w r p.1 e in
-    rw p.0 (omega arith)
+-- where no byte of a name follows there is none that passes
+none_follow : (test : ℕ → Bool) → ((c : ℕ) → is_name_byte c ≡ false → test c ≡ false) → (r : List ℕ) → Ends r → prefix_len test r ≡ 0
+none_follow test n [] e = refl
+none_follow test n (c ∷ r) e = rw (n c e) refl
 
 no_separator : (b : ℕ) (s : List ℕ) → is_blank b ≡ false → nat_eq 45 b ≡ false → separator_length (b ∷ s) ≡ 0
 no_separator b s e f = rw (e, f) refl
@@ -46,7 +42,7 @@ word_by mark tick quote letter ticked string word other n e f g h k = rw (e, f, 
 
 word_token : (t : Bool) (b : ℕ) (w r : List ℕ) → is_ascii_alphabetic b ≡ true → list_all is_name_byte w ≡ true → Ends r → token_length t (b ∷ w ++ r) ≡ suc (length w)
 word_token t b w r letter others e =
-    let run : prefix_len is_name_byte (w ++ r) ≡ length w = run_ends is_name_byte (λ c h. h) w r others e in
+    let run : prefix_len is_name_byte (w ++ r) ≡ length w = run_ends is_name_byte w r others (none_follow is_name_byte (λ c h. h) r e) in
     let long : word_length (b ∷ w ++ r) ≡ suc (length w) = omega (arith, run) in
     word_by (is_mark b) (b == 39) (b == 34) (is_ascii_alphabetic b) _ _ (word_length (b ∷ w ++ r)) _ (suc (length w))
     (none_of is_ascii_alphabetic (codes "(),;.") b refl letter)
@@ -183,7 +179,7 @@ no_digit c e = elim (cases_Bool (is_ascii_digit c)) [
 number_token : (t : Bool) (b : ℕ) (w r : List ℕ) → AreFew (b ∷ w) → Ends r → token_length t (b ∷ w ++ r) ≡ suc (length w)
 number_token t b w r f e =
     let p = and_parts (is_ascii_digit b) (list_all is_ascii_digit w) f.digits in
-    let run : prefix_len is_ascii_digit (b ∷ w ++ r) ≡ suc (length w) = run_ends is_ascii_digit no_digit (b ∷ w) r f.digits e in
+    let run : prefix_len is_ascii_digit (b ∷ w ++ r) ≡ suc (length w) = run_ends is_ascii_digit (b ∷ w) r f.digits (none_follow is_ascii_digit no_digit r e) in
     let fits : nat_le (prefix_len is_ascii_digit (b ∷ w ++ r)) 15 ≡ true = short (prefix_len is_ascii_digit (b ∷ w ++ r)) (subst (λ n. n ≤ 15) (sym run) f.few) in
     digit_by (is_mark b) (b == 39) (b == 34) (is_ascii_alphabetic b) (is_ascii_digit b) _ _ _ (number_length (b ∷ w ++ r)) _ (suc (length w))
     (none_of is_ascii_digit (codes "(),;.") b refl p.0)

@@ -6,6 +6,6 @@ unfolding recovery_removal_text
 returns-clause-text g c =
     let transition = rw c.transition_text.ensures at c.put.ensures.text in
     let reference = rw c.reference_of-reference.ensures at transition in
-    let active = rw c.active_text.ensures at reference in
+    let active = rw c.by_edge-active.ensures at reference in
     let test = rw c.test_of-test.ensures at active in
     rw (← c.recovery_word.ensures) test

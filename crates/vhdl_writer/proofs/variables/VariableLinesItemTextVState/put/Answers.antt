@@ -1,5 +1,5 @@
 use Rattle.vhdl_writer.specs.Declarations.{state_variables_text}
-use Rattle.vhdl_writer.proofs.variables.StateVariablesItemTextVState.put.Goals as goal
+use Rattle.vhdl_writer.proofs.variables.VariableLinesItemTextVState.put.Goals as goal
 
 pub returns-clause-text : goal.returns-clause-text
 unfolding state_variables_text

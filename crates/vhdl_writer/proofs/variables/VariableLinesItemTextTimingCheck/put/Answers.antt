@@ -1,5 +1,5 @@
 use Rattle.vhdl_writer.specs.Declarations.{check_variables_text}
-use Rattle.vhdl_writer.proofs.variables.CheckVariablesItemTextTimingCheck.put.Goals as goal
+use Rattle.vhdl_writer.proofs.variables.VariableLinesItemTextTimingCheck.put.Goals as goal
 
 pub returns-clause-text : goal.returns-clause-text
 unfolding check_variables_text

@@ -1,37 +1,40 @@
 //! The cells that a run makes for itself, as groups of a library.
-ghost use Rattle.std.specs.Prelude.{◌≡◌, ◌<◌, [], ◌++◌, codes, decimal, IfOk};
+ghost use Rattle.std.specs.Prelude.{◌≡◌, ◌<◌, [], ◌∷◌, ◌++◌, codes, decimal, IfOk};
 ghost use Rattle.selftest_library.specs.Draws.{next as next_of, pick as pick_of};
+ghost use Rattle.selftest_library.specs.Statements.{text as text_of, simple as simple_of, inner as inner_of};
 ghost use Rattle.selftest_library.specs.Sums.{function_text as function_text_of};
 ghost use Rattle.selftest_library.specs.Library.{input as input_of, output as output_of, function_items as function_items_of, setup as the_setup, arc as the_arc, flip_flop as the_flip_flop, flip_flop_items as the_flip_flop_items, latch as the_latch, latch_items as the_latch_items, state_rows as the_state_rows, state_table as the_state_table, clock_gate_items as the_clock_gate_items, items_by as items_by_of, cell_group as cell_group_of, front_text, AreWritable};
 ghost use Rattle.liberty_groups.specs.Writing.{group_text};
 
 use crate::draws::{next, pick};
-use crate::statements::{group, one, pin, simple, table, timing, two};
+use crate::statements::{Statements, alone, group, inner, one, table, timing, two};
 use crate::sums::function_text;
 use itoa::Buffer;
 use liberty_groups::{Group, Item, write_group};
 use sqlite_items::Items;
 use std::alloc::{AllocError, Global};
 
-/// An input pin with what more stands in it.
-fn input(alloc: Global, name: &[u8], more: Items<Item>) -> Result<Item, AllocError>
-    ensures { IfOk result (λ item. item ≡ input_of name.now more) }
-{
-    pin(alloc, name, b"input", more)
-}
+impl Statements {
+    /// These, and an input pin with what more stands in it.
+    fn input(self, name: &[u8], more: Items<Item>) -> Result<Statements, AllocError>
+        ensures { IfOk result (λ all. all.items ≡ self.items ++ input_of name.now more ∷ []) }
+    {
+        self.pin(name, b"input", more)
+    }
 
-/// An input pin alone.
-fn plain_input(alloc: Global, name: &[u8]) -> Result<Item, AllocError>
-    ensures { IfOk result (λ item. item ≡ input_of name.now []) }
-{
-    input(alloc, name, Items::new(alloc))
-}
+    /// These, and an input pin alone.
+    fn plain_input(self, name: &[u8]) -> Result<Statements, AllocError>
+        ensures { IfOk result (λ all. all.items ≡ self.items ++ input_of name.now [] ∷ []) }
+    {
+        self.plain_pin(name, b"input")
+    }
 
-/// An output pin with what more stands in it.
-fn output(alloc: Global, name: &[u8], more: Items<Item>) -> Result<Item, AllocError>
-    ensures { IfOk result (λ item. item ≡ output_of name.now more) }
-{
-    pin(alloc, name, b"output", more)
+    /// These, and an output pin with what more stands in it.
+    fn output(self, name: &[u8], more: Items<Item>) -> Result<Statements, AllocError>
+        ensures { IfOk result (λ all. all.items ≡ self.items ++ output_of name.now more ∷ []) }
+    {
+        self.pin(name, b"output", more)
+    }
 }
 
 /// The statements of a cell with a function of three inputs.
@@ -39,13 +42,12 @@ fn output(alloc: Global, name: &[u8], more: Items<Item>) -> Result<Item, AllocEr
 fn function_items(alloc: Global, function: &[u8]) -> Result<Items<Item>, AllocError>
     ensures { IfOk result (λ items. items ≡ function_items_of function.now) }
 {
-    let value = Items::from_vec(vec![in alloc; simple(alloc, b"function", function)?]?);
-    Ok(Items::from_vec(vec![in alloc;
-        plain_input(alloc, b"A")?,
-        plain_input(alloc, b"B")?,
-        plain_input(alloc, b"C")?,
-        output(alloc, b"Y", value)?,
-    ]?))
+    let inputs = Statements::new(alloc)
+        .plain_input(b"A")?
+        .plain_input(b"B")?
+        .plain_input(b"C")?;
+    let all = inputs.output(b"Y", alone(alloc, b"function", function)?)?;
+    Ok(all.into_items())
 }
 
 /// The setup time of the flip-flop's data.
@@ -68,17 +70,42 @@ fn arc(alloc: Global) -> Result<Item, AllocError>
     Ok(timing(alloc, b"CK", b"rising_edge", rise, fall)?)
 }
 
+/// A group of the state IQ and its inverse.
+fn states(alloc: Global, name: &[u8], items: Items<Item>) -> Result<Item, AllocError>
+    ensures { IfOk result (λ item. item ≡ inner_of name.now (text_of (codes "IQ") ∷ text_of (codes "IQN") ∷ []) items) }
+{
+    let names = two(alloc, b"IQ", b"IQN")?;
+    Ok(inner(alloc, name, names, items)?)
+}
+
 /// The flip-flop, with a clear.
 #[tactic(auto, unfolding(crate::specs::Library::flip_flop))]
 fn flip_flop(alloc: Global) -> Result<Item, AllocError>
     ensures { IfOk result (λ item. item ≡ the_flip_flop) }
 {
-    let items = Items::from_vec(vec![in alloc;
-        simple(alloc, b"next_state", b"D")?,
-        simple(alloc, b"clocked_on", b"CK")?,
-        simple(alloc, b"clear", b"R")?,
-    ]?);
-    Ok(Item::Inner(group(alloc, b"ff", two(alloc, b"IQ", b"IQN")?, items)?))
+    let items = Statements::new(alloc)
+        .simple(b"next_state", b"D")?
+        .simple(b"clocked_on", b"CK")?
+        .simple(b"clear", b"R")?;
+    Ok(states(alloc, b"ff", items.into_items())?)
+}
+
+/// What stands in the flip-flop's data.
+fn setup_alone(alloc: Global) -> Result<Items<Item>, AllocError>
+    ensures { IfOk result (λ items. items ≡ the_setup ∷ []) }
+{
+    let only = Statements::new(alloc).and(setup(alloc)?)?;
+    Ok(only.into_items())
+}
+
+/// What stands in the flip-flop's output.
+fn delayed_state(alloc: Global) -> Result<Items<Item>, AllocError>
+    ensures { IfOk result (λ items. items ≡ simple_of (codes "function") (codes "IQ") ∷ the_arc ∷ []) }
+{
+    let both = Statements::new(alloc)
+        .simple(b"function", b"IQ")?
+        .and(arc(alloc)?)?;
+    Ok(both.into_items())
 }
 
 /// The statements of a cell with a flip-flop.
@@ -86,15 +113,13 @@ fn flip_flop(alloc: Global) -> Result<Item, AllocError>
 fn flip_flop_items(alloc: Global) -> Result<Items<Item>, AllocError>
     ensures { IfOk result (λ items. items ≡ the_flip_flop_items) }
 {
-    let check = Items::from_vec(vec![in alloc; setup(alloc)?]?);
-    let value = Items::from_vec(vec![in alloc; simple(alloc, b"function", b"IQ")?, arc(alloc)?]?);
-    Ok(Items::from_vec(vec![in alloc;
-        flip_flop(alloc)?,
-        plain_input(alloc, b"CK")?,
-        input(alloc, b"D", check)?,
-        plain_input(alloc, b"R")?,
-        output(alloc, b"Q", value)?,
-    ]?))
+    let all = Statements::new(alloc)
+        .and(flip_flop(alloc)?)?
+        .plain_input(b"CK")?
+        .input(b"D", setup_alone(alloc)?)?
+        .plain_input(b"R")?
+        .output(b"Q", delayed_state(alloc)?)?;
+    Ok(all.into_items())
 }
 
 /// The latch.
@@ -102,11 +127,10 @@ fn flip_flop_items(alloc: Global) -> Result<Items<Item>, AllocError>
 fn latch(alloc: Global) -> Result<Item, AllocError>
     ensures { IfOk result (λ item. item ≡ the_latch) }
 {
-    let items = Items::from_vec(vec![in alloc;
-        simple(alloc, b"data_in", b"D")?,
-        simple(alloc, b"enable", b"EN")?,
-    ]?);
-    Ok(Item::Inner(group(alloc, b"latch", two(alloc, b"IQ", b"IQN")?, items)?))
+    let items = Statements::new(alloc)
+        .simple(b"data_in", b"D")?
+        .simple(b"enable", b"EN")?;
+    Ok(states(alloc, b"latch", items.into_items())?)
 }
 
 /// The statements of a cell with a latch.
@@ -114,14 +138,12 @@ fn latch(alloc: Global) -> Result<Item, AllocError>
 fn latch_items(alloc: Global) -> Result<Items<Item>, AllocError>
     ensures { IfOk result (λ items. items ≡ the_latch_items) }
 {
-    let width = Items::from_vec(vec![in alloc; simple(alloc, b"min_pulse_width_high", b"15")?]?);
-    let value = Items::from_vec(vec![in alloc; simple(alloc, b"function", b"IQ")?]?);
-    Ok(Items::from_vec(vec![in alloc;
-        latch(alloc)?,
-        input(alloc, b"EN", width)?,
-        plain_input(alloc, b"D")?,
-        output(alloc, b"Q", value)?,
-    ]?))
+    let all = Statements::new(alloc)
+        .and(latch(alloc)?)?
+        .input(b"EN", alone(alloc, b"min_pulse_width_high", b"15")?)?
+        .plain_input(b"D")?
+        .output(b"Q", alone(alloc, b"function", b"IQ")?)?;
+    Ok(all.into_items())
 }
 
 /// The rows of the clock gate's state table.
@@ -140,8 +162,9 @@ fn state_table(alloc: Global) -> Result<Item, AllocError>
     ensures { IfOk result (λ item. item ≡ the_state_table) }
 {
     let rows = state_rows(alloc)?;
-    let items = Items::from_vec(vec![in alloc; simple(alloc, b"table", rows.as_slice())?]?);
-    Ok(Item::Inner(group(alloc, b"statetable", two(alloc, b"CK E SE", b"IQ")?, items)?))
+    let items = alone(alloc, b"table", rows.as_slice())?;
+    let names = two(alloc, b"CK E SE", b"IQ")?;
+    Ok(inner(alloc, b"statetable", names, items)?)
 }
 
 /// The statements of a cell with a clock gate.
@@ -149,16 +172,14 @@ fn state_table(alloc: Global) -> Result<Item, AllocError>
 fn clock_gate_items(alloc: Global) -> Result<Items<Item>, AllocError>
     ensures { IfOk result (λ items. items ≡ the_clock_gate_items) }
 {
-    let node = Items::from_vec(vec![in alloc; simple(alloc, b"internal_node", b"IQ")?]?);
-    let value = Items::from_vec(vec![in alloc; simple(alloc, b"state_function", b"CK * IQ")?]?);
-    Ok(Items::from_vec(vec![in alloc;
-        state_table(alloc)?,
-        plain_input(alloc, b"CK")?,
-        plain_input(alloc, b"E")?,
-        plain_input(alloc, b"SE")?,
-        pin(alloc, b"IQ", b"internal", node)?,
-        output(alloc, b"GCK", value)?,
-    ]?))
+    let all = Statements::new(alloc)
+        .and(state_table(alloc)?)?
+        .plain_input(b"CK")?
+        .plain_input(b"E")?
+        .plain_input(b"SE")?
+        .pin(b"IQ", b"internal", alone(alloc, b"internal_node", b"IQ")?)?
+        .output(b"GCK", alone(alloc, b"state_function", b"CK * IQ")?)?;
+    Ok(all.into_items())
 }
 
 /// The statements of a cell with a function that is drawn from its number.

@@ -1,6 +1,6 @@
 //! Statements and groups of the test library.
-ghost use Rattle.std.specs.Prelude.{◌≡◌, [], ◌∷◌, IfOk};
-ghost use Rattle.selftest_library.specs.Statements.{text as text_of, simple as simple_of, complex as complex_of, group as group_of, pin as pin_of, table as table_of, timing as timing_of};
+ghost use Rattle.std.specs.Prelude.{◌≡◌, [], ◌∷◌, ◌++◌, codes, IfOk};
+ghost use Rattle.selftest_library.specs.Statements.{text as text_of, simple as simple_of, complex as complex_of, group as group_of, inner as inner_of, pin as pin_of, table as table_of, timing as timing_of};
 
 use liberty_groups::{Group, Item, Value};
 use sqlite_items::Items;
@@ -69,19 +69,100 @@ pub(crate) fn group(
     })
 }
 
-/// A pin with its direction and what more stands in it.
-#[tactic(auto, unfolding(crate::specs::Statements::pin))]
-pub(crate) fn pin(
+/// A group as a statement.
+pub(crate) fn inner(
     alloc: Global,
     name: &[u8],
-    direction: &[u8],
-    more: Items<Item>,
+    arguments: Items<Value>,
+    items: Items<Item>,
 ) -> Result<Item, AllocError>
+    ensures { IfOk result (λ item. item ≡ inner_of name.now arguments items) }
+{
+    Ok(Item::Inner(group(alloc, name, arguments, items)?))
+}
+
+/// Statements of a group, put one behind another. Each call takes those so far, so that where memory is wanting nothing is left to drop.
+#[derive(Drop)]
+pub(crate) struct Statements {
+    alloc: Global,
+    items: Items<Item>,
+}
+
+impl Statements {
+    /// None yet.
+    pub(crate) fn new(alloc: Global) -> Statements
+        ensures { result.items ≡ [] }
+    {
+        Statements {
+            alloc,
+            items: Items::new(alloc),
+        }
+    }
+
+    /// These, and one more.
+    pub(crate) fn and(self, item: Item) -> Result<Statements, AllocError>
+        ensures { IfOk result (λ more. more.items ≡ self.items ++ item ∷ []) }
+    {
+        let Statements { alloc, mut items } = self;
+        items.push(item)?;
+        Ok(Statements { alloc, items })
+    }
+
+    /// These, and a simple attribute.
+    pub(crate) fn simple(self, name: &[u8], value: &[u8]) -> Result<Statements, AllocError>
+        ensures { IfOk result (λ more. more.items ≡ self.items ++ simple_of name.now value.now ∷ []) }
+    {
+        let item = simple(self.alloc, name, value)?;
+        Ok(self.and(item)?)
+    }
+
+    /// These, and a pin with its direction and what more stands in it.
+    pub(crate) fn pin(
+        self,
+        name: &[u8],
+        direction: &[u8],
+        more: Items<Item>,
+    ) -> Result<Statements, AllocError>
+        ensures { IfOk result (λ all. all.items ≡ self.items ++ pin_of name.now direction.now more ∷ []) }
+    {
+        let item = pin(self.alloc, name, direction, more)?;
+        Ok(self.and(item)?)
+    }
+
+    /// These, and a pin with its direction alone.
+    pub(crate) fn plain_pin(self, name: &[u8], direction: &[u8]) -> Result<Statements, AllocError>
+        ensures { IfOk result (λ all. all.items ≡ self.items ++ pin_of name.now direction.now [] ∷ []) }
+    {
+        let none = Items::new(self.alloc);
+        Ok(self.pin(name, direction, none)?)
+    }
+
+    /// The list of them.
+    pub(crate) fn into_items(self) -> Items<Item>
+        ensures { result ≡ self.items }
+    {
+        let Statements { items, .. } = self;
+        items
+    }
+}
+
+/// A simple attribute, alone.
+pub(crate) fn alone(alloc: Global, name: &[u8], value: &[u8]) -> Result<Items<Item>, AllocError>
+    ensures { IfOk result (λ items. items ≡ simple_of name.now value.now ∷ []) }
+{
+    let only = Statements::new(alloc).simple(name, value)?;
+    Ok(only.into_items())
+}
+
+/// A pin with its direction and what more stands in it.
+#[tactic(auto, unfolding(crate::specs::Statements::pin))]
+fn pin(alloc: Global, name: &[u8], direction: &[u8], more: Items<Item>) -> Result<Item, AllocError>
     ensures { IfOk result (λ item. item ≡ pin_of name.now direction.now more) }
 {
-    let mut items = Items::from_vec(vec![in alloc; simple(alloc, b"direction", direction)?]?);
+    let mut items = alone(alloc, b"direction", direction)?;
     items.append(more)?;
-    Ok(Item::Inner(group(alloc, b"pin", one(alloc, name)?, items)?))
+    let names = one(alloc, name)?;
+    Ok(inner(alloc, b"pin", names, items)?)
 }
 
 /// A table with one entry.
@@ -89,8 +170,20 @@ pub(crate) fn pin(
 pub(crate) fn table(alloc: Global, name: &[u8], entry: &[u8]) -> Result<Item, AllocError>
     ensures { IfOk result (λ item. item ≡ table_of name.now entry.now) }
 {
-    let items = Items::from_vec(vec![in alloc; complex(alloc, b"values", entry)?]?);
-    Ok(Item::Inner(group(alloc, name, one(alloc, b"scalar")?, items)?))
+    let values = complex(alloc, b"values", entry)?;
+    let items = Statements::new(alloc).and(values)?;
+    let arguments = one(alloc, b"scalar")?;
+    Ok(inner(alloc, name, arguments, items.into_items())?)
+}
+
+/// What stands first in a timing group: its related pin and its type.
+fn timing_head(alloc: Global, related: &[u8], kind: &[u8]) -> Result<Statements, AllocError>
+    ensures { IfOk result (λ head. head.items ≡ simple_of (codes "related_pin") related.now ∷ simple_of (codes "timing_type") kind.now ∷ []) }
+{
+    let head = Statements::new(alloc)
+        .simple(b"related_pin", related)?
+        .simple(b"timing_type", kind)?;
+    Ok(head)
 }
 
 /// A timing group of a related pin, with a table for rises and one for falls.
@@ -104,11 +197,6 @@ pub(crate) fn timing(
 ) -> Result<Item, AllocError>
     ensures { IfOk result (λ item. item ≡ timing_of related.now kind.now rise fall) }
 {
-    let items = Items::from_vec(vec![in alloc;
-        simple(alloc, b"related_pin", related)?,
-        simple(alloc, b"timing_type", kind)?,
-        rise,
-        fall,
-    ]?);
-    Ok(Item::Inner(group(alloc, b"timing", Items::new(alloc), items)?))
+    let items = timing_head(alloc, related, kind)?.and(rise)?.and(fall)?;
+    Ok(inner(alloc, b"timing", Items::new(alloc), items.into_items())?)
 }

@@ -5,5 +5,4 @@ use Rattle.selftest_library.proofs.library.flip_flop.Goals as goal
 pub returns : goal.returns
 unfolding flip_flop
 returns c =
-    rw c.in_ok-group.ensures (rw c.in_ok-two.ensures (rw c.from_vec-items.ensures (rw c.in_ok-vec.ensures.items
-    (rw c.in_ok-simple.ensures (rw c.in_ok-simple-2.ensures (rw c.in_ok-simple-3.ensures refl))))))
+    rw c.in_ok-states.ensures (rw c.into_items.ensures (rw c.in_ok-items.ensures (rw c.in_ok-simple-2.ensures (rw c.in_ok-simple.ensures (rw c.new.ensures refl)))))

@@ -5,5 +5,4 @@ use Rattle.selftest_library.proofs.statements.timing.Goals as goal
 pub returns : goal.returns
 unfolding timing
 returns c =
-    rw c.in_ok-group.ensures (rw c.new.ensures (rw c.from_vec-items.ensures (rw c.in_ok-vec.ensures.items
-    (rw c.in_ok-simple.ensures (rw c.in_ok-simple-2.ensures refl)))))
+    rw c.in_ok-inner.ensures (rw c.new.ensures (rw c.into_items.ensures (rw c.in_ok-items.ensures (rw c.in_ok-and.ensures (rw c.in_ok-timing_head.ensures refl)))))

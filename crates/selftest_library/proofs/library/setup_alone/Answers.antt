@@ -1,0 +1,6 @@
+use Rattle.std.proofs.Common.{refl}
+use Rattle.selftest_library.proofs.library.setup_alone.Goals as goal
+
+pub returns : goal.returns
+returns c =
+    rw c.into_items.ensures (rw c.in_ok-only.ensures (rw c.in_ok-setup.ensures (rw c.new.ensures refl)))

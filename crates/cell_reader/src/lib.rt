@@ -16,6 +16,7 @@ mod output_pins;
 mod parts;
 mod read;
 mod refusal;
+mod scan;
 mod scans;
 mod sources;
 mod state_groups;

@@ -5,10 +5,10 @@ ghost use Rattle.cell_parts.specs.Declarations.{bad_cell_name as bad_cell_name_o
 ghost use Rattle.cell_parts.specs.Limits.{first_past as first_past_of, place_of_group, place_of_state as place_of_state_in, state_at, no_support_in as no_support_in_of, wide_support_in as wide_support_in_of};
 ghost use Rattle.cell_parts.specs.Shown.{shown_state};
 
+use crate::scan::{Scan, least_among};
 use bool_functions::Names;
 use cell_parts::declarations::is_name;
 use cell_parts::groups::cell_name;
-use cell_parts::least::lesser;
 use cell_parts::state_readings::StateReading;
 use cell_parts::states::{StateName, states_in};
 use liberty_groups::Group;
@@ -85,14 +85,18 @@ pub(crate) fn state_offsets(alloc: Global, groups: &[&Group]) -> Result<Vec<usiz
 }
 
 /// Where a group holds a state and names no input pin.
-#[tactic(auto, unfolding(cell_parts::specs::Limits::no_support_in))]
-fn no_support_in(reading: &StateReading) -> Option<usize>
-    ensures { result ≡ least (no_support_in_of reading.now) }
-{
-    if reading.holds && reading.support.len() == 0 {
-        Some(reading.at)
-    } else {
-        None
+struct NoSupports;
+
+impl Scan<StateReading> for NoSupports {
+    ghost places = { no_support_in_of };
+
+    #[tactic(auto, unfolding(cell_parts::specs::Limits::no_support_in))]
+    fn least_in(&self, reading: &StateReading) -> Option<usize> {
+        if reading.holds && reading.support.len() == 0 {
+            Some(reading.at)
+        } else {
+            None
+        }
     }
 }
 
@@ -100,22 +104,22 @@ fn no_support_in(reading: &StateReading) -> Option<usize>
 pub(crate) fn no_supports(readings: &[StateReading]) -> Option<usize>
     ensures { result ≡ least (flat_map no_support_in_of readings.now) }
 {
-    let mut found = None;
-    for reading in readings {
-        found = lesser(found, no_support_in(reading));
-    }
-    found
+    least_among(&NoSupports, readings)
 }
 
 /// Where a group holds a state and names more than 8 input pins.
-#[tactic(auto, unfolding(cell_parts::specs::Limits::wide_support_in))]
-fn wide_support_in(reading: &StateReading) -> Option<usize>
-    ensures { result ≡ least (wide_support_in_of reading.now) }
-{
-    if reading.holds && 8 < reading.support.len() {
-        Some(reading.at)
-    } else {
-        None
+struct WideSupports;
+
+impl Scan<StateReading> for WideSupports {
+    ghost places = { wide_support_in_of };
+
+    #[tactic(auto, unfolding(cell_parts::specs::Limits::wide_support_in))]
+    fn least_in(&self, reading: &StateReading) -> Option<usize> {
+        if reading.holds && 8 < reading.support.len() {
+            Some(reading.at)
+        } else {
+            None
+        }
     }
 }
 
@@ -123,9 +127,5 @@ fn wide_support_in(reading: &StateReading) -> Option<usize>
 pub(crate) fn wide_supports(readings: &[StateReading]) -> Option<usize>
     ensures { result ≡ least (flat_map wide_support_in_of readings.now) }
 {
-    let mut found = None;
-    for reading in readings {
-        found = lesser(found, wide_support_in(reading));
-    }
-    found
+    least_among(&WideSupports, readings)
 }

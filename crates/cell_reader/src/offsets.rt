@@ -3,7 +3,7 @@ ghost use Rattle.std.specs.Prelude.{◌≡◌, IfOk, flat_map};
 ghost use Rattle.timing_arcs.specs.Timing.{least};
 ghost use Rattle.cell_reader.specs.PinTimings.{check_at_in, arc_at_in, wide_in};
 
-use cell_parts::least::lesser;
+use crate::scan::{Scan, least_among};
 use std::alloc::{AllocError, Global};
 use timing_arcs::{PinTiming, TimingFault};
 
@@ -40,12 +40,16 @@ pub(crate) fn arc_offsets(
 }
 
 /// The least offset of a condition with more than 10 names, in the timing of a pin.
-fn wide_timing(answer: &Result<PinTiming, TimingFault>) -> Option<usize>
-    ensures { result ≡ least (wide_in answer.now) }
-{
-    match answer {
-        Ok(timing) => timing.wide,
-        Err(_) => None,
+struct WideTimings;
+
+impl Scan<Result<PinTiming, TimingFault>> for WideTimings {
+    ghost places = { wide_in };
+
+    fn least_in(&self, answer: &Result<PinTiming, TimingFault>) -> Option<usize> {
+        match answer {
+            Ok(timing) => timing.wide,
+            Err(_) => None,
+        }
     }
 }
 
@@ -53,9 +57,5 @@ fn wide_timing(answer: &Result<PinTiming, TimingFault>) -> Option<usize>
 pub(crate) fn wide_timings(answers: &[Result<PinTiming, TimingFault>]) -> Option<usize>
     ensures { result ≡ least (flat_map wide_in answers.now) }
 {
-    let mut found = None;
-    for answer in answers {
-        found = lesser(found, wide_timing(answer));
-    }
-    found
+    least_among(&WideTimings, answers)
 }

@@ -4,6 +4,7 @@ ghost use Rattle.timing_arcs.specs.Timing.{least};
 ghost use Rattle.cell_parts.specs.Groups.{offsets_of};
 ghost use Rattle.cell_parts.specs.Scans.{direction_in as direction_in_of, three_state_in as three_state_in_of, bank_in as bank_in_of, left_out_in as left_out_in_of, first_both_in as first_both_in_of, second_both_in as second_both_in_of, clear_preset_in as clear_preset_in_of, no_function_in as no_function_in_of};
 
+use crate::scan::{Scan, least_among_held};
 use cell_machine::{Both, Direction};
 use cell_parts::groups::{is_bank, is_called, is_missing};
 use cell_parts::least::lesser;
@@ -27,91 +28,87 @@ fn first_offset(group: &Group, name: &[u8]) -> Option<usize>
 }
 
 /// Where the direction of a pin group is absent or none of the three.
-#[tactic(auto, unfolding(cell_parts::specs::Scans::direction_in))]
-fn direction_in(pin: &Group) -> Option<usize>
-    ensures { result ≡ least (direction_in_of pin.now) }
-{
-    match last_attribute(pin, b"direction") {
-        None => Some(pin.at),
-        Some(attribute) => match direction_named(attribute.text) {
-            None => Some(attribute.at),
-            Some(_) => None,
-        },
+struct BadDirections;
+
+impl Scan<Group> for BadDirections {
+    ghost places = { direction_in_of };
+
+    #[tactic(auto, unfolding(cell_parts::specs::Scans::direction_in))]
+    fn least_in(&self, pin: &Group) -> Option<usize> {
+        match last_attribute(pin, b"direction") {
+            None => Some(pin.at),
+            Some(attribute) => match direction_named(attribute.text) {
+                None => Some(attribute.at),
+                Some(_) => None,
+            },
+        }
     }
 }
 
 /// Where a pin's direction is absent or none of the three.
-#[tactic(auto, using(cell_parts::proofs::LeastLemmas::lesser_assoc, cell_parts::proofs::LeastLemmas::lesser_none, cell_parts::proofs::LeastLemmas::least_append))]
 pub(crate) fn directions(pins: &[&Group]) -> Option<usize>
     ensures { result ≡ least (flat_map direction_in_of (map (λ group. group.now) pins.now)) }
 {
-    let mut found = None;
-    for pin in pins {
-        found = lesser(found, direction_in(pin));
-    }
-    found
+    least_among_held(&BadDirections, pins)
 }
 
 /// Where the pins of a group have `three_state`.
-#[tactic(auto, unfolding(cell_parts::specs::Scans::three_state_in))]
-fn three_state_in(pin: &Group) -> Option<usize>
-    ensures { result ≡ least (three_state_in_of pin.now) }
-{
-    first_offset(pin, b"three_state")
+struct ThreeStates;
+
+impl Scan<Group> for ThreeStates {
+    ghost places = { three_state_in_of };
+
+    #[tactic(auto, unfolding(cell_parts::specs::Scans::three_state_in))]
+    fn least_in(&self, pin: &Group) -> Option<usize> {
+        first_offset(pin, b"three_state")
+    }
 }
 
 /// Where a pin has `three_state`.
-#[tactic(auto, using(cell_parts::proofs::LeastLemmas::lesser_assoc, cell_parts::proofs::LeastLemmas::lesser_none, cell_parts::proofs::LeastLemmas::least_append))]
 pub(crate) fn three_states(pins: &[&Group]) -> Option<usize>
     ensures { result ≡ least (flat_map three_state_in_of (map (λ group. group.now) pins.now)) }
 {
-    let mut found = None;
-    for pin in pins {
-        found = lesser(found, three_state_in(pin));
-    }
-    found
+    least_among_held(&ThreeStates, pins)
 }
 
 /// Where a group stands for several pins or states at once.
-#[tactic(auto, unfolding(cell_parts::specs::Scans::bank_in))]
-fn bank_in(group: &Group) -> Option<usize>
-    ensures { result ≡ least (bank_in_of group.now) }
-{
-    if is_bank(group) { Some(group.at) } else { None }
+struct BankGroups;
+
+impl Scan<Group> for BankGroups {
+    ghost places = { bank_in_of };
+
+    #[tactic(auto, unfolding(cell_parts::specs::Scans::bank_in))]
+    fn least_in(&self, group: &Group) -> Option<usize> {
+        if is_bank(group) { Some(group.at) } else { None }
+    }
 }
 
 /// Where a group of the cell stands for several pins or states at once.
-#[tactic(auto, using(cell_parts::proofs::LeastLemmas::lesser_assoc, cell_parts::proofs::LeastLemmas::lesser_none, cell_parts::proofs::LeastLemmas::least_append))]
 pub(crate) fn banks(groups: &[&Group]) -> Option<usize>
     ensures { result ≡ least (flat_map bank_in_of (map (λ group. group.now) groups.now)) }
 {
-    let mut found = None;
-    for group in groups {
-        found = lesser(found, bank_in(group));
-    }
-    found
+    least_among_held(&BankGroups, groups)
 }
 
 /// Where a group has an attribute whose states are left out.
-#[tactic(auto, unfolding(cell_parts::specs::Scans::left_out_in), using(cell_parts::proofs::LeastLemmas::least_append))]
-fn left_out_in(group: &Group) -> Option<usize>
-    ensures { result ≡ least (left_out_in_of group.now) }
-{
-    let clocked = first_offset(group, b"clocked_on_also");
-    let enable = first_offset(group, b"enable_also");
-    lesser(clocked, lesser(enable, first_offset(group, b"input_map")))
+struct LeftOutStates;
+
+impl Scan<Group> for LeftOutStates {
+    ghost places = { left_out_in_of };
+
+    #[tactic(auto, unfolding(cell_parts::specs::Scans::left_out_in), using(cell_parts::proofs::LeastLemmas::least_append))]
+    fn least_in(&self, group: &Group) -> Option<usize> {
+        let clocked = first_offset(group, b"clocked_on_also");
+        let enable = first_offset(group, b"enable_also");
+        lesser(clocked, lesser(enable, first_offset(group, b"input_map")))
+    }
 }
 
 /// Where a state group or pin has an attribute whose states are left out.
-#[tactic(auto, using(cell_parts::proofs::LeastLemmas::lesser_assoc, cell_parts::proofs::LeastLemmas::lesser_none, cell_parts::proofs::LeastLemmas::least_append))]
 pub(crate) fn left_out_states(groups: &[&Group]) -> Option<usize>
     ensures { result ≡ least (flat_map left_out_in_of (map (λ group. group.now) groups.now)) }
 {
-    let mut found = None;
-    for group in groups {
-        found = lesser(found, left_out_in(group));
-    }
-    found
+    least_among_held(&LeftOutStates, groups)
 }
 
 /// Where `clear_preset_var1` has a value that it may not have.
@@ -143,52 +140,50 @@ fn second_both_in(group: &Group) -> Option<usize>
 }
 
 /// Where a `clear_preset` attribute has a value that it may not have.
-#[tactic(auto, unfolding(cell_parts::specs::Scans::clear_preset_in), using(cell_parts::proofs::LeastLemmas::least_append))]
-fn clear_preset_in(group: &Group) -> Option<usize>
-    ensures { result ≡ least (clear_preset_in_of group.now) }
-{
-    if is_called(group, b"statetable") {
-        return None;
+struct ClearPresets;
+
+impl Scan<Group> for ClearPresets {
+    ghost places = { clear_preset_in_of };
+
+    #[tactic(auto, unfolding(cell_parts::specs::Scans::clear_preset_in), using(cell_parts::proofs::LeastLemmas::least_append))]
+    fn least_in(&self, group: &Group) -> Option<usize> {
+        if is_called(group, b"statetable") {
+            return None;
+        }
+        lesser(first_both_in(group), second_both_in(group))
     }
-    lesser(first_both_in(group), second_both_in(group))
 }
 
 /// Where a `clear_preset` attribute of a state group has a value that it may not have.
-#[tactic(auto, using(cell_parts::proofs::LeastLemmas::lesser_assoc, cell_parts::proofs::LeastLemmas::lesser_none, cell_parts::proofs::LeastLemmas::least_append))]
 pub(crate) fn clear_presets(states: &[&Group]) -> Option<usize>
     ensures { result ≡ least (flat_map clear_preset_in_of (map (λ group. group.now) states.now)) }
 {
-    let mut found = None;
-    for group in states {
-        found = lesser(found, clear_preset_in(group));
-    }
-    found
+    least_among_held(&ClearPresets, states)
 }
 
 /// Where the pins of a group are outputs without function.
-#[tactic(auto, unfolding(cell_parts::specs::Scans::no_function_in))]
-fn no_function_in(pin: &Group) -> Option<usize>
-    ensures { result ≡ least (no_function_in_of pin.now) }
-{
-    if direction_of(pin) == Some(Direction::Output)
-        && is_missing(pin, b"function")
-        && is_missing(pin, b"state_function")
-        && is_missing(pin, b"internal_node")
-    {
-        Some(pin.at)
-    } else {
-        None
+struct NoFunctions;
+
+impl Scan<Group> for NoFunctions {
+    ghost places = { no_function_in_of };
+
+    #[tactic(auto, unfolding(cell_parts::specs::Scans::no_function_in))]
+    fn least_in(&self, pin: &Group) -> Option<usize> {
+        if direction_of(pin) == Some(Direction::Output)
+            && is_missing(pin, b"function")
+            && is_missing(pin, b"state_function")
+            && is_missing(pin, b"internal_node")
+        {
+            Some(pin.at)
+        } else {
+            None
+        }
     }
 }
 
 /// Where an output pin has no function.
-#[tactic(auto, using(cell_parts::proofs::LeastLemmas::lesser_assoc, cell_parts::proofs::LeastLemmas::lesser_none, cell_parts::proofs::LeastLemmas::least_append))]
 pub(crate) fn no_functions(pins: &[&Group]) -> Option<usize>
     ensures { result ≡ least (flat_map no_function_in_of (map (λ group. group.now) pins.now)) }
 {
-    let mut found = None;
-    for pin in pins {
-        found = lesser(found, no_function_in(pin));
-    }
-    found
+    least_among_held(&NoFunctions, pins)
 }

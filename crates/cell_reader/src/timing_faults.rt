@@ -3,20 +3,24 @@ ghost use Rattle.std.specs.Prelude.{◌≡◌, flat_map};
 ghost use Rattle.timing_arcs.specs.Timing.{least};
 ghost use Rattle.cell_reader.specs.PinTimings.{malformed_timing as malformed_timing_of, unknown_timing as unknown_timing_of, own_timing as own_timing_of, number_timing as number_timing_of};
 
-use cell_parts::least::lesser;
+use crate::scan::{Scan, least_among};
 use timing_arcs::{PinTiming, TimingFault};
 
 /// Where the text of a condition is malformed, in the timing of a pin.
-fn malformed_timing(answer: &Result<PinTiming, TimingFault>) -> Option<usize>
-    ensures { result ≡ least (malformed_timing_of answer.now) }
-{
-    match answer {
-        Ok(_) => None,
-        Err(TimingFault::Malformed(at)) => Some(*at),
-        Err(TimingFault::UnknownName(_)) => None,
-        Err(TimingFault::OwnCondition(_)) => None,
-        Err(TimingFault::Number(_)) => None,
-        Err(TimingFault::Memory) => None,
+struct MalformedTimings;
+
+impl Scan<Result<PinTiming, TimingFault>> for MalformedTimings {
+    ghost places = { malformed_timing_of };
+
+    fn least_in(&self, answer: &Result<PinTiming, TimingFault>) -> Option<usize> {
+        match answer {
+            Ok(_) => None,
+            Err(TimingFault::Malformed(at)) => Some(*at),
+            Err(TimingFault::UnknownName(_)) => None,
+            Err(TimingFault::OwnCondition(_)) => None,
+            Err(TimingFault::Number(_)) => None,
+            Err(TimingFault::Memory) => None,
+        }
     }
 }
 
@@ -24,24 +28,24 @@ fn malformed_timing(answer: &Result<PinTiming, TimingFault>) -> Option<usize>
 pub(crate) fn malformed_timings(answers: &[Result<PinTiming, TimingFault>]) -> Option<usize>
     ensures { result ≡ least (flat_map malformed_timing_of answers.now) }
 {
-    let mut found = None;
-    for answer in answers {
-        found = lesser(found, malformed_timing(answer));
-    }
-    found
+    least_among(&MalformedTimings, answers)
 }
 
 /// Where a related pin or a condition names what is not there, in the timing of a pin.
-fn unknown_timing(answer: &Result<PinTiming, TimingFault>) -> Option<usize>
-    ensures { result ≡ least (unknown_timing_of answer.now) }
-{
-    match answer {
-        Ok(_) => None,
-        Err(TimingFault::UnknownName(at)) => Some(*at),
-        Err(TimingFault::Malformed(_)) => None,
-        Err(TimingFault::OwnCondition(_)) => None,
-        Err(TimingFault::Number(_)) => None,
-        Err(TimingFault::Memory) => None,
+struct UnknownTimings;
+
+impl Scan<Result<PinTiming, TimingFault>> for UnknownTimings {
+    ghost places = { unknown_timing_of };
+
+    fn least_in(&self, answer: &Result<PinTiming, TimingFault>) -> Option<usize> {
+        match answer {
+            Ok(_) => None,
+            Err(TimingFault::UnknownName(at)) => Some(*at),
+            Err(TimingFault::Malformed(_)) => None,
+            Err(TimingFault::OwnCondition(_)) => None,
+            Err(TimingFault::Number(_)) => None,
+            Err(TimingFault::Memory) => None,
+        }
     }
 }
 
@@ -49,24 +53,24 @@ fn unknown_timing(answer: &Result<PinTiming, TimingFault>) -> Option<usize>
 pub(crate) fn unknown_timings(answers: &[Result<PinTiming, TimingFault>]) -> Option<usize>
     ensures { result ≡ least (flat_map unknown_timing_of answers.now) }
 {
-    let mut found = None;
-    for answer in answers {
-        found = lesser(found, unknown_timing(answer));
-    }
-    found
+    least_among(&UnknownTimings, answers)
 }
 
 /// Where a condition names its own pin, in the timing of a pin.
-fn own_timing(answer: &Result<PinTiming, TimingFault>) -> Option<usize>
-    ensures { result ≡ least (own_timing_of answer.now) }
-{
-    match answer {
-        Ok(_) => None,
-        Err(TimingFault::OwnCondition(at)) => Some(*at),
-        Err(TimingFault::Malformed(_)) => None,
-        Err(TimingFault::UnknownName(_)) => None,
-        Err(TimingFault::Number(_)) => None,
-        Err(TimingFault::Memory) => None,
+struct OwnTimings;
+
+impl Scan<Result<PinTiming, TimingFault>> for OwnTimings {
+    ghost places = { own_timing_of };
+
+    fn least_in(&self, answer: &Result<PinTiming, TimingFault>) -> Option<usize> {
+        match answer {
+            Ok(_) => None,
+            Err(TimingFault::OwnCondition(at)) => Some(*at),
+            Err(TimingFault::Malformed(_)) => None,
+            Err(TimingFault::UnknownName(_)) => None,
+            Err(TimingFault::Number(_)) => None,
+            Err(TimingFault::Memory) => None,
+        }
     }
 }
 
@@ -74,24 +78,24 @@ fn own_timing(answer: &Result<PinTiming, TimingFault>) -> Option<usize>
 pub(crate) fn own_timings(answers: &[Result<PinTiming, TimingFault>]) -> Option<usize>
     ensures { result ≡ least (flat_map own_timing_of answers.now) }
 {
-    let mut found = None;
-    for answer in answers {
-        found = lesser(found, own_timing(answer));
-    }
-    found
+    least_among(&OwnTimings, answers)
 }
 
 /// Where a time is none, in the timing of a pin.
-fn number_timing(answer: &Result<PinTiming, TimingFault>) -> Option<usize>
-    ensures { result ≡ least (number_timing_of answer.now) }
-{
-    match answer {
-        Ok(_) => None,
-        Err(TimingFault::Number(at)) => Some(*at),
-        Err(TimingFault::Malformed(_)) => None,
-        Err(TimingFault::UnknownName(_)) => None,
-        Err(TimingFault::OwnCondition(_)) => None,
-        Err(TimingFault::Memory) => None,
+struct NumberTimings;
+
+impl Scan<Result<PinTiming, TimingFault>> for NumberTimings {
+    ghost places = { number_timing_of };
+
+    fn least_in(&self, answer: &Result<PinTiming, TimingFault>) -> Option<usize> {
+        match answer {
+            Ok(_) => None,
+            Err(TimingFault::Number(at)) => Some(*at),
+            Err(TimingFault::Malformed(_)) => None,
+            Err(TimingFault::UnknownName(_)) => None,
+            Err(TimingFault::OwnCondition(_)) => None,
+            Err(TimingFault::Memory) => None,
+        }
     }
 }
 
@@ -99,9 +103,5 @@ fn number_timing(answer: &Result<PinTiming, TimingFault>) -> Option<usize>
 pub(crate) fn number_timings(answers: &[Result<PinTiming, TimingFault>]) -> Option<usize>
     ensures { result ≡ least (flat_map number_timing_of answers.now) }
 {
-    let mut found = None;
-    for answer in answers {
-        found = lesser(found, number_timing(answer));
-    }
-    found
+    least_among(&NumberTimings, answers)
 }

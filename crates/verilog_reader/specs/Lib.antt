@@ -1,10 +1,2 @@
-pub mod Headers
-pub mod Begun
 pub mod File
-pub mod Checks
 pub mod TextLaws
-pub mod FirstNames
-pub mod SameNames
-pub mod DrivenNets
-pub mod Netlist
-pub mod Terminals

@@ -6,14 +6,11 @@ ghost use Rattle.specify_blocks.specs.VerilogText as spec;
 ghost use Rattle.verilog_reader.specs.File.{before_of, modules_of, module_end};
 ghost use Rattle.rule_readers.specs.Reading.{Reads, ReadsAs};
 
-use crate::checks::specify;
-use crate::declarations::declarations;
-use crate::instances::instances;
-use crate::netlist::Netlist;
-use crate::terminals::are_all_driven;
 use bool_functions::Names;
+use netlist_reader::{Netlist, are_all_driven, module_declarations, module_instances};
 use rule_readers::{Cursor, Language, Refusal, Stop};
 use specify_blocks::VModule;
+use specify_reader::specify;
 use sqlite_items::Items;
 use std::alloc::Global;
 use udp_reader::{Verilog, declare, primitive};
@@ -110,8 +107,8 @@ fn one_module(
     ensures added { IfOk result (λ model. names.new ≡ names.old ++ model.name ∷ []) }
 {
     let name = declare(cursor, alloc, names)?;
-    let declared = declarations(cursor, alloc, name, udps)?;
-    let joined = instances(cursor, alloc, declared)?;
+    let declared = module_declarations(cursor, alloc, name, udps)?;
+    let joined = module_instances(cursor, alloc, declared)?;
     let whole = specify(cursor, alloc, joined)?;
     module_end(cursor, whole)
 }

@@ -1,0 +1,211 @@
+//! A module that finds each of its nets, and what drives it, in the time of one look-up.
+
+ghost use Rattle.std.specs.Prelude.{◌≡◌, IfOk, IfErr};
+ghost use Rattle.specify_blocks.specs.VerilogModules.{port_name};
+ghost use Rattle.netlist_reader.specs.FirstNames.{own_name};
+ghost use Rattle.netlist_reader.specs.Netlist.{MayFind};
+
+use crate::driven_nets::{DrivenNets, driven_nets};
+use crate::first_names::{FirstNames, port_names, wire_names};
+use crate::nets::{FEW, has_state, is_driven_already, is_state, is_value, port_of, wire_of};
+use rule_readers::Stop;
+use specify_blocks::{Instance, VModule, VNet, VPath};
+use sqlite_items::Items;
+use std::alloc::Global;
+use std::marker::Model;
+use udp_tables::{TimingCheck, VPort};
+
+/// A module. Contracts see it alone. Beside it stand the names of its ports, where there are more than a few, those of its wires
+/// likewise, and which nets are driven.
+#[derive(Drop)]
+pub struct Netlist {
+    model: VModule,
+    ports: Option<FirstNames>,
+    wires: Option<FirstNames>,
+    driven: DrivenNets,
+}
+
+impl Model for Netlist {
+    ghost use Rattle.specify_blocks.specs.declared.model.VModule.{VModule};
+    ghost use Rattle.netlist_reader.specs.Netlist.{AreKeptOf};
+
+    ghost Value = { VModule };
+
+    ghost view = { λ n. n.model };
+
+    ghost invariant = { λ n. AreKeptOf n.model n.ports n.wires n.driven };
+}
+
+/// The names of these ports, where there are more than a few.
+fn many_ports(alloc: Global, ports: &[VPort]) -> Result<Option<FirstNames>, Stop>
+    ensures first { IfOk result (λ found. MayFind port_name found ports.now) }
+    ensures memory { IfErr result (λ stop. stop ≡ Stop.Memory) }
+{
+    if ports.len() <= FEW {
+        return Ok(None);
+    }
+    let names = port_names(alloc, ports)?;
+    Ok(Some(names))
+}
+
+/// The names of these wires, where there are more than a few.
+fn many_wires(alloc: Global, wires: &[Items<u8>]) -> Result<Option<FirstNames>, Stop>
+    ensures first { IfOk result (λ found. MayFind own_name found wires.now) }
+    ensures memory { IfErr result (λ stop. stop ≡ Stop.Memory) }
+{
+    if wires.len() <= FEW {
+        return Ok(None);
+    }
+    let names = wire_names(alloc, wires)?;
+    Ok(Some(names))
+}
+
+impl Netlist {
+    ghost use Rattle.std.specs.Prelude.{◌≡◌, IfErr, IfOk, OnOk};
+    ghost use Rattle.std.specs.List.{position};
+    ghost use Rattle.std.specs.Str.{bytes_eq};
+    ghost use Rattle.specify_blocks.specs.declared.model.VNet.TheVariants as net;
+    ghost use Rattle.specify_blocks.specs.Nets as nets;
+    ghost use Rattle.specify_blocks.specs.VerilogModules.{is_driven_already, with_instance};
+    ghost use Rattle.specify_blocks.specs.VerilogBlocks.{port_of, with_block};
+
+    /// A module, with what finds its nets.
+    pub fn new(alloc: Global, model: VModule) -> Result<Netlist, Stop>
+        ensures same { IfOk result (λ made. made ≡ model) }
+        ensures memory { IfErr result (λ stop. stop ≡ Stop.Memory) }
+    {
+        let ports = many_ports(alloc, model.ports.as_slice())?;
+        let wires = many_wires(alloc, model.wires.as_slice())?;
+        let driven = driven_nets(alloc, &model)?;
+        Ok(Netlist {
+            model,
+            ports,
+            wires,
+            driven,
+        })
+    }
+
+    /// The module.
+    pub fn module(&self) -> &VModule
+        ensures { result.now ≡ self.now }
+    {
+        &self.model
+    }
+
+    /// The module, alone.
+    pub fn into_module(self) -> VModule
+        ensures { result ≡ self }
+    {
+        let Netlist { model, .. } = self;
+        model
+    }
+
+    /// The number of the port with this name.
+    #[tactic(auto, using(crate::proofs::FoundNets::port_found))]
+    pub fn port_of(&self, name: &[u8]) -> Option<usize>
+        ensures { result ≡ port_of self.now name.now }
+    {
+        match &self.ports {
+            Some(found) => found.number(name),
+            None => port_of(&self.model, name),
+        }
+    }
+
+    /// The number of the wire with this name.
+    #[tactic(auto, using(crate::proofs::FoundNets::wire_found))]
+    pub fn wire_of(&self, name: &[u8]) -> Option<usize>
+        ensures { result ≡ position (bytes_eq name.now) self.now.wires }
+    {
+        match &self.wires {
+            Some(found) => found.number(name),
+            None => wire_of(self.model.wires.as_slice(), name),
+        }
+    }
+
+    /// Whether an instance with a state drives this wire.
+    #[tactic(auto, using(crate::proofs::FoundNets::state_told))]
+    pub fn is_state(&self, wire: usize) -> bool
+        ensures { result ≡ nets.is_state self.now self.now.instances wire }
+    {
+        match self.driven.states.get(wire) {
+            Some(told) => *told,
+            None => is_state(&self.model, wire),
+        }
+    }
+
+    /// Whether an instance without a state drives this wire.
+    #[tactic(auto, using(crate::proofs::FoundNets::value_told))]
+    pub fn is_value(&self, wire: usize) -> bool
+        ensures { result ≡ nets.is_value self.now self.now.instances wire }
+    {
+        match self.driven.values.get(wire) {
+            Some(told) => *told,
+            None => is_value(&self.model, wire),
+        }
+    }
+
+    /// Whether an instance drives this port.
+    #[tactic(auto, using(crate::proofs::FoundNets::port_told))]
+    fn is_port_driven(&self, port: usize) -> bool
+        ensures { result ≡ is_driven_already self.now (net.Port port) }
+    {
+        match self.driven.ports.get(port) {
+            Some(told) => *told,
+            None => is_driven_already(&self.model, VNet::Port(port)),
+        }
+    }
+
+    /// Whether an instance drives this wire.
+    #[tactic(auto, using(crate::proofs::FoundNets::wire_first, crate::proofs::FoundNets::wire_second))]
+    fn is_wire_driven(&self, wire: usize) -> bool
+        ensures { result ≡ is_driven_already self.now (net.Wire wire) }
+    {
+        match (self.driven.states.get(wire), self.driven.values.get(wire)) {
+            (Some(state), Some(value)) => *state || *value,
+            _ => is_driven_already(&self.model, VNet::Wire(wire)),
+        }
+    }
+
+    /// Whether an instance drives the net.
+    pub fn is_driven(&self, net: VNet) -> bool
+        ensures { result ≡ is_driven_already self.now net }
+    {
+        match net {
+            VNet::Port(port) => self.is_port_driven(port),
+            VNet::Wire(wire) => self.is_wire_driven(wire),
+            VNet::Notifier => is_driven_already(&self.model, net),
+        }
+    }
+
+    /// Puts an instance behind the others.
+    pub fn join(&mut self, instance: Instance) -> Result<(), Stop>
+        ensures joined { OnOk result (self.new ≡ with_instance self.old instance) }
+        ensures memory { IfErr result (λ stop. stop ≡ Stop.Memory) }
+    {
+        let net = instance.net_driven();
+        let stateful = has_state(self.model.udps.as_slice(), &instance);
+        self.model.instances.push(instance)?;
+        self.driven.drive(stateful, net);
+        Ok(())
+    }
+
+    /// The module with the paths and checks of its specify block.
+    pub fn with_block(self, paths: Items<VPath>, checks: Items<TimingCheck>) -> Netlist
+        ensures { result ≡ with_block self paths checks }
+    {
+        let Netlist {
+            mut model,
+            ports,
+            wires,
+            driven,
+        } = self;
+        model.paths = paths;
+        model.checks = checks;
+        Netlist {
+            model,
+            ports,
+            wires,
+            driven,
+        }
+    }
+}

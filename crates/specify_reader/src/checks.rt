@@ -1,0 +1,204 @@
+//! Specify blocks, and their timing checks. (IEEE 1364-2005, 14.1, 15.2 and 15.3.)
+
+ghost use Rattle.std.specs.Prelude.{◌≡◌, IfOk};
+ghost use Rattle.grammar_rules.specs.Reading.{read};
+ghost use Rattle.specify_blocks.specs.VerilogBlocks as spec;
+ghost use Rattle.rule_readers.specs.Reading.{Reads};
+ghost use Rattle.specify_reader.specs.Checks.{limited};
+
+use crate::check_parts::{an_edge_event, an_event, check_end, condition};
+use crate::numbers::number;
+use crate::paths::paths;
+use crate::period_lines::period_check;
+use cell_machine::{CheckKind, Edge, Event};
+use netlist_reader::Netlist;
+use rule_readers::{Cursor, Language, Stop};
+use sqlite_items::Items;
+use std::alloc::Global;
+use udp_reader::Verilog;
+use udp_tables::TimingCheck;
+
+/// The edge with which a pulse ends that begins with this one.
+fn opposite(edge: Edge) -> Edge
+    ensures { result ≡ spec.opposite edge }
+{
+    match edge {
+        Edge::Any => Edge::Any,
+        Edge::Rise => Edge::Fall,
+        Edge::Fall => Edge::Rise,
+    }
+}
+
+/// The check that a word begins.
+fn check_of(token: &[u8]) -> Option<CheckKind>
+    ensures { result ≡ spec.check_of token.now }
+{
+    if Verilog::is_same(token, b"$setup") {
+        Some(CheckKind::Setup)
+    } else if Verilog::is_same(token, b"$hold") {
+        Some(CheckKind::Hold)
+    } else if Verilog::is_same(token, b"$recovery") {
+        Some(CheckKind::Recovery)
+    } else if Verilog::is_same(token, b"$removal") {
+        Some(CheckKind::Removal)
+    } else if Verilog::is_same(token, b"$width") {
+        Some(CheckKind::Width)
+    } else if Verilog::is_same(token, b"$period") {
+        Some(CheckKind::Period)
+    } else {
+        None
+    }
+}
+
+/// The limit and the end of a check of these events, behind its last event and its condition.
+#[tactic(auto, unfolding(crate::specs::Checks::limited))]
+fn limited(
+    cursor: &mut Cursor<'_, Verilog>,
+    model: &Netlist,
+    kind: CheckKind,
+    first: Event,
+    second: Event,
+    condition: Option<usize>,
+) -> Result<TimingCheck, Stop>
+    ensures { Reads (read (limited model.now kind first second condition) cursor.old) result cursor.new }
+{
+    cursor.expect(b",")?;
+    let limit = number(cursor)?;
+    check_end(cursor, model)?;
+    Ok(TimingCheck {
+        kind,
+        first,
+        second,
+        limit,
+        condition,
+    })
+}
+
+/// A check whose first argument is the earlier event.
+#[tactic(auto, unfolding(specify_blocks::specs::VerilogBlocks::ordered_check, crate::specs::Checks::limited))]
+fn ordered_check(
+    cursor: &mut Cursor<'_, Verilog>,
+    kind: CheckKind,
+    model: &Netlist,
+) -> Result<TimingCheck, Stop>
+    ensures { Reads (read (spec.ordered_check kind model.now) cursor.old) result cursor.new }
+{
+    let first = an_event(cursor, model)?;
+    cursor.expect(b",")?;
+    let second = an_event(cursor, model)?;
+    let condition = condition(cursor, model)?;
+    limited(cursor, model, kind, first, second, condition)
+}
+
+/// A check whose first argument is the later event.
+#[tactic(auto, unfolding(specify_blocks::specs::VerilogBlocks::turned_check, crate::specs::Checks::limited))]
+fn turned_check(
+    cursor: &mut Cursor<'_, Verilog>,
+    kind: CheckKind,
+    model: &Netlist,
+) -> Result<TimingCheck, Stop>
+    ensures { Reads (read (spec.turned_check kind model.now) cursor.old) result cursor.new }
+{
+    let second = an_event(cursor, model)?;
+    let condition = condition(cursor, model)?;
+    cursor.expect(b",")?;
+    let first = an_event(cursor, model)?;
+    limited(cursor, model, kind, first, second, condition)
+}
+
+/// The width of a pulse.
+#[tactic(auto, unfolding(specify_blocks::specs::VerilogBlocks::width_check))]
+fn width_check(cursor: &mut Cursor<'_, Verilog>, model: &Netlist) -> Result<TimingCheck, Stop>
+    ensures { Reads (read (spec.width_check model.now) cursor.old) result cursor.new }
+{
+    let first = an_edge_event(cursor, model)?;
+    let condition = condition(cursor, model)?;
+    cursor.expect(b",")?;
+    let limit = number(cursor)?;
+    cursor.expect(b",")?;
+    cursor.expect(b"0")?;
+    check_end(cursor, model)?;
+    let second = Event {
+        pin: first.pin,
+        edge: opposite(first.edge),
+    };
+    Ok(TimingCheck {
+        kind: CheckKind::Width,
+        first,
+        second,
+        limit,
+        condition,
+    })
+}
+
+/// A check of a kind, behind its bracket.
+#[tactic(auto, unfolding(specify_blocks::specs::VerilogBlocks::check_of_kind))]
+fn check_of_kind(
+    cursor: &mut Cursor<'_, Verilog>,
+    model: &Netlist,
+    kind: CheckKind,
+) -> Result<TimingCheck, Stop>
+    ensures { Reads (read (spec.check_of_kind model.now kind) cursor.old) result cursor.new }
+{
+    match kind {
+        CheckKind::Setup | CheckKind::Hold | CheckKind::Recovery => {
+            ordered_check(cursor, kind, model)
+        }
+        CheckKind::Removal => turned_check(cursor, kind, model),
+        CheckKind::Width => width_check(cursor, model),
+        CheckKind::Period => period_check(cursor, model),
+    }
+}
+
+/// A check, behind its word.
+#[tactic(auto, unfolding(specify_blocks::specs::VerilogBlocks::check))]
+fn check(
+    cursor: &mut Cursor<'_, Verilog>,
+    model: &Netlist,
+    kind: CheckKind,
+) -> Result<TimingCheck, Stop>
+    ensures { Reads (read (spec.check model.now kind) cursor.old) result cursor.new }
+{
+    cursor.expect(b"(")?;
+    check_of_kind(cursor, model, kind)
+}
+
+/// The checks of a specify block.
+#[tactic(auto, using(rule_readers::proofs::Repeats::turn, rule_readers::proofs::Choices::choose_as, rule_readers::proofs::Choices::choose_not_as), unfolding(specify_blocks::specs::VerilogBlocks::checks, specify_blocks::specs::VerilogBlocks::next_check))]
+fn checks(
+    cursor: &mut Cursor<'_, Verilog>,
+    alloc: Global,
+    model: &Netlist,
+) -> Result<Items<TimingCheck>, Stop>
+    ensures { Reads (read (spec.checks model.now) cursor.old) result cursor.new }
+{
+    let mut checks = Items::new(alloc);
+    for _turn in 0..cursor.left() {
+        let Some(kind) = check_of(cursor.bytes()) else {
+            break;
+        };
+        cursor.skip();
+        checks.push(check(cursor, model, kind)?)?;
+    }
+    Ok(checks)
+}
+
+/// The specify block of a module, if there is one: the module with its paths and checks.
+#[tactic(auto, using(udp_reader::proofs::Words::choose_begun, udp_reader::proofs::Words::choose_other), unfolding(specify_blocks::specs::VerilogBlocks::specify, specify_blocks::specs::VerilogBlocks::block))]
+pub fn specify(
+    cursor: &mut Cursor<'_, Verilog>,
+    alloc: Global,
+    joined: Netlist,
+) -> Result<Netlist, Stop>
+    ensures reads { Reads (read (spec.specify joined) cursor.old) result cursor.new }
+    ensures named { IfOk result (λ model. model.name ≡ joined.name) }
+{
+    if !cursor.is_next(b"specify") {
+        return Ok(joined);
+    }
+    cursor.skip();
+    let paths = paths(cursor, alloc, &joined)?;
+    let checks = checks(cursor, alloc, &joined)?;
+    cursor.expect(b"endspecify")?;
+    Ok(joined.with_block(paths, checks))
+}

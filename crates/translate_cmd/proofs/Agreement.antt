@@ -36,15 +36,15 @@ use Rattle.library_items.specs.declared.ending.NotWhole.TheVariants as not_whole
 use Rattle.library_items.specs.Progress.{no_progress}
 use Rattle.library_items.specs.Endings.{library_limit, ending_of}
 use Rattle.library_items.specs.KeptCells.{kept_cells, cells_by}
-use Rattle.translate_cmd.specs.Library.{translate_outcome}
-use Rattle.translate_cmd.specs.LibraryAnswers.{library_answer, answer_by, library_stop}
-use Rattle.translate_cmd.specs.ModelAnswers.{stop_of, or_stop, model_answer}
-use Rattle.translate_cmd.specs.Simulate.{behind_cells, behind_modules, behind_entities}
+use Rattle.library_translation.specs.Library.{translate_outcome}
+use Rattle.model_simulation.specs.LibraryAnswers.{library_answer, answer_by, library_stop}
+use Rattle.model_simulation.specs.ModelAnswers.{stop_of, or_stop, model_answer}
+use Rattle.model_simulation.specs.Simulate.{behind_cells, behind_modules, behind_entities}
 use Rattle.translate_cmd.specs.TranslatedModels.{modules_in, entities_in}
 use Rattle.translate_cmd.specs.Agreement.{Agrees, OwnModelsAgree}
 use Rattle.translate_cmd.proofs.AcceptedCells.{modules-well-formed, entities-well-formed}
 use Rattle.translate_cmd.proofs.KeptModels.{kept_modules, kept_entities, kept_rules}
-use Rattle.translate_cmd.proofs.OwnNames.{modules_apart, entities_apart}
+use Rattle.model_simulation.proofs.OwnNames.{modules_apart, entities_apart}
 use Rattle.translate_cmd.proofs.ReadBack.{libraries-read-back}
 
 -- the cells that are kept of a library

@@ -11,11 +11,11 @@ use Rattle.command_outcomes.specs.Binding.{Files, bound_state, AreNamed, took_al
 use Rattle.command_outcomes.specs.Outcome.{Outcome}
 use Rattle.command_outcomes.specs.Runs.{RunsAs}
 use Rattle.command_outcomes.proofs.WrittenLaws.{wrote_all-report}
-use Rattle.translate_cmd.specs.declared.asked.Command.{Command}
-use Rattle.translate_cmd.specs.declared.asked.Command.TheVariants as command
-use Rattle.translate_cmd.specs.Reading.{reading}
-use Rattle.translate_cmd.specs.Library.{translate_outcome}
-use Rattle.translate_cmd.specs.Simulate.{simulate_files, simulate_outcome, simulate_of}
+use Rattle.command_words.specs.declared.commands.Command.{Command}
+use Rattle.command_words.specs.declared.commands.Command.TheVariants as command
+use Rattle.command_words.specs.Reading.{reading}
+use Rattle.library_translation.specs.Library.{translate_outcome}
+use Rattle.model_simulation.specs.Simulate.{simulate_files, simulate_outcome, simulate_of}
 use Rattle.translate_cmd.specs.Outcome.{files_of, outcome_of}
 use Rattle.translate_cmd.specs.Runs.{Runs}
 use Rattle.translate_cmd.specs.Agreement.{Agrees, ReportsAllEqual}

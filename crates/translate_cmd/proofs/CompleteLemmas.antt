@@ -11,15 +11,15 @@ use Rattle.command_outcomes.specs.declared.status.Status.{Status}
 use Rattle.command_outcomes.specs.declared.status.Status.TheVariants as status
 use Rattle.library_items.specs.declared.ending.Ending.{Ending}
 use Rattle.library_items.specs.declared.ending.Ending.TheVariants as ending
-use Rattle.translate_cmd.specs.declared.asked.Command.{Command}
-use Rattle.translate_cmd.specs.declared.asked.Command.TheVariants as command
+use Rattle.command_words.specs.declared.commands.Command.{Command}
+use Rattle.command_words.specs.declared.commands.Command.TheVariants as command
 use Rattle.command_outcomes.specs.Status.{is_decided}
-use Rattle.translate_cmd.specs.Reading.{reading}
+use Rattle.command_words.specs.Reading.{reading}
 use Rattle.command_outcomes.specs.Written.{Written, wrote_all}
 use Rattle.command_outcomes.specs.Outcome.{Outcome}
 use Rattle.command_outcomes.specs.Binding.{Files, bound_state, AreNamed, took_all, Tells, bytes_at}
 use Rattle.library_items.specs.Endings.{library_limit, ending_of}
-use Rattle.translate_cmd.specs.Library.{outcome_at}
+use Rattle.library_translation.specs.Library.{outcome_at}
 use Rattle.translate_cmd.specs.Outcome.{files_of, outcome_of, outcome}
 use Rattle.translate_cmd.specs.Runs.{Runs}
 use Rattle.translate_cmd.specs.Complete.{IsWholeLibrary, CanBeSimulated, CanBeDone, IsAllDone, Completes}
@@ -27,9 +27,9 @@ use Rattle.library_items.specs.KeptCells.{kept_cells, cells_by}
 use Rattle.library_items.specs.Progress.{no_progress}
 use Rattle.simulation_catalog.specs.Catalog.{cells_named}
 use Rattle.simulation_catalog.specs.Comparisons.{any_differs}
-use Rattle.translate_cmd.specs.LibraryAnswers.{answer_by}
-use Rattle.translate_cmd.specs.Simulate.{simulate_files, simulate_outcome}
-use Rattle.translate_cmd.proofs.WholeSimulations.{model_whole, stimulus_whole, simulated_whole}
+use Rattle.model_simulation.specs.LibraryAnswers.{answer_by}
+use Rattle.model_simulation.specs.Simulate.{simulate_files, simulate_outcome}
+use Rattle.model_simulation.proofs.WholeSimulations.{model_whole, stimulus_whole, simulated_whole}
 use Rattle.model_replay.specs.declared.format.ModelFormat.TheVariants as format
 use Rattle.model_replay.specs.Languages.{Language}
 use Rattle.model_replay.specs.Outcome.{replay_files, replay_outcome}

@@ -1,13 +1,13 @@
 -- An entity is named by which names are given before it, however these are listed.
-use Rattle.std.proofs.Common.{◌≡◌, ℕ, Bool, true, false, ◌&&◌, ◌||◌, not, List, [], ◌∷◌, ◌++◌, codes, decimal, refl, sym, ap, subst, ◌∙◌, Option, Some, None, is_some, if◌then◌else◌}
+use Rattle.std.proofs.Common.{◌≡◌, ℕ, Bool, true, false, ◌&&◌, ◌||◌, not, List, [], ◌∷◌, ◌++◌, codes, decimal, refl, sym, ap, subst, ◌∙◌, is_some, if◌then◌else◌}
 use Rattle.std.specs.List.{list_any}
 use Rattle.std.specs.Str.{bytes_eq}
 use Rattle.std.proofs.lemmas.List.Folds.{list_any-append}
 use Rattle.std.proofs.lemmas.Slice.Eq.{bytes_eq-Decides}
 use Rattle.bool_functions.specs.NameList.{number_of}
-use Rattle.bool_functions.proofs.NameLists.{position-none, position-some}
 use Rattle.liberty_groups.specs.declared.tree.Group.{Group}
 use Rattle.cell_parts.specs.Groups.{cell_name}
+use Rattle.cell_parts.proofs.Clashes.{found_is}
 use Rattle.vhdl_names.specs.Kept.{is_identifier, is_free, is_numbered, lowered}
 use Rattle.vital_models.specs.Kept.{is_kept_entity_name, entity_name}
 use Rattle.library_items.specs.declared.progress.Progress.{Progress}
@@ -17,18 +17,6 @@ use Rattle.library_items.specs.Progress.{next_number, names_with, next_data, nex
 abbrev pub AreAlike : List (List ℕ) → List (List ℕ) → Type 0
 AreAlike given known = (name : List ℕ) → list_any (bytes_eq name) given ≡ list_any (bytes_eq name) known
 
--- a name has a number where the list holds it
-some_of : (o : Option ℕ) → (o ≡ None → ⊥) → is_some o ≡ true
-some_of None h = absurd (h refl)
-some_of (Some i) h = refl
-
-pub held : (names : List (List ℕ)) (name : List ℕ) → is_some (number_of names name) ≡ list_any (bytes_eq name) names
-held names name = by (list_any (bytes_eq name) names) refl
-  where
-    by : (b : Bool) → list_any (bytes_eq name) names ≡ b → is_some (number_of names name) ≡ b
-    by true e = some_of (number_of names name) (position-some (bytes_eq name) names e)
-    by false e = ap is_some (position-none (bytes_eq name) names e)
-
 -- the names of the entities so far tell the next one
 pub named_alike :
     (number : ℕ) (given known : List (List ℕ)) (name : List ℕ) → AreAlike given known → entity_name number given name ≡ entity_name number known name
@@ -37,7 +25,7 @@ named_alike number given known name h =
     ap
     (λ (b : Bool).
     if is_identifier name && (is_free name && (not (is_numbered (codes "cell") name) && not b)) then name else codes "cell" ++ decimal number)
-    (held given (lowered name) ∙ h (lowered name) ∙ sym (held known (lowered name)))
+    (found_is given (lowered name) ∙ h (lowered name) ∙ sym (found_is known (lowered name)))
 
 -- a list that holds a name already holds the same names with it
 same_with : (known : List (List ℕ)) (x name : List ℕ) → list_any (bytes_eq x) known ≡ true
@@ -52,7 +40,7 @@ same_with known x name e = by (list_any (bytes_eq name) known) (bytes_eq name x)
 -- one more name, which the second list is given once
 pub alike_with : (given known : List (List ℕ)) (x : List ℕ) → AreAlike given known → AreAlike (given ++ x ∷ []) (names_with known x)
 alike_with given known x h name =
-    list_any-append (bytes_eq name) given (x ∷ []) ∙ ap (λ (a : Bool). a || (bytes_eq name x || false)) (h name) ∙ by (is_some (number_of known x)) (held known x)
+    list_any-append (bytes_eq name) given (x ∷ []) ∙ ap (λ (a : Bool). a || (bytes_eq name x || false)) (h name) ∙ by (is_some (number_of known x)) (found_is known x)
   where
     by : (b : Bool) → b ≡ list_any (bytes_eq x) known
         → (list_any (bytes_eq name) known || (bytes_eq name x || false)) ≡ list_any (bytes_eq name) (if b then known else known ++ x ∷ [])

@@ -14,9 +14,9 @@ use Rattle.vhdl_writer.specs.Entity.{entity_text}
 use Rattle.generated_entities.specs.Library.{entities_behind}
 use Rattle.library_items.specs.declared.progress.Progress.{Progress}
 use Rattle.library_items.specs.Progress.{no_progress, next_refusal, next_data, next_left_out, next_entity, entity_by, after_cell, after_item}
-use Rattle.translate_cmd.specs.Cells.{models_written, accepted_written, vital_text, written_by, items_written}
+use Rattle.library_translation.specs.Cells.{models_written, accepted_written, vital_text, written_by, items_written}
 use Rattle.library_items.specs.Endings.{library_limit}
-use Rattle.translate_cmd.specs.Library.{outcome_at}
+use Rattle.library_translation.specs.Library.{outcome_at}
 use Rattle.translate_cmd.specs.TranslatedModels.{cells_by, accepted_cells}
 use Rattle.translate_cmd.specs.TranslatedLaws.{VitalIsOfEntities}
 use Rattle.translate_cmd.proofs.EntityNames.{AreAlike, alike_with, its_entity}

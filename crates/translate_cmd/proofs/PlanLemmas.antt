@@ -6,10 +6,10 @@ use Rattle.text_io.specs.Plan.{plan, are_file_words}
 use Rattle.udp_tables.specs.declared.table.Udp.{Udp}
 use Rattle.model_replay.specs.declared.format.ModelFormat.{ModelFormat}
 use Rattle.model_replay.specs.declared.format.ModelFormat.TheVariants as format
-use Rattle.translate_cmd.specs.declared.asked.Command.{Command}
-use Rattle.translate_cmd.specs.declared.asked.Command.TheVariants as command
-use Rattle.translate_cmd.specs.Reading.{reading, udp_reading, udp_command, asked_primitive, selftest_reading, selftest_command, translate_reading, simulate_reading, replay_reading, file_reading}
-use Rattle.translate_cmd.specs.Numerals.{asked_cells}
+use Rattle.command_words.specs.declared.commands.Command.{Command}
+use Rattle.command_words.specs.declared.commands.Command.TheVariants as command
+use Rattle.command_words.specs.Reading.{reading, udp_reading, udp_command, asked_primitive, selftest_reading, selftest_command, translate_reading, simulate_reading, replay_reading, file_reading}
+use Rattle.command_words.specs.Numerals.{asked_cells}
 use Rattle.translate_cmd.specs.Outcome.{files_of}
 
 -- the command has files

@@ -6,7 +6,7 @@ use Rattle.written_modules.specs.Laws.{modules_text}
 use Rattle.written_modules.proofs.FileReading.{read_back}
 use Rattle.written_entities.specs.Laws.{entities_text}
 use Rattle.written_entities.proofs.EntityFile.{entities_read_back}
-use Rattle.translate_cmd.specs.Library.{translate_outcome}
+use Rattle.library_translation.specs.Library.{translate_outcome}
 use Rattle.translate_cmd.specs.TranslatedModels.{modules_in, entities_in}
 use Rattle.translate_cmd.specs.TranslatedLaws.{ReadsAsModules, ReadsAsEntities, LibrariesReadBack}
 use Rattle.translate_cmd.proofs.AcceptedCells.{modules-well-formed, entities-well-formed}

@@ -12,13 +12,13 @@ use Rattle.selftest_runs.specs.Report.{report_text}
 use Rattle.command_outcomes.specs.declared.status.Status.{Status}
 use Rattle.command_outcomes.specs.declared.status.Status.TheVariants.{Done, Usage, Outside, Memory}
 use Rattle.command_outcomes.proofs.RunsLaws.{RunsUnread, report_runs, faults_runs, nothing_runs as did_nothing}
-use Rattle.translate_cmd.specs.declared.asked.Command.TheVariants as command
-use Rattle.translate_cmd.specs.Reading.{reading}
+use Rattle.command_words.specs.declared.commands.Command.TheVariants as command
+use Rattle.command_words.specs.Reading.{reading}
 use Rattle.translate_cmd.specs.Outcome.{files_of, outcome, outcome_of}
 use Rattle.command_outcomes.specs.Binding.{bytes_at}
-use Rattle.translate_cmd.specs.Models.{HoldsModels}
+use Rattle.library_translation.specs.Models.{HoldsModels}
 use Rattle.translate_cmd.specs.Runs.{Runs}
-use Rattle.translate_cmd.proofs.ModelsLemmas.{no_model_owed}
+use Rattle.library_translation.proofs.ModelsLemmas.{no_model_owed}
 
 -- a run that has read nothing owes no models
 unread_runs : (old new : DeskState) (result : Status) → RunsUnread (files_of (reading old.words)) (outcome old.words) old new result → Runs old new result

@@ -9,9 +9,9 @@ use Rattle.simulation_catalog.specs.Catalog.{cells_named}
 use Rattle.simulation_catalog.specs.Comparisons.{sections_text}
 use Rattle.simulation_catalog.specs.Generated.{SaysEqual}
 use Rattle.simulation_catalog.specs.StimulusFile.{stimulus_answer}
-use Rattle.translate_cmd.specs.Library.{translate_outcome}
-use Rattle.translate_cmd.specs.LibraryAnswers.{library_answer}
-use Rattle.translate_cmd.specs.Simulate.{simulate_outcome}
+use Rattle.library_translation.specs.Library.{translate_outcome}
+use Rattle.model_simulation.specs.LibraryAnswers.{library_answer}
+use Rattle.model_simulation.specs.Simulate.{simulate_outcome}
 use Rattle.translate_cmd.specs.TranslatedModels.{modules_in, entities_in}
 
 -- what simulating a library beside its own models comes to: the Verilog and the VHDL that translating it writes

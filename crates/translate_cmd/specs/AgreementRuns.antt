@@ -6,10 +6,10 @@ use Rattle.text_io.specs.Desk.{DeskState, Folder, wrote}
 use Rattle.command_outcomes.specs.declared.status.Status.{Status}
 use Rattle.command_outcomes.specs.declared.status.Status.TheVariants as status
 use Rattle.command_outcomes.specs.Binding.{bound_state, AreNamed, took_all, Tells, bytes_at}
-use Rattle.translate_cmd.specs.declared.asked.Command.TheVariants as command
-use Rattle.translate_cmd.specs.Reading.{reading}
-use Rattle.translate_cmd.specs.Library.{translate_outcome}
-use Rattle.translate_cmd.specs.Simulate.{simulate_files}
+use Rattle.command_words.specs.declared.commands.Command.TheVariants as command
+use Rattle.command_words.specs.Reading.{reading}
+use Rattle.library_translation.specs.Library.{translate_outcome}
+use Rattle.model_simulation.specs.Simulate.{simulate_files}
 use Rattle.translate_cmd.specs.Agreement.{SaysAllEqual}
 
 -- the files of models that these words name hold the Verilog and the VHDL that translating the library that they name writes

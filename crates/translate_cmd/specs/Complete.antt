@@ -6,9 +6,9 @@ use Rattle.text_io.specs.declared.slots.InSlot.{InSlot}
 use Rattle.text_io.specs.Desk.{DeskState, Folder}
 use Rattle.command_outcomes.specs.declared.status.Status.{Status}
 use Rattle.command_outcomes.specs.declared.status.Status.TheVariants as status
-use Rattle.translate_cmd.specs.declared.asked.Command.{Command}
-use Rattle.translate_cmd.specs.declared.asked.Command.TheVariants as command
-use Rattle.translate_cmd.specs.Reading.{reading}
+use Rattle.command_words.specs.declared.commands.Command.{Command}
+use Rattle.command_words.specs.declared.commands.Command.TheVariants as command
+use Rattle.command_words.specs.Reading.{reading}
 use Rattle.command_outcomes.specs.Written.{wrote_all}
 use Rattle.command_outcomes.specs.Binding.{bound_state, AreNamed, took_all, Tells, bytes_at}
 use Rattle.model_replay.specs.declared.format.ModelFormat.{ModelFormat}

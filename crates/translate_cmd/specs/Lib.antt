@@ -1,16 +1,5 @@
-pub mod Numerals
-pub mod Reading
-pub mod Cells
-pub mod Models
-pub mod Library
-pub mod LibraryAnswers
-pub mod ModelAnswers
-pub mod Simulate
-pub mod Simulations
-pub mod Besides
 pub mod Outcome
 pub mod Runs
-pub mod Reached
 pub mod Complete
 pub mod Selftests
 pub mod TranslatedModels

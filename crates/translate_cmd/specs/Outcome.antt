@@ -1,13 +1,10 @@
 -- What a run of a command comes to: its status, and the bytes of its outputs. This project's rule.
-use Rattle.std.specs.Prelude.{List, [], ◌∷◌, ℕ, codes}
-use Rattle.text_io.specs.declared.slots.InSlot.TheVariants.{Library}
-use Rattle.text_io.specs.declared.slots.OutSlot.TheVariants.{VerilogText, VitalText}
-use Rattle.text_io.specs.declared.slots.Slot.TheVariants.{Input, Output}
+use Rattle.std.specs.Prelude.{List, [], ℕ, codes}
 use Rattle.text_io.specs.Desk.{Folder}
 use Rattle.verilog_writer.specs.Primitive.{primitive_text}
 use Rattle.command_outcomes.specs.declared.status.Status.TheVariants.{Done, Usage}
 use Rattle.command_outcomes.specs.Written.{nothing_written, in_report}
-use Rattle.command_outcomes.specs.Binding.{Files, bytes_at}
+use Rattle.command_outcomes.specs.Binding.{Files}
 use Rattle.command_outcomes.specs.Outcome.{Outcome}
 use Rattle.model_replay.specs.declared.format.ModelFormat.{ModelFormat}
 use Rattle.model_replay.specs.declared.format.ModelFormat.TheVariants as format
@@ -16,15 +13,11 @@ use Rattle.model_languages.specs.Verilog.{verilog}
 use Rattle.model_languages.specs.Vital.{vital}
 use Rattle.selftest_runs.specs.OwnCounts.{own_counts}
 use Rattle.selftest_runs.specs.Report.{report_text}
-use Rattle.translate_cmd.specs.declared.asked.Command.{Command}
-use Rattle.translate_cmd.specs.declared.asked.Command.TheVariants as command
-use Rattle.translate_cmd.specs.Reading.{reading}
-use Rattle.translate_cmd.specs.Library.{translate_outcome}
-use Rattle.translate_cmd.specs.Simulate.{simulate_files, simulate_of}
-
--- the files of `translate`: the library that it reads, and the two model files that it writes
-abbrev pub translate_files : Files
-translate_files = (Input Library, 1) ∷ (Output VerilogText, 2) ∷ (Output VitalText, 3) ∷ []
+use Rattle.command_words.specs.declared.commands.Command.{Command}
+use Rattle.command_words.specs.declared.commands.Command.TheVariants as command
+use Rattle.command_words.specs.Reading.{reading}
+use Rattle.library_translation.specs.Runs.{translate_files, translate_of}
+use Rattle.model_simulation.specs.Simulate.{simulate_files, simulate_of}
 
 -- the files that a command names
 abbrev pub files_of : Command → Files
@@ -47,7 +40,7 @@ selftest_outcome cells = record { status = Done; binds = 0; text = in_report (re
 -- what a command comes to with these words and files; words without a reading are usage
 abbrev pub outcome_of : Command → List (List ℕ) → Folder → Outcome
 outcome_of (command.Udp udp) words folder = record { status = Done; binds = 0; text = in_report (primitive_text udp); faults = [] }
-outcome_of command.Translate words folder = translate_outcome (bytes_at words folder 1)
+outcome_of command.Translate words folder = translate_of words folder
 outcome_of command.Simulate words folder = simulate_of words folder
 outcome_of (command.Replay f) words folder = replay_outcome_of f words folder
 outcome_of (command.Selftest cells) words folder = selftest_outcome cells

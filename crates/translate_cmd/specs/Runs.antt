@@ -5,10 +5,11 @@ use Rattle.text_io.specs.Desk.{DeskState, Folder}
 use Rattle.command_outcomes.specs.declared.status.Status.{Status}
 use Rattle.command_outcomes.specs.Binding.{Tells, bytes_at}
 use Rattle.command_outcomes.specs.Runs.{RunsAs}
-use Rattle.translate_cmd.specs.declared.asked.Command.TheVariants as command
-use Rattle.translate_cmd.specs.Reading.{reading}
-use Rattle.translate_cmd.specs.Models.{HoldsModels}
-use Rattle.translate_cmd.specs.Outcome.{translate_files, files_of, outcome}
+use Rattle.command_words.specs.declared.commands.Command.TheVariants as command
+use Rattle.command_words.specs.Reading.{reading}
+use Rattle.library_translation.specs.Models.{HoldsModels}
+use Rattle.library_translation.specs.Runs.{translate_files}
+use Rattle.translate_cmd.specs.Outcome.{files_of, outcome}
 
 -- After the run the desk is as a run of the command leaves it that the words ask for, with its files and its outcome. Where
 -- they ask for a translation, whatever the status, both whole models are there of the accepted cells whose closing braces lie

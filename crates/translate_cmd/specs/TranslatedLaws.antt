@@ -9,7 +9,7 @@ use Rattle.vhdl_text.specs.VhdlText.{IsVhdlText, vhdl_text}
 use Rattle.vhdl_text.specs.WellFormed as vhdl
 use Rattle.verilog_writer.specs.Model.{prelude_text, module_text}
 use Rattle.vhdl_writer.specs.Entity.{entity_text}
-use Rattle.translate_cmd.specs.Library.{translate_outcome}
+use Rattle.library_translation.specs.Library.{translate_outcome}
 use Rattle.translate_cmd.specs.TranslatedModels.{modules_in, entities_in}
 
 -- the modules of the accepted cells of every library are well formed together

@@ -1,23 +1,12 @@
-//! The commands of lib2sim: what words ask for, and the whole run of a command over a desk.
+//! The commands of lib2sim: the whole run of a command over a desk.
 #![tactic(auto)]
 
-mod asked;
-mod cells;
 mod command;
-mod comparisons;
-mod items;
 mod laws;
-mod library_file;
-mod model_file;
-mod numerals;
 mod replay;
 mod selftest;
 mod simulate;
-mod simulation;
-mod test_lines;
 mod translate;
-mod verilog;
-mod vital;
 
 pub use command::{run, run_gated, run_sure};
 pub use command_outcomes::Status;

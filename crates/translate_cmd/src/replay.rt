@@ -2,14 +2,13 @@
 ghost use Rattle.std.specs.Prelude.{◌≡◌, ◌≤◌, IsTrue};
 ghost use Rattle.text_io.specs.Desk.{Rose};
 ghost use Rattle.command_outcomes.specs.Status.{is_unfailed};
-ghost use Rattle.translate_cmd.specs.declared.asked.Command.TheVariants as command;
-ghost use Rattle.translate_cmd.specs.Reading.{reading};
+ghost use Rattle.command_words.specs.declared.commands.Command.TheVariants as command;
+ghost use Rattle.command_words.specs.Reading.{reading};
 ghost use Rattle.translate_cmd.specs.Runs.{Runs};
 
-use crate::verilog::Verilog;
-use crate::vital::Vital;
 use command_outcomes::Status;
 use model_replay::{ModelFormat, replay_models};
+use model_simulation::{Verilog, Vital};
 use std::alloc::Global;
 use text_io::Desk;
 

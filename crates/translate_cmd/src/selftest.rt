@@ -2,8 +2,8 @@
 ghost use Rattle.std.specs.Prelude.{◌≡◌, ◌≤◌, IsTrue};
 ghost use Rattle.text_io.specs.Desk.{Rose};
 ghost use Rattle.command_outcomes.specs.Status.{is_unfailed};
-ghost use Rattle.translate_cmd.specs.declared.asked.Command.TheVariants as command;
-ghost use Rattle.translate_cmd.specs.Reading.{reading};
+ghost use Rattle.command_words.specs.declared.commands.Command.TheVariants as command;
+ghost use Rattle.command_words.specs.Reading.{reading};
 ghost use Rattle.translate_cmd.specs.Runs.{Runs};
 
 use command_outcomes::{Status, ended};

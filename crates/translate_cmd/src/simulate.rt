@@ -1,17 +1,13 @@
-//! Simulating the cells of a library beside their models: four files are read, and then the traces of each section are printed and
-//! compared.
+//! Simulating the cells of a library beside their models: the files that the words name are read, and the traces printed and compared.
 ghost use Rattle.std.specs.Prelude.{◌≡◌, ◌≤◌, IsTrue};
 ghost use Rattle.text_io.specs.Desk.{Rose};
 ghost use Rattle.command_outcomes.specs.Status.{is_unfailed};
-ghost use Rattle.translate_cmd.specs.declared.asked.Command.TheVariants as command;
-ghost use Rattle.translate_cmd.specs.Reading.{reading};
+ghost use Rattle.command_words.specs.declared.commands.Command.TheVariants as command;
+ghost use Rattle.command_words.specs.Reading.{reading};
 ghost use Rattle.translate_cmd.specs.Runs.{Runs};
-ghost use Rattle.translate_cmd.specs.Besides.{compared_status};
 
-use crate::comparisons::write_sections;
-use crate::simulation::read_simulation;
 use command_outcomes::Status;
-use section_runs::RunFault;
+use model_simulation::simulate_library;
 use std::alloc::Global;
 use text_io::Desk;
 
@@ -25,20 +21,5 @@ pub(crate) fn simulate<D: Desk>(alloc: Global, desk: &mut D) -> Status
     ensures later { D.faults desk.old ≤ D.faults desk.new }
     ensures kept { IsTrue (is_unfailed result) → D.faults desk.new ≡ D.faults desk.old }
 {
-    match read_simulation(alloc, desk) {
-        Ok(simulation) => ended(write_sections(alloc, desk, &simulation)),
-        Err(status) => status,
-    }
-}
-
-/// The status of a run whose sections were printed so, and of which some differ or none.
-fn ended(printed: Result<bool, RunFault>) -> Status
-    ensures { result ≡ compared_status printed }
-{
-    match printed {
-        Ok(true) => Status::Differ,
-        Ok(false) => Status::Done,
-        Err(RunFault::Failed) => Status::Outside,
-        Err(RunFault::Memory) => Status::Memory,
-    }
+    simulate_library(alloc, desk)
 }

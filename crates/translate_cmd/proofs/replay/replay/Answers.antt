@@ -1,6 +1,6 @@
 use Rattle.std.proofs.Common.{refl}
 use Rattle.translate_cmd.proofs.PlanLemmas.{planned_files}
-use Rattle.translate_cmd.proofs.ReplayLemmas.{asked_as, asked_runs}
+use Rattle.translate_cmd.proofs.AskedRuns.{asked_as, replay_asked}
 use Rattle.translate_cmd.proofs.replay.replay.Goals as goal
 
 pub replay_models-requires : goal.replay_models-requires
@@ -13,8 +13,8 @@ replay_models-requires-in-Vital g c =
 
 pub returns-in-Verilog-clause-writes : goal.returns-in-Verilog-clause-writes
 returns-in-Verilog-clause-writes g c =
-    asked_runs _ _ _ _ (asked_as (g.D.Desk.state c.args.desk.now).words _ _ c.requires c.in-Verilog.is) c.replay_models.ensures.writes
+    replay_asked _ _ _ _ (asked_as (g.D.Desk.state c.args.desk.now).words _ _ c.requires c.in-Verilog.is) c.replay_models.ensures.writes
 
 pub returns-in-Vital-clause-writes : goal.returns-in-Vital-clause-writes
 returns-in-Vital-clause-writes g c =
-    asked_runs _ _ _ _ (asked_as (g.D.Desk.state c.args.desk.now).words _ _ c.requires c.in-Vital.is) c.replay_models-in-Vital.ensures.writes
+    replay_asked _ _ _ _ (asked_as (g.D.Desk.state c.args.desk.now).words _ _ c.requires c.in-Vital.is) c.replay_models-in-Vital.ensures.writes

@@ -1,41 +1,11 @@
 use Rattle.std.proofs.Common.{refl}
-use Rattle.translate_cmd.specs.declared.asked.Command.TheVariants as command
+use Rattle.command_words.specs.declared.commands.Command.TheVariants as command
 use Rattle.translate_cmd.proofs.PlanLemmas.{planned_files}
-use Rattle.translate_cmd.proofs.TranslateFiles.{bound_all, file_all, library_bound, verilog_bound, vital_bound, unbound_runs, translated_runs}
+use Rattle.translate_cmd.proofs.AskedRuns.{translation_asked}
 use Rattle.translate_cmd.proofs.translate.translate.Goals as goal
 
-pub bind_files-requires : goal.bind_files-requires
-bind_files-requires g c = planned_files (g.D.Desk.state c.args.desk.now).words command.Translate c.requires refl
+pub translate_library-requires : goal.translate_library-requires
+translate_library-requires g c = planned_files (g.D.Desk.state c.args.desk.now).words command.Translate c.requires refl
 
-pub returns-in-Err-clause-writes : goal.returns-in-Err-clause-writes
-returns-in-Err-clause-writes g c = unbound_runs _ _ _ c.requires c.in-Err.ensures.binds
-
-pub translate_bound-requires-clause-library : goal.translate_bound-requires-clause-library
-translate_bound-requires-clause-library g c =
-    library_bound _ _ c.in-Ok.ensures.binds.bytes (bound_all _ _ _ c.in-Ok.ensures.binds)
-
-pub translate_bound-requires-clause-verilog : goal.translate_bound-requires-clause-verilog
-translate_bound-requires-clause-verilog g c =
-    verilog_bound _ _ c.in-Ok.ensures.binds.bytes (bound_all _ _ _ c.in-Ok.ensures.binds)
-
-pub translate_bound-requires-clause-vital : goal.translate_bound-requires-clause-vital
-translate_bound-requires-clause-vital g c =
-    vital_bound _ _ c.in-Ok.ensures.binds.bytes (bound_all _ _ _ c.in-Ok.ensures.binds)
-
-pub returns-in-Ok-translate_bound-clause-writes : goal.returns-in-Ok-translate_bound-clause-writes
-returns-in-Ok-translate_bound-clause-writes g c =
-    let binds = c.in-Ok.ensures.binds in
-    let text = c.in-Ok-translate_bound.ensures.text in
-    translated_runs _ _ _ binds.bytes _ text.taken text.text text.faults c.requires (bound_all _ _ _ binds) (file_all _ _ _ binds) text.state text.part text.models (λ d. text.whole)
-
-pub returns-in-Err-Failed-clause-writes : goal.returns-in-Err-Failed-clause-writes
-returns-in-Err-Failed-clause-writes g c =
-    let binds = c.in-Ok.ensures.binds in
-    let text = c.in-Err-Failed.ensures.text in
-    translated_runs _ _ _ binds.bytes _ text.taken text.text text.faults c.requires (bound_all _ _ _ binds) (file_all _ _ _ binds) text.state text.part text.models (λ d. absurd cc)
-
-pub returns-in-Err-Memory-clause-writes : goal.returns-in-Err-Memory-clause-writes
-returns-in-Err-Memory-clause-writes g c =
-    let binds = c.in-Ok.ensures.binds in
-    let text = c.in-Err-Memory.ensures.text in
-    translated_runs _ _ _ binds.bytes _ text.taken text.text text.faults c.requires (bound_all _ _ _ binds) (file_all _ _ _ binds) text.state text.part text.models (λ d. absurd cc)
+pub returns-clause-writes : goal.returns-clause-writes
+returns-clause-writes g c = translation_asked _ _ _ c.requires c.translate_library.ensures.writes

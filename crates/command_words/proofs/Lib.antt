@@ -1,0 +1,4 @@
+pub mod Bounds
+pub mod NumeralLemmas
+pub mod AskedLemmas
+pub mod FewCells

@@ -1,0 +1,5 @@
+pub mod Cells
+pub mod Models
+pub mod Library
+pub mod Reached
+pub mod Runs

@@ -1,0 +1,152 @@
+//! One cell of a library: its models and its lines.
+ghost use Rattle.std.specs.Prelude.{◌≡◌, ◌+◌, ◌<◌, ◌^◌, IsTrue, IfOk, OnOk};
+ghost use Rattle.text_io.specs.declared.slots.Slot.TheVariants.{Output};
+ghost use Rattle.text_io.specs.declared.slots.OutSlot.TheVariants.{VerilogText, VitalText, Report};
+ghost use Rattle.text_io.specs.Desk.{is_bound, HasCause, WritesText};
+ghost use Rattle.cell_machine.specs.CellData.{data_of};
+ghost use Rattle.cell_cursor.specs.declared.item.LibraryItem.TheVariants as item;
+ghost use Rattle.command_outcomes.specs.Written.{Writes, in_verilog, in_vital};
+ghost use Rattle.library_items.specs.Stops.{StopsWithCause};
+ghost use Rattle.library_items.specs.Progress.{next_refusal, entity_by, after_item};
+ghost use Rattle.library_translation.specs.Cells.{model_text, vital_text, models_written, accepted_lines, accepted_written, written_by, item_written};
+
+use crate::test_lines::write_test;
+use cell_machine::Cell;
+use cell_parts::groups::cell_name;
+use cell_reader::ReadCell;
+use liberty_groups::Group;
+use library_items::{NextCell, Progress, Stop, next_cell};
+use library_report::{write_accepted_cell, write_left_out_groups, write_refused_cell};
+use specify_blocks::verilog_model;
+use sqlite_items::Items;
+use std::alloc::Global;
+use text_io::{Desk, Failed};
+use verilog_writer::write_model;
+use vhdl_writer::write_entity;
+use vital_models::vital_model;
+
+/// Writes the Verilog model of a cell.
+fn write_verilog<D: Desk>(alloc: Global, desk: &mut D, cell: &Cell) -> Result<(), Stop>
+    requires { IsTrue (is_bound (D.state desk.old) (Output VerilogText)) }
+    ensures text { Writes (D.state desk.old) (D.state desk.new) (in_verilog (model_text (data_of cell.now))) result }
+    ensures cause { StopsWithCause (D.faults desk.old) (D.faults desk.new) result }
+{
+    match verilog_model(alloc, cell) {
+        Ok(model) => {
+            write_model(desk, &model)?;
+            Ok(())
+        }
+        Err(_) => Err(Stop::Memory),
+    }
+}
+
+/// Writes the VHDL model of a cell: the entity with this name.
+fn write_vital<D: Desk>(alloc: Global, desk: &mut D, cell: &Cell, entity: &[u8]) -> Result<(), Stop>
+    requires { IsTrue (is_bound (D.state desk.old) (Output VitalText)) }
+    ensures text { Writes (D.state desk.old) (D.state desk.new) (in_vital (vital_text entity.now (data_of cell.now))) result }
+    ensures cause { StopsWithCause (D.faults desk.old) (D.faults desk.new) result }
+{
+    let model = vital_model(alloc, cell, entity)?;
+    write_entity(desk, &model)?;
+    Ok(())
+}
+
+/// Writes both models of a cell, the Verilog model and then the entity with this name.
+#[tactic(auto, unfolding(crate::specs::Cells::models_written))]
+fn write_models<D: Desk>(
+    alloc: Global,
+    desk: &mut D,
+    cell: &Cell,
+    entity: &[u8],
+) -> Result<(), Stop>
+    requires verilog { IsTrue (is_bound (D.state desk.old) (Output VerilogText)) }
+    requires vital { IsTrue (is_bound (D.state desk.old) (Output VitalText)) }
+    ensures text { Writes (D.state desk.old) (D.state desk.new) (models_written entity.now (data_of cell.now)) result }
+    ensures cause { StopsWithCause (D.faults desk.old) (D.faults desk.new) result }
+{
+    write_verilog(alloc, desk, cell)?;
+    write_vital(alloc, desk, cell, entity)
+}
+
+/// Writes the report lines of an accepted cell.
+#[tactic(auto, unfolding(crate::specs::Cells::accepted_lines))]
+fn write_lines<D: Desk>(desk: &mut D, read: &ReadCell) -> Result<(), Failed>
+    ensures text { WritesText (D.state desk.old) (D.state desk.new) Report (accepted_lines read.now.cell.number read.now.cell.name read.now.cell.pins read.now.left_out) result }
+    ensures cause { HasCause (D.faults desk.old) (D.faults desk.new) result }
+{
+    let number = read.cell.number;
+    write_accepted_cell(desk, number, read.cell.name.as_slice())?;
+    write_left_out_groups(
+        desk,
+        number,
+        read.cell.pins.as_slice(),
+        read.left_out.as_slice(),
+    )
+}
+
+/// Writes the models of an accepted cell, whose entity has this name, its report lines, and the line on the test cell of its
+/// group.
+#[tactic(auto, unfolding(crate::specs::Cells::accepted_written))]
+fn write_accepted<D: Desk>(
+    alloc: Global,
+    desk: &mut D,
+    read: &ReadCell,
+    entity: &[u8],
+    group: &Group,
+) -> Result<(), Stop>
+    requires verilog { IsTrue (is_bound (D.state desk.old) (Output VerilogText)) }
+    requires vital { IsTrue (is_bound (D.state desk.old) (Output VitalText)) }
+    ensures text { Writes (D.state desk.old) (D.state desk.new) (accepted_written entity.now (data_of read.now.cell) read.now.left_out group.now) result }
+    ensures cause { StopsWithCause (D.faults desk.old) (D.faults desk.new) result }
+{
+    write_models(alloc, desk, &read.cell, entity)?;
+    write_lines(desk, read)?;
+    write_test(alloc, desk, &read.cell, group)
+}
+
+/// Writes what becomes of the next cell, and answers the name of its entity where it was accepted.
+fn write_cell<D: Desk>(
+    alloc: Global,
+    desk: &mut D,
+    progress: &Progress,
+    group: &Group,
+) -> Result<Option<Items<u8>>, Stop>
+    requires verilog { IsTrue (is_bound (D.state desk.old) (Output VerilogText)) }
+    requires vital { IsTrue (is_bound (D.state desk.old) (Output VitalText)) }
+    requires room { progress.now.accepted + progress.now.refused + 1 < 2 ^ 64 }
+    ensures text { Writes (D.state desk.old) (D.state desk.new) (written_by progress.now group.now (next_refusal progress.now group.now)) result }
+    ensures entity { IfOk result (λ entity. entity ≡ entity_by progress.now group.now (next_refusal progress.now group.now)) }
+    ensures cause { StopsWithCause (D.faults desk.old) (D.faults desk.new) result }
+{
+    match next_cell(alloc, progress, group)? {
+        NextCell::Accepted { read, entity } => {
+            write_accepted(alloc, desk, &read, entity.as_slice(), group)?;
+            Ok(Some(entity))
+        }
+        NextCell::Refused(refusal) => {
+            write_refused_cell(desk, progress.next_number(), cell_name(group), &refusal)?;
+            Ok(None)
+        }
+    }
+}
+
+/// Writes what becomes of a cell of a library, and counts it.
+pub(crate) fn handle_cell<D: Desk>(
+    alloc: Global,
+    desk: &mut D,
+    progress: &mut Progress,
+    group: &Group,
+) -> Result<(), Stop>
+    requires verilog { IsTrue (is_bound (D.state desk.old) (Output VerilogText)) }
+    requires vital { IsTrue (is_bound (D.state desk.old) (Output VitalText)) }
+    requires room { progress.old.accepted + progress.old.refused + 1 < 2 ^ 64 }
+    ensures text { Writes (D.state desk.old) (D.state desk.new) (item_written progress.old (item.Cell group.now)) result }
+    ensures progress { OnOk result (progress.new ≡ after_item progress.old (item.Cell group.now)) }
+    ensures cause { StopsWithCause (D.faults desk.old) (D.faults desk.new) result }
+{
+    match write_cell(alloc, desk, progress, group)? {
+        Some(entity) => progress.count_accepted(alloc, cell_name(group), entity.as_slice())?,
+        None => progress.count_refused(cell_name(group))?,
+    }
+    Ok(())
+}

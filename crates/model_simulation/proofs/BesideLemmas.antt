@@ -1,0 +1,127 @@
+-- The text of the section of a cell beside the models that stand for it: how far it was appended, and whether it differs.
+use Rattle.std.proofs.Common.{◌≡◌, ◌<◌, ◌≤◌, ℕ, Bool, List, ◌++◌, length, take, get_or, ◌+◌, ◌||◌, Option, is_some, Result, Ok, Err, IsErr, IsErrAnd, sym, ap, subst, ◌∙◌}
+use Rattle.std.specs.List.{list_any}
+use Rattle.std.proofs.lemmas.List.{take_all}
+use Rattle.std.proofs.lemmas.List.Folds.{list_any_more}
+use Rattle.text_io.specs.declared.outside.Failed.{Failed}
+use Rattle.text_io.specs.declared.slots.OutSlot.TheVariants.{Report}
+use Rattle.text_io.specs.Desk.{DeskState, wrote, WritesText, HasCause as HasWriteCause}
+use Rattle.text_io.proofs.Wrote.{wrote_more, IsPrefix-front}
+use Rattle.cell_machine.specs.declared.changes.Change.{Change}
+use Rattle.cell_machine.specs.CellData.{data_of}
+use Rattle.cell_machine.specs.CellTrace.{cell_machine_of}
+use Rattle.cell_machine.specs.Lines.{Machine}
+use Rattle.cell_reader.specs.LibraryCells.{CellEntry}
+use Rattle.specify_blocks.specs.declared.model.VModule.{VModule}
+use Rattle.vital_models.specs.declared.model.VEntity.{VEntity}
+use Rattle.model_traces.specs.ModuleTrace.{module_machine}
+use Rattle.model_traces.specs.EntityTrace.{entity_machine}
+use Rattle.stimulus.specs.declared.sections.Section.{Section}
+use Rattle.section_runs.specs.declared.faults.RunFault.{RunFault}
+use Rattle.section_runs.specs.declared.faults.RunFault.TheVariants as fault
+use Rattle.section_runs.specs.TraceText.{heading_text}
+use Rattle.section_runs.specs.Comparison.{Lines, three_lines, compared_text, first_unlike, verdict_text}
+use Rattle.section_runs.specs.Writes.{WritesTrace, HasCause}
+use Rattle.section_runs.proofs.Runs.{behind, stops_before, written_part}
+use Rattle.simulation_catalog.specs.Comparisons.{Compared, lines_of, compared_section, section_by, section_text, differs_by, differs, any_differs}
+use Rattle.model_simulation.specs.declared.comparisons.Beside.{Beside}
+use Rattle.model_simulation.specs.Besides.{compared_of, IsRunOn}
+
+-- What is appended for what the section is run on is the section's text, and it differs so.
+
+pub section_is : {T : Type 0} (cells : List CellEntry) (modules : List VModule) (entities : List VEntity) (section : Section) (beside : Beside) (s t : DeskState) (r : Result T RunFault)
+    → IsRunOn cells modules entities section beside → WritesTrace s t (compared_section (compared_of beside) section.changes) r
+    → WritesTrace s t (section_text cells modules entities section) r
+section_is cells modules entities section beside s t r is w =
+    subst (λ x. WritesTrace s t x r) (sym (ap (λ c. section_by c section.changes) is)) w
+
+pub differs_is : (cells : List CellEntry) (modules : List VModule) (entities : List VEntity) (section : Section) (beside : Beside)
+    → IsRunOn cells modules entities section beside → is_some (first_unlike section.changes (lines_of (compared_of beside))) ≡ differs cells modules entities section
+differs_is cells modules entities section beside is = sym (ap (λ c. differs_by c section.changes) is)
+
+-- a stop within the first of two texts
+pub trace_stops : {S T : Type 0} (s t : DeskState) (a b : List ℕ) (y : RunFault) (r : Result T RunFault) → WritesTrace {T = S} s t a (Err y) → IsErr r → WritesTrace s t (a ++ b) r
+trace_stops s t a b y (Ok x) w e = absurd cc
+trace_stops s t a b y (Err z) w e =
+    record { whole = tt; part = record { part = w.part.part; front = IsPrefix-front w.part.part a b w.part.front; state = w.part.state } }
+
+-- The machines of the three simulators are those of what the section is run on.
+
+pub lines_are : (beside : Beside) (liberty verilog vital : Machine) → liberty ≡ cell_machine_of (data_of beside.cell.now) → verilog ≡ module_machine beside.module.now → vital ≡ entity_machine beside.entity.now
+    → three_lines liberty verilog vital ≡ lines_of (compared_of beside)
+lines_are beside liberty verilog vital l v h = λ i. three_lines (l i) (v i) (h i)
+
+-- How far a section was appended: its parts are its heading, the lines and the verdict.
+
+pub heading_stops : {S T : Type 0} (c : Compared) (changes : List Change) (name : List ℕ) (s t : DeskState) (y : Failed) (r : Result T RunFault)
+    → name ≡ c.name → WritesText {T = S} s t Report (heading_text name) (Err y) → IsErr r → WritesTrace s t (compared_section c changes) r
+unfolding compared_section
+heading_stops {S = S} c changes name s t y r named w e =
+    stops_before s t (heading_text c.name) (compared_text c.ports changes (lines_of c) ++ verdict_text (first_unlike changes (lines_of c))) y r
+    (subst (λ n. WritesText {T = S} s t Report (heading_text n) (Err y)) named w) e
+
+pub lines_stop : {S T : Type 0} (c : Compared) (changes given : List Change) (lines : List Change → Lines) (name : List ℕ) (s t u : DeskState) (y : RunFault) (r : Result T RunFault)
+    → name ≡ c.name → given ≡ changes → lines ≡ lines_of c → t ≡ wrote s Report (heading_text name) → WritesTrace {T = S} t u (compared_text c.ports given lines) (Err y) → IsErr r
+    → WritesTrace s u (compared_section c changes) r
+unfolding compared_section
+lines_stop {S = S} c changes given lines name s t u y r named same shown h w e =
+    behind s t u (heading_text c.name) (compared_text c.ports changes (lines_of c) ++ verdict_text (first_unlike changes (lines_of c))) r
+    (h ∙ ap (λ n. wrote s Report (heading_text n)) named)
+    (trace_stops t u (compared_text c.ports changes (lines_of c)) (verdict_text (first_unlike changes (lines_of c))) y r (subst (λ x. WritesTrace {T = S} t u x (Err y)) (λ i. compared_text c.ports (same i) (shown i)) w) e)
+
+pub verdict_stops : {S T : Type 0} (c : Compared) (changes given : List Change) (lines : List Change → Lines) (name : List ℕ) (first : Option ℕ) (s t u v : DeskState) (y : Failed) (r : Result T RunFault)
+    → name ≡ c.name → given ≡ changes → lines ≡ lines_of c → first ≡ first_unlike given lines
+    → t ≡ wrote s Report (heading_text name) → u ≡ wrote t Report (compared_text c.ports given lines) → WritesText {T = S} u v Report (verdict_text first) (Err y) → IsErr r
+    → WritesTrace s v (compared_section c changes) r
+unfolding compared_section
+verdict_stops {S = S} c changes given lines name first s t u v y r named same shown found h l w e =
+    let told : first ≡ first_unlike changes (lines_of c) = found ∙ (λ i. first_unlike (same i) (shown i)) in
+    behind s t v (heading_text c.name) (compared_text c.ports changes (lines_of c) ++ verdict_text (first_unlike changes (lines_of c))) r
+    (h ∙ ap (λ n. wrote s Report (heading_text n)) named)
+    (behind t u v (compared_text c.ports changes (lines_of c)) (verdict_text (first_unlike changes (lines_of c))) r
+    (l ∙ (λ i. wrote t Report (compared_text c.ports (same i) (shown i))))
+    (written_part u v (verdict_text (first_unlike changes (lines_of c))) y r (subst (λ f. WritesText {T = S} u v Report (verdict_text f) (Err y)) told w) e))
+
+pub section_whole : (c : Compared) (changes given : List Change) (lines : List Change → Lines) (name : List ℕ) (first : Option ℕ) (s t u v : DeskState)
+    → name ≡ c.name → given ≡ changes → lines ≡ lines_of c → first ≡ first_unlike given lines
+    → t ≡ wrote s Report (heading_text name) → u ≡ wrote t Report (compared_text c.ports given lines) → v ≡ wrote u Report (verdict_text first)
+    → v ≡ wrote s Report (compared_section c changes)
+unfolding compared_section
+section_whole c changes given lines name first s t u v named same shown found h l w =
+    let told : first ≡ first_unlike changes (lines_of c) = found ∙ (λ i. first_unlike (same i) (shown i)) in
+    wrote_more s t v Report (heading_text c.name) (compared_text c.ports changes (lines_of c) ++ verdict_text (first_unlike changes (lines_of c)))
+    (h ∙ ap (λ n. wrote s Report (heading_text n)) named)
+    (wrote_more t u v Report (compared_text c.ports changes (lines_of c)) (verdict_text (first_unlike changes (lines_of c)))
+    (l ∙ (λ i. wrote t Report (compared_text c.ports (same i) (shown i))))
+    (w ∙ ap (λ f. wrote u Report (verdict_text f)) told))
+
+-- what was found among the lines is found among those of what the section is run on
+pub first_is : (c : Compared) (changes given : List Change) (lines : List Change → Lines) (first : Option ℕ) (some_differ : Bool)
+    → given ≡ changes → lines ≡ lines_of c → first ≡ first_unlike given lines → some_differ ≡ is_some first → some_differ ≡ is_some (first_unlike changes (lines_of c))
+first_is c changes given lines first some_differ same shown found is = is ∙ (ap is_some found ∙ (λ i. is_some (first_unlike (same i) (shown i))))
+
+-- Why a section was not appended whole.
+
+-- a write failed
+pub write_cause : {S T : Type 0} (before now : ℕ) (y : Failed) (r : Result T RunFault) → IsErrAnd r (λ stop. stop ≡ fault.Failed) → HasWriteCause {T = S} before now (Err y) → HasCause before now r
+write_cause before now y (Ok x) is h = absurd is
+write_cause before now y (Err z) is h = record { later = h.later; kept = tt; memory = λ m. absurd cc; failed = λ f. h.failed }
+
+-- the fault is that of a part, before which there was none
+pub part_cause : {S T : Type 0} (start before now : ℕ) (y : RunFault) (r : Result T RunFault) → before ≡ start → IsErrAnd r (λ stop. stop ≡ y) → HasCause {T = S} before now (Err y) → HasCause start now r
+part_cause {T = T} start before now y (Ok x) kept is h = absurd is
+part_cause {T = T} start before now y (Err z) kept is h =
+    subst (λ n. HasCause {T = T} n now (Err z)) kept (record { later = h.later; kept = tt; memory = λ m. h.memory (sym is ∙ m); failed = λ f. h.failed (sym is ∙ f) })
+
+-- one section more
+pub differs_more : (cells : List CellEntry) (modules : List VModule) (entities : List VEntity) (sections : List Section) (i : ℕ) (x : Section) (before here : Bool)
+    → i < length sections → x ≡ get_or sections i x → before ≡ list_any (differs cells modules entities) (take i sections) → here ≡ differs cells modules entities x
+    → (before || here) ≡ list_any (differs cells modules entities) (take (i + 1) sections)
+differs_more cells modules entities sections i x before here h is so_far one =
+    let there : here ≡ differs cells modules entities (get_or sections i x) = one ∙ ap (differs cells modules entities) is in
+    (λ k. so_far k || there k) ∙ sym (list_any_more (differs cells modules entities) sections i x h)
+
+-- all of them
+pub differs_whole : (cells : List CellEntry) (modules : List VModule) (entities : List VEntity) (sections : List Section) (i : ℕ) (some_differ : Bool)
+    → length sections ≤ i → some_differ ≡ list_any (differs cells modules entities) (take i sections) → some_differ ≡ any_differs cells modules entities sections
+differs_whole cells modules entities sections i some_differ over so_far = so_far ∙ ap (list_any (differs cells modules entities)) (take_all i sections over)

@@ -1,0 +1,8 @@
+pub mod LibraryFileLemmas
+pub mod LanguageLemmas
+pub mod ModelFileLemmas
+pub mod SimulationFiles
+pub mod SimulateLemmas
+pub mod BesideLemmas
+pub mod WholeSimulations
+pub mod OwnNames

@@ -1,0 +1,13 @@
+use Rattle.model_languages.specs.Verilog.{verilog}
+use Rattle.model_replay.proofs.SectionTexts.{appends_nothing, model_written}
+use Rattle.model_simulation.proofs.verilog.VerilogModelLanguage.write_model.Goals as goal
+
+pub start-requires : goal.start-requires
+start-requires g c = c.requires.well_formed.sound
+
+pub returns-in-Ok-clause-text : goal.returns-in-Ok-clause-text
+returns-in-Ok-clause-text g c =
+    model_written verilog _ _ _ c.args.ports.now c.args.changes.now _ c.args.model.now _ c.as_slice.ensures c.in-Ok.ensures.machine c.write_section.ensures.text
+
+pub returns-in-Err-clause-text : goal.returns-in-Err-clause-text
+returns-in-Err-clause-text g c = appends_nothing _ _ _ cc

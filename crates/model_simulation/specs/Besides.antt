@@ -1,0 +1,48 @@
+-- A cell beside the models that stand for it, and how a simulation that was printed ends.
+use Rattle.std.specs.Prelude.{◌≡◌, Bool, List, [], length, Some, Result, Ok, Err, if◌then◌else◌}
+use Rattle.cell_machine.specs.CellData.{data_of}
+use Rattle.cell_machine.specs.CellTrace.{cell_machine_of}
+use Rattle.cell_machine.specs.History.{IsProperFrom}
+use Rattle.cell_reader.specs.LibraryCells.{CellEntry}
+use Rattle.specify_blocks.specs.declared.model.VModule.{VModule}
+use Rattle.specify_blocks.specs.Sound as modules_of
+use Rattle.vital_models.specs.declared.model.VEntity.{VEntity}
+use Rattle.vital_models.specs.Sound as entities_of
+use Rattle.model_traces.specs.ModuleTrace.{module_machine}
+use Rattle.model_traces.specs.EntityTrace.{entity_machine}
+use Rattle.stimulus.specs.declared.sections.Section.{Section}
+use Rattle.section_runs.specs.declared.faults.RunFault.{RunFault}
+use Rattle.section_runs.specs.declared.faults.RunFault.TheVariants as run
+use Rattle.section_runs.specs.Comparison.{HavePorts}
+use Rattle.command_outcomes.specs.declared.status.Status.{Status}
+use Rattle.command_outcomes.specs.declared.status.Status.TheVariants as status
+use Rattle.simulation_catalog.specs.Comparisons.{Compared, compared_at}
+use Rattle.model_simulation.specs.declared.comparisons.Beside.{Beside}
+
+-- what a section of the cell is run on
+abbrev pub compared_of : Beside → Compared
+compared_of beside = record {
+  name = beside.cell.now.name;
+  ports = beside.ports.now;
+  liberty = cell_machine_of (data_of beside.cell.now);
+  verilog = module_machine beside.module.now;
+  vital = entity_machine beside.entity.now;
+}
+
+-- Changes can be given to all three: both models are sound, all have as many inputs and outputs as there are names, and the changes are
+-- of these inputs, at times that rise strictly.
+pub record CanBeGiven (beside : Beside) (section : Section) : Type 0 where
+  pub sound_module : modules_of.IsSound beside.module.now
+  pub sound_entity : entities_of.IsSound beside.entity.now
+  pub have_ports : HavePorts beside.ports.now (cell_machine_of (data_of beside.cell.now)) (module_machine beside.module.now) (entity_machine beside.entity.now)
+  pub proper : IsProperFrom (length beside.ports.now.inputs) [] section.changes
+
+-- this is what the section is run on
+abbrev pub IsRunOn : List CellEntry → List VModule → List VEntity → Section → Beside → Type 0
+IsRunOn cells modules entities section beside = compared_at cells modules entities section.cell ≡ Some (compared_of beside)
+
+-- the status of a run whose sections were printed so, and of which some differ or none
+abbrev pub compared_status : Result Bool RunFault → Status
+compared_status (Ok some_differ) = if some_differ then status.Differ else status.Done
+compared_status (Err run.Failed) = status.Outside
+compared_status (Err run.Memory) = status.Memory

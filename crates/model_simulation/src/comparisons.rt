@@ -1,0 +1,129 @@
+//! The sections of a simulation: each is run on its cell and on the models of this cell, printed and compared.
+ghost use Rattle.std.specs.Prelude.{◌≡◌, is_some, IfOk};
+ghost use Rattle.cell_reader.specs.LibraryCells.{all_described};
+ghost use Rattle.section_runs.specs.Comparison.{first_unlike};
+ghost use Rattle.section_runs.specs.Writes.{WritesTrace, HasCause};
+ghost use Rattle.simulation_catalog.specs.Catalog.{simulated_of};
+ghost use Rattle.simulation_catalog.specs.Comparisons.{lines_of, compared_section, section_text, sections_text, differs, any_differs};
+ghost use Rattle.simulation_catalog.specs.Sections.{CanBeCompared};
+ghost use Rattle.model_simulation.specs.Besides.{compared_of, CanBeGiven, IsRunOn};
+ghost use Rattle.model_simulation.specs.Simulations.{CanBePrinted};
+
+use crate::simulation::Simulation;
+use cell_machine::{Cell, LibertySim};
+use cell_reader::LibraryCell;
+use section_runs::{RunFault, Three, write_comparison, write_heading, write_verdict};
+use simulation_catalog::described_are_cells;
+use specify_blocks::VModule;
+use std::alloc::Global;
+use stimulus::{Ports, Section};
+use table_interpreters::{VerilogSim, VitalSim};
+use text_io::Desk;
+use vital_models::VEntity;
+
+/// A cell, the names of its ports, and the models that stand for it.
+#[derive(Clone, Copy)]
+struct Beside<'a> {
+    /// The cell.
+    cell: &'a Cell,
+    /// The names of its inputs and outputs.
+    ports: &'a Ports,
+    /// Its module.
+    module: &'a VModule,
+    /// Its entity.
+    entity: &'a VEntity,
+}
+
+/// The cell that a section names, with the models that stand for it.
+fn stands_beside<'a>(simulation: &'a Simulation, section: &Section) -> Beside<'a>
+    requires simulated { simulation.now.simulated ≡ simulated_of (all_described simulation.now.read.cells) simulation.now.read.modules simulation.now.read.entities }
+    requires run { CanBeCompared (all_described simulation.now.read.cells) simulation.now.read.modules simulation.now.read.entities section.now }
+    ensures is { IsRunOn (all_described simulation.now.read.cells) simulation.now.read.modules simulation.now.read.entities section.now result }
+    ensures can { CanBeGiven result section.now }
+{
+    described_are_cells();
+    let LibraryCell::Accepted { cell, .. } = &simulation.read.cells.as_slice()[section.cell] else {
+        unreachable!();
+    };
+    let Some(numbers) = simulation.simulated.models.as_slice()[section.cell] else {
+        unreachable!();
+    };
+    Beside {
+        cell,
+        ports: simulation.simulated.catalog.ports(section.cell),
+        module: &simulation.read.modules.as_slice()[numbers.verilog],
+        entity: &simulation.read.entities.as_slice()[numbers.vital],
+    }
+}
+
+/// Appends to the report the section of a cell: its name, the lines of the three traces on the section's changes, and whether these
+/// are equal. It answers whether two of them differ. After a fault a prefix of the section was appended.
+fn write_compared<D: Desk>(
+    alloc: Global,
+    desk: &mut D,
+    beside: &Beside<'_>,
+    section: &Section,
+) -> Result<bool, RunFault>
+    requires { CanBeGiven beside.now section.now }
+    ensures text { WritesTrace (D.state desk.old) (D.state desk.new) (compared_section (compared_of beside.now) section.now.changes) result }
+    ensures differs { IfOk result (λ some_differ. some_differ ≡ is_some (first_unlike section.now.changes (lines_of (compared_of beside.now)))) }
+    ensures cause { HasCause (D.faults desk.old) (D.faults desk.new) result }
+{
+    let Ok(liberty) = LibertySim::start(alloc, beside.cell) else {
+        return Err(RunFault::Memory);
+    };
+    let Ok(verilog) = VerilogSim::start(alloc, beside.module) else {
+        return Err(RunFault::Memory);
+    };
+    let Ok(vital) = VitalSim::start(alloc, beside.entity) else {
+        return Err(RunFault::Memory);
+    };
+    let mut three = Three {
+        liberty,
+        verilog,
+        vital,
+    };
+    write_heading(desk, beside.cell.name.as_slice())?;
+    let changes = section.changes.as_slice();
+    let first = write_comparison(alloc, desk, beside.ports, &mut three, changes)?;
+    write_verdict(desk, first)?;
+    Ok(first.is_some())
+}
+
+/// Appends a section of a simulation to the report, and answers whether two of its three traces differ. After a fault a prefix of the
+/// section was appended.
+fn write_section<D: Desk>(
+    alloc: Global,
+    desk: &mut D,
+    simulation: &Simulation,
+    section: &Section,
+) -> Result<bool, RunFault>
+    requires simulated { simulation.now.simulated ≡ simulated_of (all_described simulation.now.read.cells) simulation.now.read.modules simulation.now.read.entities }
+    requires run { CanBeCompared (all_described simulation.now.read.cells) simulation.now.read.modules simulation.now.read.entities section.now }
+    ensures text { WritesTrace (D.state desk.old) (D.state desk.new) (section_text (all_described simulation.now.read.cells) simulation.now.read.modules simulation.now.read.entities section.now) result }
+    ensures differs { IfOk result (λ some_differ. some_differ ≡ differs (all_described simulation.now.read.cells) simulation.now.read.modules simulation.now.read.entities section.now) }
+    ensures cause { HasCause (D.faults desk.old) (D.faults desk.new) result }
+{
+    let beside = stands_beside(simulation, section);
+    write_compared(alloc, desk, &beside, section)
+}
+
+/// Appends the sections of a simulation to the report, in order, and answers whether two of the three traces of some section differ.
+/// After a fault a prefix of the sections was appended. `Failed` comes only where a write failed.
+pub(crate) fn write_sections<D: Desk>(
+    alloc: Global,
+    desk: &mut D,
+    simulation: &Simulation,
+) -> Result<bool, RunFault>
+    requires { CanBePrinted simulation.now }
+    ensures text { WritesTrace (D.state desk.old) (D.state desk.new) (sections_text (all_described simulation.now.read.cells) simulation.now.read.modules simulation.now.read.entities simulation.now.sections) result }
+    ensures differs { IfOk result (λ some_differ. some_differ ≡ any_differs (all_described simulation.now.read.cells) simulation.now.read.modules simulation.now.read.entities simulation.now.sections) }
+    ensures cause { HasCause (D.faults desk.old) (D.faults desk.new) result }
+{
+    let mut some_differ = false;
+    for section in simulation.sections.as_slice() {
+        let section_differs = write_section(alloc, desk, simulation, section)?;
+        some_differ = some_differ || section_differs;
+    }
+    Ok(some_differ)
+}

@@ -1,0 +1,46 @@
+//! A run of a simulation: four files are read, and then the traces of each section are printed and compared.
+ghost use Rattle.std.specs.Prelude.{◌≡◌, ◌≤◌, IsTrue};
+ghost use Rattle.text_io.specs.Desk.{Rose};
+ghost use Rattle.text_io.specs.Plan.{plan};
+ghost use Rattle.command_outcomes.specs.Status.{is_unfailed};
+ghost use Rattle.command_outcomes.specs.Runs.{RunsAs};
+ghost use Rattle.model_simulation.specs.Simulate.{simulate_files, simulate_of};
+ghost use Rattle.model_simulation.specs.Besides.{compared_status};
+
+use crate::comparisons::write_sections;
+use crate::simulation::read_simulation;
+use command_outcomes::Status;
+use section_runs::RunFault;
+use std::alloc::Global;
+use text_io::Desk;
+
+/// Prints the traces of the cells of a library, of their modules and of their entities, section by section of a stimulus, all of the
+/// files that the words name, and whether the three of each section are equal. Nothing is printed before all four files are read.
+///
+/// It ends with the status of the outcome, and all that the outcome appends was appended, or with `Outside`, only where a call
+/// on the desk failed in this call, or with `Memory`, where there was none.
+pub fn simulate_library<D: Desk>(alloc: Global, desk: &mut D) -> Status
+    requires { plan (D.state desk.old).words ≡ simulate_files }
+    ensures writes { RunsAs simulate_files (simulate_of (D.state desk.old).words) (D.state desk.old) (D.state desk.new) result }
+    ensures usage { result ≡ Status.Usage → ⊥ }
+    ensures outside { result ≡ Status.Outside → Rose (D.faults desk.old) (D.faults desk.new) }
+    ensures later { D.faults desk.old ≤ D.faults desk.new }
+    ensures kept { IsTrue (is_unfailed result) → D.faults desk.new ≡ D.faults desk.old }
+{
+    match read_simulation(alloc, desk) {
+        Ok(simulation) => ended(write_sections(alloc, desk, &simulation)),
+        Err(status) => status,
+    }
+}
+
+/// The status of a run whose sections were printed so, and of which some differ or none.
+fn ended(printed: Result<bool, RunFault>) -> Status
+    ensures { result ≡ compared_status printed }
+{
+    match printed {
+        Ok(true) => Status::Differ,
+        Ok(false) => Status::Done,
+        Err(RunFault::Failed) => Status::Outside,
+        Err(RunFault::Memory) => Status::Memory,
+    }
+}

@@ -13,7 +13,7 @@ use std::alloc::{AllocError, Global};
 use std::marker::Model;
 
 /// Arcs, of which those with the same ends and the same condition are one. Contracts see the list of them.
-#[derive(Debug, Drop)]
+#[derive(Drop)]
 pub(crate) struct ArcList {
     arcs: Vec<Arc>,
 }
@@ -32,7 +32,7 @@ impl Model for ArcList {
 }
 
 /// An arc whose condition stands elsewhere.
-#[derive(Clone, Copy, Debug)]
+#[derive(Clone, Copy)]
 pub(crate) struct Path<'a> {
     pub(crate) from: usize,
     pub(crate) to: usize,

@@ -14,7 +14,7 @@ use sqlite_items::Items;
 use std::alloc::{AllocError, Global};
 
 /// What the `when` of a timing group says.
-#[derive(Debug, Drop)]
+#[derive(Drop)]
 pub(crate) enum Condition {
     /// There is none, or it is constant 1.
     Always,

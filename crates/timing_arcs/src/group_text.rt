@@ -14,7 +14,7 @@ use liberty_groups::Group;
 use std::alloc::{AllocError, Global};
 
 /// What the texts of a timing group say.
-#[derive(Debug, Drop)]
+#[derive(Drop)]
 pub(crate) struct GroupText {
     /// Its place among the statements of its pin group.
     pub(crate) place: usize,

@@ -15,7 +15,7 @@ use cell_machine::{Arc, Check, CheckKind, Edge, Event};
 use std::alloc::{AllocError, Global};
 
 /// A check without its condition.
-#[derive(Clone, Copy, Debug)]
+#[derive(Clone, Copy)]
 struct Timed {
     kind: CheckKind,
     first: Event,

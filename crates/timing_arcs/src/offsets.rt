@@ -4,7 +4,7 @@ ghost use Rattle.timing_arcs.specs.Offsets.{lesser};
 ghost use Rattle.timing_arcs.specs.Readings.{joined, no_offsets, where_so};
 
 /// The least offsets of what is wrong, kind by kind, and of what is over a limit.
-#[derive(Clone, Copy, Debug)]
+#[derive(Clone, Copy)]
 pub(crate) struct Offsets {
     /// Of a condition that is no function text.
     pub(crate) malformed: Option<usize>,

@@ -16,7 +16,7 @@ use liberty_text::Unit;
 use std::alloc::AllocError;
 
 /// The limit that an attribute gives.
-#[derive(Clone, Copy, Debug)]
+#[derive(Clone, Copy)]
 pub(crate) struct PinLimit {
     /// The offset of the attribute.
     at: usize,
@@ -25,7 +25,7 @@ pub(crate) struct PinLimit {
 }
 
 /// The limits that the attributes of a pin group give.
-#[derive(Clone, Copy, Debug)]
+#[derive(Clone, Copy)]
 pub(crate) struct PinLimits {
     /// The least width of a high pulse.
     high: Option<PinLimit>,
@@ -36,7 +36,7 @@ pub(crate) struct PinLimits {
 }
 
 /// The events of a pin that a limit is between.
-#[derive(Clone, Copy, Debug)]
+#[derive(Clone, Copy)]
 struct Between {
     kind: CheckKind,
     first: Edge,

@@ -14,7 +14,7 @@ use sqlite_items::Items;
 use std::alloc::{AllocError, Global};
 
 /// What a name in `related_pin` is in the cell.
-#[derive(Clone, Copy, Debug)]
+#[derive(Clone, Copy)]
 enum Related {
     /// The input pin with this number.
     Input(usize),
@@ -139,7 +139,7 @@ fn inputs(alloc: Global, related: &[Related]) -> Result<Items<usize>, AllocError
 }
 
 /// What the `related_pin` of a timing group says.
-#[derive(Debug, Drop)]
+#[derive(Drop)]
 pub(crate) struct RelatedText {
     /// The offset of the statement.
     pub(crate) at: Option<usize>,

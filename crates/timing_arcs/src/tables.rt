@@ -16,7 +16,7 @@ use liberty_groups::{Group, Item, Value};
 use liberty_text::{Unit, fixed, picoseconds};
 
 /// What some entries of tables give.
-#[derive(Clone, Copy, Debug)]
+#[derive(Clone, Copy)]
 pub(crate) struct Sum {
     /// Whether there is an entry.
     has_entry: bool,
@@ -27,7 +27,7 @@ pub(crate) struct Sum {
 }
 
 /// What the tables of one name give.
-#[derive(Clone, Copy, Debug)]
+#[derive(Clone, Copy)]
 pub(crate) struct Limit {
     /// The greatest of their times, in picoseconds, 0 where there is none.
     pub(crate) time: u64,

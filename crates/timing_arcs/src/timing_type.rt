@@ -11,7 +11,7 @@ use cell_machine::{Direction, Edge, Pin};
 use liberty_groups::Group;
 
 /// What a timing group describes, by its `timing_type`. (Liberty Reference Manual, `timing_type`.)
-#[derive(Clone, Copy, Debug)]
+#[derive(Clone, Copy)]
 pub(crate) enum TimingType {
     /// The delay to an output.
     Delay,

@@ -10,7 +10,7 @@ use sqlite_items::Items;
 use std::alloc::{AllocError, Global};
 
 /// What the `when` of a timing group says.
-#[derive(Debug, Drop)]
+#[derive(Drop)]
 pub(crate) struct WhenText {
     /// The offset of the statement.
     pub(crate) at: Option<usize>,

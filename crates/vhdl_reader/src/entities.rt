@@ -19,7 +19,7 @@ impl Model for Entities {
     ghost use Rattle.std.specs.Prelude.{List};
     ghost use Rattle.vital_models.specs.declared.model.VEntity.{VEntity};
     ghost use Rattle.vhdl_text.specs.VhdlText.{entity_names};
-    ghost use Rattle.vhdl_reader.specs.Lowered.{HaveSame};
+    ghost use Rattle.vhdl_words.specs.Lowered.{HaveSame};
 
     ghost Value = { List VEntity };
 

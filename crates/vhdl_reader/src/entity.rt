@@ -7,28 +7,22 @@ ghost use Rattle.rule_readers.specs.Reading.{Reads, ReadsAs};
 ghost use Rattle.vhdl_text.specs.VhdlDeclarations.{input_names};
 ghost use Rattle.vhdl_text.specs.VhdlRules as rules;
 ghost use Rattle.vhdl_text.specs.VhdlText as spec;
-ghost use Rattle.vhdl_reader.specs.Checked.{checks_of};
+ghost use Rattle.vhdl_statements.specs.Checked.{checks_of};
 ghost use Rattle.vhdl_reader.specs.File.{entities_of};
 ghost use Rattle.vhdl_reader.specs.Tails as tails;
 
-use crate::checks::{Checks, all_checks};
-use crate::declarations::Declarations;
 use crate::entities::Entities;
-use crate::header::packages;
 use crate::joined::entity_with;
-use crate::language::Vhdl;
-use crate::lines::output_lines;
-use crate::process::input_names;
-use crate::scope::scope_of;
-use crate::state_calls::{state_calls, violation};
-use crate::values::values_of;
-use crate::words::expect_all;
 use rule_readers::{Cursor, Refusal, Stop};
 use sqlite_items::Items;
 use std::alloc::Global;
 use udp_tables::VPort;
+use vhdl_declarations::{input_names, packages, scope_of};
+use vhdl_outputs::{output_lines, values_of};
+use vhdl_statements::{Checks, all_checks, state_calls, violation};
 use vhdl_text::{Assigned, Columns};
 use vhdl_tokens::is_name;
+use vhdl_words::{Declarations, Vhdl, expect_all};
 use vital_models::VEntity;
 
 /// The wait at the end of a process in which these names are its sensitivity list, if there are none. (IEEE 1076-1993, 8.1.)
@@ -119,7 +113,7 @@ fn statements(
 }
 
 /// The name of an entity, where these entities stand before it.
-#[tactic(auto, using(crate::proofs::NextWords::named_other))]
+#[tactic(auto, using(vhdl_words::proofs::NextWords::named_other))]
 fn entity_name(
     cursor: &mut Cursor<'_, Vhdl>,
     alloc: Global,
@@ -165,7 +159,7 @@ fn next_entity(
 }
 
 /// The entities behind these.
-#[tactic(auto, using(rule_readers::proofs::Repeats::turn, crate::proofs::NextWords::choose_begun, crate::proofs::NextWords::choose_other))]
+#[tactic(auto, using(rule_readers::proofs::Repeats::turn, vhdl_words::proofs::NextWords::choose_begun, vhdl_words::proofs::NextWords::choose_other))]
 fn more_entities(
     cursor: &mut Cursor<'_, Vhdl>,
     alloc: Global,

@@ -3,11 +3,10 @@
 ghost use Rattle.std.specs.Prelude.{◌≡◌, reverse, IfOk};
 ghost use Rattle.vhdl_text.specs.VhdlText as spec;
 
-use crate::outputs::output_ports;
-use crate::paths::Uses;
 use sqlite_items::Items;
 use std::alloc::{AllocError, Global};
 use udp_tables::TimingCheck;
+use vhdl_outputs::{Uses, output_ports};
 use vhdl_text::{Assigned, Columns, Scope, Tables};
 use vital_models::{HPath, OutValue, TruthTable, VEntity, VOutput, VState, VStateTable, VTruth};
 

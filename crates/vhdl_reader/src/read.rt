@@ -7,13 +7,13 @@ ghost use Rattle.token_spans.specs.Spans.{tokens_of};
 ghost use Rattle.vhdl_reader.specs.File.{IsFaultOf};
 
 use crate::entity::file;
-use crate::language::Vhdl;
 use rule_readers::{Cursor, Stop};
 use std::alloc::Global;
 use token_spans::Scan;
 use udp_tables::{ModelFault, refusal_fault};
 use vhdl_text::{texts_are_well_formed, vhdl_text_has_one_answer};
 use vhdl_tokens::scan;
+use vhdl_words::Vhdl;
 use vital_models::VEntity;
 
 /// The entities of a VHDL text, or its first fault.

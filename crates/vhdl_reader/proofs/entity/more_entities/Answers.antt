@@ -4,7 +4,7 @@ use Rattle.rule_readers.specs.declared.refusal.Refusal.{Refusal}
 use Rattle.vital_models.specs.declared.model.VEntity.{VEntity}
 use Rattle.vhdl_text.specs.VhdlRules.{begins}
 use Rattle.vhdl_text.specs.VhdlText.{next_entity}
-use Rattle.vhdl_reader.proofs.StoppedTurns.{begun_stopped}
+use Rattle.vhdl_words.proofs.StoppedTurns.{begun_stopped}
 use Rattle.vhdl_reader.proofs.entity.more_entities.Goals as goal
 
 pub returns-in_err-entities : goal.returns-in_err-entities

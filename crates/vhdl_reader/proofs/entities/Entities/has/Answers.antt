@@ -5,7 +5,7 @@ use Rattle.vital_models.specs.declared.model.VEntity.{VEntity}
 use Rattle.vhdl_names.specs.Kept.{lowered}
 use Rattle.vhdl_text.specs.VhdlRules.{is_among}
 use Rattle.vhdl_text.specs.VhdlText.{entity_names}
-use Rattle.vhdl_reader.proofs.LoweredNames.{found_among}
+use Rattle.vhdl_words.proofs.LoweredNames.{found_among}
 use Rattle.vhdl_reader.proofs.entities.Entities.has.Goals as goal
 
 pub returns : goal.returns

@@ -3,8 +3,8 @@ use Rattle.bool_functions.specs.NameList.{Adds}
 use Rattle.vital_models.specs.declared.model.VEntity.{VEntity}
 use Rattle.vhdl_names.specs.Kept.{lowered}
 use Rattle.vhdl_text.specs.VhdlText.{entity_names}
-use Rattle.vhdl_reader.specs.Lowered.{HaveSame}
-use Rattle.vhdl_reader.proofs.LoweredNames.{entity_added}
+use Rattle.vhdl_words.specs.Lowered.{HaveSame}
+use Rattle.vhdl_words.proofs.LoweredNames.{entity_added}
 use Rattle.vhdl_reader.proofs.entities.Entities.with.Goals as goal
 
 pub invariant_of-result : goal.invariant_of-result

@@ -1,0 +1,2 @@
+pub mod NextConstant
+pub mod NextVariable

@@ -1,0 +1,184 @@
+//! The constants of an architecture, which are tables. (IEEE 1076-1993, 4.3.1.1; IEEE 1076.4-2000, the VITAL table types.)
+
+ghost use Rattle.std.specs.Prelude.{◌≡◌, ◌&&◌, nat_eq, length, IfOk, codes};
+ghost use Rattle.std.specs.Option.{option_map};
+ghost use Rattle.grammar_rules.specs.Reading.{read};
+ghost use Rattle.rule_readers.specs.Reading.{Reads, ReadsAs};
+ghost use Rattle.vhdl_text.specs.VhdlRules.{known};
+ghost use Rattle.vhdl_text.specs.VhdlTables as spec;
+ghost use Rattle.vhdl_declarations.specs.Kinds.{constant_kind};
+
+use crate::state_rows::state_table;
+use crate::truth_rows::truth_table;
+use rule_readers::{Cursor, Refusal, Stop};
+use sqlite_items::Items;
+use std::alloc::{AllocError, Global};
+use vhdl_text::Tables;
+use vhdl_tokens::is_name;
+use vhdl_words::{Vhdl, is_numbered};
+use vital_models::TruthTable;
+
+/// What the next constant is a table of.
+#[derive(Clone, Copy, Debug, PartialEq, Eq)]
+pub enum ConstantOf {
+    /// A state or an output.
+    StateOrOutput,
+    /// A condition.
+    Condition,
+}
+
+/// The constant that a name declares behind these. An `Err` comes only where memory is wanting.
+fn constant_of(
+    alloc: Global,
+    tables: &Tables,
+    token: &[u8],
+) -> Result<Option<ConstantOf>, AllocError>
+    ensures { IfOk result (λ found. option_map constant_kind found ≡ spec.constant_of tables.now token.now) }
+{
+    let before = tables.states.as_slice().len() + tables.outputs.as_slice().len();
+    if is_numbered(alloc, token, b"k_", before + 1)? {
+        return Ok(Some(ConstantOf::StateOrOutput));
+    }
+    if tables.outputs.len() != 0 {
+        return Ok(None);
+    }
+    if is_numbered(alloc, token, b"c_", tables.conditions.as_slice().len() + 1)? {
+        return Ok(Some(ConstantOf::Condition));
+    }
+    Ok(None)
+}
+
+/// The name of the next constant.
+#[tactic(auto, using(crate::proofs::NextConstant::constant_some, crate::proofs::NextConstant::constant_none, rule_readers::proofs::Values::known_other))]
+fn constant_name(
+    cursor: &mut Cursor<'_, Vhdl>,
+    alloc: Global,
+    tables: &Tables,
+) -> Result<ConstantOf, Stop>
+    ensures { ReadsAs constant_kind (read (known (spec.constant_of tables.now)) cursor.old) result cursor.new }
+{
+    if !is_name(cursor.bytes()) {
+        return Err(Stop::Refused(Refusal::Syntax));
+    }
+    let Some(of) = constant_of(alloc, tables, cursor.bytes())? else {
+        return Err(Stop::Refused(Refusal::Undefined));
+    };
+    cursor.skip();
+    Ok(of)
+}
+
+/// A truth table, behind the type of its constant.
+#[tactic(auto, unfolding(vhdl_text::specs::VhdlTables::assigned_truth_table))]
+fn assigned_truth_table(cursor: &mut Cursor<'_, Vhdl>, alloc: Global) -> Result<TruthTable, Stop>
+    ensures { Reads (read spec.assigned_truth_table cursor.old) result cursor.new }
+{
+    cursor.expect(b":=")?;
+    let table = truth_table(cursor, alloc)?;
+    cursor.expect(b";")?;
+    Ok(table)
+}
+
+/// The table of a condition, behind the `:` of its constant.
+#[tactic(auto, unfolding(vhdl_text::specs::VhdlTables::condition_constant))]
+fn condition_constant(
+    cursor: &mut Cursor<'_, Vhdl>,
+    alloc: Global,
+    mut tables: Tables,
+) -> Result<Tables, Stop>
+    ensures { Reads (read (spec.condition_constant tables) cursor.old) result cursor.new }
+{
+    cursor.expect(b"VitalTruthTableType")?;
+    let table = assigned_truth_table(cursor, alloc)?;
+    tables.conditions.push(table)?;
+    Ok(tables)
+}
+
+/// The table of an output, behind the `:` of its constant.
+#[tactic(auto, unfolding(vhdl_text::specs::VhdlTables::output_constant))]
+fn output_constant(
+    cursor: &mut Cursor<'_, Vhdl>,
+    alloc: Global,
+    mut tables: Tables,
+) -> Result<Tables, Stop>
+    ensures { Reads (read (spec.output_constant tables) cursor.old) result cursor.new }
+{
+    cursor.expect(b"VitalTruthTableType")?;
+    let table = assigned_truth_table(cursor, alloc)?;
+    tables.outputs.push(table)?;
+    Ok(tables)
+}
+
+/// The table of a state, behind the type of its constant.
+#[tactic(auto, unfolding(vhdl_text::specs::VhdlTables::state_constant))]
+fn state_constant(
+    cursor: &mut Cursor<'_, Vhdl>,
+    alloc: Global,
+    mut tables: Tables,
+) -> Result<Tables, Stop>
+    ensures { Reads (read (spec.state_constant tables) cursor.old) result cursor.new }
+{
+    cursor.expect(b":=")?;
+    let table = state_table(cursor, alloc)?;
+    cursor.expect(b";")?;
+    tables.states.push(table)?;
+    Ok(tables)
+}
+
+/// Whether neither the table of a condition nor that of an output stands yet.
+fn is_before_truth_tables(tables: &Tables) -> bool
+    ensures { result ≡ (spec.is_before_outputs tables.now && nat_eq (length tables.now.conditions) 0) }
+{
+    tables.outputs.len() == 0 && tables.conditions.len() == 0
+}
+
+/// The table of a state or of an output, behind the `:` of its constant.
+#[tactic(auto, using(crate::proofs::NextConstant::state_begun, crate::proofs::NextConstant::state_too_late, crate::proofs::NextConstant::no_state))]
+fn state_or_output(
+    cursor: &mut Cursor<'_, Vhdl>,
+    alloc: Global,
+    tables: Tables,
+) -> Result<Tables, Stop>
+    ensures { Reads (read (spec.constant_by tables spec.StateOrOutput) cursor.old) result cursor.new }
+{
+    if !is_before_truth_tables(&tables) {
+        return output_constant(cursor, alloc, tables);
+    }
+    if !cursor.is_next(b"VitalStateTableType") {
+        return output_constant(cursor, alloc, tables);
+    }
+    cursor.skip();
+    state_constant(cursor, alloc, tables)
+}
+
+/// One more constant, behind its word.
+#[tactic(auto, unfolding(vhdl_text::specs::VhdlTables::constant))]
+fn constant(cursor: &mut Cursor<'_, Vhdl>, alloc: Global, tables: Tables) -> Result<Tables, Stop>
+    ensures { Reads (read (spec.constant tables) cursor.old) result cursor.new }
+{
+    let of = constant_name(cursor, alloc, &tables)?;
+    cursor.expect(b":")?;
+    match of {
+        ConstantOf::StateOrOutput => state_or_output(cursor, alloc, tables),
+        ConstantOf::Condition => condition_constant(cursor, alloc, tables),
+    }
+}
+
+/// All constants.
+#[tactic(auto, unfolding(vhdl_text::specs::VhdlTables::constants), using(rule_readers::proofs::Repeats::turn, vhdl_words::proofs::NextWords::choose_begun, vhdl_words::proofs::NextWords::choose_other))]
+pub fn constants(cursor: &mut Cursor<'_, Vhdl>, alloc: Global) -> Result<Tables, Stop>
+    ensures { Reads (read spec.constants cursor.old) result cursor.new }
+{
+    let mut tables = Tables {
+        states: Items::new(alloc),
+        conditions: Items::new(alloc),
+        outputs: Items::new(alloc),
+    };
+    for _turn in 0..cursor.left() {
+        if !cursor.is_next(b"constant") {
+            break;
+        }
+        cursor.skip();
+        tables = constant(cursor, alloc, tables)?;
+    }
+    Ok(tables)
+}

@@ -1,0 +1,179 @@
+//! The header of an entity: its packages, name and ports. (IEEE 1076-1993, 1.1, 1.2 and 10.4.)
+
+ghost use Rattle.std.specs.Prelude.{◌≡◌, [], true, false, IfOk, codes};
+ghost use Rattle.grammar_rules.specs.Rule.{Many};
+ghost use Rattle.grammar_rules.specs.Reading.{read};
+ghost use Rattle.rule_readers.specs.Reading.{Reads};
+ghost use Rattle.rule_readers.specs.Words.{valued};
+ghost use Rattle.vhdl_tokens.specs.Tokens.{is_name};
+ghost use Rattle.vhdl_text.specs.VhdlRules as rules;
+ghost use Rattle.vhdl_text.specs.VhdlDeclarations as spec;
+
+use rule_readers::{Cursor, Refusal, Stop};
+use sqlite_items::Items;
+use std::alloc::Global;
+use udp_tables::VPort;
+use vhdl_tokens::{is_name, is_same};
+use vhdl_words::{Ports, Vhdl, either_word, expect_all};
+
+/// The packages that an entity uses, behind its first word.
+#[tactic(auto, unfolding(vhdl_text::specs::VhdlDeclarations::packages))]
+pub fn packages(cursor: &mut Cursor<'_, Vhdl>) -> Result<(), Stop>
+    ensures { Reads (read spec.packages cursor.old) result cursor.new }
+{
+    expect_all(cursor, &[b"IEEE", b";"])?;
+    expect_all(
+        cursor,
+        &[b"use", b"IEEE", b".", b"std_logic_1164", b".", b"all", b";"],
+    )?;
+    expect_all(
+        cursor,
+        &[b"use", b"IEEE", b".", b"VITAL_Timing", b".", b"all", b";"],
+    )?;
+    expect_all(
+        cursor,
+        &[
+            b"use",
+            b"IEEE",
+            b".",
+            b"VITAL_Primitives",
+            b".",
+            b"all",
+            b";",
+        ],
+    )
+}
+
+/// Whether a name has a `_`.
+fn has_underscore(name: &[u8]) -> bool
+    ensures { result ≡ spec.has_underscore name.now }
+{
+    for byte in name {
+        if *byte == b'_' {
+            return true;
+        }
+    }
+    false
+}
+
+/// The name of a port of this entity, behind these ports.
+#[tactic(auto, using(vhdl_words::proofs::NextWords::named_fits, vhdl_words::proofs::NextWords::named_foul, vhdl_words::proofs::NextWords::named_misfit, vhdl_words::proofs::NextWords::named_other))]
+fn port_name(
+    cursor: &mut Cursor<'_, Vhdl>,
+    alloc: Global,
+    entity: &[u8],
+    ports: &Ports,
+) -> Result<Items<u8>, Stop>
+    ensures reads { Reads (read (rules.named (spec.port_by entity.now ports.now)) cursor.old) result cursor.new }
+    ensures named { IfOk result (λ name. is_name name ≡ true) }
+    ensures fresh { IfOk result (λ name. rules.is_among (spec.port_names ports.now) name ≡ false) }
+{
+    let token = cursor.bytes();
+    if !is_name(token) {
+        return Err(Stop::Refused(Refusal::Syntax));
+    }
+    if has_underscore(token) {
+        return Err(Stop::Refused(Refusal::Undefined));
+    }
+    if is_same(token, entity) || ports.has(token)? {
+        return Err(Stop::Refused(Refusal::Twice));
+    }
+    let name = Items::from_slice(alloc, token)?;
+    cursor.skip();
+    Ok(name)
+}
+
+/// The direction of a port: whether it is an input.
+fn direction(cursor: &mut Cursor<'_, Vhdl>) -> Result<bool, Stop>
+    ensures { Reads (read (valued spec.is_input_word) cursor.old) result cursor.new }
+{
+    either_word(cursor, b"in", true, b"out", false)
+}
+
+/// One more port of this entity.
+#[tactic(auto, unfolding(vhdl_text::specs::VhdlDeclarations::next_port))]
+fn next_port(
+    cursor: &mut Cursor<'_, Vhdl>,
+    alloc: Global,
+    entity: &[u8],
+    ports: Ports,
+) -> Result<Ports, Stop>
+    ensures { Reads (read (spec.next_port entity.now ports) cursor.old) result cursor.new }
+{
+    let name = port_name(cursor, alloc, entity, &ports)?;
+    cursor.expect(b":")?;
+    let input = direction(cursor)?;
+    cursor.expect(b"std_ulogic")?;
+    ports.with(VPort { name, input })
+}
+
+/// The ports of this entity behind these.
+#[tactic(auto, using(rule_readers::proofs::Repeats::turn, vhdl_words::proofs::NextWords::choose_begun, vhdl_words::proofs::NextWords::choose_other))]
+fn more_ports(
+    cursor: &mut Cursor<'_, Vhdl>,
+    alloc: Global,
+    entity: &[u8],
+    mut ports: Ports,
+) -> Result<Ports, Stop>
+    ensures { Reads (read (Many (λ _. rules.begins (codes ";")) (λ found _. spec.next_port entity.now found) ports) cursor.old) result cursor.new }
+{
+    for _turn in 0..cursor.left() {
+        if !cursor.is_next(b";") {
+            break;
+        }
+        cursor.skip();
+        ports = next_port(cursor, alloc, entity, ports)?;
+    }
+    Ok(ports)
+}
+
+/// The ports of this entity, behind their word.
+#[tactic(auto, unfolding(vhdl_text::specs::VhdlDeclarations::port_list))]
+fn port_list(cursor: &mut Cursor<'_, Vhdl>, alloc: Global, entity: &[u8]) -> Result<Ports, Stop>
+    ensures { Reads (read (spec.port_list entity.now) cursor.old) result cursor.new }
+{
+    cursor.expect(b"(")?;
+    let first = next_port(cursor, alloc, entity, Ports::new(alloc))?;
+    let ports = more_ports(cursor, alloc, entity, first)?;
+    expect_all(cursor, &[b")", b";"])?;
+    Ok(ports)
+}
+
+/// The ports of this entity, if there are any.
+#[tactic(auto, unfolding(vhdl_text::specs::VhdlDeclarations::ports_of), using(vhdl_words::proofs::NextWords::choose_begun, vhdl_words::proofs::NextWords::choose_other))]
+fn ports_of(cursor: &mut Cursor<'_, Vhdl>, alloc: Global, entity: &[u8]) -> Result<Ports, Stop>
+    ensures { Reads (read (spec.ports_of entity.now) cursor.old) result cursor.new }
+{
+    if !cursor.is_next(b"port") {
+        return Ok(Ports::new(alloc));
+    }
+    cursor.skip();
+    port_list(cursor, alloc, entity)
+}
+
+/// The header of this entity, behind its name.
+#[tactic(auto, unfolding(vhdl_text::specs::VhdlDeclarations::entity_header))]
+pub fn entity_header(
+    cursor: &mut Cursor<'_, Vhdl>,
+    alloc: Global,
+    entity: &[u8],
+) -> Result<Ports, Stop>
+    ensures { Reads (read (spec.entity_header entity.now) cursor.old) result cursor.new }
+{
+    cursor.expect(b"is")?;
+    let ports = ports_of(cursor, alloc, entity)?;
+    cursor.expect(b"end")?;
+    cursor.this_name(entity)?;
+    cursor.expect(b";")?;
+    Ok(ports)
+}
+
+/// The header of the architecture of this entity.
+#[tactic(auto, unfolding(vhdl_text::specs::VhdlDeclarations::architecture_header))]
+pub fn architecture_header(cursor: &mut Cursor<'_, Vhdl>, entity: &[u8]) -> Result<(), Stop>
+    ensures { Reads (read (spec.architecture_header entity.now) cursor.old) result cursor.new }
+{
+    expect_all(cursor, &[b"architecture", b"vital", b"of"])?;
+    cursor.this_name(entity)?;
+    cursor.expect(b"is")
+}

@@ -1,0 +1,16 @@
+//! The declarations of an entity and of its architecture, by recursive descent. (IEEE 1076-1993, 1.1 and 1.2; IEEE 1076.4-2000.)
+#![tactic(auto)]
+
+mod constants;
+mod header;
+mod process;
+mod scope;
+mod state_rows;
+mod symbols;
+mod truth_rows;
+mod variable_names;
+mod variables;
+
+pub use header::packages;
+pub use process::input_names;
+pub use scope::scope_of;

@@ -1,0 +1,217 @@
+//! The symbols and rows of tables. (IEEE 1076.4-2000, the VITAL table symbols.)
+
+ghost use Rattle.std.specs.Prelude.{◌≡◌, slice_get, IfOk};
+ghost use Rattle.std.specs.List.{list_any};
+ghost use Rattle.std.specs.Option.{option_and_then};
+ghost use Rattle.vhdl_text.specs.VhdlTables as spec;
+
+use sqlite_items::Items;
+use std::alloc::{AllocError, Global};
+use trit_cubes::Trit;
+use vital_models::{Trits, TruthRow, VNext, VStateRow, VSymbol};
+
+/// The level that a symbol stands for.
+pub fn level_of(token: &[u8]) -> Option<Trits>
+    ensures { result ≡ spec.level_of token.now }
+{
+    if token == b"'0'".as_slice() {
+        Some(Trits::Zero)
+    } else if token == b"'1'".as_slice() {
+        Some(Trits::One)
+    } else if token == b"'X'".as_slice() {
+        Some(Trits::Unknown)
+    } else if token == b"'-'".as_slice() {
+        Some(Trits::Any)
+    } else if token == b"'B'".as_slice() {
+        Some(Trits::Binary)
+    } else {
+        None
+    }
+}
+
+/// What a symbol stands for in a table of a state, where it is no level.
+fn change_of(token: &[u8]) -> Option<VSymbol>
+    ensures { result ≡ spec.change_of token.now }
+{
+    if token == b"'S'".as_slice() {
+        Some(VSymbol::Steady)
+    } else if token == b"'/'".as_slice() {
+        Some(VSymbol::Rise)
+    } else if token == b"'\\'".as_slice() {
+        Some(VSymbol::Fall)
+    } else if token == b"'P'".as_slice() {
+        Some(VSymbol::To1)
+    } else if token == b"'N'".as_slice() {
+        Some(VSymbol::To0)
+    } else if token == b"'p'".as_slice() {
+        Some(VSymbol::From0)
+    } else if token == b"'n'".as_slice() {
+        Some(VSymbol::From1)
+    } else if token == b"'*'".as_slice() {
+        Some(VSymbol::Change)
+    } else {
+        None
+    }
+}
+
+/// What a symbol stands for in a table of a state.
+pub fn symbol_of(token: &[u8]) -> Option<VSymbol>
+    ensures { result ≡ spec.symbol_of token.now }
+{
+    match level_of(token) {
+        Some(level) => Some(VSymbol::Level(level)),
+        None => change_of(token),
+    }
+}
+
+/// Whether a symbol is an edge.
+pub fn is_edge(symbol: VSymbol) -> bool
+    ensures { result ≡ spec.is_edge symbol }
+{
+    !matches!(symbol, VSymbol::Level(_) | VSymbol::Steady)
+}
+
+/// Whether one of the symbols is an edge.
+pub fn has_edge(symbols: &[VSymbol]) -> bool
+    ensures { result ≡ list_any spec.is_edge symbols.now }
+{
+    for symbol in symbols {
+        if is_edge(*symbol) {
+            return true;
+        }
+    }
+    false
+}
+
+/// The level of a symbol, which a row may want as its state.
+fn state_in(symbol: VSymbol) -> Option<Trits>
+    ensures { result ≡ spec.state_in symbol }
+{
+    match symbol {
+        VSymbol::Level(level) => Some(level),
+        _ => None,
+    }
+}
+
+/// The level that a row of a state's table gives.
+fn next_at(level: Trits) -> Option<VNext>
+    ensures { result ≡ spec.next_at level }
+{
+    match level {
+        Trits::Zero => Some(VNext::Zero),
+        Trits::One => Some(VNext::One),
+        Trits::Unknown => Some(VNext::Unknown),
+        Trits::Any | Trits::Binary => None,
+    }
+}
+
+/// What a row of a state's table gives, by its last symbol.
+fn next_in(symbol: VSymbol) -> Option<VNext>
+    ensures { result ≡ spec.next_in symbol }
+{
+    match symbol {
+        VSymbol::Level(level) => next_at(level),
+        VSymbol::Steady => Some(VNext::Keep),
+        _ => None,
+    }
+}
+
+/// The state that a row wants, by its symbol at a place.
+fn state_at(symbols: &[VSymbol], at: usize) -> Option<Trits>
+    ensures { result ≡ option_and_then spec.state_in (slice_get symbols.now at) }
+{
+    match symbols.get(at) {
+        Some(symbol) => state_in(*symbol),
+        None => None,
+    }
+}
+
+/// What a row gives, by its symbol at a place.
+fn result_at(symbols: &[VSymbol], at: usize) -> Option<VNext>
+    ensures { result ≡ option_and_then spec.next_in (slice_get symbols.now at) }
+{
+    match symbols.get(at) {
+        Some(symbol) => next_in(*symbol),
+        None => None,
+    }
+}
+
+/// The row of a state's table that these symbols are. An `Err` comes only where memory is wanting.
+pub fn state_row_of(alloc: Global, symbols: &[VSymbol]) -> Result<Option<VStateRow>, AllocError>
+    ensures { IfOk result (λ row. row ≡ spec.state_row_of symbols.now) }
+{
+    if symbols.len() <= 2 {
+        return Ok(None);
+    }
+    let columns = symbols.len() - 2;
+    let Some(state) = state_at(symbols, columns) else {
+        return Ok(None);
+    };
+    let Some(result) = result_at(symbols, columns + 1) else {
+        return Ok(None);
+    };
+    Ok(Some(VStateRow {
+        inputs: Items::from_slice(alloc, &symbols[..columns])?,
+        state,
+        result,
+    }))
+}
+
+/// The level that a row of a truth table gives.
+fn value_of(level: Trits) -> Option<Trit>
+    ensures { result ≡ spec.value_of level }
+{
+    match level {
+        Trits::Zero => Some(Trit::Zero),
+        Trits::One => Some(Trit::One),
+        Trits::Unknown => Some(Trit::Unknown),
+        Trits::Any | Trits::Binary => None,
+    }
+}
+
+/// What a row gives, by its level at a place.
+fn value_at(levels: &[Trits], at: usize) -> Option<Trit>
+    ensures { result ≡ option_and_then spec.value_of (slice_get levels.now at) }
+{
+    match levels.get(at) {
+        Some(level) => value_of(*level),
+        None => None,
+    }
+}
+
+/// The row of a truth table that these levels are. An `Err` comes only where memory is wanting.
+pub fn truth_row_of(alloc: Global, levels: &[Trits]) -> Result<Option<TruthRow>, AllocError>
+    ensures { IfOk result (λ row. row ≡ spec.truth_row_of levels.now) }
+{
+    if levels.len() <= 1 {
+        return Ok(None);
+    }
+    let columns = levels.len() - 1;
+    let Some(result) = value_at(levels, columns) else {
+        return Ok(None);
+    };
+    Ok(Some(TruthRow {
+        inputs: Items::from_slice(alloc, &levels[..columns])?,
+        result,
+    }))
+}
+
+/// Whether a row behind these is as long as the first of them.
+pub fn is_as_long_as_state_rows(rows: &[VStateRow], row: &VStateRow) -> bool
+    ensures { result ≡ spec.is_as_long_as_state_rows rows.now row.now }
+{
+    match rows.first() {
+        Some(first) => row.inputs.len() == first.inputs.len(),
+        None => true,
+    }
+}
+
+/// Whether a row behind these is as long as the first of them.
+pub fn is_as_long_as_truth_rows(rows: &[TruthRow], row: &TruthRow) -> bool
+    ensures { result ≡ spec.is_as_long_as_truth_rows rows.now row.now }
+{
+    match rows.first() {
+        Some(first) => row.inputs.len() == first.inputs.len(),
+        None => true,
+    }
+}

@@ -1,0 +1,235 @@
+//! The variables of a process. (IEEE 1076-1993, 4.3.1.3; IEEE 1076.4-2000, the types of the data of checks and of delays.)
+
+ghost use Rattle.std.specs.Prelude.{◌≡◌, ◌+◌, ◌<◌, length, IfOk, Some, [], ◌∷◌, codes};
+ghost use Rattle.grammar_rules.specs.Rule.{Gives, Many, Then};
+ghost use Rattle.grammar_rules.specs.Reading.{read};
+ghost use Rattle.rule_readers.specs.Reading.{Reads};
+ghost use Rattle.rule_readers.specs.Words.{valued};
+ghost use Rattle.vhdl_text.specs.VhdlRules as rules;
+ghost use Rattle.vhdl_text.specs.VhdlDeclarations as spec;
+
+use crate::variable_names::{VariableOf, awaits_violation, variable_name};
+use rule_readers::{Cursor, Stop};
+use sqlite_items::Items;
+use std::alloc::{AllocError, Global};
+use vhdl_text::{Tables, Variables};
+use vhdl_words::{Ports, Vhdl, either_word, expect_all, numbered, this_number, width_at};
+
+/// The type of the data of a check.
+fn period_type(cursor: &mut Cursor<'_, Vhdl>) -> Result<bool, Stop>
+    ensures { Reads (read (valued spec.is_period_type) cursor.old) result cursor.new }
+{
+    either_word(
+        cursor,
+        b"VitalTimingDataType",
+        false,
+        b"VitalPeriodDataType",
+        true,
+    )
+}
+
+/// The first data of a check of this type, and the end of its declaration.
+fn initialised(
+    cursor: &mut Cursor<'_, Vhdl>,
+    mut variables: Variables,
+    is_period: bool,
+) -> Result<Variables, Stop>
+    ensures { Reads (read (Then (rules.expect_all (codes ":=" ∷ spec.first_data is_period ∷ codes ";" ∷ [])) (λ _. Gives (spec.with_check variables is_period))) cursor.old) result cursor.new }
+{
+    if is_period {
+        expect_all(cursor, &[b":=", b"VitalPeriodDataInit", b";"])?;
+        variables.periods.push(true)?;
+        return Ok(variables);
+    }
+    expect_all(cursor, &[b":=", b"VitalTimingDataInit", b";"])?;
+    variables.periods.push(false)?;
+    Ok(variables)
+}
+
+/// The name of the data of the next check.
+fn data_name(
+    cursor: &mut Cursor<'_, Vhdl>,
+    alloc: Global,
+    variables: &Variables,
+) -> Result<(), Stop>
+    ensures { Reads (read (rules.this_name (Some (rules.numbered (codes "d_") (length variables.now.periods + 1)))) cursor.old) result cursor.new }
+{
+    let number = variables.periods.as_slice().len() + 1;
+    numbered(cursor, alloc, true, b"d_", number)
+}
+
+/// The variables of a check, behind the name of the first of them.
+#[tactic(auto, unfolding(vhdl_text::specs::VhdlDeclarations::check_variables))]
+fn check_variables(
+    cursor: &mut Cursor<'_, Vhdl>,
+    alloc: Global,
+    variables: Variables,
+) -> Result<Variables, Stop>
+    ensures { Reads (read (spec.check_variables variables) cursor.old) result cursor.new }
+{
+    expect_all(cursor, &[b":", b"X01", b":=", b"'0'", b";", b"variable"])?;
+    data_name(cursor, alloc, &variables)?;
+    cursor.expect(b":")?;
+    let is_period = period_type(cursor)?;
+    initialised(cursor, variables, is_period)
+}
+
+/// The variable of the violation, behind its name.
+#[tactic(auto, unfolding(vhdl_text::specs::VhdlDeclarations::violation_variable))]
+fn violation_variable(
+    cursor: &mut Cursor<'_, Vhdl>,
+    mut variables: Variables,
+) -> Result<Variables, Stop>
+    ensures { Reads (read (spec.violation_variable variables) cursor.old) result cursor.new }
+{
+    expect_all(cursor, &[b":", b"X01", b":=", b"'0'", b";"])?;
+    variables.violation = true;
+    Ok(variables)
+}
+
+/// The variables of a state, behind the name of the first of them.
+#[tactic(auto, unfolding(vhdl_text::specs::VhdlDeclarations::state_variables))]
+fn state_variables(
+    cursor: &mut Cursor<'_, Vhdl>,
+    alloc: Global,
+    tables: &Tables,
+    mut variables: Variables,
+) -> Result<Variables, Stop>
+    requires { variables.states < length tables.now.states }
+    ensures { Reads (read (spec.state_variables tables.now variables) cursor.old) result cursor.new }
+{
+    let _bound = tables.states.as_slice().len();
+    expect_all(
+        cursor,
+        &[b":", b"std_logic", b":=", b"'X'", b";", b"variable"],
+    )?;
+    numbered(cursor, alloc, true, b"p_", variables.states + 1)?;
+    expect_all(cursor, &[b":", b"std_logic_vector", b"("])?;
+    this_number(cursor, 1)?;
+    cursor.expect(b"to")?;
+    this_number(cursor, width_at(tables, variables.states))?;
+    expect_all(
+        cursor,
+        &[b")", b":=", b"(", b"others", b"=>", b"'X'", b")", b";"],
+    )?;
+    variables.states += 1;
+    Ok(variables)
+}
+
+/// The variable of an output, behind its name.
+#[tactic(auto, unfolding(vhdl_text::specs::VhdlDeclarations::output_variable))]
+fn output_variable(
+    cursor: &mut Cursor<'_, Vhdl>,
+    mut variables: Variables,
+) -> Result<Variables, Stop>
+    ensures { Reads (read (spec.output_variable variables) cursor.old) result cursor.new }
+{
+    expect_all(cursor, &[b":", b"std_logic", b":=", b"'X'", b";"])?;
+    variables.glitches.push(false)?;
+    Ok(variables)
+}
+
+/// These with true as the last.
+#[tactic(auto, using(crate::proofs::NextVariable::last_true_append))]
+fn last_true(mut flags: Items<bool>) -> Result<Items<bool>, AllocError>
+    ensures { IfOk result (λ changed. changed ≡ spec.last_true flags) }
+{
+    match flags.pop() {
+        Some(_) => {
+            flags.push(true)?;
+            Ok(flags)
+        }
+        None => Ok(flags),
+    }
+}
+
+/// The variable of the delays of an output, behind its name.
+#[tactic(auto, unfolding(vhdl_text::specs::VhdlDeclarations::glitch_variable))]
+fn glitch_variable(cursor: &mut Cursor<'_, Vhdl>, variables: Variables) -> Result<Variables, Stop>
+    ensures { Reads (read (spec.glitch_variable variables) cursor.old) result cursor.new }
+{
+    expect_all(cursor, &[b":", b"VitalGlitchDataType", b";"])?;
+    let Variables {
+        periods,
+        violation,
+        states,
+        glitches,
+    } = variables;
+    Ok(Variables {
+        periods,
+        violation,
+        states,
+        glitches: last_true(glitches)?,
+    })
+}
+
+/// One more variable, behind its word.
+#[tactic(auto, unfolding(vhdl_text::specs::VhdlDeclarations::variable))]
+fn variable(
+    cursor: &mut Cursor<'_, Vhdl>,
+    alloc: Global,
+    ports: &Ports,
+    tables: &Tables,
+    variables: Variables,
+) -> Result<Variables, Stop>
+    ensures { Reads (read (spec.variable ports.now tables.now variables) cursor.old) result cursor.new }
+{
+    match variable_name(cursor, alloc, ports, tables, &variables)? {
+        VariableOf::Check => check_variables(cursor, alloc, variables),
+        VariableOf::Violation => violation_variable(cursor, variables),
+        VariableOf::State => state_variables(cursor, alloc, tables, variables),
+        VariableOf::Output => output_variable(cursor, variables),
+        VariableOf::Glitch => glitch_variable(cursor, variables),
+    }
+}
+
+/// Whether the variables of all checks, states and outputs stand.
+fn are_declared(ports: &Ports, tables: &Tables, variables: &Variables) -> bool
+    ensures { result ≡ spec.are_declared ports.now tables.now variables.now }
+{
+    !awaits_violation(variables)
+        && variables.states == tables.states.len()
+        && variables.glitches.len() == ports.outputs().len()
+}
+
+/// The variables behind these.
+#[tactic(auto, using(rule_readers::proofs::Repeats::turn, vhdl_words::proofs::NextWords::choose_begun, vhdl_words::proofs::NextWords::choose_other))]
+fn more_variables(
+    cursor: &mut Cursor<'_, Vhdl>,
+    alloc: Global,
+    ports: &Ports,
+    tables: &Tables,
+    mut variables: Variables,
+) -> Result<Variables, Stop>
+    ensures { Reads (read (Many (λ _. rules.begins (codes "variable")) (λ v _. spec.variable ports.now tables.now v) variables) cursor.old) result cursor.new }
+{
+    for _turn in 0..cursor.left() {
+        if !cursor.is_next(b"variable") {
+            break;
+        }
+        cursor.skip();
+        variables = variable(cursor, alloc, ports, tables, variables)?;
+    }
+    Ok(variables)
+}
+
+/// All variables.
+#[tactic(auto, unfolding(vhdl_text::specs::VhdlDeclarations::variables))]
+pub fn variables(
+    cursor: &mut Cursor<'_, Vhdl>,
+    alloc: Global,
+    ports: &Ports,
+    tables: &Tables,
+) -> Result<Variables, Stop>
+    ensures { Reads (read (spec.variables ports.now tables.now) cursor.old) result cursor.new }
+{
+    let none = Variables {
+        periods: Items::new(alloc),
+        violation: false,
+        states: 0,
+        glitches: Items::new(alloc),
+    };
+    let all = more_variables(cursor, alloc, ports, tables, none)?;
+    cursor.go_on_where(are_declared(ports, tables, &all))?;
+    Ok(all)
+}

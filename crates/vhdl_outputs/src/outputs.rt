@@ -1,0 +1,214 @@
+//! The lines of outputs: calls of path delays, and assignments. (IEEE 1076.4-2000, VitalPathDelay01; IEEE 1076-1993, 8.4.)
+
+ghost use Rattle.std.specs.Prelude.{◌≡◌, ◌+◌, ◌<◌, ◌^◌, length, Some, IfOk, codes};
+ghost use Rattle.std.specs.Option.{option_map, option_copied};
+ghost use Rattle.grammar_rules.specs.Rule.{Token};
+ghost use Rattle.grammar_rules.specs.Reading.{read};
+ghost use Rattle.rule_readers.specs.declared.refusal.Refusal.TheVariants.{Syntax};
+ghost use Rattle.rule_readers.specs.Reading.{Reads};
+ghost use Rattle.udp_tables.specs.declared.models.VPort.{VPort};
+ghost use Rattle.vital_models.specs.Sound.{output_ports_from};
+ghost use Rattle.vhdl_text.specs.VhdlRules as rules;
+ghost use Rattle.vhdl_text.specs.VhdlOutputs as spec;
+
+use crate::paths::{Uses, paths};
+use rule_readers::{Cursor, Refusal, Stop};
+use sqlite_items::Items;
+use std::alloc::{AllocError, Global};
+use udp_tables::VPort;
+use vhdl_tokens::{is_name, is_quoted, is_same, is_string};
+use vhdl_words::{Declarations, Vhdl, expect_all, numbered};
+use vital_models::HPath;
+
+/// The numbers of the outputs, in order. An `Err` comes only where memory is wanting.
+pub fn output_ports(alloc: Global, ports: &[VPort]) -> Result<Items<usize>, AllocError>
+    ensures { IfOk result (λ outputs. outputs ≡ output_ports_from 0 ports.now) }
+{
+    let mut outputs = Items::new(alloc);
+    for (number, port) in ports.iter().enumerate() {
+        if !port.input {
+            outputs.push(number)?;
+        }
+    }
+    Ok(outputs)
+}
+
+/// Whether the output with this number, from 0, has data of its delays.
+fn has_glitch(scope: &Declarations, output: usize) -> bool
+    ensures { result ≡ spec.has_glitch scope.now output }
+{
+    match scope.variables().glitches.as_slice().get(output) {
+        Some(has) => *has,
+        None => false,
+    }
+}
+
+/// The port of the output with this number, from 0.
+fn port_at<'a>(scope: &'a Declarations, output: usize) -> Option<&'a VPort>
+    ensures { option_map (λ (port : VPort). port.name) (option_copied result) ≡ spec.output_name scope.now output }
+{
+    match scope.ports().outputs().get(output) {
+        Some(port) => scope.ports().as_slice().get(*port),
+        None => None,
+    }
+}
+
+/// The name of the output with this number, from 0.
+fn output_name(
+    cursor: &mut Cursor<'_, Vhdl>,
+    scope: &Declarations,
+    output: usize,
+) -> Result<(), Stop>
+    ensures { Reads (read (rules.this_name (spec.output_name scope.now output)) cursor.old) result cursor.new }
+{
+    match port_at(scope, output) {
+        Some(port) => cursor.this_name(port.name.as_slice()),
+        None => Err(Stop::Refused(cursor.no_name())),
+    }
+}
+
+/// The text of the name of the output with this number, from 0.
+fn output_text(
+    cursor: &mut Cursor<'_, Vhdl>,
+    scope: &Declarations,
+    output: usize,
+) -> Result<(), Stop>
+    ensures { Reads (read (Token (spec.text_by (spec.output_name scope.now output)) Syntax) cursor.old) result cursor.new }
+{
+    if !is_string(cursor.bytes()) {
+        return Err(Stop::Refused(Refusal::Syntax));
+    }
+    let Some(port) = port_at(scope, output) else {
+        return Err(Stop::Refused(Refusal::Undefined));
+    };
+    if !is_quoted(cursor.bytes(), port.name.as_slice()) {
+        return Err(Stop::Refused(Refusal::Undefined));
+    }
+    cursor.skip();
+    Ok(())
+}
+
+/// The data of the delays of the output with this number, from 0, which has to have them.
+fn glitch_name(
+    cursor: &mut Cursor<'_, Vhdl>,
+    alloc: Global,
+    scope: &Declarations,
+    output: usize,
+) -> Result<(), Stop>
+    requires { output < 2 ^ 63 }
+    ensures { Reads (read (rules.this_name (rules.numbered_where (spec.has_glitch scope.now output) (codes "g_") (output + 1))) cursor.old) result cursor.new }
+{
+    numbered(cursor, alloc, has_glitch(scope, output), b"g_", output + 1)
+}
+
+/// The variable of the output with this number, from 0.
+fn value_name(cursor: &mut Cursor<'_, Vhdl>, alloc: Global, output: usize) -> Result<(), Stop>
+    requires { output < 2 ^ 63 }
+    ensures { Reads (read (rules.this_name (Some (rules.numbered (codes "z_") (output + 1)))) cursor.old) result cursor.new }
+{
+    numbered(cursor, alloc, true, b"z_", output + 1)
+}
+
+/// The start of the path call of the output with this number, behind its word.
+#[tactic(auto, unfolding(vhdl_text::specs::VhdlOutputs::path_call_start))]
+fn path_call_start(
+    cursor: &mut Cursor<'_, Vhdl>,
+    alloc: Global,
+    scope: &Declarations,
+    output: usize,
+) -> Result<(), Stop>
+    requires { output < 2 ^ 63 }
+    ensures { Reads (read (spec.path_call_start scope.now output) cursor.old) result cursor.new }
+{
+    expect_all(cursor, &[b"(", b"OutSignal", b"=>"])?;
+    output_name(cursor, scope, output)?;
+    expect_all(cursor, &[b",", b"GlitchData", b"=>"])?;
+    glitch_name(cursor, alloc, scope, output)?;
+    expect_all(cursor, &[b",", b"OutSignalName", b"=>"])?;
+    output_text(cursor, scope, output)?;
+    expect_all(cursor, &[b",", b"OutTemp", b"=>"])?;
+    value_name(cursor, alloc, output)?;
+    cursor.expect(b",")
+}
+
+/// The start of the path call behind these lines of other outputs, and behind its word.
+fn next_start(
+    cursor: &mut Cursor<'_, Vhdl>,
+    alloc: Global,
+    scope: &Declarations,
+    lines: &[Items<HPath>],
+) -> Result<(), Stop>
+    ensures { Reads (read (spec.path_call_start scope.now (length lines.now)) cursor.old) result cursor.new }
+{
+    path_call_start(cursor, alloc, scope, lines.len())
+}
+
+/// The variable of the output behind these lines of other outputs.
+fn next_value_name(
+    cursor: &mut Cursor<'_, Vhdl>,
+    alloc: Global,
+    lines: &[Items<HPath>],
+) -> Result<(), Stop>
+    ensures { Reads (read (rules.this_name (Some (rules.numbered (codes "z_") (length lines.now + 1)))) cursor.old) result cursor.new }
+{
+    value_name(cursor, alloc, lines.len())
+}
+
+/// A path call, behind its word, and behind the lines of other outputs.
+#[tactic(auto, unfolding(vhdl_text::specs::VhdlOutputs::path_call))]
+pub fn path_call(
+    cursor: &mut Cursor<'_, Vhdl>,
+    alloc: Global,
+    scope: &Declarations,
+    before: (Items<Items<HPath>>, Uses),
+) -> Result<(Items<Items<HPath>>, Uses), Stop>
+    ensures { Reads (read (spec.path_call scope.now before) cursor.old) result cursor.new }
+{
+    let (mut lines, uses) = before;
+    next_start(cursor, alloc, scope, lines.as_slice())?;
+    expect_all(cursor, &[b"Paths", b"=>"])?;
+    let (found, more) = paths(cursor, alloc, scope, uses)?;
+    expect_all(
+        cursor,
+        &[b",", b"Mode", b"=>", b"VitalTransport", b")", b";"],
+    )?;
+    lines.push(found)?;
+    Ok((lines, more))
+}
+
+/// An assignment, behind the name of its output, and behind the lines of other outputs.
+#[tactic(auto, unfolding(vhdl_text::specs::VhdlOutputs::assignment))]
+pub fn assignment(
+    cursor: &mut Cursor<'_, Vhdl>,
+    alloc: Global,
+    before: (Items<Items<HPath>>, Uses),
+) -> Result<(Items<Items<HPath>>, Uses), Stop>
+    ensures { Reads (read (spec.assignment before) cursor.old) result cursor.new }
+{
+    let (mut lines, uses) = before;
+    cursor.expect(b"<=")?;
+    next_value_name(cursor, alloc, lines.as_slice())?;
+    cursor.expect(b";")?;
+    lines.push(Items::new(alloc))?;
+    Ok((lines, uses))
+}
+
+/// Whether a name is that of the output with this number, from 0, which has no paths.
+fn is_unpathed(scope: &Declarations, output: usize, name: &[u8]) -> bool
+    ensures { result ≡ spec.is_unpathed scope.now output name.now }
+{
+    if has_glitch(scope, output) {
+        return false;
+    }
+    match port_at(scope, output) {
+        Some(port) => is_same(name, port.name.as_slice()),
+        None => false,
+    }
+}
+
+/// Whether a name is that of the output behind these lines of other outputs, which has no paths.
+pub fn is_next_unpathed(scope: &Declarations, lines: &[Items<HPath>], name: &[u8]) -> bool
+    ensures { result ≡ spec.is_unpathed scope.now (length lines.now) name.now }
+{
+    is_unpathed(scope, lines.len(), name)
+}

@@ -1,8 +1,0 @@
-use Rattle.std.proofs.Common.{ℕ, List, Option, ap, ◌∙◌}
-use Rattle.vhdl_text.specs.VhdlNames.{input_of, kept, stands_at}
-use Rattle.vhdl_reader.proofs.conditions.same_name.Goals as goal
-
-pub returns : goal.returns
-returns c =
-    let find : List ℕ → Option ℕ = λ x. kept (stands_at c.args.inputs.now c.args.place) (input_of c.args.ports.now x) in
-    c.known.ensures find (λ _. c.in_ok-found.ensures ∙ ap find c.bytes-token.ensures)

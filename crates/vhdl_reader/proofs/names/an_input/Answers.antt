@@ -1,8 +1,0 @@
-use Rattle.std.proofs.Common.{ap, ◌∙◌}
-use Rattle.vhdl_text.specs.VhdlNames.{an_input, input_of}
-use Rattle.vhdl_reader.proofs.names.an_input.Goals as goal
-
-pub returns : goal.returns
-unfolding an_input
-returns c =
-    c.known.ensures (input_of c.args.ports.now) (λ _. c.in_ok-found.ensures ∙ ap (input_of c.args.ports.now) c.bytes-token.ensures)

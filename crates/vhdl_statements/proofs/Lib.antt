@@ -1,0 +1,3 @@
+pub mod NextLimits
+pub mod NextChecks
+pub mod NextColumn

@@ -1,0 +1,286 @@
+//! The calls that look up conditions. (IEEE 1076.4-2000, VitalTruthTable.)
+
+ghost use Rattle.std.specs.Prelude.{◌≡◌, ℕ, ◌+◌, ◌-◌, ◌<◌, ◌^◌, if◌then◌else◌, min, length, drop, slice_get, Option, Some, None, option_copied, IfOk, codes, decimal};
+ghost use Rattle.grammar_rules.specs.Rule.{Gives, Many, Then};
+ghost use Rattle.grammar_rules.specs.Reading.{read};
+ghost use Rattle.rule_readers.specs.Reading.{Reads};
+ghost use Rattle.vhdl_tokens.specs.Spelling.{is_same};
+ghost use Rattle.vhdl_text.specs.VhdlRules as rules;
+ghost use Rattle.vhdl_text.specs.VhdlNames as spec;
+
+use crate::declarations::Declarations;
+use crate::language::Vhdl;
+use crate::names::{input_at, inputs, list_end};
+use crate::ports::Ports;
+use crate::widths::truth_width;
+use crate::words::{expect_all, is_number_token, is_numbered};
+use rule_readers::{Cursor, Refusal, Stop};
+use sqlite_items::Items;
+use std::alloc::{AllocError, Global};
+use vhdl_tokens::is_name;
+
+/// The number that stands in a token behind as many bytes as a word has.
+fn number_behind(word: &[u8], token: &[u8]) -> Option<usize>
+    ensures { (n : ℕ) → n < 2 ^ 64 → drop (length word.now) token.now ≡ decimal n → result ≡ Some n }
+{
+    if token.len() < word.len() {
+        return None;
+    }
+    let (_, rest) = token.split_at(word.len());
+    match str::from_utf8(rest) {
+        Ok(digits) => digits.parse::<usize>().ok(),
+        Err(_) => None,
+    }
+}
+
+/// The place, from 0, of the name of a word with this number, where a token is that name. An `Err` comes only where memory is
+/// wanting.
+fn place_at(
+    alloc: Global,
+    word: &[u8],
+    number: usize,
+    token: &[u8],
+) -> Result<Option<usize>, AllocError>
+    requires { 0 < number }
+    ensures { IfOk result (λ place. place ≡ (if is_same token.now (rules.numbered word.now number) then Some (number - 1) else None)) }
+{
+    if is_numbered(alloc, token, word, number)? {
+        Ok(Some(number - 1))
+    } else {
+        Ok(None)
+    }
+}
+
+/// Which, from 0, of the names of a word with the numbers from 1 up to this one a token is, in time of no more than the token's
+/// length. An `Err` comes only where memory is wanting.
+pub fn place_among(
+    alloc: Global,
+    word: &[u8],
+    most: usize,
+    token: &[u8],
+) -> Result<Option<usize>, AllocError>
+    ensures { IfOk result (λ place. place ≡ rules.place_among word.now most token.now) }
+{
+    let lowered = token.to_ascii_lowercase(alloc)?;
+    match number_behind(word, &lowered) {
+        None => Ok(None),
+        Some(number) => {
+            if number == 0 {
+                return Ok(None);
+            }
+            if number > most {
+                return Ok(None);
+            }
+            place_at(alloc, word, number, token)
+        }
+    }
+}
+
+/// The number, from 1, of the last condition that may be looked up behind these.
+fn last_condition(scope: &Declarations, uses: &[Items<usize>]) -> usize
+    ensures { result ≡ min (length uses.now + 1) (length scope.now.tables.conditions) }
+{
+    let next = uses.len() + 1;
+    let all = scope.tables().conditions.len();
+    if next < all { next } else { all }
+}
+
+/// The condition of a name: one that was looked up before, or the next one, where there is one. An `Err` comes only where memory is
+/// wanting.
+fn condition_of(
+    alloc: Global,
+    scope: &Declarations,
+    uses: &[Items<usize>],
+    token: &[u8],
+) -> Result<Option<usize>, AllocError>
+    ensures { IfOk result (λ found. found ≡ spec.condition_of scope.now uses.now token.now) }
+{
+    place_among(alloc, b"c_", last_condition(scope, uses), token)
+}
+
+/// The name of a condition.
+fn condition_name(
+    cursor: &mut Cursor<'_, Vhdl>,
+    alloc: Global,
+    scope: &Declarations,
+    uses: &[Items<usize>],
+) -> Result<usize, Stop>
+    ensures { Reads (read (rules.known (spec.condition_of scope.now uses.now)) cursor.old) result cursor.new }
+{
+    let found = condition_of(alloc, scope, uses, cursor.bytes())?;
+    cursor.known(found)
+}
+
+/// How many inputs the table of a condition has.
+fn condition_width(scope: &Declarations, condition: usize) -> usize
+    ensures { result ≡ spec.condition_width scope.now condition }
+{
+    match scope.tables().conditions.get(condition) {
+        Some(table) => truth_width(table.rows.as_slice()),
+        None => 0,
+    }
+}
+
+/// The list of inputs of a condition that is looked up for the first time.
+#[tactic(auto, unfolding(vhdl_text::specs::VhdlNames::first_list))]
+fn first_list(
+    cursor: &mut Cursor<'_, Vhdl>,
+    alloc: Global,
+    scope: &Declarations,
+    condition: usize,
+) -> Result<Items<usize>, Stop>
+    ensures { Reads (read (spec.first_list scope.now condition) cursor.old) result cursor.new }
+{
+    let inputs = inputs(cursor, alloc, scope.ports())?;
+    list_end(cursor, condition_width(scope, condition), inputs.len())?;
+    Ok(inputs)
+}
+
+/// The name of the input at this place of a list.
+#[tactic(auto, using(rule_readers::proofs::Values::known_other))]
+fn same_name(
+    cursor: &mut Cursor<'_, Vhdl>,
+    ports: &Ports,
+    inputs: &[usize],
+    place: usize,
+) -> Result<usize, Stop>
+    ensures { Reads (read (rules.known (λ x. spec.kept (spec.stands_at inputs.now place) (spec.input_of ports.now x))) cursor.old) result cursor.new }
+{
+    let token = cursor.bytes();
+    if !is_name(token) {
+        return Err(Stop::Refused(Refusal::Syntax));
+    }
+    let found = input_at(ports, inputs, place, token)?;
+    cursor.known(found)
+}
+
+/// The next input of a list, where so many of it stand before.
+#[tactic(auto, unfolding(vhdl_text::specs::VhdlNames::same_input))]
+fn same_input(
+    cursor: &mut Cursor<'_, Vhdl>,
+    ports: &Ports,
+    inputs: &[usize],
+    place: usize,
+) -> Result<usize, Stop>
+    ensures { Reads (read (spec.same_input ports.now inputs.now place) cursor.old) result cursor.new }
+{
+    same_name(cursor, ports, inputs, place)?;
+    Ok(place + 1)
+}
+
+/// How many inputs of a list stand behind so many.
+#[tactic(auto, using(rule_readers::proofs::Repeats::turn, crate::proofs::NextWords::choose_begun, crate::proofs::NextWords::choose_other))]
+fn more_same_inputs(
+    cursor: &mut Cursor<'_, Vhdl>,
+    ports: &Ports,
+    inputs: &[usize],
+    mut place: usize,
+) -> Result<usize, Stop>
+    ensures { Reads (read (Many (λ _. rules.begins (codes ",")) (λ found _. spec.same_input ports.now inputs.now found) place) cursor.old) result cursor.new }
+{
+    for _turn in 0..cursor.left() {
+        if !cursor.is_next(b",") {
+            break;
+        }
+        cursor.skip();
+        place = same_input(cursor, ports, inputs, place)?;
+    }
+    Ok(place)
+}
+
+/// How many inputs of a list stand in one of two or more.
+#[tactic(auto, unfolding(vhdl_text::specs::VhdlRules::several_elements, vhdl_text::specs::VhdlRules::more_elements))]
+fn several_same_inputs(
+    cursor: &mut Cursor<'_, Vhdl>,
+    ports: &Ports,
+    inputs: &[usize],
+) -> Result<usize, Stop>
+    ensures { Reads (read (rules.several_elements (spec.same_input ports.now inputs.now) 0) cursor.old) result cursor.new }
+{
+    let first = same_input(cursor, ports, inputs, 0)?;
+    cursor.expect(b",")?;
+    let second = same_input(cursor, ports, inputs, first)?;
+    more_same_inputs(cursor, ports, inputs, second)
+}
+
+/// How many inputs of a list stand next.
+#[tactic(auto, unfolding(vhdl_text::specs::VhdlRules::elements, vhdl_text::specs::VhdlRules::only_element), using(rule_readers::proofs::Choices::choose_by, rule_readers::proofs::Choices::choose_not_by))]
+fn same_inputs(
+    cursor: &mut Cursor<'_, Vhdl>,
+    ports: &Ports,
+    inputs: &[usize],
+) -> Result<usize, Stop>
+    ensures { Reads (read (rules.elements (spec.same_input ports.now inputs.now) 0) cursor.old) result cursor.new }
+{
+    if !is_number_token(0, cursor.bytes()) {
+        return several_same_inputs(cursor, ports, inputs);
+    }
+    cursor.skip();
+    cursor.expect(b"=>")?;
+    same_input(cursor, ports, inputs, 0)
+}
+
+/// The list of inputs of a condition that was looked up before.
+#[tactic(auto, unfolding(vhdl_text::specs::VhdlNames::same_list))]
+fn same_list(
+    cursor: &mut Cursor<'_, Vhdl>,
+    scope: &Declarations,
+    inputs: &[usize],
+) -> Result<(), Stop>
+    ensures { Reads (read (spec.same_list scope.now inputs.now) cursor.old) result cursor.new }
+{
+    let count = same_inputs(cursor, scope.ports(), inputs)?;
+    cursor.go_on_where(count == inputs.len())?;
+    cursor.expect(b")")
+}
+
+/// The lists behind a look-up of this condition.
+#[tactic(auto, unfolding(vhdl_text::specs::VhdlNames::list_by))]
+fn list_of(
+    cursor: &mut Cursor<'_, Vhdl>,
+    alloc: Global,
+    scope: &Declarations,
+    mut uses: Items<Items<usize>>,
+    condition: usize,
+) -> Result<Items<Items<usize>>, Stop>
+    ensures { Reads (read (spec.list_by scope.now uses condition (slice_get uses condition)) cursor.old) result cursor.new }
+{
+    if let Some(inputs) = uses.as_slice().get(condition) {
+        same_list(cursor, scope, inputs.as_slice())?;
+        return Ok(uses);
+    }
+    let inputs = first_list(cursor, alloc, scope, condition)?;
+    uses.push(inputs)?;
+    Ok(uses)
+}
+
+/// The end of a look-up of this condition, from its list on: the condition's number, and the lists.
+fn list_and_end(
+    cursor: &mut Cursor<'_, Vhdl>,
+    alloc: Global,
+    scope: &Declarations,
+    uses: Items<Items<usize>>,
+    condition: usize,
+) -> Result<(usize, Items<Items<usize>>), Stop>
+    ensures { Reads (read (Then (spec.list_by scope.now uses condition (slice_get uses condition)) (λ more. Then (rules.expect (codes ")")) (λ _. Gives (condition, more)))) cursor.old) result cursor.new }
+{
+    let more = list_of(cursor, alloc, scope, uses, condition)?;
+    cursor.expect(b")")?;
+    Ok((condition, more))
+}
+
+/// A look-up of a condition, behind its word: the condition's number, and the lists.
+#[tactic(auto, unfolding(vhdl_text::specs::VhdlNames::condition))]
+pub fn condition(
+    cursor: &mut Cursor<'_, Vhdl>,
+    alloc: Global,
+    scope: &Declarations,
+    uses: Items<Items<usize>>,
+) -> Result<(usize, Items<Items<usize>>), Stop>
+    ensures { Reads (read (spec.condition scope.now uses) cursor.old) result cursor.new }
+{
+    expect_all(cursor, &[b"(", b"TruthTable", b"=>"])?;
+    let number = condition_name(cursor, alloc, scope, uses.as_slice())?;
+    expect_all(cursor, &[b",", b"DataIn", b"=>", b"("])?;
+    list_and_end(cursor, alloc, scope, uses, number)
+}

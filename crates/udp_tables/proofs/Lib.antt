@@ -20,5 +20,7 @@ pub mod CubeLemmas
 pub mod TableLemmas
 pub mod GenerationLemmas
 pub mod RowLemmas
+pub mod RowWordLemmas
+pub mod RowKeyLemmas
 pub mod SequentialRows
 pub mod ModelFaultPlaces

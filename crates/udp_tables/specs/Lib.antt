@@ -1,10 +1,12 @@
 pub mod Tables
 pub mod Primitive
+pub mod RowWords
 pub mod PortNames
 pub mod Ports
 pub mod Generated
 pub mod Edges
 pub mod Sequential
+pub mod RowKeys
 pub mod Pairs
 pub mod Conditions
 pub mod TimingChecks

@@ -1,5 +1,5 @@
 -- Tables of rows of any language: the first row that matches decides.
-use Rattle.std.specs.Prelude.{Bool, true, false, ◌&&◌, List, [], ◌∷◌, ◌++◌, map, if◌then◌else◌}
+use Rattle.std.specs.Prelude.{◌≡◌, ℕ, Bool, true, false, ◌&&◌, List, [], ◌∷◌, ◌++◌, map, slice_get, Some, if◌then◌else◌}
 use Rattle.trit_cubes.specs.declared.trits.Trit.{Trit}
 use Rattle.trit_cubes.specs.declared.trits.Trit.TheVariants.{Zero, One}
 
@@ -23,3 +23,7 @@ value_rows make ones zeros = map (make One) ones ++ map (make Zero) zeros
 abbrev pub or_row : {R : Type 0} → R → List R → List R
 or_row alone [] = alone ∷ []
 or_row alone (row ∷ rows) = row ∷ rows
+
+-- each of these keys is that of the row with its number; some rows may have none
+pub record AreKept {R K : Type 0} (key : R → K) (keys : List K) (rows : List R) : Type 0 where
+  pub each_is : (i : ℕ) (k : K) (row : R) → slice_get keys i ≡ Some k → slice_get rows i ≡ Some row → k ≡ key row

@@ -2,58 +2,131 @@
 ghost use Rattle.std.specs.Prelude.{◌≡◌, ◌<◌, IsTrue, All, length, slice_set, slice_index_or};
 ghost use Rattle.std.specs.List.{list_all};
 ghost use Rattle.trit_cubes.specs.declared.trits.Trit.TheVariants as trit;
-ghost use Rattle.udp_tables.specs.Tables.{columns_match, first};
+ghost use Rattle.udp_tables.specs.Tables.{columns_match, first, AreKept};
 ghost use Rattle.udp_tables.specs.Primitive.{entry_matches, is_level};
 ghost use Rattle.udp_tables.specs.Sequential.{row_matches, is_level_row, row_next, edge_hit, udp_next, HasEntries};
+ghost use Rattle.udp_tables.specs.RowWords.{value_word};
+ghost use Rattle.udp_tables.specs.RowKeys.{row_key};
 
+use crate::row_keys::RowKey;
+use crate::row_words::value_word;
 use crate::table::{Entry, Udp, UdpRow};
 use trit_cubes::Trit;
 
 /// The next state of a sequential primitive whose inputs are `inputs` after a change of the input with the number
 /// `changed`, which was `old` before it: that of the first row of levels that matches, else of the first row with a change
 /// entry that matches, else x (IEEE 1364-2005, clause 8). Takes no memory.
+#[tactic(auto, using(crate::proofs::RowKeyLemmas::none_kept))]
 pub fn udp_next(udp: &Udp, state: Trit, inputs: &[Trit], changed: usize, old: Trit) -> Trit
     requires table { HasEntries udp.now }
     requires entries { length inputs.now ≡ length udp.now.inputs }
     requires changed { changed < length inputs.now }
     ensures { result ≡ udp_next udp.now.rows (slice_set inputs.now changed old) inputs.now state }
 {
-    for row in udp.rows.as_slice() {
-        if row.is_level() && row.matches_change(inputs, changed, old, state) {
-            return row.next.after(state);
+    keyed_next(udp, &[], state, inputs, changed, old)
+}
+
+/// The same, sooner where the keys of the rows are kept: only rows are read whose keys let them match.
+pub fn keyed_next(
+    udp: &Udp,
+    keys: &[RowKey],
+    state: Trit,
+    inputs: &[Trit],
+    changed: usize,
+    old: Trit,
+) -> Trit
+    requires table { HasEntries udp.now }
+    requires entries { length inputs.now ≡ length udp.now.inputs }
+    requires keys { AreKept row_key keys.now udp.now.rows }
+    ensures { result ≡ udp_next udp.now.rows (slice_set inputs.now changed old) inputs.now state }
+{
+    let seen = Seen {
+        inputs,
+        word: value_word(inputs),
+        changed,
+        old,
+        state,
+    };
+    level_next(udp, keys, &seen)
+}
+
+/// What the first row of levels that matches gives, else the first row with a change entry that matches, x without one.
+fn level_next(udp: &Udp, keys: &[RowKey], seen: &Seen) -> Trit
+    requires table { HasEntries udp.now }
+    requires entries { length seen.now.inputs.now ≡ length udp.now.inputs }
+    requires keys { AreKept row_key keys.now udp.now.rows }
+    requires word { seen.now.word ≡ value_word seen.now.inputs.now }
+    ensures { result ≡ udp_next udp.now.rows (slice_set seen.now.inputs.now seen.now.changed seen.now.old) seen.now.inputs.now seen.now.state }
+{
+    for (i, row) in udp.rows.as_slice().iter().enumerate() {
+        let key = RowKey::kept(keys, i, row);
+        if key.of_levels && row.matches_change(key, seen) {
+            return row.next.after(seen.state);
         }
     }
-    edge_next(udp, state, inputs, changed, old)
+    edge_next(udp, keys, seen)
 }
 
 /// What the first row with a change entry that matches gives, x without one.
-fn edge_next(udp: &Udp, state: Trit, inputs: &[Trit], changed: usize, old: Trit) -> Trit
+fn edge_next(udp: &Udp, keys: &[RowKey], seen: &Seen) -> Trit
     requires table { HasEntries udp.now }
-    requires entries { length inputs.now ≡ length udp.now.inputs }
-    ensures { result ≡ first (edge_hit (slice_set inputs.now changed old) inputs.now state) (row_next state) udp.now.rows trit.Unknown }
+    requires entries { length seen.now.inputs.now ≡ length udp.now.inputs }
+    requires keys { AreKept row_key keys.now udp.now.rows }
+    requires word { seen.now.word ≡ value_word seen.now.inputs.now }
+    ensures { result ≡ first (edge_hit (slice_set seen.now.inputs.now seen.now.changed seen.now.old) seen.now.inputs.now seen.now.state) (row_next seen.now.state) udp.now.rows trit.Unknown }
 {
-    for row in udp.rows.as_slice() {
-        if !row.is_level() && row.matches_change(inputs, changed, old, state) {
-            return row.next.after(state);
+    for (i, row) in udp.rows.as_slice().iter().enumerate() {
+        let key = RowKey::kept(keys, i, row);
+        if !key.of_levels && row.matches_change(key, seen) {
+            return row.next.after(seen.state);
         }
     }
     Trit::Unknown
 }
 
+/// A change of one input, as a primitive with a state sees it.
+#[derive(Clone, Copy)]
+struct Seen<'a> {
+    /// The inputs after the change.
+    inputs: &'a [Trit],
+    /// Their word.
+    word: u64,
+    /// The number of the input that changes.
+    changed: usize,
+    /// The value that it had.
+    old: Trit,
+    /// The state before the change.
+    state: Trit,
+}
+
 impl UdpRow {
     /// Whether the row has no change entry.
-    fn is_level(&self) -> bool
+    pub(crate) fn is_level(&self) -> bool
         ensures { result ≡ is_level_row self.now }
     {
         all_levels(self.inputs.as_slice())
     }
 
-    /// Whether the row matches a change of one input in this state.
-    fn matches_change(&self, inputs: &[Trit], changed: usize, old: Trit, state: Trit) -> bool
-        requires { length self.now.inputs ≡ length inputs.now }
-        ensures { result ≡ row_matches (slice_set inputs.now changed old) inputs.now state self.now }
+    /// Whether the row, which has this key, matches a change of one input.
+    fn matches_change(&self, key: RowKey, seen: &Seen) -> bool
+        requires entries { length self.now.inputs ≡ length seen.now.inputs.now }
+        requires key { key ≡ row_key self.now }
+        requires word { seen.now.word ≡ value_word seen.now.inputs.now }
+        ensures { result ≡ row_matches (slice_set seen.now.inputs.now seen.now.changed seen.now.old) seen.now.inputs.now seen.now.state self.now }
     {
-        changes_match(self.inputs.as_slice(), inputs, changed, old) && self.state.matches(state)
+        self.entries_match_change(key, seen) && self.state.matches(seen.state)
+    }
+
+    /// Whether the entries of the row, which has this key, match a change of one input.
+    #[tactic(auto, using(crate::proofs::RowKeyLemmas::entries_ruled_out))]
+    fn entries_match_change(&self, key: RowKey, seen: &Seen) -> bool
+        requires entries { length self.now.inputs ≡ length seen.now.inputs.now }
+        requires key { key ≡ row_key self.now }
+        requires word { seen.now.word ≡ value_word seen.now.inputs.now }
+        ensures { result ≡ columns_match entry_matches self.now.inputs (slice_set seen.now.inputs.now seen.now.changed seen.now.old) seen.now.inputs.now }
+    {
+        key.words.may_match(seen.word)
+            && changes_match(self.inputs.as_slice(), seen.inputs, seen.changed, seen.old)
     }
 }
 

@@ -1,0 +1,132 @@
+//! Two words of a row of a table, by which most rows that do not match are known without a look at their entries. A value takes two bits
+//! of a word, the first column the lowest; of the columns behind the first 32 the words say nothing.
+ghost use Rattle.std.specs.Prelude.{◌≡◌, ◌≤◌, ◌<◌, ◌+◌, ◌*◌, ◌^◌, length, map};
+ghost use Rattle.udp_tables.specs.RowWords.{value_word, words_of};
+
+use crate::table::Level;
+use trit_cubes::Trit;
+
+/// Which bits of the word of the values a row asks for, and what these have to be.
+#[derive(Clone, Copy, Debug, PartialEq, Eq)]
+pub struct RowWords {
+    /// The bits that the row asks for.
+    pub asked: u64,
+    /// What they have to be; 0 where the row does not ask.
+    pub values: u64,
+}
+
+/// What stands at a column of a row, and asks something of the value that the column has after a change.
+pub trait Column: Copy {
+    ghost use Rattle.udp_tables.specs.declared.table.Level.{Level};
+
+    /// The level that the value after a change has wherever the column matches.
+    ghost level: { Self → Level };
+
+    /// The level that the value after a change has wherever the column matches.
+    fn level(self) -> Level
+        ensures { result ≡ level self };
+}
+
+impl Column for Trit {
+    ghost use Rattle.udp_tables.specs.RowWords.{level_of};
+
+    ghost level = { level_of };
+
+    fn level(self) -> Level {
+        match self {
+            Trit::Zero => Level::Zero,
+            Trit::One => Level::One,
+            Trit::Unknown => Level::Unknown,
+        }
+    }
+}
+
+impl Level {
+    ghost use Rattle.udp_tables.specs.RowWords.{asked_bits, value_bits};
+
+    /// Which of the two bits of a value the level asks for.
+    fn asked_bits(self) -> u64
+        ensures is { result ≡ asked_bits self }
+        ensures below { result < 4 }
+    {
+        match self {
+            Level::Zero => 3,
+            Level::One => 3,
+            Level::Unknown => 3,
+            Level::Any => 0,
+            Level::Binary => 2,
+        }
+    }
+
+    /// What these bits are.
+    fn value_bits(self) -> u64
+        ensures is { result ≡ value_bits self }
+        ensures below { result < 4 }
+    {
+        match self {
+            Level::Zero => 0,
+            Level::One => 1,
+            Level::Unknown => 2,
+            Level::Any => 0,
+            Level::Binary => 0,
+        }
+    }
+}
+
+impl RowWords {
+    ghost use Rattle.udp_tables.specs.RowWords.{asked_bits, value_bits, row_words, may_match};
+
+    /// The words of a row of these columns.
+    pub fn of<C: Column>(columns: &[C]) -> RowWords
+        ensures { result ≡ row_words C.level columns.now }
+    {
+        if columns.len() <= 32 {
+            words_of(columns)
+        } else {
+            words_of(&columns[..32])
+        }
+    }
+
+    /// The words where one more column stands in front.
+    fn after(self, level: Level) -> RowWords
+        requires asked { self.asked < 2 ^ 62 }
+        requires values { self.values < 2 ^ 62 }
+        ensures { result ≡ record { asked = asked_bits level + 4 * self.asked; values = value_bits level + 4 * self.values } }
+    {
+        RowWords {
+            asked: level.asked_bits() + 4 * self.asked,
+            values: level.value_bits() + 4 * self.values,
+        }
+    }
+
+    /// Whether the row may match where the values have this word.
+    pub fn may_match(self, word: u64) -> bool
+        ensures { result ≡ may_match self word }
+    {
+        word & self.asked == self.values
+    }
+}
+
+/// The word of values.
+pub fn value_word(values: &[Trit]) -> u64
+    ensures { result ≡ value_word values.now }
+{
+    RowWords::of(values).values
+}
+
+/// The words of these columns, the last one first.
+fn words_of<C: Column>(columns: &[C]) -> RowWords
+    requires { length columns.now ≤ 32 }
+    ensures { result ≡ words_of (map C.level columns.now) }
+{
+    let mut words = RowWords {
+        asked: 0,
+        values: 0,
+    };
+    let mut left = columns.len();
+    while left > 0 {
+        left -= 1;
+        words = words.after(columns[left].level());
+    }
+    words
+}

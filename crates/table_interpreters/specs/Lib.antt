@@ -1,4 +1,5 @@
 pub mod Wiring
+pub mod Keys
 pub mod LeastPath
 pub mod ShownPorts
 pub mod ModuleStands

@@ -29,9 +29,9 @@ impl<'a> Conditions for ModuleValues<'a> {
     ghost use Rattle.table_interpreters.specs.Wiring.{is_wired};
     ghost use Rattle.model_traces.specs.CheckTimes.{is_enabled};
 
-    ghost fits = { λ v room. IsTrue (is_wired room v.model.now) };
+    ghost fits = { λ v room. IsTrue (is_wired room v.tables.model.now) };
 
-    ghost counts = { λ v. is_enabled v.model.now v.inputs.now v.states.now };
+    ghost counts = { λ v. is_enabled v.tables.model.now v.inputs.now v.states.now };
 
     fn is_enabled(&self, condition: Option<usize>, room: &mut Items<Trit>) -> bool {
         match condition {

@@ -42,8 +42,8 @@ impl OutputChange {
 
 /// Whether a path is no `if` path or its net is 0.
 fn is_off(values: &ModuleValues, gate: Gate, room: &mut Items<Trit>) -> bool
-    requires { IsTrue (is_wired (length room.old) values.now.model.now) }
-    ensures off { result ≡ is_off values.now.model.now values.now.inputs.now values.now.states.now gate }
+    requires { IsTrue (is_wired (length room.old) values.now.tables.model.now) }
+    ensures off { result ≡ is_off values.now.tables.model.now values.now.inputs.now values.now.states.now gate }
     ensures len { length room.new ≡ length room.old }
 {
     match gate {
@@ -55,8 +55,8 @@ fn is_off(values: &ModuleValues, gate: Gate, room: &mut Items<Trit>) -> bool
 
 /// Whether another path leaves an `ifnone` path active.
 fn is_quiet(values: &ModuleValues, path: VPath, other: VPath, room: &mut Items<Trit>) -> bool
-    requires { IsTrue (is_wired (length room.old) values.now.model.now) }
-    ensures quiet { result ≡ is_quiet values.now.model.now values.now.inputs.now values.now.states.now path other }
+    requires { IsTrue (is_wired (length room.old) values.now.tables.model.now) }
+    ensures quiet { result ≡ is_quiet values.now.tables.model.now values.now.inputs.now values.now.states.now path other }
     ensures len { length room.new ≡ length room.old }
 {
     let same_ports = path.from == other.from && path.to == other.to;
@@ -68,11 +68,11 @@ fn is_quiet(values: &ModuleValues, path: VPath, other: VPath, room: &mut Items<T
 
 /// Whether all other paths leave an `ifnone` path active.
 fn all_are_quiet(values: &ModuleValues, path: VPath, room: &mut Items<Trit>) -> bool
-    requires { IsTrue (is_wired (length room.old) values.now.model.now) }
-    ensures quiet { result ≡ list_all (is_quiet values.now.model.now values.now.inputs.now values.now.states.now path) values.now.model.now.paths }
+    requires { IsTrue (is_wired (length room.old) values.now.tables.model.now) }
+    ensures quiet { result ≡ list_all (is_quiet values.now.tables.model.now values.now.inputs.now values.now.states.now path) values.now.tables.model.now.paths }
     ensures len { length room.new ≡ length room.old }
 {
-    let paths = values.model.paths.as_slice();
+    let paths = values.tables.model.paths.as_slice();
     for i in 0..paths.len() {
         if !is_quiet(values, path, paths[i], room) {
             return false;
@@ -83,8 +83,8 @@ fn all_are_quiet(values: &ModuleValues, path: VPath, room: &mut Items<Trit>) -> 
 
 /// Whether a path is active.
 fn is_active(values: &ModuleValues, path: VPath, room: &mut Items<Trit>) -> bool
-    requires { IsTrue (is_wired (length room.old) values.now.model.now) }
-    ensures active { result ≡ is_active values.now.model.now values.now.inputs.now values.now.states.now path path.gate }
+    requires { IsTrue (is_wired (length room.old) values.now.tables.model.now) }
+    ensures active { result ≡ is_active values.now.tables.model.now values.now.inputs.now values.now.states.now path path.gate }
     ensures len { length room.new ≡ length room.old }
 {
     match path.gate {
@@ -101,11 +101,11 @@ fn path_delay(
     path: VPath,
     room: &mut Items<Trit>,
 ) -> Option<u64>
-    requires { IsTrue (is_wired (length room.old) values.now.model.now) }
-    ensures delay { result ≡ path_delay_of (is_between values.now.model.now.ports change.input change.port) (path_at values.now.model.now values.now.inputs.now values.now.states.now) change.from change.to path }
+    requires { IsTrue (is_wired (length room.old) values.now.tables.model.now) }
+    ensures delay { result ≡ path_delay_of (is_between values.now.tables.model.now.ports change.input change.port) (path_at values.now.tables.model.now values.now.inputs.now values.now.states.now) change.from change.to path }
     ensures len { length room.new ≡ length room.old }
 {
-    let leads = input_number(values.model.ports.as_slice(), path.from) == change.input
+    let leads = input_number(values.tables.model.ports.as_slice(), path.from) == change.input
         && path.to == change.port;
     if !leads {
         return None;
@@ -118,11 +118,11 @@ fn path_delay(
 
 /// The delay of a change of an output: the least over the active paths from the input to it, 0 where none is active.
 fn least_delay(values: &ModuleValues, change: OutputChange, room: &mut Items<Trit>) -> u64
-    requires { IsTrue (is_wired (length room.old) values.now.model.now) }
-    ensures delay { result ≡ least_delay change.from change.to (paths_between values.now.model.now values.now.inputs.now values.now.states.now change.input change.port) }
+    requires { IsTrue (is_wired (length room.old) values.now.tables.model.now) }
+    ensures delay { result ≡ least_delay change.from change.to (paths_between values.now.tables.model.now values.now.inputs.now values.now.states.now change.input change.port) }
     ensures len { length room.new ≡ length room.old }
 {
-    let paths = values.model.paths.as_slice();
+    let paths = values.tables.model.paths.as_slice();
     let mut best = None;
     for i in 0..paths.len() {
         best = lesser(best, path_delay(values, change, paths[i], room));
@@ -136,8 +136,8 @@ pub(crate) fn delay_at(
     change: OutputChange,
     room: &mut Items<Trit>,
 ) -> Option<u64>
-    requires { IsTrue (is_wired (length room.old) values.now.model.now) }
-    ensures delay { result ≡ delay_at values.now.model.now values.now.inputs.now values.now.states.now change.input change.port change.from change.to }
+    requires { IsTrue (is_wired (length room.old) values.now.tables.model.now) }
+    ensures delay { result ≡ delay_at values.now.tables.model.now values.now.inputs.now values.now.states.now change.input change.port change.from change.to }
     ensures len { length room.new ≡ length room.old }
 {
     if change.from == change.to {

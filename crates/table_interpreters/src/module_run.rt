@@ -6,11 +6,11 @@ ghost use Rattle.model_traces.specs.Primitives.{next_states};
 ghost use Rattle.model_traces.specs.ModuleRun.{toggled, entered, notified, shaken, reports_at, happened, step_reports, run_step, HasEach};
 
 use crate::checks::{InputChange, clear, compare_all, stamp_all};
+use crate::module_tables::ModuleTables;
 use crate::module_values::ModuleValues;
 use crate::primitives::step_states;
 use cell_machine::Change;
 use model_traces::{ModuleRun, Turn, Turned};
-use specify_blocks::VModule;
 use sqlite_items::Items;
 use trit_cubes::Trit;
 
@@ -26,15 +26,15 @@ fn toggled(notifier: Trit) -> Trit
 }
 
 /// The primitives that see a change take their next states.
-fn turn_states(run: &mut ModuleRun, model: &VModule, turn: Turn, room: &mut Items<Trit>)
-    requires wired { IsTrue (is_wired (length room.old) model.now) }
-    requires one_each { HasEach model.now run.old }
-    ensures stepped { run.new ≡ record { inputs = run.old.inputs; states = next_states model.now run.old.inputs run.old.notifier turn run.old.states; notifier = run.old.notifier; stamps = run.old.stamps } }
-    ensures one_each { HasEach model.now run.new }
+fn turn_states(run: &mut ModuleRun, tables: &ModuleTables, turn: Turn, room: &mut Items<Trit>)
+    requires wired { IsTrue (is_wired (length room.old) tables.now.model.now) }
+    requires one_each { HasEach tables.now.model.now run.old }
+    ensures stepped { run.new ≡ record { inputs = run.old.inputs; states = next_states tables.now.model.now run.old.inputs run.old.notifier turn run.old.states; notifier = run.old.notifier; stamps = run.old.stamps } }
+    ensures one_each { HasEach tables.now.model.now run.new }
     ensures len { length room.new ≡ length room.old }
 {
     step_states(
-        model,
+        tables,
         run.inputs.as_slice(),
         run.notifier,
         turn,
@@ -44,13 +44,19 @@ fn turn_states(run: &mut ModuleRun, model: &VModule, turn: Turn, room: &mut Item
 }
 
 /// The input takes its value, and the primitives that it feeds their next states.
-fn enter(run: &mut ModuleRun, model: &VModule, change: Change, from: Trit, room: &mut Items<Trit>)
-    requires wired { IsTrue (is_wired (length room.old) model.now) }
-    requires one_each { HasEach model.now run.old }
+fn enter(
+    run: &mut ModuleRun,
+    tables: &ModuleTables,
+    change: Change,
+    from: Trit,
+    room: &mut Items<Trit>,
+)
+    requires wired { IsTrue (is_wired (length room.old) tables.now.model.now) }
+    requires one_each { HasEach tables.now.model.now run.old }
     requires inside { change.pin < length run.old.inputs }
     requires from { from ≡ value_before run.old.inputs change }
-    ensures stepped { run.new ≡ entered model.now run.old change }
-    ensures one_each { HasEach model.now run.new }
+    ensures stepped { run.new ≡ entered tables.now.model.now run.old change }
+    ensures one_each { HasEach tables.now.model.now run.new }
     ensures len { length room.new ≡ length room.old }
 {
     run.inputs.set(change.pin, change.to);
@@ -58,15 +64,15 @@ fn enter(run: &mut ModuleRun, model: &VModule, change: Change, from: Trit, room:
         what: Turned::Input(change.pin),
         from,
     };
-    turn_states(run, model, turn, room);
+    turn_states(run, tables, turn, room);
 }
 
 /// The register of the checks changes once.
-fn notify(run: &mut ModuleRun, model: &VModule, room: &mut Items<Trit>)
-    requires wired { IsTrue (is_wired (length room.old) model.now) }
-    requires one_each { HasEach model.now run.old }
-    ensures stepped { run.new ≡ notified model.now run.old }
-    ensures one_each { HasEach model.now run.new }
+fn notify(run: &mut ModuleRun, tables: &ModuleTables, room: &mut Items<Trit>)
+    requires wired { IsTrue (is_wired (length room.old) tables.now.model.now) }
+    requires one_each { HasEach tables.now.model.now run.old }
+    ensures stepped { run.new ≡ notified tables.now.model.now run.old }
+    ensures one_each { HasEach tables.now.model.now run.new }
     ensures inputs { run.new.inputs ≡ run.old.inputs }
     ensures len { length room.new ≡ length room.old }
 {
@@ -75,91 +81,91 @@ fn notify(run: &mut ModuleRun, model: &VModule, room: &mut Items<Trit>)
         from: run.notifier,
     };
     run.notifier = toggled(run.notifier);
-    turn_states(run, model, turn, room);
+    turn_states(run, tables, turn, room);
 }
 
 /// The register changes where a check reported.
-fn answer(run: &mut ModuleRun, model: &VModule, reported: bool, room: &mut Items<Trit>)
-    requires wired { IsTrue (is_wired (length room.old) model.now) }
-    requires one_each { HasEach model.now run.old }
-    ensures stepped { run.new ≡ shaken model.now (reported ∷ []) run.old }
-    ensures one_each { HasEach model.now run.new }
+fn answer(run: &mut ModuleRun, tables: &ModuleTables, reported: bool, room: &mut Items<Trit>)
+    requires wired { IsTrue (is_wired (length room.old) tables.now.model.now) }
+    requires one_each { HasEach tables.now.model.now run.old }
+    ensures stepped { run.new ≡ shaken tables.now.model.now (reported ∷ []) run.old }
+    ensures one_each { HasEach tables.now.model.now run.new }
     ensures inputs { run.new.inputs ≡ run.old.inputs }
     ensures len { length room.new ≡ length room.old }
 {
     if reported {
-        notify(run, model, room);
+        notify(run, tables, room);
     }
 }
 
 /// The register changes once for each report.
-fn shake(run: &mut ModuleRun, model: &VModule, reports: &[bool], room: &mut Items<Trit>)
-    requires wired { IsTrue (is_wired (length room.old) model.now) }
-    requires one_each { HasEach model.now run.old }
-    ensures stepped { run.new ≡ shaken model.now reports.now run.old }
-    ensures one_each { HasEach model.now run.new }
+fn shake(run: &mut ModuleRun, tables: &ModuleTables, reports: &[bool], room: &mut Items<Trit>)
+    requires wired { IsTrue (is_wired (length room.old) tables.now.model.now) }
+    requires one_each { HasEach tables.now.model.now run.old }
+    ensures stepped { run.new ≡ shaken tables.now.model.now reports.now run.old }
+    ensures one_each { HasEach tables.now.model.now run.new }
     ensures inputs { run.new.inputs ≡ run.old.inputs }
     ensures len { length room.new ≡ length room.old }
 {
     for i in 0..reports.len() {
-        answer(run, model, reports[i], room);
+        answer(run, tables, reports[i], room);
     }
 }
 
 /// Takes the run over an event, and writes which checks report.
 fn happen(
     run: &mut ModuleRun,
-    model: &VModule,
+    tables: &ModuleTables,
     change: Change,
     from: Trit,
     reports: &mut Items<bool>,
     room: &mut Items<Trit>,
 )
-    requires wired { IsTrue (is_wired (length room.old) model.now) }
-    requires one_each { HasEach model.now run.old }
-    requires one_report { length reports.old ≡ length model.now.checks }
+    requires wired { IsTrue (is_wired (length room.old) tables.now.model.now) }
+    requires one_each { HasEach tables.now.model.now run.old }
+    requires one_report { length reports.old ≡ length tables.now.model.now.checks }
     requires inside { change.pin < length run.old.inputs }
     requires from { from ≡ value_before run.old.inputs change }
-    ensures stepped { run.new ≡ happened model.now run.old change }
-    ensures reports { reports.new ≡ reports_at model.now run.old change }
-    ensures one_each { HasEach model.now run.new }
+    ensures stepped { run.new ≡ happened tables.now.model.now run.old change }
+    ensures reports { reports.new ≡ reports_at tables.now.model.now run.old change }
+    ensures one_each { HasEach tables.now.model.now run.new }
     ensures inputs { length run.new.inputs ≡ length run.old.inputs }
     ensures one_report { length reports.new ≡ length reports.old }
     ensures len { length room.new ≡ length room.old }
 {
-    enter(run, model, change, from, room);
+    enter(run, tables, change, from, room);
     let values = ModuleValues {
-        model,
+        tables: *tables,
         inputs: run.inputs.as_slice(),
         states: run.states.as_slice(),
     };
-    let ports = model.ports.as_slice();
+    let ports = tables.model.ports.as_slice();
     let seen = InputChange {
         ports,
         from,
         change,
     };
-    let checks = model.checks.as_slice();
+    let checks = tables.model.checks.as_slice();
     compare_all(&values, &seen, checks, run.stamps.as_slice(), reports, room);
     stamp_all(&seen, checks, &mut run.stamps);
-    shake(run, model, reports.as_slice(), room);
+    shake(run, tables, reports.as_slice(), room);
 }
 
 /// Takes the run over a change of an input, and writes which checks report.
 pub(crate) fn change(
     run: &mut ModuleRun,
-    model: &VModule,
+    tables: &ModuleTables,
     change: Change,
     reports: &mut Items<bool>,
     room: &mut Items<Trit>,
 )
-    requires wired { IsTrue (is_wired (length room.old) model.now) }
-    requires one_each { HasEach model.now run.old }
-    requires one_report { length reports.old ≡ length model.now.checks }
+    requires wired { IsTrue (is_wired (length room.old) tables.now.model.now) }
+    requires one_each { HasEach tables.now.model.now run.old }
+    requires one_report { length reports.old ≡ length tables.now.model.now.checks }
     requires inside { change.pin < length run.old.inputs }
-    ensures stepped { run.new ≡ run_step model.now run.old change }
-    ensures reports { reports.new ≡ step_reports model.now run.old change }
-    ensures one_each { HasEach model.now run.new }
+    ensures stepped { run.new ≡ run_step tables.now.model.now run.old change }
+    ensures reports { reports.new ≡ step_reports tables.now.model.now run.old change }
+    ensures one_each { HasEach tables.now.model.now run.new }
     ensures inputs { length run.new.inputs ≡ length run.old.inputs }
     ensures one_report { length reports.new ≡ length reports.old }
     ensures len { length room.new ≡ length room.old }
@@ -168,6 +174,6 @@ pub(crate) fn change(
     if from == change.to {
         clear(reports);
     } else {
-        happen(run, model, change, from, reports, room);
+        happen(run, tables, change, from, reports, room);
     }
 }

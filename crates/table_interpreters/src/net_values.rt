@@ -3,7 +3,9 @@
 ghost use Rattle.std.specs.Prelude.{◌≡◌, ◌≤◌, ◌<◌, length, map, take, false, IsTrue, slice_index_or};
 ghost use Rattle.trit_cubes.specs.declared.trits.Trit.TheVariants.{Unknown};
 ghost use Rattle.trit_cubes.specs.Filling.{trit_of};
+ghost use Rattle.udp_tables.specs.Tables.{AreKept};
 ghost use Rattle.udp_tables.specs.Primitive.{IsCombinational};
+ghost use Rattle.udp_tables.specs.RowKeys.{row_key};
 ghost use Rattle.table_interpreters.specs.Wiring.{is_table, is_joined, is_wired};
 ghost use Rattle.model_traces.specs.NetValues.{driver, kept_state, source_value, table_value, primitive_value, instance_value, net_value};
 
@@ -13,7 +15,7 @@ use crate::wiring::instance_at;
 use specify_blocks::{Instance, VNet};
 use sqlite_items::Items;
 use trit_cubes::Trit;
-use udp_tables::{Udp, udp_level};
+use udp_tables::{RowKey, Udp, keyed_level};
 
 /// The place of the instance that drives a net, where there is one.
 fn driver(instances: &[Instance], net: VNet) -> Option<usize>
@@ -39,13 +41,13 @@ fn kept_state(states: &[Trit], place: Option<usize>) -> Trit
 
 /// The value of a net that feeds a primitive without a state.
 fn source_value(values: &ModuleValues, net: VNet) -> Trit
-    ensures { result ≡ source_value values.now.model.now values.now.inputs.now values.now.states.now net }
+    ensures { result ≡ source_value values.now.tables.model.now values.now.inputs.now values.now.states.now net }
 {
     match net {
-        VNet::Port(port) => input_value(values.model.ports.as_slice(), values.inputs, port),
+        VNet::Port(port) => input_value(values.tables.model.ports.as_slice(), values.inputs, port),
         VNet::Wire(wire) => kept_state(
             values.states,
-            driver(values.model.instances.as_slice(), VNet::Wire(wire)),
+            driver(values.tables.model.instances.as_slice(), VNet::Wire(wire)),
         ),
         VNet::Notifier => Trit::Unknown,
     }
@@ -54,7 +56,7 @@ fn source_value(values: &ModuleValues, net: VNet) -> Trit
 /// Writes the values of the nets that feed a primitive without a state to the front of the room.
 fn feed(values: &ModuleValues, nets: &[VNet], room: &mut Items<Trit>)
     requires { length nets.now ≤ length room.old }
-    ensures front { take (length nets.now) room.new ≡ map (source_value values.now.model.now values.now.inputs.now values.now.states.now) nets.now }
+    ensures front { take (length nets.now) room.new ≡ map (source_value values.now.tables.model.now values.now.inputs.now values.now.states.now) nets.now }
     ensures len { length room.new ≡ length room.old }
 {
     for i in 0..nets.len() {
@@ -63,15 +65,22 @@ fn feed(values: &ModuleValues, nets: &[VNet], room: &mut Items<Trit>)
 }
 
 /// What a primitive without a state gives for the nets that feed it.
-fn table_value(values: &ModuleValues, nets: &[VNet], udp: &Udp, room: &mut Items<Trit>) -> Trit
+fn table_value(
+    values: &ModuleValues,
+    nets: &[VNet],
+    udp: &Udp,
+    keys: &[RowKey],
+    room: &mut Items<Trit>,
+) -> Trit
     requires table { IsCombinational udp.now }
     requires entries { length nets.now ≡ length udp.now.inputs }
+    requires keys { AreKept row_key keys.now udp.now.rows }
     requires room { length nets.now ≤ length room.old }
-    ensures value { result ≡ table_value values.now.model.now values.now.inputs.now values.now.states.now nets.now udp.now }
+    ensures value { result ≡ table_value values.now.tables.model.now values.now.inputs.now values.now.states.now nets.now udp.now }
     ensures len { length room.new ≡ length room.old }
 {
     feed(values, nets, room);
-    udp_level(udp, &room.as_slice()[..nets.len()])
+    keyed_level(udp, keys, &room.as_slice()[..nets.len()])
 }
 
 /// What a primitive drives whose instance has this state.
@@ -80,18 +89,20 @@ fn primitive_value(
     state: Trit,
     nets: &[VNet],
     udp: &Udp,
+    keys: &[RowKey],
     room: &mut Items<Trit>,
 ) -> Trit
     requires table { IsTrue (is_table udp.now) }
     requires entries { length nets.now ≡ length udp.now.inputs }
+    requires keys { AreKept row_key keys.now udp.now.rows }
     requires room { length nets.now ≤ length room.old }
-    ensures value { result ≡ primitive_value values.now.model.now values.now.inputs.now values.now.states.now state nets.now udp.now }
+    ensures value { result ≡ primitive_value values.now.tables.model.now values.now.inputs.now values.now.states.now state nets.now udp.now }
     ensures len { length room.new ≡ length room.old }
 {
     if udp.sequential {
         state
     } else {
-        table_value(values, nets, udp, room)
+        table_value(values, nets, udp, keys, room)
     }
 }
 
@@ -102,18 +113,21 @@ fn instance_value(
     instance: &Instance,
     room: &mut Items<Trit>,
 ) -> Trit
-    requires wired { IsTrue (is_wired (length room.old) values.now.model.now) }
-    requires joined { IsTrue (is_joined values.now.model.now.udps (length room.old) instance.now) }
-    ensures value { result ≡ instance_value values.now.model.now values.now.inputs.now values.now.states.now state instance.now }
+    requires wired { IsTrue (is_wired (length room.old) values.now.tables.model.now) }
+    requires joined { IsTrue (is_joined values.now.tables.model.now.udps (length room.old) instance.now) }
+    ensures value { result ≡ instance_value values.now.tables.model.now values.now.inputs.now values.now.states.now state instance.now }
     ensures len { length room.new ≡ length room.old }
 {
     match instance {
         Instance::Primitive {
-            udp,
+            udp: number,
             inputs: nets,
             ..
-        } => match values.model.udps.get(*udp) {
-            Some(udp) => { primitive_value(values, state, nets.as_slice(), udp, room) }
+        } => match values.tables.model.udps.get(*number) {
+            Some(udp) => {
+                let keys = values.tables.keys_at(*number);
+                primitive_value(values, state, nets.as_slice(), udp, keys, room)
+            }
             None => Trit::Unknown,
         },
         Instance::Constant { one, .. } => Trit::from(*one),
@@ -122,18 +136,18 @@ fn instance_value(
 
 /// The value of a net that an instance drives: a wire or an output. Unknown where nothing drives it.
 pub(crate) fn net_value(values: &ModuleValues, net: VNet, room: &mut Items<Trit>) -> Trit
-    requires { IsTrue (is_wired (length room.old) values.now.model.now) }
-    ensures value { result ≡ net_value values.now.model.now values.now.inputs.now values.now.states.now net }
+    requires { IsTrue (is_wired (length room.old) values.now.tables.model.now) }
+    ensures value { result ≡ net_value values.now.tables.model.now values.now.inputs.now values.now.states.now net }
     ensures len { length room.new ≡ length room.old }
 {
-    let place = driver(values.model.instances.as_slice(), net);
+    let place = driver(values.tables.model.instances.as_slice(), net);
     let state = kept_state(values.states, place);
     let Some(place) = place else {
         return Trit::Unknown;
     };
-    if place >= values.model.instances.len() {
+    if place >= values.tables.model.instances.len() {
         return Trit::Unknown;
     }
-    let instance = instance_at(values.model, place);
+    let instance = instance_at(values.tables.model, place);
     instance_value(values, state, instance, room)
 }

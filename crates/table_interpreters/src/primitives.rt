@@ -1,17 +1,20 @@
 //! The next states of a module's primitives at a change of an input or of the register of the checks. `room` has place for the
 //! values of the nets that feed one instance.
 ghost use Rattle.std.specs.Prelude.{◌≡◌, ◌≤◌, ◌<◌, length, map, take, position, IsTrue};
+ghost use Rattle.udp_tables.specs.Tables.{AreKept};
 ghost use Rattle.udp_tables.specs.Sequential.{udp_next};
+ghost use Rattle.udp_tables.specs.RowKeys.{row_key};
 ghost use Rattle.table_interpreters.specs.Wiring.{is_table, is_joined, is_wired};
 ghost use Rattle.model_traces.specs.Primitives.{is_turned, entry_value, primitive_next, next_state, next_states};
 
+use crate::module_tables::ModuleTables;
 use crate::ports::{input_number, input_value};
 use crate::wiring::instance_at;
 use model_traces::{Turn, Turned};
-use specify_blocks::{Instance, VModule, VNet};
+use specify_blocks::{Instance, VNet};
 use sqlite_items::Items;
 use trit_cubes::Trit;
-use udp_tables::{Udp, VPort, is_input_port, udp_next};
+use udp_tables::{RowKey, Udp, VPort, is_input_port, keyed_next};
 
 /// Whether this net is what changes.
 fn is_turned(ports: &[VPort], what: Turned, net: VNet) -> bool
@@ -69,10 +72,12 @@ fn primitive_next(
     nets: &[VNet],
     state: Trit,
     udp: &Udp,
+    keys: &[RowKey],
     room: &mut Items<Trit>,
 ) -> Trit
     requires table { IsTrue (is_table udp.now) }
     requires entries { length nets.now ≡ length udp.now.inputs }
+    requires keys { AreKept row_key keys.now udp.now.rows }
     requires room { length nets.now ≤ length room.old }
     ensures next { result ≡ primitive_next ports.now inputs.now notifier turn nets.now state udp.now }
     ensures len { length room.new ≡ length room.old }
@@ -84,12 +89,13 @@ fn primitive_next(
         return state;
     };
     feed(ports, inputs, notifier, nets, room);
-    udp_next(udp, state, &room.as_slice()[..nets.len()], place, turn.from)
+    let values = &room.as_slice()[..nets.len()];
+    keyed_next(udp, keys, state, values, place, turn.from)
 }
 
 /// The next state of an instance.
 fn next_state(
-    model: &VModule,
+    tables: &ModuleTables,
     inputs: &[Trit],
     notifier: Trit,
     turn: Turn,
@@ -97,26 +103,28 @@ fn next_state(
     state: Trit,
     room: &mut Items<Trit>,
 ) -> Trit
-    requires wired { IsTrue (is_wired (length room.old) model.now) }
-    requires joined { IsTrue (is_joined model.now.udps (length room.old) instance.now) }
-    ensures next { result ≡ next_state model.now inputs.now notifier turn instance.now state }
+    requires wired { IsTrue (is_wired (length room.old) tables.now.model.now) }
+    requires joined { IsTrue (is_joined tables.now.model.now.udps (length room.old) instance.now) }
+    ensures next { result ≡ next_state tables.now.model.now inputs.now notifier turn instance.now state }
     ensures len { length room.new ≡ length room.old }
 {
     match instance {
         Instance::Primitive {
-            udp,
+            udp: number,
             inputs: nets,
             ..
-        } => match model.udps.get(*udp) {
+        } => match tables.model.udps.get(*number) {
             Some(udp) => {
+                let keys = tables.keys_at(*number);
                 primitive_next(
-                    model.ports.as_slice(),
+                    tables.model.ports.as_slice(),
                     inputs,
                     notifier,
                     turn,
                     nets.as_slice(),
                     state,
                     udp,
+                    keys,
                     room,
                 )
             }
@@ -128,23 +136,23 @@ fn next_state(
 
 /// Takes the states of all instances over a change. `inputs` and `notifier` are the values after it.
 pub(crate) fn step_states(
-    model: &VModule,
+    tables: &ModuleTables,
     inputs: &[Trit],
     notifier: Trit,
     turn: Turn,
     states: &mut Items<Trit>,
     room: &mut Items<Trit>,
 )
-    requires wired { IsTrue (is_wired (length room.old) model.now) }
-    requires one_each { length states.old ≡ length model.now.instances }
-    ensures stepped { states.new ≡ next_states model.now inputs.now notifier turn states.old }
+    requires wired { IsTrue (is_wired (length room.old) tables.now.model.now) }
+    requires one_each { length states.old ≡ length tables.now.model.now.instances }
+    ensures stepped { states.new ≡ next_states tables.now.model.now inputs.now notifier turn states.old }
     ensures len { length states.new ≡ length states.old }
     ensures room { length room.new ≡ length room.old }
 {
     for i in 0..states.len() {
-        let instance = instance_at(model, i);
+        let instance = instance_at(tables.model, i);
         let state = states.as_slice()[i];
-        let next = next_state(model, inputs, notifier, turn, instance, state, room);
+        let next = next_state(tables, inputs, notifier, turn, instance, state, room);
         states.set(i, next);
     }
 }

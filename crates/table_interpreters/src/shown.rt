@@ -5,6 +5,7 @@ ghost use Rattle.table_interpreters.specs.Wiring.{is_wired};
 ghost use Rattle.table_interpreters.specs.ShownPorts.{shown_first, shown_step};
 
 use crate::delays::{OutputChange, delay_at};
+use crate::module_tables::ModuleTables;
 use crate::module_values::ModuleValues;
 use crate::net_values::net_value;
 use specify_blocks::VNet;
@@ -37,8 +38,8 @@ impl Shown {
 
 /// What one output shows after a change of an input.
 fn shown_step(values: &ModuleValues, input: usize, was: Shown, room: &mut Items<Trit>) -> Shown
-    requires { IsTrue (is_wired (length room.old) values.now.model.now) }
-    ensures shown { result ≡ shown_step values.now.model.now values.now.inputs.now values.now.states.now input was }
+    requires { IsTrue (is_wired (length room.old) values.now.tables.model.now) }
+    ensures shown { result ≡ shown_step values.now.tables.model.now values.now.inputs.now values.now.states.now input was }
     ensures len { length room.new ≡ length room.old }
 {
     let port = was.port;
@@ -60,8 +61,8 @@ pub(crate) fn show_all(
     shown: &mut Items<Shown>,
     room: &mut Items<Trit>,
 )
-    requires { IsTrue (is_wired (length room.old) values.now.model.now) }
-    ensures stepped { shown.new ≡ map (shown_step values.now.model.now values.now.inputs.now values.now.states.now input) shown.old }
+    requires { IsTrue (is_wired (length room.old) values.now.tables.model.now) }
+    ensures stepped { shown.new ≡ map (shown_step values.now.tables.model.now values.now.inputs.now values.now.states.now input) shown.old }
     ensures len { length shown.new ≡ length shown.old }
     ensures room { length room.new ≡ length room.old }
 {
@@ -80,8 +81,8 @@ fn add_first(
     shown: &mut Items<Shown>,
     room: &mut Items<Trit>,
 ) -> Result<(), AllocError>
-    requires { IsTrue (is_wired (length room.old) values.now.model.now) }
-    ensures shown { OnOk result (shown.new ≡ shown.old ++ map (shown_first values.now.model.now values.now.inputs.now values.now.states.now) (output_by port is_input)) }
+    requires { IsTrue (is_wired (length room.old) values.now.tables.model.now) }
+    ensures shown { OnOk result (shown.new ≡ shown.old ++ map (shown_first values.now.tables.model.now values.now.inputs.now values.now.states.now) (output_by port is_input)) }
     ensures len { length room.new ≡ length room.old }
 {
     if is_input {
@@ -97,20 +98,40 @@ fn add_first(
 }
 
 /// What the outputs show at the start, where the inputs and the states have these values: no delays.
-pub(crate) fn show_start(
+fn show_start(
     alloc: Global,
     values: &ModuleValues,
     room: &mut Items<Trit>,
 ) -> Result<Items<Shown>, AllocError>
-    requires { IsTrue (is_wired (length room.old) values.now.model.now) }
-    ensures shown { IfOk result (λ shown. shown ≡ map (shown_first values.now.model.now values.now.inputs.now values.now.states.now) (output_ports values.now.model.now.ports)) }
+    requires { IsTrue (is_wired (length room.old) values.now.tables.model.now) }
+    ensures shown { IfOk result (λ shown. shown ≡ map (shown_first values.now.tables.model.now values.now.inputs.now values.now.states.now) (output_ports values.now.tables.model.now.ports)) }
     ensures len { length room.new ≡ length room.old }
 {
     let mut shown = Items::new(alloc);
-    let ports = values.model.ports.as_slice();
+    let ports = values.tables.model.ports.as_slice();
     for i in 0..ports.len() {
         let is_input = ports[i].input;
         add_first(values, i, is_input, &mut shown, room)?;
     }
     Ok(shown)
+}
+
+/// What the outputs show before any change, where the inputs and the states have these values.
+pub(crate) fn first_shown(
+    alloc: Global,
+    tables: &ModuleTables,
+    inputs: &[Trit],
+    states: &[Trit],
+    room: &mut Items<Trit>,
+) -> Result<Items<Shown>, AllocError>
+    requires { IsTrue (is_wired (length room.old) tables.now.model.now) }
+    ensures shown { IfOk result (λ shown. shown ≡ map (shown_first tables.now.model.now inputs.now states.now) (output_ports tables.now.model.now.ports)) }
+    ensures len { length room.new ≡ length room.old }
+{
+    let values = ModuleValues {
+        tables: *tables,
+        inputs,
+        states,
+    };
+    show_start(alloc, &values, room)
 }

@@ -1,12 +1,15 @@
 //! The simulator of a Verilog module.
-ghost use Rattle.std.specs.Prelude.{◌≡◌, [], length, IsTrue};
+ghost use Rattle.std.specs.Prelude.{◌≡◌, [], length, map, IsTrue};
+ghost use Rattle.table_interpreters.specs.Keys.{udp_keys};
 ghost use Rattle.table_interpreters.specs.Wiring.{is_wired};
 ghost use Rattle.model_traces.specs.PortNumbers.{input_count, output_ports};
 
 use crate::module_run::change;
+use crate::module_tables::ModuleTables;
 use crate::module_values::ModuleValues;
 use crate::ports::input_count;
-use crate::shown::{Shown, show_all, show_start};
+use crate::row_keys::keys_of_all;
+use crate::shown::{Shown, first_shown, show_all};
 use crate::starts::{no_reports, no_times, unknown_values};
 use crate::wiring::most_nets;
 use cell_machine::{CellSim, Change, Sizes};
@@ -15,15 +18,18 @@ use specify_blocks::VModule;
 use sqlite_items::Items;
 use std::alloc::{AllocError, Global};
 use trit_cubes::Trit;
+use udp_tables::RowKey;
 
 /// A Verilog module run by its tables, paths and checks. (IEEE 1364-2005, clauses 8, 14 and 15.)
 #[derive(Drop)]
 pub struct VerilogSim<'a> {
     model: &'a VModule,
+    keys: Items<Items<RowKey>>,
     run: ModuleRun,
     reports: Items<bool>,
     shown: Items<Shown>,
     room: Items<Trit>,
+    ghost keyed: { keys ≡ map udp_keys model.now.udps },
     ghost wired: { IsTrue (is_wired (length room) model.now) },
     ghost each_input: { length run.inputs ≡ input_count model.now.ports },
     ghost each_state: { length run.states ≡ length model.now.instances },
@@ -49,12 +55,18 @@ impl<'a> VerilogSim<'a> {
         let states = unknown_values(alloc, model.instances.len())?;
         let stamps = no_times(alloc, model.checks.len())?;
         let reports = no_reports(alloc, model.checks.len())?;
-        let values = ModuleValues {
+        let keys = keys_of_all(alloc, model.udps.as_slice())?;
+        let tables = ModuleTables {
             model,
-            inputs: inputs.as_slice(),
-            states: states.as_slice(),
+            keys: keys.as_slice(),
         };
-        let shown = show_start(alloc, &values, &mut room)?;
+        let shown = first_shown(
+            alloc,
+            &tables,
+            inputs.as_slice(),
+            states.as_slice(),
+            &mut room,
+        )?;
         let run = ModuleRun {
             inputs,
             states,
@@ -63,6 +75,7 @@ impl<'a> VerilogSim<'a> {
         };
         Ok(VerilogSim {
             model,
+            keys,
             run,
             reports,
             shown,
@@ -89,15 +102,19 @@ impl<'a> CellSim for VerilogSim<'a> {
     }
 
     fn step(&mut self, at: u64, pin: usize, to: Trit) {
+        let tables = ModuleTables {
+            model: self.model,
+            keys: self.keys.as_slice(),
+        };
         change(
             &mut self.run,
-            self.model,
+            &tables,
             Change { at, pin, to },
             &mut self.reports,
             &mut self.room,
         );
         let values = ModuleValues {
-            model: self.model,
+            tables,
             inputs: self.run.inputs.as_slice(),
             states: self.run.states.as_slice(),
         };

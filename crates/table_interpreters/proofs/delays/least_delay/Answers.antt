@@ -7,7 +7,7 @@ use Rattle.table_interpreters.proofs.delays.least_delay.Goals as goal
 pub loop-i-preserved : goal.loop-i-preserved
 loop-i-preserved c =
     let v = c.args.values.now in
-    let m = v.model.now in
+    let m = v.tables.model.now in
     let change = c.args.change in
     let inside : c.loop-i.i < length c.as_slice-paths.result.now = omega arith in
     record {

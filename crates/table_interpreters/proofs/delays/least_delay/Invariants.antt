@@ -9,9 +9,9 @@ abbrev pub invariant-loop-i : goal.invariant-loop-i
 invariant-loop-i l = record {
   least :
       lesser l.best
-      (least_of (is_between l.values.model.now.ports l.change.input l.change.port) (path_at l.values.model.now l.values.inputs.now l.values.states.now)
-      l.change.from l.change.to (drop l.i l.values.model.now.paths))
-      ≡ least_of (is_between l.values.model.now.ports l.change.input l.change.port) (path_at l.values.model.now l.values.inputs.now l.values.states.now)
-      l.change.from l.change.to l.values.model.now.paths;
+      (least_of (is_between l.values.tables.model.now.ports l.change.input l.change.port) (path_at l.values.tables.model.now l.values.inputs.now l.values.states.now)
+      l.change.from l.change.to (drop l.i l.values.tables.model.now.paths))
+      ≡ least_of (is_between l.values.tables.model.now.ports l.change.input l.change.port) (path_at l.values.tables.model.now l.values.inputs.now l.values.states.now)
+      l.change.from l.change.to l.values.tables.model.now.paths;
   len : length l.room ≡ length l.initial.room;
 }

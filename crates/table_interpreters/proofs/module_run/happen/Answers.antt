@@ -13,7 +13,7 @@ shake-requires-clause-one_each c =
 
 pub returns-clause-reports : goal.returns-clause-reports
 returns-clause-reports c =
-    let m = c.args.model.now in
+    let m = c.args.tables.now.model.now in
     c.compare_all.ensures.reports
     ∙ (λ i.
     each

@@ -9,7 +9,7 @@ loop-i-preserved c =
     let inside : c.loop-i.i < length reports = omega arith in
     record {
       stepped =
-          shaken-step c.args.model.now reports c.loop-i.i _ c.loop-i.run c.answer.new.run
+          shaken-step c.args.tables.now.model.now reports c.loop-i.i _ c.loop-i.run c.answer.new.run
           (slice_get-get_or reports c.loop-i.i _ inside) c.answer.ensures.stepped
           ∙ c.loop-i.invariant.stepped;
       one_each = c.answer.ensures.one_each;

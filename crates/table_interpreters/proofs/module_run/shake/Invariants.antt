@@ -5,8 +5,8 @@ use Rattle.table_interpreters.proofs.module_run.shake.Given as goal
 -- the run so far and the reports of the rest lead where all reports lead
 abbrev pub invariant-loop-i : goal.invariant-loop-i
 invariant-loop-i l = record {
-  stepped : shaken l.model (drop l.i l.reports) l.run ≡ shaken l.model l.reports l.initial.run;
-  one_each : HasEach l.model l.run;
+  stepped : shaken l.tables.model.now (drop l.i l.reports) l.run ≡ shaken l.tables.model.now l.reports l.initial.run;
+  one_each : HasEach l.tables.model.now l.run;
   inputs : l.run.inputs ≡ l.initial.run.inputs;
   len : length l.room ≡ length l.initial.room;
 }

@@ -4,4 +4,7 @@ use Rattle.table_interpreters.proofs.net_values.instance_value.Goals as goal
 
 pub primitive_value-requires-clause-table : goal.primitive_value-requires-clause-table
 primitive_value-requires-clause-table c =
-    wired-table (length c.args.room.now) c.args.values.now.model.now c.in-Primitive.udp c.in-Some.udp.now c.requires.wired (sym c.in-Some.ensures.value)
+    wired-table (length c.args.room.now) c.args.values.now.tables.model.now c.in-Primitive.number c.in-Some.udp.now c.requires.wired (sym c.in-Some.ensures.value)
+
+pub primitive_value-requires-clause-keys : goal.primitive_value-requires-clause-keys
+primitive_value-requires-clause-keys c = c.keys_at-keys.ensures c.in-Some.udp.now (sym c.in-Some.ensures.value)

@@ -6,11 +6,14 @@ use Rattle.table_interpreters.proofs.primitives.next_state.Goals as goal
 
 pub primitive_next-requires-clause-table : goal.primitive_next-requires-clause-table
 primitive_next-requires-clause-table c =
-    wired-table (length c.args.room.now) c.args.model.now c.in-Primitive.udp c.in-Some.udp.now c.requires.wired (sym c.in-Some.ensures.value)
+    wired-table (length c.args.room.now) c.args.tables.now.model.now c.in-Primitive.number c.in-Some.udp.now c.requires.wired (sym c.in-Some.ensures.value)
+
+pub primitive_next-requires-clause-keys : goal.primitive_next-requires-clause-keys
+primitive_next-requires-clause-keys c = c.keys_at-keys.ensures c.in-Some.udp.now (sym c.in-Some.ensures.value)
 
 pub returns-in-Some-clause-next : goal.returns-in-Some-clause-next
 returns-in-Some-clause-next c =
-    let m = c.args.model.now in
+    let m = c.args.tables.now.model.now in
     let inputs = c.args.inputs.now in
     let state = c.args.state in
     rw (c.as_slice.ensures, c.as_slice-in-Some.ensures) at c.primitive_next.ensures.next

@@ -7,7 +7,7 @@ use Rattle.table_interpreters.proofs.primitives.step_states.Goals as goal
 
 pub loop-i-preserved : goal.loop-i-preserved
 loop-i-preserved c =
-    let m = c.args.model.now in
+    let m = c.args.tables.now.model.now in
     let f = next_state m c.args.inputs.now c.args.notifier c.args.turn in
     let many : c.loop-i.i < length c.loop-i.states = omega arith in
     record {
@@ -22,6 +22,6 @@ loop-i-preserved c =
 
 pub returns-clause-stepped : goal.returns-clause-stepped
 returns-clause-stepped c =
-    let m = c.args.model.now in
+    let m = c.args.tables.now.model.now in
     sym (each-done (next_state m c.args.inputs.now c.args.notifier c.args.turn) m.instances c.loop-i.states c.loop-i.i (omega arith))
     ∙ c.loop-i.invariant.whole

@@ -8,8 +8,8 @@ abbrev pub invariant-loop-i : goal.invariant-loop-i
 invariant-loop-i l = record {
   whole :
       take l.i l.states
-      ++ each (next_state l.model l.inputs l.notifier l.turn) (drop l.i l.model.instances) (drop l.i l.states)
-      ≡ each (next_state l.model l.inputs l.notifier l.turn) l.model.instances l.initial.states;
+      ++ each (next_state l.tables.model.now l.inputs l.notifier l.turn) (drop l.i l.tables.model.now.instances) (drop l.i l.states)
+      ≡ each (next_state l.tables.model.now l.inputs l.notifier l.turn) l.tables.model.now.instances l.initial.states;
   len : length l.states ≡ length l.initial.states;
   room : length l.room ≡ length l.initial.room;
 }

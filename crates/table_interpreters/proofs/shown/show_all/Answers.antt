@@ -11,7 +11,7 @@ loop-i-preserved c =
     record {
       whole =
           rw (c.set.ensures, add-one)
-          (map-step (shown_step v.model.now v.inputs.now v.states.now c.args.input) c.loop-i.shown c.loop-i.i _
+          (map-step (shown_step v.tables.model.now v.inputs.now v.states.now c.args.input) c.loop-i.shown c.loop-i.i _
           c.shown_step-now.result many (rw c.as_slice.ensures at c.shown_step-now.ensures.shown)
           ∙ c.loop-i.invariant.whole);
       len = ap length c.set.ensures ∙ length-set c.loop-i.shown c.loop-i.i c.shown_step-now.result ∙ c.loop-i.invariant.len;
@@ -21,5 +21,5 @@ loop-i-preserved c =
 pub returns-clause-stepped : goal.returns-clause-stepped
 returns-clause-stepped c =
     let v = c.args.values.now in
-    sym (map-done (shown_step v.model.now v.inputs.now v.states.now c.args.input) c.loop-i.shown c.loop-i.i (omega arith))
+    sym (map-done (shown_step v.tables.model.now v.inputs.now v.states.now c.args.input) c.loop-i.shown c.loop-i.i (omega arith))
     ∙ c.loop-i.invariant.whole

@@ -6,8 +6,8 @@ use Rattle.table_interpreters.proofs.shown.show_all.Given as goal
 abbrev pub invariant-loop-i : goal.invariant-loop-i
 invariant-loop-i l = record {
   whole :
-      take l.i l.shown ++ map (shown_step l.values.model.now l.values.inputs.now l.values.states.now l.input) (drop l.i l.shown)
-      ≡ map (shown_step l.values.model.now l.values.inputs.now l.values.states.now l.input) l.initial.shown;
+      take l.i l.shown ++ map (shown_step l.values.tables.model.now l.values.inputs.now l.values.states.now l.input) (drop l.i l.shown)
+      ≡ map (shown_step l.values.tables.model.now l.values.inputs.now l.values.states.now l.input) l.initial.shown;
   len : length l.shown ≡ length l.initial.shown;
   room : length l.room ≡ length l.initial.room;
 }

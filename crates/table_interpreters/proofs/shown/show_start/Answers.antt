@@ -6,7 +6,7 @@ use Rattle.table_interpreters.proofs.shown.show_start.Goals as goal
 
 pub loop-i-preserved : goal.loop-i-preserved
 loop-i-preserved c =
-    let m = c.args.values.now.model.now in
+    let m = c.args.values.now.tables.model.now in
     let raw : c.loop-i.i < length c.as_slice-ports.result.now = omega arith in
     let inside : c.loop-i.i < length m.ports = rw c.as_slice-ports.ensures at raw in
     let read = rw c.as_slice-ports.ensures at c.index-ports-i.is in

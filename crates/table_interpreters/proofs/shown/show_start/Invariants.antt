@@ -8,7 +8,7 @@ abbrev pub invariant-loop-i : goal.invariant-loop-i
 invariant-loop-i l = record {
   whole :
       l.shown
-      ++ map (shown_first l.values.model.now l.values.inputs.now l.values.states.now) (outputs_from l.i (drop l.i l.values.model.now.ports))
-      ≡ map (shown_first l.values.model.now l.values.inputs.now l.values.states.now) (output_ports l.values.model.now.ports);
+      ++ map (shown_first l.values.tables.model.now l.values.inputs.now l.values.states.now) (outputs_from l.i (drop l.i l.values.tables.model.now.ports))
+      ≡ map (shown_first l.values.tables.model.now l.values.inputs.now l.values.states.now) (output_ports l.values.tables.model.now.ports);
   room : length l.room ≡ length l.initial.room;
 }

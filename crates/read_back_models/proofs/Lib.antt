@@ -1,5 +1,4 @@
 mod Kept
-mod Lists
 mod Names
 mod ModuleLemmas
 mod EntityLemmas

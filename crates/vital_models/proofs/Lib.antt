@@ -1,5 +1,6 @@
 pub mod ListLemmas
 pub mod SymbolLemmas
+pub mod RowWordLemmas
 pub mod StateRows
 pub mod EdgeRows
 pub mod TruthRows

@@ -1,5 +1,6 @@
 pub mod Symbols
 pub mod LookUps
+pub mod RowWords
 pub mod Rows
 pub mod RowLaws
 pub mod Kept

@@ -9,14 +9,16 @@ mod matching;
 mod model;
 mod names;
 mod ports;
+mod row_words;
 mod table;
 mod tables;
 mod timing;
 mod translation;
 
 pub use generation::vital_model;
-pub use lookups::{lookup_state, lookup_truth};
+pub use lookups::{keyed_state, keyed_truth, lookup_state, lookup_truth};
 pub use model::{HGate, HPath, OutValue, VEntity, VOutput, VState, VTruth};
 pub use names::entity_name;
 pub use ports::vital_ports;
+pub use row_words::{TableRow, words_of};
 pub use table::{Trits, TruthRow, TruthTable, VNext, VStateRow, VStateTable, VSymbol};

@@ -4,3 +4,4 @@ pub mod ModuleSteps
 pub mod WiringLemmas
 pub mod EntityLemmas
 pub mod ColumnLemmas
+pub mod TableWordLemmas

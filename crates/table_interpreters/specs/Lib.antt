@@ -3,6 +3,7 @@ pub mod Keys
 pub mod LeastPath
 pub mod ShownPorts
 pub mod ModuleStands
+pub mod TableWords
 pub mod EntityRooms
 pub mod EntitySteps
 pub mod EntitySized

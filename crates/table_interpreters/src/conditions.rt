@@ -46,9 +46,9 @@ impl<'a> Conditions for EntityValues<'a> {
     ghost use Rattle.table_interpreters.specs.EntityRooms.{HasRoom};
     ghost use Rattle.model_traces.specs.ProcessValues.{is_enabled};
 
-    ghost fits = { λ v room. IsSound v.model.now × HasRoom room v.model.now };
+    ghost fits = { λ v room. IsSound v.tables.model.now × HasRoom room v.tables.model.now };
 
-    ghost counts = { λ v. is_enabled v.model.now v.inputs.now };
+    ghost counts = { λ v. is_enabled v.tables.model.now v.inputs.now };
 
     fn is_enabled(&self, condition: Option<usize>, room: &mut Items<Trit>) -> bool {
         match condition {

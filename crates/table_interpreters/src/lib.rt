@@ -5,7 +5,9 @@
 mod checks;
 mod conditions;
 mod delays;
+mod entity_tables;
 mod entity_values;
+mod entity_words;
 mod module_run;
 mod module_tables;
 mod module_values;

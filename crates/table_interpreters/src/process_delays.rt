@@ -20,9 +20,9 @@ use vital_models::{HGate, HPath, VOutput};
 
 /// Whether all these conditions are 0.
 fn all_zero(values: &EntityValues, conditions: &[usize], room: &mut Items<Trit>) -> bool
-    requires sound { IsSound values.now.model.now }
-    requires room { HasRoom (length room.old) values.now.model.now }
-    ensures zero { result ≡ list_all (λ i. is_zero (condition_value values.now.model.now values.now.inputs.now i)) conditions.now }
+    requires sound { IsSound values.now.tables.model.now }
+    requires room { HasRoom (length room.old) values.now.tables.model.now }
+    ensures zero { result ≡ list_all (λ i. is_zero (condition_value values.now.tables.model.now values.now.inputs.now i)) conditions.now }
     ensures len { length room.new ≡ length room.old }
 {
     for i in 0..conditions.len() {
@@ -35,9 +35,9 @@ fn all_zero(values: &EntityValues, conditions: &[usize], room: &mut Items<Trit>)
 
 /// Whether a path's condition holds.
 fn gate_holds(values: &EntityValues, gate: &HGate, room: &mut Items<Trit>) -> bool
-    requires sound { IsSound values.now.model.now }
-    requires room { HasRoom (length room.old) values.now.model.now }
-    ensures holds { result ≡ gate_holds values.now.model.now values.now.inputs.now gate.now }
+    requires sound { IsSound values.now.tables.model.now }
+    requires room { HasRoom (length room.old) values.now.tables.model.now }
+    ensures holds { result ≡ gate_holds values.now.tables.model.now values.now.inputs.now gate.now }
     ensures len { length room.new ≡ length room.old }
 {
     match gate {
@@ -54,12 +54,12 @@ fn path_delay(
     path: &HPath,
     room: &mut Items<Trit>,
 ) -> Option<u64>
-    requires sound { IsSound values.now.model.now }
-    requires room { HasRoom (length room.old) values.now.model.now }
-    ensures delay { result ≡ path_delay_of (begins_at values.now.model.now.ports change.input) (path_at values.now.model.now values.now.inputs.now) change.from change.to path.now }
+    requires sound { IsSound values.now.tables.model.now }
+    requires room { HasRoom (length room.old) values.now.tables.model.now }
+    ensures delay { result ≡ path_delay_of (begins_at values.now.tables.model.now.ports change.input) (path_at values.now.tables.model.now values.now.inputs.now) change.from change.to path.now }
     ensures len { length room.new ≡ length room.old }
 {
-    if input_number(values.model.ports.as_slice(), path.from) != change.input {
+    if input_number(values.tables.model.ports.as_slice(), path.from) != change.input {
         return None;
     }
     if !gate_holds(values, &path.gate, room) {
@@ -75,9 +75,9 @@ fn least_delay(
     output: &VOutput,
     room: &mut Items<Trit>,
 ) -> u64
-    requires sound { IsSound values.now.model.now }
-    requires room { HasRoom (length room.old) values.now.model.now }
-    ensures delay { result ≡ least_delay change.from change.to (paths_from values.now.model.now values.now.inputs.now change.input output.now) }
+    requires sound { IsSound values.now.tables.model.now }
+    requires room { HasRoom (length room.old) values.now.tables.model.now }
+    ensures delay { result ≡ least_delay change.from change.to (paths_from values.now.tables.model.now values.now.inputs.now change.input output.now) }
     ensures len { length room.new ≡ length room.old }
 {
     let paths = output.paths.as_slice();
@@ -95,9 +95,9 @@ pub(crate) fn entity_delay(
     output: &VOutput,
     room: &mut Items<Trit>,
 ) -> Option<u64>
-    requires sound { IsSound values.now.model.now }
-    requires room { HasRoom (length room.old) values.now.model.now }
-    ensures delay { result ≡ delay_at values.now.model.now values.now.inputs.now change.input output.now change.from change.to }
+    requires sound { IsSound values.now.tables.model.now }
+    requires room { HasRoom (length room.old) values.now.tables.model.now }
+    ensures delay { result ≡ delay_at values.now.tables.model.now values.now.inputs.now change.input output.now change.from change.to }
     ensures len { length room.new ≡ length room.old }
 {
     if change.from == change.to {

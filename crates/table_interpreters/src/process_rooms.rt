@@ -15,6 +15,16 @@ pub(crate) fn state_at(model: &VEntity, i: usize) -> &VState
     &model.states.as_slice()[i]
 }
 
+/// The condition with this number.
+pub(crate) fn condition_at(model: &VEntity, i: usize) -> &VTruth
+    requires sound { IsSound model.now }
+    requires inside { i < length model.now.conditions }
+    ensures is { slice_get model.now.conditions i ≡ Some result.now }
+    ensures sound { IsTruth model.now result.now }
+{
+    &model.conditions.as_slice()[i]
+}
+
 /// The output with this number among the outputs.
 pub(crate) fn output_at(model: &VEntity, i: usize) -> &VOutput
     requires sound { IsSound model.now }

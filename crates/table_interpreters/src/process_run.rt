@@ -8,13 +8,13 @@ ghost use Rattle.table_interpreters.specs.EntitySteps.{event_reports, event_step
 ghost use Rattle.model_traces.specs.ProcessRun.{violation_by};
 
 use crate::checks::{InputChange, clear, compare_all, stamp_all};
+use crate::entity_tables::EntityTables;
 use crate::entity_values::EntityValues;
 use crate::process_states::step_entity;
 use cell_machine::Change;
 use model_traces::Stamps;
 use sqlite_items::Items;
 use trit_cubes::Trit;
-use vital_models::VEntity;
 
 /// What a run of a process holds.
 #[derive(Drop)]
@@ -52,23 +52,23 @@ fn violation_of(reports: &[bool]) -> Trit
 /// Takes the run over an event, and writes which checks report.
 fn happen(
     run: &mut ProcessState,
-    model: &VEntity,
+    tables: &EntityTables,
     change: Change,
     from: Trit,
     reports: &mut Items<bool>,
     earlier: &mut Items<Trit>,
     room: &mut Items<Trit>,
 )
-    requires sound { IsSound model.now }
-    requires earlier { HasRoom (length earlier.old) model.now }
-    requires room { HasRoom (length room.old) model.now }
-    requires one_each { HasParts model.now run.old }
-    requires one_report { length reports.old ≡ length model.now.checks }
+    requires sound { IsSound tables.now.model.now }
+    requires earlier { HasRoom (length earlier.old) tables.now.model.now }
+    requires room { HasRoom (length room.old) tables.now.model.now }
+    requires one_each { HasParts tables.now.model.now run.old }
+    requires one_report { length reports.old ≡ length tables.now.model.now.checks }
     requires inside { change.pin < length run.old.inputs }
     requires from { from ≡ value_before run.old.inputs change }
-    ensures stepped { run.new ≡ event_step model.now run.old change (violation_by (any_true (event_reports model.now run.old change))) }
-    ensures reports { reports.new ≡ event_reports model.now run.old change }
-    ensures one_each { HasParts model.now run.new }
+    ensures stepped { run.new ≡ event_step tables.now.model.now run.old change (violation_by (any_true (event_reports tables.now.model.now run.old change))) }
+    ensures reports { reports.new ≡ event_reports tables.now.model.now run.old change }
+    ensures one_each { HasParts tables.now.model.now run.new }
     ensures inputs { length run.new.inputs ≡ length run.old.inputs }
     ensures one_report { length reports.new ≡ length reports.old }
     ensures earlier { length earlier.new ≡ length earlier.old }
@@ -76,21 +76,21 @@ fn happen(
 {
     run.inputs.set(change.pin, change.to);
     let values = EntityValues {
-        model,
+        tables: *tables,
         inputs: run.inputs.as_slice(),
         states: run.states.as_slice(),
     };
-    let ports = model.ports.as_slice();
+    let ports = tables.model.ports.as_slice();
     let seen = InputChange {
         ports,
         from,
         change,
     };
-    let checks = model.checks.as_slice();
+    let checks = tables.model.checks.as_slice();
     compare_all(&values, &seen, checks, run.stamps.as_slice(), reports, room);
     let violation = violation_of(reports.as_slice());
     step_entity(
-        model,
+        tables,
         run.violation,
         run.before.as_slice(),
         violation,
@@ -107,21 +107,21 @@ fn happen(
 /// Takes the run over a change of an input, and writes which checks report.
 pub(crate) fn take(
     run: &mut ProcessState,
-    model: &VEntity,
+    tables: &EntityTables,
     change: Change,
     reports: &mut Items<bool>,
     earlier: &mut Items<Trit>,
     room: &mut Items<Trit>,
 )
-    requires sound { IsSound model.now }
-    requires earlier { HasRoom (length earlier.old) model.now }
-    requires room { HasRoom (length room.old) model.now }
-    requires one_each { HasParts model.now run.old }
-    requires one_report { length reports.old ≡ length model.now.checks }
+    requires sound { IsSound tables.now.model.now }
+    requires earlier { HasRoom (length earlier.old) tables.now.model.now }
+    requires room { HasRoom (length room.old) tables.now.model.now }
+    requires one_each { HasParts tables.now.model.now run.old }
+    requires one_report { length reports.old ≡ length tables.now.model.now.checks }
     requires inside { change.pin < length run.old.inputs }
-    ensures stepped { run.new ≡ state_step model.now run.old change }
-    ensures reports { reports.new ≡ change_reports model.now run.old change }
-    ensures one_each { HasParts model.now run.new }
+    ensures stepped { run.new ≡ state_step tables.now.model.now run.old change }
+    ensures reports { reports.new ≡ change_reports tables.now.model.now run.old change }
+    ensures one_each { HasParts tables.now.model.now run.new }
     ensures inputs { length run.new.inputs ≡ length run.old.inputs }
     ensures one_report { length reports.new ≡ length reports.old }
     ensures earlier { length earlier.new ≡ length earlier.old }
@@ -131,6 +131,6 @@ pub(crate) fn take(
     if from == change.to {
         clear(reports);
     } else {
-        happen(run, model, change, from, reports, earlier, room);
+        happen(run, tables, change, from, reports, earlier, room);
     }
 }

@@ -1,17 +1,20 @@
 //! The next states of an entity.
 ghost use Rattle.std.specs.Prelude.{◌≡◌, ◌≤◌, length, take};
 ghost use Rattle.cell_machine.specs.Each.{each};
+ghost use Rattle.udp_tables.specs.Tables.{AreKept};
 ghost use Rattle.vital_models.specs.Sound.{IsState, IsSound, columns_of};
+ghost use Rattle.vital_models.specs.RowWords.{state_words};
 ghost use Rattle.table_interpreters.specs.EntityRooms.{HasRoom};
 ghost use Rattle.table_interpreters.specs.EntitySteps.{next_by};
 ghost use Rattle.model_traces.specs.ProcessRun.{columns};
 
+use crate::entity_tables::EntityTables;
 use crate::process_rooms::{columns_of, state_at};
 use crate::process_values::feed;
 use sqlite_items::Items;
 use trit_cubes::Trit;
-use udp_tables::VPort;
-use vital_models::{VEntity, VState, lookup_state};
+use udp_tables::{RowWords, VPort};
+use vital_models::{VEntity, VState, keyed_state};
 
 /// Writes the columns of a state's table to the front of the room.
 fn feed_columns(
@@ -33,7 +36,7 @@ fn feed_columns(
     }
 }
 
-/// The next state by a table.
+/// The next state by a table, whose rows have these words where they are kept.
 fn next_state(
     model: &VEntity,
     was: Trit,
@@ -41,11 +44,13 @@ fn next_state(
     violation: Trit,
     inputs: &[Trit],
     table: &VState,
+    words: &[RowWords],
     state: Trit,
     earlier: &mut Items<Trit>,
     room: &mut Items<Trit>,
 ) -> Trit
     requires table { IsState model.now table.now }
+    requires words { AreKept state_words words.now table.now.table.rows }
     requires earlier { columns_of table.now ≤ length earlier.old }
     requires room { columns_of table.now ≤ length room.old }
     ensures next { result ≡ next_by model.now was before.now violation inputs.now table.now state }
@@ -56,8 +61,9 @@ fn next_state(
     let count = columns_of(table);
     feed_columns(ports, was, before, table, earlier);
     feed_columns(ports, violation, inputs, table, room);
-    lookup_state(
+    keyed_state(
         &table.table,
+        words,
         &earlier.as_slice()[..count],
         &room.as_slice()[..count],
         state,
@@ -66,7 +72,7 @@ fn next_state(
 
 /// Takes all states over an event.
 pub(crate) fn step_entity(
-    model: &VEntity,
+    tables: &EntityTables,
     was: Trit,
     before: &[Trit],
     violation: Trit,
@@ -75,20 +81,30 @@ pub(crate) fn step_entity(
     earlier: &mut Items<Trit>,
     room: &mut Items<Trit>,
 )
-    requires sound { IsSound model.now }
-    requires earlier { HasRoom (length earlier.old) model.now }
-    requires room { HasRoom (length room.old) model.now }
-    requires one_each { length states.old ≡ length model.now.states }
-    ensures stepped { states.new ≡ each (next_by model.now was before.now violation inputs.now) model.now.states states.old }
+    requires sound { IsSound tables.now.model.now }
+    requires earlier { HasRoom (length earlier.old) tables.now.model.now }
+    requires room { HasRoom (length room.old) tables.now.model.now }
+    requires one_each { length states.old ≡ length tables.now.model.now.states }
+    ensures stepped { states.new ≡ each (next_by tables.now.model.now was before.now violation inputs.now) tables.now.model.now.states states.old }
     ensures len { length states.new ≡ length states.old }
     ensures earlier { length earlier.new ≡ length earlier.old }
     ensures room { length room.new ≡ length room.old }
 {
     for i in 0..states.len() {
-        let table = state_at(model, i);
+        let table = state_at(tables.model, i);
+        let words = tables.state_words(i);
         let state = states.as_slice()[i];
         let next = next_state(
-            model, was, before, violation, inputs, table, state, earlier, room,
+            tables.model,
+            was,
+            before,
+            violation,
+            inputs,
+            table,
+            words,
+            state,
+            earlier,
+            room,
         );
         states.set(i, next);
     }

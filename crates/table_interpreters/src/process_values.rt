@@ -1,18 +1,22 @@
 //! The values of an entity's conditions and outputs, of the values of its inputs and its states. `room` has place for the columns of
 //! any table.
 ghost use Rattle.std.specs.Prelude.{◌≡◌, ◌+◌, ◌<◌, ◌≤◌, ◌++◌, length, map, take, All};
+ghost use Rattle.udp_tables.specs.Tables.{AreKept};
 ghost use Rattle.vital_models.specs.Sound.{IsTruth, IsValue, IsSound};
+ghost use Rattle.vital_models.specs.RowWords.{truth_words};
 ghost use Rattle.table_interpreters.specs.EntityRooms.{source_count, HasRoom};
+ghost use Rattle.table_interpreters.specs.TableWords.{value_rows};
 ghost use Rattle.model_traces.specs.PortNumbers.{input_value};
 ghost use Rattle.model_traces.specs.ProcessValues.{truth_value, condition_value, source_value, output_value};
 
 use crate::entity_values::EntityValues;
 use crate::ports::input_value;
+use crate::process_rooms::condition_at;
 use cell_machine::Source;
 use sqlite_items::Items;
 use trit_cubes::Trit;
-use udp_tables::VPort;
-use vital_models::{OutValue, VTruth, lookup_truth};
+use udp_tables::{RowWords, VPort};
+use vital_models::{OutValue, VTruth, keyed_truth};
 
 /// Writes the values of these input ports to the room, from the place `start` on.
 pub(crate) fn feed(
@@ -32,33 +36,40 @@ pub(crate) fn feed(
     }
 }
 
-/// What a truth table of input ports gives.
-fn truth_value(ports: &[VPort], inputs: &[Trit], truth: &VTruth, room: &mut Items<Trit>) -> Trit
+/// What a truth table of input ports gives, whose rows have these words where they are kept.
+fn truth_value(
+    ports: &[VPort],
+    inputs: &[Trit],
+    truth: &VTruth,
+    words: &[RowWords],
+    room: &mut Items<Trit>,
+) -> Trit
     requires rows { All (λ row. length row.inputs ≡ length truth.now.inputs) truth.now.table.rows }
+    requires words { AreKept truth_words words.now truth.now.table.rows }
     requires room { length truth.now.inputs ≤ length room.old }
     ensures value { result ≡ truth_value ports.now inputs.now truth.now }
     ensures len { length room.new ≡ length room.old }
 {
     let count = truth.inputs.len();
     feed(ports, inputs, truth.inputs.as_slice(), 0, room);
-    lookup_truth(&truth.table, &room.as_slice()[..count])
+    keyed_truth(&truth.table, words, &room.as_slice()[..count])
 }
 
 /// The value of the condition with this number, unknown where there is none.
 pub(crate) fn condition_value(values: &EntityValues, i: usize, room: &mut Items<Trit>) -> Trit
-    requires sound { IsSound values.now.model.now }
-    requires room { HasRoom (length room.old) values.now.model.now }
-    ensures value { result ≡ condition_value values.now.model.now values.now.inputs.now i }
+    requires sound { IsSound values.now.tables.model.now }
+    requires room { HasRoom (length room.old) values.now.tables.model.now }
+    ensures value { result ≡ condition_value values.now.tables.model.now values.now.inputs.now i }
     ensures len { length room.new ≡ length room.old }
 {
-    let conditions = values.model.conditions.as_slice();
-    if i >= conditions.len() {
+    if i >= values.tables.model.conditions.len() {
         return Trit::Unknown;
     }
     truth_value(
-        values.model.ports.as_slice(),
+        values.tables.model.ports.as_slice(),
         values.inputs,
-        &conditions[i],
+        condition_at(values.tables.model, i),
+        values.tables.condition_words(i),
         room,
     )
 }
@@ -93,11 +104,17 @@ fn feed_sources(
     }
 }
 
-/// The value of an output.
-pub(crate) fn output_value(values: &EntityValues, value: &OutValue, room: &mut Items<Trit>) -> Trit
-    requires value { IsValue values.now.model.now value.now }
+/// The value of an output, whose table's rows have these words where they are kept.
+pub(crate) fn output_value(
+    values: &EntityValues,
+    value: &OutValue,
+    words: &[RowWords],
+    room: &mut Items<Trit>,
+) -> Trit
+    requires value { IsValue values.now.tables.model.now value.now }
+    requires words { AreKept truth_words words.now (value_rows value.now) }
     requires room { source_count value.now ≤ length room.old }
-    ensures value { result ≡ output_value values.now.model.now values.now.inputs.now values.now.states.now value.now }
+    ensures value { result ≡ output_value values.now.tables.model.now values.now.inputs.now values.now.states.now value.now }
     ensures len { length room.new ≡ length room.old }
 {
     match value {
@@ -108,13 +125,13 @@ pub(crate) fn output_value(values: &EntityValues, value: &OutValue, room: &mut I
         } => {
             let count = sources.len();
             feed_sources(
-                values.model.ports.as_slice(),
+                values.tables.model.ports.as_slice(),
                 values.inputs,
                 values.states,
                 sources.as_slice(),
                 room,
             );
-            lookup_truth(table, &room.as_slice()[..count])
+            keyed_truth(table, words, &room.as_slice()[..count])
         }
     }
 }

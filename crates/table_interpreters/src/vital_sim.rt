@@ -5,9 +5,12 @@ ghost use Rattle.std.proofs.Props.{props};
 ghost use Rattle.table_interpreters.specs.EntityProps.{value_prop};
 ghost use Rattle.table_interpreters.specs.EntityRooms.{HasRoom};
 ghost use Rattle.table_interpreters.specs.EntitySteps.{HasParts};
+ghost use Rattle.table_interpreters.specs.TableWords.{entity_words};
 ghost use Rattle.model_traces.specs.PortNumbers.{input_count};
 
+use crate::entity_tables::EntityTables;
 use crate::entity_values::EntityValues;
+use crate::entity_words::EntityWords;
 use crate::ports::input_count;
 use crate::process_rooms::most_columns;
 use crate::process_run::{ProcessState, take};
@@ -24,11 +27,13 @@ use vital_models::VEntity;
 #[derive(Drop)]
 pub struct VitalSim<'a> {
     model: &'a VEntity,
+    words: EntityWords,
     run: ProcessState,
     reports: Items<bool>,
     shown: Items<Shown>,
     earlier: Items<Trit>,
     room: Items<Trit>,
+    ghost keyed: { words ≡ entity_words model.now },
     ghost sound: { IsSound model.now } by { Prim.hlevel (props, value_prop) },
     ghost earlier_room: { HasRoom (length earlier) model.now },
     ghost now_room: { HasRoom (length room) model.now },
@@ -58,12 +63,18 @@ impl<'a> VitalSim<'a> {
         let states = unknown_values(alloc, model.states.len())?;
         let stamps = no_times(alloc, model.checks.len())?;
         let reports = no_reports(alloc, model.checks.len())?;
-        let values = EntityValues {
+        let words = EntityWords::of(alloc, model)?;
+        let tables = EntityTables {
             model,
-            inputs: inputs.as_slice(),
-            states: states.as_slice(),
+            words: &words,
         };
-        let shown = show_first(alloc, &values, &mut room)?;
+        let shown = show_first(
+            alloc,
+            &tables,
+            inputs.as_slice(),
+            states.as_slice(),
+            &mut room,
+        )?;
         let run = ProcessState {
             inputs,
             before,
@@ -73,6 +84,7 @@ impl<'a> VitalSim<'a> {
         };
         Ok(VitalSim {
             model,
+            words,
             run,
             reports,
             shown,
@@ -100,16 +112,20 @@ impl<'a> CellSim for VitalSim<'a> {
     }
 
     fn step(&mut self, at: u64, pin: usize, to: Trit) {
+        let tables = EntityTables {
+            model: self.model,
+            words: &self.words,
+        };
         take(
             &mut self.run,
-            self.model,
+            &tables,
             Change { at, pin, to },
             &mut self.reports,
             &mut self.earlier,
             &mut self.room,
         );
         let values = EntityValues {
-            model: self.model,
+            tables,
             inputs: self.run.inputs.as_slice(),
             states: self.run.states.as_slice(),
         };

@@ -8,7 +8,7 @@ use Rattle.table_interpreters.proofs.process_delays.all_zero.Given as goal
 abbrev pub invariant-loop-i : goal.invariant-loop-i
 invariant-loop-i l = record {
   rest :
-      list_all (λ i. is_zero (condition_value l.values.model.now l.values.inputs.now i)) (drop l.i l.conditions)
-      ≡ list_all (λ i. is_zero (condition_value l.values.model.now l.values.inputs.now i)) l.conditions;
+      list_all (λ i. is_zero (condition_value l.values.tables.model.now l.values.inputs.now i)) (drop l.i l.conditions)
+      ≡ list_all (λ i. is_zero (condition_value l.values.tables.model.now l.values.inputs.now i)) l.conditions;
   len : length l.room ≡ length l.initial.room;
 }

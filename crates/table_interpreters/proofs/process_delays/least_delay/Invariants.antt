@@ -9,9 +9,9 @@ abbrev pub invariant-loop-i : goal.invariant-loop-i
 invariant-loop-i l = record {
   least :
       lesser l.best
-      (least_of (begins_at l.values.model.now.ports l.change.input) (path_at l.values.model.now l.values.inputs.now)
+      (least_of (begins_at l.values.tables.model.now.ports l.change.input) (path_at l.values.tables.model.now l.values.inputs.now)
       l.change.from l.change.to (drop l.i l.output.paths))
-      ≡ least_of (begins_at l.values.model.now.ports l.change.input) (path_at l.values.model.now l.values.inputs.now)
+      ≡ least_of (begins_at l.values.tables.model.now.ports l.change.input) (path_at l.values.tables.model.now l.values.inputs.now)
       l.change.from l.change.to l.output.paths;
   len : length l.room ≡ length l.initial.room;
 }

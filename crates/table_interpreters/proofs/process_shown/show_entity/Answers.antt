@@ -11,7 +11,7 @@ loop-i-preserved c =
     record {
       whole =
           rw (c.set.ensures, add-one)
-          (each-step (output_step v.model.now v.inputs.now v.states.now c.args.input) v.model.now.outputs c.loop-i.shown c.loop-i.i
+          (each-step (output_step v.tables.model.now v.inputs.now v.states.now c.args.input) v.tables.model.now.outputs c.loop-i.shown c.loop-i.i
           c.output_at-output.result.now c.output_step-now.result _ c.output_at-output.ensures.is many
           (rw c.as_slice.ensures at c.output_step-now.ensures.shown)
           ∙ c.loop-i.invariant.whole);
@@ -23,6 +23,9 @@ pub returns-clause-stepped : goal.returns-clause-stepped
 returns-clause-stepped c =
     let v = c.args.values.now in
     sym
-    (each-done (output_step v.model.now v.inputs.now v.states.now c.args.input) v.model.now.outputs c.loop-i.shown c.loop-i.i
+    (each-done (output_step v.tables.model.now v.inputs.now v.states.now c.args.input) v.tables.model.now.outputs c.loop-i.shown c.loop-i.i
     (omega arith))
     ∙ c.loop-i.invariant.whole
+
+pub output_step-now-requires-clause-words : goal.output_step-now-requires-clause-words
+output_step-now-requires-clause-words c = c.output_words-words.ensures c.output_at-output.result.now c.output_at-output.ensures.is

@@ -8,8 +8,8 @@ abbrev pub invariant-loop-i : goal.invariant-loop-i
 invariant-loop-i l = record {
   whole :
       take l.i l.shown
-      ++ each (output_step l.values.model.now l.values.inputs.now l.values.states.now l.input) (drop l.i l.values.model.now.outputs) (drop l.i l.shown)
-      ≡ each (output_step l.values.model.now l.values.inputs.now l.values.states.now l.input) l.values.model.now.outputs l.initial.shown;
+      ++ each (output_step l.values.tables.model.now l.values.inputs.now l.values.states.now l.input) (drop l.i l.values.tables.model.now.outputs) (drop l.i l.shown)
+      ≡ each (output_step l.values.tables.model.now l.values.inputs.now l.values.states.now l.input) l.values.tables.model.now.outputs l.initial.shown;
   len : length l.shown ≡ length l.initial.shown;
   room : length l.room ≡ length l.initial.room;
 }

@@ -6,15 +6,17 @@ use Rattle.table_interpreters.proofs.process_shown.show_first.Goals as goal
 
 pub loop-i-preserved : goal.loop-i-preserved
 loop-i-preserved c =
-    let v = c.args.values.now in
-    let m = v.model.now in
+    let m = c.args.tables.now.model.now in
     record {
       front =
           c.in_ok-push.ensures.ok
           ∙ rw add-one
-          (map-take-more (output_first m v.inputs.now v.states.now) m.outputs c.loop-i.i c.output_at-output.result.now
+          (map-take-more (output_first m c.args.inputs.now c.args.states.now) m.outputs c.loop-i.i c.output_at-output.result.now
           _ c.loop-i.shown c.output_at-output.ensures.is
           (λ i. record { port = c.output_at-output.result.now.port; value = c.output_value-value.ensures.value i; delay = None })
           c.loop-i.invariant.front);
       room = c.output_value-value.ensures.len ∙ c.loop-i.invariant.room;
     }
+
+pub output_value-value-requires-clause-words : goal.output_value-value-requires-clause-words
+output_value-value-requires-clause-words c = c.output_words-words.ensures c.output_at-output.result.now c.output_at-output.ensures.is

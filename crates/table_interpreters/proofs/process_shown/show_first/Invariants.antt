@@ -5,6 +5,6 @@ use Rattle.table_interpreters.proofs.process_shown.show_first.Given as goal
 -- the outputs so far are shown
 abbrev pub invariant-loop-i : goal.invariant-loop-i
 invariant-loop-i l = record {
-  front : l.shown ≡ map (output_first l.values.model.now l.values.inputs.now l.values.states.now) (take l.i l.values.model.now.outputs);
+  front : l.shown ≡ map (output_first l.tables.model.now l.inputs l.states) (take l.i l.tables.model.now.outputs);
   room : length l.room ≡ length l.initial.room;
 }

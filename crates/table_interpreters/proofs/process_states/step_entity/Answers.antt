@@ -7,7 +7,7 @@ use Rattle.table_interpreters.proofs.process_states.step_entity.Goals as goal
 
 pub loop-i-preserved : goal.loop-i-preserved
 loop-i-preserved c =
-    let m = c.args.model.now in
+    let m = c.args.tables.now.model.now in
     let f = next_by m c.args.was c.args.before.now c.args.violation c.args.inputs.now in
     let many : c.loop-i.i < length c.loop-i.states = omega arith in
     record {
@@ -23,6 +23,9 @@ loop-i-preserved c =
 
 pub returns-clause-stepped : goal.returns-clause-stepped
 returns-clause-stepped c =
-    let m = c.args.model.now in
+    let m = c.args.tables.now.model.now in
     sym (each-done (next_by m c.args.was c.args.before.now c.args.violation c.args.inputs.now) m.states c.loop-i.states c.loop-i.i (omega arith))
     ∙ c.loop-i.invariant.whole
+
+pub next_state-next-requires-clause-words : goal.next_state-next-requires-clause-words
+next_state-next-requires-clause-words c = c.state_words-words.ensures c.state_at-table.result.now c.state_at-table.ensures.is

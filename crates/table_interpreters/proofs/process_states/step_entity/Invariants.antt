@@ -8,8 +8,8 @@ abbrev pub invariant-loop-i : goal.invariant-loop-i
 invariant-loop-i l = record {
   whole :
       take l.i l.states
-      ++ each (next_by l.model l.was l.before l.violation l.inputs) (drop l.i l.model.states) (drop l.i l.states)
-      ≡ each (next_by l.model l.was l.before l.violation l.inputs) l.model.states l.initial.states;
+      ++ each (next_by l.tables.model.now l.was l.before l.violation l.inputs) (drop l.i l.tables.model.now.states) (drop l.i l.states)
+      ≡ each (next_by l.tables.model.now l.was l.before l.violation l.inputs) l.tables.model.now.states l.initial.states;
   len : length l.states ≡ length l.initial.states;
   earlier : length l.earlier ≡ length l.initial.earlier;
   room : length l.room ≡ length l.initial.room;

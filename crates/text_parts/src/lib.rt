@@ -4,6 +4,8 @@
 
 mod lists;
 mod parts;
+mod whole;
 
 pub use lists::{Each, ItemText};
 pub use parts::{Bytes, Decimal, Part, Put, When};
+pub use whole::write_part;

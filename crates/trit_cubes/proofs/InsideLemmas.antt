@@ -85,7 +85,7 @@ fact-is_prime set c h =
     outside false f = refl
 
 -- the resolution is the common value of all fillings
-agreed-known : (a b v : Trit) → v ≢ Unknown → agreed a b ≡ v → (a ≡ v) × (b ≡ v)
+pub agreed-known : (a b v : Trit) → v ≢ Unknown → agreed a b ≡ v → (a ≡ v) × (b ≡ v)
 agreed-known Zero Zero v k e = (e, e)
 agreed-known Zero One v k e = absurd (k (sym e))
 agreed-known Zero Unknown v k e = absurd (k (sym e))
@@ -94,7 +94,7 @@ agreed-known One One v k e = (e, e)
 agreed-known One Unknown v k e = absurd (k (sym e))
 agreed-known Unknown b v k e = absurd (k (sym e))
 
-agreed-same : (v : Trit) → agreed v v ≡ v
+pub agreed-same : (v : Trit) → agreed v v ≡ v
 agreed-same Zero = refl
 agreed-same One = refl
 agreed-same Unknown = refl

@@ -10,42 +10,28 @@ use Rattle.trit_cubes.specs.Words.{fixed_bit, value_bit, fixed_word, value_word,
 use Rattle.trit_cubes.specs.InWords.{in_word, word_part}
 use Rattle.trit_cubes.proofs.WordLemmas.{fixed_bit-lt, value_bit-lt}
 
+-- what holds of each number of places below six
+below-six : (P : ℕ → Type 0) → P 0 → P 1 → P 2 → P 3 → P 4 → P 5 → (n : ℕ) → n < 6 → P n
+below-six P p q r s t u zero h = p
+below-six P p q r s t u (suc zero) h = q
+below-six P p q r s t u (suc (suc zero)) h = r
+below-six P p q r s t u (suc (suc (suc zero))) h = s
+below-six P p q r s t u (suc (suc (suc (suc zero)))) h = t
+below-six P p q r s t u (suc (suc (suc (suc (suc zero))))) h = u
+below-six P p q r s t u (suc (suc (suc (suc (suc (suc n)))))) h = absurd (omega arith)
+
 -- half the bits of a word over at most six places
 pub half-bits : (n : ℕ) → n < 6 → 1 * 2 ^ n % 4294967296 ≡ 2 ^ n
-half-bits zero h = refl
-half-bits (suc zero) h = refl
-half-bits (suc (suc zero)) h = refl
-half-bits (suc (suc (suc zero))) h = refl
-half-bits (suc (suc (suc (suc zero)))) h = refl
-half-bits (suc (suc (suc (suc (suc zero))))) h = refl
-half-bits (suc (suc (suc (suc (suc (suc n)))))) h = absurd (omega arith)
+half-bits = below-six (λ n. 1 * 2 ^ n % 4294967296 ≡ 2 ^ n) refl refl refl refl refl refl
 
 pub half-small : (n : ℕ) → n < 6 → 2 ^ n < 64
-half-small zero h = omega arith
-half-small (suc zero) h = omega arith
-half-small (suc (suc zero)) h = omega arith
-half-small (suc (suc (suc zero))) h = omega arith
-half-small (suc (suc (suc (suc zero)))) h = omega arith
-half-small (suc (suc (suc (suc (suc zero))))) h = omega arith
-half-small (suc (suc (suc (suc (suc (suc n)))))) h = absurd (omega arith)
+half-small = below-six (λ n. 2 ^ n < 64) (omega arith) (omega arith) (omega arith) (omega arith) (omega arith) (omega arith)
 
 pub half-fits : (n : ℕ) → n < 6 → 1 * 2 ^ 2 ^ n % 18446744073709551616 ≡ 2 ^ 2 ^ n
-half-fits zero h = refl
-half-fits (suc zero) h = refl
-half-fits (suc (suc zero)) h = refl
-half-fits (suc (suc (suc zero))) h = refl
-half-fits (suc (suc (suc (suc zero)))) h = refl
-half-fits (suc (suc (suc (suc (suc zero))))) h = refl
-half-fits (suc (suc (suc (suc (suc (suc n)))))) h = absurd (omega arith)
+half-fits = below-six (λ n. 1 * 2 ^ 2 ^ n % 18446744073709551616 ≡ 2 ^ 2 ^ n) refl refl refl refl refl refl
 
 pub half-below : (n : ℕ) → n < 6 → 2 ^ 2 ^ n ≤ 4294967296
-half-below zero h = omega arith
-half-below (suc zero) h = omega arith
-half-below (suc (suc zero)) h = omega arith
-half-below (suc (suc (suc zero))) h = omega arith
-half-below (suc (suc (suc (suc zero)))) h = omega arith
-half-below (suc (suc (suc (suc (suc zero))))) h = omega arith
-half-below (suc (suc (suc (suc (suc (suc n)))))) h = absurd (omega arith)
+half-below = below-six (λ n. 2 ^ 2 ^ n ≤ 4294967296) (omega arith) (omega arith) (omega arith) (omega arith) (omega arith) (omega arith)
 
 -- twice the bits
 pub double-bits : (n : ℕ) → 2 ^ 2 ^ suc n ≡ 2 ^ 2 ^ n * 2 ^ 2 ^ n
@@ -231,6 +217,14 @@ packed-has n left z o start step set el l p q hz ho point e =
 -- the number of the last place, where there is one
 pub one-less : (left : ℕ) → (left ≡ 0 → ⊥) → left ≡ suc (left - 1)
 one-less left some = omega (arith, some)
+
+-- the part of a set that has this first place is one over the other places, behind a longer front
+pub part-follows : (left more before : ℕ) (t : Trit) (w v : ℕ) (front longer : List Trit)
+    → left ≡ suc (left - 1) → left + before ≤ 6 → length front + left ≤ 10 → w < 2 ^ 2 ^ left
+    → more ≤ before + 1 → longer ≡ front ++ t ∷ [] → v ≡ word_part (left - 1) t w
+    → (left - 1 + more ≤ 6) × ((length longer + (left - 1) ≤ 10) × (v < 2 ^ 2 ^ (left - 1)))
+part-follows left more before t w v front longer some few room below long e is =
+    (omega (arith, few, long, some), (omega (arith, room, some, length-longer front longer t e), part-is_below (left - 1) left t w v some below is))
 
 -- the word of two points
 pub pair-has : (zero_bit one_bit : Bool) (z o start step : ℕ) (set : List Bool) → z ≡ bit zero_bit → o ≡ bit one_bit

@@ -62,24 +62,17 @@ is_prime-one set ts =
     (and_last (is_inside (half set true) ts) (is_inside set (Unknown ∷ ts)) (list_all (λ c. not (is_inside (half set true) c)) (freed ts)))
 
 -- the primes with a fixed first place are those of the half that are not inside both halves
-outside : (List Bool → Bool) → List (List Trit) → List (List Trit)
-outside set cubes = filter (λ c. not (is_inside set c)) cubes
+abbrev fixed_primes : ℕ → (List Bool → Bool) → Bool → List (List Trit)
+fixed_primes n set b = filter (λ c. not (is_inside (both set) c)) (prime_list n (half set b))
 
-primes-zero : (n : ℕ) (set : List Bool → Bool)
-    → filter (is_prime set) (map (λ c. Zero ∷ c) (cubes_of n)) ≡ map (λ c. Zero ∷ c) (filter (λ c. not (is_inside (both set) c)) (prime_list n (half set false)))
-primes-zero n set =
-    filter-map (is_prime set) (λ c. Zero ∷ c) (cubes_of n)
-    ∙ ap (map (λ c. Zero ∷ c))
-    (filter_same (λ c. is_prime set (Zero ∷ c)) (λ c. is_prime (half set false) c && not (is_inside (both set) c)) (cubes_of n) (λ c _. is_prime-zero set c)
-    ∙ filter-and (is_prime (half set false)) (λ c. not (is_inside (both set) c)) (cubes_of n))
-
-primes-one : (n : ℕ) (set : List Bool → Bool)
-    → filter (is_prime set) (map (λ c. One ∷ c) (cubes_of n)) ≡ map (λ c. One ∷ c) (filter (λ c. not (is_inside (both set) c)) (prime_list n (half set true)))
-primes-one n set =
-    filter-map (is_prime set) (λ c. One ∷ c) (cubes_of n)
-    ∙ ap (map (λ c. One ∷ c))
-    (filter_same (λ c. is_prime set (One ∷ c)) (λ c. is_prime (half set true) c && not (is_inside (both set) c)) (cubes_of n) (λ c _. is_prime-one set c)
-    ∙ filter-and (is_prime (half set true)) (λ c. not (is_inside (both set) c)) (cubes_of n))
+primes-fixed : (n : ℕ) (set : List Bool → Bool) (t : Trit) (b : Bool)
+    → ((c : List Trit) → is_prime set (t ∷ c) ≡ (is_prime (half set b) c && not (is_inside (both set) c)))
+    → filter (is_prime set) (map (λ c. t ∷ c) (cubes_of n)) ≡ map (λ c. t ∷ c) (fixed_primes n set b)
+primes-fixed n set t b is =
+    filter-map (is_prime set) (λ c. t ∷ c) (cubes_of n)
+    ∙ ap (map (λ c. t ∷ c))
+    (filter_same (λ c. is_prime set (t ∷ c)) (λ c. is_prime (half set b) c && not (is_inside (both set) c)) (cubes_of n) (λ c _. is c)
+    ∙ filter-and (is_prime (half set b)) (λ c. not (is_inside (both set) c)) (cubes_of n))
 
 primes-free : (n : ℕ) (set : List Bool → Bool)
     → filter (is_prime set) (map (λ c. Unknown ∷ c) (cubes_of n)) ≡ map (λ c. Unknown ∷ c) (prime_list n (both set))
@@ -94,7 +87,7 @@ pub prime_list-outside : (n : ℕ) (set : List Bool → Bool)
     ++ map (λ c. Unknown ∷ c) (prime_list n (both set))
 prime_list-outside n set =
     filter-append (is_prime set) (map (λ c. Zero ∷ c) (cubes_of n) ++ map (λ c. One ∷ c) (cubes_of n)) (map (λ c. Unknown ∷ c) (cubes_of n))
-    ∙ rw (filter-append (is_prime set) (map (λ c. Zero ∷ c) (cubes_of n)) (map (λ c. One ∷ c) (cubes_of n)), primes-zero n set, primes-one n set, primes-free n set) refl
+    ∙ rw (filter-append (is_prime set) (map (λ c. Zero ∷ c) (cubes_of n)) (map (λ c. One ∷ c) (cubes_of n)), primes-fixed n set Zero false (is_prime-zero set), primes-fixed n set One true (is_prime-one set), primes-free n set) refl
 
 -- a list of trits that a cube inside the set covers is inside the set
 pub is_inside-covered : (set : List Bool → Bool) (c ts : List Trit) → covers c ts ≡ true → is_inside set c ≡ true → is_inside set ts ≡ true
@@ -175,6 +168,16 @@ zero≢unknown e = cc
 one≢unknown : One ≢ Unknown
 one≢unknown e = cc
 
+-- whether a prime covers a list, by the first place of the prime
+covers-split : (n : ℕ) (set : List Bool → Bool) (t : Trit) (ts : List Trit) → any_covers (prime_list n (both set)) ts ≡ is_inside (both set) ts
+    → any_covers (prime_list (suc n) set) (t ∷ ts)
+    ≡ ((any_covers (map (λ c. Zero ∷ c) (fixed_primes n set false)) (t ∷ ts) || any_covers (map (λ c. One ∷ c) (fixed_primes n set true)) (t ∷ ts))
+    || is_inside (both set) ts)
+covers-split n set t ts small =
+    ap (λ cs. any_covers cs (t ∷ ts)) (prime_list-outside n set)
+    ∙ any_covers-split (map (λ c. Zero ∷ c) (fixed_primes n set false)) (map (λ c. One ∷ c) (fixed_primes n set true)) (map (λ c. Unknown ∷ c) (prime_list n (both set))) (t ∷ ts)
+    ∙ rw (any_covers-free (prime_list n (both set)) t ts, small) refl
+
 -- a list of trits is inside a set exactly where some prime covers it
 pub any_covers-primes : (n : ℕ) (set : List Bool → Bool) (ts : List Trit) → length ts ≡ n → any_covers (prime_list n set) ts ≡ is_inside set ts
 any_covers-primes zero set [] e = no_places (set [])
@@ -182,46 +185,17 @@ any_covers-primes zero set (t ∷ ts) e = absurd (omega arith)
 any_covers-primes (suc n) set [] e = absurd (omega arith)
 any_covers-primes (suc n) set (Zero ∷ ts) e =
     let long : length ts ≡ n = omega arith in
-    let small = both set in
-    let zeros = filter (λ c. not (is_inside small c)) (prime_list n (half set false)) in
-    let ones = filter (λ c. not (is_inside small c)) (prime_list n (half set true)) in
-    ap (λ cs. any_covers cs (Zero ∷ ts)) (prime_list-outside n set)
-    ∙ any_covers-split (map (λ c. Zero ∷ c) zeros) (map (λ c. One ∷ c) ones) (map (λ c. Unknown ∷ c) (prime_list n small)) (Zero ∷ ts)
-    ∙ rw (
-      any_covers-same Zero zeros ts zero≢unknown,
-      any_covers-other One Zero ones ts refl,
-      any_covers-free (prime_list n small) Zero ts,
-      any_covers-primes n small ts long,
-      or_false (any_covers zeros ts),
-    )
-    (made_up small (half set false) (prime_list n (half set false)) ts (any_covers-primes n (half set false) ts long) (λ h. (both_within set ts h).0))
+    covers-split n set Zero ts (any_covers-primes n (both set) ts long)
+    ∙ rw (any_covers-same Zero (fixed_primes n set false) ts zero≢unknown, any_covers-other One Zero (fixed_primes n set true) ts refl, or_false (any_covers (fixed_primes n set false) ts))
+    (made_up (both set) (half set false) (prime_list n (half set false)) ts (any_covers-primes n (half set false) ts long) (λ h. (both_within set ts h).0))
 any_covers-primes (suc n) set (One ∷ ts) e =
     let long : length ts ≡ n = omega arith in
-    let small = both set in
-    let zeros = filter (λ c. not (is_inside small c)) (prime_list n (half set false)) in
-    let ones = filter (λ c. not (is_inside small c)) (prime_list n (half set true)) in
-    ap (λ cs. any_covers cs (One ∷ ts)) (prime_list-outside n set)
-    ∙ any_covers-split (map (λ c. Zero ∷ c) zeros) (map (λ c. One ∷ c) ones) (map (λ c. Unknown ∷ c) (prime_list n small)) (One ∷ ts)
-    ∙ rw (
-      any_covers-other Zero One zeros ts refl,
-      any_covers-same One ones ts one≢unknown,
-      any_covers-free (prime_list n small) One ts,
-      any_covers-primes n small ts long,
-    )
-    (made_up small (half set true) (prime_list n (half set true)) ts (any_covers-primes n (half set true) ts long) (λ h. (both_within set ts h).1))
+    covers-split n set One ts (any_covers-primes n (both set) ts long)
+    ∙ rw (any_covers-other Zero One (fixed_primes n set false) ts refl, any_covers-same One (fixed_primes n set true) ts one≢unknown)
+    (made_up (both set) (half set true) (prime_list n (half set true)) ts (any_covers-primes n (half set true) ts long) (λ h. (both_within set ts h).1))
 any_covers-primes (suc n) set (Unknown ∷ ts) e =
-    let long : length ts ≡ n = omega arith in
-    let small = both set in
-    let zeros = filter (λ c. not (is_inside small c)) (prime_list n (half set false)) in
-    let ones = filter (λ c. not (is_inside small c)) (prime_list n (half set true)) in
-    ap (λ cs. any_covers cs (Unknown ∷ ts)) (prime_list-outside n set)
-    ∙ any_covers-split (map (λ c. Zero ∷ c) zeros) (map (λ c. One ∷ c) ones) (map (λ c. Unknown ∷ c) (prime_list n small)) (Unknown ∷ ts)
-    ∙ rw (
-      any_covers-other Zero Unknown zeros ts refl,
-      any_covers-other One Unknown ones ts refl,
-      any_covers-free (prime_list n small) Unknown ts,
-      any_covers-primes n small ts long,
-    )
+    covers-split n set Unknown ts (any_covers-primes n (both set) ts (omega arith))
+    ∙ rw (any_covers-other Zero Unknown (fixed_primes n set false) ts refl, any_covers-other One Unknown (fixed_primes n set true) ts refl)
     (is_inside-common (half set false) (half set true) ts)
 
 -- the lists of n trits
@@ -282,24 +256,7 @@ prime_list-same n f g h =
 
 -- the resolution is 0 or 1 exactly inside the points that give this value
 same-agreed : (v a b : Trit) → v ≢ Unknown → (same v a && same v b) ≡ same v (agreed a b)
-same-agreed Zero Zero Zero h = refl
-same-agreed Zero Zero One h = refl
-same-agreed Zero Zero Unknown h = refl
-same-agreed Zero One b h = not_zero b
-  where
-    not_zero : (b : Trit) → false ≡ same Zero (agreed One b)
-    not_zero Zero = refl
-    not_zero One = refl
-    not_zero Unknown = refl
-same-agreed Zero Unknown b h = refl
-same-agreed One Zero Zero h = refl
-same-agreed One Zero One h = refl
-same-agreed One Zero Unknown h = refl
-same-agreed One One Zero h = refl
-same-agreed One One One h = refl
-same-agreed One One Unknown h = refl
-same-agreed One Unknown b h = refl
-same-agreed Unknown a b h = absurd (h refl)
+same-agreed v a b h = grind arith
 
 pub is_inside-gives : (v : Trit) (f : List Bool → Trit) (ts : List Trit) → v ≢ Unknown → is_inside (gives v f) ts ≡ same v (res f ts)
 is_inside-gives v f [] h = refl

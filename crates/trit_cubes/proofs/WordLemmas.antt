@@ -11,14 +11,10 @@ use Rattle.trit_cubes.specs.Filling.{is_unknown, same, covers}
 use Rattle.trit_cubes.specs.Words.{fixed_bit, value_bit, fixed_word, value_word, trit_of_bits, trits_of}
 
 pub fixed_bit-lt : (t : Trit) → fixed_bit t < 2
-fixed_bit-lt Zero = omega arith
-fixed_bit-lt One = omega arith
-fixed_bit-lt Unknown = omega arith
+fixed_bit-lt t = grind arith
 
 pub value_bit-lt : (t : Trit) → value_bit t < 2
-value_bit-lt Zero = omega arith
-value_bit-lt One = omega arith
-value_bit-lt Unknown = omega arith
+value_bit-lt t = grind arith
 
 fixed_word-lt : (ts : List Trit) → fixed_word ts < 2 ^ length ts
 fixed_word-lt [] = omega arith

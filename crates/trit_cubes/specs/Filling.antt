@@ -1,5 +1,5 @@
 -- Lists of trits and the points that fill them. A point is a list of booleans, one for each place.
-use Rattle.std.specs.Prelude.{◌≡◌, ℕ, ◌+◌, ◌*◌, Bool, true, false, ◌&&◌, ◌||◌, List, [], ◌∷◌}
+use Rattle.std.specs.Prelude.{◌≡◌, ℕ, ◌+◌, ◌*◌, Bool, true, false, ◌&&◌, ◌||◌, if◌then◌else◌, List, [], ◌∷◌}
 use Rattle.trit_cubes.specs.declared.trits.Trit.{Trit}
 use Rattle.trit_cubes.specs.declared.trits.Trit.TheVariants.{Zero, One, Unknown}
 
@@ -17,8 +17,7 @@ IsFilling _ _ = ⊥
 
 -- 1 for true, 0 for false
 abbrev pub bit : Bool → ℕ
-bit true = 1
-bit false = 0
+bit b = if b then 1 else 0
 
 -- the number of a point, in which place i weighs 2 to the power i
 abbrev pub number : List Bool → ℕ

@@ -1,4 +1,4 @@
--- What holds of every rule: each law is the contract of a function of this crate.
+-- What holds of every rule: the laws are the contract of a function of this crate.
 use Rattle.std.specs.Prelude.{◌≡◌, ◌<◌, List, [], ◌∷◌, ◌++◌, length, Ok, Err, ◌⊎◌, ◌↔◌}
 use Rattle.grammar_rules.specs.Rule.{Rule, Takes, Refuses, Front}
 use Rattle.grammar_rules.specs.Reading.{read}

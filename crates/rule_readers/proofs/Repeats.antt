@@ -30,3 +30,6 @@ module _ {B : Type 0} (is_same : List ℕ → List ℕ → Bool) (text : List �
       by : (m : List (List ℕ)) → is_next is_same text m ≡ false → choose (begins is_same text) m go other ≡ other
       by [] f = refl
       by (x ∷ m) f = rw f refl
+
+-- what a function cites that reads parts behind a word
+pub ruleset turns = (turn, choose_begun, choose_other)

@@ -87,6 +87,24 @@ module _ {A F : Type 0} (lang : Texts A F) (known : Known lang) where
       let e = sym (complete (loose lang.file) (text_tokens lang.lexis bytes) a [] t.0) ∙ refuses (loose lang.file) (text_tokens lang.lexis bytes) k m r in
       absurd cc
 
+  -- the lexical fault, where no token before it is refused
+  lexical_decided : (bytes : List ℕ) (at : ℕ) → lexical_place lang.lexis bytes ≡ Some at → IsClean lang.file (text_tokens lang.lexis bytes) →
+      ((k : Refusal) (x : List ℕ) (m : List (List ℕ)) → Refuses (loose lang.file) (text_tokens lang.lexis bytes) k (x ∷ m) → ⊥) →
+      text lang bytes ≡ Err (lang.faults.lexical at) → Decided bytes
+  lexical_decided bytes at l clean none value =
+      inr (
+        lang.faults.lexical at,
+        inl (at, l, refl),
+        λ f met.
+            elim met [
+              | inl (p, e, i) ↦ inl (i ∙ ap lang.faults.lexical (let d = sym e ∙ l in cc))
+              | inr (inl (k, m, c, i)) ↦ absurd (clean k m c)
+              | inr (inr (inl (k, x, m, c, i))) ↦ absurd (none k x m c)
+              | inr (inr (inr (e, k, c, i))) ↦ absurd (let z = sym l ∙ e in cc)
+            ],
+        value,
+      )
+
   -- tokens that are whole
   taken_decided : (bytes : List ℕ) (a : A) → Takes lang.file (text_tokens lang.lexis bytes) a [] → (lexical : Option ℕ) → lexical_place lang.lexis bytes ≡ lexical → Decided bytes
   taken_decided bytes a h None l =
@@ -105,20 +123,10 @@ module _ {A F : Type 0} (lang : Texts A F) (known : Known lang) where
             ∙ ap (λ (o : Option ℕ). unless_lexical lang o a) l,
       )
   taken_decided bytes a h (Some at) l =
-      inr (
-        lang.faults.lexical at,
-        inl (at, l, refl),
-        λ f met.
-            elim met [
-              | inl (p, e, i) ↦ inl (i ∙ ap lang.faults.lexical (let d = sym e ∙ l in cc))
-              | inr (inl (k, m, c, i)) ↦ absurd (no-foul bytes a h k m c)
-              | inr (inr (inl (k, x, m, c, i))) ↦ absurd (no-refusal bytes a h k (x ∷ m) c)
-              | inr (inr (inr (e, k, c, i))) ↦ absurd (no-refusal bytes a h k [] c)
-            ],
-        answer_is bytes
-            ∙ ap (answer_of lang (length bytes) (scan_of lang.lexis bytes).0 (lexical_place lang.lexis bytes)) (complete lang.file (text_tokens lang.lexis bytes) a [] h)
-            ∙ ap (λ (o : Option ℕ). unless_lexical lang o a) l,
-      )
+      lexical_decided bytes at l (no-foul bytes a h) (λ k x m c. no-refusal bytes a h k (x ∷ m) c)
+      (answer_is bytes
+      ∙ ap (answer_of lang (length bytes) (scan_of lang.lexis bytes).0 (lexical_place lang.lexis bytes)) (complete lang.file (text_tokens lang.lexis bytes) a [] h)
+      ∙ ap (λ (o : Option ℕ). unless_lexical lang o a) l)
 
   -- the fault of a refusal at a token, where each fault that is met is the same or stands behind it
   token_decided : (bytes : List ℕ) (k : Refusal) (x : List ℕ) (r : List (List ℕ)) → Refuses lang.file (text_tokens lang.lexis bytes) k (x ∷ r) →
@@ -253,20 +261,10 @@ module _ {A F : Type 0} (lang : Texts A F) (known : Known lang) where
             ∙ ap (λ (o : Option ℕ). Err (end_fault lang.faults (length bytes) k o)) l,
       )
   end_decided bytes k h clean c (Some at) l =
-      inr (
-        lang.faults.lexical at,
-        inl (at, l, refl),
-        λ f met.
-            elim met [
-              | inl (p, e, i) ↦ inl (i ∙ ap lang.faults.lexical (let d = sym e ∙ l in cc))
-              | inr (inl (j, n, d, i)) ↦ absurd (clean j n d)
-              | inr (inr (inl (j, y, n, d, i))) ↦ absurd (let z = (one-refusal (text_tokens lang.lexis bytes) k j [] (y ∷ n) c d).1 in cc)
-              | inr (inr (inr (e, j, d, i))) ↦ absurd (let z = sym l ∙ e in cc)
-            ],
-        answer_is bytes
-            ∙ ap (answer_of lang (length bytes) (scan_of lang.lexis bytes).0 (lexical_place lang.lexis bytes)) (refuses lang.file (text_tokens lang.lexis bytes) k [] h)
-            ∙ ap (λ (o : Option ℕ). Err (end_fault lang.faults (length bytes) k o)) l,
-      )
+      lexical_decided bytes at l clean (λ j y n d. let z = (one-refusal (text_tokens lang.lexis bytes) k j [] (y ∷ n) c d).1 in cc)
+      (answer_is bytes
+      ∙ ap (answer_of lang (length bytes) (scan_of lang.lexis bytes).0 (lexical_place lang.lexis bytes)) (refuses lang.file (text_tokens lang.lexis bytes) k [] h)
+      ∙ ap (λ (o : Option ℕ). Err (end_fault lang.faults (length bytes) k o)) l)
 
   decided : (bytes : List ℕ) → Decided bytes
   decided bytes = by_outcome (read lang.file (text_tokens lang.lexis bytes)) refl

@@ -1,9 +1,10 @@
 -- Places where a token stands for a value, at the next token.
-use Rattle.std.proofs.Common.{◌≡◌, ℕ, Bool, true, false, List, [], ◌∷◌, Option, Some, None, Ok, Err, refl}
+use Rattle.std.proofs.Common.{◌≡◌, ℕ, ◌==◌, Bool, true, false, List, [], ◌∷◌, Option, Some, None, Ok, Err, refl}
+use Rattle.grammar_rules.specs.Rule.{Token}
 use Rattle.grammar_rules.specs.Reading.{read, judge}
 use Rattle.rule_readers.specs.declared.refusal.Refusal.TheVariants.{Syntax, Undefined}
-use Rattle.rule_readers.specs.Words.{valued, known, allowed_by}
-use Rattle.rule_readers.specs.Reading.{found_at}
+use Rattle.rule_readers.specs.Words.{valued, known, allowed_by, equal_to}
+use Rattle.rule_readers.specs.Reading.{found_at, number_at}
 use Rattle.rule_readers.specs.Next.{next_bytes, is_next_name, rest}
 
 -- a token that stands for this value
@@ -24,6 +25,20 @@ valued_found {A} find (x ∷ s) e = by (find x)
     by : (o : Option A) → judge (allowed_by Syntax o) (λ a. Ok (a, s)) (λ k. Err (k, x ∷ s)) ≡ found_at o (x ∷ s)
     by None = refl
     by (Some a) = refl
+
+-- what is read at a token that has to stand for the same number as before
+pub number_found : (number_of : List ℕ → Option ℕ) (limit : ℕ) (s : List (List ℕ)) → number_of [] ≡ None →
+    read (Token (λ x. equal_to limit (number_of x)) Syntax) s ≡ number_at limit (number_of (next_bytes s)) s
+number_found number_of limit [] e = rw e refl
+number_found number_of limit (x ∷ s) e = by (number_of x)
+  where
+    equal : (n : ℕ) (b : Bool) → (n == limit) ≡ b → judge (equal_to limit (Some n)) (λ a. Ok (a, s)) (λ k. Err (k, x ∷ s)) ≡ number_at limit (Some n) (x ∷ s)
+    equal n true e = rw e refl
+    equal n false e = rw e refl
+
+    by : (o : Option ℕ) → judge (equal_to limit o) (λ a. Ok (a, s)) (λ k. Err (k, x ∷ s)) ≡ number_at limit o (x ∷ s)
+    by None = refl
+    by (Some n) = equal n (n == limit) refl
 
 module _ {A : Type 0} (is_name : List ℕ → Bool) (find : List ℕ → Option A) (s : List (List ℕ)) where
   -- a name that stands for this value, for none, and no name

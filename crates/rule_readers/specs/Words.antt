@@ -1,10 +1,10 @@
 -- The words with which grammars of texts are written: rules over tokens, each told by its spelling. A language says which tokens
 -- are names, and which token stands for a word.
-use Rattle.std.specs.Prelude.{ℕ, Bool, true, false, if◌then◌else◌, List, Option, Some, None}
+use Rattle.std.specs.Prelude.{ℕ, ◌==◌, Bool, true, false, if◌then◌else◌, List, Option, Some, None}
 use Rattle.std.specs.List.{list_any}
 use Rattle.std.specs.Option.{option_map}
 use Rattle.rule_readers.specs.declared.refusal.Refusal.{Refusal}
-use Rattle.rule_readers.specs.declared.refusal.Refusal.TheVariants.{Syntax, Undefined, Twice}
+use Rattle.rule_readers.specs.declared.refusal.Refusal.TheVariants.{Syntax, Undefined, Twice, Unequal}
 use Rattle.grammar_rules.specs.Rule.{Rule, Verdict, Fits, Foul, Misfit}
 use Rattle.grammar_rules.specs.Rule as r
 
@@ -92,3 +92,8 @@ is_this is_same (Some name) x = if is_same x name then Some tt else None
 -- This name. Where there is none, no name is allowed.
 abbrev pub this_name : (List ℕ → Bool) → (List ℕ → List ℕ → Bool) → Option (List ℕ) → Grammar (Unit {0})
 this_name is_name is_same name = known is_name (is_this is_same name)
+
+-- what the place of a number that has to be this one says of a number
+abbrev pub equal_to : ℕ → Option ℕ → Verdict (Unit {0}) Refusal
+equal_to limit None = Misfit Syntax
+equal_to limit (Some n) = if n == limit then Fits tt else Foul Unequal tt

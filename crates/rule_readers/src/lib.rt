@@ -5,6 +5,7 @@
 mod cursor;
 mod language;
 mod refusal;
+mod repeated;
 mod words;
 
 pub use cursor::Cursor;

@@ -4,3 +4,4 @@ pub mod Values
 pub mod TextAnswers
 pub mod Passing
 pub mod Places
+pub mod Tests

@@ -1,4 +1,5 @@
 pub mod Next
 pub mod Words
+pub mod WordValues
 pub mod Texts
 pub mod Reading

@@ -1,6 +1,8 @@
 -- What a part of a text is read as, and what is returned for it.
 use Rattle.std.specs.Prelude.{◌≡◌, ◌==◌, ℕ, if◌then◌else◌, List, Option, Some, None, Result, Ok, Err}
 use Rattle.grammar_rules.specs.Reading.{Outcome}
+pub use Rattle.grammar_rules.specs.Reading.{read}
+pub use Rattle.grammar_rules.specs.Rule.{Many, Choice, Token}
 use Rattle.rule_readers.specs.declared.refusal.Refusal.{Refusal}
 use Rattle.rule_readers.specs.declared.refusal.Refusal.TheVariants.{Syntax, Unequal}
 use Rattle.rule_readers.specs.declared.refusal.Stop.{Stop}

@@ -6,9 +6,11 @@ mod cursor;
 mod language;
 mod refusal;
 mod repeated;
+mod word_values;
 mod words;
 
 pub use cursor::Cursor;
 pub use language::Language;
-pub use refusal::{Refusal, Stop};
+pub use refusal::{Read, Refusal, Stop};
+pub use word_values::value_of;
 pub use words::is_among;

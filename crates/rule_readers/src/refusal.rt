@@ -26,6 +26,9 @@ pub enum Stop {
     Memory,
 }
 
+/// What is read, or why the reading stopped.
+pub type Read<A> = Result<A, Stop>;
+
 impl From<AllocError> for Stop {
     ghost from_gives = { λ _ e. e ≡ NoMemory };
 

@@ -85,14 +85,14 @@ fact-is_prime set c h =
     outside false f = refl
 
 -- the resolution is the common value of all fillings
-pub agreed-known : (a b v : Trit) → v ≢ Unknown → agreed a b ≡ v → (a ≡ v) × (b ≡ v)
-agreed-known Zero Zero v k e = (e, e)
-agreed-known Zero One v k e = absurd (k (sym e))
-agreed-known Zero Unknown v k e = absurd (k (sym e))
-agreed-known One Zero v k e = absurd (k (sym e))
-agreed-known One One v k e = (e, e)
-agreed-known One Unknown v k e = absurd (k (sym e))
-agreed-known Unknown b v k e = absurd (k (sym e))
+pub agreed-parts : (a b v : Trit) → v ≢ Unknown → agreed a b ≡ v → (a ≡ v) × (b ≡ v)
+agreed-parts Zero Zero v k e = (e, e)
+agreed-parts Zero One v k e = absurd (k (sym e))
+agreed-parts Zero Unknown v k e = absurd (k (sym e))
+agreed-parts One Zero v k e = absurd (k (sym e))
+agreed-parts One One v k e = (e, e)
+agreed-parts One Unknown v k e = absurd (k (sym e))
+agreed-parts Unknown b v k e = absurd (k (sym e))
 
 pub agreed-same : (v : Trit) → agreed v v ≡ v
 agreed-same Zero = refl
@@ -108,9 +108,9 @@ res-fillings f (Zero ∷ ts) v k e (true ∷ p) fill = absurd (true≢false fill
 res-fillings f (One ∷ ts) v k e (true ∷ p) fill = res-fillings (λ q. f (true ∷ q)) ts v k e p fill.1
 res-fillings f (One ∷ ts) v k e (false ∷ p) fill = absurd (true≢false (sym fill.0))
 res-fillings f (Unknown ∷ ts) v k e (false ∷ p) fill =
-    res-fillings (λ q. f (false ∷ q)) ts v k (agreed-known (res (λ q. f (false ∷ q)) ts) (res (λ q. f (true ∷ q)) ts) v k e).0 p fill.1
+    res-fillings (λ q. f (false ∷ q)) ts v k (agreed-parts (res (λ q. f (false ∷ q)) ts) (res (λ q. f (true ∷ q)) ts) v k e).0 p fill.1
 res-fillings f (Unknown ∷ ts) v k e (true ∷ p) fill =
-    res-fillings (λ q. f (true ∷ q)) ts v k (agreed-known (res (λ q. f (false ∷ q)) ts) (res (λ q. f (true ∷ q)) ts) v k e).1 p fill.1
+    res-fillings (λ q. f (true ∷ q)) ts v k (agreed-parts (res (λ q. f (false ∷ q)) ts) (res (λ q. f (true ∷ q)) ts) v k e).1 p fill.1
 
 pub fillings-res : (f : List Bool → Trit) (ts : List Trit) (v : Trit) → ((p : List Bool) → IsFilling ts p → f p ≡ v) → res f ts ≡ v
 fillings-res f [] v h = h [] tt

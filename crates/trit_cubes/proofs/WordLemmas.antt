@@ -62,12 +62,12 @@ place-zero n f v i h d e = place n f v i h ∙ ap Some (zero_bits (bit_and (f / 
 pub place-one : (n f v i : ℕ) → i < n → (bit_and (f / 2 ^ i) 1 ≡ 0 → ⊥) → (bit_and (v / 2 ^ i) 1 ≡ 0 → ⊥) → slice_get (trits_of n f v) i ≡ Some One
 place-one n f v i h d e = place n f v i h ∙ ap Some (one_bits (bit_and (f / 2 ^ i) 1) (bit_and (v / 2 ^ i) 1) d e)
 
--- the bits of both words, the lowest apart
-and-double : (b d m n : ℕ) → b < 2 → d < 2 → bit_and (b + 2 * m) (d + 2 * n) ≡ bit_and b d + 2 * bit_and m n
-and-double b d m n p q =
-    let first : b + 2 * m ≡ m * 2 ^ 1 + b = omega arith in
-    let second : d + 2 * n ≡ n * 2 ^ 1 + d = omega arith in
-    let both : bit_and (m * 2 ^ 1 + b) (n * 2 ^ 1 + d) ≡ bit_and m n * 2 ^ 1 + bit_and b d = and_block 1 m n b d p q in
+-- the bits of both words, the lowest ones apart
+pub and-blocks : (k b d m n : ℕ) → b < 2 ^ k → d < 2 ^ k → bit_and (b + 2 ^ k * m) (d + 2 ^ k * n) ≡ bit_and b d + 2 ^ k * bit_and m n
+and-blocks k b d m n p q =
+    let first : b + 2 ^ k * m ≡ m * 2 ^ k + b = omega arith in
+    let second : d + 2 ^ k * n ≡ n * 2 ^ k + d = omega arith in
+    let both : bit_and (m * 2 ^ k + b) (n * 2 ^ k + d) ≡ bit_and m n * 2 ^ k + bit_and b d = and_block k m n b d p q in
     rw (first, second, both) (omega arith)
 
 nat_eq-double : (b d m n : ℕ) → b < 2 → d < 2 → nat_eq (b + 2 * m) (d + 2 * n) ≡ (nat_eq b d && nat_eq m n)
@@ -93,7 +93,7 @@ covers-double : (b d e g x y z u : ℕ) → b < 2 → d < 2 → e < 2 → g < 2
 covers-double b d e g x y z u b-lt d-lt e-lt g-lt =
     let fixed : bit_and b d < 2 = omega (arith, and_le_l b d) in
     let valued : bit_and b e < 2 = omega (arith, and_le_l b e) in
-    rw (and-double b d x y b-lt d-lt, and-double b e x z b-lt e-lt, nat_eq-double (bit_and b d) b (bit_and x y) x fixed b-lt, nat_eq-double (bit_and b e) g (bit_and x z) u valued g-lt)
+    rw (and-blocks 1 b d x y b-lt d-lt, and-blocks 1 b e x z b-lt e-lt, nat_eq-double (bit_and b d) b (bit_and x y) x fixed b-lt, nat_eq-double (bit_and b e) g (bit_and x z) u valued g-lt)
     (and_swap (nat_eq (bit_and b d) b) (nat_eq (bit_and x y) x) (nat_eq (bit_and b e) g) (nat_eq (bit_and x z) u))
 
 covers-bits : (w n : Trit) → (nat_eq (bit_and (fixed_bit w) (fixed_bit n)) (fixed_bit w) && nat_eq (bit_and (fixed_bit w) (value_bit n)) (value_bit w)) ≡ (is_unknown w || same w n)

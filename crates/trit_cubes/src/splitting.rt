@@ -6,7 +6,7 @@ ghost use Rattle.trit_cubes.specs.Prime.{prime_list};
 
 use crate::cubes::Cube;
 use crate::merging::merge;
-use crate::word_primes::primes_by_words;
+use crate::word_primes::primes_by_word;
 use std::alloc::{AllocError, Global};
 
 /// The primes over `n` places of the set that the table tells, ordered place by place with 0 before 1 before free. Entry k
@@ -17,7 +17,7 @@ pub fn primes(alloc: Global, n: usize, set: &[bool]) -> Result<Vec<Cube>, AllocE
     ensures { IfOk result (λ found. found.items ≡ prime_list n (has set.now)) }
 {
     if n <= 6 {
-        let few = primes_by_words(alloc, n, set)?;
+        let few = primes_by_word(alloc, n, set)?;
         return Ok(few);
     }
     if let Some(all) = common_entry(set) {

@@ -19,11 +19,7 @@ const MOST: usize = 6;
 const USUAL: usize = 12;
 
 /// As `primes`, over at most six places.
-pub(crate) fn primes_by_words(
-    alloc: Global,
-    n: usize,
-    set: &[bool],
-) -> Result<Vec<Cube>, AllocError>
+pub(crate) fn primes_by_word(alloc: Global, n: usize, set: &[bool]) -> Result<Vec<Cube>, AllocError>
     requires short { n ≤ 6 }
     requires entries { length set.now ≡ 2 ^ n }
     ensures { IfOk result (λ found. found.items ≡ prime_list n (has set.now)) }

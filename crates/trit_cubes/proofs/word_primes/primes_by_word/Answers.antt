@@ -2,7 +2,7 @@ use Rattle.std.proofs.Common.{◌+◌, ◌*◌, ◌≡◌, false, slice_index_or
 use Rattle.trit_cubes.specs.Filling.{number}
 use Rattle.trit_cubes.specs.Sets.{has}
 use Rattle.trit_cubes.proofs.InWordLemmas.{added-all}
-use Rattle.trit_cubes.proofs.word_primes.primes_by_words.Goals as goal
+use Rattle.trit_cubes.proofs.word_primes.primes_by_word.Goals as goal
 
 pub returns : goal.returns
 returns c =

@@ -10,41 +10,36 @@ use Rattle.statetables.specs.declared.symbols.CurrentSymbol.TheVariants as curre
 use Rattle.statetables.specs.declared.symbols.NextSymbol.{NextSymbol}
 use Rattle.statetables.specs.declared.symbols.NextSymbol.TheVariants as next
 
+-- The words that each kind of symbol has: those of the two levels and of their halves.
+abbrev pub level_words : {S : Type 0} → S → S → List (List ℕ × Written S)
+level_words low high = (codes "L", written.Whole low)
+    ∷ (codes "H", written.Whole high)
+    ∷ (codes "L/H", written.Halves low high)
+    ∷ (codes "H/L", written.Halves high low)
+    ∷ []
+
 -- The words that may stand for an input, and what each stands for.
 -- (Liberty Reference Manual, "table" attribute: input node values.)
 abbrev pub in_words : List (List ℕ × Written InSymbol)
-in_words = (codes "L", written.Whole input.Low)
-    ∷ (codes "H", written.Whole input.High)
-    ∷ (codes "-", written.Whole input.Any)
+in_words = (codes "-", written.Whole input.Any)
     ∷ (codes "R", written.Whole input.Rise)
     ∷ (codes "F", written.Whole input.Fall)
     ∷ (codes "~R", written.Whole input.NotRise)
     ∷ (codes "~F", written.Whole input.NotFall)
-    ∷ (codes "L/H", written.Halves input.Low input.High)
-    ∷ (codes "H/L", written.Halves input.High input.Low)
-    ∷ []
+    ∷ level_words input.Low input.High
 
 -- The words that may stand for a node's present state, and what each stands for.
 -- (Liberty Reference Manual, "table" attribute: current internal node values.)
 abbrev pub current_words : List (List ℕ × Written CurrentSymbol)
-current_words = (codes "L", written.Whole current.Low)
-    ∷ (codes "H", written.Whole current.High)
-    ∷ (codes "-", written.Whole current.Any)
-    ∷ (codes "L/H", written.Halves current.Low current.High)
-    ∷ (codes "H/L", written.Halves current.High current.Low)
-    ∷ []
+current_words = (codes "-", written.Whole current.Any) ∷ level_words current.Low current.High
 
 -- The words that may stand for a node's next state, and what each stands for.
 -- (Liberty Reference Manual, "table" attribute: next internal node values. That - is not known is this project's rule.)
 abbrev pub next_words : List (List ℕ × Written NextSymbol)
-next_words = (codes "L", written.Whole next.Low)
-    ∷ (codes "H", written.Whole next.High)
-    ∷ (codes "N", written.Whole next.Keep)
+next_words = (codes "N", written.Whole next.Keep)
     ∷ (codes "X", written.Whole next.Unknown)
     ∷ (codes "-", written.Whole next.Unknown)
-    ∷ (codes "L/H", written.Halves next.Low next.High)
-    ∷ (codes "H/L", written.Halves next.High next.Low)
-    ∷ []
+    ∷ level_words next.Low next.High
 
 -- What a word stands for by a list of words.
 abbrev pub meaning : {S : Type 0} → List (List ℕ × Written S) → List ℕ → Option (Written S)

@@ -16,17 +16,6 @@ pub struct TableRow {
     pub next: Items<NextSymbol>,
 }
 
-/// A state table of a Liberty cell: rows over inputs and nodes, of which the first one that matches counts.
-#[derive(Debug, Drop)]
-pub struct StateTable {
-    /// How many inputs it has.
-    pub inputs: usize,
-    /// How many nodes it has.
-    pub nodes: usize,
-    /// Its rows, in order.
-    pub rows: Items<TableRow>,
-}
-
 impl TableRow {
     ghost use Rattle.statetables.specs.Step.{row_matches, row_gives};
 
@@ -49,6 +38,17 @@ impl TableRow {
     {
         self.next.as_slice()[node].value(state)
     }
+}
+
+/// A state table of a Liberty cell: rows over inputs and nodes, of which the first one that matches counts.
+#[derive(Debug, Drop)]
+pub struct StateTable {
+    /// How many inputs it has.
+    pub inputs: usize,
+    /// How many nodes it has.
+    pub nodes: usize,
+    /// Its rows, in order.
+    pub rows: Items<TableRow>,
 }
 
 impl StateTable {

@@ -1,6 +1,7 @@
 //! Symbols as they are written: a word each.
 ghost use Rattle.std.specs.Prelude.{◌≡◌, IfOk, map};
 ghost use Rattle.std.specs.List.{list_any};
+ghost use Rattle.statetables.specs.Written.{level_words, meaning};
 ghost use Rattle.statetables.specs.Reading.{is_halved as is_halved_of, half_of, has_halves, half_row, split_rows};
 
 use crate::symbols::{CurrentSymbol, InSymbol, NextSymbol};
@@ -123,6 +124,19 @@ pub trait Symbol: Copy {
         ensures { result ≡ of_word word.now };
 }
 
+/// What a word stands for among those that each kind of symbol has, whose symbols of the two levels are these.
+fn level<S: Copy>(word: &[u8], low: S, high: S) -> Option<Written<S>>
+    ensures { result ≡ meaning (level_words low high) word.now }
+{
+    match word {
+        b"L" => Some(Written::Whole(low)),
+        b"H" => Some(Written::Whole(high)),
+        b"L/H" => Some(Written::Halves(low, high)),
+        b"H/L" => Some(Written::Halves(high, low)),
+        _ => None,
+    }
+}
+
 impl Symbol for InSymbol {
     ghost use Rattle.statetables.specs.Written.{in_symbol};
 
@@ -130,16 +144,12 @@ impl Symbol for InSymbol {
 
     fn of_word(word: &[u8]) -> Option<Written<InSymbol>> {
         match word {
-            b"L" => Some(Written::Whole(InSymbol::Low)),
-            b"H" => Some(Written::Whole(InSymbol::High)),
             b"-" => Some(Written::Whole(InSymbol::Any)),
             b"R" => Some(Written::Whole(InSymbol::Rise)),
             b"F" => Some(Written::Whole(InSymbol::Fall)),
             b"~R" => Some(Written::Whole(InSymbol::NotRise)),
             b"~F" => Some(Written::Whole(InSymbol::NotFall)),
-            b"L/H" => Some(Written::Halves(InSymbol::Low, InSymbol::High)),
-            b"H/L" => Some(Written::Halves(InSymbol::High, InSymbol::Low)),
-            _ => None,
+            _ => level(word, InSymbol::Low, InSymbol::High),
         }
     }
 }
@@ -151,12 +161,8 @@ impl Symbol for CurrentSymbol {
 
     fn of_word(word: &[u8]) -> Option<Written<CurrentSymbol>> {
         match word {
-            b"L" => Some(Written::Whole(CurrentSymbol::Low)),
-            b"H" => Some(Written::Whole(CurrentSymbol::High)),
             b"-" => Some(Written::Whole(CurrentSymbol::Any)),
-            b"L/H" => Some(Written::Halves(CurrentSymbol::Low, CurrentSymbol::High)),
-            b"H/L" => Some(Written::Halves(CurrentSymbol::High, CurrentSymbol::Low)),
-            _ => None,
+            _ => level(word, CurrentSymbol::Low, CurrentSymbol::High),
         }
     }
 }
@@ -168,13 +174,9 @@ impl Symbol for NextSymbol {
 
     fn of_word(word: &[u8]) -> Option<Written<NextSymbol>> {
         match word {
-            b"L" => Some(Written::Whole(NextSymbol::Low)),
-            b"H" => Some(Written::Whole(NextSymbol::High)),
             b"N" => Some(Written::Whole(NextSymbol::Keep)),
             b"X" | b"-" => Some(Written::Whole(NextSymbol::Unknown)),
-            b"L/H" => Some(Written::Halves(NextSymbol::Low, NextSymbol::High)),
-            b"H/L" => Some(Written::Halves(NextSymbol::High, NextSymbol::Low)),
-            _ => None,
+            _ => level(word, NextSymbol::Low, NextSymbol::High),
         }
     }
 }

@@ -1,5 +1,6 @@
 -- A list that is stepped in place, entry by entry.
-use Rattle.std.proofs.Common.{◌≡◌, ℕ, zero, suc, ◌<◌, ◌≤◌, List, [], ◌∷◌, ◌++◌, length, map, get_or, set, take, drop, refl, ap, sym, ◌∙◌, Some, slice_get, arith}
+use Rattle.std.proofs.Common.{◌≡◌, ℕ, zero, suc, ◌+◌, ◌<◌, ◌≤◌, List, [], ◌∷◌, ◌++◌, length, map, get_or, set, take, drop, refl, ap, sym, ◌∙◌, Some, slice_get, arith, add-one}
+use Rattle.std.proofs.lemmas.List.{append-nil, take_all}
 use Rattle.cell_machine.specs.Each.{each}
 
 -- one entry more is stepped
@@ -16,11 +17,13 @@ each-step f (y ∷ ys) (s ∷ ss) zero x new d e h is =
 each-step f (y ∷ ys) (s ∷ ss) (suc i) x new d e h is =
     ap (λ r. s ∷ r) (each-step f ys ss i x new d e (omega arith) is)
 
-take-done : {S : Type 0} (ss : List S) (i : ℕ) → length ss ≤ i → take i ss ++ [] ≡ ss
-take-done [] zero h = refl
-take-done [] (suc i) h = refl
-take-done (s ∷ ss) zero h = absurd (omega arith)
-take-done (s ∷ ss) (suc i) h = ap (λ r. s ∷ r) (take-done ss i (omega arith))
+-- the same in a loop, where the entry is set
+pub each-kept :
+    {X S : Type 0} (f : X → S → S) (xs : List X) (ss : List S) (i : ℕ) (d : S) {x : X} {new : S} {next whole : List S}
+    → slice_get xs i ≡ Some x → i < length ss → new ≡ f x (get_or ss i d) → next ≡ set ss i new
+    → take i ss ++ each f (drop i xs) (drop i ss) ≡ whole
+    → take (i + 1) next ++ each f (drop (i + 1) xs) (drop (i + 1) next) ≡ whole
+each-kept f xs ss i d e h is written so_far = rw (written, add-one) (each-step f xs ss i _ _ d e h is ∙ so_far)
 
 -- all entries are stepped
 pub each-done :
@@ -32,7 +35,7 @@ each-done f (x ∷ xs) [] zero h = refl
 each-done f (x ∷ xs) [] (suc i) h = elim (drop i xs) as (λ r. each f r [] ≡ []) [ [] ↦ refl | y ∷ ys ↦ refl ]
 each-done f [] (s ∷ ss) zero h = absurd (omega arith)
 each-done f (x ∷ xs) (s ∷ ss) zero h = absurd (omega arith)
-each-done f [] (s ∷ ss) (suc i) h = ap (λ r. s ∷ r) (take-done ss i (omega arith))
+each-done f [] (s ∷ ss) (suc i) h = ap (λ r. s ∷ r) (append-nil (take i ss) ∙ take_all i ss (omega arith))
 each-done f (x ∷ xs) (s ∷ ss) (suc i) h = ap (λ r. s ∷ r) (each-done f xs ss i (omega arith))
 
 pub length-each :
@@ -75,3 +78,8 @@ pub get_or-part :
 get_or-part f part [] i d e h = absurd (omega arith)
 get_or-part f part (x ∷ xs) zero d e h = refl
 get_or-part f part (x ∷ xs) (suc i) d e h = get_or-part f part xs i d e (omega arith)
+
+pub part-at :
+    {X Y Z : Type 0} (f : X → Y) (part : Y → Z) (xs : List X) (ys : List Y) (i : ℕ) (d : Y) (e : Z)
+    → ys ≡ map f xs → i < length xs → part (get_or ys i d) ≡ get_or (map (λ x. part (f x)) xs) i e
+part-at f part xs ys i d e are h = ap (λ zs. part (get_or zs i d)) are ∙ get_or-part f part xs i d e h

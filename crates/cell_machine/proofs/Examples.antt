@@ -2,12 +2,18 @@
 use Rattle.std.proofs.Common.{◌≡◌, ℕ, List, [], ◌∷◌, refl, Bool, true, false, not, ◌&&◌, if◌then◌else◌}
 use Rattle.trit_cubes.specs.declared.trits.Trit.{Trit}
 use Rattle.trit_cubes.specs.declared.trits.Trit.TheVariants.{Zero, One, Unknown}
+use Rattle.statetables.specs.declared.symbols.InSymbol.{InSymbol}
 use Rattle.statetables.specs.declared.symbols.InSymbol.TheVariants as in_symbol
+use Rattle.statetables.specs.declared.symbols.CurrentSymbol.{CurrentSymbol}
 use Rattle.statetables.specs.declared.symbols.CurrentSymbol.TheVariants as current_symbol
+use Rattle.statetables.specs.declared.symbols.NextSymbol.{NextSymbol}
 use Rattle.statetables.specs.declared.symbols.NextSymbol.TheVariants as next_symbol
+use Rattle.statetables.specs.declared.table.TableRow.{TableRow}
 use Rattle.cell_machine.specs.declared.groups.GroupKind.TheVariants as kind
 use Rattle.cell_machine.specs.declared.groups.StateGroup.{StateGroup}
+use Rattle.cell_machine.specs.declared.checks.CheckKind.{CheckKind}
 use Rattle.cell_machine.specs.declared.checks.CheckKind.TheVariants as check_kind
+use Rattle.cell_machine.specs.declared.checks.Edge.{Edge}
 use Rattle.cell_machine.specs.declared.checks.Edge.TheVariants as edge
 use Rattle.cell_machine.specs.declared.changes.Change.{Change}
 use Rattle.cell_machine.specs.Report.{InputCheck, report}
@@ -53,6 +59,10 @@ clear_forces = refl
 clear_may_force : forced clear_and_set (Unknown ∷ []) ≡ Unknown
 clear_may_force = refl
 
+-- a row of a table of two inputs and one node
+abbrev table_row : InSymbol → InSymbol → CurrentSymbol → NextSymbol → TableRow
+table_row one other current next = record { inputs = one ∷ other ∷ []; current = current ∷ []; next = next ∷ [] }
+
 -- A toggle as a state table.
 abbrev toggle : StateGroup
 toggle =
@@ -63,39 +73,22 @@ toggle =
             inputs = 2;
             nodes = 1;
             rows =
-                record {
-                  inputs = in_symbol.Any ∷ in_symbol.High ∷ [];
-                  current = current_symbol.Any ∷ [];
-                  next = next_symbol.Low ∷ [];
-                }
-                ∷ record {
-                  inputs = in_symbol.Rise ∷ in_symbol.Low ∷ [];
-                  current = current_symbol.Low ∷ [];
-                  next = next_symbol.High ∷ [];
-                }
-                ∷ record {
-                  inputs = in_symbol.Rise ∷ in_symbol.Low ∷ [];
-                  current = current_symbol.High ∷ [];
-                  next = next_symbol.Low ∷ [];
-                }
-                ∷ record {
-                  inputs = in_symbol.NotRise ∷ in_symbol.Low ∷ [];
-                  current = current_symbol.Any ∷ [];
-                  next = next_symbol.Keep ∷ [];
-                }
+                table_row in_symbol.Any in_symbol.High current_symbol.Any next_symbol.Low
+                ∷ table_row in_symbol.Rise in_symbol.Low current_symbol.Low next_symbol.High
+                ∷ table_row in_symbol.Rise in_symbol.Low current_symbol.High next_symbol.Low
+                ∷ table_row in_symbol.NotRise in_symbol.Low current_symbol.Any next_symbol.Keep
                 ∷ [];
           })
           0 (0 ∷ 1 ∷ []);
       support = 0 ∷ 1 ∷ [];
     }
 
-toggle_rises : machine_step (group_step 3 toggle) 0 Zero One (Zero ∷ []) Zero ≡ One
+-- each rise turns the state
+toggle_rises :
+    (machine_step (group_step 3 toggle) 0 Zero One (Zero ∷ []) Zero ≡ One)
+    × (machine_step (group_step 3 toggle) 0 Zero One (Zero ∷ []) One ≡ Zero)
 unfolding no_values
-toggle_rises = refl
-
-toggle_rises_again : machine_step (group_step 3 toggle) 0 Zero One (Zero ∷ []) One ≡ Zero
-unfolding no_values
-toggle_rises_again = refl
+toggle_rises = (refl, refl)
 
 toggle_falls : machine_step (group_step 3 toggle) 0 One Zero (Zero ∷ []) One ≡ One
 unfolding no_values
@@ -109,16 +102,14 @@ toggle_is_reset = refl
 abbrev set_at : ℕ → ℕ → Trit → Change
 set_at time pin to = record { at = time; pin = pin; to = to }
 
+-- a check of these two events, each a pin and an edge of it, with this limit
+abbrev check_of : CheckKind → (ℕ × Edge) → (ℕ × Edge) → ℕ → Bool → InputCheck
+check_of kind first second limit on =
+    record { kind = kind; first = record { pin = first.0; edge = first.1 }; second = record { pin = second.0; edge = second.1 }; limit = limit; holds = λ _. on }
+
 -- A setup of 50 from any event of input 1 to a possible rise of input 0.
 abbrev setup : Bool → InputCheck
-setup on =
-    record {
-      kind = check_kind.Setup;
-      first = record { pin = 1; edge = edge.Any };
-      second = record { pin = 0; edge = edge.Rise };
-      limit = 50;
-      holds = λ _. on;
-    }
+setup = check_of check_kind.Setup (1, edge.Any) (0, edge.Rise) 50
 
 -- a distance of 49 is a violation, one of 50 is none, and none counts without the condition
 setup_reports : report 2 (setup true) (set_at 149 0 One ∷ set_at 100 1 One ∷ set_at 10 0 Zero ∷ []) ≡ true
@@ -132,28 +123,14 @@ setup_is_off = refl
 
 -- A least width of 100 of a high pulse of input 0.
 abbrev width : InputCheck
-width =
-    record {
-      kind = check_kind.Width;
-      first = record { pin = 0; edge = edge.Rise };
-      second = record { pin = 0; edge = edge.Fall };
-      limit = 100;
-      holds = λ _. true;
-    }
+width = check_of check_kind.Width (0, edge.Rise) (0, edge.Fall) 100 true
 
 width_reports : report 2 width (set_at 450 0 Zero ∷ set_at 400 0 One ∷ set_at 200 0 Zero ∷ set_at 10 1 One ∷ []) ≡ true
 width_reports = refl
 
 -- A least period of 100 of input 0 compares edges of one kind.
 abbrev period : InputCheck
-period =
-    record {
-      kind = check_kind.Period;
-      first = record { pin = 0; edge = edge.Any };
-      second = record { pin = 0; edge = edge.Any };
-      limit = 100;
-      holds = λ _. true;
-    }
+period = check_of check_kind.Period (0, edge.Any) (0, edge.Any) 100 true
 
 abbrev clock_until_60 : List Change
 clock_until_60 = set_at 60 0 Zero ∷ set_at 20 0 One ∷ set_at 10 0 Zero ∷ []

@@ -57,6 +57,12 @@ pub place-inside :
 place-inside pins support c place e =
     (position-Some (λ p. nat_eq (input_number pins p) c.pin) support place 0 (sym e)).0
 
+-- what is made of the group that is held under a number is made of the group that has it
+pub of-held :
+    (groups : List StateGroup) (i : ℕ) (held group : StateGroup) (f : StateGroup → Trit) {t : Trit}
+    → slice_get groups i ≡ Some held → slice_get groups i ≡ Some group → t ≡ f held → t ≡ f group
+of-held groups i held group f is e made = let same : held ≡ group = cc (is, e) in made ∙ ap f same
+
 -- the machine step of a group, filling by filling
 pub moved-filled :
     (pins : List Pin) (name : ℕ) (group : StateGroup) (v : List Trit) (a : Trit) (c : Change) (s : Trit) (place : ℕ)

@@ -1,8 +1,9 @@
 -- The fields of a cell's simulator at the start and after a change.
-use Rattle.std.proofs.Common.{◌≡◌, ℕ, ◌+◌, Bool, true, false, not, List, [], ◌∷◌, length, map, replicate, get_or, set, take, refl, sym, ap, ◌∙◌, IsTrue, if◌then◌else◌}
+use Rattle.std.proofs.Common.{◌≡◌, ℕ, ◌+◌, Bool, true, false, not, List, [], ◌∷◌, length, map, replicate, get_or, set, refl, sym, ap, ◌∙◌, IsTrue, if◌then◌else◌}
 use Rattle.std.specs.Prelude.{count_by}
 use Rattle.std.specs.List.{list_all}
 use Rattle.std.proofs.lemmas.Bool.{and_parts}
+use Rattle.std.proofs.Math.Seq.{take-length}
 use Rattle.std.proofs.lemmas.List.{length-map}
 use Rattle.trit_cubes.specs.declared.trits.Trit.{Trit}
 use Rattle.trit_cubes.specs.declared.trits.Trit.TheVariants.{Unknown}
@@ -37,10 +38,6 @@ states-start :
     → replicate (length groups) Unknown ≡ map (state_after cell []) (named_from name groups)
 states-start cell name [] = refl
 states-start cell name (g ∷ gs) = ap (λ r. Unknown ∷ r) (states-start cell (name + 2) gs)
-
-take-length : {X : Type 0} (xs : List X) → take (length xs) xs ≡ xs
-take-length [] = refl
-take-length (x ∷ xs) = ap (λ r. x ∷ r) (take-length xs)
 
 -- Before any change.
 pub start-stands :

@@ -1,5 +1,5 @@
 -- A change to the same value, and inputs of which fewer are unknown.
-use Rattle.std.proofs.Common.{◌≡◌, ℕ, zero, suc, Bool, true, false, not, ◌&&◌, List, [], ◌∷◌, length, map, get_or, set, refl, ap, ◌∙◌, Some, None, nat_eq, if◌then◌else◌}
+use Rattle.std.proofs.Common.{◌≡◌, ℕ, zero, suc, Bool, true, false, not, ◌&&◌, List, [], ◌∷◌, length, map, get_or, set, refl, sym, ap, ◌∙◌, subst, Some, None, nat_eq, if◌then◌else◌}
 use Rattle.std.proofs.lemmas.List.{set-get_or}
 use Rattle.trit_cubes.specs.declared.trits.Trit.{Trit}
 use Rattle.trit_cubes.specs.declared.trits.Trit.TheVariants.{Zero, One, Unknown}
@@ -23,21 +23,24 @@ use Rattle.cell_machine.specs.Delay.{least_delay}
 use Rattle.cell_machine.specs.CellTrace.{inputs_of, input_check, state_after, states_after, named_groups, source_value, output_value, output_after, paths_between, delay_at, delay_after}
 use Rattle.cell_machine.specs.Laws.{SameValueChangesNothing, Refines, AllRefine, FewerUnknownsKeepOutputs}
 
-pub same-equal : (a b : Trit) → not (same a b) ≡ false → b ≡ a
-same-equal Zero Zero h = refl
-same-equal One One h = refl
-same-equal Unknown Unknown h = refl
-same-equal Zero One h = absurd cc
-same-equal Zero Unknown h = absurd cc
-same-equal One Zero h = absurd cc
-same-equal One Unknown h = absurd cc
-same-equal Unknown Zero h = absurd cc
-same-equal Unknown One h = absurd cc
+-- two values are the same exactly where they are equal
+pub same-is : (a b : Trit) → same a b ≡ true → a ≡ b
+same-is Zero Zero h = refl
+same-is One One h = refl
+same-is Unknown Unknown h = refl
+same-is _ _ h = absurd cc
 
-same-self : (a : Trit) → same a a ≡ true
+pub same-self : (a : Trit) → same a a ≡ true
 same-self Zero = refl
 same-self One = refl
 same-self Unknown = refl
+
+not-false : (b : Bool) → not b ≡ false → b ≡ true
+not-false true h = refl
+not-false false h = absurd cc
+
+pub same-equal : (a b : Trit) → not (same a b) ≡ false → b ≡ a
+same-equal a b h = sym (same-is a b (not-false (same a b) h))
 
 moves-self : (e : Edge) (a : Trit) → moves e a a ≡ false
 moves-self edge.Any a = ap not (same-self a)
@@ -112,37 +115,18 @@ agreed-refines One Unknown z w p q = tt
 agreed-refines Unknown y z w p q = tt
 
 -- both choices of a place give what the unknown place gives
-agreed-left : (x y : Trit) → Refines (agreed x y) x
-agreed-left Zero Zero = refl
-agreed-left Zero One = tt
-agreed-left Zero Unknown = tt
-agreed-left One Zero = tt
-agreed-left One One = refl
-agreed-left One Unknown = tt
-agreed-left Unknown y = tt
-
-agreed-right : (x y : Trit) → Refines (agreed x y) y
-agreed-right Zero Zero = refl
-agreed-right Zero One = tt
-agreed-right Zero Unknown = tt
-agreed-right One Zero = tt
-agreed-right One One = refl
-agreed-right One Unknown = tt
-agreed-right Unknown y = tt
+agreed-either : (x y : Trit) → Refines (agreed x y) x × Refines (agreed x y) y
+agreed-either Zero Zero = (refl, refl)
+agreed-either Zero One = (tt, tt)
+agreed-either Zero Unknown = (tt, tt)
+agreed-either One Zero = (tt, tt)
+agreed-either One One = (refl, refl)
+agreed-either One Unknown = (tt, tt)
+agreed-either Unknown y = (tt, tt)
 
 refines-next : (x y z : Trit) → Refines x y → Refines y z → Refines x z
-refines-next Zero y z p q = refines-zero y z p q
-  where
-    refines-zero : (y z : Trit) → y ≡ Zero → Refines y z → z ≡ Zero
-    refines-zero Zero z p q = q
-    refines-zero One z p q = absurd cc
-    refines-zero Unknown z p q = absurd cc
-refines-next One y z p q = refines-one y z p q
-  where
-    refines-one : (y z : Trit) → y ≡ One → Refines y z → z ≡ One
-    refines-one One z p q = q
-    refines-one Zero z p q = absurd cc
-    refines-one Unknown z p q = absurd cc
+refines-next Zero y z p q = subst (λ t. Refines t z) p q
+refines-next One y z p q = subst (λ t. Refines t z) p q
 refines-next Unknown y z p q = tt
 
 pub res-refines : (f : List Bool → Trit) (ts us : List Trit) → AllRefine ts us → Refines (res f ts) (res f us)
@@ -161,10 +145,10 @@ res-refines f (One ∷ ts) (One ∷ us) h = res-refines (λ p. f (true ∷ p)) t
 res-refines f (One ∷ ts) (Zero ∷ us) h = absurd (let e = h.0 in cc)
 res-refines f (One ∷ ts) (Unknown ∷ us) h = absurd (let e = h.0 in cc)
 res-refines f (Unknown ∷ ts) (Zero ∷ us) h =
-    refines-next _ _ _ (agreed-left (res (λ p. f (false ∷ p)) ts) (res (λ p. f (true ∷ p)) ts))
+    refines-next _ _ _ (agreed-either (res (λ p. f (false ∷ p)) ts) (res (λ p. f (true ∷ p)) ts)).0
     (res-refines (λ p. f (false ∷ p)) ts us h.1)
 res-refines f (Unknown ∷ ts) (One ∷ us) h =
-    refines-next _ _ _ (agreed-right (res (λ p. f (false ∷ p)) ts) (res (λ p. f (true ∷ p)) ts))
+    refines-next _ _ _ (agreed-either (res (λ p. f (false ∷ p)) ts) (res (λ p. f (true ∷ p)) ts)).1
     (res-refines (λ p. f (true ∷ p)) ts us h.1)
 res-refines f (Unknown ∷ ts) (Unknown ∷ us) h =
     agreed-refines (res (λ p. f (false ∷ p)) ts) (res (λ p. f (true ∷ p)) ts) (res (λ p. f (false ∷ p)) us)

@@ -20,12 +20,5 @@ pub record CellData : Type 0 where
 
 -- the data of a cell
 abbrev pub data_of : Cell → CellData
-data_of cell = record {
-  name = cell.name;
-  number = cell.number;
-  pins = cell.pins;
-  groups = cell.groups;
-  outputs = cell.outputs;
-  checks = cell.checks;
-  arcs = cell.arcs;
-}
+data_of c =
+    record { name = c.name; number = c.number; pins = c.pins; groups = c.groups; outputs = c.outputs; checks = c.checks; arcs = c.arcs }

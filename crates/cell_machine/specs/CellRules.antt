@@ -25,6 +25,7 @@ use Rattle.cell_machine.specs.declared.checks.CheckKind.{CheckKind}
 use Rattle.cell_machine.specs.declared.checks.CheckKind.TheVariants as check_kind
 use Rattle.cell_machine.specs.declared.checks.Edge.{Edge}
 use Rattle.cell_machine.specs.declared.checks.Edge.TheVariants as edge
+use Rattle.cell_machine.specs.declared.checks.Event.{Event}
 use Rattle.cell_machine.specs.declared.checks.Check.{Check}
 use Rattle.cell_machine.specs.declared.arcs.Arc.{Arc}
 use Rattle.cell_machine.specs.Names.{source_name, has, names_of_optional}
@@ -57,13 +58,11 @@ are_distinct (x ∷ xs) = not (list_any (bytes_eq x) xs) && are_distinct xs
 -- the directions
 abbrev pub is_input : Direction → Bool
 is_input direction.Input = true
-is_input direction.Output = false
-is_input direction.Internal = false
+is_input _ = false
 
 abbrev pub is_output : Direction → Bool
-is_output direction.Input = false
 is_output direction.Output = true
-is_output direction.Internal = false
+is_output _ = false
 
 -- whether this is the number of an input pin
 abbrev pub is_input_pin : List Pin → ℕ → Bool
@@ -112,10 +111,8 @@ names_support name group =
 
 -- the second variable may not keep its value
 abbrev pub is_second : Both → Bool
-is_second both.Low = true
-is_second both.High = true
 is_second both.Keep = false
-is_second both.Unknown = true
+is_second _ = true
 
 -- both are there or neither
 abbrev pub both_or_neither : Option Node → Option Node → Bool
@@ -125,9 +122,8 @@ both_or_neither None (Some g) = false
 both_or_neither (Some f) None = false
 
 abbrev pub is_free : CurrentSymbol → Bool
-is_free current_symbol.Low = false
-is_free current_symbol.High = false
 is_free current_symbol.Any = true
+is_free _ = false
 
 -- a row has a symbol for each input and, in both other parts, for each node
 abbrev pub has_widths : ℕ → ℕ → TableRow → Bool
@@ -222,16 +218,19 @@ are_opposite edge.Rise edge.Fall = true
 are_opposite edge.Fall edge.Rise = true
 are_opposite _ _ = false
 
--- The events of a check, by its kind. (Liberty Reference Manual, timing_type and the attributes min_pulse_width_high,
--- min_pulse_width_low and min_period.)
+-- Whether these may be the events of a check of this kind. (Liberty Reference Manual, timing_type and the attributes
+-- min_pulse_width_high, min_pulse_width_low and min_period.)
+abbrev pub are_events : CheckKind → Event → Event → Bool
+are_events check_kind.Setup first second = is_any_edge first.edge && is_one_edge second.edge
+are_events check_kind.Hold first second = is_one_edge first.edge && is_any_edge second.edge
+are_events check_kind.Recovery first second = is_one_edge first.edge && is_one_edge second.edge
+are_events check_kind.Removal first second = is_one_edge first.edge && is_one_edge second.edge
+are_events check_kind.Width first second = nat_eq first.pin second.pin && are_opposite first.edge second.edge
+are_events check_kind.Period first second =
+    nat_eq first.pin second.pin && (is_any_edge first.edge && is_any_edge second.edge)
+
 abbrev pub has_events : Check → CheckKind → Bool
-has_events k check_kind.Setup = is_any_edge k.first.edge && is_one_edge k.second.edge
-has_events k check_kind.Hold = is_one_edge k.first.edge && is_any_edge k.second.edge
-has_events k check_kind.Recovery = is_one_edge k.first.edge && is_one_edge k.second.edge
-has_events k check_kind.Removal = is_one_edge k.first.edge && is_one_edge k.second.edge
-has_events k check_kind.Width = nat_eq k.first.pin k.second.pin && are_opposite k.first.edge k.second.edge
-has_events k check_kind.Period =
-    nat_eq k.first.pin k.second.pin && (is_any_edge k.first.edge && is_any_edge k.second.edge)
+has_events k kind = are_events kind k.first k.second
 
 -- A check: events of input pins, a limit of 1 to the longest time, and a condition apart from the pins of its events.
 abbrev pub is_check : List Pin → Check → Bool

@@ -26,7 +26,7 @@ use Rattle.cell_machine.specs.Machine.{Step, machine_step, without, forced}
 use Rattle.cell_machine.specs.Step.{group_step}
 use Rattle.cell_machine.specs.Outputs.{output_at, condition_at, is_one, is_zero}
 use Rattle.cell_machine.specs.Delay.{Path, least_delay}
-use Rattle.cell_machine.specs.Lines.{Line, trace, Machine}
+use Rattle.cell_machine.specs.Lines.{Line, shown_line, trace, Machine, machine_by}
 
 -- how many inputs a cell has
 abbrev pub inputs_of : CellData → ℕ
@@ -210,12 +210,7 @@ delay_after cell (c ∷ h) output =
 
 -- What a cell shows after a history of its inputs.
 abbrev pub cell_line : CellData → List Change → Line
-cell_line cell h =
-    record {
-      values = map (output_after cell h) cell.outputs;
-      delays = map (delay_after cell h) cell.outputs;
-      reports = reports_of cell h;
-    }
+cell_line cell = shown_line cell.outputs (output_after cell) (delay_after cell) (reports_of cell)
 
 -- The trace of a cell on changes of its inputs, the oldest first.
 abbrev pub cell_trace : CellData → List Change → List Line
@@ -223,10 +218,4 @@ cell_trace cell = trace (cell_line cell)
 
 -- the cell as what a simulator runs
 abbrev pub cell_machine_of : CellData → Machine
-cell_machine_of cell =
-    record {
-      inputs = inputs_of cell;
-      outputs = length cell.outputs;
-      checks = length cell.checks;
-      line = cell_line cell;
-    }
+cell_machine_of cell = machine_by (inputs_of cell) (length cell.checks) cell.outputs (cell_line cell)

@@ -15,10 +15,7 @@ is_rise _ _ = false
 
 -- A possible fall: 1 to 0, 1 to X or X to 0. (IEEE 1364-2005, clause 9.7.2: negedge.)
 abbrev pub is_fall : Trit → Trit → Bool
-is_fall One Zero = true
-is_fall One Unknown = true
-is_fall Unknown Zero = true
-is_fall _ _ = false
+is_fall a b = is_rise b a
 
 -- Whether a change from a to b is an event of this kind. A change to the same value is no event (this project's rule).
 abbrev pub moves : Edge → Trit → Trit → Bool

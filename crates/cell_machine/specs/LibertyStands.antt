@@ -9,6 +9,7 @@ use Rattle.cell_machine.specs.CellData.{CellData}
 use Rattle.cell_machine.specs.History.{inputs_after}
 use Rattle.cell_machine.specs.Times.{times_after}
 use Rattle.cell_machine.specs.CellTrace.{inputs_of, check_names, arc_names, reports_of, states_after, output_after, delay_after}
+pub use Rattle.cell_machine.specs.Sized.{cell_machine_sized}
 
 -- what an output shows after a history
 abbrev pub shown_after : CellData → List Change → OutputPin → Shown

@@ -19,12 +19,8 @@ pub record InputCheck : Type 0 where
   pub holds : List Trit → Bool
 
 abbrev pub is_period : CheckKind → Bool
-is_period check_kind.Setup = false
-is_period check_kind.Hold = false
-is_period check_kind.Recovery = false
-is_period check_kind.Removal = false
-is_period check_kind.Width = false
 is_period check_kind.Period = true
+is_period _ = false
 
 -- whether a change of an input that had the value a is this event
 abbrev pub happens : Event → Trit → Change → Bool

@@ -31,10 +31,12 @@ both_value both.Unknown s = Unknown
 
 -- The lines on clear and preset, which come before the clock or the enable (Liberty Reference Manual, ff and latch
 -- groups): where both are 1, the value given for that; where clear is 1, 0; where preset is 1, 1; else what follows.
+abbrev pub cleared_by : Bool → Bool → Both → Bool → Trit → Trit
+cleared_by clear preset value s otherwise =
+    (if clear && preset then both_value value s else (if clear then Zero else (if preset then One else otherwise)))
+
 abbrev pub cleared_step : Option Node → Option Node → Both → List Bool → Bool → Trit → Trit
-cleared_step clear preset value after s otherwise =
-    (if is_on after clear && is_on after preset then both_value value s
-    else (if is_on after clear then Zero else (if is_on after preset then One else otherwise)))
+cleared_step clear preset value after s otherwise = cleared_by (is_on after clear) (is_on after preset) value s otherwise
 
 -- What the clock of a flip-flop lets in: at a rise of clocked_on from 0 to 1 the value of next_state at the inputs
 -- after the change and the state before it, else the state (Liberty Reference Manual, ff group).

@@ -12,11 +12,11 @@ use Rattle.cell_machine.specs.Report.{InputCheck, happens, opening, is_within}
 
 -- before any event
 abbrev pub no_times : Times
-no_times = record { last = None; rise = None; fall = None }
+no_times = record { event = None; rise = None; fall = None }
 
 -- the time of the last event of this kind
 abbrev pub time_of_edge : Edge → Times → Option ℕ
-time_of_edge edge.Any t = t.last
+time_of_edge edge.Any t = t.event
 time_of_edge edge.Rise t = t.rise
 time_of_edge edge.Fall t = t.fall
 
@@ -32,7 +32,7 @@ renewed counts at kept = (if counts then Some at else kept)
 abbrev pub stamped : ℕ → Trit → Trit → Times → Times
 stamped at a b t =
     record {
-      last = renewed (moves edge.Any a b) at t.last;
+      event = renewed (moves edge.Any a b) at t.event;
       rise = renewed (moves edge.Rise a b) at t.rise;
       fall = renewed (moves edge.Fall a b) at t.fall;
     }

@@ -4,6 +4,7 @@ ghost use Rattle.cell_machine.specs.CellRules.{is_cell, AreApart};
 
 use crate::arcs::Arc;
 use crate::checks::Check;
+use crate::entries::entry;
 use crate::groups::StateGroup;
 use crate::outputs::OutputPin;
 use crate::pins::Pin;
@@ -48,7 +49,7 @@ impl Cell {
         ensures at { slice_index_or self.now.groups i result.now ≡ result.now }
         ensures facts { GroupFacts (length self.now.pins + 2 * i) result.now }
     {
-        &self.groups.as_slice()[i]
+        entry(&self.groups, i)
     }
 
     /// The name of the state of a group.
@@ -67,7 +68,7 @@ impl Cell {
         ensures at { slice_index_or self.now.outputs i result.now ≡ result.now }
         ensures facts { OutputFacts (length self.now.groups) result.now }
     {
-        &self.outputs.as_slice()[i]
+        entry(&self.outputs, i)
     }
 
     /// The check with this number.
@@ -77,7 +78,7 @@ impl Cell {
         ensures at { slice_index_or self.now.checks i result.now ≡ result.now }
         ensures facts { CheckFacts self.now.pins result.now }
     {
-        &self.checks.as_slice()[i]
+        entry(&self.checks, i)
     }
 
     /// The arc with this number.
@@ -87,6 +88,6 @@ impl Cell {
         ensures at { slice_index_or self.now.arcs i result.now ≡ result.now }
         ensures bounded { IsBounded result.now.condition }
     {
-        &self.arcs.as_slice()[i]
+        entry(&self.arcs, i)
     }
 }

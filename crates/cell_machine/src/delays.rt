@@ -6,15 +6,14 @@ ghost use Rattle.cell_machine.specs.Values.{IsBounded};
 ghost use Rattle.cell_machine.specs.Delay.{lesser, least_delay};
 ghost use Rattle.cell_machine.specs.ArcDelay.{arc_delay};
 ghost use Rattle.cell_machine.specs.CellData.{data_of};
-ghost use Rattle.cell_machine.specs.CellTrace.{condition_names, arc_names, condition_value, is_off, is_active, is_between, paths_between, is_quiet};
+ghost use Rattle.cell_machine.specs.CellTrace.{condition_names, arc_names, condition_value, is_active, is_between, paths_between, is_quiet};
 
 use crate::arcs::Arc;
 use crate::cells::Cell;
 use crate::edges::is_rise;
-use crate::evaluation::condition_value;
+use crate::evaluation::{condition_value, is_or_free};
 use crate::pin_values::input_number;
 use crate::pins::Pin;
-use bool_functions::Function;
 use sqlite_items::Items;
 use trit_cubes::Trit;
 
@@ -31,25 +30,13 @@ pub fn lesser(left: Option<u64>, right: Option<u64>) -> Option<u64>
     }
 }
 
-/// Whether there is no condition or it is 0.
-fn is_off(condition: &Option<Function>, names: &[usize], pins: &[Pin], inputs: &[Trit]) -> bool
-    requires bounded { IsBounded condition.now }
-    requires names { names.now ≡ condition_names condition.now }
-    ensures { result ≡ is_off pins.now inputs.now condition.now }
-{
-    match condition {
-        Some(condition) => condition_value(condition, names, pins, inputs) == Trit::Zero,
-        None => true,
-    }
-}
-
 /// Whether another arc leaves an arc without condition active: it has other pins, or its condition is 0.
 fn is_quiet(arc: &Arc, other: &Arc, names: &[usize], pins: &[Pin], inputs: &[Trit]) -> bool
     requires bounded { IsBounded other.now.condition }
     requires names { names.now ≡ condition_names other.now.condition }
     ensures { result ≡ is_quiet pins.now inputs.now arc.now other.now }
 {
-    !arc.same_pins(other) || is_off(&other.condition, names, pins, inputs)
+    !arc.same_pins(other) || is_or_free(&other.condition, Trit::Zero, names, pins, inputs)
 }
 
 /// Whether all other arcs leave an arc without condition active.

@@ -20,11 +20,7 @@ pub fn is_rise(from: Trit, to: Trit) -> bool
 pub fn is_fall(from: Trit, to: Trit) -> bool
     ensures { result ≡ is_fall from to }
 {
-    match from {
-        Trit::Zero => false,
-        Trit::One => to != Trit::One,
-        Trit::Unknown => to == Trit::Zero,
-    }
+    is_rise(to, from)
 }
 
 /// Whether a change is an event of this kind. A change to the same value is none.

@@ -1,5 +1,6 @@
 //! The values of outputs and conditions: a function is tried on each filling of what it names.
 ghost use Rattle.std.specs.Prelude.{◌≡◌, ◌+◌, ◌<◌, ◌≤◌, Bool, true, false, List, [], ◌∷◌, length, map};
+ghost use Rattle.trit_cubes.specs.declared.trits.Trit.TheVariants.{Zero, One};
 ghost use Rattle.trit_cubes.specs.Filling.{trit_of};
 ghost use Rattle.trit_cubes.specs.Resolution.{agreed, res};
 ghost use Rattle.bool_functions.specs.Tree.{value_of, name_bound};
@@ -10,14 +11,14 @@ ghost use Rattle.cell_machine.specs.Step.{KindIsBounded};
 ghost use Rattle.cell_machine.specs.Outputs.{second_by, second_value, second_names, second_trits, chosen_value, condition_at, is_one, is_zero};
 ghost use Rattle.cell_machine.specs.Inputs.{pin_value, pin_values};
 ghost use Rattle.cell_machine.specs.CellData.{data_of};
-ghost use Rattle.cell_machine.specs.CellTrace.{source_value, sources_at, output_value_at, output_value, condition_value};
+ghost use Rattle.cell_machine.specs.CellTrace.{source_value, sources_at, output_value_at, output_value, condition_names, condition_value, condition_holds, is_off};
 ghost use Rattle.cell_machine.specs.Supports.{StatesBelow, OutputFacts};
 
 use crate::cells::Cell;
 use crate::groups::{Both, GroupKind};
 use crate::outputs::{OutputPin, Source};
 use crate::over::over;
-use crate::pin_values::pin_value;
+use crate::pin_values::{numbered_value, pin_value};
 use crate::pins::Pin;
 use crate::steps::both_value;
 use crate::values::Values;
@@ -148,10 +149,7 @@ fn source_value(pins: &[Pin], inputs: &[Trit], states: &[Trit], source: Source) 
 {
     match source {
         Source::Pin(pin) => pin_value(pins, inputs, pin),
-        Source::State(g) => match states.get(g) {
-            Some(state) => *state,
-            None => Trit::Unknown,
-        },
+        Source::State(g) => numbered_value(states, g),
     }
 }
 
@@ -226,4 +224,23 @@ pub fn condition_value(condition: &Function, names: &[usize], pins: &[Pin], inpu
     ensures { result ≡ condition_value pins.now inputs.now condition.now }
 {
     condition_from(condition, pins, inputs, names, Values::new())
+}
+
+/// Whether a condition has this value, or there is none.
+pub fn is_or_free(
+    condition: &Option<Function>,
+    value: Trit,
+    names: &[usize],
+    pins: &[Pin],
+    inputs: &[Trit],
+) -> bool
+    requires bounded { IsBounded condition.now }
+    requires names { names.now ≡ condition_names condition.now }
+    ensures one { value ≡ One → result ≡ condition_holds pins.now inputs.now condition.now }
+    ensures zero { value ≡ Zero → result ≡ is_off pins.now inputs.now condition.now }
+{
+    match condition {
+        Some(condition) => condition_value(condition, names, pins, inputs) == value,
+        None => true,
+    }
 }

@@ -1,7 +1,13 @@
 //! The groups of a cell that hold a state.
+ghost use Rattle.std.specs.Prelude.{◌≡◌, ◌<◌};
+ghost use Rattle.cell_machine.specs.Step.{clocked_value, clocked_step, gated_value, gated_step, KindIsBounded};
+
+use crate::steps::cleared_by;
+use crate::values::Values;
 use bool_functions::Function;
 use sqlite_items::Items;
 use statetables::StateTable;
+use trit_cubes::Trit;
 
 /// What a variable of an `ff` or `latch` group becomes where `clear` and `preset` are both 1. (Liberty Reference
 /// Manual, `clear_preset_var1` and `clear_preset_var2`.)
@@ -34,6 +40,33 @@ pub struct Clocked {
     pub both2: Both,
 }
 
+impl Clocked {
+    /// What the texts give for the variable with this name: the clock, then the state.
+    fn value(&self, name: usize, before: &Values, after: &Values, state: bool) -> Trit
+        requires name { name < 96 }
+        requires bounded { KindIsBounded (GroupKind.Ff self.now) }
+        ensures { result ≡ clocked_value self.now name before.now after.now state }
+    {
+        if !before.value(&self.clocked_on) && after.value(&self.clocked_on) {
+            Trit::from(after.with_state(name, state).value(&self.next_state))
+        } else {
+            Trit::from(state)
+        }
+    }
+
+    /// The next state, whose variable has this name: clear and preset, then the clock, then the state.
+    pub fn step(&self, name: usize, before: &Values, after: &Values, state: bool) -> Trit
+        requires name { name < 96 }
+        requires bounded { KindIsBounded (GroupKind.Ff self.now) }
+        ensures { result ≡ clocked_step self.now name before.now after.now state }
+    {
+        let otherwise = self.value(name, before, after, state);
+        let clear = after.is_on(&self.clear);
+        let preset = after.is_on(&self.preset);
+        cleared_by(clear, preset, self.both1, state, otherwise)
+    }
+}
+
 /// A `latch` group. (Liberty Reference Manual, `latch` group.)
 #[derive(Debug, Drop)]
 pub struct Gated {
@@ -49,6 +82,33 @@ pub struct Gated {
     pub both1: Both,
     /// The second variable where both are 1.
     pub both2: Both,
+}
+
+impl Gated {
+    /// What the texts give for the variable with this name: the enable, then the state.
+    fn value(&self, name: usize, after: &Values, state: bool) -> Trit
+        requires name { name < 96 }
+        requires bounded { KindIsBounded (GroupKind.Latch self.now) }
+        ensures { result ≡ gated_value self.now name after.now state }
+    {
+        if after.is_on(&self.enable) {
+            Trit::from(after.with_state(name, state).is_on(&self.data_in))
+        } else {
+            Trit::from(state)
+        }
+    }
+
+    /// The next state, whose variable has this name: clear and preset, then the enable, then the state.
+    pub fn step(&self, name: usize, after: &Values, state: bool) -> Trit
+        requires name { name < 96 }
+        requires bounded { KindIsBounded (GroupKind.Latch self.now) }
+        ensures { result ≡ gated_step self.now name after.now state }
+    {
+        let otherwise = self.value(name, after, state);
+        let clear = after.is_on(&self.clear);
+        let preset = after.is_on(&self.preset);
+        cleared_by(clear, preset, self.both1, state, otherwise)
+    }
 }
 
 /// How the state of a group is made.

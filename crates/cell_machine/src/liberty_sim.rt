@@ -1,8 +1,9 @@
 //! The simulator of a cell.
-ghost use Rattle.std.specs.Prelude.{◌≡◌, [], length};
+ghost use Rattle.std.specs.Prelude.{◌≡◌, [], length, IfOk};
 ghost use Rattle.cell_machine.specs.Report.{any_true};
 ghost use Rattle.cell_machine.specs.CellData.{data_of};
-ghost use Rattle.cell_machine.specs.CellTrace.{inputs_of};
+ghost use Rattle.cell_machine.specs.CellTrace.{inputs_of, cell_machine_of};
+ghost use Rattle.cell_machine.specs.LibertyStands.{Stands, cell_machine_sized};
 
 use crate::cells::Cell;
 use crate::changes::Change;
@@ -11,7 +12,7 @@ use crate::pin_values::input_number;
 use crate::reports::report_all;
 use crate::shown::{Shown, show_all, show_start};
 use crate::simulators::{CellSim, Sizes};
-use crate::states::change_states;
+use crate::states::{SeenChange, change_states};
 use crate::times::Times;
 use sqlite_items::Items;
 use std::alloc::{AllocError, Global};
@@ -37,9 +38,6 @@ pub struct LibertySim<'a> {
 }
 
 impl<'a> LibertySim<'a> {
-    ghost use Rattle.std.specs.Prelude.{IfOk};
-    ghost use Rattle.cell_machine.specs.CellTrace.{cell_machine_of};
-
     /// The simulator of a cell before any change: all inputs and all states are unknown.
     pub fn start(alloc: Global, cell: &'a Cell) -> Result<LibertySim<'a>, AllocError>
         ensures machine { IfOk result (λ sim. ⟦<LibertySim<'a> as CellSim>⟧.machine sim ≡ cell_machine_of (data_of cell.now)) }
@@ -67,10 +65,6 @@ impl<'a> LibertySim<'a> {
 }
 
 impl<'a> CellSim for LibertySim<'a> {
-    ghost use Rattle.cell_machine.specs.CellTrace.{cell_machine_of};
-    ghost use Rattle.cell_machine.specs.LibertyStands.{Stands};
-    ghost use Rattle.cell_machine.specs.Sized.{cell_machine_sized};
-
     ghost machine = { λ s. cell_machine_of (data_of s.cell.now) };
 
     ghost stands = { λ s h. Stands (data_of s.cell.now) s.check_names s.arc_names s.inputs s.times s.states s.reports s.shown h };
@@ -88,35 +82,30 @@ impl<'a> CellSim for LibertySim<'a> {
         let from = self.inputs.as_slice()[pin];
         let times = self.times.as_slice()[pin].stamped(at, from, to);
         self.inputs.set(pin, to);
+        let inputs = self.inputs.as_slice();
+        let kept = self.times.as_slice();
         let names = self.check_names.as_slice();
         report_all(
             self.cell,
             names,
-            self.inputs.as_slice(),
-            self.times.as_slice(),
+            inputs,
+            kept,
             from,
             change,
             &mut self.reports,
         );
         let reported = any_true(self.reports.as_slice());
-        change_states(
-            self.cell,
+        let seen = SeenChange {
             reported,
-            self.inputs.as_slice(),
+            inputs,
             from,
             change,
-            &mut self.states,
-        );
+        };
+        change_states(self.cell, &seen, &mut self.states);
         self.times.set(pin, times);
-        let names = self.arc_names.as_slice();
-        show_all(
-            self.cell,
-            names,
-            self.inputs.as_slice(),
-            self.states.as_slice(),
-            change,
-            &mut self.shown,
-        );
+        let arcs = self.arc_names.as_slice();
+        let states = self.states.as_slice();
+        show_all(self.cell, arcs, inputs, states, change, &mut self.shown);
     }
 
     fn shown(&self, place: usize) -> Shown {

@@ -4,17 +4,16 @@ ghost use Rattle.cell_machine.specs.Values.{IsBounded};
 ghost use Rattle.cell_machine.specs.Report.{is_period, happens, opening};
 ghost use Rattle.cell_machine.specs.Times.{time_of, report_by};
 ghost use Rattle.cell_machine.specs.CellData.{data_of};
-ghost use Rattle.cell_machine.specs.CellTrace.{condition_names, check_names, condition_holds, input_event, input_check};
+ghost use Rattle.cell_machine.specs.CellTrace.{condition_names, check_names, input_event, input_check};
 
 use crate::cells::Cell;
 use crate::changes::Change;
 use crate::checks::{Check, CheckKind, Edge, Event};
 use crate::edges::{edge_of, moves};
-use crate::evaluation::condition_value;
+use crate::evaluation::is_or_free;
 use crate::pin_values::input_number;
 use crate::pins::Pin;
 use crate::times::{Times, is_within};
-use bool_functions::Function;
 use sqlite_items::Items;
 use trit_cubes::Trit;
 
@@ -31,23 +30,6 @@ impl CheckKind {
             CheckKind::Width => false,
             CheckKind::Period => true,
         }
-    }
-}
-
-/// Whether a check's condition is 1, or there is none.
-fn condition_holds(
-    condition: &Option<Function>,
-    names: &[usize],
-    pins: &[Pin],
-    inputs: &[Trit],
-) -> bool
-    requires bounded { IsBounded condition.now }
-    requires names { names.now ≡ condition_names condition.now }
-    ensures { result ≡ condition_holds pins.now inputs.now condition.now }
-{
-    match condition {
-        Some(condition) => condition_value(condition, names, pins, inputs) == Trit::One,
-        None => true,
     }
 }
 
@@ -98,7 +80,7 @@ fn reports(
     ensures { result ≡ report_by (input_check pins.now check.now) from inputs.now times.now change }
 {
     happens(check.second, pins, from, change)
-        && condition_holds(&check.condition, names, pins, inputs)
+        && is_or_free(&check.condition, Trit::One, names, pins, inputs)
         && is_within(
             change.at,
             check.limit,

@@ -1,10 +1,4 @@
 //! What every simulator of a cell or a model answers.
-ghost use Rattle.std.specs.Prelude.{◌≡◌, ◌<◌, List, ◌∷◌, slice_index_or, false, None};
-ghost use Rattle.trit_cubes.specs.declared.trits.Trit.TheVariants.{Unknown};
-ghost use Rattle.cell_machine.specs.declared.changes.Change.{Change};
-ghost use Rattle.cell_machine.specs.History.{ComesAfter};
-ghost use Rattle.cell_machine.specs.Lines.{Machine, IsSized};
-
 use crate::shown::Shown;
 use trit_cubes::Trit;
 
@@ -24,6 +18,12 @@ pub struct Sizes {
 /// Inputs, outputs and checks are numbered from 0, inputs and outputs among the ports of their direction. The stepping
 /// calls take no memory.
 pub trait CellSim {
+    ghost use Rattle.std.specs.Prelude.{◌≡◌, ◌<◌, List, ◌∷◌, slice_index_or, false, None};
+    ghost use Rattle.trit_cubes.specs.declared.trits.Trit.TheVariants.{Unknown};
+    ghost use Rattle.cell_machine.specs.declared.changes.Change.{Change};
+    ghost use Rattle.cell_machine.specs.History.{ComesAfter};
+    ghost use Rattle.cell_machine.specs.Lines.{Machine, IsSized};
+
     /// What the simulator runs. It stays the same.
     ghost machine: { Self → Machine };
 

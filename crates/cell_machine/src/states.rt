@@ -4,14 +4,13 @@ ghost use Rattle.trit_cubes.specs.Filling.{same};
 ghost use Rattle.cell_machine.specs.declared.groups.StateGroup.{StateGroup as StateGroupOf};
 ghost use Rattle.cell_machine.specs.Names.{state_name};
 ghost use Rattle.cell_machine.specs.Each.{each};
-ghost use Rattle.cell_machine.specs.Inputs.{input_number};
 ghost use Rattle.cell_machine.specs.CellData.{data_of};
 ghost use Rattle.cell_machine.specs.CellTrace.{place_in, moved, violated, state_step, named_groups};
 
 use crate::cells::Cell;
 use crate::changes::Change;
 use crate::fillings::{NamedKind, PinChange, change_filled, forced_filled};
-use crate::pin_values::{SupportValues, input_number};
+use crate::pin_values::{input_number, support_values};
 use crate::pins::Pin;
 use sqlite_items::Items;
 use trit_cubes::Trit;
@@ -25,24 +24,36 @@ fn place_in(pins: &[Pin], support: &[usize], change: Change) -> Option<usize>
         .position(|pin| input_number(pins, *pin) == change.pin)
 }
 
-/// The next state of a group where no check reports. `inputs` are those after the change, `from` is the value that the
-/// changed one had.
-fn moved(cell: &Cell, i: usize, inputs: &[Trit], from: Trit, change: Change, state: Trit) -> Trit
+/// A change of an input as the states see it.
+#[derive(Clone, Copy)]
+pub struct SeenChange<'a> {
+    /// Whether some check reports at it.
+    pub reported: bool,
+    /// The values of the inputs after it.
+    pub inputs: &'a [Trit],
+    /// The value that the changed input had.
+    pub from: Trit,
+    /// The change.
+    pub change: Change,
+}
+
+/// The next state of a group where no check reports.
+fn moved(cell: &Cell, i: usize, seen: &SeenChange, state: Trit) -> Trit
     requires { i < length cell.now.groups }
-    ensures { (group : StateGroupOf) → slice_get cell.now.groups i ≡ Some group → result ≡ moved cell.now.pins (record { name = state_name (length cell.now.pins) i; group = group }) inputs.now from change state }
+    ensures { (group : StateGroupOf) → slice_get cell.now.groups i ≡ Some group → result ≡ moved cell.now.pins (record { name = state_name (length cell.now.pins) i; group = group }) seen.now.inputs.now seen.now.from seen.now.change state }
 {
     let pins = cell.pins.as_slice();
     let group = cell.group(i);
     let support = group.support.as_slice();
-    let Some(place) = place_in(pins, support, change) else {
+    let Some(place) = place_in(pins, support, seen.change) else {
         return state;
     };
-    let values = SupportValues::of(pins, inputs, support);
+    let values = support_values(pins, seen.inputs, support);
     let change = PinChange {
         place,
         pin: support[place],
-        from,
-        to: change.to,
+        from: seen.from,
+        to: seen.change.to,
     };
     let named = NamedKind {
         kind: &group.kind,
@@ -58,67 +69,41 @@ fn violated(cell: &Cell, i: usize, inputs: &[Trit]) -> Trit
 {
     let group = cell.group(i);
     let support = group.support.as_slice();
-    let values = SupportValues::of(cell.pins.as_slice(), inputs, support);
+    let values = support_values(cell.pins.as_slice(), inputs, support);
     forced_filled(&group.kind, cell.state_name(i), support, values.as_slice())
 }
 
 /// The next state of a group at a change of an input: forced where some check reports, else moved.
-fn state_step(
-    cell: &Cell,
-    i: usize,
-    reported: bool,
-    inputs: &[Trit],
-    from: Trit,
-    change: Change,
-    state: Trit,
-) -> Trit
+fn state_step(cell: &Cell, i: usize, seen: &SeenChange, state: Trit) -> Trit
     requires { i < length cell.now.groups }
-    ensures { (group : StateGroupOf) → slice_get cell.now.groups i ≡ Some group → result ≡ state_step reported cell.now.pins (record { name = state_name (length cell.now.pins) i; group = group }) inputs.now from change state }
+    ensures { (group : StateGroupOf) → slice_get cell.now.groups i ≡ Some group → result ≡ state_step seen.now.reported cell.now.pins (record { name = state_name (length cell.now.pins) i; group = group }) seen.now.inputs.now seen.now.from seen.now.change state }
 {
-    if reported {
-        violated(cell, i, inputs)
+    if seen.reported {
+        violated(cell, i, seen.inputs)
     } else {
-        moved(cell, i, inputs, from, change, state)
+        moved(cell, i, seen, state)
     }
 }
 
 /// Takes the states of all groups over a change: where it is no event they stay.
-pub fn change_states(
-    cell: &Cell,
-    reported: bool,
-    inputs: &[Trit],
-    from: Trit,
-    change: Change,
-    states: &mut Items<Trit>,
-)
+pub fn change_states(cell: &Cell, seen: &SeenChange, states: &mut Items<Trit>)
     requires { length states.old ≡ length cell.now.groups }
-    ensures changed { states.new ≡ (if not (same from change.to) then each (λ g s. state_step reported cell.now.pins g inputs.now from change s) (named_groups (data_of cell.now)) states.old else states.old) }
+    ensures changed { states.new ≡ (if not (same seen.now.from seen.now.change.to) then each (λ g s. state_step seen.now.reported cell.now.pins g seen.now.inputs.now seen.now.from seen.now.change s) (named_groups (data_of cell.now)) states.old else states.old) }
     ensures len { length states.new ≡ length states.old }
 {
-    if from != change.to {
-        step_states(cell, reported, inputs, from, change, states);
+    if seen.from != seen.change.to {
+        step_states(cell, seen, states);
     }
 }
 
-// Takes the states of all groups over an event. `inputs` are those after it, `from` is the value that the changed one
-/// had, and `reported` says whether some check reports.
-fn step_states(
-    cell: &Cell,
-    reported: bool,
-    inputs: &[Trit],
-    from: Trit,
-    change: Change,
-    states: &mut Items<Trit>,
-)
+/// Takes the states of all groups over an event.
+fn step_states(cell: &Cell, seen: &SeenChange, states: &mut Items<Trit>)
     requires { length states.old ≡ length cell.now.groups }
-    ensures stepped { states.new ≡ each (λ g s. state_step reported cell.now.pins g inputs.now from change s) (named_groups (data_of cell.now)) states.old }
+    ensures stepped { states.new ≡ each (λ g s. state_step seen.now.reported cell.now.pins g seen.now.inputs.now seen.now.from seen.now.change s) (named_groups (data_of cell.now)) states.old }
     ensures len { length states.new ≡ length states.old }
 {
     for i in 0..states.len() {
         let state = states.as_slice()[i];
-        states.set(
-            i,
-            state_step(cell, i, reported, inputs, from, change, state),
-        );
+        states.set(i, state_step(cell, i, seen, state));
     }
 }

@@ -4,12 +4,11 @@ ghost use Rattle.trit_cubes.specs.declared.trits.Trit.{Trit};
 ghost use Rattle.trit_cubes.specs.Resolution.{agreed, res};
 ghost use Rattle.statetables.specs.Step.{table_step, inputs_match, row_matches, row_gives};
 ghost use Rattle.cell_machine.specs.Machine.{around, over};
-ghost use Rattle.cell_machine.specs.Values.{no_values, written, picked, IsBounded};
-ghost use Rattle.cell_machine.specs.Step.{trit_or_unknown, both_value, cleared_step, clocked_value, clocked_step, gated_value, gated_step, KindIsBounded};
+ghost use Rattle.cell_machine.specs.Values.{no_values, written, picked};
+ghost use Rattle.cell_machine.specs.Step.{trit_or_unknown, both_value, cleared_by, KindIsBounded};
 
-use crate::groups::{Both, Clocked, Gated, GroupKind};
+use crate::groups::{Both, GroupKind};
 use crate::values::Values;
-use bool_functions::Function;
 use statetables::{InSymbol, StateTable, TableRow};
 use trit_cubes::Trit;
 
@@ -26,86 +25,15 @@ pub fn both_value(both: Both, state: bool) -> Trit
 }
 
 /// The lines on clear and preset, with `otherwise` where both are 0.
-fn cleared_step(
-    clear: &Option<Function>,
-    preset: &Option<Function>,
-    both: Both,
-    after: &Values,
-    state: bool,
-    otherwise: Trit,
-) -> Trit
-    requires clear { IsBounded clear.now }
-    requires preset { IsBounded preset.now }
-    ensures { result ≡ cleared_step clear.now preset.now both after.now state otherwise }
+pub fn cleared_by(clear: bool, preset: bool, both: Both, state: bool, otherwise: Trit) -> Trit
+    ensures { result ≡ cleared_by clear preset both state otherwise }
 {
-    let cleared = after.is_on(clear);
-    let is_preset = after.is_on(preset);
-    match (cleared, is_preset) {
+    match (clear, preset) {
         (true, true) => both_value(both, state),
         (true, false) => Trit::Zero,
         (false, true) => Trit::One,
         (false, false) => otherwise,
     }
-}
-
-/// What a flip-flop's texts give for a variable: clear and preset, then the clock, then the state.
-fn clocked_value(kind: &Clocked, name: usize, before: &Values, after: &Values, state: bool) -> Trit
-    requires name { name < 96 }
-    requires bounded { KindIsBounded (GroupKind.Ff kind.now) }
-    ensures { result ≡ clocked_value kind.now name before.now after.now state }
-{
-    if !before.value(&kind.clocked_on) && after.value(&kind.clocked_on) {
-        Trit::from(after.with_state(name, state).value(&kind.next_state))
-    } else {
-        Trit::from(state)
-    }
-}
-
-/// The next state of a flip-flop, of which `name` is the variable.
-fn clocked_step(kind: &Clocked, name: usize, before: &Values, after: &Values, state: bool) -> Trit
-    requires name { name < 96 }
-    requires bounded { KindIsBounded (GroupKind.Ff kind.now) }
-    ensures { result ≡ clocked_step kind.now name before.now after.now state }
-{
-    let otherwise = clocked_value(kind, name, before, after, state);
-    cleared_step(
-        &kind.clear,
-        &kind.preset,
-        kind.both1,
-        after,
-        state,
-        otherwise,
-    )
-}
-
-/// What a latch's texts give for a variable: clear and preset, then the enable, then the state.
-fn gated_value(kind: &Gated, name: usize, after: &Values, state: bool) -> Trit
-    requires name { name < 96 }
-    requires bounded { KindIsBounded (GroupKind.Latch kind.now) }
-    ensures { result ≡ gated_value kind.now name after.now state }
-{
-    if after.is_on(&kind.enable) {
-        Trit::from(after.with_state(name, state).is_on(&kind.data_in))
-    } else {
-        Trit::from(state)
-    }
-}
-
-/// The next state of a latch, of which `name` is the variable.
-fn gated_step(kind: &Gated, name: usize, after: &Values, state: bool) -> Trit
-    requires name { name < 96 }
-    requires bounded { KindIsBounded (GroupKind.Latch kind.now) }
-    ensures { result ≡ gated_step kind.now name after.now state }
-{
-    let otherwise = gated_value(kind, name, after, state);
-    cleared_step(
-        &kind.clear,
-        &kind.preset,
-        kind.both1,
-        after,
-        state,
-        otherwise,
-    )
 }
 
 /// Whether each column's symbol matches the values of the column's pin.
@@ -182,8 +110,8 @@ impl GroupKind {
         ensures { result ≡ kind_step self.now name before.now after.now state }
     {
         match self {
-            GroupKind::Ff(kind) => clocked_step(kind, name, before, after, state),
-            GroupKind::Latch(kind) => gated_step(kind, name, after, state),
+            GroupKind::Ff(kind) => kind.step(name, before, after, state),
+            GroupKind::Latch(kind) => kind.step(name, after, state),
             GroupKind::Table {
                 table,
                 node,

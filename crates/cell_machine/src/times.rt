@@ -7,11 +7,12 @@ use crate::checks::Edge;
 use crate::edges::moves;
 use trit_cubes::Trit;
 
-/// The times of an input's last change, of its last possible rise and of its last possible fall, in picoseconds.
+/// The times of the last event that counts, of the last possible rise and of the last possible fall, in picoseconds. They are kept of
+/// an input, where each change to another value counts, and of a check, where its first event does.
 #[derive(Clone, Copy)]
 pub struct Times {
-    /// Of the last change to another value.
-    pub last: Option<u64>,
+    /// Of the last event that counts.
+    pub event: Option<u64>,
     /// Of the last possible rise.
     pub rise: Option<u64>,
     /// Of the last possible fall.
@@ -24,7 +25,7 @@ impl Times {
         ensures { result ≡ no_times }
     {
         Times {
-            last: None,
+            event: None,
             rise: None,
             fall: None,
         }
@@ -35,7 +36,7 @@ impl Times {
         ensures { result ≡ time_of_edge edge self.now }
     {
         match edge {
-            Edge::Any => self.last,
+            Edge::Any => self.event,
             Edge::Rise => self.rise,
             Edge::Fall => self.fall,
         }
@@ -46,7 +47,7 @@ impl Times {
         ensures { result ≡ stamped at from to self }
     {
         Times {
-            last: renewed(moves(Edge::Any, from, to), at, self.last),
+            event: renewed(moves(Edge::Any, from, to), at, self.event),
             rise: renewed(moves(Edge::Rise, from, to), at, self.rise),
             fall: renewed(moves(Edge::Fall, from, to), at, self.fall),
         }

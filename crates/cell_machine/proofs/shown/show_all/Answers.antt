@@ -1,9 +1,9 @@
-use Rattle.std.proofs.Common.{◌<◌, ap, ◌∙◌, length, add-one, arith, None}
+use Rattle.std.proofs.Common.{◌<◌, ap, ◌∙◌, length, arith, None}
 use Rattle.std.proofs.Math.ListN.{length-set}
 use Rattle.trit_cubes.specs.declared.trits.Trit.TheVariants.{Zero}
 use Rattle.cell_machine.specs.ShownOutputs.{shown_step}
 use Rattle.cell_machine.proofs.ArcDelays.{some_at}
-use Rattle.cell_machine.proofs.EachLemmas.{each-step}
+use Rattle.cell_machine.proofs.EachLemmas.{each-kept}
 use Rattle.cell_machine.proofs.shown.show_all.Goals as goal
 
 pub loop-i-preserved : goal.loop-i-preserved
@@ -14,11 +14,8 @@ loop-i-preserved c =
     let here = some_at cell.outputs c.loop-i.i inside in
     record {
       whole =
-          rw (c.set.ensures, add-one)
-          (each-step
-          (λ o s. shown_step cell.pins cell.groups cell.arcs c.args.inputs.now c.args.states.now c.args.change o s.value)
-          cell.outputs c.loop-i.shown c.loop-i.i here.0 c.shown_step.result (record { value = Zero; delay = None }) here.1 many
-          (rw c.as_slice.ensures at (c.shown_step.ensures here.0 here.1))
-          ∙ c.loop-i.invariant.whole);
+          each-kept (λ o s. shown_step cell.pins cell.groups cell.arcs c.args.inputs.now c.args.states.now c.args.change o s.value) cell.outputs c.loop-i.shown
+          c.loop-i.i (record { value = Zero; delay = None }) here.1 many (rw c.as_slice.ensures at (c.shown_step.ensures here.0 here.1)) c.set.ensures
+          c.loop-i.invariant.whole;
       len = ap length c.set.ensures ∙ length-set c.loop-i.shown c.loop-i.i c.shown_step.result ∙ c.loop-i.invariant.len;
     }

@@ -9,8 +9,8 @@ abbrev pub invariant-loop-i : goal.invariant-loop-i
 invariant-loop-i l = record {
   whole :
       take l.i l.states
-      ++ each (λ g s. state_step l.reported l.cell.pins g l.inputs l.from l.change s) (drop l.i (named_groups (data_of l.cell)))
+      ++ each (λ g s. state_step l.seen.reported l.cell.pins g l.seen.inputs.now l.seen.from l.seen.change s) (drop l.i (named_groups (data_of l.cell)))
       (drop l.i l.states)
-      ≡ each (λ g s. state_step l.reported l.cell.pins g l.inputs l.from l.change s) (named_groups (data_of l.cell)) l.initial.states;
+      ≡ each (λ g s. state_step l.seen.reported l.cell.pins g l.seen.inputs.now l.seen.from l.seen.change s) (named_groups (data_of l.cell)) l.initial.states;
   len : length l.states ≡ length l.initial.states;
 }

@@ -1,11 +1,5 @@
-use Rattle.std.proofs.Common.{refl, length}
-use Rattle.std.proofs.lemmas.Option.{slice_get_read}
 use Rattle.cell_machine.proofs.CellFacts.{cell_group_facts}
 use Rattle.cell_machine.proofs.cells.Cell.group.Goals as goal
 
 pub returns-clause-facts : goal.returns-clause-facts
-returns-clause-facts c =
-    let groups = c.args.self.now.groups in
-    let read = rw c.as_slice.ensures at c.index-as_slice-i.is in
-    let is = slice_get_read groups (length groups) c.args.i c.index-as_slice-i.result refl c.requires read in
-    cell_group_facts c.args.self.now c.args.i c.index-as_slice-i.result is
+returns-clause-facts c = cell_group_facts c.args.self.now c.args.i c.entry.result.now c.entry.ensures.is

@@ -22,10 +22,10 @@ returns-clause-stands c = λ h st.
     (c.stamped-times.ensures
     ∙ ap (λ xs. stamped c.args.at (get_or c.as_slice.result.now c.args.pin Zero) c.args.to (get_or xs c.args.pin no_times))
     c.as_slice-2.ensures) in
-    let reports = rw (c.as_slice-3.ensures, c.as_slice-4.ensures) at c.report_all.ensures in
-    let reported = c.any_true-reported.ensures ∙ ap any_true c.as_slice-5.ensures in
-    let states = rw (reported, c.as_slice-6.ensures) at c.change_states.ensures.changed in
-    let shown = rw (c.as_slice-7.ensures, c.as_slice-8.ensures) at c.show_all.ensures.stepped in
+    let reports = rw (c.as_slice-inputs.ensures, c.as_slice-kept.ensures) at c.report_all.ensures in
+    let reported = c.any_true-reported.ensures ∙ ap any_true c.as_slice-3.ensures in
+    let states = rw (reported, c.as_slice-inputs.ensures) at c.change_states.ensures.changed in
+    let shown = rw (c.as_slice-inputs.ensures, c.as_slice-states.ensures) at c.show_all.ensures.stepped in
     change-stands (data_of sim.cell.now) sim.check_names sim.arc_names sim.inputs sim.times sim.states sim.reports sim.shown h
     (record { at = c.args.at; pin = c.args.pin; to = c.args.to }) (get_or c.as_slice.result.now c.args.pin Zero)
     c.set.new.self c.set-2.new.self c.change_states.new.states c.report_all.new.reports_of c.show_all.new.shown (checks_hold sim.cell.now) st from'

@@ -1,9 +1,9 @@
 -- Bytes that differ only behind a blank of the second, and what the tokens in front of them are.
-use Rattle.std.proofs.Common.{◌≡◌, ℕ, suc, ◌+◌, ◌≤◌, ◌||◌, Bool, true, false, not, nat_eq, cond, List, [], ◌∷◌, ◌++◌, length, refl, sym, ap, ◌∙◌, arith}
+use Rattle.std.proofs.Common.{◌≡◌, ℕ, suc, ◌+◌, ◌≤◌, ◌||◌, Bool, true, false, not, nat_eq, nat_le, cond, if◌then◌else◌, List, [], ◌∷◌, ◌++◌, length, refl, sym, ap, ◌∙◌, arith}
 use Rattle.std.proofs.lemmas.Bool.{and_parts, and_from, eqb-true}
 use Rattle.std.specs.List.{prefix_len, list_all}
 use Rattle.std.specs.Char.{is_ascii_digit}
-use Rattle.token_spans.specs.Tokens.{is_blank, is_name_byte, begins_with}
+use Rattle.token_spans.specs.Tokens.{is_blank, is_name_byte, begins_with, decimal_length}
 
 -- what a space, a tab and a line end have in common, each blank has
 pub blanks : {A : Type 0} {z : A} (c : ℕ) → is_blank c ≡ true → (f : ℕ → A) → f 32 ≡ z → f 9 ≡ z → f 10 ≡ z → f c ≡ z
@@ -92,3 +92,16 @@ begins_still (l ∷ ls) [] r p n e = absurd (omega arith)
 begins_still (l ∷ ls) (c ∷ w) r p n e =
     let s = and_parts (nat_eq l c) (begins_with (w ++ r) ls) e in
     and_from (nat_eq l c) (begins_with (w ++ p) ls) s.0 (begins_still ls w r p (omega arith) s.1)
+
+decimal_by : (run run_then n : ℕ) → (run ≡ suc n → run_then ≡ suc n) →
+    (if nat_le run 15 then run else 0) ≡ suc n → (if nat_le run_then 15 then run_then else 0) ≡ suc n
+decimal_by run rt n r e = by (nat_le run 15) refl e
+  where
+    by : (t : Bool) → nat_le run 15 ≡ t → (if t then run else 0) ≡ suc n → (if nat_le rt 15 then rt else 0) ≡ suc n
+    by true f g = let same : rt ≡ run = r g ∙ sym g in rw (same, f) g
+    by false f g = absurd (omega arith)
+
+-- a decimal number stays
+pub decimal_stays : (b : ℕ) (w : List ℕ) {r p : List ℕ} → Alike r p → decimal_length (b ∷ w ++ r) ≡ suc (length w) → decimal_length (b ∷ w ++ p) ≡ suc (length w)
+decimal_stays b w {r} {p} h e =
+    decimal_by (prefix_len is_ascii_digit (b ∷ w ++ r)) (prefix_len is_ascii_digit (b ∷ w ++ p)) (length w) (run_ends is_ascii_digit no_digit (b ∷ w) h) e

@@ -22,7 +22,7 @@ next_fits value ds i h =
     subst (λ l. value * 10 + (get_or ds i 0 - 48) ≤ number_after value l) (sym first) (digits_grow (value * 10 + (get_or ds i 0 - 48)) (drop (suc i) ds))
 
 -- a digit is below ten
-digit_below : (d : ℕ) → is_ascii_digit d ≡ true → d - 48 ≤ 9
+pub digit_below : (d : ℕ) → is_ascii_digit d ≡ true → d - 48 ≤ 9
 digit_below d e = grind (arith, nat_tests)
 
 -- a digit among digits
@@ -35,7 +35,7 @@ pow_next : (k : ℕ) → 10 ^ (k + 1) ≡ 10 ^ k * 10
 pow_next k = rw add-one (pow-suc 10 k)
 
 -- the digits behind a number below a power of ten
-value_below : (k before : ℕ) (ds : List ℕ) → AreDigits ds → before < 10 ^ k → number_after before ds < 10 ^ (k + length ds)
+pub value_below : (k before : ℕ) (ds : List ℕ) → AreDigits ds → before < 10 ^ k → number_after before ds < 10 ^ (k + length ds)
 value_below k before [] all h =
     let same : k ≡ k + 0 = omega arith in
     subst (λ n. before < 10 ^ n) same h

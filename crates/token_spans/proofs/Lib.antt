@@ -9,3 +9,4 @@ pub mod Order
 pub mod Spelled
 pub mod EachToken
 pub mod ByteTables
+pub mod LawfulTexts

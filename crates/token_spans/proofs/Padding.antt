@@ -3,9 +3,10 @@ use Rattle.std.proofs.Common.{◌≡◌, ℕ, zero, suc, ◌+◌, ◌<◌, Bool,
 use Rattle.std.proofs.lemmas.Bool.{and_parts}
 use Rattle.std.specs.List.{prefix_len, list_all}
 use Rattle.token_spans.specs.Tokens.{Token, Lexis, is_blank, at_front, after, scan}
-use Rattle.token_spans.specs.Separators.{Padded, spelled, HaveSameTokens}
+use Rattle.token_spans.specs.Separators.{IsSeparation, IsLineComment, Padded, spelled, HaveSameTokens}
 use Rattle.token_spans.specs.Separators as pad
 use Rattle.token_spans.proofs.Alike.{Alike, behind, alike_self}
+use Rattle.token_spans.proofs.Alike as alike
 
 -- the tokens found, and whether there is a fault behind them
 abbrev pub Found : Type 0
@@ -73,44 +74,50 @@ module _ (l : Lexis) where
   over_blank blank_length t at z b r e = over_separator t at z b [] r (blank_length b r e)
 
   -- a comment of one line is passed over, with its line end
-  pub over_line : ((b : ℕ) (s : List ℕ) → is_blank b ≡ true → l.separator_length (b ∷ s) ≡ 1) → (c : ℕ)
-      → ((s : List ℕ) → l.separator_length (c ∷ c ∷ s) ≡ 1 + (1 + prefix_len (λ b. not (b == 10)) s))
-      → (t : Bool) (at z : ℕ) (body r : List ℕ) → list_all (λ b. not (b == 10)) body ≡ true
-      → spelled (scan l t at 0 (c ∷ c ∷ body ++ (10 ∷ r))) ≡ spelled (scan l t z 0 r)
-  over_line blank_length c long t at z body r e =
-      let n : l.separator_length (c ∷ c ∷ body ++ (10 ∷ r)) ≡ suc (length (c ∷ body)) = omega (arith, long (body ++ (10 ∷ r)), line_run body r e) in
-      over_separator t at 0 c (c ∷ body) (10 ∷ r) n ∙ over_blank blank_length t 0 z 10 r refl
+  pub over_line : ((b : ℕ) (s : List ℕ) → is_blank b ≡ true → l.separator_length (b ∷ s) ≡ 1) → (mark : ℕ)
+      → ((s : List ℕ) → l.separator_length (mark ∷ mark ∷ s) ≡ 1 + (1 + prefix_len (λ b. not (b == 10)) s))
+      → (c : List ℕ) → IsLineComment mark c → (t : Bool) (at z : ℕ) (r : List ℕ) → spelled (scan l t at 0 (c ++ r)) ≡ spelled (scan l t z 0 r)
+  over_line blank_length mark long c (body, e, f) t at z r =
+      let n : l.separator_length (mark ∷ mark ∷ body ++ (10 ∷ r)) ≡ suc (length (mark ∷ body)) = omega (arith, long (body ++ (10 ∷ r)), line_run body r e) in
+      ap (λ (x : List ℕ). spelled (scan l t at 0 (x ++ r))) f
+      ∙ ap (λ (x : List ℕ). spelled (scan l t at 0 (mark ∷ mark ∷ x))) (append_assoc body (10 ∷ []) r)
+      ∙ over_separator t at 0 mark (mark ∷ body) (10 ∷ r) n ∙ over_blank blank_length t 0 z 10 r refl
 
-  -- a blank and a comment behind it are passed over, where the comment is in front of any bytes
-  pub over_comment : ((b : ℕ) (s : List ℕ) → is_blank b ≡ true → l.separator_length (b ∷ s) ≡ 1) → (t : Bool) (at z b : ℕ) (front body end : List ℕ)
-      → is_blank b ≡ true → ((r : List ℕ) → spelled (scan l t 0 0 (front ++ (body ++ (end ++ r)))) ≡ spelled (scan l t z 0 r))
-      → {s : List ℕ} (rest r : List ℕ) → s ≡ b ∷ front ++ (body ++ (end ++ rest)) → spelled (scan l t at 0 (s ++ r)) ≡ spelled (scan l t z 0 (rest ++ r))
-  over_comment blank_length t at z b front body end e over {s} rest r g =
-      let inner : (body ++ (end ++ rest)) ++ r ≡ body ++ (end ++ (rest ++ r)) = append_assoc body (end ++ rest) r ∙ ap (λ (x : List ℕ). body ++ x) (append_assoc end rest r) in
-      let same : (front ++ (body ++ (end ++ rest))) ++ r ≡ front ++ (body ++ (end ++ (rest ++ r))) = append_assoc front (body ++ (end ++ rest)) r ∙ ap (λ (x : List ℕ). front ++ x) inner in
-      ap (λ (x : List ℕ). spelled (scan l t at 0 (x ++ r))) g
-      ∙ over_blank blank_length t at 0 b ((front ++ (body ++ (end ++ rest))) ++ r) e
-      ∙ ap (λ (x : List ℕ). spelled (scan l t 0 0 x)) same ∙ over (rest ++ r)
-
--- In a language, what is added begins with a blank or is nothing, and is passed over; where a token begins, no separator does; and a
--- token stays, however the bytes behind it change behind a blank.
-pub record Lets (l : Lexis) (IsSeparation : List ℕ → Type 0) : Type 0 where
-  pub added : (s : List ℕ) → IsSeparation s → (t : Bool) (at z : ℕ) (r : List ℕ) → spelled (scan l t at 0 (s ++ r)) ≡ spelled (scan l t z 0 r)
-  pub alike_added : (s : List ℕ) → IsSeparation s → (r p : List ℕ) → Alike r p → Alike r (s ++ p)
+-- In a language a blank is a separator, and a comment is passed over; where a token begins, no separator does; and a token stays,
+-- however the bytes behind it change behind a blank.
+pub record Lets (l : Lexis) (IsComment : List ℕ → Type 0) : Type 0 where
+  pub blank_length : (b : ℕ) (s : List ℕ) → is_blank b ≡ true → l.separator_length (b ∷ s) ≡ 1
+  pub over_comment : (c : List ℕ) → IsComment c → (t : Bool) (at z : ℕ) (r : List ℕ) → spelled (scan l t at 0 (c ++ r)) ≡ spelled (scan l t z 0 r)
   pub token_first : (t : Bool) (s : List ℕ) → 0 < l.token_length t s → l.separator_length s ≡ 0
-  pub token_stays : (t : Bool) (b : ℕ) (w r p : List ℕ) → Alike r p → l.token_length t (b ∷ w ++ r) ≡ suc (length w) → l.token_length t (b ∷ w ++ p) ≡ suc (length w)
+  pub token_stays : (t : Bool) (b : ℕ) (w : List ℕ) {r p : List ℕ} → Alike r p → l.token_length t (b ∷ w ++ r) ≡ suc (length w) → l.token_length t (b ∷ w ++ p) ≡ suc (length w)
 
-module _ (l : Lexis) (IsSeparation : List ℕ → Type 0) (lets : Lets l IsSeparation) where
-  padded_alike : {t : Bool} {b q : List ℕ} → Padded l IsSeparation t b q → Alike b q
+module _ (l : Lexis) (IsComment : List ℕ → Type 0) (lets : Lets l IsComment) where
+  -- what is added is passed over
+  added : {s : List ℕ} → IsSeparation IsComment s → (t : Bool) (at z : ℕ) (r : List ℕ) → spelled (scan l t at 0 (s ++ r)) ≡ spelled (scan l t z 0 r)
+  added pad.nothing t at z r = any_offset l t at z 0 r
+  added (pad.blank {b} {s} e h) t at z r = over_blank l lets.blank_length t at 0 b (s ++ r) e ∙ added h t 0 z r
+  added (pad.comment b c rest e k h g) t at z r =
+      ap (λ (x : List ℕ). spelled (scan l t at 0 (x ++ r))) g
+      ∙ over_blank l lets.blank_length t at 0 b ((c ++ rest) ++ r) e
+      ∙ ap (λ (x : List ℕ). spelled (scan l t 0 0 x)) (append_assoc c rest r)
+      ∙ lets.over_comment c k t 0 0 (rest ++ r) ∙ added h t 0 z r
+
+  -- what is added begins with a blank, or is nothing
+  alike_added : {s : List ℕ} → IsSeparation IsComment s → {r p : List ℕ} → Alike r p → Alike r (s ++ p)
+  alike_added pad.nothing h = h
+  alike_added (pad.blank {b} {s} e g) h = alike.blank b e
+  alike_added (pad.comment b c rest e k g f) {r} {p} h = subst (λ (x : List ℕ). Alike r (x ++ p)) (sym f) (alike.blank b e)
+
+  padded_alike : {t : Bool} {b q : List ℕ} → Padded l (IsSeparation IsComment) t b q → Alike b q
   padded_alike (pad.same {bytes = s}) = alike_self s
-  padded_alike (pad.added {bytes = b} s rest g h e) = subst (λ (x : List ℕ). Alike b x) (sym e) (lets.alike_added s g b rest (padded_alike h))
+  padded_alike (pad.added {bytes = b} s rest g h e) = subst (λ (x : List ℕ). Alike b x) (sym e) (alike_added g (padded_alike h))
   padded_alike (pad.separator c s rest more e f g k h) = rw (e, f) (behind (c ∷ s) (padded_alike h))
   padded_alike (pad.token c s rest more e f g k h) = rw (e, f) (behind (c ∷ s) (padded_alike h))
 
-  padded_same : {t : Bool} {b q : List ℕ} → Padded l IsSeparation t b q → (at z : ℕ) → spelled (scan l t at 0 b) ≡ spelled (scan l t z 0 q)
+  padded_same : {t : Bool} {b q : List ℕ} → Padded l (IsSeparation IsComment) t b q → (at z : ℕ) → spelled (scan l t at 0 b) ≡ spelled (scan l t z 0 q)
   padded_same (pad.same {flag = t} {bytes = s}) at z = any_offset l t at z 0 s
   padded_same (pad.added {flag = t} {bytes = b} s rest g h e) at z =
-      padded_same h at 0 ∙ sym (lets.added s g t z 0 rest) ∙ ap (λ (x : List ℕ). spelled (scan l t z 0 x)) (sym e)
+      padded_same h at 0 ∙ sym (added g t z 0 rest) ∙ ap (λ (x : List ℕ). spelled (scan l t z 0 x)) (sym e)
   padded_same (pad.separator {flag = t} c s rest more e f g k h) at z =
       ap (λ (x : List ℕ). spelled (scan l t at 0 x)) e
       ∙ over_separator l t at 0 c s rest (ap l.separator_length (sym e) ∙ g)
@@ -120,7 +127,7 @@ module _ (l : Lexis) (IsSeparation : List ℕ → Type 0) (lets : Lets l IsSepar
   padded_same (pad.token {flag = t} c s rest more e f g k h) at z =
       let n : l.separator_length (c ∷ s ++ rest) ≡ 0 = ap l.separator_length (sym e) ∙ g in
       let stands : l.token_length t (c ∷ s ++ rest) ≡ suc (length s) = ap (l.token_length t) (sym e) ∙ k in
-      let stays : l.token_length t (c ∷ s ++ more) ≡ suc (length s) = lets.token_stays t c s rest more (padded_alike h) stands in
+      let stays : l.token_length t (c ∷ s ++ more) ≡ suc (length s) = lets.token_stays t c s (padded_alike h) stands in
       ap (λ (x : List ℕ). spelled (scan l t at 0 x)) e
       ∙ over_token l t at 0 c s rest n stands
       ∙ ap (word_before (c ∷ s)) (padded_same h 0 0)
@@ -128,5 +135,5 @@ module _ (l : Lexis) (IsSeparation : List ℕ → Type 0) (lets : Lets l IsSepar
       ∙ ap (λ (x : List ℕ). spelled (scan l t z 0 x)) (sym f)
 
   -- what is added between tokens changes none
-  pub same_tokens : (text other : List ℕ) → Padded l IsSeparation false text other → HaveSameTokens l text other
+  pub same_tokens : (text other : List ℕ) → Padded l (IsSeparation IsComment) false text other → HaveSameTokens l text other
   same_tokens text other h = padded_same h 0 0

@@ -12,11 +12,13 @@ abbrev pub is_nothing : List ℕ → Bool
 is_nothing [] = true
 is_nothing (_ ∷ _) = false
 
--- What a language calls one separator, where the second bytes follow, and one token, by the flag that tokens set.
+-- What a language calls one separator, where the second bytes follow, one token, by the flag that tokens set, and one comment that
+-- may be added behind a blank, with all that closes it.
 pub record Spelling : Type 1 where
   pub lexis : Lexis
   pub IsSeparator : List ℕ → List ℕ → Type 0
   pub spells_token : Bool → List ℕ → Bool
+  pub IsComment : List ℕ → Type 0
 
 -- the first bytes are separators one behind the other, where the second follow
 pub data Separates (l : Spelling) : List ℕ → List ℕ → Type 0 where

@@ -4,3 +4,4 @@ pub mod Places
 pub mod Separators
 pub mod Numbers
 pub mod Cover
+pub mod Laws

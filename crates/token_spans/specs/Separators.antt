@@ -1,6 +1,19 @@
 -- What may be added between the tokens of a text without a change of its tokens.
-use Rattle.std.specs.Prelude.{◌≡◌, ℕ, suc, Bool, List, ◌∷◌, ◌++◌, length, Option, is_some}
-use Rattle.token_spans.specs.Tokens.{Token, Lexis, scan_of, spellings}
+use Rattle.std.specs.Prelude.{◌≡◌, ℕ, suc, Bool, true, not, ◌==◌, List, [], ◌∷◌, ◌++◌, length, Option, is_some}
+use Rattle.std.specs.List.{list_all}
+use Rattle.token_spans.specs.Tokens.{Token, Lexis, is_blank, scan_of, spellings}
+
+-- Separations that may be added: blanks, line ends and comments, each comment behind a blank, where the language says what a
+-- comment is, with all that closes it.
+pub data IsSeparation (IsComment : List ℕ → Type 0) : List ℕ → Type 0 where
+  nothing : IsSeparation IsComment []
+  blank : {b : ℕ} {s : List ℕ} → is_blank b ≡ true → IsSeparation IsComment s → IsSeparation IsComment (b ∷ s)
+  comment : {s : List ℕ} (b : ℕ) (c rest : List ℕ) → is_blank b ≡ true → IsComment c → IsSeparation IsComment rest →
+      s ≡ b ∷ c ++ rest → IsSeparation IsComment s
+
+-- a comment of one line with its line end, which begins with a mark given twice
+abbrev pub IsLineComment : ℕ → List ℕ → Type 0
+IsLineComment mark c = (body : List ℕ) × (list_all (λ b. not (b == 10)) body ≡ true) × (c ≡ mark ∷ mark ∷ body ++ (10 ∷ []))
 
 -- The second bytes are the first with separations added outside tokens and comments, where the language says what these are.
 pub data Padded (l : Lexis) (IsSeparation : List ℕ → Type 0) : Bool → List ℕ → List ℕ → Type 0 where

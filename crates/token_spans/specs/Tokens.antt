@@ -1,8 +1,8 @@
 -- Tokens of a text, in any language: what the language says of the front of bytes, and what its tokens are then. At each place
 -- outside a token a separator begins, or a token, or neither, which is a lexical fault.
-use Rattle.std.specs.Prelude.{ℕ, zero, suc, ◌+◌, Bool, false, ◌||◌, ◌==◌, nat_eq, List, [], ◌∷◌, codes, map, take, Option, Some, None}
-use Rattle.std.specs.Char.{is_ascii_alphanumeric}
-use Rattle.std.specs.List.{list_any, starts_with}
+use Rattle.std.specs.Prelude.{ℕ, zero, suc, ◌+◌, Bool, false, not, ◌||◌, ◌==◌, nat_eq, nat_le, if◌then◌else◌, List, [], ◌∷◌, codes, map, take, Option, Some, None}
+use Rattle.std.specs.Char.{is_ascii_alphanumeric, is_ascii_digit}
+use Rattle.std.specs.List.{list_any, prefix_len, starts_with}
 
 -- A token: the offset where it begins, and the bytes that spell it. There is at least one.
 pub record Token : Type 0 where
@@ -32,6 +32,24 @@ is_blank b = is_one_of (codes " \t\n") b
 -- a letter, a digit or `_`
 abbrev pub is_name_byte : ℕ → Bool
 is_name_byte b = is_ascii_alphanumeric b || b == 95
+
+-- how many bytes of a decimal number stand at the front of these: at most 15 digits
+abbrev pub decimal_length : List ℕ → ℕ
+decimal_length bytes = if nat_le (prefix_len is_ascii_digit bytes) 15 then prefix_len is_ascii_digit bytes else 0
+
+-- how many letters, digits and `_` stand at the front of these, whatever the first byte is
+abbrev pub identifier_length : List ℕ → ℕ
+identifier_length [] = 0
+identifier_length (_ ∷ bs) = 1 + prefix_len is_name_byte bs
+
+-- How many bytes of a blank, or of a comment of one line before its line end, stand at the front of these. Such a comment begins
+-- with the mark given twice.
+abbrev pub line_separator_length : ℕ → List ℕ → ℕ
+line_separator_length mark [] = 0
+line_separator_length mark (b ∷ bs) =
+    if is_blank b then 1
+    else (if begins_with (b ∷ bs) (mark ∷ mark ∷ []) then prefix_len (λ c. not (c == 10)) (b ∷ bs)
+    else 0)
 
 -- so many bytes more
 abbrev pub later : ℕ → Option ℕ → Option ℕ

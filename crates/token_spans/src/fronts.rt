@@ -1,31 +1,13 @@
 //! What many languages have at the front of bytes.
 
-ghost use Rattle.std.specs.Prelude.{◌≡◌, ◌+◌, ◌≤◌, length, drop, not, ◌==◌};
+ghost use Rattle.std.specs.Prelude.{◌≡◌, ◌+◌, ◌≤◌, length, drop};
 ghost use Rattle.std.specs.List.{prefix_len};
-ghost use Rattle.std.specs.Char.{is_ascii_digit};
 ghost use Rattle.token_spans.specs.Tokens as spec;
 
-/// Whether a byte is a space, a tab or a line end.
-#[inline(always)]
-pub fn is_blank(byte: u8) -> bool
-    ensures { result ≡ spec.is_blank byte }
-{
-    matches!(byte, b' ' | b'\t' | b'\n')
-}
+use crate::classes::{Blank, ByteClass, Digit, InLine, NameByte, run_length};
 
-/// How many spaces, tabs and line ends stand at the front of the bytes.
-#[inline(always)]
-fn blanks_length(bytes: &[u8]) -> usize
-    ensures value { result ≡ prefix_len spec.is_blank bytes.now }
-    ensures within { result ≤ length bytes.now }
-{
-    for (at, byte) in bytes.iter().enumerate() {
-        if !is_blank(*byte) {
-            return at;
-        }
-    }
-    bytes.len()
-}
+/// How many digits a number may have.
+pub(crate) const MOST_DIGITS: usize = 15;
 
 /// The offset behind the spaces, tabs and line ends that stand in a text from an offset on.
 #[inline(always)]
@@ -35,75 +17,45 @@ pub fn behind_blanks(text: &[u8], at: usize) -> usize
     ensures within { result ≤ length text.now }
 {
     let (_, rest) = text.split_at(at);
-    at + blanks_length(rest)
+    at + run_length::<Blank>(rest)
 }
 
-/// How many bytes stand before the first line end.
-pub fn line_length(bytes: &[u8]) -> usize
-    ensures value { result ≡ prefix_len (λ c. not (c == 10)) bytes.now }
+/// How many bytes of a blank, or of a comment of one line, stand at the front of these. Such a comment begins with the mark given
+/// twice, and goes on to its line end.
+pub fn line_separator_length(mark: u8, bytes: &[u8]) -> usize
+    ensures value { result ≡ spec.line_separator_length mark bytes.now }
     ensures within { result ≤ length bytes.now }
 {
-    for (at, byte) in bytes.iter().enumerate() {
-        if *byte == b'\n' {
-            return at;
-        }
+    let Some(first) = bytes.first() else {
+        return 0;
+    };
+    if Blank::contains(*first) {
+        1
+    } else if *first != mark {
+        0
+    } else if bytes.starts_with(&[mark, mark]) {
+        run_length::<InLine>(bytes)
+    } else {
+        0
     }
-    bytes.len()
 }
 
-/// Of each byte, whether it is a letter, a digit or `_`.
-static NAME_BYTES: [bool; 256] = [
-    false, false, false, false, false, false, false, false, false, false, false, false, false,
-    false, false, false, false, false, false, false, false, false, false, false, false, false,
-    false, false, false, false, false, false, false, false, false, false, false, false, false,
-    false, false, false, false, false, false, false, false, false, true, true, true, true, true,
-    true, true, true, true, true, false, false, false, false, false, false, false, true, true,
-    true, true, true, true, true, true, true, true, true, true, true, true, true, true, true, true,
-    true, true, true, true, true, true, true, true, false, false, false, false, true, false, true,
-    true, true, true, true, true, true, true, true, true, true, true, true, true, true, true, true,
-    true, true, true, true, true, true, true, true, true, false, false, false, false, false, false,
-    false, false, false, false, false, false, false, false, false, false, false, false, false,
-    false, false, false, false, false, false, false, false, false, false, false, false, false,
-    false, false, false, false, false, false, false, false, false, false, false, false, false,
-    false, false, false, false, false, false, false, false, false, false, false, false, false,
-    false, false, false, false, false, false, false, false, false, false, false, false, false,
-    false, false, false, false, false, false, false, false, false, false, false, false, false,
-    false, false, false, false, false, false, false, false, false, false, false, false, false,
-    false, false, false, false, false, false, false, false, false, false, false, false, false,
-    false, false, false, false, false, false, false, false, false, false, false, false, false,
-    false, false, false, false, false, false, false, false, false, false,
-];
-
-/// Whether a byte is a letter, a digit or `_`, by one look.
-#[inline(always)]
-fn is_name_byte(byte: u8) -> bool
-    ensures { result ≡ spec.is_name_byte byte }
-{
-    NAME_BYTES[usize::from(byte)]
-}
-
-/// How many letters, digits and `_` stand at the front of the bytes.
-pub fn name_length(bytes: &[u8]) -> usize
-    ensures value { result ≡ prefix_len spec.is_name_byte bytes.now }
+/// How many bytes of a decimal number stand at the front of these: at most 15 digits.
+pub fn decimal_length(bytes: &[u8]) -> usize
+    ensures value { result ≡ spec.decimal_length bytes.now }
     ensures within { result ≤ length bytes.now }
 {
-    for (at, byte) in bytes.iter().enumerate() {
-        if !is_name_byte(*byte) {
-            return at;
-        }
-    }
-    bytes.len()
+    let length = run_length::<Digit>(bytes);
+    if length <= MOST_DIGITS { length } else { 0 }
 }
 
-/// How many digits stand at the front of the bytes.
-pub fn digits_length(bytes: &[u8]) -> usize
-    ensures value { result ≡ prefix_len is_ascii_digit bytes.now }
+/// How many letters, digits and `_` stand at the front of the bytes, whatever the first byte is.
+pub fn identifier_length(bytes: &[u8]) -> usize
+    ensures value { result ≡ spec.identifier_length bytes.now }
     ensures within { result ≤ length bytes.now }
 {
-    for (at, byte) in bytes.iter().enumerate() {
-        if !byte.is_ascii_digit() {
-            return at;
-        }
+    match bytes.split_first() {
+        None => 0,
+        Some((_, rest)) => 1 + run_length::<NameByte>(rest),
     }
-    bytes.len()
 }

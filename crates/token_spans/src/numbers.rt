@@ -1,12 +1,10 @@
 //! Unsigned decimal numbers.
 
 ghost use Rattle.std.specs.Prelude.{◌≡◌, ◌<◌, ◌^◌};
-ghost use Rattle.std.specs.List.{list_all};
-ghost use Rattle.std.specs.Char.{is_ascii_digit};
 ghost use Rattle.token_spans.specs.Numbers as spec;
 
-/// How many digits a number may have.
-const MOST_DIGITS: usize = 15;
+use crate::classes::{Digit, are_all};
+use crate::fronts::MOST_DIGITS;
 
 /// Whether a token is a number: it is digits alone, at least one. It takes no memory.
 pub fn is_number(token: &[u8]) -> bool
@@ -14,25 +12,13 @@ pub fn is_number(token: &[u8]) -> bool
 {
     match token.split_first() {
         None => false,
-        Some((first, others)) => first.is_ascii_digit() && are_digits(others),
+        Some((first, others)) => first.is_ascii_digit() && are_all::<Digit>(others),
     }
 }
 
-/// Whether each byte is a digit.
-fn are_digits(bytes: &[u8]) -> bool
-    ensures { result ≡ list_all is_ascii_digit bytes.now }
-{
-    for byte in bytes {
-        if !byte.is_ascii_digit() {
-            return false;
-        }
-    }
-    true
-}
-
-/// The digits as a number, behind digits that are `before`.
+/// The digits as a number, behind digits that are `before`. It takes no memory.
 #[tactic(auto, using(crate::proofs::DigitLemmas::next_fits, crate::proofs::DigitLemmas::digit_at))]
-fn number_after(before: u64, digits: &[u8]) -> u64
+pub fn number_after(before: u64, digits: &[u8]) -> u64
     requires digits { spec.AreDigits digits.now }
     requires fits { spec.number_after before digits.now < 2 ^ 63 }
     ensures { result ≡ spec.number_after before digits.now }

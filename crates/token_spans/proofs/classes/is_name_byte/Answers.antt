@@ -2,7 +2,7 @@ use Rattle.std.proofs.Common.{◌<◌, map, refl, arith}
 use Rattle.std.specs.List.{range_with_len}
 use Rattle.token_spans.specs.Tokens as spec
 use Rattle.token_spans.proofs.ByteTables.{told}
-use Rattle.token_spans.proofs.fronts.is_name_byte.Goals as goal
+use Rattle.token_spans.proofs.classes.is_name_byte.Goals as goal
 
 pub returns : goal.returns
 returns c =

@@ -1,7 +1,8 @@
 -- What names in VHDL text are made of, and which could be those of other things. This project's rules.
 use Rattle.std.specs.Prelude.{ℕ, Bool, false, true, not, ◌&&◌, ◌==◌, List, [], ◌∷◌, codes, drop, map, length, if◌then◌else◌}
-use Rattle.std.specs.Char.{is_ascii_alphabetic, is_ascii_alphanumeric, is_ascii_digit, to_ascii_lowercase, eq_ignore_ascii_case}
+use Rattle.std.specs.Char.{is_ascii_alphabetic, is_ascii_alphanumeric, to_ascii_lowercase, eq_ignore_ascii_case}
 use Rattle.std.specs.List.{list_all, starts_with}
+pub use Rattle.token_spans.specs.Numbers.{is_number}
 use Rattle.vhdl_names.specs.Words.{is_vhdl_word}
 
 -- letters, digits and single `_`, not one at the end, where `under` says whether a `_` stands before
@@ -18,11 +19,6 @@ is_identifier (first ∷ others) = is_ascii_alphabetic first && goes_on false ot
 abbrev pub is_plain : List ℕ → Bool
 is_plain [] = false
 is_plain (first ∷ others) = is_ascii_alphabetic first && list_all is_ascii_alphanumeric others
-
--- the bytes are not empty, and all are digits
-abbrev pub is_number : List ℕ → Bool
-is_number [] = false
-is_number (first ∷ others) = is_ascii_digit first && list_all is_ascii_digit others
 
 -- the name begins with this word, whatever the case of its letters
 abbrev pub begins : List ℕ → List ℕ → Bool

@@ -1,10 +1,10 @@
 //! What names in VHDL text are made of, and which could be those of other things.
 ghost use Rattle.std.specs.Prelude.{◌≡◌, false};
-ghost use Rattle.std.specs.List.{list_all};
-ghost use Rattle.std.specs.Char.{is_ascii_alphanumeric, is_ascii_digit};
-ghost use Rattle.vhdl_names.specs.Kept.{goes_on, is_identifier, is_plain, is_number, begins, is_numbered, is_free};
+ghost use Rattle.std.specs.Char.{is_ascii_alphanumeric};
+ghost use Rattle.vhdl_names.specs.Kept.{goes_on, is_identifier, is_plain, begins, is_numbered, is_free};
 
 use crate::words::is_vhdl_word;
+use token_spans::{ByteClass, are_all, is_number};
 
 /// Whether the name could be one of no other kind: it is no word, does not begin with `vital` and is not `pin` followed by a
 /// number, whatever the case of its letters.
@@ -44,26 +44,25 @@ fn goes_on(bytes: &[u8]) -> bool
     !under
 }
 
+/// Letters and digits.
+struct Alphanumeric;
+
+impl ByteClass for Alphanumeric {
+    ghost has = { is_ascii_alphanumeric };
+
+    fn contains(byte: u8) -> bool {
+        byte.is_ascii_alphanumeric()
+    }
+}
+
 /// Whether the name is a letter followed by letters and digits.
 pub fn is_plain(name: &[u8]) -> bool
     ensures { result ≡ is_plain name.now }
 {
     match name.split_first() {
         None => false,
-        Some((first, others)) => first.is_ascii_alphabetic() && are_alphanumeric(others),
+        Some((first, others)) => { first.is_ascii_alphabetic() && are_all::<Alphanumeric>(others) }
     }
-}
-
-/// Whether all bytes are letters and digits.
-fn are_alphanumeric(bytes: &[u8]) -> bool
-    ensures { result ≡ list_all is_ascii_alphanumeric bytes.now }
-{
-    for byte in bytes {
-        if !byte.is_ascii_alphanumeric() {
-            return false;
-        }
-    }
-    true
 }
 
 /// Whether the name is this word followed by a number, whatever the case of its letters.
@@ -82,28 +81,6 @@ fn begins(word: &[u8], name: &[u8]) -> bool
     }
     for (i, byte) in word.iter().enumerate() {
         if !name[i].eq_ignore_ascii_case(byte) {
-            return false;
-        }
-    }
-    true
-}
-
-/// Whether the bytes are digits, one at least.
-fn is_number(bytes: &[u8]) -> bool
-    ensures { result ≡ is_number bytes.now }
-{
-    match bytes.split_first() {
-        None => false,
-        Some((first, others)) => first.is_ascii_digit() && are_digits(others),
-    }
-}
-
-/// Whether all bytes are digits.
-fn are_digits(bytes: &[u8]) -> bool
-    ensures { result ≡ list_all is_ascii_digit bytes.now }
-{
-    for byte in bytes {
-        if !byte.is_ascii_digit() {
             return false;
         }
     }

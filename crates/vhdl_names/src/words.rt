@@ -150,12 +150,7 @@ fn is_used(name: &[u8]) -> bool
 fn is_among(name: &[u8], words: &[&[u8]]) -> bool
     ensures { result ≡ list_any (λ word. str_eq_ignore_ascii_case name.now word.now) words.now }
 {
-    for word in words {
-        if is_same(name, word) {
-            return true;
-        }
-    }
-    false
+    words.iter().any(|word| is_same(name, word))
 }
 
 /// Whether the bytes are equal, whatever the case of their letters: names of VHDL are the same then (IEEE 1076-1993, 13.3.1). It

@@ -1,24 +1,12 @@
--- The digits of a number, and what they come to.
+-- Digits behind leading zeros, and what they come to.
 use Rattle.std.proofs.Common.{◌≡◌, ℕ, ◌+◌, ◌-◌, ◌*◌, ◌^◌, ◌<◌, ◌≤◌, ◌++◌, zero, suc, Bool, true, false, List, [], ◌∷◌, length, drop, get_or, refl, sym, ◌∙◌, ap, subst, arith, cond, ◌==◌, add-one}
 use Rattle.std.specs.Prelude.{nat_lt}
 use Rattle.std.proofs.Math.Seq.{drop-cons}
 use Rattle.std.proofs.lemmas.Bool.Decides.{nat_tests}
 use Rattle.std.proofs.lemmas.List.{length-append}
 use Rattle.std.proofs.Math.Nat.{pow-suc, pow-le-pow_right}
-use Rattle.liberty_text.specs.Number.{digits_value, significant, is_digit, AreDigits}
-
--- digits behind a number make it no less
-pub digits_grow : (before : ℕ) (ds : List ℕ) → before ≤ digits_value before ds
-digits_grow before [] = omega arith
-digits_grow before (d ∷ ds) =
-    let next = digits_grow (before * 10 + (d - 48)) ds in
-    omega arith
-
--- with one digit more it is no more than with all
-pub next_fits : (value : ℕ) (ds : List ℕ) (i : ℕ) → i < length ds → value * 10 + (get_or ds i 0 - 48) ≤ digits_value value (drop i ds)
-next_fits value ds i h =
-    let first : drop i ds ≡ get_or ds i 0 ∷ drop (suc i) ds = drop-cons ds i 0 h in
-    subst (λ l. value * 10 + (get_or ds i 0 - 48) ≤ digits_value value l) (sym first) (digits_grow (value * 10 + (get_or ds i 0 - 48)) (drop (suc i) ds))
+use Rattle.token_spans.proofs.DigitLemmas.{digits_grow, digit_below, value_below}
+use Rattle.liberty_text.specs.Number.{digits_value, significant, AreDigits}
 
 -- digits behind digits
 pub value_append : (before : ℕ) (ds es : List ℕ) → digits_value before (ds ++ es) ≡ digits_value (digits_value before ds) es
@@ -36,31 +24,6 @@ significant_append (d ∷ ds) es = by_test (significant_append ds es) (d == 48)
     by_test next false =
         let some : (length (d ∷ ds) == 0) ≡ false = grind (arith, nat_tests) in
         length-append (d ∷ ds) es ∙ sym (ap (λ q. cond q (significant es) (length (d ∷ ds) + length es)) some)
-
-pub pow_next : (k : ℕ) → 10 ^ (k + 1) ≡ 10 ^ k * 10
-pow_next k = rw add-one (pow-suc 10 k)
-
--- a digit is below ten
-pub digit_below : (d : ℕ) → is_digit d ≡ true → d - 48 ≤ 9
-digit_below d e = grind (arith, nat_tests)
-
--- a digit among digits
-pub digit_at : (ds : List ℕ) (i : ℕ) → AreDigits ds → i < length ds → 48 ≤ get_or ds i 0
-digit_at [] i all h = absurd (omega arith)
-digit_at (d ∷ ds) zero (e, all) h = grind (arith, nat_tests, e)
-digit_at (d ∷ ds) (suc i) (e, all) h = digit_at ds i all (omega arith)
-
--- the digits behind a number below a power of ten
-pub value_below : (k before : ℕ) (ds : List ℕ) → AreDigits ds → before < 10 ^ k → digits_value before ds < 10 ^ (k + length ds)
-value_below k before [] all h =
-    let same : k ≡ k + 0 = omega arith in
-    subst (λ n. before < 10 ^ n) same h
-value_below k before (d ∷ ds) (e, all) h =
-    let digit = digit_below d e in
-    let power : 10 ^ (k + 1) ≡ 10 ^ k * 10 = pow_next k in
-    let next : before * 10 + (d - 48) < 10 ^ (k + 1) = omega (arith, power, h, digit) in
-    let same : k + 1 + length ds ≡ k + length (d ∷ ds) = omega arith in
-    subst (λ n. digits_value (before * 10 + (d - 48)) ds < 10 ^ n) same (value_below (k + 1) (before * 10 + (d - 48)) ds all next)
 
 -- they come to less than ten to their count
 pub value_fits : (ds : List ℕ) → AreDigits ds → digits_value 0 ds < 10 ^ significant ds

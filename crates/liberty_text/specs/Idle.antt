@@ -1,5 +1,6 @@
 -- Bytes that leave what stands open as it is, and with which no token ends.
-use Rattle.std.specs.Prelude.{ℕ, ◌+◌, Bool, true, false, not, List, [], ◌∷◌, None, if◌then◌else◌, ◌==◌, ◌&&◌, ◌||◌}
+use Rattle.std.specs.Prelude.{ℕ, Bool, true, false, not, List, None, ◌==◌, ◌&&◌, ◌||◌}
+use Rattle.std.specs.List.{prefix_len}
 use Rattle.liberty_text.specs.declared.class.Class.{Class}
 use Rattle.liberty_text.specs.declared.class.Class.TheVariants.{Blank}
 use Rattle.liberty_text.specs.declared.scanner.Mode.{Mode}
@@ -25,8 +26,7 @@ is_plain_in_text b = not (b == 34) && not (b == 92)
 
 -- how many bytes at the front pass a test
 abbrev pub front_run : (ℕ → Bool) → List ℕ → ℕ
-front_run test [] = 0
-front_run test (b ∷ bs) = if test b then 1 + front_run test bs else 0
+front_run = prefix_len
 
 -- how many bytes at the front leave open what stands open
 abbrev pub idle_run : Mode → List ℕ → ℕ

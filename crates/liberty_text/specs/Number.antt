@@ -1,6 +1,10 @@
 -- The numbers of a Liberty text: an optional sign, digits with an optional point, and an optional
 -- exponent (Liberty Reference Manual, floating-point values). The bounds are this project's rule.
-use Rattle.std.specs.Prelude.{◌≡◌, ◌⊎◌, ◌↔◌, ℕ, ◌+◌, ◌-◌, ◌*◌, ◌^◌, ◌<◌, ◌++◌, Bool, true, false, List, [], ◌∷◌, length, take, drop, Option, Some, None, Result, Ok, Err, if◌then◌else◌, ◌==◌, nat_le, nat_lt, ◌&&◌, ◌||◌, ℤ, pos, neg_ℤ, ◌+ℤ◌, ◌-ℤ◌, ◌*ℤ◌}
+use Rattle.std.specs.Prelude.{◌≡◌, ◌⊎◌, ◌↔◌, ℕ, ◌+◌, ◌-◌, ◌*◌, ◌^◌, ◌<◌, ◌++◌, Bool, true, false, List, [], ◌∷◌, length, take, drop, Option, Some, None, Result, Ok, Err, if◌then◌else◌, ◌==◌, nat_lt, ◌&&◌, ◌||◌, ℤ, pos, neg_ℤ, ◌+ℤ◌, ◌-ℤ◌, ◌*ℤ◌}
+use Rattle.std.specs.Char.{is_ascii_digit}
+use Rattle.std.specs.List.{prefix_len}
+pub use Rattle.token_spans.specs.Numbers.{AreDigits}
+use Rattle.token_spans.specs.Numbers.{number_after}
 use Rattle.liberty_text.specs.declared.decimal.Fixed.{Fixed}
 use Rattle.liberty_text.specs.declared.decimal.NumberFault.{NumberFault}
 use Rattle.liberty_text.specs.declared.decimal.NumberFault.TheVariants.{NotNumber, TooManyDigits, TooLarge}
@@ -14,11 +18,7 @@ pub record Written : Type 0 where
   pub exponent : List ℕ
 
 abbrev pub is_digit : ℕ → Bool
-is_digit b = nat_le 48 b && nat_le b 57
-
-abbrev pub AreDigits : List ℕ → Type 0
-AreDigits [] = Unit {0}
-AreDigits (b ∷ bs) = (is_digit b ≡ true) × AreDigits bs
+is_digit = is_ascii_digit
 
 -- a sign, and whether it is a minus
 pub data IsSign : List ℕ → Bool → Type 0 where
@@ -53,8 +53,7 @@ pub record IsNumber (text : List ℕ) (n : Written) : Type 0 where
 
 -- how many digits stand at the front of the bytes
 abbrev pub digit_run : List ℕ → ℕ
-digit_run [] = 0
-digit_run (b ∷ bs) = if is_digit b then 1 + digit_run bs else 0
+digit_run = prefix_len is_digit
 
 -- whether a minus stands at the front, and what stands behind the sign
 abbrev pub sign_of : List ℕ → Bool × List ℕ
@@ -98,8 +97,7 @@ IsOneNumber text = (n : Written) → IsNumber text n ↔ (written_of text ≡ So
 
 -- the digits as a number, behind digits that are this number
 abbrev pub digits_value : ℕ → List ℕ → ℕ
-digits_value before [] = before
-digits_value before (d ∷ ds) = digits_value (before * 10 + (d - 48)) ds
+digits_value = number_after
 
 -- how many digits stand behind the leading zeros
 abbrev pub significant : List ℕ → ℕ

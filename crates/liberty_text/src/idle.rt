@@ -6,53 +6,36 @@ ghost use Rattle.liberty_text.specs.Idle.{is_blank, is_plain_in_word, is_plain_i
 use crate::class::{Class, class_of};
 use crate::scanner::Mode;
 use memchr::memchr2;
+use token_spans::{ByteClass, run_length};
 
-/// Whether a byte is a space, a tab or a carriage return.
-fn is_blank(byte: u8) -> bool
-    ensures { result ≡ is_blank byte }
-{
-    match class_of(byte) {
-        Class::Blank => true,
-        _ => false,
-    }
-}
+/// Spaces, tabs and carriage returns.
+struct Blank;
 
-/// Whether a byte may stand in a Word and is no slash.
-fn is_plain_in_word(byte: u8) -> bool
-    ensures { result ≡ is_plain_in_word byte }
-{
-    match byte {
-        b'\n' | b' ' | b'\t' | b'\r' | b'{' | b'}' | b'(' | b')' => false,
-        b':' | b';' | b',' | b'"' | b'\\' | b'/' => false,
-        b'!'..=b'~' => true,
-        _ => false,
-    }
-}
+impl ByteClass for Blank {
+    ghost has = { is_blank };
 
-/// How many blanks stand at the front.
-fn blank_run(bytes: &[u8]) -> usize
-    ensures value { result ≡ front_run is_blank bytes.now }
-    ensures within { result ≤ length bytes.now }
-{
-    for (at, byte) in bytes.iter().enumerate() {
-        if !is_blank(*byte) {
-            return at;
+    fn contains(byte: u8) -> bool {
+        match class_of(byte) {
+            Class::Blank => true,
+            _ => false,
         }
     }
-    bytes.len()
 }
 
-/// How many bytes at the front go on with a word whatever follows them.
-fn word_run(bytes: &[u8]) -> usize
-    ensures value { result ≡ front_run is_plain_in_word bytes.now }
-    ensures within { result ≤ length bytes.now }
-{
-    for (at, byte) in bytes.iter().enumerate() {
-        if !is_plain_in_word(*byte) {
-            return at;
+/// Bytes that may stand in a Word, but no slash.
+struct PlainInWord;
+
+impl ByteClass for PlainInWord {
+    ghost has = { is_plain_in_word };
+
+    fn contains(byte: u8) -> bool {
+        match byte {
+            b'\n' | b' ' | b'\t' | b'\r' | b'{' | b'}' | b'(' | b')' => false,
+            b':' | b';' | b',' | b'"' | b'\\' | b'/' => false,
+            b'!'..=b'~' => true,
+            _ => false,
         }
     }
-    bytes.len()
 }
 
 /// How many bytes at the front are neither quotes nor backslashes.
@@ -73,8 +56,8 @@ pub(crate) fn idle_run(mode: Mode, bytes: &[u8]) -> usize
     ensures within { result ≤ length bytes.now }
 {
     match mode {
-        Mode::Between { .. } => blank_run(bytes),
-        Mode::InWord { slash: None, .. } => word_run(bytes),
+        Mode::Between { .. } => run_length::<Blank>(bytes),
+        Mode::InWord { slash: None, .. } => run_length::<PlainInWord>(bytes),
         Mode::InText { escaped: false, .. } => text_run(bytes),
         _ => 0,
     }

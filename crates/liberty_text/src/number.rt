@@ -4,6 +4,7 @@ ghost use Rattle.std.specs.Prelude.{◌≡◌, ◌+◌, ◌≤◌, ◌<◌, ◌^
 ghost use Rattle.liberty_text.specs.Number.{digit_run, sign_of, fraction_of, exponent_of, is_run, written_of, IsSpelled, significant, digits_value, signed, AreDigits, Written, fixed_with, fixed_of, IsFixedOf, IsNumberFaultOf};
 
 use crate::decimal::{Fixed, NumberFault};
+use token_spans::{Digit, number_after, run_length};
 
 /// A number as it is written, in bytes of its text.
 #[derive(Clone, Copy)]
@@ -13,19 +14,6 @@ struct Spelling<'a> {
     fraction: &'a [u8],
     exponent_negative: bool,
     exponent: &'a [u8],
-}
-
-/// How many digits stand at the front of the bytes.
-fn digit_run(bytes: &[u8]) -> usize
-    ensures value { result ≡ digit_run bytes.now }
-    ensures within { result ≤ length bytes.now }
-{
-    for (at, byte) in bytes.iter().enumerate() {
-        if !(b'0'..=b'9').contains(byte) {
-            return at;
-        }
-    }
-    bytes.len()
 }
 
 /// Whether a minus stands at the front, and what stands behind the sign.
@@ -46,7 +34,7 @@ fn fraction(text: &[u8]) -> (&[u8], &[u8])
     ensures rest { result.1.now ≡ (fraction_of text.now).1 }
 {
     match text {
-        [b'.', rest @ ..] => rest.split_at(digit_run(rest)),
+        [b'.', rest @ ..] => rest.split_at(run_length::<Digit>(rest)),
         _ => text.split_at(0),
     }
 }
@@ -55,7 +43,7 @@ fn fraction(text: &[u8]) -> (&[u8], &[u8])
 fn is_run(bytes: &[u8]) -> bool
     ensures { result ≡ is_run bytes.now }
 {
-    !bytes.is_empty() && digit_run(bytes) == bytes.len()
+    !bytes.is_empty() && run_length::<Digit>(bytes) == bytes.len()
 }
 
 /// Whether an exponent is negative, and its digits. There may be none.
@@ -81,7 +69,7 @@ fn spelled(text: &[u8]) -> Option<Spelling<'_>>
     ensures { MatchOption result (written_of text.now ≡ None) (λ found. IsSpelled found.negative found.whole.now found.fraction.now found.exponent_negative found.exponent.now (written_of text.now)) }
 {
     let (negative, body) = sign(text);
-    let (whole, rest) = body.split_at(digit_run(body));
+    let (whole, rest) = body.split_at(run_length::<Digit>(body));
     let (fraction, tail) = fraction(rest);
     match exponent(tail) {
         Some((exponent_negative, exponent)) if !whole.is_empty() || !fraction.is_empty() => Some(
@@ -110,20 +98,6 @@ fn significant(digits: &[u8]) -> usize
     0
 }
 
-/// The digits as a number, behind digits that are `before`.
-#[tactic(auto, using(crate::proofs::Numbers::next_fits, crate::proofs::Numbers::digit_at))]
-fn digits_value(before: u64, digits: &[u8]) -> u64
-    requires digits { AreDigits digits.now }
-    requires fits { digits_value before digits.now < 2 ^ 63 }
-    ensures { result ≡ digits_value before digits.now }
-{
-    let mut value = before;
-    for digit in digits {
-        value = value * 10 + u64::from(*digit - b'0');
-    }
-    value
-}
-
 /// Whether more than 18 digits stand behind the leading zeros, the point taken out.
 #[tactic(auto, using(crate::proofs::Numbers::significant_append))]
 fn has_too_many(whole: &[u8], fraction: &[u8]) -> bool
@@ -144,7 +118,7 @@ fn exponent_value(digits: &[u8]) -> Option<u8>
     if significant(digits) > 2 {
         return None;
     }
-    let value = digits_value(0, digits);
+    let value = number_after(0, digits);
     if value > 30 { None } else { Some(value as u8) }
 }
 
@@ -187,7 +161,7 @@ impl Spelling<'_> {
         if behind > 30 {
             return Err(NumberFault::TooLarge);
         }
-        let digits = digits_value(digits_value(0, self.whole), self.fraction);
+        let digits = number_after(number_after(0, self.whole), self.fraction);
         Ok(Fixed {
             mantissa: signed_mantissa(self.negative, digits),
             exponent: signed_exponent(self.exponent_negative, written, behind as u8),

@@ -129,26 +129,20 @@ impl Scanner {
     }
 
     /// A byte after those of the word that begins at `begun`.
-    fn go_on(
-        &mut self,
-        begun: usize,
-        line_before: bool,
-        at: usize,
-        byte: u8,
-    ) -> Result<(), AllocError>
+    fn go_on(&mut self, begun: usize, line: bool, at: usize, byte: u8) -> Result<(), AllocError>
         requires { at + 1 < 2 ^ 64 }
-        ensures mode { OnOk result (self.new.mode ≡ (in_word_by begun line_before at byte (class_of byte)).0) }
-        ensures tokens { OnOk result (self.new.tokens.items ≡ self.old.tokens.items ++ (in_word_by begun line_before at byte (class_of byte)).1) }
+        ensures mode { OnOk result (self.new.mode ≡ (in_word_by begun line at byte (class_of byte)).0) }
+        ensures tokens { OnOk result (self.new.tokens.items ≡ self.old.tokens.items ++ (in_word_by begun line at byte (class_of byte)).1) }
     {
         if class_of(byte) == Class::WordByte {
             self.mode = Mode::InWord {
                 at: begun,
-                line_before,
+                line_before: line,
                 slash: slash_at(at, byte),
             };
             return Ok(());
         }
-        self.push(TokenKind::Word, begun, at, line_before)?;
+        self.push(TokenKind::Word, begun, at, line)?;
         self.open(false, at, byte)
     }
 

@@ -1,9 +1,5 @@
 //! What the tokens of a Liberty text are, and what can stop a reading of them.
 
-ghost use Rattle.std.specs.Prelude.{◌≡◌};
-ghost use Rattle.liberty_text.specs.declared.token.TextFault.TheVariants.{Memory as NoMemory};
-
-use std::alloc::AllocError;
 use thiserror::Error;
 
 /// What a token is.
@@ -68,12 +64,4 @@ pub enum TextFault {
     /// There was no memory for the tokens.
     #[error("out of memory")]
     Memory,
-}
-
-impl From<AllocError> for TextFault {
-    ghost from_gives = { λ _ e. e ≡ NoMemory };
-
-    fn from(_e: AllocError) -> TextFault {
-        TextFault::Memory
-    }
 }

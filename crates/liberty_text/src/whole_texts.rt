@@ -75,7 +75,9 @@ pub fn tokens(alloc: Global, bytes: &[u8]) -> Result<Vec<Token>, TextFault>
     ensures inside { IfOk result (λ found. All (IsInside (length bytes.now)) found.items) }
     ensures in_order { IfOk result (λ found. AreInOrder 0 found.items) }
 {
-    let Scan { tokens, stop } = scan(alloc, bytes)?;
+    let Ok(Scan { tokens, stop }) = scan(alloc, bytes) else {
+        return Err(TextFault::Memory);
+    };
     match stop {
         Stop::End => Ok(tokens),
         Stop::BadByte(at) | Stop::OpenContinuation(at) => Err(TextFault::BadByte(at)),

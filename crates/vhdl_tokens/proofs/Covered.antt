@@ -2,10 +2,9 @@
 use Rattle.std.proofs.Common.{◌≡◌, ℕ, suc, Bool, true, false, not, ◌==◌, if◌then◌else◌, List, ◌∷◌, refl, arith, codes}
 use Rattle.std.specs.List.{prefix_len}
 use Rattle.vhdl_tokens.specs.Tokens.{is_blank, begins_with, separator_length}
-use Rattle.vhdl_tokens.specs.Cover.{IsSeparator, spelling, IsCovered}
+use Rattle.vhdl_tokens.specs.Cover.{IsSeparator, spelling}
 use Rattle.vhdl_tokens.specs.Cover as cover
 use Rattle.token_spans.proofs.Covered.{AsSeparator, blank_here, line_here, Finds}
-use Rattle.token_spans.proofs.Covered as cov
 use Rattle.vhdl_tokens.proofs.Longest.{token_here, token_least}
 
 separator_here : (b k : ℕ) (s : List ℕ) → separator_length (b ∷ s) ≡ suc k → AsSeparator IsSeparator b s k
@@ -18,8 +17,5 @@ separator_here b k s e = by (is_blank b) (begins_with (b ∷ s) (codes "--")) re
     by false false f g e = absurd (omega arith)
 
 -- what must be known of the language
-finds : Finds spelling
+pub finds : Finds spelling
 finds = record { separator_here = separator_here; token_here = token_here; token_least = token_least }
-
-pub covered : (text : List ℕ) → IsCovered text
-covered = cov.covered spelling finds

@@ -4,3 +4,4 @@ pub mod Longest
 pub mod Covered
 pub mod SecondBytes
 mod TokenFirst
+pub mod LawfulTexts

@@ -1,27 +1,15 @@
 -- A token in front of bytes stays one where the bytes behind it change only behind a blank.
-use Rattle.std.proofs.Common.{◌≡◌, ℕ, zero, suc, ◌+◌, ◌≤◌, Bool, true, false, ◌&&◌, ◌==◌, nat_le, if◌then◌else◌, List, [], ◌∷◌, ◌++◌, length, Option, Some, None, unwrap_or, refl, sym, ap, ◌∙◌, arith, codes}
+use Rattle.std.proofs.Common.{◌≡◌, ℕ, zero, suc, ◌+◌, ◌≤◌, Bool, true, false, ◌&&◌, ◌==◌, if◌then◌else◌, List, [], ◌∷◌, ◌++◌, length, Option, Some, None, unwrap_or, refl, sym, ap, ◌∙◌, arith, codes}
 use Rattle.std.specs.Char.{is_ascii_alphabetic, is_ascii_digit}
 use Rattle.std.specs.List.{prefix_len}
 use Rattle.vhdl_tokens.specs.Tokens.{is_name_byte, is_printable, begins_with, later, string_rest, string_length, character_length, token_length, word_length, number_length, sign_length, is_mark}
-use Rattle.token_spans.proofs.Alike.{no_name_byte, no_digit, Alike, behind, run_ends, begins_not, begins_still}
+use Rattle.token_spans.proofs.Alike.{no_name_byte, Alike, behind, decimal_stays, run_ends, begins_not, begins_still}
 
 word : (b : ℕ) (w : List ℕ) {r p : List ℕ} → Alike r p → word_length (b ∷ w ++ r) ≡ suc (length w) → word_length (b ∷ w ++ p) ≡ suc (length w)
 word b w {r} {p} h e =
     let f : prefix_len is_name_byte (w ++ r) ≡ length w = omega arith in
     let s : prefix_len is_name_byte (w ++ p) ≡ length w = run_ends is_name_byte no_name_byte w h f in
     omega arith
-
-number_by : (run run_then n : ℕ) → (run ≡ suc n → run_then ≡ suc n) →
-    (if nat_le run 15 then run else 0) ≡ suc n → (if nat_le run_then 15 then run_then else 0) ≡ suc n
-number_by run rt n r e = by (nat_le run 15) refl e
-  where
-    by : (t : Bool) → nat_le run 15 ≡ t → (if t then run else 0) ≡ suc n → (if nat_le rt 15 then rt else 0) ≡ suc n
-    by true f g = let same : rt ≡ run = r g ∙ sym g in rw (same, f) g
-    by false f g = absurd (omega arith)
-
-number : (b : ℕ) (w : List ℕ) {r p : List ℕ} → Alike r p → number_length (b ∷ w ++ r) ≡ suc (length w) → number_length (b ∷ w ++ p) ≡ suc (length w)
-number b w {r} {p} h e =
-    number_by (prefix_len is_ascii_digit (b ∷ w ++ r)) (prefix_len is_ascii_digit (b ∷ w ++ p)) (length w) (run_ends is_ascii_digit no_digit (b ∷ w) h) e
 
 some_is : (x y : ℕ) → Some x ≡ Some y → x ≡ y
 some_is x y e = cc
@@ -127,4 +115,4 @@ token_stays t b w {r} {p} h e =
     token_by (is_mark b) (b == 39) t (b == 34) (is_ascii_alphabetic b) (is_ascii_digit b) (length w)
     (character_length (b ∷ w ++ r)) (string_length (b ∷ w ++ r)) (word_length (b ∷ w ++ r)) (number_length (b ∷ w ++ r)) (sign_length (b ∷ w ++ r))
     (character_length (b ∷ w ++ p)) (string_length (b ∷ w ++ p)) (word_length (b ∷ w ++ p)) (number_length (b ∷ w ++ p)) (sign_length (b ∷ w ++ p))
-    (character b w r p) (string b w r p) (word b w h) (number b w h) (sign b w h) e
+    (character b w r p) (string b w r p) (word b w h) (decimal_stays b w h) (sign b w h) e

@@ -4,7 +4,7 @@ use Rattle.std.specs.Char.{is_ascii_alphabetic, is_ascii_digit}
 use Rattle.std.specs.List.{list_all}
 use Rattle.std.specs.Str.{bytes_eq}
 use Rattle.token_spans.specs.Cover.{EndsLine, is_nothing, Spelling}
-use Rattle.token_spans.specs.Cover as cover
+use Rattle.vhdl_tokens.specs.Separators.{IsComment}
 use Rattle.vhdl_tokens.specs.Tokens.{lexis, is_blank, is_mark, is_name_byte, is_printable}
 
 -- The first bytes are one separator, where the second follow: a blank, or a comment.
@@ -46,8 +46,4 @@ spells_token after_name (b ∷ bs) =
 
 -- which bytes are separators and tokens of VHDL
 abbrev pub spelling : Spelling
-spelling = record { lexis = lexis; IsSeparator = IsSeparator; spells_token = spells_token }
-
--- the tokens of a text, with only separators between them, are its bytes up to its lexical fault
-abbrev pub IsCovered : List ℕ → Type 0
-IsCovered = cover.IsCovered spelling
+spelling = record { lexis = lexis; IsSeparator = IsSeparator; spells_token = spells_token; IsComment = IsComment }

@@ -1,5 +1,4 @@
 pub mod Tokens
-pub mod Places
 pub mod Separators
 pub mod Spans
 pub mod Numbers

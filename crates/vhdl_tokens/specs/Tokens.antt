@@ -1,9 +1,8 @@
 -- The tokens of VHDL text. (IEEE 1076-1993, clause 13, lexical elements. Which delimiters and literals there are is this project's
 -- subset.) At each place outside a token a separator begins, or a token, which is the longest that begins there, or neither, which
 -- is a lexical fault.
-use Rattle.std.specs.Prelude.{ℕ, ◌+◌, Bool, false, not, ◌&&◌, ◌||◌, ◌==◌, nat_le, if◌then◌else◌, List, [], ◌∷◌, codes, Option, Some, None, unwrap_or}
+use Rattle.std.specs.Prelude.{ℕ, ◌+◌, Bool, false, not, ◌&&◌, ◌||◌, ◌==◌, if◌then◌else◌, List, [], ◌∷◌, codes, Option, Some, None, unwrap_or}
 use Rattle.std.specs.Char.{is_ascii_alphabetic, is_ascii_digit, is_ascii_graphic}
-use Rattle.std.specs.List.{prefix_len}
 use Rattle.vhdl_names.specs.Words.{is_vhdl_word}
 use Rattle.token_spans.specs.Tokens as tokens
 pub use Rattle.token_spans.specs.Tokens.{Token, Lexis, begins_with, is_one_of, is_blank, is_name_byte, later, after, spellings}
@@ -11,11 +10,7 @@ pub use Rattle.token_spans.specs.Tokens.{Token, Lexis, begins_with, is_one_of, i
 -- How many bytes of a separator stand at the front of these: a blank, or a comment before its line end (13.8). None where there is
 -- no separator.
 abbrev pub separator_length : List ℕ → ℕ
-separator_length [] = 0
-separator_length (b ∷ bs) =
-    if is_blank b then 1
-    else (if begins_with (b ∷ bs) (codes "--") then prefix_len (λ c. not (c == 10)) (b ∷ bs)
-    else 0)
+separator_length = tokens.line_separator_length 45
 
 -- a delimiter of one byte that begins no other (13.2)
 abbrev pub is_mark : ℕ → Bool
@@ -33,13 +28,12 @@ sign_length bytes =
 
 -- how many bytes of a number stand at the front of these: at most 15 digits (13.4.1, an integer without `_` and exponent)
 abbrev pub number_length : List ℕ → ℕ
-number_length bytes = if nat_le (prefix_len is_ascii_digit bytes) 15 then prefix_len is_ascii_digit bytes else 0
+number_length = tokens.decimal_length
 
 -- how many bytes of an identifier stand at the front of these, where the first is a letter (13.3.1; `_` may stand at any place
 -- behind it)
 abbrev pub word_length : List ℕ → ℕ
-word_length [] = 0
-word_length (b ∷ bs) = 1 + prefix_len is_name_byte bs
+word_length = tokens.identifier_length
 
 -- How many bytes end a string, up to and with its closing quotation mark. It closes before its line ends.
 abbrev pub string_rest : List ℕ → Option ℕ

@@ -3,9 +3,25 @@
 ghost use Rattle.std.specs.Prelude.{◌≡◌, ◌≤◌, length, IfSome};
 ghost use Rattle.vhdl_tokens.specs.Tokens as spec;
 
-use crate::bytes_told::{begins_word, is_mark};
 use crate::spelling::is_name;
-use token_spans::{digits_length, is_blank, line_length, name_length};
+use token_spans::{byte_table, decimal_length, identifier_length};
+
+macro_rules! mark {
+    ($b:expr) => {
+        $b == b'(' || $b == b')' || $b == b',' || $b == b';' || $b == b'.'
+    };
+}
+
+/// Of each byte, whether it is a delimiter of one byte that begins no other.
+static MARKS: [bool; 256] = byte_table!(mark);
+
+/// Whether a byte is a delimiter of one byte that begins no other, by one look.
+#[inline(always)]
+fn is_mark(byte: u8) -> bool
+    ensures { result ≡ spec.is_mark byte }
+{
+    MARKS[usize::from(byte)]
+}
 
 /// How many bytes end a string, up to and with its closing quotation mark, which stands before its line end.
 fn string_rest(bytes: &[u8]) -> Option<usize>
@@ -48,26 +64,6 @@ fn character_length(bytes: &[u8]) -> usize
     }
 }
 
-/// How many bytes of a separator stand at the front of these: a blank or a comment.
-#[inline(always)]
-pub fn separator_length(bytes: &[u8]) -> usize
-    ensures value { result ≡ spec.separator_length bytes.now }
-    ensures within { result ≤ length bytes.now }
-{
-    let Some(first) = bytes.first() else {
-        return 0;
-    };
-    if is_blank(*first) {
-        1
-    } else if *first != b'-' {
-        0
-    } else if bytes.starts_with(b"--") {
-        line_length(bytes)
-    } else {
-        0
-    }
-}
-
 /// How many bytes of a delimiter that is no mark of its own stand at the front of these.
 fn sign_length(bytes: &[u8]) -> usize
     ensures value { result ≡ spec.sign_length bytes.now }
@@ -78,26 +74,6 @@ fn sign_length(bytes: &[u8]) -> usize
         [b'=', b'>', ..] => 2,
         [b':' | b'=', ..] => 1,
         _ => 0,
-    }
-}
-
-/// How many bytes of a number stand at the front of these.
-fn number_length(bytes: &[u8]) -> usize
-    ensures value { result ≡ spec.number_length bytes.now }
-    ensures within { result ≤ length bytes.now }
-{
-    let length = digits_length(bytes);
-    if length <= 15 { length } else { 0 }
-}
-
-/// How many bytes of an identifier stand at the front of these, where the first is a letter.
-fn word_length(bytes: &[u8]) -> usize
-    ensures value { result ≡ spec.word_length bytes.now }
-    ensures within { result ≤ length bytes.now }
-{
-    match bytes.split_first() {
-        None => 0,
-        Some((_, rest)) => 1 + name_length(rest),
     }
 }
 
@@ -121,10 +97,10 @@ pub fn token_length(last: &[u8], bytes: &[u8]) -> usize
         }
     } else if *first == b'"' {
         string_length(bytes)
-    } else if begins_word(*first) {
-        word_length(bytes)
+    } else if first.is_ascii_alphabetic() {
+        identifier_length(bytes)
     } else if first.is_ascii_digit() {
-        number_length(bytes)
+        decimal_length(bytes)
     } else {
         sign_length(bytes)
     }

@@ -2,13 +2,12 @@
 //! 13.)
 #![tactic(auto)]
 
-mod bytes_told;
 mod fronts;
 mod laws;
 mod scanner;
 mod spelling;
 
-pub use laws::{added_separators_change_no_token, tokens_cover, tokens_stand_in_order};
+pub use laws::tokens_are_lawful;
 pub use scanner::scan;
 pub use spelling::{is_name, is_quoted, is_same, is_string};
 pub use token_spans::{is_number, number_of};

@@ -5,9 +5,9 @@ ghost use Rattle.vhdl_tokens.specs.Tokens.{scan_of};
 ghost use Rattle.token_spans.specs.Spans.{LieInside};
 ghost use Rattle.vhdl_tokens.specs.Spans.{tokens_of};
 
-use crate::fronts::{separator_length, token_length};
+use crate::fronts::token_length;
 use std::alloc::{AllocError, Global};
-use token_spans::{Lexicon, Scan, TokenState};
+use token_spans::{Lexicon, Scan, TokenState, line_separator_length};
 
 /// The bytes of the last token, of which it is asked only at an apostrophe whether they are a name. None stand before the first.
 #[derive(Clone, Copy)]
@@ -24,7 +24,7 @@ impl<'a> Lexicon for LastToken<'a> {
         ensures value { result ≡ spec.separator_length bytes.now }
         ensures within { result ≤ length bytes.now }
     {
-        separator_length(bytes)
+        line_separator_length(b'-', bytes)
     }
 
     ghost blank_length = { Prim.search rules };

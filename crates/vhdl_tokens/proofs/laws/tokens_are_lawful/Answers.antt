@@ -1,0 +1,5 @@
+use Rattle.vhdl_tokens.proofs.LawfulTexts.{laws}
+use Rattle.vhdl_tokens.proofs.laws.tokens_are_lawful.Goals as goal
+
+pub returns : goal.returns
+returns c = laws

@@ -1,3 +1,4 @@
+pub mod PutLemmas
 pub mod Wrote
 pub mod Took
 pub mod Fronts

@@ -4,25 +4,15 @@ use Rattle.std.specs.Prelude.{if◌then◌else◌}
 use Rattle.std.specs.Option.{option_map, option_and_then}
 use Rattle.text_io.specs.declared.named_files.Place.{Place}
 use Rattle.text_io.specs.declared.slots.InSlot.{InSlot}
-use Rattle.text_io.specs.declared.slots.InSlot.TheVariants.{Library, Verilog, Vital, Stimulus}
 use Rattle.text_io.specs.declared.slots.OutSlot.{OutSlot}
 use Rattle.text_io.specs.declared.slots.Slot.{Slot}
 use Rattle.text_io.specs.declared.slots.Slot.TheVariants.{Input, Output}
 use Rattle.text_io.specs.Slots.{same_in, same_out, put_in, put_out, put_slot}
 use Rattle.text_io.specs.Desk.{DeskState, Folder, file_of, IsFileAt, opened, created, took, wrote}
 use Rattle.text_io.specs.NamedFiles.{rest_of}
-use Rattle.text_io.proofs.Wrote.{wrote-nil}
+use Rattle.text_io.proofs.PutLemmas.{push_if, if_same, put_in-same}
+use Rattle.text_io.proofs.Wrote.{wrote-nil, wrote-same}
 use Rattle.text_io.specs.Memory.{bound_slots, left_at, reads_memory, fresh_memory, MemoryState, is_missing}
-
--- a function of a choice
-pub push_if : {X Y : Type 0} (f : X → Y) (b : Bool) (x y : X) → f (if b then x else y) ≡ (if b then f x else f y)
-push_if f true x y = refl
-push_if f false x y = refl
-
--- the value in both cases
-pub if_same : {X : Type 0} (b : Bool) (x : X) → (if b then x else x) ≡ x
-if_same true x = refl
-if_same false x = refl
 
 -- a slot that is bound for reading
 bound_by_place : (places : InSlot → Option Place) (flags : OutSlot → Bool) (slot : InSlot) (place : Place) (other : Slot)
@@ -59,22 +49,9 @@ memory-opened words folder places flags written slot place bytes e = λ i. recor
 -- a bound slot stays bound at another place
 same_bound : (places : InSlot → Option Place) (flags : OutSlot → Bool) (slot : InSlot) (before after : Place) → places slot ≡ Some before
     → (other : Slot) → bound_slots (put_in places slot (Some after)) flags other ≡ bound_slots places flags other
-same_bound places flags Library before after there (Input Library) = ap is_some (sym there)
-same_bound places flags Library before after there (Input Verilog) = refl
-same_bound places flags Library before after there (Input Vital) = refl
-same_bound places flags Library before after there (Input Stimulus) = refl
-same_bound places flags Verilog before after there (Input Library) = refl
-same_bound places flags Verilog before after there (Input Verilog) = ap is_some (sym there)
-same_bound places flags Verilog before after there (Input Vital) = refl
-same_bound places flags Verilog before after there (Input Stimulus) = refl
-same_bound places flags Vital before after there (Input Library) = refl
-same_bound places flags Vital before after there (Input Verilog) = refl
-same_bound places flags Vital before after there (Input Vital) = ap is_some (sym there)
-same_bound places flags Vital before after there (Input Stimulus) = refl
-same_bound places flags Stimulus before after there (Input Library) = refl
-same_bound places flags Stimulus before after there (Input Verilog) = refl
-same_bound places flags Stimulus before after there (Input Vital) = refl
-same_bound places flags Stimulus before after there (Input Stimulus) = ap is_some (sym there)
+same_bound places flags slot before after there (Input other) =
+    push_if is_some (same_in slot other) (Some after) (places other)
+    ∙ put_in-same (λ s. is_some (places s)) slot other true (sym (ap is_some there))
 same_bound places flags slot before after there (Output other) = refl
 
 -- a slot that is read
@@ -216,11 +193,5 @@ sure-created words folder places flags flags' slot set = ap (λ f. reads_memory 
 
 pub sure-wrote : (words : List (List ℕ)) (folder : Folder) (places : InSlot → Option Place) (flags : OutSlot → Bool) (slot : OutSlot) (bytes : List ℕ)
     → reads_memory words folder places flags (λ _. None) ≡ wrote (reads_memory words folder places flags (λ _. None)) slot bytes
-unfolding reads_memory wrote
-sure-wrote words folder places flags slot bytes = λ i. record {
-  words = words;
-  folder = Some folder;
-  bound = bound_slots places flags;
-  left = λ other. Some (left_at folder (places other));
-  written = λ other. sym (if_same (same_out slot other) None) i;
-}
+unfolding reads_memory
+sure-wrote words folder places flags slot bytes = sym (wrote-same (reads_memory words folder places flags (λ _. None)) slot bytes refl)

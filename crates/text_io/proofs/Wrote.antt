@@ -1,5 +1,5 @@
 -- Laws of appending to a slot, for every proof that writes.
-use Rattle.std.proofs.Common.{◌≡◌, ℕ, ◌+◌, ◌-◌, ◌<◌, ◌≤◌, List, [], ◌∷◌, ◌++◌, get_or, take, drop, length, Option, Some, None, Result, Ok, Err, refl, sym, ◌∙◌, ap, IsTrue, IsErr, append_assoc}
+use Rattle.std.proofs.Common.{◌≡◌, ℕ, ◌+◌, ◌-◌, ◌<◌, ◌≤◌, List, [], ◌∷◌, ◌++◌, get_or, take, drop, length, Result, Ok, Err, refl, sym, ◌∙◌, ap, IsTrue, IsErr, append_assoc}
 use Rattle.std.specs.Option.{option_map}
 use Rattle.std.specs.List.{flat_map}
 use Rattle.std.proofs.lemmas.List.{append-nil, take_more, take_rest, take-append-drop, drop_more, take_all}
@@ -7,68 +7,28 @@ use Rattle.std.proofs.Math.Seq.{take-add}
 use Rattle.std.proofs.lemmas.List.Concat.{flat_map-append}
 use Rattle.text_io.specs.declared.outside.Failed.{Failed}
 use Rattle.text_io.specs.declared.slots.OutSlot.{OutSlot}
-use Rattle.text_io.specs.declared.slots.OutSlot.TheVariants.{VerilogText, VitalText, Report, Faults}
 use Rattle.text_io.specs.declared.slots.Slot.{Slot}
-use Rattle.text_io.specs.Slots.{put_out}
+use Rattle.text_io.specs.declared.slots.Slot.TheVariants.{Output}
+use Rattle.text_io.specs.Slots.{slot_number}
 use Rattle.text_io.specs.Desk.{DeskState, is_bound, wrote, IsPrefix, WritesText}
+use Rattle.text_io.proofs.PutLemmas.{option_map-same, put_out-same, put_at-twice}
 
-append_known-nil : (known : Option (List ℕ)) → option_map (λ before. before ++ []) known ≡ known
-append_known-nil None = refl
-append_known-nil (Some before) = ap Some (append-nil before)
-
-append_known-append : (known : Option (List ℕ)) (a b : List ℕ)
-    → option_map (λ before. before ++ b) (option_map (λ before. before ++ a) known) ≡ option_map (λ before. before ++ (a ++ b)) known
-append_known-append None a b = refl
-append_known-append (Some before) a b = ap Some (append_assoc before a b)
-
-put_nothing : (w : OutSlot → Option (List ℕ)) (slot t : OutSlot)
-    → put_out w slot (option_map (λ before. before ++ []) (w slot)) t ≡ w t
-put_nothing w VerilogText VerilogText = append_known-nil (w VerilogText)
-put_nothing w VerilogText VitalText = refl
-put_nothing w VerilogText Report = refl
-put_nothing w VerilogText Faults = refl
-put_nothing w VitalText VerilogText = refl
-put_nothing w VitalText VitalText = append_known-nil (w VitalText)
-put_nothing w VitalText Report = refl
-put_nothing w VitalText Faults = refl
-put_nothing w Report VerilogText = refl
-put_nothing w Report VitalText = refl
-put_nothing w Report Report = append_known-nil (w Report)
-put_nothing w Report Faults = refl
-put_nothing w Faults VerilogText = refl
-put_nothing w Faults VitalText = refl
-put_nothing w Faults Report = refl
-put_nothing w Faults Faults = append_known-nil (w Faults)
-
-put_twice : (w : OutSlot → Option (List ℕ)) (slot t : OutSlot) (a b : List ℕ)
-    → put_out (put_out w slot (option_map (λ before. before ++ a) (w slot))) slot (option_map (λ before. before ++ b) (put_out w slot (option_map (λ before. before ++ a) (w slot)) slot)) t
-    ≡ put_out w slot (option_map (λ before. before ++ (a ++ b)) (w slot)) t
-put_twice w VerilogText VerilogText a b = append_known-append (w VerilogText) a b
-put_twice w VerilogText VitalText a b = refl
-put_twice w VerilogText Report a b = refl
-put_twice w VerilogText Faults a b = refl
-put_twice w VitalText VerilogText a b = refl
-put_twice w VitalText VitalText a b = append_known-append (w VitalText) a b
-put_twice w VitalText Report a b = refl
-put_twice w VitalText Faults a b = refl
-put_twice w Report VerilogText a b = refl
-put_twice w Report VitalText a b = refl
-put_twice w Report Report a b = append_known-append (w Report) a b
-put_twice w Report Faults a b = refl
-put_twice w Faults VerilogText a b = refl
-put_twice w Faults VitalText a b = refl
-put_twice w Faults Report a b = refl
-put_twice w Faults Faults a b = append_known-append (w Faults) a b
+-- nothing known changes where what is written stays as it is
+pub wrote-same : (s : DeskState) (slot : OutSlot) (text : List ℕ) → option_map (λ before. before ++ text) (s.written slot) ≡ s.written slot → wrote s slot text ≡ s
+unfolding wrote
+wrote-same s slot text same =
+    λ i. record s { written = λ t. put_out-same s.written slot t (option_map (λ before. before ++ text) (s.written slot)) same i }
 
 -- nothing appended
 pub wrote-nil : (s : DeskState) (slot : OutSlot) → wrote s slot [] ≡ s
-unfolding wrote
-wrote-nil s slot = λ i. record s { written = λ t. put_nothing s.written slot t i }
+wrote-nil s slot = wrote-same s slot [] (option_map-same (λ before. before ++ []) append-nil (s.written slot))
 
 -- one text appended after another
 pub wrote-wrote : (s : DeskState) (slot : OutSlot) (a b : List ℕ) → wrote (wrote s slot a) slot b ≡ wrote s slot (a ++ b)
 unfolding wrote
-wrote-wrote s slot a b = λ i. record s { written = λ t. put_twice s.written slot t a b i }
+wrote-wrote s slot a b = λ i. record s {
+  written = λ t. put_at-twice (λ x. slot_number (Output x)) (λ before. before ++ a) (λ before. before ++ b) (λ before. before ++ (a ++ b)) (λ before. append_assoc before a b) s.written slot t i;
+}
 
 -- what is bound stays bound
 pub is_bound-wrote : (s : DeskState) (slot : OutSlot) (text : List ℕ) (other : Slot) → is_bound (wrote s slot text) other ≡ is_bound s other

@@ -3,22 +3,16 @@ use Rattle.std.specs.Prelude.{ℕ, Bool, false, List, map, None, is_some, string
 use Rattle.text_io.specs.declared.host.FileDesk.{FileDesk}
 use Rattle.text_io.specs.declared.slots.InSlot.{InSlot}
 use Rattle.text_io.specs.declared.slots.OutSlot.{OutSlot}
-use Rattle.text_io.specs.declared.slots.Slot.{Slot}
-use Rattle.text_io.specs.declared.slots.Slot.TheVariants.{Input, Output}
+use Rattle.text_io.specs.Slots.{by_side}
 use Rattle.text_io.specs.Desk.{DeskState}
 use Rattle.text_io.specs.EachSlot.{input_of, output_of}
-
--- the slots that are open
-abbrev pub open_slots : (InSlot → Bool) → (OutSlot → Bool) → Slot → Bool
-open_slots inputs outputs (Input slot) = inputs slot
-open_slots inputs outputs (Output slot) = outputs slot
 
 -- a desk that tells no content, at which these slots are open
 unfoldable pub reads_files : List (List ℕ) → (InSlot → Bool) → (OutSlot → Bool) → DeskState
 reads_files words inputs outputs = record {
   words = words;
   folder = None;
-  bound = open_slots inputs outputs;
+  bound = by_side inputs outputs;
   left = λ _. None;
   written = λ _. None;
 }

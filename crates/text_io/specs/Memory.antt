@@ -7,7 +7,7 @@ use Rattle.text_io.specs.declared.named_files.Place.{Place}
 use Rattle.text_io.specs.declared.slots.InSlot.{InSlot}
 use Rattle.text_io.specs.declared.slots.OutSlot.{OutSlot}
 use Rattle.text_io.specs.declared.slots.Slot.{Slot}
-use Rattle.text_io.specs.declared.slots.Slot.TheVariants.{Input, Output}
+use Rattle.text_io.specs.Slots.{by_side}
 use Rattle.text_io.specs.Desk.{DeskState, Folder, file_of}
 use Rattle.text_io.specs.EachSlot.{input_of, output_of, bytes_in, room_in}
 use Rattle.text_io.specs.NamedFiles.{folder_of, rest_of}
@@ -24,8 +24,7 @@ pub record MemoryState : Type 0 where
 
 -- the slots that are bound: the input slots where reading has a place, and the output slots that were created
 abbrev pub bound_slots : (InSlot → Option Place) → (OutSlot → Bool) → Slot → Bool
-bound_slots places created (Input slot) = is_some (places slot)
-bound_slots places created (Output slot) = created slot
+bound_slots places created = by_side (λ slot. is_some (places slot)) created
 
 -- the bytes that come next at a slot: none before it is bound
 abbrev pub left_at : Folder → Option Place → List ℕ

@@ -3,7 +3,7 @@
 ghost use Rattle.std.specs.Prelude.{◌≡◌, ◌<◌, ◌≤◌, ℕ, [], List, length, take, IsTrue, IsOk, IfOk, IfSome, OnOk, OnErr, Contains};
 ghost use Rattle.text_io.specs.declared.slots.Slot.TheVariants.{Input, Output};
 ghost use Rattle.text_io.specs.Plan.{plan};
-ghost use Rattle.text_io.specs.Desk.{is_bound, opened, created, took, wrote, IsFileAt, HasCause, Rose};
+ghost use Rattle.text_io.specs.Desk.{is_bound, opened, created, took, wrote, IsFileAt, HasCause};
 ghost use Rattle.text_io.specs.Gate.{behind, failures};
 
 use crate::outside::{Desk, Failed};
@@ -42,19 +42,23 @@ impl<D> GatedDesk<D> {
         ensures cause { HasCause (failures self.old) (failures self.new) result }
     {
         if self.failures > 0 {
-            return Err(self.fail());
+            return counted(&mut self.failures, Err(Failed));
         }
         Ok(())
     }
+}
 
-    /// Counts a call that failed or is refused.
-    fn fail(&mut self) -> Failed
-        ensures behind { behind self.new ≡ behind self.old }
-        ensures counted { Rose (failures self.old) (failures self.new) }
-        ensures later { failures self.old ≤ failures self.new }
-    {
-        self.failures = self.failures.saturating_add(1);
-        Failed
+/// What a call came to, which is counted where it failed or is refused.
+fn counted<T>(failures: &mut u64, outcome: Result<T, Failed>) -> Result<T, Failed>
+    ensures same { result ≡ outcome }
+    ensures cause { HasCause failures.old failures.new result }
+{
+    match outcome {
+        Ok(value) => Ok(value),
+        Err(Failed) => {
+            *failures = failures.saturating_add(1);
+            Err(Failed)
+        }
     }
 }
 
@@ -75,10 +79,7 @@ impl<D: Desk> Desk for GatedDesk<D> {
         ensures closed { 0 < failures self.old → behind self.new ≡ behind self.old }
     {
         self.pass()?;
-        match self.desk.bind_in(slot, place) {
-            Ok(()) => Ok(()),
-            Err(Failed) => Err(self.fail()),
-        }
+        counted(&mut self.failures, self.desk.bind_in(slot, place))
     }
 
     fn read(&mut self, slot: InSlot, into: &mut [u8]) -> Result<usize, Failed>
@@ -92,10 +93,7 @@ impl<D: Desk> Desk for GatedDesk<D> {
         ensures closed { 0 < failures self.old → behind self.new ≡ behind self.old }
     {
         self.pass()?;
-        match self.desk.read(slot, into) {
-            Ok(count) => Ok(count),
-            Err(Failed) => Err(self.fail()),
-        }
+        counted(&mut self.failures, self.desk.read(slot, into))
     }
 
     fn bind_out(&mut self, slot: OutSlot, place: usize) -> Result<(), Failed>
@@ -106,10 +104,7 @@ impl<D: Desk> Desk for GatedDesk<D> {
         ensures closed { 0 < failures self.old → behind self.new ≡ behind self.old }
     {
         self.pass()?;
-        match self.desk.bind_out(slot, place) {
-            Ok(()) => Ok(()),
-            Err(Failed) => Err(self.fail()),
-        }
+        counted(&mut self.failures, self.desk.bind_out(slot, place))
     }
 
     fn write(&mut self, slot: OutSlot, bytes: &[u8]) -> Result<usize, Failed>
@@ -126,9 +121,6 @@ impl<D: Desk> Desk for GatedDesk<D> {
             return Ok(0);
         }
         self.pass()?;
-        match self.desk.write(slot, bytes) {
-            Ok(count) => Ok(count),
-            Err(Failed) => Err(self.fail()),
-        }
+        counted(&mut self.failures, self.desk.write(slot, bytes))
     }
 }

@@ -1,6 +1,6 @@
 //! The desk over real files.
 
-ghost use Rattle.std.specs.Prelude.{◌≡◌, ◌≤◌, ◌+◌, ◌-◌, ◌^◌, min, length, map, string_bytes, IsTrue, IsSome, IfOk};
+ghost use Rattle.std.specs.Prelude.{◌≡◌, ◌≤◌, ◌+◌, ◌-◌, ◌^◌, min, length, map, string_bytes, IsTrue, IsSome, IfOk, OnOk, OnErr};
 ghost use Rattle.text_io.specs.declared.slots.Slot.TheVariants.{Output};
 ghost use Rattle.text_io.specs.Desk.{is_bound};
 ghost use Rattle.text_io.specs.Host.{file_state, file_faults, untold};
@@ -123,6 +123,22 @@ impl FileDesk {
         }
     }
 
+    /// What a call on the file that the word at this place names came to. Where it failed, it is said why, and the fault
+    /// is counted.
+    fn told<T>(&mut self, place: usize, outcome: io::Result<T>) -> Result<T, Failed>
+        ensures ok { OnOk result (self.new ≡ self.old) }
+        ensures err { OnErr result (self.new ≡ record self.old { faults = min (self.old.faults + 1) (2 ^ 64 - 1) }) }
+        ensures later { self.old.faults ≤ self.new.faults }
+    {
+        match outcome {
+            Ok(value) => Ok(value),
+            Err(error) => {
+                self.say(self.path(place), &error);
+                Err(self.fault())
+            }
+        }
+    }
+
     /// Counts a fault.
     fn fault(&mut self) -> Failed
         ensures counted { self.new ≡ record self.old { faults = min (self.old.faults + 1) (2 ^ 64 - 1) } }
@@ -133,15 +149,22 @@ impl FileDesk {
     }
 }
 
+/// The file that is open.
+fn open_file(opened: &Option<OpenedFile>) -> &File
+    requires { IsSome opened.now }
+{
+    match opened {
+        Some(opened) => &opened.file,
+        None => unreachable!(),
+    }
+}
+
 /// Reads some bytes of an open file, and answers how many.
 fn read_file(opened: &Option<OpenedFile>, into: &mut [u8]) -> io::Result<usize>
     requires { IsSome opened.now }
     ensures { IfOk result (λ count. count ≤ length into.new) }
 {
-    let Some(opened) = opened else {
-        unreachable!();
-    };
-    let mut shared: &File = &opened.file;
+    let mut shared = open_file(opened);
     shared.read(into)
 }
 
@@ -150,10 +173,7 @@ fn write_file(opened: &Option<OpenedFile>, bytes: &[u8]) -> io::Result<usize>
     requires { IsSome opened.now }
     ensures { IfOk result (λ count. count ≤ length bytes.now) }
 {
-    let Some(opened) = opened else {
-        unreachable!();
-    };
-    let mut shared: &File = &opened.file;
+    let mut shared = open_file(opened);
     shared.write(bytes)
 }
 
@@ -177,16 +197,10 @@ impl Desk for FileDesk {
 
     #[tactic(auto, unfolding(crate::specs::Host::reads_files))]
     fn bind_in(&mut self, slot: InSlot, place: usize) -> Result<(), Failed> {
-        match OpenedFile::to_read(&self.rt, self.path(place), place) {
-            Ok(opened) => {
-                self.inputs.set(slot, Some(opened));
-                Ok(())
-            }
-            Err(error) => {
-                self.say(self.path(place), &error);
-                Err(self.fault())
-            }
-        }
+        let opened = OpenedFile::to_read(&self.rt, self.path(place), place);
+        let opened = self.told(place, opened)?;
+        self.inputs.set(slot, Some(opened));
+        Ok(())
     }
 
     #[tactic(auto, unfolding(crate::specs::Host::reads_files))]
@@ -202,16 +216,10 @@ impl Desk for FileDesk {
 
     #[tactic(auto, unfolding(crate::specs::Host::reads_files))]
     fn bind_out(&mut self, slot: OutSlot, place: usize) -> Result<(), Failed> {
-        match self.create(place) {
-            Ok(opened) => {
-                self.outputs.set(slot, Some(opened));
-                Ok(())
-            }
-            Err(error) => {
-                self.say(self.path(place), &error);
-                Err(self.fault())
-            }
-        }
+        let opened = self.create(place);
+        let opened = self.told(place, opened)?;
+        self.outputs.set(slot, Some(opened));
+        Ok(())
     }
 
     #[tactic(auto, unfolding(crate::specs::Host::reads_files))]

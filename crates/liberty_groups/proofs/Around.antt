@@ -12,6 +12,7 @@ use Rattle.liberty_text.specs.Tokens as lex
 use Rattle.liberty_groups.specs.Library.{is_word}
 use Rattle.liberty_groups.specs.FirstMisfit.{EndsBefore}
 use Rattle.liberty_groups.proofs.Pieces.{word_any, word_end, head_same, tail_same}
+use Rattle.liberty_groups.proofs.TokenSteps.{Step, step_blank, step_line_end, step_continuation, step_comment, step_mark, step_text, step_word, Front, front_on}
 
 -- bytes that may come where this token began: no Word goes on with them, where the token is none
 abbrev MayFollow : Token → List ℕ → Type 0
@@ -43,65 +44,23 @@ mark_kind b Colon f = refl
 mark_kind b Semicolon f = refl
 mark_kind b Comma f = refl
 
+front_of : {at : ℕ} {line : Bool} {bs : List ℕ} {E : List Token} {x : Token} (c : Around at line bs E x) → Front (MayFollow x) at line bs E x.at x.line_before (c.w ++ c.r)
+front_of c = record { q = c.q; split = c.split; place = c.place; goes = c.goes; word = c.word }
+
+-- a separator or a token more in front
+on : {at : ℕ} {line : Bool} {bs : List ℕ} {us : List Token} {there : ℕ} {ended : Bool} {rest : List ℕ} {E : List Token} {x : Token} →
+    Step at line bs us there ended rest → Around there ended rest E x → Around at line bs (us ++ E) x
+on p c =
+    let f = front_on p (front_of c) in
+    record { q = f.q; w = c.w; r = c.r; split = f.split; place = f.place; long = c.long; goes = f.goes; word = f.word; spells = c.spells; begins = c.begins; ends = c.ends }
+
 pub around : {at : ℕ} {line : Bool} {bs : List ℕ} {ts : List Token} {stop : Stop} → Lexes at line bs ts stop → (E : List Token) (x : Token) (B : List Token) →
     ts ≡ E ++ x ∷ B → Around at line bs E x
 around lex.end E x B e = no_tokens E x B e
-around {at = at} (lex.blank {b = b} {rest = rest} f d) E x B e =
-    let c = around d E x B e in record {
-      q = b ∷ c.q;
-      w = c.w;
-      r = c.r;
-      split = ap (λ (s : List ℕ). b ∷ s) c.split;
-      place = (let p = c.place in omega arith);
-      long = c.long;
-      goes = λ z V s p y. lex.blank f (c.goes z V s p y);
-      word = λ _ z p. rw f refl;
-      spells = c.spells;
-      begins = c.begins;
-      ends = c.ends;
-    }
-around {at = at} (lex.line_end {b = b} {rest = rest} f d) E x B e =
-    let c = around d E x B e in record {
-      q = b ∷ c.q;
-      w = c.w;
-      r = c.r;
-      split = ap (λ (s : List ℕ). b ∷ s) c.split;
-      place = (let p = c.place in omega arith);
-      long = c.long;
-      goes = λ z V s p y. lex.line_end f (c.goes z V s p y);
-      word = λ _ z p. rw f refl;
-      spells = c.spells;
-      begins = c.begins;
-      ends = c.ends;
-    }
-around {at = at} {bs = bs} (lex.continuation blanks rest all split d) E x B e =
-    let c = around d E x B e in record {
-      q = 92 ∷ blanks ++ (10 ∷ c.q);
-      w = c.w;
-      r = c.r;
-      split = split ∙ ap (λ (s : List ℕ). 92 ∷ (blanks ++ (10 ∷ s))) c.split ∙ ap (λ (s : List ℕ). 92 ∷ s) (sym (append_assoc blanks (10 ∷ c.q) (c.w ++ c.r)));
-      place = (let p = c.place in let i = length-append blanks (10 ∷ c.q) in omega arith);
-      long = c.long;
-      goes = λ z V s p y. lex.continuation blanks (c.q ++ z) all (ap (λ (t : List ℕ). 92 ∷ t) (append_assoc blanks (10 ∷ c.q) z)) (c.goes z V s p y);
-      word = λ _ z p. refl;
-      spells = c.spells;
-      begins = c.begins;
-      ends = c.ends;
-    }
-around {at = at} {bs = bs} (lex.comment body rest all split d) E x B e =
-    let c = around d E x B e in record {
-      q = 47 ∷ 42 ∷ body ++ (47 ∷ c.q);
-      w = c.w;
-      r = c.r;
-      split = split ∙ ap (λ (s : List ℕ). 47 ∷ 42 ∷ (body ++ (47 ∷ s))) c.split ∙ ap (λ (s : List ℕ). 47 ∷ 42 ∷ s) (sym (append_assoc body (47 ∷ c.q) (c.w ++ c.r)));
-      place = (let p = c.place in let i = length-append body (47 ∷ c.q) in omega arith);
-      long = c.long;
-      goes = λ z V s p y. lex.comment body (c.q ++ z) all (ap (λ (t : List ℕ). 47 ∷ 42 ∷ t) (append_assoc body (47 ∷ c.q) z)) (c.goes z V s p y);
-      word = λ _ z p. refl;
-      spells = c.spells;
-      begins = c.begins;
-      ends = c.ends;
-    }
+around (lex.blank f d) E x B e = on (step_blank f) (around d E x B e)
+around (lex.line_end f d) E x B e = on (step_line_end f) (around d E x B e)
+around (lex.continuation blanks rest all split d) E x B e = on (step_continuation blanks rest all split) (around d E x B e)
+around (lex.comment body rest all split d) E x B e = on (step_comment body rest all split) (around d E x B e)
 around {at = at} {line = line} {bs = bs} (lex.mark {b = b} {rest = rest} kind f d) [] x B e =
     subst (λ (t : Token). Around at line bs [] t) (head_same e)
     (record {
@@ -118,19 +77,7 @@ around {at = at} {line = line} {bs = bs} (lex.mark {b = b} {rest = rest} kind f 
       ends = λ h. absurd (let k = mark_kind b kind f in cc);
     })
 around {at = at} {line = line} (lex.mark {b = b} {rest = rest} kind f d) (t ∷ E) x B e =
-    let c = around d E x B (tail_same e) in record {
-      q = b ∷ c.q;
-      w = c.w;
-      r = c.r;
-      split = ap (λ (s : List ℕ). b ∷ s) c.split;
-      place = (let p = c.place in omega arith);
-      long = c.long;
-      goes = λ z V s p y. subst (λ (u : Token). Lexes at line (b ∷ (c.q ++ z)) (u ∷ (E ++ V)) s) (head_same e) (lex.mark kind f (c.goes z V s p y));
-      word = λ _ z p. rw f refl;
-      spells = c.spells;
-      begins = c.begins;
-      ends = c.ends;
-    }
+    subst (λ (u : Token). Around at line (b ∷ rest) (u ∷ E) x) (head_same e) (on (step_mark kind f) (around d E x B (tail_same e)))
 around {at = at} {line = line} {bs = bs} (lex.text body rest all split d) [] x B e =
     subst (λ (t : Token). Around at line bs [] t) (head_same e)
     (record {
@@ -147,20 +94,7 @@ around {at = at} {line = line} {bs = bs} (lex.text body rest all split d) [] x B
       ends = λ h. absurd cc;
     })
 around {at = at} {line = line} {bs = bs} (lex.text body rest all split d) (t ∷ E) x B e =
-    let c = around d E x B (tail_same e) in record {
-      q = 34 ∷ body ++ (34 ∷ c.q);
-      w = c.w;
-      r = c.r;
-      split = split ∙ ap (λ (s : List ℕ). 34 ∷ (body ++ (34 ∷ s))) c.split ∙ ap (λ (s : List ℕ). 34 ∷ s) (sym (append_assoc body (34 ∷ c.q) (c.w ++ c.r)));
-      place = (let p = c.place in let i = length-append body (34 ∷ c.q) in omega arith);
-      long = c.long;
-      goes = λ z V s p y. subst (λ (u : Token). Lexes at line (34 ∷ (body ++ (34 ∷ c.q)) ++ z) (u ∷ (E ++ V)) s) (head_same e)
-          (lex.text body (c.q ++ z) all (ap (λ (t : List ℕ). 34 ∷ t) (append_assoc body (34 ∷ c.q) z)) (c.goes z V s p y));
-      word = λ _ z p. refl;
-      spells = c.spells;
-      begins = c.begins;
-      ends = c.ends;
-    }
+    subst (λ (u : Token). Around at line bs (u ∷ E) x) (head_same e) (on (step_text body rest all split) (around d E x B (tail_same e)))
 around {at = at} {line = line} {bs = bs} (lex.word b w rest (lex.word_byte f more) split d) [] x B e =
     subst (λ (t : Token). Around at line bs [] t) (head_same e)
     (record {
@@ -176,22 +110,8 @@ around {at = at} {line = line} {bs = bs} (lex.word b w rest (lex.word_byte f mor
       begins = λ y p. absurd cc;
       ends = λ _. word_end more;
     })
-around {at = at} {line = line} {bs = bs} (lex.word b w rest (lex.word_byte f more) split d) (t ∷ E) x B e =
-    let c = around d E x B (tail_same e) in record {
-      q = b ∷ w ++ c.q;
-      w = c.w;
-      r = c.r;
-      split = split ∙ ap (λ (s : List ℕ). b ∷ (w ++ s)) c.split ∙ ap (λ (s : List ℕ). b ∷ s) (sym (append_assoc w c.q (c.w ++ c.r)));
-      place = (let p = c.place in let i = length-append w c.q in omega arith);
-      long = c.long;
-      goes = λ z V s p y. subst (λ (u : Token). Lexes at line (b ∷ (w ++ c.q) ++ z) (u ∷ (E ++ V)) s) (head_same e)
-          (lex.word b w (c.q ++ z) (word_any (lex.word_byte f more) (c.q ++ z) (c.word (word_end more) z p))
-          (ap (λ (t : List ℕ). b ∷ t) (append_assoc w c.q z)) (c.goes z V s p y));
-      word = λ h z p. (let g = subst (λ (t : List ℕ). ends_word t ≡ true) split h in absurd cc);
-      spells = c.spells;
-      begins = c.begins;
-      ends = c.ends;
-    }
+around {at = at} {line = line} {bs = bs} (lex.word b w rest bytes split d) (t ∷ E) x B e =
+    subst (λ (u : Token). Around at line bs (u ∷ E) x) (head_same e) (on (step_word b w rest bytes split) (around d E x B (tail_same e)))
 around (lex.bad f) E x B e = no_tokens E x B e
 around (lex.bad_backslash blanks b rest all other split) E x B e = no_tokens E x B e
 around (lex.open_text last all) E x B e = no_tokens E x B e

@@ -1,11 +1,11 @@
 -- What stands before the open end of a text, and before its last word, stays when other bytes come behind.
-use Rattle.std.proofs.Common.{◌≡◌, ℕ, ◌+◌, Bool, true, false, List, [], ◌∷◌, ◌++◌, length, refl, sym, ap, subst, ◌∙◌, arith, length-append, append_assoc}
+use Rattle.std.proofs.Common.{◌≡◌, ℕ, ◌+◌, Bool, true, false, List, [], ◌∷◌, ◌++◌, length, refl}
 use Rattle.liberty_text.specs.declared.token.Token.{Token}
 use Rattle.liberty_text.specs.declared.token.Stop.{Stop}
 use Rattle.liberty_text.specs.declared.token.Stop.TheVariants.{End, BadByte, OpenText, OpenComment, OpenContinuation}
-use Rattle.liberty_text.specs.Tokens.{ends_word, WordBytes, TextBytes, CommentBytes, AreBlanks, Lexes}
+use Rattle.liberty_text.specs.Tokens.{ends_word, TextBytes, CommentBytes, AreBlanks, Lexes}
 use Rattle.liberty_text.specs.Tokens as lex
-use Rattle.liberty_groups.proofs.Pieces.{word_any, word_end}
+use Rattle.liberty_groups.proofs.TokenSteps.{Step, step_blank, step_line_end, step_continuation, step_comment, step_mark, step_text, step_word, Front, front_on, front_here}
 
 -- what is open where the bytes of a text stop
 abbrev pub IsOpen : Stop → ℕ → List ℕ → Type 0
@@ -27,159 +27,37 @@ pub record Context (at : ℕ) (line : Bool) (bs : List ℕ) (ts : List Token) (s
   pub goes : (z : List ℕ) (V : List Token) (s : Stop) → ends_word z ≡ true → Lexes a l z V s → Lexes at line (q ++ z) (ts ++ V) s
   pub word : ends_word bs ≡ true → (z : List ℕ) → ends_word z ≡ true → ends_word (q ++ z) ≡ true
 
--- from an equation of the bytes of a construct
-abbrev Longer : List ℕ → List ℕ → List ℕ → Type 0
-Longer q r z = (q ++ r) ++ z ≡ q ++ (r ++ z)
+-- bytes with which no Word goes on
+abbrev EndsWord : List ℕ → Type 0
+EndsWord z = ends_word z ≡ true
+
+as_context : {at : ℕ} {line : Bool} {bs : List ℕ} {ts : List Token} {stop : Stop} {a : ℕ} {l : Bool} {o : List ℕ} → Front EndsWord at line bs ts a l o → IsOpen stop a o → Context at line bs ts stop
+as_context {a = a} {l = l} {o = o} f is_open =
+    record { q = f.q; o = o; a = a; l = l; split = f.split; place = f.place; is_open = is_open; goes = f.goes; word = f.word }
+
+front_of : {at : ℕ} {line : Bool} {bs : List ℕ} {ts : List Token} {stop : Stop} (c : Context at line bs ts stop) → Front EndsWord at line bs ts c.a c.l c.o
+front_of c = record { q = c.q; split = c.split; place = c.place; goes = c.goes; word = c.word }
+
+-- nothing before the open end
+here : {at : ℕ} {line : Bool} {bs : List ℕ} {stop : Stop} → IsOpen stop at bs → Context at line bs [] stop
+here is_open = as_context (front_here (λ z h e. h)) is_open
+
+-- a separator or a token more in front
+on : {at : ℕ} {line : Bool} {bs : List ℕ} {us : List Token} {there : ℕ} {ended : Bool} {rest : List ℕ} {ts : List Token} {stop : Stop} →
+    Step at line bs us there ended rest → Context there ended rest ts stop → Context at line bs (us ++ ts) stop
+on p c = as_context (front_on p (front_of c)) c.is_open
 
 pub context : {at : ℕ} {line : Bool} {bs : List ℕ} {ts : List Token} {stop : Stop} → Lexes at line bs ts stop → Context at line bs ts stop
-context {at = at} {line = line} lex.end = record {
-  q = [];
-  o = [];
-  a = at;
-  l = line;
-  split = refl;
-  place = omega arith;
-  is_open = refl;
-  goes = λ z V s e d. d;
-  word = λ e z h. h;
-}
-context {at = at} {line = line} (lex.blank {b = b} {rest = rest} e d) =
-    let c = context d in record {
-      q = b ∷ c.q;
-      o = c.o;
-      a = c.a;
-      l = c.l;
-      split = ap (λ (s : List ℕ). b ∷ s) c.split;
-      place = (let p = c.place in omega arith);
-      is_open = c.is_open;
-      goes = λ z V s w x. lex.blank e (c.goes z V s w x);
-      word = λ _ z w. rw e refl;
-    }
-context {at = at} {line = line} (lex.line_end {b = b} {rest = rest} e d) =
-    let c = context d in record {
-      q = b ∷ c.q;
-      o = c.o;
-      a = c.a;
-      l = c.l;
-      split = ap (λ (s : List ℕ). b ∷ s) c.split;
-      place = (let p = c.place in omega arith);
-      is_open = c.is_open;
-      goes = λ z V s w x. lex.line_end e (c.goes z V s w x);
-      word = λ _ z w. rw e refl;
-    }
-context {at = at} {line = line} {bs = bs} (lex.continuation blanks rest all split d) =
-    let c = context d in record {
-      q = 92 ∷ blanks ++ (10 ∷ c.q);
-      o = c.o;
-      a = c.a;
-      l = c.l;
-      split = split ∙ ap (λ (s : List ℕ). 92 ∷ (blanks ++ (10 ∷ s))) c.split ∙ ap (λ (s : List ℕ). 92 ∷ s) (sym (append_assoc blanks (10 ∷ c.q) c.o));
-      place = (let p = c.place in let k = length-append blanks (10 ∷ c.q) in omega arith);
-      is_open = c.is_open;
-      goes = λ z V s w x. lex.continuation blanks (c.q ++ z) all (ap (λ (t : List ℕ). 92 ∷ t) (append_assoc blanks (10 ∷ c.q) z)) (c.goes z V s w x);
-      word = λ _ z w. refl;
-    }
-context {at = at} {line = line} {bs = bs} (lex.comment body rest all split d) =
-    let c = context d in record {
-      q = 47 ∷ 42 ∷ body ++ (47 ∷ c.q);
-      o = c.o;
-      a = c.a;
-      l = c.l;
-      split = split ∙ ap (λ (s : List ℕ). 47 ∷ 42 ∷ (body ++ (47 ∷ s))) c.split ∙ ap (λ (s : List ℕ). 47 ∷ 42 ∷ s) (sym (append_assoc body (47 ∷ c.q) c.o));
-      place = (let p = c.place in let k = length-append body (47 ∷ c.q) in omega arith);
-      is_open = c.is_open;
-      goes = λ z V s w x. lex.comment body (c.q ++ z) all (ap (λ (t : List ℕ). 47 ∷ 42 ∷ t) (append_assoc body (47 ∷ c.q) z)) (c.goes z V s w x);
-      word = λ _ z w. refl;
-    }
-context {at = at} {line = line} (lex.mark {b = b} {rest = rest} kind e d) =
-    let c = context d in record {
-      q = b ∷ c.q;
-      o = c.o;
-      a = c.a;
-      l = c.l;
-      split = ap (λ (s : List ℕ). b ∷ s) c.split;
-      place = (let p = c.place in omega arith);
-      is_open = c.is_open;
-      goes = λ z V s w x. lex.mark kind e (c.goes z V s w x);
-      word = λ _ z w. rw e refl;
-    }
-context {at = at} {line = line} {bs = bs} (lex.text body rest all split d) =
-    let c = context d in record {
-      q = 34 ∷ body ++ (34 ∷ c.q);
-      o = c.o;
-      a = c.a;
-      l = c.l;
-      split = split ∙ ap (λ (s : List ℕ). 34 ∷ (body ++ (34 ∷ s))) c.split ∙ ap (λ (s : List ℕ). 34 ∷ s) (sym (append_assoc body (34 ∷ c.q) c.o));
-      place = (let p = c.place in let k = length-append body (34 ∷ c.q) in omega arith);
-      is_open = c.is_open;
-      goes = λ z V s w x. lex.text body (c.q ++ z) all (ap (λ (t : List ℕ). 34 ∷ t) (append_assoc body (34 ∷ c.q) z)) (c.goes z V s w x);
-      word = λ _ z w. refl;
-    }
-context {at = at} {line = line} {bs = bs} (lex.word b w rest (lex.word_byte f more) split d) =
-    let c = context d in record {
-      q = b ∷ w ++ c.q;
-      o = c.o;
-      a = c.a;
-      l = c.l;
-      split = split ∙ ap (λ (s : List ℕ). b ∷ (w ++ s)) c.split ∙ ap (λ (s : List ℕ). b ∷ s) (sym (append_assoc w c.q c.o));
-      place = (let p = c.place in let k = length-append w c.q in omega arith);
-      is_open = c.is_open;
-      goes = λ z V s e x. lex.word b w (c.q ++ z) (word_any (lex.word_byte f more) (c.q ++ z) (c.word (word_end more) z e))
-          (ap (λ (t : List ℕ). b ∷ t) (append_assoc w c.q z)) (c.goes z V s e x);
-      word = λ h z e. (let i = subst (λ (t : List ℕ). ends_word t ≡ true) split h in absurd cc);
-    }
-context {at = at} {line = line} {bs = bs} (lex.bad e) = record {
-  q = [];
-  o = bs;
-  a = at;
-  l = line;
-  split = refl;
-  place = omega arith;
-  is_open = tt;
-  goes = λ z V s e d. d;
-  word = λ e z h. h;
-}
-context {at = at} {line = line} {bs = bs} (lex.bad_backslash blanks b rest all other split) = record {
-  q = [];
-  o = bs;
-  a = at;
-  l = line;
-  split = refl;
-  place = omega arith;
-  is_open = tt;
-  goes = λ z V s e d. d;
-  word = λ e z h. h;
-}
-context {at = at} {line = line} (lex.open_text {body = body} last all) = record {
-  q = [];
-  o = 34 ∷ body;
-  a = at;
-  l = line;
-  split = refl;
-  place = omega arith;
-  is_open = (refl, body, last, refl, all);
-  goes = λ z V s e d. d;
-  word = λ e z h. h;
-}
-context {at = at} {line = line} (lex.open_comment {body = body} last all) = record {
-  q = [];
-  o = 47 ∷ 42 ∷ body;
-  a = at;
-  l = line;
-  split = refl;
-  place = omega arith;
-  is_open = (refl, body, last, refl, all);
-  goes = λ z V s e d. d;
-  word = λ e z h. h;
-}
-context {at = at} {line = line} (lex.open_continuation {blanks = blanks} all) = record {
-  q = [];
-  o = 92 ∷ blanks;
-  a = at;
-  l = line;
-  split = refl;
-  place = omega arith;
-  is_open = (refl, blanks, refl, all);
-  goes = λ z V s e d. d;
-  word = λ e z h. h;
-}
+context lex.end = here refl
+context (lex.blank e d) = on (step_blank e) (context d)
+context (lex.line_end e d) = on (step_line_end e) (context d)
+context (lex.continuation blanks rest all split d) = on (step_continuation blanks rest all split) (context d)
+context (lex.comment body rest all split d) = on (step_comment body rest all split) (context d)
+context (lex.mark kind e d) = on (step_mark kind e) (context d)
+context (lex.text body rest all split d) = on (step_text body rest all split) (context d)
+context (lex.word b w rest bytes split d) = on (step_word b w rest bytes split) (context d)
+context (lex.bad e) = here tt
+context (lex.bad_backslash blanks b rest all other split) = here tt
+context (lex.open_text {body = body} last all) = here (refl, body, last, refl, all)
+context (lex.open_comment {body = body} last all) = here (refl, body, last, refl, all)
+context (lex.open_continuation {blanks = blanks} all) = here (refl, blanks, refl, all)

@@ -66,9 +66,7 @@ front_goes_on bytes ts End p d e g =
     closing bytes c.q [] (32 ∷ []) c.a c.l c.l ts [] p (c.split ∙ ap (λ (t : List ℕ). c.q ++ t) none) c.place (λ y V s x. c.goes _ V s refl x)
     (λ y V s x. lex.blank refl x) (longer_stands bytes (32 ∷ []) ts p (inside_reads d) e)
 front_goes_on bytes ts (BadByte b) p d e g = absurd cc
-front_goes_on bytes ts (OpenComment b) p d e g =
-    let c = context d in
-    comment c c.is_open
+front_goes_on bytes ts (OpenComment b) p d e g = comment (context d) (context d).is_open
   where
     comment : (c : Context 0 false bytes ts (OpenComment b)) → IsOpen (OpenComment b) c.a c.o → IsFrontOfText bytes
     comment c (i, body, last, begun, all) =
@@ -81,9 +79,7 @@ front_goes_on bytes ts (OpenComment b) p d e g =
         (ap (λ (t : List ℕ). 47 ∷ 42 ∷ t) (append_assoc body (32 ∷ 42 ∷ 47 ∷ []) y ∙ sym (append_assoc body (32 ∷ 42 ∷ []) (47 ∷ y))))
         (subst (λ (n : ℕ). Lexes n (c.l || list_any (λ x. x == 10) (body ++ 32 ∷ 42 ∷ [])) y V s) place x))
         (longer_stands bytes (32 ∷ 42 ∷ 47 ∷ []) ts p (inside_reads d) e)
-front_goes_on bytes ts (OpenContinuation b) p d e g =
-    let c = context d in
-    continuation c c.is_open
+front_goes_on bytes ts (OpenContinuation b) p d e g = continuation (context d) (context d).is_open
   where
     continuation : (c : Context 0 false bytes ts (OpenContinuation b)) → IsOpen (OpenContinuation b) c.a c.o → IsFrontOfText bytes
     continuation c (i, blanks, begun, all) =
@@ -92,9 +88,7 @@ front_goes_on bytes ts (OpenContinuation b) p d e g =
         closing bytes c.q o (10 ∷ []) c.a c.l c.l ts [] p (c.split ∙ ap (λ (t : List ℕ). c.q ++ t) begun) c.place (λ y V s x. c.goes _ V s refl x)
         (λ y V s x. lex.continuation blanks y all (ap (λ (t : List ℕ). 92 ∷ t) (append_assoc blanks (10 ∷ []) y)) (subst (λ (n : ℕ). Lexes n c.l y V s) place x))
         (longer_stands bytes (10 ∷ []) ts p (inside_reads d) e)
-front_goes_on bytes ts (OpenText b) p d e g =
-    let c = context d in
-    text c c.is_open
+front_goes_on bytes ts (OpenText b) p d e g = text (context d) (context d).is_open
   where
     text : (c : Context 0 false bytes ts (OpenText b)) → IsOpen (OpenText b) c.a c.o → IsFrontOfText bytes
     text c (i, body, last, begun, all) =

@@ -125,24 +125,15 @@ fault_first bytes (Syntax e) at h = h
 fault_first bytes TooDeep at h = h
 fault_first bytes NotLibrary at h = h
 
+same_fault : {a b : LibraryFault} → Some a ≡ Some b → a ≡ b
+same_fault e = cc
+
 lexical_first : (bytes : List ℕ) (stop : Stop) (f : LibraryFault) → lexical_fault stop ≡ Some f → IsAtFirstMisfit bytes f
 lexical_first bytes stops.End f e = absurd cc
-lexical_first bytes (stops.BadByte a) f e = subst (IsAtFirstMisfit bytes) (some e) tt
-  where
-    some : {a b : LibraryFault} → Some a ≡ Some b → a ≡ b
-    some e = cc
-lexical_first bytes (stops.OpenText a) f e = subst (IsAtFirstMisfit bytes) (some e) tt
-  where
-    some : {a b : LibraryFault} → Some a ≡ Some b → a ≡ b
-    some e = cc
-lexical_first bytes (stops.OpenComment a) f e = subst (IsAtFirstMisfit bytes) (some e) tt
-  where
-    some : {a b : LibraryFault} → Some a ≡ Some b → a ≡ b
-    some e = cc
-lexical_first bytes (stops.OpenContinuation a) f e = subst (IsAtFirstMisfit bytes) (some e) tt
-  where
-    some : {a b : LibraryFault} → Some a ≡ Some b → a ≡ b
-    some e = cc
+lexical_first bytes (stops.BadByte a) f e = subst (IsAtFirstMisfit bytes) (same_fault e) tt
+lexical_first bytes (stops.OpenText a) f e = subst (IsAtFirstMisfit bytes) (same_fault e) tt
+lexical_first bytes (stops.OpenComment a) f e = subst (IsAtFirstMisfit bytes) (same_fault e) tt
+lexical_first bytes (stops.OpenContinuation a) f e = subst (IsAtFirstMisfit bytes) (same_fault e) tt
 
 at_first : (bytes : List ℕ) (ts : List Token) (stop : Stop) (f : LibraryFault) → Reads bytes ts stop → FaultsAt (length bytes) (lexemes_of bytes ts) stop f → IsAtFirstMisfit bytes f
 at_first bytes ts stop f d (inl (found, k, x, m, h, e)) =

@@ -1,5 +1,5 @@
 -- What stands before the last word of a text, where the text ends in it.
-use Rattle.std.proofs.Common.{◌≡◌, ℕ, ◌+◌, Bool, true, List, [], ◌∷◌, ◌++◌, length, refl, sym, ap, subst, ◌∙◌, arith, length-append, append_assoc}
+use Rattle.std.proofs.Common.{◌≡◌, ℕ, ◌+◌, Bool, true, List, [], ◌∷◌, ◌++◌, length, refl, sym, ap, subst, ◌∙◌, arith, length-append}
 use Rattle.std.proofs.lemmas.List.{append-nil}
 use Rattle.std.proofs.lemmas.Bool.Decides.{nat_tests}
 use Rattle.liberty_text.specs.declared.token.Token.{Token}
@@ -9,7 +9,8 @@ use Rattle.liberty_text.specs.declared.token.Stop.TheVariants.{End}
 use Rattle.liberty_text.specs.Scanner.{token}
 use Rattle.liberty_text.specs.Tokens.{ends_word, WordBytes, Lexes}
 use Rattle.liberty_text.specs.Tokens as lex
-use Rattle.liberty_groups.proofs.Pieces.{word_any, word_end}
+use Rattle.liberty_groups.proofs.Pieces.{word_any}
+use Rattle.liberty_groups.proofs.TokenSteps.{Step, step_blank, step_line_end, step_continuation, step_comment, step_mark, step_text, step_word, Front, front_on}
 
 -- The bytes are q and a word b ∷ w, from an offset a on, behind these tokens.
 pub record LastWord (at : ℕ) (line : Bool) (bs : List ℕ) (E : List Token) (a n : ℕ) (l : Bool) : Type 0 where
@@ -37,88 +38,42 @@ nothing : (rest : List ℕ) → length rest ≡ 0 → rest ≡ []
 nothing [] h = refl
 nothing (b ∷ rest) h = absurd (omega arith)
 
+-- any bytes
+abbrev Any : List ℕ → Type 0
+Any z = Unit {0}
+
+front_of : {at : ℕ} {line : Bool} {bs : List ℕ} {E : List Token} {a n : ℕ} {l : Bool} (c : LastWord at line bs E a n l) → Front Any at line bs E a l (c.b ∷ c.w)
+front_of c = record { q = c.q; split = c.split; place = c.place; goes = λ z V s _ x. c.goes z V s x; word = λ h z _. c.word h z }
+
+as_last : {at : ℕ} {line : Bool} {bs : List ℕ} {E : List Token} {a n : ℕ} {l : Bool} (b : ℕ) (w : List ℕ) → Front Any at line bs E a l (b ∷ w) → n ≡ a + 1 + length w → WordBytes (b ∷ w) [] →
+    LastWord at line bs E a n l
+as_last b w f long bytes =
+    record { q = f.q; b = b; w = w; split = f.split; place = f.place; long = long; bytes = bytes; goes = λ z V s x. f.goes z V s tt x; word = λ h z. f.word h z tt }
+
+-- a separator or a token more in front
+on : {at : ℕ} {line : Bool} {bs : List ℕ} {us : List Token} {there : ℕ} {ended : Bool} {rest : List ℕ} {E : List Token} {a n : ℕ} {l : Bool} →
+    Step at line bs us there ended rest → LastWord there ended rest E a n l → LastWord at line bs (us ++ E) a n l
+on p c = as_last c.b c.w (front_on p (front_of c)) c.long c.bytes
+
 pub last_word : {at : ℕ} {line : Bool} {bs : List ℕ} {ts : List Token} → Lexes at line bs ts End → (E : List Token) (a n : ℕ) (l : Bool) →
     ts ≡ E ++ token Word a n l ∷ [] → n ≡ at + length bs → LastWord at line bs E a n l
 last_word lex.end E a n l e h = absurd (no_tokens E (token Word a n l) e)
-last_word {at = at} (lex.blank {b = b} {rest = rest} f d) E a n l e h =
-    let c = last_word d E a n l e (omega arith) in record {
-      q = b ∷ c.q;
-      b = c.b;
-      w = c.w;
-      split = ap (λ (s : List ℕ). b ∷ s) c.split;
-      place = (let p = c.place in omega arith);
-      long = c.long;
-      bytes = c.bytes;
-      goes = λ z V s x. lex.blank f (c.goes z V s x);
-      word = λ _ z. rw f refl;
-    }
-last_word {at = at} (lex.line_end {b = b} {rest = rest} f d) E a n l e h =
-    let c = last_word d E a n l e (omega arith) in record {
-      q = b ∷ c.q;
-      b = c.b;
-      w = c.w;
-      split = ap (λ (s : List ℕ). b ∷ s) c.split;
-      place = (let p = c.place in omega arith);
-      long = c.long;
-      bytes = c.bytes;
-      goes = λ z V s x. lex.line_end f (c.goes z V s x);
-      word = λ _ z. rw f refl;
-    }
-last_word {at = at} {bs = bs} (lex.continuation blanks rest all split d) E a n l e h =
+last_word (lex.blank f d) E a n l e h = on (step_blank f) (last_word d E a n l e (omega arith))
+last_word (lex.line_end f d) E a n l e h = on (step_line_end f) (last_word d E a n l e (omega arith))
+last_word (lex.continuation blanks rest all split d) E a n l e h =
     let k = ap length split in let j = length-append blanks (10 ∷ rest) in
-    let c = last_word d E a n l e (omega arith) in record {
-      q = 92 ∷ blanks ++ (10 ∷ c.q);
-      b = c.b;
-      w = c.w;
-      split = split ∙ ap (λ (s : List ℕ). 92 ∷ (blanks ++ (10 ∷ s))) c.split ∙ ap (λ (s : List ℕ). 92 ∷ s) (sym (append_assoc blanks (10 ∷ c.q) (c.b ∷ c.w)));
-      place = (let p = c.place in let i = length-append blanks (10 ∷ c.q) in omega arith);
-      long = c.long;
-      bytes = c.bytes;
-      goes = λ z V s x. lex.continuation blanks (c.q ++ z) all (ap (λ (t : List ℕ). 92 ∷ t) (append_assoc blanks (10 ∷ c.q) z)) (c.goes z V s x);
-      word = λ _ z. refl;
-    }
-last_word {at = at} {bs = bs} (lex.comment body rest all split d) E a n l e h =
+    on (step_continuation blanks rest all split) (last_word d E a n l e (omega arith))
+last_word (lex.comment body rest all split d) E a n l e h =
     let k = ap length split in let j = length-append body (47 ∷ rest) in
-    let c = last_word d E a n l e (omega arith) in record {
-      q = 47 ∷ 42 ∷ body ++ (47 ∷ c.q);
-      b = c.b;
-      w = c.w;
-      split = split ∙ ap (λ (s : List ℕ). 47 ∷ 42 ∷ (body ++ (47 ∷ s))) c.split ∙ ap (λ (s : List ℕ). 47 ∷ 42 ∷ s) (sym (append_assoc body (47 ∷ c.q) (c.b ∷ c.w)));
-      place = (let p = c.place in let i = length-append body (47 ∷ c.q) in omega arith);
-      long = c.long;
-      bytes = c.bytes;
-      goes = λ z V s x. lex.comment body (c.q ++ z) all (ap (λ (t : List ℕ). 47 ∷ 42 ∷ t) (append_assoc body (47 ∷ c.q) z)) (c.goes z V s x);
-      word = λ _ z. refl;
-    }
+    on (step_comment body rest all split) (last_word d E a n l e (omega arith))
 last_word (lex.mark Word f d) E a n l e h = absurd (grind (arith, nat_tests, f))
 last_word (lex.mark kind f d) [] a n l e h = absurd (let k = ap (λ t. t.kind) (first_same e) in cc)
 last_word {at = at} {line = line} (lex.mark {b = b} {rest = rest} kind f d) (t ∷ E) a n l e h =
-    let c = last_word d E a n l (others_same e) (omega arith) in record {
-      q = b ∷ c.q;
-      b = c.b;
-      w = c.w;
-      split = ap (λ (s : List ℕ). b ∷ s) c.split;
-      place = (let p = c.place in omega arith);
-      long = c.long;
-      bytes = c.bytes;
-      goes = λ z V s x. subst (λ (u : Token). Lexes at line (b ∷ (c.q ++ z)) (u ∷ (E ++ V)) s) (first_same e) (lex.mark kind f (c.goes z V s x));
-      word = λ _ z. rw f refl;
-    }
+    subst (λ (u : Token). LastWord at line (b ∷ rest) (u ∷ E) a n l) (first_same e) (on (step_mark kind f) (last_word d E a n l (others_same e) (omega arith)))
 last_word (lex.text body rest all split d) [] a n l e h = absurd (let k = ap (λ t. t.kind) (first_same e) in cc)
 last_word {at = at} {line = line} {bs = bs} (lex.text body rest all split d) (t ∷ E) a n l e h =
     let k = ap length split in let j = length-append body (34 ∷ rest) in
-    let c = last_word d E a n l (others_same e) (omega arith) in record {
-      q = 34 ∷ body ++ (34 ∷ c.q);
-      b = c.b;
-      w = c.w;
-      split = split ∙ ap (λ (s : List ℕ). 34 ∷ (body ++ (34 ∷ s))) c.split ∙ ap (λ (s : List ℕ). 34 ∷ s) (sym (append_assoc body (34 ∷ c.q) (c.b ∷ c.w)));
-      place = (let p = c.place in let i = length-append body (34 ∷ c.q) in omega arith);
-      long = c.long;
-      bytes = c.bytes;
-      goes = λ z V s x. subst (λ (u : Token). Lexes at line (34 ∷ (body ++ (34 ∷ c.q)) ++ z) (u ∷ (E ++ V)) s) (first_same e)
-          (lex.text body (c.q ++ z) all (ap (λ (t : List ℕ). 34 ∷ t) (append_assoc body (34 ∷ c.q) z)) (c.goes z V s x));
-      word = λ _ z. refl;
-    }
+    subst (λ (u : Token). LastWord at line bs (u ∷ E) a n l) (first_same e) (on (step_text body rest all split) (last_word d E a n l (others_same e) (omega arith)))
 last_word {at = at} {line = line} {bs = bs} (lex.word b w rest (lex.word_byte f more) split d) [] a n l e h =
     let u = first_same e in
     let i : at ≡ a = ap (λ (t : Token). t.at) u in
@@ -136,18 +91,6 @@ last_word {at = at} {line = line} {bs = bs} (lex.word b w rest (lex.word_byte f 
       goes = λ z V s x. subst (λ (k : ℕ). Lexes k line z V s) (sym i) (subst (λ (b : Bool). Lexes a b z V s) (sym m) x);
       word = λ p z. (let g = subst (λ (t : List ℕ). ends_word t ≡ true) split p in absurd cc);
     }
-last_word {at = at} {line = line} {bs = bs} (lex.word b w rest (lex.word_byte f more) split d) (t ∷ E) a n l e h =
+last_word {at = at} {line = line} {bs = bs} (lex.word b w rest bytes split d) (t ∷ E) a n l e h =
     let k = ap length split in let v = length-append w rest in
-    let c = last_word d E a n l (others_same e) (omega arith) in record {
-      q = b ∷ w ++ c.q;
-      b = c.b;
-      w = c.w;
-      split = split ∙ ap (λ (s : List ℕ). b ∷ (w ++ s)) c.split ∙ ap (λ (s : List ℕ). b ∷ s) (sym (append_assoc w c.q (c.b ∷ c.w)));
-      place = (let p = c.place in let i = length-append w c.q in omega arith);
-      long = c.long;
-      bytes = c.bytes;
-      goes = λ z V s x. subst (λ (u : Token). Lexes at line (b ∷ (w ++ c.q) ++ z) (u ∷ (E ++ V)) s) (first_same e)
-          (lex.word b w (c.q ++ z) (word_any (lex.word_byte f more) (c.q ++ z) (c.word (word_end more) z))
-          (ap (λ (t : List ℕ). b ∷ t) (append_assoc w c.q z)) (c.goes z V s x));
-      word = λ p z. (let g = subst (λ (t : List ℕ). ends_word t ≡ true) split p in absurd cc);
-    }
+    subst (λ (u : Token). LastWord at line bs (u ∷ E) a n l) (first_same e) (on (step_word b w rest bytes split) (last_word d E a n l (others_same e) (omega arith)))

@@ -20,4 +20,5 @@ pub mod Skips
 pub mod Spelling
 pub mod Statements
 pub mod Texts
+pub mod TokenSteps
 pub mod WritesBack

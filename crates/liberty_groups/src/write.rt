@@ -2,7 +2,7 @@
 
 ghost use Rattle.std.specs.Prelude.{◌≡◌, ◌++◌, true, OnOk, IfOk, IsTrue};
 ghost use Rattle.liberty_text.specs.TextValue.{quoted};
-ghost use Rattle.liberty_groups.specs.Writing.{value_text, values_text, simple_text, complex_text, head_text, item_text, items_text, group_text, is_writable, WritingReadsBack, WritableParts};
+ghost use Rattle.liberty_groups.specs.Writing.{value_text, values_text, item_text, items_text, group_text, is_writable, WritingReadsBack, WritableParts};
 
 use crate::tree::{Group, Item, Value};
 use std::alloc::{AllocError, Global};
@@ -37,36 +37,20 @@ fn push_values(out: &mut Vec<u8>, values: &[Value]) -> Result<(), AllocError>
     Ok(())
 }
 
-/// Appends a simple statement.
-fn push_simple(out: &mut Vec<u8>, name: &[u8], value: &[Value]) -> Result<(), AllocError>
-    ensures { OnOk result (out.new.items ≡ out.old.items ++ simple_text name.now value.now) }
+/// Appends a name, and values between these bytes.
+fn push_named(
+    out: &mut Vec<u8>,
+    name: &[u8],
+    before: &[u8],
+    values: &[Value],
+    behind: &[u8],
+) -> Result<(), AllocError>
+    ensures { OnOk result (out.new.items ≡ out.old.items ++ (name.now ++ before.now ++ values_text true values.now ++ behind.now)) }
 {
     out.extend_from_slice(name)?;
-    out.extend_from_slice(b" : ")?;
-    push_values(out, value)?;
-    out.extend_from_slice(b";\n")?;
-    Ok(())
-}
-
-/// Appends a complex statement.
-fn push_complex(out: &mut Vec<u8>, name: &[u8], arguments: &[Value]) -> Result<(), AllocError>
-    ensures { OnOk result (out.new.items ≡ out.old.items ++ complex_text name.now arguments.now) }
-{
-    out.extend_from_slice(name)?;
-    out.extend_from_slice(b" (")?;
-    push_values(out, arguments)?;
-    out.extend_from_slice(b");\n")?;
-    Ok(())
-}
-
-/// Appends a group's name and arguments.
-fn push_head(out: &mut Vec<u8>, name: &[u8], arguments: &[Value]) -> Result<(), AllocError>
-    ensures { OnOk result (out.new.items ≡ out.old.items ++ head_text name.now arguments.now) }
-{
-    out.extend_from_slice(name)?;
-    out.extend_from_slice(b" (")?;
-    push_values(out, arguments)?;
-    out.extend_from_slice(b") {\n")?;
+    out.extend_from_slice(before)?;
+    push_values(out, values)?;
+    out.extend_from_slice(behind)?;
     Ok(())
 }
 
@@ -76,12 +60,14 @@ fn push_item(out: &mut Vec<u8>, item: &Item) -> Result<(), AllocError>
     ensures { OnOk result (out.new.items ≡ out.old.items ++ item_text item.now) }
 {
     match item {
-        Item::Simple { name, value, .. } => push_simple(out, name.as_slice(), value.as_slice()),
+        Item::Simple { name, value, .. } => {
+            push_named(out, name.as_slice(), b" : ", value.as_slice(), b";\n")
+        }
         Item::Complex {
             name,
             arguments,
             ..
-        } => push_complex(out, name.as_slice(), arguments.as_slice()),
+        } => push_named(out, name.as_slice(), b" (", arguments.as_slice(), b");\n"),
         Item::Inner(group) => push_group(out, group),
     }
 }
@@ -102,7 +88,13 @@ fn push_items(out: &mut Vec<u8>, items: &[Item]) -> Result<(), AllocError>
 fn push_group(out: &mut Vec<u8>, group: &Group) -> Result<(), AllocError>
     ensures { OnOk result (out.new.items ≡ out.old.items ++ group_text group.now) }
 {
-    push_head(out, group.name.as_slice(), group.arguments.as_slice())?;
+    push_named(
+        out,
+        group.name.as_slice(),
+        b" (",
+        group.arguments.as_slice(),
+        b") {\n",
+    )?;
     push_items(out, group.items.as_slice())?;
     out.extend_from_slice(b"}\n")?;
     Ok(())

@@ -69,42 +69,15 @@ pub tree_of_codes : (f : Node) → tree_of (codes_of f) ≡ f
 tree_of_codes f = ap (λ cs. innermost (read_codes [] cs)) (sym (append-nil (codes_of f))) ∙ ap innermost (reads f [] [])
 
 -- codes that pass the test are equal
-from_zero : (d : Code) → same_code code.Zero d ≡ true → code.Zero ≡ d
-from_zero code.Zero h = refl
-from_zero _ h = absurd cc
-
-from_one : (d : Code) → same_code code.One d ≡ true → code.One ≡ d
-from_one code.One h = refl
-from_one _ h = absurd cc
-
-from_name : (i : ℕ) (d : Code) → same_code (code.Name i) d ≡ true → code.Name i ≡ d
-from_name i (code.Name j) h = ap (λ n. code.Name n) (eqb-true i j h)
-from_name i _ h = absurd cc
-
-from_not : (d : Code) → same_code code.Not d ≡ true → code.Not ≡ d
-from_not code.Not h = refl
-from_not _ h = absurd cc
-
-from_xor : (i : ℕ) (d : Code) → same_code (code.Xor i) d ≡ true → code.Xor i ≡ d
-from_xor i (code.Xor j) h = ap (λ n. code.Xor n) (eqb-true i j h)
-from_xor i _ h = absurd cc
-
-from_and : (i : ℕ) (d : Code) → same_code (code.And i) d ≡ true → code.And i ≡ d
-from_and i (code.And j) h = ap (λ n. code.And n) (eqb-true i j h)
-from_and i _ h = absurd cc
-
-from_or : (i : ℕ) (d : Code) → same_code (code.Or i) d ≡ true → code.Or i ≡ d
-from_or i (code.Or j) h = ap (λ n. code.Or n) (eqb-true i j h)
-from_or i _ h = absurd cc
-
 from_same : (c d : Code) → same_code c d ≡ true → c ≡ d
-from_same code.Zero d h = from_zero d h
-from_same code.One d h = from_one d h
-from_same (code.Name i) d h = from_name i d h
-from_same code.Not d h = from_not d h
-from_same (code.Xor i) d h = from_xor i d h
-from_same (code.And i) d h = from_and i d h
-from_same (code.Or i) d h = from_or i d h
+from_same code.Zero code.Zero h = refl
+from_same code.One code.One h = refl
+from_same code.Not code.Not h = refl
+from_same (code.Name i) (code.Name j) h = ap (λ n. code.Name n) (eqb-true i j h)
+from_same (code.Xor i) (code.Xor j) h = ap (λ n. code.Xor n) (eqb-true i j h)
+from_same (code.And i) (code.And j) h = ap (λ n. code.And n) (eqb-true i j h)
+from_same (code.Or i) (code.Or j) h = ap (λ n. code.Or n) (eqb-true i j h)
+from_same _ _ h = absurd cc
 
 same_itself : (c : Code) → same_code c c ≡ true
 same_itself code.Zero = refl

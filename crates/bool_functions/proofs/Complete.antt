@@ -36,63 +36,27 @@ Ends AtOr _ = ⊥
 
 -- what follows a phrase gives the operand to what waits
 pub skip_not : (ps : List Pending) (f : Node) (s : List Symbol) → Ends AtNot s → run (pending.Not ∷ ps, Some f) s ≡ run (ps, Some (node.Not f)) s
-skip_not ps f [] e = refl
-skip_not ps f (symbol.Name i ∷ s) e = refl
-skip_not ps f (symbol.Zero ∷ s) e = refl
-skip_not ps f (symbol.One ∷ s) e = refl
-skip_not ps f (symbol.Bang ∷ s) e = refl
 skip_not ps f (symbol.Quote ∷ s) e = absurd e
-skip_not ps f (symbol.Caret ∷ s) e = refl
-skip_not ps f (symbol.Times ∷ s) e = refl
-skip_not ps f (symbol.Plus ∷ s) e = refl
-skip_not ps f (symbol.Open ∷ s) e = refl
-skip_not ps f (symbol.Close ∷ s) e = refl
-skip_not ps f (symbol.Stray ∷ s) e = refl
+skip_not ps f _ e = refl
 
 -- what follows a phrase gives the operand to what waits
 pub skip_xor : (ps : List Pending) (h f : Node) (s : List Symbol) → Ends AtXor s → run (pending.Xor h ∷ ps, Some f) s ≡ run (ps, Some (node.Xor h f)) s
-skip_xor ps h f [] e = refl
-skip_xor ps h f (symbol.Name i ∷ s) e = refl
-skip_xor ps h f (symbol.Zero ∷ s) e = refl
-skip_xor ps h f (symbol.One ∷ s) e = refl
-skip_xor ps h f (symbol.Bang ∷ s) e = refl
 skip_xor ps h f (symbol.Quote ∷ s) e = absurd e
-skip_xor ps h f (symbol.Caret ∷ s) e = refl
-skip_xor ps h f (symbol.Times ∷ s) e = refl
-skip_xor ps h f (symbol.Plus ∷ s) e = refl
-skip_xor ps h f (symbol.Open ∷ s) e = refl
-skip_xor ps h f (symbol.Close ∷ s) e = refl
-skip_xor ps h f (symbol.Stray ∷ s) e = refl
+skip_xor ps h f _ e = refl
 
 -- what follows a phrase gives the operand to what waits
 pub skip_and : (ps : List Pending) (h f : Node) (s : List Symbol) → Ends AtAnd s → run (pending.And h ∷ ps, Some f) s ≡ run (ps, Some (node.And h f)) s
-skip_and ps h f [] e = refl
-skip_and ps h f (symbol.Name i ∷ s) e = refl
-skip_and ps h f (symbol.Zero ∷ s) e = refl
-skip_and ps h f (symbol.One ∷ s) e = refl
-skip_and ps h f (symbol.Bang ∷ s) e = refl
 skip_and ps h f (symbol.Quote ∷ s) e = absurd e
 skip_and ps h f (symbol.Caret ∷ s) e = absurd e
-skip_and ps h f (symbol.Times ∷ s) e = refl
-skip_and ps h f (symbol.Plus ∷ s) e = refl
-skip_and ps h f (symbol.Open ∷ s) e = refl
-skip_and ps h f (symbol.Close ∷ s) e = refl
-skip_and ps h f (symbol.Stray ∷ s) e = refl
+skip_and ps h f _ e = refl
 
 -- what follows a phrase gives the operand to what waits
 pub skip_or : (ps : List Pending) (h f : Node) (s : List Symbol) → Ends AtOr s → run (pending.Or h ∷ ps, Some f) s ≡ run (ps, Some (node.Or h f)) s
 skip_or ps h f [] e = refl
-skip_or ps h f (symbol.Name i ∷ s) e = absurd e
-skip_or ps h f (symbol.Zero ∷ s) e = absurd e
-skip_or ps h f (symbol.One ∷ s) e = absurd e
-skip_or ps h f (symbol.Bang ∷ s) e = absurd e
-skip_or ps h f (symbol.Quote ∷ s) e = absurd e
-skip_or ps h f (symbol.Caret ∷ s) e = absurd e
-skip_or ps h f (symbol.Times ∷ s) e = absurd e
 skip_or ps h f (symbol.Plus ∷ s) e = refl
-skip_or ps h f (symbol.Open ∷ s) e = absurd e
 skip_or ps h f (symbol.Close ∷ s) e = refl
 skip_or ps h f (symbol.Stray ∷ s) e = refl
+skip_or ps h f _ e = absurd e
 
 -- all that binds looser stays on the pile
 pub settled_under : (least : ℕ) (ps : List Pending) (f : Node) → Holds least ps → settled least ps f ≡ (ps, f)
@@ -102,45 +66,19 @@ settled_under least (p ∷ ps) f h = let e : nat_lt (binds p) least ≡ true = g
 -- where a looser rule ends, a tighter one does
 pub ends_and : (s : List Symbol) → Ends AtOr s → Ends AtAnd s
 ends_and [] e = tt
-ends_and (symbol.Name i ∷ s) e = absurd e
-ends_and (symbol.Zero ∷ s) e = absurd e
-ends_and (symbol.One ∷ s) e = absurd e
-ends_and (symbol.Bang ∷ s) e = absurd e
-ends_and (symbol.Quote ∷ s) e = absurd e
-ends_and (symbol.Caret ∷ s) e = absurd e
-ends_and (symbol.Times ∷ s) e = absurd e
 ends_and (symbol.Plus ∷ s) e = tt
-ends_and (symbol.Open ∷ s) e = absurd e
 ends_and (symbol.Close ∷ s) e = tt
 ends_and (symbol.Stray ∷ s) e = tt
+ends_and _ e = absurd e
 
 pub ends_xor : (s : List Symbol) → Ends AtAnd s → Ends AtXor s
-ends_xor [] e = tt
-ends_xor (symbol.Name i ∷ s) e = tt
-ends_xor (symbol.Zero ∷ s) e = tt
-ends_xor (symbol.One ∷ s) e = tt
-ends_xor (symbol.Bang ∷ s) e = tt
 ends_xor (symbol.Quote ∷ s) e = absurd e
 ends_xor (symbol.Caret ∷ s) e = absurd e
-ends_xor (symbol.Times ∷ s) e = tt
-ends_xor (symbol.Plus ∷ s) e = tt
-ends_xor (symbol.Open ∷ s) e = tt
-ends_xor (symbol.Close ∷ s) e = tt
-ends_xor (symbol.Stray ∷ s) e = tt
+ends_xor _ e = tt
 
 pub ends_not : (s : List Symbol) → Ends AtXor s → Ends AtNot s
-ends_not [] e = tt
-ends_not (symbol.Name i ∷ s) e = tt
-ends_not (symbol.Zero ∷ s) e = tt
-ends_not (symbol.One ∷ s) e = tt
-ends_not (symbol.Bang ∷ s) e = tt
 ends_not (symbol.Quote ∷ s) e = absurd e
-ends_not (symbol.Caret ∷ s) e = tt
-ends_not (symbol.Times ∷ s) e = tt
-ends_not (symbol.Plus ∷ s) e = tt
-ends_not (symbol.Open ∷ s) e = tt
-ends_not (symbol.Close ∷ s) e = tt
-ends_not (symbol.Stray ∷ s) e = tt
+ends_not _ e = tt
 
 -- an operand begins
 abbrev Starts : List Symbol → Type 0
@@ -152,33 +90,18 @@ Starts (symbol.Open ∷ s) = Unit {0}
 Starts _ = ⊥
 
 ends_before_start : (s : List Symbol) → Starts s → Ends AtAnd s
-ends_before_start [] e = absurd e
-ends_before_start (symbol.Name i ∷ s) e = tt
-ends_before_start (symbol.Zero ∷ s) e = tt
-ends_before_start (symbol.One ∷ s) e = tt
-ends_before_start (symbol.Bang ∷ s) e = tt
 ends_before_start (symbol.Quote ∷ s) e = absurd e
 ends_before_start (symbol.Caret ∷ s) e = absurd e
-ends_before_start (symbol.Times ∷ s) e = absurd e
-ends_before_start (symbol.Plus ∷ s) e = absurd e
-ends_before_start (symbol.Open ∷ s) e = tt
-ends_before_start (symbol.Close ∷ s) e = absurd e
-ends_before_start (symbol.Stray ∷ s) e = absurd e
+ends_before_start _ e = tt
 
 -- where an operand begins after another one, that one waits for it
 go_beside : (ps : List Pending) (f : Node) (s : List Symbol) → Starts s → run (ps, Some f) s ≡ run (held pending.And (settled 2 ps f), None) s
-go_beside ps f [] e = absurd e
 go_beside ps f (symbol.Name i ∷ s) e = refl
 go_beside ps f (symbol.Zero ∷ s) e = refl
 go_beside ps f (symbol.One ∷ s) e = refl
 go_beside ps f (symbol.Bang ∷ s) e = refl
-go_beside ps f (symbol.Quote ∷ s) e = absurd e
-go_beside ps f (symbol.Caret ∷ s) e = absurd e
-go_beside ps f (symbol.Times ∷ s) e = absurd e
-go_beside ps f (symbol.Plus ∷ s) e = absurd e
 go_beside ps f (symbol.Open ∷ s) e = refl
-go_beside ps f (symbol.Close ∷ s) e = absurd e
-go_beside ps f (symbol.Stray ∷ s) e = absurd e
+go_beside ps f _ e = absurd e
 
 starts : {l : Rule} {s rest : List Symbol} {f : Node} → Takes l s f rest → Starts s
 starts Takes.name = tt

@@ -1,5 +1,5 @@
 -- Functions whose trees are held in unlike ways, and the values that are kept of long ones.
-use Rattle.std.proofs.Common.{◌≡◌, ◌≤◌, ◌^◌, ℕ, Bool, false, List, length, slice_get, Some, EachIndex, Contains, sym, ap, subst, ◌∙◌, inl, inr}
+use Rattle.std.proofs.Common.{◌≡◌, ◌^◌, ℕ, Bool, false, List, length, slice_get, Some, EachIndex, Contains, sym, ap, subst, ◌∙◌, inl, inr}
 use Rattle.std.proofs.lemmas.Bool.{cases_Bool}
 use Rattle.bool_functions.specs.declared.tree.Node.{Node}
 use Rattle.bool_functions.specs.declared.functions.Form.{Form}
@@ -40,15 +40,3 @@ pub kept_entries : (f : Node) (kept : KeptValues) → AreOf f kept → (places :
 kept_entries f kept of places values e v =
     subst (λ vs. EachIndex vs (λ k. slice_get vs k ≡ Some (value_by (entry_of places k) f))) (sym v)
     (subst (λ l. EachIndex kept.values.items (λ k. slice_get kept.values.items k ≡ Some (value_by (entry_of l k) f))) e of.entries)
-
--- kept names and values that are those of a tree, in lists of their own
-pub kept_again : (f : Node) (kept more : KeptValues) → AreOf f kept → more.names.items ≡ kept.names.items → more.values.items ≡ kept.values.items → AreOf f more
-kept_again f kept more of n v = record {
-  names = n ∙ of.names;
-  few = subst (λ l. length l ≤ 10) (sym n) of.few;
-  values = subst (λ vs. HasValues more.names.items f vs) (sym v) (subst (λ ns. HasValues ns f kept.values.items) (sym n) of.values);
-  count = ap length v ∙ of.count ∙ ap (λ l. 2 ^ length l) (sym n);
-  entries =
-      subst (λ vs. EachIndex vs (λ k. slice_get vs k ≡ Some (value_by (entry_of more.names.items k) f))) (sym v)
-      (subst (λ ns. EachIndex kept.values.items (λ k. slice_get kept.values.items k ≡ Some (value_by (entry_of ns k) f))) (sym n) of.entries);
-}

@@ -3,6 +3,7 @@ use Rattle.std.proofs.Common.{◌≡◌, ℕ, zero, suc, ◌+◌, ◌-◌, ◌<�
 use Rattle.std.proofs.lemmas.List.{length-map, take-append-drop}
 use Rattle.std.proofs.lemmas.Bool.Decides.{nat_tests}
 use Rattle.std.specs.Char.{is_ascii_digit}
+use Rattle.std.specs.Result.{result_unwrap_or}
 use Rattle.bool_functions.specs.declared.symbol.Symbol.{Symbol}
 use Rattle.bool_functions.specs.declared.symbol.Symbol.TheVariants as symbol
 use Rattle.bool_functions.specs.declared.tokens.Span.{Span}
@@ -154,11 +155,8 @@ module _ (names : List (List ℕ)) (text : List ℕ) where
       fitting names text le ∙ ap (reading text (unknown_in names text)) e ∙ ap (λ m. Err (Malformed (offset_of text m))) k ∙ ap (λ o. Err (Malformed o)) off
 
   -- over a text's own names
-  pub own_fault : (e : FunctionFault) → names ≡ free_names text → length text ≤ MAX_LEN → TreeOf names text (Err e) → OrMemoryFree (Err e) text
-  own_fault TooLong own le h = absurd h
-  own_fault (Malformed at) own le (n, within, e, off) = ap (λ l. reading_of l text) (sym own) ∙ placed n at le within e off
-  own_fault (UnknownName at) own le h = absurd h
-  own_fault Memory own le h = tt
+  pub own_fault : (at : ℕ) → names ≡ free_names text → length text ≤ MAX_LEN → TreeOf names text (Err at) → OrMemoryFree (Err (Malformed at)) text
+  own_fault at own le (n, within, e, off) = ap (λ l. reading_of l text) (sym own) ∙ placed n at le within e off
 
   pub own_tree : (f : Node) → names ≡ free_names text → length text ≤ MAX_LEN → run start (symbols names text) ≡ Ok f → reading_of (free_names text) text ≡ Ok f
   own_tree f own le e =
@@ -210,3 +208,8 @@ module _ (text : List ℕ) where
   pub own_bound_clause : (r : Result (Node × List (List ℕ)) FunctionFault) → OrMemoryFree r text → IfOk r (λ p. name_bound p.0 ≤ length p.1)
   own_bound_clause (Ok p) h = rw h.0 (text_bound (free_names text) text p.0 (reading_tree (free_names text) text p.0 h.1))
   own_bound_clause (Err e) h = tt
+
+-- What holds of a value holds of what is answered, where it holds of what is answered without one.
+pub holds_or : {A E : Type 0} (P : A → Type 0) (r : Result A E) (other made : A) → made ≡ result_unwrap_or r other → IfOk r P → P other → P made
+holds_or P (Ok a) other made e h o = subst P (sym e) h
+holds_or P (Err x) other made e h o = subst P (sym e) o

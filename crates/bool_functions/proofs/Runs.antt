@@ -29,10 +29,6 @@ ahead_other (Some start) at b s e = rw e refl
 drop_cons : (text : List ℕ) (at : ℕ) → at < length text → drop at text ≡ slice_index_or text at 0 ∷ drop (at + 1) text
 drop_cons text at lt = rw (add-one, drop-cons text at 0)
 
-pub ahead_end : (begun : Option ℕ) (at : ℕ) → ahead begun at [] ≡ run_before begun at
-ahead_end None at = refl
-ahead_end (Some start) at = refl
-
 -- a byte further, where what it adds is known for every rest of the text
 pub moved : (text : List ℕ) (found new all : List Span) (begun next : Option ℕ) (at : ℕ) → at < length text → found ++ ahead begun at (drop at text) ≡ all
     → ((rest : List ℕ) → new ++ ahead next (at + 1) rest ≡ found ++ ahead begun at (slice_index_or text at 0 ∷ rest)) → new ++ ahead next (at + 1) (drop (at + 1) text) ≡ all

@@ -63,21 +63,22 @@ module _ (a t : List Symbol) where
   xor_3 (pending.Xor k ∷ ps) u f (v, s, y, l) x = rw (settled_under 3 ps (node.Xor k f) l) (v, s, Takes.caret y x, l)
   xor_3 (pending.Not ∷ ps) u f s x = xor_3 ps (symbol.Bang ∷ u) (node.Not f) s (Takes.bang x)
 
+  -- and so does what takes a phrase of xors and lets both through
+  through_xor : (P : List Pending → Node → Type 0)
+      → ((ps : List Pending) (k f : Node) → P ps (node.Xor k f) → P (pending.Xor k ∷ ps) f)
+      → ((ps : List Pending) (f : Node) → P ps (node.Not f) → P (pending.Not ∷ ps) f)
+      → ((ps : List Pending) (u : List Symbol) (f : Node) → Holds 3 ps → Stands a ps u → Takes AtXor u f t → P ps f)
+      → (ps : List Pending) (u : List Symbol) (f : Node) → Stands a ps u → Takes AtNot u f t → P ps f
+  through_xor P past_xor past_not takes [] u f s x = takes [] u f tt s (Takes.not x)
+  through_xor P past_xor past_not takes (pending.Xor k ∷ ps) u f (v, s, y, l) x = past_xor ps k f (takes ps v (node.Xor k f) l s (Takes.caret y x))
+  through_xor P past_xor past_not takes (pending.Not ∷ ps) u f s x = past_not ps f (through_xor P past_xor past_not takes ps (symbol.Bang ∷ u) (node.Not f) s (Takes.bang x))
+  through_xor P past_xor past_not takes (p ∷ ps) u f s x = takes (p ∷ ps) u f (lit< tt) s (Takes.not x)
+
   xor_2 : (ps : List Pending) (u : List Symbol) (f : Node) → Stands a ps u → Takes AtNot u f t → Ended a AtAnd 2 (settled 2 ps f) t
-  xor_2 [] u f s x = and_2 [] u f tt s (Takes.not x)
-  xor_2 (pending.Group ∷ ps) u f s x = and_2 (pending.Group ∷ ps) u f (lit< tt) s (Takes.not x)
-  xor_2 (pending.Or k ∷ ps) u f s x = and_2 (pending.Or k ∷ ps) u f (lit< tt) s (Takes.not x)
-  xor_2 (pending.And k ∷ ps) u f s x = and_2 (pending.And k ∷ ps) u f (lit< tt) s (Takes.not x)
-  xor_2 (pending.Xor k ∷ ps) u f (v, s, y, l) x = and_2 ps v (node.Xor k f) l s (Takes.caret y x)
-  xor_2 (pending.Not ∷ ps) u f s x = xor_2 ps (symbol.Bang ∷ u) (node.Not f) s (Takes.bang x)
+  xor_2 = through_xor (λ ps f. Ended a AtAnd 2 (settled 2 ps f) t) (λ ps k f p. p) (λ ps f p. p) and_2
 
   xor_1 : (ps : List Pending) (u : List Symbol) (f : Node) → Stands a ps u → Takes AtNot u f t → Ended a AtOr 1 (settled 1 ps f) t
-  xor_1 [] u f s x = and_1 [] u f tt s (Takes.not x)
-  xor_1 (pending.Group ∷ ps) u f s x = and_1 (pending.Group ∷ ps) u f (lit< tt) s (Takes.not x)
-  xor_1 (pending.Or k ∷ ps) u f s x = and_1 (pending.Or k ∷ ps) u f (lit< tt) s (Takes.not x)
-  xor_1 (pending.And k ∷ ps) u f s x = and_1 (pending.And k ∷ ps) u f (lit< tt) s (Takes.not x)
-  xor_1 (pending.Xor k ∷ ps) u f (v, s, y, l) x = and_1 ps v (node.Xor k f) l s (Takes.caret y x)
-  xor_1 (pending.Not ∷ ps) u f s x = xor_1 ps (symbol.Bang ∷ u) (node.Not f) s (Takes.bang x)
+  xor_1 = through_xor (λ ps f. Ended a AtOr 1 (settled 1 ps f) t) (λ ps k f p. p) (λ ps f p. p) and_1
 
 -- what the reader has taken of a, where t is left
 abbrev pub Reached : List Symbol → State → List Symbol → Type 0

@@ -107,6 +107,3 @@ bits_from before (b ∷ bits) =
     ap (λ n. map (λ i. slice_index_or (before ++ b ∷ bits) i false) (range_with_len n (length bits))) (sym len)
     ∙ ap (λ l. map (λ i. slice_index_or l i false) (range_with_len (length (before ++ b ∷ [])) (length bits))) (sym longer) ∙ bits_from (before ++ b ∷ []) bits in
     ap (λ x. x ∷ map (λ i. slice_index_or (before ++ b ∷ bits) i false) (range_with_len (length before + 1) (length bits))) (get_or-append_seam before b bits false) ∙ ap (λ l. b ∷ l) rest
-
-pub bits_at-range : (bits : List Bool) → bits_at (range_with_len 0 (length bits)) bits ≡ bits
-bits_at-range bits = bits_from [] bits

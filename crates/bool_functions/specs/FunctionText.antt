@@ -66,13 +66,10 @@ reading_of names text =
     if nat_lt MAX_LEN (length text) then Err TooLong else reading text (unknown_in names text) (run start (symbols names text))
 
 -- what the reader of a text's symbols answers
-abbrev pub TreeOf : List (List ℕ) → List ℕ → Result Node FunctionFault → Type 0
+abbrev pub TreeOf : List (List ℕ) → List ℕ → Result Node ℕ → Type 0
 TreeOf names text (Ok f) = run start (symbols names text) ≡ Ok f
-TreeOf names text (Err (Malformed at)) =
+TreeOf names text (Err at) =
     (n : ℕ) × (n ≤ length (symbols names text)) × (run start (symbols names text) ≡ Err (drop n (symbols names text))) × (offset_of text n ≡ at)
-TreeOf names text (Err Memory) = Unit {0}
-TreeOf names text (Err TooLong) = ⊥
-TreeOf names text (Err (UnknownName at)) = ⊥
 
 -- an answer is what is wanted, or memory was
 abbrev pub OrMemory : Result Node FunctionFault → Result Node FunctionFault → Type 0

@@ -6,8 +6,6 @@ use Rattle.bool_functions.specs.declared.tree.Node.{Node}
 use Rattle.bool_functions.specs.declared.tree.Node.TheVariants as node
 use Rattle.bool_functions.specs.declared.reader.Pending.{Pending}
 use Rattle.bool_functions.specs.declared.reader.Pending.TheVariants as pending
-use Rattle.bool_functions.specs.declared.reader.ReadFault.{ReadFault}
-use Rattle.bool_functions.specs.declared.reader.ReadFault.TheVariants as fault
 
 -- how tightly what waits binds; an open group holds all
 abbrev pub binds : Pending → ℕ
@@ -100,11 +98,10 @@ run st (x ∷ s) = next (step st x) (x ∷ s) (λ after. run after s)
 abbrev pub start : State
 start = ([], None)
 
--- what reading the symbols answers, want of memory aside
-abbrev pub Gives : Result Node ReadFault → List Symbol → Result Node (List Symbol) → Type 0
+-- what reading the symbols answers: the tree, or the place of the first with which no text goes on
+abbrev pub Gives : Result Node ℕ → List Symbol → Result Node (List Symbol) → Type 0
 Gives (Ok f) s r = r ≡ Ok f
-Gives (Err (fault.Misplaced at)) s r = (r ≡ Err (drop at s)) × (at ≤ length s)
-Gives (Err fault.Memory) s r = Unit {0}
+Gives (Err at) s r = (r ≡ Err (drop at s)) × (at ≤ length s)
 
 -- what a step answers: whether the symbol fits, and then the state after it
 abbrev pub Steps : Option State → Bool → State → Type 0

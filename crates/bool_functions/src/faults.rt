@@ -1,5 +1,4 @@
 //! The faults of function texts.
-use std::alloc::{AllocError, AllocFailed};
 use thiserror::Error;
 
 /// Why a function text was not read.
@@ -17,26 +16,4 @@ pub enum FunctionFault {
     /// Memory was wanted and not there.
     #[error("out of memory")]
     Memory,
-}
-
-impl From<AllocError> for FunctionFault {
-    ghost use Rattle.std.specs.Prelude.{◌≡◌};
-    ghost use Rattle.bool_functions.specs.declared.faults.FunctionFault.TheVariants as fault;
-
-    ghost from_gives = { λ _ e. e ≡ fault.Memory };
-
-    fn from(_: AllocError) -> FunctionFault {
-        FunctionFault::Memory
-    }
-}
-
-impl<T: Drop> From<AllocFailed<T>> for FunctionFault {
-    ghost use Rattle.std.specs.Prelude.{◌≡◌};
-    ghost use Rattle.bool_functions.specs.declared.faults.FunctionFault.TheVariants as fault;
-
-    ghost from_gives = { λ _ e. e ≡ fault.Memory };
-
-    fn from(_: AllocFailed<T>) -> FunctionFault {
-        FunctionFault::Memory
-    }
 }

@@ -6,7 +6,7 @@ ghost use Rattle.bool_functions.specs.Machine.{held, binds, joined, settled, beg
 use crate::symbol::Symbol;
 use crate::tree::Node;
 use sqlite_items::Boxed;
-use std::alloc::{AllocError, AllocFailed, Global};
+use std::alloc::{AllocError, Global};
 use std::marker::Model;
 
 /// How tightly an operator binds: the tighter, the greater. An open group holds all that is outside it.
@@ -32,24 +32,6 @@ pub(crate) enum Pending {
     And(Node),
     Xor(Node),
     Not,
-}
-
-/// Why symbols are no function text: at this place, from 0, none goes on, or there was no memory.
-#[derive(Debug, Drop)]
-pub(crate) enum ReadFault {
-    Misplaced(usize),
-    Memory,
-}
-
-impl From<AllocError> for ReadFault {
-    ghost use Rattle.std.specs.Prelude.{◌≡◌};
-    ghost use Rattle.bool_functions.specs.declared.reader.ReadFault.TheVariants as fault;
-
-    ghost from_gives = { λ _ e. e ≡ fault.Memory };
-
-    fn from(_: AllocError) -> ReadFault {
-        ReadFault::Memory
-    }
 }
 
 /// What waits, the innermost last. Contracts see it with the innermost first.
@@ -246,9 +228,9 @@ impl Reader {
     }
 }
 
-/// The tree of the symbols, or the place of the first with which no function text goes on.
-pub(crate) fn run(alloc: Global, symbols: &[Symbol]) -> Result<Node, ReadFault>
-    ensures { Gives result symbols.now (run start symbols.now) }
+/// The tree of the symbols, or the place, from 0, of the first with which no function text goes on.
+pub(crate) fn run(alloc: Global, symbols: &[Symbol]) -> Result<Result<Node, usize>, AllocError>
+    ensures { IfOk result (λ read. Gives read symbols.now (run start symbols.now)) }
 {
     let mut reader = Reader {
         alloc,
@@ -259,11 +241,11 @@ pub(crate) fn run(alloc: Global, symbols: &[Symbol]) -> Result<Node, ReadFault>
     };
     for (at, symbol) in symbols.iter().enumerate() {
         if !reader.step(*symbol)? {
-            return Err(ReadFault::Misplaced(at));
+            return Ok(Err(at));
         }
     }
     match reader.finish()? {
-        Some(tree) => Ok(tree),
-        None => Err(ReadFault::Misplaced(symbols.len())),
+        Some(tree) => Ok(Ok(tree)),
+        None => Ok(Err(symbols.len())),
     }
 }

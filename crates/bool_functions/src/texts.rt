@@ -8,7 +8,7 @@ ghost use Rattle.bool_functions.specs.FunctionText.{FunctionText, HasFault, free
 use crate::faults::FunctionFault;
 use crate::functions::Function;
 use crate::name_list::Names;
-use crate::reader::{ReadFault, run};
+use crate::reader::run;
 use crate::symbol::{Symbol, symbol_of};
 use crate::tokens::{Span, spans};
 use crate::tree::Node;
@@ -32,7 +32,7 @@ pub fn read_function(alloc: Global, text: &[u8], names: &Names) -> Result<Functi
     ensures fault { IfErr result (FaultOrMemory names.now text.now) }
     ensures bound { IfOk result (λ f. name_bound f ≤ length names.now) }
 {
-    read_over(alloc, text, names)
+    read_over(alloc, text, names).unwrap_or(Err(FunctionFault::Memory))
 }
 
 /// Reads a function text with its own names, which are numbered by their first appearances. The faults are those of
@@ -46,53 +46,67 @@ pub fn read_free(alloc: Global, text: &[u8]) -> Result<(Function, Names), Functi
     ensures known { (at : ℕ) → result ≢ Err (FunctionFault.UnknownName at) }
     ensures bound { IfOk result (λ r. name_bound r.0 ≤ length r.1) }
 {
-    read_own(alloc, text)
+    read_own(alloc, text).unwrap_or(Err(FunctionFault::Memory))
 }
 
 /// Reads a text over a list of names.
-fn read_over(alloc: Global, text: &[u8], names: &Names) -> Result<Function, FunctionFault>
-    ensures { OrMemory result (reading_of names.now text.now) }
+fn read_over(
+    alloc: Global,
+    text: &[u8],
+    names: &Names,
+) -> Result<Result<Function, FunctionFault>, AllocError>
+    ensures { IfOk result (λ read. OrMemory read (reading_of names.now text.now)) }
 {
     if text.len() > MAX_LEN {
-        return Err(FunctionFault::TooLong);
+        return Ok(Err(FunctionFault::TooLong));
     }
     let tokens = spans(alloc, text)?;
-    let tree = read_tree(alloc, text, &tokens, names)?;
+    let tree = match read_tree(alloc, text, &tokens, names)? {
+        Ok(tree) => tree,
+        Err(at) => return Ok(Err(FunctionFault::Malformed(at))),
+    };
     match first_unknown(text, &tokens, names) {
-        Some(at) => Err(FunctionFault::UnknownName(at)),
-        None => Ok(Function::new(alloc, tree)?),
+        Some(at) => Ok(Err(FunctionFault::UnknownName(at))),
+        None => Ok(Ok(Function::new(alloc, tree)?)),
     }
 }
 
 /// Reads a text over its own names.
-fn read_own(alloc: Global, text: &[u8]) -> Result<(Function, Names), FunctionFault>
-    ensures { OrMemoryFree result text.now }
+fn read_own(
+    alloc: Global,
+    text: &[u8],
+) -> Result<Result<(Function, Names), FunctionFault>, AllocError>
+    ensures { IfOk result (λ read. OrMemoryFree read text.now) }
 {
     if text.len() > MAX_LEN {
-        return Err(FunctionFault::TooLong);
+        return Ok(Err(FunctionFault::TooLong));
     }
     let tokens = spans(alloc, text)?;
     let names = names_in(alloc, text, &tokens)?;
-    let tree = read_tree(alloc, text, &tokens, &names)?;
-    let function = Function::new(alloc, tree)?;
-    Ok((function, names))
+    match read_tree(alloc, text, &tokens, &names)? {
+        Ok(tree) => {
+            let function = Function::new(alloc, tree)?;
+            Ok(Ok((function, names)))
+        }
+        Err(at) => Ok(Err(FunctionFault::Malformed(at))),
+    }
 }
 
-/// The tree of a text's tokens, where a name that is not in the list has the list's length for its number.
+/// The tree of a text's tokens, where a name that is not in the list has the list's length for its number, or the offset of
+/// the first token with which no function text goes on.
 fn read_tree(
     alloc: Global,
     text: &[u8],
     tokens: &[Span],
     names: &Names,
-) -> Result<Node, FunctionFault>
+) -> Result<Result<Node, usize>, AllocError>
     requires { tokens.now ≡ spans text.now }
-    ensures { TreeOf names.now text.now result }
+    ensures { IfOk result (λ read. TreeOf names.now text.now read) }
 {
     let symbols = symbols(alloc, text, tokens, names)?;
-    match run(alloc, &symbols) {
-        Ok(tree) => Ok(tree),
-        Err(ReadFault::Misplaced(n)) => Err(FunctionFault::Malformed(offset_of(text, tokens, n))),
-        Err(ReadFault::Memory) => Err(FunctionFault::Memory),
+    match run(alloc, &symbols)? {
+        Ok(tree) => Ok(Ok(tree)),
+        Err(n) => Ok(Err(offset_of(text, tokens, n))),
     }
 }
 

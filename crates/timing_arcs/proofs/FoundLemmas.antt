@@ -1,6 +1,6 @@
 -- What is put together statement by statement is what the definition says of all statements.
 use Rattle.std.proofs.Common.{◌≡◌, ℕ, zero, suc, ◌+◌, ◌<◌, ◌≤◌, Bool, true, false, ◌==◌, nat_lt, List, [], ◌∷◌, ◌++◌, map, take, length, refl, sym, ap, ◌∙◌, append_assoc, append-nil, length-append, arith}
-use Rattle.std.specs.Prelude.{Option, Some, None, filter, flat_map, codes, Result, Ok, Err, if◌then◌else◌}
+use Rattle.std.specs.Prelude.{Option, Some, None, filter, flat_map, codes, Result, Ok, if◌then◌else◌}
 use Rattle.std.specs.List.{list_any, cons_option}
 use Rattle.std.proofs.lemmas.Bool.{cases_Bool}
 use Rattle.std.proofs.lemmas.Bool.Decides.{nat_tests}
@@ -27,7 +27,7 @@ use Rattle.timing_arcs.specs.Times.{time_of}
 use Rattle.timing_arcs.specs.RelatedPins.{inputs_of, is_left_out}
 use Rattle.timing_arcs.specs.Making.{check, event, has_limit, checks_from, arcs_from, is_made, checks_in}
 use Rattle.timing_arcs.specs.Merging.{Placed, same_path, firsts, merged_into, merged, merged_at}
-use Rattle.timing_arcs.specs.Timing.{timing_groups, malformed_in, unknown_in, own_in, wide_in, bad_numbers_in, pulse_high, pulse_low, least_period, attribute_checks, attribute_check_at, bad_attribute, at_each, placed_arcs_in, left_out_at, left_out_from, checks_of, check_at_of, malformed_at, unknown_names_at, own_conditions_at, numbers_at, timing_of, unless_at, reading_answer, held_answer, Gives}
+use Rattle.timing_arcs.specs.Timing.{timing_groups, malformed_in, unknown_in, own_in, wide_in, bad_numbers_in, pulse_high, pulse_low, least_period, attribute_checks, attribute_check_at, bad_attribute, at_each, placed_arcs_in, left_out_at, left_out_from, checks_of, check_at_of, malformed_at, unknown_names_at, own_conditions_at, numbers_at, timing_of, unless_at, reading_answer, held_answer}
 use Rattle.timing_arcs.specs.Adding.{joined_with, pushed, with_left_out, with_placed, with_checks, with_arcs, with_inputs, with_noted, with_group, with_optional, with_items, with_limit, with_attribute, nothing_found, found_of, answer_found}
 use Rattle.timing_arcs.specs.Readings.{joined, offsets_in}
 use Rattle.timing_arcs.proofs.OffsetLemmas.{least-append}
@@ -431,12 +431,3 @@ answer-is room subject pin =
     ∙ ap (λ answer. unless_at fault.Malformed malformed (unless_at fault.UnknownName unknown answer)) (held-unless room fault.OwnCondition own _)
     ∙ ap (λ answer. unless_at fault.Malformed malformed answer) (held-unless room fault.UnknownName unknown _)
     ∙ held-unless room fault.Malformed malformed _
-
--- an answer gives itself
-pub gives-same : (answer wanted : Result PinTiming TimingFault) → answer ≡ wanted → Gives answer wanted
-gives-same (Ok timing) wanted e = sym e
-gives-same (Err fault.Memory) wanted e = tt
-gives-same (Err (fault.Malformed at)) wanted e = sym e
-gives-same (Err (fault.UnknownName at)) wanted e = sym e
-gives-same (Err (fault.OwnCondition at)) wanted e = sym e
-gives-same (Err (fault.Number at)) wanted e = sym e

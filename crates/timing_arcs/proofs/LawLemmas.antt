@@ -258,31 +258,36 @@ neither : (a b : Bool) → not (a || b) ≡ true → (not a ≡ true) × (not b 
 neither true b h = absurd cc
 neither false b h = (refl, h)
 
-firsts-new : (earlier : List Arc) (made : List Placed) → list_all (λ (p : Placed). not (list_any (same_path p.arc) earlier)) (firsts_after earlier made) ≡ true
-firsts-new earlier [] = refl
-firsts-new earlier (p ∷ made) =
+-- what holds of the first with each path, where it holds of one more that is like none before it
+each-first :
+    (P : List Arc → List Placed → Type 0) → ((earlier : List Arc) → P earlier [])
+    → ((earlier : List Arc) (p : Placed) (ps : List Placed) → list_any (same_path p.arc) earlier ≡ false → P (p.arc ∷ earlier) ps → P earlier (p ∷ ps))
+    → (earlier : List Arc) (made : List Placed) → P earlier (firsts_after earlier made)
+each-first P none one earlier [] = none earlier
+each-first P none one earlier (p ∷ made) =
     elim (cases_Bool (list_any (same_path p.arc) earlier)) [
-      | inl there ↦ rw there (firsts-new earlier made)
-      | inr new ↦
-          rw new
-          (both _ _ (ap not new)
-          (all-weaker (λ (q : Placed). not (list_any (same_path q.arc) (p.arc ∷ earlier))) (λ (q : Placed). not (list_any (same_path q.arc) earlier)) (firsts_after (p.arc ∷ earlier) made)
-          (λ q h. (neither (same_path q.arc p.arc) (list_any (same_path q.arc) earlier) h).1) (firsts-new (p.arc ∷ earlier) made)))
+      | inl there ↦ rw there (each-first P none one earlier made)
+      | inr new ↦ rw new (one earlier p (firsts_after (p.arc ∷ earlier) made) new (each-first P none one (p.arc ∷ earlier) made))
     ]
 
+-- they are like none before them, and no two of them are alike
+abbrev AreNew : List Arc → List Placed → Type 0
+AreNew earlier ps = (list_all (λ (p : Placed). not (list_any (same_path p.arc) earlier)) ps ≡ true) × (apart (map arc_of ps) ≡ true)
+
+one-new : (earlier : List Arc) (p : Placed) (ps : List Placed) → list_any (same_path p.arc) earlier ≡ false → AreNew (p.arc ∷ earlier) ps → AreNew earlier (p ∷ ps)
+one-new earlier p ps new (none, alone) = (
+  both _ _ (ap not new)
+      (all-weaker (λ (q : Placed). not (list_any (same_path q.arc) (p.arc ∷ earlier))) (λ (q : Placed). not (list_any (same_path q.arc) earlier)) ps
+      (λ q h. (neither (same_path q.arc p.arc) (list_any (same_path q.arc) earlier) h).1) none),
+  both _ _
+      (all-map (unlike p.arc) arc_of ps
+      (all-weaker (λ (q : Placed). not (list_any (same_path q.arc) (p.arc ∷ earlier))) (λ (q : Placed). unlike p.arc q.arc) ps
+      (λ q h. (neither (same_path q.arc p.arc) (list_any (same_path q.arc) earlier) h).0) none))
+      alone,
+)
+
 firsts-apart : (earlier : List Arc) (made : List Placed) → apart (map arc_of (firsts_after earlier made)) ≡ true
-firsts-apart earlier [] = refl
-firsts-apart earlier (p ∷ made) =
-    elim (cases_Bool (list_any (same_path p.arc) earlier)) [
-      | inl there ↦ rw there (firsts-apart earlier made)
-      | inr new ↦
-          rw new
-          (both _ _
-          (all-map (unlike p.arc) arc_of (firsts_after (p.arc ∷ earlier) made)
-          (all-weaker (λ (q : Placed). not (list_any (same_path q.arc) (p.arc ∷ earlier))) (λ (q : Placed). unlike p.arc q.arc) (firsts_after (p.arc ∷ earlier) made)
-          (λ q h. (neither (same_path q.arc p.arc) (list_any (same_path q.arc) earlier) h).0) (firsts-new (p.arc ∷ earlier) made)))
-          (firsts-apart (p.arc ∷ earlier) made))
-    ]
+firsts-apart earlier made = (each-first AreNew (λ earlier. (refl, refl)) one-new earlier made).1
 
 unlike-merged : (made : List Placed) (a : Arc) (ps : List Placed) → list_all (unlike a) (map arc_of ps) ≡ true → list_all (unlike (merged_into made a)) (map (λ (p : Placed). merged_into made p.arc) ps) ≡ true
 unlike-merged made a [] h = refl

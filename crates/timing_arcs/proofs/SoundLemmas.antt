@@ -1,5 +1,5 @@
 -- The checks and arcs of a group that is read keep the rules of a cell.
-use Rattle.std.proofs.Common.{◌≡◌, ℕ, ◌≤◌, Bool, true, false, not, ◌&&◌, ◌||◌, ◌==◌, List, [], ◌∷◌, ◌++◌, map, length, nat_eq, nat_le, nat_lt, refl, sym, ap, ◌∙◌, subst, arith}
+use Rattle.std.proofs.Common.{filter, ◌≡◌, ℕ, ◌≤◌, Bool, true, false, not, ◌&&◌, ◌||◌, ◌==◌, List, [], ◌∷◌, ◌++◌, map, length, nat_eq, nat_le, nat_lt, refl, sym, ap, ◌∙◌, subst, arith}
 use Rattle.std.specs.Prelude.{Option, Some, None, Result, Ok, Err, max, codes, bytes_eq, flat_map, find, unwrap_or, slice_get, ◌⊎◌, if◌then◌else◌}
 use Rattle.std.specs.Option.{option_map, option_map_or}
 use Rattle.std.specs.List.{list_all, list_any, filter_map, cons_option}
@@ -333,23 +333,22 @@ arcs_from-kept subject group q p h =
     (limit_of-within subject.unit (fall_table (type_of group)) group)
     (condition-kept subject all (p ∷ []) (condition_of subject group) (group-sound subject group) q.own q.wide (both _ _ parts.1 refl))
 
-pub group-checks : (subject : Subject) (group : Group) → own_in subject group ≡ [] → wide_in subject group ≡ [] → list_all (is_check subject.pins) (checks_in subject group) ≡ true
-group-checks subject group own wide =
+-- what a group makes keeps a rule, where what it would make does and nothing is wrong with its condition
+when-made : {A : Type 0} (t : A → Bool) (subject : Subject) (group : Group) (xs : List A) → own_in subject group ≡ [] → wide_in subject group ≡ []
+    → (IsQuiet subject group → list_all t xs ≡ true) → list_all t (if is_made subject group then xs else []) ≡ true
+when-made t subject group xs own wide kept =
     elim (cases_Bool (is_made subject group)) [
-      | inl made ↦
-          let q = quiet subject group made own wide in
-          rw made
-          (all-filter (is_check subject.pins) has_limit (flat_map (checks_from subject group) (inputs_of subject group))
-          (all-flat_map (is_kept subject.pins) (checks_from subject group) (is_related subject group) (inputs_of subject group) (checks_from-kept subject group q) (inputs-related subject group q.used)))
+      | inl made ↦ rw made (kept (quiet subject group made own wide))
       | inr not_made ↦ rw not_made refl
     ]
 
+pub group-checks : (subject : Subject) (group : Group) → own_in subject group ≡ [] → wide_in subject group ≡ [] → list_all (is_check subject.pins) (checks_in subject group) ≡ true
+group-checks subject group own wide =
+    when-made (is_check subject.pins) subject group (filter has_limit (flat_map (checks_from subject group) (inputs_of subject group))) own wide
+    (λ q. all-filter (is_check subject.pins) has_limit (flat_map (checks_from subject group) (inputs_of subject group))
+    (all-flat_map (is_kept subject.pins) (checks_from subject group) (is_related subject group) (inputs_of subject group) (checks_from-kept subject group q) (inputs-related subject group q.used)))
+
 pub group-arcs : (subject : Subject) (group : Group) → own_in subject group ≡ [] → wide_in subject group ≡ [] → list_all (is_arc subject.pins) (arcs_in subject group) ≡ true
 group-arcs subject group own wide =
-    elim (cases_Bool (is_made subject group)) [
-      | inl made ↦
-          let q = quiet subject group made own wide in
-          rw made
-          (all-flat_map (is_arc subject.pins) (arcs_from subject group) (is_related subject group) (inputs_of subject group) (arcs_from-kept subject group q) (inputs-related subject group q.used))
-      | inr not_made ↦ rw not_made refl
-    ]
+    when-made (is_arc subject.pins) subject group (flat_map (arcs_from subject group) (inputs_of subject group)) own wide
+    (λ q. all-flat_map (is_arc subject.pins) (arcs_from subject group) (is_related subject group) (inputs_of subject group) (arcs_from-kept subject group q) (inputs-related subject group q.used))

@@ -26,7 +26,7 @@ use Rattle.timing_arcs.specs.declared.subject.PinTiming.{PinTiming}
 use Rattle.timing_arcs.specs.declared.subject.Room.{Room}
 use Rattle.timing_arcs.specs.declared.timing_texts.TimingTexts.{TimingTexts}
 use Rattle.timing_arcs.specs.declared.timing_type.TimingType.{TimingType}
-use Rattle.timing_arcs.specs.declared.timing_type.TimingType.TheVariants.{Delay, Setup, Hold, Recovery, Removal, Width, Period, Other}
+use Rattle.timing_arcs.specs.declared.timing_type.TimingType.TheVariants.{Width, Period}
 use Rattle.timing_arcs.specs.Attributes.{Attribute, attribute_of, group_named, place_of}
 use Rattle.timing_arcs.specs.Offsets.{lesser, least}
 use Rattle.timing_arcs.specs.TimingTypes.{type_of, rise_table, fall_table, is_used}
@@ -35,13 +35,13 @@ use Rattle.timing_arcs.specs.Conditions.{condition_as, condition_in, condition_o
 use Rattle.timing_arcs.specs.Making.{checks_with, arcs_with, is_made, rise_of, fall_of}
 use Rattle.timing_arcs.specs.Readings.{where_so, joined, no_offsets, offsets_in}
 use Rattle.timing_arcs.specs.Tables.{bad_numbers_at}
-use Rattle.timing_arcs.specs.Timing.{unknown_related_in, unknown_condition_in, limit_attribute, reading_answer, held_answer, Gives}
+use Rattle.timing_arcs.specs.Timing.{unknown_related_in, unknown_condition_in, limit_attribute, reading_answer, held_answer}
 use Rattle.timing_arcs.specs.Adding.{with_checks, with_arcs, with_left_out, with_inputs, with_noted, with_group, with_optional, with_items, with_attribute, nothing_found, found_of, answer_found}
 use Rattle.timing_arcs.specs.GroupTexts.{named_related, related_text, when_as, when_text, group_text, optional_text, texts_from, cell_of, pin_texts, is_of_one_pin, used_under, read_under, left_out_under, made_under, unknown_under, names_pin, own_under, read_offsets, offsets_under, inputs_under, with_all_made, with_text_noted, with_text, with_texts}
 use Rattle.timing_arcs.specs.PinLimits.{limit_as, pin_limit, pin_limits, limit_under, with_pin_limit, with_pin_limits}
 use Rattle.timing_arcs.specs.TimingTexts.{AreTexts}
 use Rattle.timing_arcs.proofs.OffsetLemmas.{least_if, least-append}
-use Rattle.timing_arcs.proofs.FoundLemmas.{answer-is, gives-same}
+use Rattle.timing_arcs.proofs.FoundLemmas.{answer-is}
 
 -- The texts do not tell which pin of the cell it is.
 
@@ -111,47 +111,27 @@ when_at subject (Some attribute) = refl
 
 undriven : (subject : Subject) (group : Group) (t : TimingType) →
     list_any (λ related. not (is_driven related)) (related_by subject group t) ≡ (is_of_one_pin t || list_any (λ related. not (is_driven related)) (named_related subject group))
-undriven subject group Delay = refl
-undriven subject group (Setup edge) = refl
-undriven subject group (Hold edge) = refl
-undriven subject group (Recovery edge) = refl
-undriven subject group (Removal edge) = refl
 undriven subject group Width = refl
 undriven subject group Period = refl
-undriven subject group Other = refl
+undriven subject group _ = refl
 
 left : (subject : Subject) (group : Group) (t : TimingType) →
     (length (related_by subject group t) == 0 || list_any is_driven (related_by subject group t)) ≡ (not (is_of_one_pin t) && (length (named_related subject group) == 0 || list_any is_driven (named_related subject group)))
-left subject group Delay = refl
-left subject group (Setup edge) = refl
-left subject group (Hold edge) = refl
-left subject group (Recovery edge) = refl
-left subject group (Removal edge) = refl
 left subject group Width = refl
 left subject group Period = refl
-left subject group Other = refl
+left subject group _ = refl
 
 unknown : (subject : Subject) (group : Group) (t : TimingType) →
     list_any is_unknown (related_by subject group t) ≡ (not (is_of_one_pin t) && list_any is_unknown (named_related subject group))
-unknown subject group Delay = refl
-unknown subject group (Setup edge) = refl
-unknown subject group (Hold edge) = refl
-unknown subject group (Recovery edge) = refl
-unknown subject group (Removal edge) = refl
 unknown subject group Width = refl
 unknown subject group Period = refl
-unknown subject group Other = refl
+unknown subject group _ = refl
 
 inputs : (subject : Subject) (group : Group) (t : TimingType) →
     filter_map input_of (related_by subject group t) ≡ (if is_of_one_pin t then subject.place ∷ [] else filter_map input_of (named_related subject group))
-inputs subject group Delay = refl
-inputs subject group (Setup edge) = refl
-inputs subject group (Hold edge) = refl
-inputs subject group (Recovery edge) = refl
-inputs subject group (Removal edge) = refl
 inputs subject group Width = refl
 inputs subject group Period = refl
-inputs subject group Other = refl
+inputs subject group _ = refl
 
 used_same : (subject : Subject) (place : ℕ) (group : Group) → used_under subject (group_text subject place group) ≡ is_used subject group
 unfolding is_used
@@ -359,20 +339,19 @@ limits_same room subject pin =
 -- What is found of the groups and then of the limits answers for the pin.
 pub answers : (room : Room) (subject : Subject) (pin : Group) (answer : Result PinTiming TimingFault) (none all found : Found) →
     none ≡ nothing_found room → all ≡ with_items subject 0 none pin.items → found ≡ with_pin_limits subject all (pin_limits subject pin) → answer ≡ answer_found found
-    → Gives answer (held_answer room (reading_answer subject pin))
+    → answer ≡ held_answer room (reading_answer subject pin)
 answers room subject pin answer none all found en ea ef e =
-    gives-same _ _
-    (e
+    e
     ∙ ap answer_found
     (ef
     ∙ ap (λ f. with_pin_limits subject f (pin_limits subject pin)) (ea ∙ ap (λ f. with_items subject 0 f pin.items) en)
     ∙ limits_same room subject pin)
-    ∙ answer-is room subject pin)
+    ∙ answer-is room subject pin
 
 -- The same from the texts.
 pub text_answers : (room : Room) (subject : Subject) (texts : TimingTexts) (answer : Result PinTiming TimingFault) (none all found : Found) → AreTexts subject texts →
     none ≡ nothing_found room → all ≡ with_texts subject none texts.groups → found ≡ with_pin_limits subject all texts.limits → answer ≡ answer_found found
-    → Gives answer (held_answer room (reading_answer subject texts.pin.now))
+    → answer ≡ held_answer room (reading_answer subject texts.pin.now)
 text_answers room subject texts answer none all found h en ea ef e =
     answers room subject texts.pin.now answer none all found en
     (ea

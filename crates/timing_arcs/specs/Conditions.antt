@@ -28,10 +28,8 @@ condition_of_tree subject f = if list_all (is_input_pin subject.pins) (support_o
 -- The condition of a text that reads so. One that is too long is malformed.
 abbrev pub condition_as : Subject → Result Node FunctionFault → Condition
 condition_as subject (Ok f) = condition_of_tree subject f
-condition_as subject (Err fault.TooLong) = Malformed
-condition_as subject (Err (fault.Malformed at)) = Malformed
 condition_as subject (Err (fault.UnknownName at)) = Unknown
-condition_as subject (Err fault.Memory) = Malformed
+condition_as subject (Err _) = Malformed
 
 -- The condition that a text stands for, over the names of the cell's pins.
 unfoldable pub condition_in : Subject → List ℕ → Condition
@@ -44,41 +42,27 @@ condition_of subject group =
 
 -- The tree of a condition, where it is none that always holds.
 abbrev pub tree_of : Condition → Option Node
-tree_of Always = None
-tree_of Never = None
 tree_of (Where f) = Some f
-tree_of Malformed = None
-tree_of Unknown = None
+tree_of _ = None
 
 -- Whether what stands under the condition is made.
 abbrev pub may_hold : Condition → Bool
 may_hold Always = true
-may_hold Never = false
 may_hold (Where f) = true
-may_hold Malformed = false
-may_hold Unknown = false
+may_hold _ = false
 
 abbrev pub is_malformed : Condition → Bool
-is_malformed Always = false
-is_malformed Never = false
-is_malformed (Where f) = false
 is_malformed Malformed = true
-is_malformed Unknown = false
+is_malformed _ = false
 
 abbrev pub has_unknown : Condition → Bool
-has_unknown Always = false
-has_unknown Never = false
-has_unknown (Where f) = false
-has_unknown Malformed = false
 has_unknown Unknown = true
+has_unknown _ = false
 
 -- The pins that the condition names, each once, in ascending order.
 abbrev pub named_pins : Condition → List ℕ
-named_pins Always = []
-named_pins Never = []
 named_pins (Where f) = support_of f
-named_pins Malformed = []
-named_pins Unknown = []
+named_pins _ = []
 
 -- Whether the condition names one of these pins.
 abbrev pub names_one : List ℕ → Condition → Bool

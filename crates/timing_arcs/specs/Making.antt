@@ -52,13 +52,7 @@ checks_with Other pin related rise fall condition = []
 -- The delay arc that a type makes from a related pin to a pin. (Liberty Reference Manual, `timing_type`.)
 abbrev pub arcs_with : TimingType → ℕ → ℕ → ℕ → ℕ → Option Node → List Arc
 arcs_with Delay pin related rise fall condition = record { from = related; to = pin; rise = rise; fall = fall; condition = condition } ∷ []
-arcs_with (Setup edge) pin related rise fall condition = []
-arcs_with (Hold edge) pin related rise fall condition = []
-arcs_with (Recovery edge) pin related rise fall condition = []
-arcs_with (Removal edge) pin related rise fall condition = []
-arcs_with Width pin related rise fall condition = []
-arcs_with Period pin related rise fall condition = []
-arcs_with Other pin related rise fall condition = []
+arcs_with _ pin related rise fall condition = []
 
 -- Whether the group makes something: it is read, and its condition is not always 0.
 abbrev pub is_made : Subject → Group → Bool

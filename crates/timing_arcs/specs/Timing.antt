@@ -1,6 +1,6 @@
 -- The timing of one pin: what its timing groups, its pulse widths and its period make (Liberty Reference Manual, `timing`
 -- group, `min_pulse_width_high`, `min_pulse_width_low` and `min_period`).
-use Rattle.std.specs.Prelude.{◌≡◌, ℕ, ◌+◌, ◌&&◌, List, [], ◌∷◌, ◌++◌, map, filter, flat_map, take, codes, Option, Some, None, is_none, unwrap_or, Result, Ok, Err, if◌then◌else◌}
+use Rattle.std.specs.Prelude.{ℕ, ◌+◌, ◌&&◌, List, [], ◌∷◌, ◌++◌, map, filter, flat_map, take, codes, Option, Some, None, is_none, unwrap_or, Result, Ok, Err, if◌then◌else◌}
 use Rattle.std.specs.Option.{option_map_or}
 use Rattle.std.specs.List.{list_any}
 use Rattle.liberty_groups.specs.declared.tree.Item.{Item, out-Item}
@@ -190,9 +190,3 @@ held room timing = record timing {
 abbrev pub held_answer : Room → Result PinTiming TimingFault → Result PinTiming TimingFault
 held_answer room (Ok timing) = Ok (held room timing)
 held_answer room (Err wrong) = Err wrong
-
--- The answer of a call is this one, unless memory was not found.
-abbrev pub Gives : Result PinTiming TimingFault → Result PinTiming TimingFault → Type 0
-Gives (Ok timing) answer = answer ≡ Ok timing
-Gives (Err fault.Memory) answer = Unit {0}
-Gives (Err wrong) answer = answer ≡ Err wrong

@@ -45,35 +45,18 @@ type_of group = option_map_or (λ (attribute : Attribute). type_named attribute.
 -- a check under an input. (Liberty Reference Manual, `timing` group.)
 abbrev pub stands_under : TimingType → Direction → Bool
 stands_under Delay direction = is_output direction
-stands_under (Setup edge) direction = is_input direction
-stands_under (Hold edge) direction = is_input direction
-stands_under (Recovery edge) direction = is_input direction
-stands_under (Removal edge) direction = is_input direction
-stands_under Width direction = is_input direction
-stands_under Period direction = is_input direction
 stands_under Other direction = false
+stands_under _ direction = is_input direction
 
 -- The table groups of the two edges: of a delay `cell_rise` and `cell_fall`, else `rise_constraint` and
 -- `fall_constraint`. (Liberty Reference Manual, `timing` group.)
 abbrev pub rise_table : TimingType → List ℕ
 rise_table Delay = codes "cell_rise"
-rise_table (Setup edge) = codes "rise_constraint"
-rise_table (Hold edge) = codes "rise_constraint"
-rise_table (Recovery edge) = codes "rise_constraint"
-rise_table (Removal edge) = codes "rise_constraint"
-rise_table Width = codes "rise_constraint"
-rise_table Period = codes "rise_constraint"
-rise_table Other = codes "rise_constraint"
+rise_table _ = codes "rise_constraint"
 
 abbrev pub fall_table : TimingType → List ℕ
 fall_table Delay = codes "cell_fall"
-fall_table (Setup edge) = codes "fall_constraint"
-fall_table (Hold edge) = codes "fall_constraint"
-fall_table (Recovery edge) = codes "fall_constraint"
-fall_table (Removal edge) = codes "fall_constraint"
-fall_table Width = codes "fall_constraint"
-fall_table Period = codes "fall_constraint"
-fall_table Other = codes "fall_constraint"
+fall_table _ = codes "fall_constraint"
 
 -- Whether the group has a table that its type uses.
 abbrev pub has_table : Group → Bool

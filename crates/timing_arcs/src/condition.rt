@@ -70,8 +70,7 @@ impl Condition {
     {
         match read_function(alloc, text, &subject.names) {
             Ok(function) => Condition::of_function(alloc, subject, function),
-            Err(FunctionFault::TooLong) => Ok(Condition::Malformed),
-            Err(FunctionFault::Malformed(_)) => Ok(Condition::Malformed),
+            Err(FunctionFault::TooLong | FunctionFault::Malformed(_)) => Ok(Condition::Malformed),
             Err(FunctionFault::UnknownName(_)) => Ok(Condition::Unknown),
             Err(FunctionFault::Memory) => Err(AllocError),
         }

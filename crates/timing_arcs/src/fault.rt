@@ -1,5 +1,4 @@
 //! Why the timing of a pin is not read.
-use std::alloc::AllocError;
 use thiserror::Error;
 
 /// Why the timing of a pin is not read. The first of these kinds decides, and of one kind the least offset.
@@ -19,18 +18,4 @@ pub enum TimingFault {
     /// has an unknown unit, or the first of tables that have no entry.
     #[error("no time at {0}")]
     Number(usize),
-    /// There was no memory.
-    #[error("out of memory")]
-    Memory,
-}
-
-impl From<AllocError> for TimingFault {
-    ghost use Rattle.std.specs.Prelude.{◌≡◌};
-    ghost use Rattle.timing_arcs.specs.declared.fault.TimingFault.TheVariants as fault;
-
-    ghost from_gives = { λ _ e. e ≡ fault.Memory };
-
-    fn from(_: AllocError) -> TimingFault {
-        TimingFault::Memory
-    }
 }

@@ -2,7 +2,6 @@
 ghost use Rattle.std.specs.Prelude.{◌≡◌, ◌==◌, ◌&&◌, ◌||◌, not, nat_lt, length, Ok, OnOk, IfOk};
 ghost use Rattle.timing_arcs.specs.Adding.{pushed, with_check, with_own, with_left_out, with_number, nothing_found, answer_found};
 ghost use Rattle.timing_arcs.specs.GroupTexts.{is_full};
-ghost use Rattle.timing_arcs.specs.Timing.{Gives};
 
 use crate::arc_list::ArcList;
 use crate::fault::TimingFault;

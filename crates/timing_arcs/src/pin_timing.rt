@@ -1,7 +1,7 @@
 //! Reading the timing of a pin.
-ghost use Rattle.std.specs.Prelude.{◌≡◌, OnOk};
+ghost use Rattle.std.specs.Prelude.{◌≡◌, IfOk, OnOk};
 ghost use Rattle.timing_arcs.specs.Adding.{with_group, with_items};
-ghost use Rattle.timing_arcs.specs.Timing.{reading_answer, held_answer, Gives};
+ghost use Rattle.timing_arcs.specs.Timing.{reading_answer, held_answer};
 
 use crate::attributes::inner_group;
 use crate::fault::TimingFault;
@@ -51,17 +51,17 @@ fn add_groups(
 /// ones, but all of them are judged.
 ///
 /// A fault is answered exactly where something is wrong in a text that is read. The first kind in the order of
-/// `TimingFault` decides, and of it the least offset. `Memory` is answered where memory is wanted and not there.
+/// `TimingFault` decides, and of it the least offset.
 pub fn read_timing(
     alloc: Global,
     pin: &Group,
     subject: &Subject,
     room: Room,
-) -> Result<PinTiming, TimingFault>
-    ensures { Gives result (held_answer room (reading_answer subject.now pin.now)) }
+) -> Result<Result<PinTiming, TimingFault>, AllocError>
+    ensures { IfOk result (λ answer. answer ≡ held_answer room (reading_answer subject.now pin.now)) }
 {
     let mut found = Found::new(alloc, room);
     add_groups(alloc, subject, pin.items.as_slice(), &mut found)?;
     PinLimits::of_group(subject, pin).add(subject, &mut found)?;
-    found.finish()
+    Ok(found.finish())
 }

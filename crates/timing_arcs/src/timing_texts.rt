@@ -2,7 +2,7 @@
 ghost use Rattle.std.specs.Prelude.{◌≡◌, IfOk, OnOk};
 ghost use Rattle.timing_arcs.specs.GroupTexts.{texts_from, pin_texts, with_texts};
 ghost use Rattle.timing_arcs.specs.TimingTexts.{AreTexts};
-ghost use Rattle.timing_arcs.specs.Timing.{reading_answer, held_answer, Gives};
+ghost use Rattle.timing_arcs.specs.Timing.{reading_answer, held_answer};
 
 use crate::attributes::inner_group;
 use crate::fault::TimingFault;
@@ -78,13 +78,13 @@ impl<'a> TimingTexts<'a> {
         alloc: Global,
         subject: &Subject,
         room: Room,
-    ) -> Result<PinTiming, TimingFault>
+    ) -> Result<Result<PinTiming, TimingFault>, AllocError>
         requires { AreTexts subject.now self.now }
-        ensures { Gives result (held_answer room (reading_answer subject.now self.now.pin.now)) }
+        ensures { IfOk result (λ answer. answer ≡ held_answer room (reading_answer subject.now self.now.pin.now)) }
     {
         let mut found = Found::new(alloc, room);
         add_texts(alloc, subject, self.groups.as_slice(), &mut found)?;
         self.limits.add(subject, &mut found)?;
-        found.finish()
+        Ok(found.finish())
     }
 }

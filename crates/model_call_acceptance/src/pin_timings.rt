@@ -63,7 +63,7 @@ fn read(alloc: Global, text: &[u8], place: usize) -> Option<PinTiming> {
         arcs: 4,
         left_out: true,
     };
-    read_timing(alloc, pin, &subject, room).ok()
+    read_timing(alloc, pin, &subject, room).ok()?.ok()
 }
 
 /// A check under D, or of both ends of a pulse: its kind, the edge of the pin, the edge of the related pin, the limit.

@@ -3,12 +3,4 @@
 #![tactic(auto)]
 
 #[cfg(test)]
-mod liberty;
-#[cfg(test)]
-mod libraries;
-#[cfg(test)]
-mod limits;
-#[cfg(test)]
-mod refusals;
-#[cfg(test)]
-mod scan_flip_flops;
+mod tests;

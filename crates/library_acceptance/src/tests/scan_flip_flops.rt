@@ -42,18 +42,10 @@ fn is_same(alloc: Global, next: &str, attribute: &str) -> Result<bool, Fail> {
 
 /// Whether the first difference is one of the first group, from state 0, between these points.
 fn differs_at(alloc: Global, next: &str, from: u32, to: u32) -> Result<bool, Fail> {
-    Ok(match answer(alloc, next, ENABLE)? {
-        Some(
-            Agreement::Differs {
-                part,
-                before,
-                after,
-                state,
-                ..
-            },
-        ) => part == 1 && before == from && after == to && !state,
-        _ => false,
-    })
+    Ok(matches!(
+        answer(alloc, next, ENABLE)?,
+        Some(Agreement::Differs { part: 1, before, after, state: false, .. }) if before == from && after == to
+    ))
 }
 
 /// Whether a test cell without a scan enable gives no view.

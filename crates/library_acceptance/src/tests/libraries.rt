@@ -1,5 +1,5 @@
 //! Cells of libraries, as they are read.
-use crate::liberty::{Answer, answers, last_answer};
+use super::liberty::{Answer, answers, last_answer};
 use cell_machine::{Arc, Cell, CheckKind, Edge, Event};
 use cell_reader::ReadCell;
 use liberty_text::Unit;
@@ -148,24 +148,21 @@ fn a_scan_flip_flop(rt: HostRuntime) -> Result<(), Fail> {
     Ok(())
 }
 
-/// Timing groups of every type, each with the tables in place of `TABLES`. Those that may not stand where they do, or name no pin or an output,
-/// are left out.
+/// The types of checks between two pins.
+const CHECKS: &str =
+    "setup_rising setup_falling hold_rising hold_falling recovery_rising recovery_falling removal_rising removal_falling";
+
+/// Types that may not stand at an input.
+const OTHERS: &str = "skew_rising nochange_high_high non_seq_setup_rising rising_edge";
+
+/// Timing groups of every type, those related to A with these types in place of `CHECKS` and `OTHERS`, each with the tables in place of
+/// `TABLES`. Those that may not stand where they do, or name no pin or an output, are left out.
 const ALL_TYPES: &str = "library (L) { cell (C) {
     pin (A, B) { direction : input; }
     pin (D) { direction : input;
-        timing () { timing_type : setup_rising; related_pin : A; TABLES }
-        timing () { timing_type : setup_falling; related_pin : A; TABLES }
-        timing () { timing_type : hold_rising; related_pin : A; TABLES }
-        timing () { timing_type : hold_falling; related_pin : A; TABLES }
-        timing () { timing_type : recovery_rising; related_pin : A; TABLES }
-        timing () { timing_type : recovery_falling; related_pin : A; TABLES }
-        timing () { timing_type : removal_rising; related_pin : A; TABLES }
-        timing () { timing_type : removal_falling; related_pin : A; TABLES }
+        CHECKS
         timing () { timing_type : min_pulse_width; TABLES }
-        timing () { timing_type : skew_rising; related_pin : A; TABLES }
-        timing () { timing_type : nochange_high_high; related_pin : A; TABLES }
-        timing () { timing_type : non_seq_setup_rising; related_pin : A; TABLES }
-        timing () { timing_type : rising_edge; related_pin : A; TABLES }
+        OTHERS
         timing () { timing_type : setup_rising; related_pin : Y; TABLES }
         timing () { timing_type : setup_rising; TABLES }
         timing () { related_pin : A; TABLES }
@@ -213,9 +210,29 @@ fn leaves_out(read: &ReadCell, wanted: &[(usize, &str)]) -> bool {
     read.left_out.len() == wanted.len()
 }
 
+/// Timing groups of these types that are related to A.
+fn groups_of(alloc: Global, types: &str) -> Result<String, Fail> {
+    let mut groups = String::new(alloc);
+    for kind in types.split_whitespace() {
+        let group = format!(in alloc;
+            "timing () {{ timing_type : {kind}; related_pin : A; TABLES }} "
+        )?;
+        groups.push_str(group.as_str())?;
+    }
+    Ok(groups)
+}
+
+/// The library with groups of every type.
+fn all_types(alloc: Global) -> Result<String, Fail> {
+    let checks = groups_of(alloc, CHECKS)?;
+    let others = groups_of(alloc, OTHERS)?;
+    let text = ALL_TYPES.replace(alloc, "CHECKS", checks.as_str())?;
+    Ok(text.replace(alloc, "OTHERS", others.as_str())?)
+}
+
 /// Whether the cell with these tables in place of `TABLES` has 14 checks, 8 arcs and the left-out groups.
 fn reads_every_type(alloc: Global, tables: &str) -> Result<bool, Fail> {
-    let text = ALL_TYPES.replace(alloc, "TABLES", tables)?;
+    let text = all_types(alloc)?.replace(alloc, "TABLES", tables)?;
     let read = only_cell(alloc, text.as_bytes())?;
     Ok(read.cell.checks.len() == 14 && read.cell.arcs.len() == 8 && leaves_out(&read, &LEFT_OUT))
 }

@@ -1,6 +1,6 @@
 //! Cells at the edge of a limit: the last one that is accepted and the first one that is refused. The mark `@` stands at the
 //! offset of the refusal.
-use crate::liberty::{accepts, refuses};
+use super::liberty::{accepts, refuses};
 use std::alloc::Global;
 use std::test::Fail;
 

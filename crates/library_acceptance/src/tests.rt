@@ -1,0 +1,6 @@
+//! The tests, and what they share.
+mod liberty;
+mod libraries;
+mod limits;
+mod refusals;
+mod scan_flip_flops;

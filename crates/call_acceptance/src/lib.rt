@@ -3,18 +3,4 @@
 #![tactic(auto)]
 
 #[cfg(test)]
-mod desks;
-#[cfg(test)]
-mod functions;
-#[cfg(test)]
-mod liberty_tokens;
-#[cfg(test)]
-mod libraries;
-#[cfg(test)]
-mod own_libraries;
-#[cfg(test)]
-mod state_tables;
-#[cfg(test)]
-mod verilog_scans;
-#[cfg(test)]
-mod written_groups;
+mod tests;

@@ -15,26 +15,14 @@ use text_io::{
     write_whole,
 };
 
-/// The words of a translation of a library that has no end, to an output that has no room.
-fn words(alloc: Global) -> Result<Vec<String>, AllocError>
-    ensures { IfOk result (λ words. map string_bytes words.items ≡ codes "translate" ∷ codes "/dev/zero" ∷ codes "/dev/full" ∷ codes "/dev/null" ∷ []) }
+/// The words of a translation of this library to this Verilog text, and of VHDL text to nowhere.
+fn words(alloc: Global, library: &str, verilog: &str) -> Result<Vec<String>, AllocError>
+    ensures { IfOk result (λ words. map string_bytes words.items ≡ codes "translate" ∷ library.now ∷ verilog.now ∷ codes "/dev/null" ∷ []) }
 {
     let mut words = Vec::new(alloc);
     words.push(String::from_str(alloc, "translate")?)?;
-    words.push(String::from_str(alloc, "/dev/zero")?)?;
-    words.push(String::from_str(alloc, "/dev/full")?)?;
-    words.push(String::from_str(alloc, "/dev/null")?)?;
-    Ok(words)
-}
-
-/// The words of a translation of a library to its own file, by another path.
-fn words_of_one_file(alloc: Global) -> Result<Vec<String>, AllocError>
-    ensures { IfOk result (λ words. map string_bytes words.items ≡ codes "translate" ∷ codes "one.lib" ∷ codes "./one.lib" ∷ codes "/dev/null" ∷ []) }
-{
-    let mut words = Vec::new(alloc);
-    words.push(String::from_str(alloc, "translate")?)?;
-    words.push(String::from_str(alloc, "one.lib")?)?;
-    words.push(String::from_str(alloc, "./one.lib")?)?;
+    words.push(String::from_str(alloc, library)?)?;
+    words.push(String::from_str(alloc, verilog)?)?;
     words.push(String::from_str(alloc, "/dev/null")?)?;
     Ok(words)
 }
@@ -64,7 +52,7 @@ fn copy<D: Desk>(alloc: Global, desk: &mut D) -> Result<(Vec<u8>, bool, bool), R
 
 /// Whether real files are read and written, without end and without room.
 fn copies_without_end(rt: &HostRuntime) -> Result<bool, Fail> {
-    let mut desk = FileDesk::new(rt.clone()?, words(rt.alloc())?);
+    let mut desk = FileDesk::new(rt.clone()?, words(rt.alloc(), "/dev/zero", "/dev/full")?);
     bind(&mut desk)?;
     let (bytes, more, failed) = copy(rt.alloc(), &mut desk)?;
     Ok(bytes.as_slice() == [0, 0, 0, 0].as_slice() && more && failed)
@@ -72,7 +60,7 @@ fn copies_without_end(rt: &HostRuntime) -> Result<bool, Fail> {
 
 /// Whether a desk refuses to empty the file that it reads.
 fn refuses_own_file(rt: &HostRuntime) -> Result<bool, Fail> {
-    let mut desk = FileDesk::new(rt.clone()?, words_of_one_file(rt.alloc())?);
+    let mut desk = FileDesk::new(rt.clone()?, words(rt.alloc(), "one.lib", "./one.lib")?);
     Ok(bind(&mut desk).is_err())
 }
 
@@ -110,8 +98,8 @@ fn folder(alloc: Global) -> Result<Vec<NamedFile>, AllocError> {
 
 /// Whether a file in memory is read and written in pieces, up to the room of its output.
 fn copies_in_pieces(alloc: Global) -> Result<bool, Fail> {
-    let folder = folder(alloc)?;
-    let mut desk = MemoryDesk::in_pieces(alloc, words(alloc)?, folder, Vec::new(alloc), 3, 2)?;
+    let words = words(alloc, "/dev/zero", "/dev/full")?;
+    let mut desk = MemoryDesk::in_pieces(alloc, words, folder(alloc)?, Vec::new(alloc), 3, 2)?;
     bind(&mut desk)?;
     let (bytes, more, failed) = copy(alloc, &mut desk)?;
     Ok(

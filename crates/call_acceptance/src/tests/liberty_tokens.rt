@@ -18,10 +18,7 @@ fn token(kind: TokenKind, at: usize, end: usize, line_before: bool) -> Token {
 
 /// Whether a text has these tokens, and no fault.
 fn has_tokens(alloc: Global, text: &[u8], wanted: &[Token]) -> bool {
-    match tokens(alloc, text) {
-        Ok(found) => found.as_slice() == wanted,
-        Err(_) => false,
-    }
+    matches!(&tokens(alloc, text), Ok(found) if found.as_slice() == wanted)
 }
 
 #[test]
@@ -37,10 +34,7 @@ fn tokens_of_a_statement(rt: HostRuntime) {
 
 /// Whether the scan of a text finds these tokens and stops so.
 fn scans_to(alloc: Global, text: &[u8], wanted: &[Token], stop: Stop) -> bool {
-    match scan(alloc, text) {
-        Ok(found) => found.tokens.as_slice() == wanted && found.stop == stop,
-        Err(_) => false,
-    }
+    matches!(&scan(alloc, text), Ok(found) if found.tokens.as_slice() == wanted && found.stop == stop)
 }
 
 #[test]
@@ -51,10 +45,7 @@ fn a_comment_that_its_own_slash_does_not_close(rt: HostRuntime) {
 
 /// Whether a text of Liberty's begins at this offset of a library and does not close.
 fn has_open_text(alloc: Global, text: &[u8], at: usize) -> bool {
-    match tokens(alloc, text) {
-        Err(TextFault::OpenText(found)) => found == at,
-        _ => false,
-    }
+    matches!(tokens(alloc, text), Err(TextFault::OpenText(found)) if found == at)
 }
 
 #[test]
@@ -65,10 +56,7 @@ fn a_text_that_does_not_close(rt: HostRuntime) {
 
 /// Whether the value of a text, written between its quotes, is this.
 fn has_value(alloc: Global, text: &[u8], value: &[u8]) -> bool {
-    match text_value(alloc, text) {
-        Ok(found) => found.as_slice() == value,
-        Err(_) => false,
-    }
+    matches!(&text_value(alloc, text), Ok(found) if found.as_slice() == value)
 }
 
 #[test]
@@ -78,10 +66,7 @@ fn the_value_of_a_text(rt: HostRuntime) {
 
 /// Whether a number in a unit is this time, in picoseconds.
 fn is_time(text: &[u8], unit: Unit, time: Option<u64>) -> bool {
-    match fixed(text) {
-        Ok(number) => picoseconds(number, unit) == time,
-        Err(_) => false,
-    }
+    matches!(fixed(text), Ok(number) if picoseconds(number, unit) == time)
 }
 
 #[test]

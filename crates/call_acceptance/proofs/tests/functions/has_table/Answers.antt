@@ -1,6 +1,6 @@
 use Rattle.std.proofs.Common.{ℕ, zero, suc, ◌<◌, [], ◌∷◌, Contains, refl, arith}
 use Rattle.bool_functions.proofs.Bounds.{has_below}
-use Rattle.call_acceptance.proofs.functions.has_table.Goals as goal
+use Rattle.call_acceptance.proofs.tests.functions.has_table.Goals as goal
 
 -- a number below 2 is one of the two places
 place : (i : ℕ) → i < 2 → Contains (0 ∷ 1 ∷ []) i

@@ -1,0 +1,9 @@
+//! The tests, and what they share.
+mod desks;
+mod functions;
+mod liberty_tokens;
+mod libraries;
+mod own_libraries;
+mod state_tables;
+mod verilog_scans;
+mod written_groups;

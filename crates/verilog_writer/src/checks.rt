@@ -1,9 +1,10 @@
 //! The lines of checks in a specify block.
-ghost use Rattle.std.specs.Prelude.{◌≡◌, codes};
-ghost use Rattle.verilog_writer.specs.Timing.{edge_text, joint_text, condition_text, limit_text, conditional_text, ordered_text, turned_text, width_text, period_line, period_text, check_text};
+ghost use Rattle.std.specs.Prelude.{◌≡◌, ◌++◌, codes};
+ghost use Rattle.verilog_writer.specs.Nets.{port_at};
+ghost use Rattle.verilog_writer.specs.Timing.{edge_text, joint_text, condition_text, limit_text, conditional_text, ordered_text, turned_text, width_text, period_text, check_text};
 
 use crate::nets::{notifier_in, port_at, wire_at};
-use cell_machine::{CheckKind, Edge};
+use cell_machine::{CheckKind, Edge, Event};
 use specify_blocks::VModule;
 use text_io::{Desk, Line, OutSlot};
 use text_parts::{Bytes, Decimal, ItemText, Part, Put, parts};
@@ -74,6 +75,19 @@ impl Part for Conditional<'_> {
     }
 }
 
+/// An event, and what stands behind it.
+#[derive(Drop)]
+struct Behind<'a, P>(&'a VModule, Event, P);
+
+impl<P: Part> Part for Behind<'_, P> {
+    ghost text = { λ m. edge_text m.1.edge ++ (port_at m.0.now m.1.pin ++ P.text m.2) };
+
+    fn put<D: Desk>(&self, line: &mut Line, desk: &mut D, slot: OutSlot) -> Put {
+        let port = port_at(self.0, self.1.pin);
+        parts!(Bytes(edge_text(self.1.edge)), Bytes(port), &self.2).put(line, desk, slot)
+    }
+}
+
 /// A check that begins with this word, with its first event before the second one.
 #[derive(Drop)]
 struct Ordered<'a>(&'a [u8], Call<'a>);
@@ -84,16 +98,9 @@ impl Part for Ordered<'_> {
     #[tactic(auto, unfolding(crate::specs::Timing::ordered_text))]
     fn put<D: Desk>(&self, line: &mut Line, desk: &mut D, slot: OutSlot) -> Put {
         let (model, check) = self.1;
-        parts!(
-            Bytes(self.0),
-            Bytes(edge_text(check.first.edge)),
-            Bytes(port_at(model, check.first.pin)),
-            Bytes(b", "),
-            Bytes(edge_text(check.second.edge)),
-            Bytes(port_at(model, check.second.pin)),
-            Conditional(self.1, b", ")
-        )
-        .put(line, desk, slot)
+        let second = Behind(model, check.second, Conditional(self.1, b", "));
+        let first = Behind(model, check.first, parts!(Bytes(b", "), second));
+        parts!(Bytes(self.0), first).put(line, desk, slot)
     }
 }
 
@@ -107,19 +114,12 @@ impl Part for Turned<'_> {
     #[tactic(auto, unfolding(crate::specs::Timing::turned_text))]
     fn put<D: Desk>(&self, line: &mut Line, desk: &mut D, slot: OutSlot) -> Put {
         let (model, check) = self.0;
-        parts!(
-            Bytes(b"    $removal("),
-            Bytes(edge_text(check.second.edge)),
-            Bytes(port_at(model, check.second.pin)),
-            Bytes(joint_text(check.condition)),
-            Bytes(condition_text(model, check.condition)),
-            Bytes(b", "),
-            Bytes(edge_text(check.first.edge)),
-            Bytes(port_at(model, check.first.pin)),
-            Bytes(b", "),
-            Limit(self.0, b", ")
-        )
-        .put(line, desk, slot)
+        let limit = parts!(Bytes(b", "), Limit(self.0, b", "));
+        let joint = Bytes(joint_text(check.condition));
+        let condition = Bytes(condition_text(model, check.condition));
+        let first = Behind(model, check.first, limit);
+        let rest = parts!(joint, condition, Bytes(b", "), first);
+        parts!(Bytes(b"    $removal("), Behind(model, check.second, rest)).put(line, desk, slot)
     }
 }
 
@@ -133,25 +133,8 @@ impl Part for Width<'_> {
     #[tactic(auto, unfolding(crate::specs::Timing::width_text))]
     fn put<D: Desk>(&self, line: &mut Line, desk: &mut D, slot: OutSlot) -> Put {
         let (model, check) = self.0;
-        let edge = Bytes(edge_text(check.first.edge));
-        let port = Bytes(port_at(model, check.first.pin));
-        let rest = Conditional(self.0, b", 0, ");
-        parts!(Bytes(b"    $width("), edge, port, rest).put(line, desk, slot)
-    }
-}
-
-/// The line of a period of one kind of event, which begins with this word.
-#[derive(Drop)]
-struct PeriodLine<'a>(&'a [u8], Call<'a>);
-
-impl Part for PeriodLine<'_> {
-    ghost text = { λ m. period_line m.0.now m.1.0.now m.1.1.now };
-
-    #[tactic(auto, unfolding(crate::specs::Timing::period_line))]
-    fn put<D: Desk>(&self, line: &mut Line, desk: &mut D, slot: OutSlot) -> Put {
-        let (model, check) = self.1;
-        let port = Bytes(port_at(model, check.first.pin));
-        parts!(Bytes(self.0), port, Conditional(self.1, b", ")).put(line, desk, slot)
+        let event = Behind(model, check.first, Conditional(self.0, b", 0, "));
+        parts!(Bytes(b"    $width("), event).put(line, desk, slot)
     }
 }
 
@@ -162,10 +145,19 @@ struct Period<'a>(Call<'a>);
 impl Part for Period<'_> {
     ghost text = { λ m. period_text m.0.0.now m.0.1.now };
 
-    #[tactic(auto, unfolding(crate::specs::Timing::period_text))]
     fn put<D: Desk>(&self, line: &mut Line, desk: &mut D, slot: OutSlot) -> Put {
-        let rises = PeriodLine(b"    $period(posedge ", self.0);
-        let falls = PeriodLine(b"    $period(negedge ", self.0);
+        let (model, check) = self.0;
+        let port = port_at(model, check.first.pin);
+        let rises = parts!(
+            Bytes(b"    $period(posedge "),
+            Bytes(port),
+            Conditional(self.0, b", ")
+        );
+        let falls = parts!(
+            Bytes(b"    $period(negedge "),
+            Bytes(port),
+            Conditional(self.0, b", ")
+        );
         parts!(rises, falls).put(line, desk, slot)
     }
 }

@@ -1,7 +1,6 @@
 //! The Verilog text of primitives and modules, by IEEE 1364-2005, clauses 8, 12, 14 and 15.
 #![tactic(auto)]
 
-mod block;
 mod checks;
 mod declarations;
 mod instances;

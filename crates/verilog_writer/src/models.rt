@@ -1,19 +1,22 @@
 //! The text of a cell's module, behind its primitives.
-ghost use Rattle.std.specs.Prelude.{IsTrue};
+ghost use Rattle.std.specs.Prelude.{◌≡◌, IsTrue};
 ghost use Rattle.std.specs.List.{flat_map};
 ghost use Rattle.text_io.specs.declared.slots.OutSlot.TheVariants.{VerilogText};
 ghost use Rattle.text_io.specs.declared.slots.Slot.TheVariants.{Output};
 ghost use Rattle.text_io.specs.Desk.{is_bound, HasCause, WritesText};
 ghost use Rattle.verilog_writer.specs.Primitive.{primitive_text};
+ghost use Rattle.verilog_writer.specs.Timing.{has_block};
 ghost use Rattle.verilog_writer.specs.Model.{prelude_text, module_only_text, module_text};
 
-use crate::block::Block;
-use crate::declarations::{Declarations, Header};
+use crate::checks::CheckLines;
+use crate::declarations::{PortLines, Ports, Register};
 use crate::instances::InstanceLines;
+use crate::names::NameLines;
+use crate::paths::PathLines;
 use crate::primitive::write_udp;
 use specify_blocks::VModule;
 use text_io::{Desk, Failed, Line, OutSlot, write_whole};
-use text_parts::{Bytes, Each, Part, Put, parts};
+use text_parts::{Bytes, Each, Part, Put, When, parts, write_part};
 
 /// Appends what a text of modules begins with to the Verilog text, which is bound: times are in picoseconds. After `Failed`,
 /// which comes only where a write failed, a prefix of it was appended. It takes no memory.
@@ -56,28 +59,44 @@ fn write_module<D: Desk>(desk: &mut D, model: &VModule) -> Result<(), Failed>
     ensures text { WritesText (D.state desk.old) (D.state desk.new) VerilogText (module_only_text model.now) result }
     ensures cause { HasCause (D.faults desk.old) (D.faults desk.new) result }
 {
-    let mut line = Line::new();
-    Module(model).put(&mut line, desk, OutSlot::VerilogText)?;
-    line.flush(desk, OutSlot::VerilogText)
+    write_part(desk, OutSlot::VerilogText, &Module(model))
 }
 
-/// A module behind its primitives.
+/// Whether the module has a specify block.
+fn has_block(model: &VModule) -> bool
+    ensures { result ≡ has_block model.now }
+{
+    model.paths.len() > 0 || model.checks.len() > 0
+}
+
+/// A module behind its primitives: the line of its header, its declarations, its instances, and its specify block, where there is one.
 #[derive(Drop)]
 struct Module<'a>(&'a VModule);
 
 impl Part for Module<'_> {
     ghost text = { λ m. module_only_text m.0.now };
 
-    #[tactic(auto, unfolding(crate::specs::Model::module_only_text))]
     fn put<D: Desk>(&self, line: &mut Line, desk: &mut D, slot: OutSlot) -> Put {
-        let instances = Each(InstanceLines(self.0), self.0.instances.as_slice());
-        parts!(
-            Header(self.0),
-            Declarations(self.0),
-            instances,
-            Block(self.0),
-            Bytes(b"endmodule\n")
-        )
-        .put(line, desk, slot)
+        let model = self.0;
+        let name = model.name.as_slice();
+        let ports = model.ports.as_slice();
+        let wires = model.wires.as_slice();
+        let opening = parts!(Bytes(b"module "), Bytes(name), Bytes(b" ("));
+        let header = parts!(opening, Ports(ports), Bytes(b");\n"));
+        let (inputs, outputs) = (Each(PortLines(true), ports), Each(PortLines(false), ports));
+        let inner = Each(NameLines(b"  wire "), wires);
+        let declarations = parts!(inputs, outputs, inner, Register(&model.notifier));
+        let instances = Each(InstanceLines(model), model.instances.as_slice());
+        let paths = Each(PathLines(model), model.paths.as_slice());
+        let checks = Each(CheckLines(model), model.checks.as_slice());
+        let lines = parts!(
+            Bytes(b"  specify\n"),
+            paths,
+            checks,
+            Bytes(b"  endspecify\n")
+        );
+        let block = When(has_block(model), lines);
+        let end = Bytes(b"endmodule\n");
+        parts!(header, declarations, instances, block, end).put(line, desk, slot)
     }
 }

@@ -1,10 +1,10 @@
-//! The text of a primitive's table.
-ghost use Rattle.verilog_writer.specs.Primitive.{table_text, row_text, spaced_text, outcome_text};
+//! The rows of a primitive's table.
+ghost use Rattle.verilog_writer.specs.Primitive.{row_text, spaced_text, outcome_text};
 
 use crate::symbols::{level_text, next_text};
 use text_io::{Desk, Line, OutSlot};
 use text_parts::{Bytes, Each, ItemText, Part, Put, parts};
-use udp_tables::{Entry, Udp, UdpRow};
+use udp_tables::{Entry, UdpRow};
 
 /// Entries, each with a space after it.
 #[derive(Drop)]
@@ -52,7 +52,7 @@ impl Part for Outcome<'_> {
 
 /// Lines of rows, of a primitive with a state or of one without.
 #[derive(Drop)]
-struct Rows(bool);
+pub(crate) struct Rows(pub(crate) bool);
 
 impl ItemText<UdpRow> for Rows {
     ghost text = { λ m row. row_text m.0 row };
@@ -61,20 +61,5 @@ impl ItemText<UdpRow> for Rows {
     fn put<D: Desk>(&self, row: &UdpRow, line: &mut Line, desk: &mut D, slot: OutSlot) -> Put {
         let entries = Each(Entries, row.inputs.as_slice());
         parts!(Bytes(b"    "), entries, Outcome(self.0, row)).put(line, desk, slot)
-    }
-}
-
-/// The table, and the primitive's end.
-#[derive(Drop)]
-pub(crate) struct Table<'a>(pub(crate) &'a Udp);
-
-impl Part for Table<'_> {
-    ghost text = { λ m. table_text m.0.now };
-
-    #[tactic(auto, unfolding(crate::specs::Primitive::table_text))]
-    fn put<D: Desk>(&self, line: &mut Line, desk: &mut D, slot: OutSlot) -> Put {
-        let rows = Each(Rows(self.0.sequential), self.0.rows.as_slice());
-        let end = Bytes(b"  endtable\nendprimitive\n");
-        parts!(Bytes(b"  table\n"), rows, end).put(line, desk, slot)
     }
 }

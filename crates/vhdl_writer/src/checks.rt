@@ -3,7 +3,7 @@ ghost use Rattle.std.specs.Prelude.{◌≡◌};
 ghost use Rattle.vhdl_writer.specs.Statements.{enabled_text, test_at, reference_at, by_edge, transition_text, high_word, low_word, referring_text, setup_hold_text, recovery_word, recovery_removal_text, pulse_word, period_pulse_text, check_text};
 
 use crate::names::{Condition, port_at};
-use crate::parts::{CheckAt, ItemText};
+use crate::parts::{CheckAt, ItemText, Of};
 use cell_machine::{CheckKind, Edge, Event};
 use text_io::{Desk, Line, OutSlot};
 use text_parts::{Bytes, Decimal, Part, Put, parts};
@@ -72,24 +72,28 @@ fn transition_text(edge: Edge) -> &'static [u8]
     )
 }
 
+/// One of two words: the first where a check is of this kind.
+macro_rules! word_of {
+    ($kind:expr, $one:ident, $word:literal, $other:literal) => {
+        match $kind {
+            CheckKind::$one => $word,
+            _ => $other,
+        }
+    };
+}
+
 /// The word before the first limit of setup and of hold.
 fn high_word(kind: CheckKind) -> &'static [u8]
     ensures { result.now ≡ high_word kind }
 {
-    match kind {
-        CheckKind::Hold => b", HoldHigh => ",
-        _ => b", SetupHigh => ",
-    }
+    word_of!(kind, Hold, b", HoldHigh => ", b", SetupHigh => ")
 }
 
 /// The word before the second limit of setup and of hold.
 fn low_word(kind: CheckKind) -> &'static [u8]
     ensures { result.now ≡ low_word kind }
 {
-    match kind {
-        CheckKind::Hold => b" ps, HoldLow => ",
-        _ => b" ps, SetupLow => ",
-    }
+    word_of!(kind, Hold, b" ps, HoldLow => ", b" ps, SetupLow => ")
 }
 
 /// The call of a check that has a reference: what it begins with, and what stands behind the reference.
@@ -146,10 +150,7 @@ impl Part for SetupHold<'_> {
 fn recovery_word(kind: CheckKind) -> &'static [u8]
     ensures { result.now ≡ recovery_word kind }
 {
-    match kind {
-        CheckKind::Removal => b", Removal => ",
-        _ => b", Recovery => ",
-    }
+    word_of!(kind, Removal, b", Removal => ", b", Recovery => ")
 }
 
 /// The call of VitalRecoveryRemovalCheck for a check.
@@ -220,11 +221,7 @@ impl Part for PeriodPulse<'_> {
     }
 }
 
-/// Calls of checks.
-#[derive(Drop)]
-pub(crate) struct CheckCalls<'a>(pub(crate) &'a VEntity);
-
-impl ItemText<TimingCheck> for CheckCalls<'_> {
+impl ItemText<TimingCheck> for Of<'_> {
     ghost text = { λ m n k. check_text m.0.now n k };
 
     #[tactic(auto, unfolding(crate::specs::Statements::check_text))]

@@ -4,17 +4,16 @@ ghost use Rattle.text_io.specs.declared.slots.OutSlot.TheVariants.{VitalText};
 ghost use Rattle.text_io.specs.declared.slots.Slot.TheVariants.{Output};
 ghost use Rattle.text_io.specs.Desk.{is_bound, HasCause, WritesText};
 ghost use Rattle.vhdl_writer.specs.Declarations.{first_input};
-ghost use Rattle.vhdl_writer.specs.Entity.{end_text, statements_text, entity_text};
+ghost use Rattle.vhdl_writer.specs.Entity.{end_text, entity_text};
 
-use crate::checks::CheckCalls;
 use crate::declarations::{Header, Process, first_input};
 use crate::outputs::{OutputLines, ValueLines};
-use crate::parts::Each;
-use crate::states::{StateCalls, Violation};
-use crate::tables::Constants;
-use crate::variables::Variables;
+use crate::parts::{Each, Of};
+use crate::states::ListedReports;
+use crate::tables::ConstantLines;
+use crate::variables::{VariableLines, violation_variable};
 use text_io::{Desk, Failed, Line, OutSlot};
-use text_parts::{Bytes, Part, Put, parts};
+use text_parts::{Bytes, Part, Put, When, parts, write_part};
 use vital_models::VEntity;
 
 /// Appends the text of an entity and of its architecture to the VHDL text, which is bound. After `Failed`, which comes only where
@@ -25,9 +24,7 @@ pub fn write_entity<D: Desk>(desk: &mut D, entity: &VEntity) -> Result<(), Faile
     ensures text { WritesText (D.state desk.old) (D.state desk.new) VitalText (entity_text entity.now) result }
     ensures cause { HasCause (D.faults desk.old) (D.faults desk.new) result }
 {
-    let mut line = Line::new();
-    Entity(entity).put(&mut line, desk, OutSlot::VitalText)?;
-    line.flush(desk, OutSlot::VitalText)
+    write_part(desk, OutSlot::VitalText, &Entity(entity))
 }
 
 /// The end of the process and of the architecture. A process that responds to no signal waits.
@@ -41,25 +38,7 @@ fn end_text(entity: &VEntity) -> &'static [u8]
     }
 }
 
-/// The statements of an entity's process.
-#[derive(Drop)]
-struct Statements<'a>(&'a VEntity);
-
-impl Part for Statements<'_> {
-    ghost text = { λ m. statements_text m.0.now };
-
-    #[tactic(auto, unfolding(crate::specs::Entity::statements_text))]
-    fn put<D: Desk>(&self, line: &mut Line, desk: &mut D, slot: OutSlot) -> Put {
-        let checks = Each(CheckCalls(self.0), self.0.checks.as_slice());
-        let violation = Violation(self.0.checks.as_slice());
-        let states = Each(StateCalls(self.0), self.0.states.as_slice());
-        let values = Each(ValueLines(self.0), self.0.outputs.as_slice());
-        let outputs = Each(OutputLines(self.0), self.0.outputs.as_slice());
-        parts!(checks, violation, states, values, outputs).put(line, desk, slot)
-    }
-}
-
-/// An entity and its architecture.
+/// An entity and its architecture: its header, its constants, its process with its variables and its statements.
 #[derive(Drop)]
 struct Entity<'a>(&'a VEntity);
 
@@ -67,14 +46,41 @@ impl Part for Entity<'_> {
     ghost text = { λ m. entity_text m.0.now };
 
     fn put<D: Desk>(&self, line: &mut Line, desk: &mut D, slot: OutSlot) -> Put {
+        let entity = self.0;
+        let checks = entity.checks.as_slice();
+        let states = entity.states.as_slice();
+        let conditions = entity.conditions.as_slice();
+        let outputs = entity.outputs.as_slice();
+        let constants = parts!(
+            Each(ConstantLines(entity), states),
+            Each(ConstantLines(entity), conditions),
+            Each(ConstantLines(entity), outputs)
+        );
+        let variables = parts!(
+            Each(VariableLines, checks),
+            Bytes(violation_variable(checks)),
+            Each(VariableLines, states),
+            Each(VariableLines, outputs)
+        );
+        let reports = Each(ListedReports, checks);
+        let violation = parts!(Bytes(b"    viol := "), reports, Bytes(b";\n"));
+        let statements = parts!(
+            Each(Of(entity), checks),
+            When(checks.len() > 0, violation),
+            Each(Of(entity), states),
+            Each(ValueLines(entity), outputs),
+            Each(OutputLines(entity), outputs)
+        );
+        let begin = Bytes(b"  begin\n");
+        let end = Bytes(end_text(entity));
         parts!(
-            Header(self.0),
-            Constants(self.0),
-            Process(self.0),
-            Variables(self.0),
-            Bytes(b"  begin\n"),
-            Statements(self.0),
-            Bytes(end_text(self.0))
+            Header(entity),
+            constants,
+            Process(entity),
+            variables,
+            begin,
+            statements,
+            end
         )
         .put(line, desk, slot)
     }

@@ -1,9 +1,9 @@
 //! The names of an entity's parts by their numbers, and lists of them in calls.
 ghost use Rattle.std.specs.Prelude.{◌≡◌};
 ghost use Rattle.vhdl_writer.specs.Joined.{apart_text};
-ghost use Rattle.vhdl_writer.specs.Names.{port_at, inputs_at, list_start, violated_start, listed_text, input_text, next_input_text, columns_text, source_name, source_text, condition_text};
+ghost use Rattle.vhdl_writer.specs.Names.{port_at, inputs_at, list_start, violated_start, listed_text, input_text, next_input_text, columns_text, source_text, condition_text};
 
-use crate::parts::{At, Each, ItemText};
+use crate::parts::{At, Each, ItemText, Of};
 use cell_machine::Source;
 use text_io::{Desk, Line, OutSlot};
 use text_parts::{Bytes, Decimal, Part, Put, parts};
@@ -50,11 +50,7 @@ fn violated_start(count: usize) -> &'static [u8]
     if count == 0 { b"(0 => viol" } else { b"(viol" }
 }
 
-/// Inputs, and inputs and states, of an entity in a list of such.
-#[derive(Drop)]
-pub(crate) struct Names<'a>(pub(crate) &'a VEntity);
-
-impl ItemText<usize> for Names<'_> {
+impl ItemText<usize> for Of<'_> {
     ghost text = { λ m n p. input_text m.0.now n p };
 
     #[tactic(auto, unfolding(crate::specs::Names::input_text))]
@@ -64,31 +60,18 @@ impl ItemText<usize> for Names<'_> {
     }
 }
 
-/// The name of an input or of a state.
-#[derive(Drop)]
-struct SourceName<'a>(&'a VEntity, Source);
-
-impl Part for SourceName<'_> {
-    ghost text = { λ m. source_name m.0.now m.1 };
-
-    #[tactic(auto, unfolding(crate::specs::Names::source_name))]
-    fn put<D: Desk>(&self, line: &mut Line, desk: &mut D, slot: OutSlot) -> Put {
-        match self.1 {
-            Source::Pin(port) => Bytes(port_at(self.0, port)).put(line, desk, slot),
-            Source::State(state) => {
-                parts!(Bytes(b"s_"), Decimal(state as u128 + 1)).put(line, desk, slot)
-            }
-        }
-    }
-}
-
-impl ItemText<Source> for Names<'_> {
+impl ItemText<Source> for Of<'_> {
     ghost text = { λ m n s. source_text m.0.now n s };
 
-    #[tactic(auto, unfolding(crate::specs::Names::source_text))]
+    #[tactic(auto, unfolding(crate::specs::Names::source_text, crate::specs::Names::source_name))]
     fn put<D: Desk>(&self, at: &At<Source>, line: &mut Line, desk: &mut D, slot: OutSlot) -> Put {
-        let name = SourceName(self.0, *at.item);
-        parts!(Bytes(apart(b", ", at.number)), name).put(line, desk, slot)
+        let start = Bytes(apart(b", ", at.number));
+        match *at.item {
+            Source::Pin(port) => (start, Bytes(port_at(self.0, port))).put(line, desk, slot),
+            Source::State(state) => {
+                parts!(start, Bytes(b"s_"), Decimal(state as u128 + 1)).put(line, desk, slot)
+            }
+        }
     }
 }
 
@@ -132,7 +115,7 @@ impl Part for StateColumns<'_> {
             let names = Each(NextInput(self.0), inputs);
             parts!(Bytes(violated_start(inputs.len())), names, Bytes(b")")).put(line, desk, slot)
         } else {
-            Listed(Each(Names(self.0), inputs)).put(line, desk, slot)
+            Listed(Each(Of(self.0), inputs)).put(line, desk, slot)
         }
     }
 }
@@ -146,7 +129,7 @@ impl Part for Condition<'_> {
 
     #[tactic(auto, unfolding(crate::specs::Names::condition_text, crate::specs::Names::inputs_text))]
     fn put<D: Desk>(&self, line: &mut Line, desk: &mut D, slot: OutSlot) -> Put {
-        let inputs = Each(Names(self.0), inputs_at(self.0, self.1));
+        let inputs = Each(Of(self.0), inputs_at(self.0, self.1));
         parts!(
             Bytes(b"VitalTruthTable (TruthTable => c_"),
             Decimal(self.1 as u128 + 1),

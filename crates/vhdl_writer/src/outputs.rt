@@ -1,8 +1,8 @@
 //! The statements that assign outputs. (IEEE 1076.4-2000, VitalTruthTable and VitalPathDelay01; IEEE 1076-1993, 8.4 and 8.5.)
 ghost use Rattle.vhdl_writer.specs.Outputs.{lookup_text, assigned_text, value_line, zero_text, gate_text, path_text, paths_text, output_line};
 
-use crate::names::{Condition, Listed, Names, apart, port_at};
-use crate::parts::{At, Each, ItemText};
+use crate::names::{Condition, Listed, apart, port_at};
+use crate::parts::{At, Each, ItemText, Of};
 use crate::tables::table_number;
 use cell_machine::Source;
 use text_io::{Desk, Line, OutSlot};
@@ -17,7 +17,7 @@ impl Part for Lookup<'_> {
     ghost text = { λ m. lookup_text m.0.now m.1 m.2.now };
 
     fn put<D: Desk>(&self, line: &mut Line, desk: &mut D, slot: OutSlot) -> Put {
-        let sources = Each(Names(self.0), self.2);
+        let sources = Each(Of(self.0), self.2);
         parts!(
             Bytes(b"VitalTruthTable (TruthTable => k_"),
             Decimal(table_number(self.0, self.1)),
@@ -110,11 +110,7 @@ impl Part for Gate<'_> {
     }
 }
 
-/// Paths of an output.
-#[derive(Drop)]
-struct Paths<'a>(&'a VEntity);
-
-impl ItemText<HPath> for Paths<'_> {
+impl ItemText<HPath> for Of<'_> {
     ghost text = { λ m n path. path_text m.0.now n path };
 
     fn put<D: Desk>(&self, at: &At<HPath>, line: &mut Line, desk: &mut D, slot: OutSlot) -> Put {
@@ -145,7 +141,7 @@ impl Part for PathCall<'_> {
 
     fn put<D: Desk>(&self, line: &mut Line, desk: &mut D, slot: OutSlot) -> Put {
         let port = port_at(self.0, self.2.port);
-        let paths = Each(Paths(self.0), self.2.paths.as_slice());
+        let paths = Each(Of(self.0), self.2.paths.as_slice());
         parts!(
             Bytes(b"    VitalPathDelay01 (OutSignal => "),
             Bytes(port),

@@ -9,6 +9,7 @@ ghost use Rattle.vhdl_writer.specs.Joined.{numbered_texts};
 use text_io::{Desk, Line, OutSlot};
 use text_parts::{Part, Put};
 use udp_tables::TimingCheck;
+use vital_models::VEntity;
 
 /// An item at its place in a list: its number, from 1, and the item.
 #[derive(Drop)]
@@ -32,6 +33,11 @@ pub(crate) trait ItemText<T> {
         ensures text { PutsText (D.state desk.old) (D.state desk.new) slot line.old (text self.now at.now.number at.now.item.now) line.new result }
         ensures cause { HasCause (D.faults desk.old) (D.faults desk.new) result };
 }
+
+/// Items of an entity, as they stand in lists and in lines of its text: an input and a source by its name, a check and a state by
+/// its call, a path by its ports and delays.
+#[derive(Drop)]
+pub(crate) struct Of<'a>(pub(crate) &'a VEntity);
 
 /// What each item of a list is as text, and the items, numbered from 1.
 #[derive(Drop)]

@@ -1,16 +1,16 @@
-//! The violation, and the calls of state tables. (IEEE 1076.4-2000, VitalStateTable.)
-ghost use Rattle.vhdl_writer.specs.Statements.{report_text, reports_text, violation_text, state_text};
+//! Reports of checks, and the calls of state tables. (IEEE 1076.4-2000, VitalStateTable.)
+ghost use Rattle.vhdl_writer.specs.Statements.{report_text, state_text};
 
 use crate::names::{StateColumns, apart};
-use crate::parts::{At, CheckAt, Each, ItemText};
+use crate::parts::{At, CheckAt, ItemText, Of};
 use text_io::{Desk, Line, OutSlot};
-use text_parts::{Bytes, Decimal, Part, Put, When, parts};
+use text_parts::{Bytes, Decimal, Part, Put, parts};
 use udp_tables::TimingCheck;
-use vital_models::{VEntity, VState};
+use vital_models::VState;
 
 /// Reports of checks among all of them.
 #[derive(Drop)]
-struct ListedReports;
+pub(crate) struct ListedReports;
 
 impl ItemText<TimingCheck> for ListedReports {
     ghost text = { λ _ n k. report_text n k };
@@ -22,26 +22,7 @@ impl ItemText<TimingCheck> for ListedReports {
     }
 }
 
-/// What the violation is, where there are checks: whether one of them reported.
-#[derive(Drop)]
-pub(crate) struct Violation<'a>(pub(crate) &'a [TimingCheck]);
-
-impl Part for Violation<'_> {
-    ghost text = { λ m. violation_text m.0.now };
-
-    #[tactic(auto, unfolding(crate::specs::Statements::reports_text))]
-    fn put<D: Desk>(&self, line: &mut Line, desk: &mut D, slot: OutSlot) -> Put {
-        let reports = Each(ListedReports, self.0);
-        let assigned = parts!(Bytes(b"    viol := "), reports, Bytes(b";\n"));
-        When(self.0.len() > 0, assigned).put(line, desk, slot)
-    }
-}
-
-/// Calls of the tables of states.
-#[derive(Drop)]
-pub(crate) struct StateCalls<'a>(pub(crate) &'a VEntity);
-
-impl ItemText<VState> for StateCalls<'_> {
+impl ItemText<VState> for Of<'_> {
     ghost text = { λ m n state. state_text m.0.now n state };
 
     #[tactic(auto, unfolding(crate::specs::Statements::state_text))]

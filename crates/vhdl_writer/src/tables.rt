@@ -1,6 +1,6 @@
 //! The constants of an architecture: its tables. (IEEE 1076.4-2000, VitalTruthTableType and VitalStateTableType.)
-ghost use Rattle.std.specs.Prelude.{◌≡◌, count_by, take};
-ghost use Rattle.vhdl_writer.specs.Tables.{row_start, state_row_text, truth_row_text, truth_rows_text, constant_text, state_constant_text, condition_constant_text, is_looked_up, table_number, output_table_text, output_constant_text, constants_text};
+ghost use Rattle.std.specs.Prelude.{◌≡◌, codes, count_by, take};
+ghost use Rattle.vhdl_writer.specs.Tables.{row_start, state_row_text, truth_row_text, truth_rows_text, constant_text, state_constant_text, condition_constant_text, is_looked_up, table_number, output_table_text, output_constant_text};
 
 use crate::parts::{At, Each, ItemText};
 use crate::symbols::{Columns, level_text, next_text, value_text};
@@ -57,20 +57,6 @@ impl ItemText<TruthRow> for Rows {
     }
 }
 
-/// All rows of a truth table.
-#[derive(Drop)]
-struct Truth<'a>(&'a TruthTable);
-
-impl Part for Truth<'_> {
-    ghost text = { λ m. truth_rows_text m.0.now };
-
-    #[tactic(auto, unfolding(crate::specs::Tables::truth_rows_text))]
-    fn put<D: Desk>(&self, line: &mut Line, desk: &mut D, slot: OutSlot) -> Put {
-        let items = self.0.rows.as_slice();
-        Each(Rows(items.len()), items).put(line, desk, slot)
-    }
-}
-
 /// The constant of a table with this number: what it begins with, its type, and its rows.
 #[derive(Drop)]
 struct Constant<'a, P>(&'a [u8], u128, &'a [u8], P);
@@ -90,9 +76,23 @@ impl<P: Part> Part for Constant<'_, P> {
     }
 }
 
+/// The constant of a truth table with this number, which begins so.
+#[derive(Drop)]
+struct TruthConstant<'a>(&'a [u8], u128, &'a TruthTable);
+
+impl Part for TruthConstant<'_> {
+    ghost text = { λ m. constant_text m.0.now m.1 (codes " : VitalTruthTableType := (") (truth_rows_text m.2.now) };
+
+    fn put<D: Desk>(&self, line: &mut Line, desk: &mut D, slot: OutSlot) -> Put {
+        let items = self.2.rows.as_slice();
+        let rows = Each(Rows(items.len()), items);
+        Constant(self.0, self.1, b" : VitalTruthTableType := (", rows).put(line, desk, slot)
+    }
+}
+
 /// Constants of the tables of states, of conditions, and of those outputs that have one.
 #[derive(Drop)]
-struct ConstantLines<'a>(&'a VEntity);
+pub(crate) struct ConstantLines<'a>(pub(crate) &'a VEntity);
 
 impl ItemText<VState> for ConstantLines<'_> {
     ghost text = { λ _ n state. state_constant_text n state };
@@ -111,9 +111,8 @@ impl ItemText<VTruth> for ConstantLines<'_> {
 
     #[tactic(auto, unfolding(crate::specs::Tables::condition_constant_text))]
     fn put<D: Desk>(&self, at: &At<VTruth>, line: &mut Line, desk: &mut D, slot: OutSlot) -> Put {
-        let rows = Truth(&at.item.table);
-        let between = b" : VitalTruthTableType := (";
-        Constant(b"  constant c_", at.number as u128, between, rows).put(line, desk, slot)
+        let number = at.number as u128;
+        TruthConstant(b"  constant c_", number, &at.item.table).put(line, desk, slot)
     }
 }
 
@@ -164,11 +163,9 @@ struct OutputTable<'a>(&'a VEntity, usize, &'a TruthTable);
 impl Part for OutputTable<'_> {
     ghost text = { λ m. output_table_text m.0.now m.1 m.2.now };
 
-    #[tactic(auto, unfolding(crate::specs::Tables::output_table_text))]
     fn put<D: Desk>(&self, line: &mut Line, desk: &mut D, slot: OutSlot) -> Put {
         let number = table_number(self.0, self.1);
-        let between = b" : VitalTruthTableType := (";
-        Constant(b"  constant k_", number, between, Truth(self.2)).put(line, desk, slot)
+        TruthConstant(b"  constant k_", number, self.2).put(line, desk, slot)
     }
 }
 
@@ -182,21 +179,5 @@ impl ItemText<VOutput> for ConstantLines<'_> {
                 OutputTable(self.0, at.number, table).put(line, desk, slot)
             }
         }
-    }
-}
-
-/// The constants of an entity.
-#[derive(Drop)]
-pub(crate) struct Constants<'a>(pub(crate) &'a VEntity);
-
-impl Part for Constants<'_> {
-    ghost text = { λ m. constants_text m.0.now };
-
-    #[tactic(auto, unfolding(crate::specs::Tables::constants_text))]
-    fn put<D: Desk>(&self, line: &mut Line, desk: &mut D, slot: OutSlot) -> Put {
-        let states = Each(ConstantLines(self.0), self.0.states.as_slice());
-        let conditions = Each(ConstantLines(self.0), self.0.conditions.as_slice());
-        let outputs = Each(ConstantLines(self.0), self.0.outputs.as_slice());
-        parts!(states, conditions, outputs).put(line, desk, slot)
     }
 }

@@ -1,13 +1,13 @@
 //! The variables of an entity's process. (IEEE 1076-1993, 4.3.1.3; IEEE 1076.4-2000, the types of checks and of path delays.)
 ghost use Rattle.std.specs.Prelude.{◌≡◌};
-ghost use Rattle.vhdl_writer.specs.Declarations.{data_text, check_variables_text, violation_variable_text, width_of, state_variables_text, output_variables_text, variables_text};
+ghost use Rattle.vhdl_writer.specs.Declarations.{data_text, check_variables_text, violation_variable_text, width_of, state_variables_text, output_variables_text};
 
-use crate::parts::{At, CheckAt, Each, ItemText};
+use crate::parts::{At, CheckAt, ItemText};
 use cell_machine::CheckKind;
 use text_io::{Desk, Line, OutSlot};
 use text_parts::{Bytes, Decimal, Part, Put, When, parts};
 use udp_tables::TimingCheck;
-use vital_models::{VEntity, VOutput, VState, VStateRow};
+use vital_models::{VOutput, VState, VStateRow};
 
 /// The type of the data of a check, and what they are at first.
 fn data_text(kind: CheckKind) -> &'static [u8]
@@ -23,7 +23,7 @@ fn data_text(kind: CheckKind) -> &'static [u8]
 
 /// Variables of checks, of states and of outputs.
 #[derive(Drop)]
-struct VariableLines;
+pub(crate) struct VariableLines;
 
 impl ItemText<TimingCheck> for VariableLines {
     ghost text = { λ _ n k. check_variables_text n k };
@@ -42,7 +42,7 @@ impl ItemText<TimingCheck> for VariableLines {
 }
 
 /// The variable of the violation, where there are checks.
-fn violation_variable(checks: &[TimingCheck]) -> &'static [u8]
+pub(crate) fn violation_variable(checks: &[TimingCheck]) -> &'static [u8]
     ensures { result.now ≡ violation_variable_text checks.now }
 {
     if checks.is_empty() {
@@ -97,22 +97,5 @@ impl ItemText<VOutput> for VariableLines {
             When(paths.len() > 0, glitch)
         )
         .put(line, desk, slot)
-    }
-}
-
-/// The variables of an entity's process.
-#[derive(Drop)]
-pub(crate) struct Variables<'a>(pub(crate) &'a VEntity);
-
-impl Part for Variables<'_> {
-    ghost text = { λ m. variables_text m.0.now };
-
-    #[tactic(auto, unfolding(crate::specs::Declarations::variables_text))]
-    fn put<D: Desk>(&self, line: &mut Line, desk: &mut D, slot: OutSlot) -> Put {
-        let checks = Each(VariableLines, self.0.checks.as_slice());
-        let violation = Bytes(violation_variable(self.0.checks.as_slice()));
-        let states = Each(VariableLines, self.0.states.as_slice());
-        let outputs = Each(VariableLines, self.0.outputs.as_slice());
-        parts!(checks, violation, states, outputs).put(line, desk, slot)
     }
 }

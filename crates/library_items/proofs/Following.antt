@@ -1,5 +1,5 @@
 -- Going over the items of a library one after another.
-use Rattle.std.proofs.Common.{◌≡◌, ℕ, ◌+◌, ◌≤◌, Bool, true, false, List, [], ◌∷◌, ◌++◌, reverse, drop, length, Option, Some, None, ◌⊎◌, inl, inr, refl, sym, ap, subst, ◌∙◌, append_assoc, arith}
+use Rattle.std.proofs.Common.{◌≡◌, ℕ, ◌+◌, ◌≤◌, Bool, true, false, List, [], ◌∷◌, ◌++◌, reverse, drop, length, Option, Some, None, Err, ◌⊎◌, inl, inr, refl, sym, ap, subst, ◌∙◌, append_assoc, arith}
 use Rattle.std.proofs.lemmas.List.{append-nil}
 use Rattle.std.specs.Option.{option_map}
 use Rattle.text_io.specs.declared.slots.InSlot.TheVariants.{Library}
@@ -17,6 +17,9 @@ use Rattle.cell_parts.specs.Groups.{cell_name}
 use Rattle.library_items.specs.declared.progress.Progress.{Progress}
 use Rattle.library_items.specs.declared.ending.Ending.{Ending}
 use Rattle.library_items.specs.declared.ending.Ending.TheVariants as ending
+use Rattle.library_items.specs.declared.stop.Stop.{Stop}
+use Rattle.library_items.specs.declared.stop.Stop.TheVariants as stops
+use Rattle.library_items.specs.Stops.{StopsWithCause}
 use Rattle.library_items.specs.Progress.{next_refusal, entity_by, after_cell, after_item, progress_after}
 use Rattle.library_items.specs.Endings.{ending_by, ending_of}
 use Rattle.library_items.specs.Steps.{end_told, TellsEnd, IsAtEnd}
@@ -188,3 +191,13 @@ all_given limit left now next p q c d e all h m a t is =
 pub failed_now : (first old new : ℕ) (failed : Bool) → old ≡ first → failed ≡ false → (failed ≡ true) ⊎ Rose old new → Rose first new
 failed_now first old new failed same not w =
     elim w [ inl was ↦ absurd (let h : false ≡ true = sym not ∙ was in cc) | inr rose ↦ omega (arith, same, rose) ]
+
+-- a command that stops at a step, before which no fault was counted
+pub stops_at_step : {T : Type 0} (first old new : ℕ) (failed : Bool) (stop : Stop) → old ≡ first → failed ≡ false → old ≤ new →
+    (stop ≡ stops.Memory → failed ≡ false → new ≡ old) → (stop ≡ stops.Failed → (failed ≡ true) ⊎ Rose old new) → StopsWithCause {T = T} first new (Err stop)
+stops_at_step first old new failed stop same not later memory rises = record {
+  later = omega arith;
+  kept = tt;
+  memory = λ e. memory e not ∙ same;
+  failed = λ e. failed_now first old new failed same not (rises e);
+}

@@ -56,26 +56,6 @@ fn read_next(alloc: Global, progress: &mut Progress, group: &Group) -> Result<Ne
     Ok(next)
 }
 
-/// Reads the next cell, counts it, and takes it where no cell before it has its name. It stops only where memory is wanting.
-fn take_cell<F: CellFold>(
-    alloc: Global,
-    progress: &mut Progress,
-    fold: &mut F,
-    group: &Group,
-) -> Result<(), Stop>
-    requires { progress.old.accepted + progress.old.refused + 1 < 2147483648 }
-    ensures made { OnOk result ((cells : List CellEntry) → F.made fold.old cells → F.made fold.new (cells ++ item_kept progress.old (item.Cell group.now))) }
-    ensures progress { OnOk result (progress.new ≡ after_item progress.old (item.Cell group.now)) }
-    ensures memory { IfErr result (λ stop. stop ≡ Stop.Memory) }
-{
-    let is_repeated = progress.names.number(cell_name(group)).is_some();
-    let next = read_next(alloc, progress, group)?;
-    if is_repeated {
-        return Ok(());
-    }
-    fold.take(alloc, group, next)
-}
-
 /// Counts an item of a library, and takes it where it is a cell whose name no cell before it has. It stops only where memory is
 /// wanting.
 fn take_item<F: CellFold>(
@@ -90,7 +70,14 @@ fn take_item<F: CellFold>(
     ensures memory { IfErr result (λ stop. stop ≡ Stop.Memory) }
 {
     match item {
-        LibraryItem::Cell(group) => take_cell(alloc, progress, fold, group),
+        LibraryItem::Cell(group) => {
+            let is_repeated = progress.names.number(cell_name(group)).is_some();
+            let next = read_next(alloc, progress, group)?;
+            if is_repeated {
+                return Ok(());
+            }
+            fold.take(alloc, group, next)
+        }
         LibraryItem::Unit(line) => {
             progress.unit = unit_of(line.value.as_slice());
             Ok(())

@@ -3,7 +3,7 @@ use Rattle.text_io.specs.declared.slots.InSlot.TheVariants.{Library}
 use Rattle.text_io.specs.declared.slots.Slot.TheVariants.{Input}
 use Rattle.text_io.proofs.Took.{bound_still}
 use Rattle.cell_cursor.specs.Stands.{is_failed}
-use Rattle.library_items.proofs.Following.{room_kept, ends_on, failed_now}
+use Rattle.library_items.proofs.Following.{room_kept, ends_on, stops_at_step}
 use Rattle.library_items.proofs.KeptLemmas.{made_start, made_next, folds_first, folds_seeking, folds_between, folds_all}
 use Rattle.library_items.proofs.fold.fold_cells.Goals as goal
 
@@ -24,12 +24,8 @@ returns-in-Err-clause-cells g c =
     folds_seeking _ _ c.args.limit _ _ _ _ _ _ _ _ c.loop-turn.invariant.made c.in-Err.ensures.steps.moves refl
 
 pub returns-in-Err-clause-cause : goal.returns-in-Err-clause-cause
-returns-in-Err-clause-cause g c = record {
-  later = omega (arith, c.in-Err.ensures.later, c.loop-turn.invariant.same);
-  kept = tt;
-  memory = λ e. c.in-Err.ensures.memory e c.loop-turn.invariant.unfailed ∙ c.loop-turn.invariant.same;
-  failed = λ e. failed_now _ _ _ _ c.loop-turn.invariant.same c.loop-turn.invariant.unfailed (c.in-Err.ensures.failed e);
-}
+returns-in-Err-clause-cause g c =
+    stops_at_step _ _ _ _ _ c.loop-turn.invariant.same c.loop-turn.invariant.unfailed c.in-Err.ensures.later c.in-Err.ensures.memory c.in-Err.ensures.failed
 
 pub returns-in_err-take_item-in-Ok-Item-clause-cells : goal.returns-in_err-take_item-in-Ok-Item-clause-cells
 returns-in_err-take_item-in-Ok-Item-clause-cells g c =

@@ -3,10 +3,9 @@ use Rattle.std.proofs.Common.{◌≡◌, ℕ, zero, suc, ◌+◌, ◌≤◌, Boo
 use Rattle.std.proofs.lemmas.Bool.{and_parts, eqb-true}
 use Rattle.std.specs.List.{prefix_len}
 use Rattle.verilog_tokens.specs.Tokens.{is_blank, begins_with, later, comment_rest, block_length, separator_length}
-use Rattle.verilog_tokens.specs.Cover.{IsSeparator, spelling, IsCovered}
+use Rattle.verilog_tokens.specs.Cover.{IsSeparator, spelling}
 use Rattle.verilog_tokens.specs.Cover as cover
 use Rattle.token_spans.proofs.Covered.{AsSeparator, blank_here, line_here, Finds}
-use Rattle.token_spans.proofs.Covered as cov
 use Rattle.verilog_tokens.proofs.Longest.{token_here, token_least}
 
 some_is : (x y : ℕ) → Some x ≡ Some y → x ≡ y
@@ -66,8 +65,5 @@ separator_here b k s e = by (is_blank b) (begins_with (b ∷ s) (codes "//")) (b
     by false false false f g h e = absurd (omega arith)
 
 -- what must be known of the language
-finds : Finds spelling
+pub finds : Finds spelling
 finds = record { separator_here = separator_here; token_here = token_here; token_least = token_least }
-
-pub covered : (text : List ℕ) → IsCovered text
-covered = cov.covered spelling finds

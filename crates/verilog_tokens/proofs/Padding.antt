@@ -1,11 +1,7 @@
 -- What is added between tokens changes none.
-use Rattle.std.proofs.Common.{◌≡◌, ℕ, suc, ◌+◌, Bool, true, false, not, ◌&&◌, ◌==◌, if◌then◌else◌, List, [], ◌∷◌, ◌++◌, length, Option, Some, None, unwrap_or, refl, sym, ap, ◌∙◌, arith, subst, append_assoc, length-append}
-use Rattle.std.specs.List.{list_all}
+use Rattle.std.proofs.Common.{◌≡◌, inl, inr, ℕ, suc, ◌+◌, Bool, true, false, ◌&&◌, ◌==◌, if◌then◌else◌, List, [], ◌∷◌, ◌++◌, length, Option, Some, None, unwrap_or, refl, sym, ap, ◌∙◌, arith, append_assoc, length-append}
 use Rattle.verilog_tokens.specs.Tokens.{is_blank, later, comment_rest, separator_length, token_length, is_open_after, lexis, scan}
-use Rattle.verilog_tokens.specs.Separators.{IsSeparation, Padded, spelled, HaveSameTokens}
-use Rattle.verilog_tokens.specs.Separators as pad
-use Rattle.token_spans.proofs.Alike.{Alike}
-use Rattle.token_spans.proofs.Alike as alike
+use Rattle.verilog_tokens.specs.Separators.{IsComment, Padded, spelled, HaveSameTokens}
 pub use Rattle.token_spans.proofs.Padding.{Found, word_before}
 use Rattle.token_spans.proofs.Padding.{Lets}
 use Rattle.token_spans.proofs.Padding as padding
@@ -28,9 +24,6 @@ over_token = padding.over_token lexis
 pub blank_length : (b : ℕ) (s : List ℕ) → is_blank b ≡ true → separator_length (b ∷ s) ≡ 1
 blank_length b s e = rw e refl
 
-over_blank : (t : Bool) (at z b : ℕ) (r : List ℕ) → is_blank b ≡ true → spelled (scan t at 0 (b ∷ r)) ≡ spelled (scan t z 0 r)
-over_blank = padding.over_blank lexis blank_length
-
 no_end : (t : Bool) (o : Option ℕ) → (if t then Some 1 else later 1 o) ≡ None → (t ≡ false) × (o ≡ None)
 no_end true o e = absurd cc
 no_end false None e = (refl, refl)
@@ -46,43 +39,24 @@ closes star (c ∷ body) r e =
     let n : 1 + (length body + 2) ≡ suc (length body) + 2 = omega arith in
     ap (λ (t : Bool). if t then Some 1 else later 1 (comment_rest (c == 42) (body ++ (42 ∷ 47 ∷ r)))) s.0 ∙ ap (later 1) i ∙ ap (λ (k : ℕ). Some k) n
 
-over_line : (t : Bool) (at z : ℕ) (body r : List ℕ) → list_all (λ c. not (c == 10)) body ≡ true →
-    spelled (scan t at 0 (47 ∷ 47 ∷ body ++ (10 ∷ r))) ≡ spelled (scan t z 0 r)
-over_line = padding.over_line lexis blank_length 47 (λ s. refl)
-
-over_block : (t : Bool) (at z : ℕ) (body r : List ℕ) → comment_rest false body ≡ None →
-    spelled (scan t at 0 (47 ∷ 42 ∷ body ++ (42 ∷ 47 ∷ r))) ≡ spelled (scan t z 0 r)
-over_block t at z body r e =
+over_block : (c : List ℕ) (body : List ℕ) → comment_rest false body ≡ None → c ≡ 47 ∷ 42 ∷ body ++ (42 ∷ 47 ∷ []) → (t : Bool) (at z : ℕ) (r : List ℕ) →
+    spelled (scan t at 0 (c ++ r)) ≡ spelled (scan t z 0 r)
+over_block c body e f t at z r =
     let w : List ℕ = 42 ∷ body ++ (42 ∷ 47 ∷ []) in
     let same : 42 ∷ body ++ (42 ∷ 47 ∷ r) ≡ w ++ r = ap (λ (s : List ℕ). 42 ∷ s) (sym (append_assoc body (42 ∷ 47 ∷ []) r)) in
     let i : separator_length (47 ∷ 42 ∷ body ++ (42 ∷ 47 ∷ r)) ≡ 2 + (length body + 2) = ap (λ (o : Option ℕ). unwrap_or (later 2 o) 0) (closes false body r e) in
     let n : 2 + (length body + 2) ≡ suc (length w) = omega (arith, length-append body (42 ∷ 47 ∷ [])) in
-    ap (λ (s : List ℕ). spelled (scan t at 0 (47 ∷ s))) same ∙ over_separator t at z 47 w r (sym (ap (λ (s : List ℕ). separator_length (47 ∷ s)) same) ∙ i ∙ n)
+    ap (λ (s : List ℕ). spelled (scan t at 0 (s ++ r))) f
+    ∙ over_separator t at z 47 w r (sym (ap (λ (s : List ℕ). separator_length (47 ∷ s)) same) ∙ i ∙ n)
 
--- what is added is passed over
-added : {s : List ℕ} → IsSeparation s → (t : Bool) (at z : ℕ) (r : List ℕ) → spelled (scan t at 0 (s ++ r)) ≡ spelled (scan t z 0 r)
-added pad.nothing t at z r = any_offset t at z 0 r
-added (pad.blank {b} {s} e h) t at z r = over_blank t at 0 b (s ++ r) e ∙ added h t 0 z r
-added (pad.line_comment b body rest e f h g) t at z r =
-    padding.over_comment lexis blank_length t at 0 b (47 ∷ 47 ∷ []) body (10 ∷ []) e (λ (u : List ℕ). over_line t 0 0 body u f) rest r g ∙ added h t 0 z r
-added (pad.block_comment b body rest e f h g) t at z r =
-    padding.over_comment lexis blank_length t at 0 b (47 ∷ 42 ∷ []) body (42 ∷ 47 ∷ []) e (λ (u : List ℕ). over_block t 0 0 body u f) rest r g ∙ added h t 0 z r
-
-alike_added : {s : List ℕ} → IsSeparation s → {r p : List ℕ} → Alike r p → Alike r (s ++ p)
-alike_added pad.nothing h = h
-alike_added (pad.blank {b} {s} e g) h = alike.blank b e
-alike_added (pad.line_comment b body rest e f g k) {r} {p} h = subst (λ (x : List ℕ). Alike r (x ++ p)) (sym k) (alike.blank b e)
-alike_added (pad.block_comment b body rest e f g k) {r} {p} h = subst (λ (x : List ℕ). Alike r (x ++ p)) (sym k) (alike.blank b e)
+over_comment : (c : List ℕ) → IsComment c → (t : Bool) (at z : ℕ) (r : List ℕ) → spelled (scan t at 0 (c ++ r)) ≡ spelled (scan t z 0 r)
+over_comment c (inl line) = padding.over_line lexis blank_length 47 (λ s. refl) c line
+over_comment c (inr (body, e, f)) = over_block c body e f
 
 -- what must be known of the language
-lets : Lets lexis IsSeparation
-lets = record {
-  added = λ s h. added h;
-  alike_added = λ s h r p. alike_added h;
-  token_first = no_separator;
-  token_stays = λ t b w r p. token_stays t b w;
-}
+pub lets : Lets lexis IsComment
+lets = record { blank_length = blank_length; over_comment = over_comment; token_first = no_separator; token_stays = token_stays }
 
 -- what is added between tokens changes none
 pub same_tokens : (text other : List ℕ) → Padded false text other → HaveSameTokens text other
-same_tokens = padding.same_tokens lexis IsSeparation lets
+same_tokens = padding.same_tokens lexis IsComment lets

@@ -1,9 +1,10 @@
 -- A token in front of bytes stays one where the bytes behind it change only behind a blank.
-use Rattle.std.proofs.Common.{◌≡◌, ℕ, suc, ◌+◌, Bool, true, false, ◌&&◌, ◌||◌, nat_le, if◌then◌else◌, List, ◌∷◌, ◌++◌, length, refl, sym, ◌∙◌, arith, codes}
+use Rattle.std.proofs.Common.{◌≡◌, ℕ, suc, ◌+◌, Bool, true, false, ◌&&◌, ◌||◌, if◌then◌else◌, List, ◌∷◌, ◌++◌, length, refl, sym, ◌∙◌, arith, codes}
 use Rattle.std.specs.Char.{is_ascii_alphabetic, is_ascii_digit}
 use Rattle.std.specs.List.{prefix_len}
+use Rattle.token_spans.specs.Tokens.{decimal_length}
 use Rattle.verilog_tokens.specs.Tokens.{is_blank, is_name_byte, is_one_of, begins_with, token_length, word_length, number_length, sign_length, is_mark, is_symbol, begins_word}
-use Rattle.token_spans.proofs.Alike.{blanks, no_name_byte, no_digit, Alike, behind, run_ends, begins_not, begins_still}
+use Rattle.token_spans.proofs.Alike.{blanks, no_name_byte, Alike, behind, decimal_stays, run_ends, begins_not, begins_still}
 
 no_letter : (c : ℕ) → is_blank c ≡ true → is_ascii_alphabetic c ≡ false
 no_letter c b = blanks c b is_ascii_alphabetic refl refl refl
@@ -19,32 +20,28 @@ word b w {r} {p} h e =
     (prefix_len is_ascii_alphabetic (w ++ p)) (prefix_len is_name_byte (w ++ p)) (length w)
     (run_ends is_ascii_alphabetic no_letter w h) (run_ends is_name_byte no_name_byte w h) e
 
-number_by : (unit low high unit_then low_then high_then : Bool) (run run_then n : ℕ) →
+number_by : (unit low high unit_then low_then high_then : Bool) (decimal decimal_then n : ℕ) →
     (unit ≡ false → unit_then ≡ false) → (unit ≡ true → 3 ≡ suc n → unit_then ≡ true) →
     (low ≡ false → low_then ≡ false) → (low ≡ true → 4 ≡ suc n → low_then ≡ true) →
     (high ≡ false → high_then ≡ false) → (high ≡ true → 4 ≡ suc n → high_then ≡ true) →
-    (run ≡ suc n → run_then ≡ suc n) →
-    (if unit then 3 else (if low || high then 4 else (if nat_le run 15 then run else 0))) ≡ suc n →
-    (if unit_then then 3 else (if low_then || high_then then 4 else (if nat_le run_then 15 then run_then else 0))) ≡ suc n
-number_by true low high ut lt ht run rt n u u' l l' h h' r e = rw (u' refl e) e
-number_by false true high ut lt ht run rt n u u' l l' h h' r e = rw (u refl, l' refl e) e
-number_by false false true ut lt ht run rt n u u' l l' h h' r e = rw (u refl, l refl, h' refl e) e
-number_by false false false ut lt ht run rt n u u' l l' h h' r e = rw (u refl, l refl, h refl) (by (nat_le run 15) refl e)
-  where
-    by : (t : Bool) → nat_le run 15 ≡ t → (if t then run else 0) ≡ suc n → (if nat_le rt 15 then rt else 0) ≡ suc n
-    by true f g = let same : rt ≡ run = r g ∙ sym g in rw (same, f) g
-    by false f g = absurd (omega arith)
+    (decimal ≡ suc n → decimal_then ≡ suc n) →
+    (if unit then 3 else (if low || high then 4 else decimal)) ≡ suc n →
+    (if unit_then then 3 else (if low_then || high_then then 4 else decimal_then)) ≡ suc n
+number_by true low high ut lt ht d dt n u u' l l' h h' still e = rw (u' refl e) e
+number_by false true high ut lt ht d dt n u u' l l' h h' still e = rw (u refl, l' refl e) e
+number_by false false true ut lt ht d dt n u u' l l' h h' still e = rw (u refl, l refl, h' refl e) e
+number_by false false false ut lt ht d dt n u u' l l' h h' still e = rw (u refl, l refl, h refl) (still e)
 
 number : (b : ℕ) (w : List ℕ) {r p : List ℕ} → Alike r p → number_length (b ∷ w ++ r) ≡ suc (length w) → number_length (b ∷ w ++ p) ≡ suc (length w)
 number b w {r} {p} h e =
     let all : Alike (b ∷ w ++ r) (b ∷ w ++ p) = behind (b ∷ w) h in
     number_by (begins_with (b ∷ w ++ r) (codes "1ps")) (begins_with (b ∷ w ++ r) (codes "1'b0")) (begins_with (b ∷ w ++ r) (codes "1'b1"))
     (begins_with (b ∷ w ++ p) (codes "1ps")) (begins_with (b ∷ w ++ p) (codes "1'b0")) (begins_with (b ∷ w ++ p) (codes "1'b1"))
-    (prefix_len is_ascii_digit (b ∷ w ++ r)) (prefix_len is_ascii_digit (b ∷ w ++ p)) (length w)
+    (decimal_length (b ∷ w ++ r)) (decimal_length (b ∷ w ++ p)) (length w)
     (begins_not (codes "1ps") refl all) (λ f g. begins_still (codes "1ps") (b ∷ w) r p (omega arith) f)
     (begins_not (codes "1'b0") refl all) (λ f g. begins_still (codes "1'b0") (b ∷ w) r p (omega arith) f)
     (begins_not (codes "1'b1") refl all) (λ f g. begins_still (codes "1'b1") (b ∷ w) r p (omega arith) f)
-    (run_ends is_ascii_digit no_digit (b ∷ w) h) e
+    (decimal_stays b w h) e
 
 sign_by : (three two one line block slash three' two' one' line' block' slash' : Bool) (n : ℕ) →
     (three ≡ false → three' ≡ false) → (three ≡ true → 3 ≡ suc n → three' ≡ true) →

@@ -4,7 +4,7 @@ use Rattle.std.specs.Char.{is_ascii_alphabetic, is_ascii_digit}
 use Rattle.std.specs.List.{list_all}
 use Rattle.std.specs.Str.{bytes_eq}
 use Rattle.token_spans.specs.Cover.{EndsLine, is_nothing, Spelling}
-use Rattle.token_spans.specs.Cover as cover
+use Rattle.verilog_tokens.specs.Separators.{IsComment}
 use Rattle.verilog_tokens.specs.Tokens.{lexis, is_blank, is_name_byte, is_one_of, comment_rest, is_mark, is_symbol, begins_word}
 
 -- The first bytes are one separator, where the second follow: a blank; a comment of one line; or a comment that ends with the
@@ -39,8 +39,4 @@ spells_token in_table (b ∷ bs) =
 
 -- which bytes are separators and tokens of Verilog
 abbrev pub spelling : Spelling
-spelling = record { lexis = lexis; IsSeparator = IsSeparator; spells_token = spells_token }
-
--- the tokens of a text, with only separators between them, are its bytes up to its lexical fault
-abbrev pub IsCovered : List ℕ → Type 0
-IsCovered = cover.IsCovered spelling
+spelling = record { lexis = lexis; IsSeparator = IsSeparator; spells_token = spells_token; IsComment = IsComment }

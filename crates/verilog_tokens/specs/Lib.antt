@@ -1,7 +1,7 @@
 pub mod Words
+pub mod WordGroups
 pub mod Kept
 pub mod Tokens
-pub mod Places
 pub mod Separators
 pub mod Spans
 pub mod Numbers

@@ -1,13 +1,12 @@
 //! What begins at the front of bytes of a Verilog text.
 
 ghost use Rattle.std.specs.Prelude.{◌≡◌, ◌≤◌, length, false, codes, ◌||◌, IfSome};
-ghost use Rattle.std.specs.List.{prefix_len};
 ghost use Rattle.std.specs.Char.{is_ascii_alphabetic};
 ghost use Rattle.std.specs.Str.{bytes_eq};
 ghost use Rattle.verilog_tokens.specs.Tokens as spec;
 
 use crate::bytes_told::{begins_word, is_mark, is_symbol};
-use token_spans::{digits_length, is_blank, line_length, name_length};
+use token_spans::{ByteClass, NameByte, decimal_length, line_separator_length, run_length};
 
 /// How many bytes end a comment, up to and with the first slash right behind a star.
 fn comment_rest(bytes: &[u8]) -> Option<usize>
@@ -38,17 +37,16 @@ fn block_length(bytes: &[u8]) -> usize
     }
 }
 
-/// How many letters stand at the front of the bytes.
-fn letters_length(bytes: &[u8]) -> usize
-    ensures value { result ≡ prefix_len is_ascii_alphabetic bytes.now }
-    ensures within { result ≤ length bytes.now }
-{
-    for (at, byte) in bytes.iter().enumerate() {
-        if !byte.is_ascii_alphabetic() {
-            return at;
-        }
+/// Letters.
+struct Letter;
+
+impl ByteClass for Letter {
+    ghost has = { is_ascii_alphabetic };
+
+    #[inline(always)]
+    fn contains(byte: u8) -> bool {
+        byte.is_ascii_alphabetic()
     }
-    bytes.len()
 }
 
 /// How many bytes of a separator stand at the front of these: a blank or a comment.
@@ -57,19 +55,9 @@ pub fn separator_length(bytes: &[u8]) -> usize
     ensures value { result ≡ spec.separator_length bytes.now }
     ensures within { result ≤ length bytes.now }
 {
-    let Some(first) = bytes.first() else {
-        return 0;
-    };
-    if is_blank(*first) {
-        1
-    } else if *first != b'/' {
-        0
-    } else if bytes.starts_with(b"//") {
-        line_length(bytes)
-    } else if bytes.starts_with(b"/*") {
-        block_length(bytes)
-    } else {
-        0
+    match bytes {
+        [b'/', b'*', ..] => block_length(bytes),
+        _ => line_separator_length(b'/', bytes),
     }
 }
 
@@ -115,8 +103,7 @@ fn number_length(bytes: &[u8]) -> usize
     if begins_bit(bytes) {
         return 4;
     }
-    let length = digits_length(bytes);
-    if length <= 15 { length } else { 0 }
+    decimal_length(bytes)
 }
 
 /// How many bytes of a word stand at the front of these, where the first byte begins one.
@@ -126,8 +113,8 @@ fn word_length(bytes: &[u8]) -> usize
 {
     match bytes.split_first() {
         None => 0,
-        Some((b'$' | b'`', rest)) => 1 + letters_length(rest),
-        Some((_, rest)) => 1 + name_length(rest),
+        Some((b'$' | b'`', rest)) => 1 + run_length::<Letter>(rest),
+        Some((_, rest)) => 1 + run_length::<NameByte>(rest),
     }
 }
 

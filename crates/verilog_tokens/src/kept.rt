@@ -1,11 +1,10 @@
 //! Which names of a cell library are kept in Verilog text.
 
 ghost use Rattle.std.specs.Prelude.{◌≡◌};
-ghost use Rattle.std.specs.List.{list_all};
-ghost use Rattle.verilog_tokens.specs.Kept.{is_name_byte, is_identifier, is_numbered, is_kept_name, is_kept_cell_name, is_kept_port_name};
+ghost use Rattle.verilog_tokens.specs.Kept.{is_identifier, is_numbered, is_kept_name, is_kept_cell_name, is_kept_port_name};
 
 use crate::words::is_verilog_word;
-use token_spans::is_number;
+use token_spans::{NameByte, are_all, is_number};
 
 /// Whether Verilog text keeps this name for a cell: a letter or `_` followed by letters, digits and `_`, that is no word of
 /// Verilog, does not begin with `lib_`, and is not `cell` followed by a number. It takes no memory.
@@ -39,21 +38,10 @@ fn is_identifier(name: &[u8]) -> bool
 {
     match name.split_first() {
         None => false,
-        Some((first, others)) => (first.is_ascii_alphabetic() || *first == b'_')
-            && are_name_bytes(others),
-    }
-}
-
-/// Whether each byte is a letter, a digit or `_`.
-fn are_name_bytes(bytes: &[u8]) -> bool
-    ensures { result ≡ list_all is_name_byte bytes.now }
-{
-    for byte in bytes {
-        if !byte.is_ascii_alphanumeric() && *byte != b'_' {
-            return false;
+        Some((first, others)) => {
+            (first.is_ascii_alphabetic() || *first == b'_') && are_all::<NameByte>(others)
         }
     }
-    true
 }
 
 /// Whether a name is this word with a number behind it.

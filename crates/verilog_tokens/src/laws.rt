@@ -1,23 +1,10 @@
 //! Laws of Verilog text.
-
-ghost use Rattle.std.specs.Prelude.{false};
-ghost use Rattle.verilog_tokens.specs.Cover.{IsCovered};
-ghost use Rattle.verilog_tokens.specs.Places.{StandInOrder};
-ghost use Rattle.verilog_tokens.specs.Separators.{Padded, HaveSameTokens};
-
-/// A law: blanks, line ends and comments that are added between the tokens of a text change none of its tokens.
-#[tactic(auto, using(crate::proofs::Padding::same_tokens))]
-pub fn added_separators_change_no_token(text: &[u8], padded: &[u8])
-    ensures { Padded false text.now padded.now → HaveSameTokens text.now padded.now }
-{}
-
-/// A law: the tokens of a text stand in it one behind the other, and its lexical fault behind them.
-pub fn tokens_stand_in_order(text: &[u8])
-    ensures { StandInOrder text.now }
-{}
+ghost use Rattle.token_spans.specs.Laws.{Lawful};
+ghost use Rattle.verilog_tokens.specs.Cover.{spelling};
 
 /// A law: the tokens of a text, with nothing but separators between them, are its bytes up to its lexical fault, and no token can
-/// be longer.
-pub fn tokens_cover(text: &[u8])
-    ensures { IsCovered text.now }
+/// be longer; they stand in it one behind the other, and the fault behind them; and blanks, line ends and comments that are added
+/// between them change none.
+pub fn tokens_are_lawful()
+    ensures { Lawful spelling }
 {}

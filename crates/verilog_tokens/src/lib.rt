@@ -11,7 +11,7 @@ mod word_groups;
 mod words;
 
 pub use kept::{is_kept_cell_name, is_kept_port_name};
-pub use laws::{added_separators_change_no_token, tokens_cover, tokens_stand_in_order};
+pub use laws::tokens_are_lawful;
 pub use scanner::scan;
 pub use token_spans::{is_number, number_of};
 pub use words::{is_name, is_verilog_word};

@@ -22,12 +22,7 @@ pub fn is_verilog_word(name: &[u8]) -> bool
 fn is_among(name: &[u8], words: &[&[u8]]) -> bool
     ensures { result ≡ list_any (λ word. bytes_eq name.now word.now) words.now }
 {
-    for word in words {
-        if name == *word {
-            return true;
-        }
-    }
-    false
+    words.iter().any(|word| name == *word)
 }
 
 /// Whether a token is a name: it is spelled as an identifier, and is no word of Verilog. It takes no memory.

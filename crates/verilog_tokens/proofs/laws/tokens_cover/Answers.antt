@@ -1,5 +1,0 @@
-use Rattle.verilog_tokens.proofs.Covered.{covered}
-use Rattle.verilog_tokens.proofs.laws.tokens_cover.Goals as goal
-
-pub returns : goal.returns
-returns c = covered c.args.text.now

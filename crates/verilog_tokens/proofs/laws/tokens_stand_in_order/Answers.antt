@@ -1,6 +1,0 @@
-use Rattle.token_spans.proofs.Standing.{stand_in_order}
-use Rattle.verilog_tokens.specs.Tokens.{lexis}
-use Rattle.verilog_tokens.proofs.laws.tokens_stand_in_order.Goals as goal
-
-pub returns : goal.returns
-returns c = stand_in_order lexis c.args.text.now

@@ -1,5 +1,5 @@
 -- Worked stimuli and lines of traces.
-use Rattle.std.specs.Prelude.{◌≡◌, refl, ℕ, [], ◌∷◌, codes, Ok, Err, Some, None, true, false}
+use Rattle.std.specs.Prelude.{◌≡◌, refl, ℕ, [], ◌∷◌, map, codes, Ok, Err, Some, None, true, false}
 use Rattle.std.specs.Fmt.{digits}
 use Rattle.trit_cubes.specs.declared.trits.Trit.TheVariants.{Zero, One, Unknown}
 use Rattle.stimulus.specs.declared.faults.Cause.TheVariants as cause
@@ -44,53 +44,33 @@ unfolding cells
 two_sections = refl
 
 -- a change before any section, a time of 16 digits, a comment behind a blank, a carriage return without a line feed
-before_any : stimulus_of cells (codes "5 A 1") ≡ Err (fault.Line 1 cause.Form)
-before_any = refl
-
-long_time : stimulus_of cells (codes "cell INV\n0000000000000005 A 1") ≡ Err (fault.Line 2 cause.Form)
+bad_forms :
+    map (stimulus_of cells)
+    (codes "5 A 1" ∷ codes "cell INV\n0000000000000005 A 1" ∷ codes "cell INV\n # no comment" ∷ codes "cell INV A" ∷ [])
+    ≡ map Err (fault.Line 1 cause.Form ∷ fault.Line 2 cause.Form ∷ fault.Line 2 cause.Form ∷ fault.Line 1 cause.Form ∷ [])
 unfolding cells
-long_time = refl
-
-late_comment : stimulus_of cells (codes "cell INV\n # no comment") ≡ Err (fault.Line 2 cause.Form)
-unfolding cells
-late_comment = refl
-
-cell_line_of_three : stimulus_of cells (codes "cell INV A") ≡ Err (fault.Line 1 cause.Form)
-cell_line_of_three = refl
-
-cut_return : stimulus_of cells (codes "cell INV\r") ≡ Err (fault.Line 1 cause.UnknownCell)
-unfolding cells
-cut_return = refl
+bad_forms = refl
 
 -- the causes of a cell's line
-unknown_cell : stimulus_of cells (codes "cell DFF\n") ≡ Err (fault.Line 1 cause.UnknownCell)
+bad_cells :
+    map (stimulus_of cells)
+    (codes "cell INV\r" ∷ codes "cell DFF\n" ∷ codes "\ncell TB\n" ∷ codes "cell BUF" ∷ codes "cell OR" ∷ [])
+    ≡ map Err
+    (fault.Line 1 cause.UnknownCell
+    ∷ fault.Line 1 cause.UnknownCell
+    ∷ fault.Line 2 (cause.RefusedCell 1)
+    ∷ fault.Line 1 (cause.VerilogPorts 2)
+    ∷ fault.Line 1 (cause.VitalPorts 3)
+    ∷ [])
 unfolding cells
-unknown_cell = refl
-
-refused_cell : stimulus_of cells (codes "\ncell TB\n") ≡ Err (fault.Line 2 (cause.RefusedCell 1))
-unfolding cells
-refused_cell = refl
-
-no_module : stimulus_of cells (codes "cell BUF") ≡ Err (fault.Line 1 (cause.VerilogPorts 2))
-unfolding cells
-no_module = refl
-
-no_entity : stimulus_of cells (codes "cell OR") ≡ Err (fault.Line 1 (cause.VitalPorts 3))
-unfolding cells
-no_entity = refl
+bad_cells = refl
 
 -- the causes of a change, of which the first counts
-unknown_pin : stimulus_of cells (codes "cell INV\n5 B 2") ≡ Err (fault.Line 2 cause.UnknownPin)
+bad_changes :
+    map (stimulus_of cells) (codes "cell INV\n5 B 2" ∷ codes "cell INV\n5 Y 2" ∷ codes "cell INV\n5 A 1\n5 A z" ∷ [])
+    ≡ map Err (fault.Line 2 cause.UnknownPin ∷ fault.Line 2 cause.OutputPin ∷ fault.Line 3 cause.Value ∷ [])
 unfolding cells
-unknown_pin = refl
-
-output_pin : stimulus_of cells (codes "cell INV\n5 Y 2") ≡ Err (fault.Line 2 cause.OutputPin)
-unfolding cells
-output_pin = refl
-
-bad_value : stimulus_of cells (codes "cell INV\n5 A 1\n5 A z") ≡ Err (fault.Line 3 cause.Value)
-unfolding cells
-bad_value = refl
+bad_changes = refl
 
 -- lines of traces: a start, a value that changed at once, a value with a report, and one that changed later with a report
 start_line : line_text 76 None [] (codes "Y" ∷ []) (record { values = One ∷ []; delays = None ∷ []; reports = [] }) ≡ codes "L start : Y=1\n"

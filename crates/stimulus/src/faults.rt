@@ -1,5 +1,4 @@
 //! The faults of this crate.
-use std::alloc::{AllocError, AllocFailed};
 use thiserror::Error;
 
 /// What is wrong with a line. Of several causes the first in this order is told. The printed text is the cause's word.
@@ -75,26 +74,4 @@ pub enum StimulusFault {
     /// Memory was wanted and not there.
     #[error("out of memory")]
     Memory,
-}
-
-impl From<AllocError> for StimulusFault {
-    ghost use Rattle.std.specs.Prelude.{◌≡◌};
-    ghost use Rattle.stimulus.specs.declared.faults.StimulusFault.TheVariants as fault;
-
-    ghost from_gives = { λ _ e. e ≡ fault.Memory };
-
-    fn from(_: AllocError) -> StimulusFault {
-        StimulusFault::Memory
-    }
-}
-
-impl<T: Drop> From<AllocFailed<T>> for StimulusFault {
-    ghost use Rattle.std.specs.Prelude.{◌≡◌};
-    ghost use Rattle.stimulus.specs.declared.faults.StimulusFault.TheVariants as fault;
-
-    ghost from_gives = { λ _ e. e ≡ fault.Memory };
-
-    fn from(_: AllocFailed<T>) -> StimulusFault {
-        StimulusFault::Memory
-    }
 }

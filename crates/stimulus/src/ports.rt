@@ -1,7 +1,4 @@
 //! A catalog of cells with the names of their ports.
-ghost use Rattle.std.specs.Prelude.{◌≡◌, None};
-ghost use Rattle.stimulus.specs.PortPlaces.{port_at};
-
 use crate::catalog::{Catalog, CellFound, PinFound};
 use bool_functions::Names;
 use sqlite_items::Items;
@@ -51,6 +48,7 @@ impl Ports {
     ghost use Rattle.std.specs.Prelude.{◌≡◌};
     ghost use Rattle.stimulus.specs.Catalog.{entry_of, pin_answer};
     ghost use Rattle.stimulus.specs.PortEntries.{port_entries};
+    ghost use Rattle.stimulus.specs.PortPlaces.{port_at};
 
     /// The port of this name, looked for among the inputs and then among the outputs.
     pub fn pin(&self, name: &[u8]) -> PinFound
@@ -58,18 +56,18 @@ impl Ports {
     {
         match self.inputs.number(name) {
             Some(number) => PinFound::Input(number),
-            None => no_input(self.outputs.number(name)),
+            None => Ports::no_input(self.outputs.number(name)),
         }
     }
-}
 
-/// A port that is no input, by its number among the outputs.
-fn no_input(output: Option<usize>) -> PinFound
-    ensures { result ≡ port_at None output }
-{
-    match output {
-        Some(_) => PinFound::Output,
-        None => PinFound::Unknown,
+    /// A port that is no input, by its number among the outputs.
+    fn no_input(output: Option<usize>) -> PinFound
+        ensures { result ≡ port_at None output }
+    {
+        match output {
+            Some(_) => PinFound::Output,
+            None => PinFound::Unknown,
+        }
     }
 }
 

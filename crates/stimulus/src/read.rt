@@ -29,12 +29,17 @@ pub fn read_stimulus<C: Catalog>(
     while let Some(text) = rest {
         let (written, more) = next_line(text);
         let said = at_line(before + 1, judged(catalog, context, written))?;
-        sections.take(alloc, said)?;
+        let Ok(()) = sections.take(alloc, said) else {
+            return Err(StimulusFault::Memory);
+        };
         context = context.after(said);
         before += 1;
         rest = more;
     }
-    Ok(sections.finish()?)
+    match sections.finish() {
+        Ok(sections) => Ok(sections),
+        Err(_) => Err(StimulusFault::Memory),
+    }
 }
 
 /// What was answered of the line with this number, with the number where the line is bad.

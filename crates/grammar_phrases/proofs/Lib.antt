@@ -3,3 +3,4 @@ pub mod Places
 pub mod Derivations
 pub mod Spelling
 pub mod Bytes
+pub mod TextsReadBack

@@ -1,12 +1,12 @@
 -- Lists of names of which none stands twice, put together.
-use Rattle.std.proofs.Common.{◌≡◌, ℕ, Bool, true, false, List, [], ◌∷◌, ◌++◌, inl, inr, refl, sym, ap, ◌∙◌, subst}
-use Rattle.std.specs.List.{AllByRecursion, list_any}
+use Rattle.std.proofs.Common.{◌≡◌, ℕ, Bool, true, false, IsTrue, List, [], ◌∷◌, ◌++◌, map, inl, inr, refl, sym, ap, ◌∙◌, subst}
+use Rattle.std.specs.List.{AllByRecursion, IsDistinct, list_any, list_all}
 use Rattle.std.specs.Str.{bytes_eq}
-use Rattle.std.proofs.lemmas.Bool.{cases_Bool, true≢false}
+use Rattle.std.proofs.lemmas.Bool.{and_parts, and_from, cases_Bool, true≢false}
 use Rattle.std.proofs.lemmas.List.Elements.{All-head, All-tail, All-cons}
 use Rattle.std.proofs.lemmas.Map.Keys.{IsDistinct-cons, IsDistinct-head, IsDistinct-tail}
 use Rattle.std.proofs.lemmas.Slice.Eq.{bytes_eq-Decides}
-use Rattle.trit_cubes.proofs.ListLemmas.{Among}
+use Rattle.trit_cubes.proofs.ListLemmas.{Among, map-among}
 use Rattle.udp_tables.proofs.FirstLemmas.{found-any}
 use Rattle.specify_blocks.specs.WellFormed.{IsName}
 use Rattle.specify_blocks.proofs.ReadNames.{AreNames, one_name}
@@ -40,6 +40,22 @@ pub at_among : {X : Type 0} (P : X → Type 0) (x : X) (xs : List X) → AllByRe
 at_among P x [] h m = absurd m
 at_among P x (y ∷ xs) h (inl e) = subst P e h.0
 at_among P x (y ∷ xs) h (inr m) = at_among P x xs h.1 m
+
+-- what passes a test passes another one
+pub all_weaker : {X : Type 0} (p q : X → Bool) → ((x : X) → IsTrue (p x) → IsTrue (q x)) → (xs : List X) → IsTrue (list_all p xs) → IsTrue (list_all q xs)
+all_weaker p q f [] h = refl
+all_weaker p q f (x ∷ xs) h =
+    let parts = and_parts (p x) (list_all p xs) h in
+    and_from (q x) (list_all q xs) (f x parts.0) (all_weaker p q f xs parts.1)
+
+-- an item is not one of those behind it, where a test of their keys tells all of them apart
+pub other_key :
+    {X Y : Type 0} (same : Y → Y → Bool) (key : X → Y) → ((a b : Y) → a ≡ b → same a b ≡ true) → (x : X) (xs : List X) → IsDistinct same (map key (x ∷ xs))
+    → (other : X) → Among other xs → key x ≡ key other → ⊥
+other_key same key alike x xs h other m e =
+    true≢false
+    (sym (alike (key x) (key other) e)
+    ∙ at_among (λ y. same (key x) y ≡ false) (key other) (map key xs) (IsDistinct-head same (key x) (map key xs) h) (map-among key other xs m))
 
 both_lists : {X : Type 0} (P : X → Type 0) (xs ys : List X) → AllByRecursion P xs → AllByRecursion P ys → AllByRecursion P (xs ++ ys)
 both_lists P [] ys h k = k

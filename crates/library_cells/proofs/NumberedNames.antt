@@ -18,7 +18,7 @@ use Rattle.verilog_tokens.specs.Kept.{is_name_byte, is_identifier}
 use Rattle.specify_blocks.specs.Names.{numbered}
 use Rattle.specify_blocks.specs.WellFormed.{IsName}
 use Rattle.specify_blocks.proofs.ReadNames.{AreNames, no_names, push_name}
-use Rattle.library_cells.proofs.NameLists.{unlike}
+use Rattle.library_cells.proofs.NameLists.{unlike, all_weaker}
 
 -- the digits of a number
 
@@ -51,14 +51,8 @@ digit_in_name d h = by (is_ascii_digit d) (is_ascii_uppercase d) (is_ascii_lower
     by true upper lower h = refl
     by false upper lower h = absurd cc
 
-digits_in_name : (ds : List ℕ) → IsTrue (list_all is_ascii_digit ds) → IsTrue (list_all is_name_byte ds)
-digits_in_name [] h = refl
-digits_in_name (d ∷ ds) h =
-    let parts = and_parts (is_ascii_digit d) (list_all is_ascii_digit ds) h in
-    and_from (is_name_byte d) (list_all is_name_byte ds) (digit_in_name d parts.0) (digits_in_name ds parts.1)
-
 pub number_in_name : (ds : List ℕ) → IsTrue (is_number ds) → IsTrue (list_all is_name_byte ds)
-number_in_name ds h = digits_in_name ds (number_digits ds h)
+number_in_name ds h = all_weaker is_ascii_digit is_name_byte digit_in_name ds (number_digits ds h)
 
 -- words
 

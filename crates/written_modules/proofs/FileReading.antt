@@ -1,19 +1,18 @@
 -- The text of well formed modules is read as these modules.
-use Rattle.std.proofs.Common.{◌≡◌, ℕ, Bool, false, List, [], ◌∷◌, ◌++◌, flat_map, Ok, refl, sym, ap, ◌∙◌, subst, codes, append_assoc}
+use Rattle.std.proofs.Common.{◌≡◌, ℕ, false, List, [], ◌∷◌, ◌++◌, flat_map, refl, sym, ap, ◌∙◌, subst, codes, append_assoc}
 use Rattle.std.specs.List.{AllByRecursion}
 use Rattle.std.proofs.lemmas.List.{append-nil, map-append}
 use Rattle.std.proofs.lemmas.Grind.{flat_map-append}
 use Rattle.std.proofs.lemmas.List.Elements.{recursion_from_All}
-use Rattle.grammar_rules.specs.Rule.{Takes}
 use Rattle.udp_tables.specs.declared.table.Udp.{Udp}
 use Rattle.udp_tables.specs.VerilogRules.{begins, is_among}
 use Rattle.specify_blocks.specs.declared.model.VModule.{VModule}
-use Rattle.specify_blocks.specs.VerilogText.{Before, with_primitive, next_primitive, next_module, more_primitives, primitives_and_module, is_design_start, design, designs, prelude, file, lexical_place, IsVerilogText, verilog_text}
+use Rattle.specify_blocks.specs.VerilogText.{Before, with_primitive, next_primitive, next_module, more_primitives, primitives_and_module, is_design_start, design, designs, prelude, file, language, IsVerilogText, verilog_text}
 use Rattle.specify_blocks.specs.WellFormed.{AreApart, IsWellFormedUdp, IsWellFormedModule, udp_names, outer_names, AreWellFormed}
 use Rattle.specify_blocks.proofs.VerilogAnswers.{is_answer}
 use Rattle.rule_readers.specs.Words.{begins_by}
 use Rattle.verilog_writer.specs.Model.{prelude_text, module_text}
-use Rattle.written_modules.specs.Laws.{modules_text, ReadBack}
+use Rattle.written_modules.specs.Laws.{modules_text, WrittenModulesReadBack}
 use Rattle.grammar_phrases.proofs.Spelling.{behind, each_spelled}
 use Rattle.written_modules.proofs.Spelling.{found, Spells, literal}
 use Rattle.grammar_phrases.proofs.Fronts.{Front, Anything, each}
@@ -21,7 +20,8 @@ use Rattle.written_modules.proofs.PrimitiveTokens.{primitive_tokens, primitive_s
 use Rattle.written_modules.proofs.PrimitiveReading.{primitive_read}
 use Rattle.grammar_phrases.proofs.Derivations.{Reads, to_same, gives, in_turn, Turn, turn, through}
 use Rattle.written_modules.proofs.NameReading.{expected, is_new}
-use Rattle.grammar_phrases.proofs.Places.{at_place, none_if}
+use Rattle.grammar_phrases.proofs.Places.{at_place}
+use Rattle.grammar_phrases.proofs.TextsReadBack.{is_text, reads_back}
 use Rattle.written_modules.proofs.NetReading.{apart_tail}
 use Rattle.written_modules.proofs.ModuleReading.{module_more, module_tokens, module_spelled, module_read}
 
@@ -168,20 +168,8 @@ file_spelled ms h =
     behind prelude_spelled (each_spelled IsAlone (λ m a. design_spelled m a.1.0 a.0 a.1.1) (λ m r q. tt) ms (all_alone ms h [] ms refl)) in
     ap (found false) (sym (append-nil (prelude_text ++ flat_map module_text ms))) ∙ all.is [] tt
 
-is_text : (ms : List VModule) → AreWellFormed ms → IsVerilogText (modules_text ms) ms
-is_text ms h =
-    let e = file_spelled ms h in
-    record {
-      lexes = none_if (lexical_place (modules_text ms)) (ap (λ (p : List (List ℕ) × Bool). p.1) e);
-      takes = subst (λ (s : List (List ℕ)). Takes file s ms []) (sym (ap (λ (p : List (List ℕ) × Bool). p.0) e)) (file_read ms h).taken;
-    }
-
-same_modules : (ms others : List VModule) → (bytes : List ℕ) → verilog_text bytes ≡ Ok ms → verilog_text bytes ≡ Ok others → others ≡ ms
-same_modules ms others bytes e f = cc
-
 -- what is well formed reads back
-pub read_back : (ms : List VModule) → AreWellFormed ms → ReadBack ms
+pub read_back : WrittenModulesReadBack
 read_back ms h =
-    let answers = (is_answer (modules_text ms)).modules in
-    let answer : verilog_text (modules_text ms) ≡ Ok ms = (answers ms).0 (is_text ms h) in
-    record { answer = answer; only = λ others t. same_modules ms others (modules_text ms) answer ((answers others).0 t) }
+    reads_back verilog_text IsVerilogText (modules_text ms) ms (is_answer (modules_text ms)).modules
+    (is_text language (modules_text ms) ms (file_tokens ms) (file_spelled ms h) (file_read ms h))

@@ -133,14 +133,9 @@ numbers_turned p q = grind (arith, nat_tests)
 
 nets_turned : (n k : VNet) → same_net n k ≡ same_net k n
 nets_turned (net.Port p) (net.Port q) = numbers_turned p q
-nets_turned (net.Port p) (net.Wire w) = refl
-nets_turned (net.Port p) net.Notifier = refl
-nets_turned (net.Wire v) (net.Port p) = refl
 nets_turned (net.Wire v) (net.Wire w) = numbers_turned v w
-nets_turned (net.Wire v) net.Notifier = refl
-nets_turned net.Notifier (net.Port p) = refl
-nets_turned net.Notifier (net.Wire w) = refl
 nets_turned net.Notifier net.Notifier = refl
+nets_turned _ _ = refl
 
 not_any_at : (test : VNet → Bool) (before : List VNet) (n : VNet) (after : List VNet) → not (list_any test (before ++ n ∷ after)) ≡ true → test n ≡ false
 not_any_at test [] n after h = by (test n) h

@@ -111,13 +111,17 @@ input x n = behind input_word (joins (name x n) (λ r q. refl) line_end)
 
 -- Rows.
 
-a_next : (n : Next) → Spells Anything true (next_text n) (λ s. next_text n ∷ s) true
+-- a text within a table, where signs of entries stand by themselves
+abbrev InTable : List ℕ → Front → Type 0
+InTable text front = Spells Anything true text front true
+
+a_next : (n : Next) → InTable (next_text n) (λ s. next_text n ∷ s)
 a_next next.Zero = literal 1 (λ r. refl)
 a_next next.One = literal 1 (λ r. refl)
 a_next next.Unknown = literal 1 (λ r. refl)
 a_next next.Keep = literal 1 (λ r. refl)
 
-pub a_level : (l : Level) → Spells Anything true (level_text l) (λ s. level_text l ∷ s) true
+pub a_level : (l : Level) → InTable (level_text l) (λ s. level_text l ∷ s)
 a_level level.Zero = literal 1 (λ r. refl)
 a_level level.One = literal 1 (λ r. refl)
 a_level level.Unknown = literal 1 (λ r. refl)
@@ -146,13 +150,13 @@ entry_more entry.Star s = s
 abbrev pub entry_tokens : Entry → Front
 entry_tokens e s = entry_start e ∷ entry_more e s
 
-pair_opened : Spells Anything true (codes "(") (λ s. codes "(" ∷ s) true
+pair_opened : InTable (codes "(") (λ s. codes "(" ∷ s)
 pair_opened = literal 1 (λ r. refl)
 
-pair_closed : Spells Anything true (codes ")") (λ s. codes ")" ∷ s) true
+pair_closed : InTable (codes ")") (λ s. codes ")" ∷ s)
 pair_closed = literal 1 (λ r. refl)
 
-an_entry : (e : Entry) → Spells Anything true (entry_text e) (entry_tokens e) true
+an_entry : (e : Entry) → InTable (entry_text e) (entry_tokens e)
 an_entry (entry.Level l) = a_level l
 an_entry (entry.Pair before after) = behind pair_opened (behind (a_level before) (behind (a_level after) pair_closed))
 an_entry entry.R = literal 1 (λ r. refl)
@@ -161,23 +165,23 @@ an_entry entry.P = literal 1 (λ r. refl)
 an_entry entry.N = literal 1 (λ r. refl)
 an_entry entry.Star = literal 1 (λ r. refl)
 
-space : Spells Anything true (codes " ") (λ s. s) true
+space : InTable (codes " ") (λ s. s)
 space = literal 1 (λ r. refl)
 
-spaced : (e : Entry) → Any e → Spells Anything true (spaced_text e) (entry_tokens e) true
+spaced : (e : Entry) → Any e → InTable (spaced_text e) (entry_tokens e)
 unfolding spaced_text
 spaced e any = behind (an_entry e) space
 
-indented : Spells Anything true (codes "    ") (λ s. s) true
+indented : InTable (codes "    ") (λ s. s)
 indented = literal 4 (λ r. refl)
 
-colon : Spells Anything true (codes ": ") (λ s. codes ":" ∷ s) true
+colon : InTable (codes ": ") (λ s. codes ":" ∷ s)
 colon = literal 2 (λ r. refl)
 
-spaced_colon : Spells Anything true (codes " : ") (λ s. codes ":" ∷ s) true
+spaced_colon : InTable (codes " : ") (λ s. codes ":" ∷ s)
 spaced_colon = literal 3 (λ r. refl)
 
-row_end : Spells Anything true (codes ";\n") (λ s. codes ";" ∷ s) true
+row_end : InTable (codes ";\n") (λ s. codes ";" ∷ s)
 row_end = literal 2 (λ r. refl)
 
 -- what stands behind the colon
@@ -185,7 +189,7 @@ abbrev pub outcome_tokens : Bool → Level → Next → Front
 outcome_tokens true state n s = level_text state ∷ codes ":" ∷ next_text n ∷ codes ";" ∷ s
 outcome_tokens false state n s = next_text n ∷ codes ";" ∷ s
 
-outcome : (sequential : Bool) (row : UdpRow) → Spells Anything true (outcome_text sequential row) (λ s. codes ":" ∷ outcome_tokens sequential row.state row.next s) true
+outcome : (sequential : Bool) (row : UdpRow) → InTable (outcome_text sequential row) (λ s. codes ":" ∷ outcome_tokens sequential row.state row.next s)
 unfolding outcome_text
 outcome true row = behind colon (behind (a_level row.state) (behind spaced_colon (behind (a_next row.next) row_end)))
 outcome false row = behind colon (behind (a_next row.next) row_end)
@@ -193,7 +197,7 @@ outcome false row = behind colon (behind (a_next row.next) row_end)
 abbrev pub row_tokens : Bool → UdpRow → Front
 row_tokens sequential row s = each entry_tokens row.inputs (codes ":" ∷ outcome_tokens sequential row.state row.next s)
 
-row : (sequential : Bool) (row : UdpRow) → Any row → Spells Anything true (row_text sequential row) (row_tokens sequential row) true
+row : (sequential : Bool) (row : UdpRow) → Any row → InTable (row_text sequential row) (row_tokens sequential row)
 unfolding row_text
 row sequential one any = behind indented (behind (each_spelled Any spaced (λ e r q. tt) one.inputs (all_any one.inputs)) (outcome sequential one))
 

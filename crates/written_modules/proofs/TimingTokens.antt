@@ -134,12 +134,15 @@ period_tokens word m k s = word ∷ port_at m k.first.pin ∷ condition_tokens m
 
 -- the word of a check, and what stands behind it and its bracket
 abbrev pub check_word : CheckKind → List ℕ
-check_word check_kind.Setup = codes "$setup"
-check_word check_kind.Hold = codes "$hold"
-check_word check_kind.Recovery = codes "$recovery"
-check_word check_kind.Removal = codes "$removal"
-check_word check_kind.Width = codes "$width"
-check_word check_kind.Period = codes "$period"
+check_word kind =
+    elim kind [
+      | check_kind.Setup ↦ codes "$setup"
+      | check_kind.Hold ↦ codes "$hold"
+      | check_kind.Recovery ↦ codes "$recovery"
+      | check_kind.Removal ↦ codes "$removal"
+      | check_kind.Width ↦ codes "$width"
+      | check_kind.Period ↦ codes "$period"
+    ]
 
 abbrev pub check_more : VModule → TimingCheck → CheckKind → Front
 check_more m k check_kind.Setup s = ordered_tokens m k s

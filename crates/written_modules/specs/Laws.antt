@@ -1,5 +1,5 @@
 -- What is written reads back. (IEEE 1364-2005, A.1, source text, and A.5, primitives; the layout is this project's.)
-use Rattle.std.specs.Prelude.{◌≡◌, ℕ, List, [], ◌∷◌, ◌++◌, None, Ok, codes}
+use Rattle.std.specs.Prelude.{◌≡◌, ℕ, List, [], ◌∷◌, ◌++◌, None, codes}
 use Rattle.std.specs.List.{flat_map}
 use Rattle.grammar_rules.specs.Rule.{Takes}
 use Rattle.udp_tables.specs.declared.table.Udp.{Udp}
@@ -9,6 +9,7 @@ use Rattle.specify_blocks.specs.VerilogText.{text_tokens, lexical_place, IsVeril
 use Rattle.specify_blocks.specs.WellFormed.{IsWellFormedUdp, AreWellFormed}
 use Rattle.verilog_writer.specs.Primitive.{primitive_text}
 use Rattle.verilog_writer.specs.Model.{prelude_text, module_text}
+use Rattle.grammar_phrases.specs.ReadBack.{ReadsBack}
 
 -- The bytes are the text of this primitive alone: tokens, without a lexical fault, of which the first is `primitive` and the grammar
 -- takes the others.
@@ -31,11 +32,6 @@ WrittenPrimitivesReadBack = (udp : Udp) → IsWellFormedUdp udp → PrimitiveRea
 unfoldable pub modules_text : List VModule → List ℕ
 modules_text ms = prelude_text ++ flat_map module_text ms
 
--- The text of modules reads as these modules, and as no others.
-pub record ReadBack (ms : List VModule) : Type 0 where
-  pub answer : verilog_text (modules_text ms) ≡ Ok ms
-  pub only : (others : List VModule) → IsVerilogText (modules_text ms) others → others ≡ ms
-
 -- modules that are well formed read back from what is written of them
 abbrev pub WrittenModulesReadBack : Type 0
-WrittenModulesReadBack = (ms : List VModule) → AreWellFormed ms → ReadBack ms
+WrittenModulesReadBack = (ms : List VModule) → AreWellFormed ms → ReadsBack verilog_text IsVerilogText (modules_text ms) ms

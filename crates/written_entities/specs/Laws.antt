@@ -1,6 +1,6 @@
 -- What is written reads back: the tables of an architecture's constants, and whole entities. (IEEE 1076.4-2000, the VITAL table types and symbols; IEEE
 -- 1076-1993, 7.3.2, aggregates; the layout is this project's.)
-use Rattle.std.specs.Prelude.{◌≡◌, ℕ, ◌≤◌, List, [], ◌++◌, length, None, Ok, codes}
+use Rattle.std.specs.Prelude.{◌≡◌, ℕ, ◌≤◌, List, [], ◌++◌, length, None, codes}
 use Rattle.std.specs.List.{flat_map}
 use Rattle.grammar_rules.specs.Rule.{Takes}
 use Rattle.vital_models.specs.declared.table.TruthTable.{TruthTable}
@@ -13,6 +13,7 @@ use Rattle.vhdl_text.specs.VhdlText.{text_tokens, lexical_place, IsVhdlText, vhd
 use Rattle.vhdl_text.specs.WellFormed.{IsWrittenState, AreWellFormed}
 use Rattle.vhdl_writer.specs.Tables.{truth_rows_text, state_rows_text}
 use Rattle.vhdl_writer.specs.Entity.{entity_text}
+use Rattle.grammar_phrases.specs.ReadBack.{ReadsBack}
 
 -- the aggregates that constants are given
 unfoldable pub truth_table_text : TruthTable → List ℕ
@@ -55,11 +56,6 @@ WrittenStateTablesReadBack =
 unfoldable pub entities_text : List VEntity → List ℕ
 entities_text es = flat_map entity_text es
 
--- The text of entities reads as these entities, and as no others.
-pub record EntitiesReadBack (es : List VEntity) : Type 0 where
-  pub answer : vhdl_text (entities_text es) ≡ Ok es
-  pub only : (others : List VEntity) → IsVhdlText (entities_text es) others → others ≡ es
-
 -- entities that are well formed read back from what is written of them
 abbrev pub WrittenEntitiesReadBack : Type 0
-WrittenEntitiesReadBack = (es : List VEntity) → AreWellFormed es → EntitiesReadBack es
+WrittenEntitiesReadBack = (es : List VEntity) → AreWellFormed es → ReadsBack vhdl_text IsVhdlText (entities_text es) es

@@ -2,15 +2,15 @@
 use Rattle.std.proofs.Common.{◌≡◌, ℕ, ◌^◌, ◌<◌, Bool, true, false, ◌⊎◌, inl, inr, IsTrue, List, [], ◌∷◌, ◌++◌, map, refl, sym, ap, ◌∙◌, subst, append_assoc, codes, decimal, nat_eq}
 use Rattle.std.specs.Prelude.{All, flat_map}
 use Rattle.std.specs.Char.{is_ascii_digit}
-use Rattle.std.specs.List.{IsDistinct, list_all, starts_with}
+use Rattle.std.specs.List.{list_all, starts_with}
 use Rattle.std.specs.Str.{bytes_eq}
 use Rattle.std.proofs.lemmas.Bool.{and_parts, true≢false, eq-eqb}
 use Rattle.std.proofs.lemmas.Fmt.{decimal_injective}
 use Rattle.std.proofs.lemmas.List.{append_cancel_left}
 use Rattle.std.proofs.lemmas.List.Elements.{All-nil, All-cons, All-head, All-tail, All-contains}
-use Rattle.std.proofs.lemmas.Map.Keys.{IsDistinct-head, IsDistinct-tail}
+use Rattle.std.proofs.lemmas.Map.Keys.{IsDistinct-tail}
 use Rattle.std.proofs.lemmas.Slice.Eq.{bytes_eq-Decides}
-use Rattle.trit_cubes.proofs.ListLemmas.{Among, among-append, map-among, among-contains}
+use Rattle.trit_cubes.proofs.ListLemmas.{Among, among-append, among-contains}
 use Rattle.cell_machine.specs.CellData.{CellData}
 use Rattle.specify_blocks.specs.Names.{module_name}
 use Rattle.specify_blocks.specs.Generated.{primitives_of, module_of}
@@ -18,7 +18,7 @@ use Rattle.specify_blocks.specs.WellFormed.{IsWellFormedModule, udp_names, outer
 use Rattle.specify_blocks.proofs.ReadNames.{AreNames, no_names, one_name}
 use Rattle.library_cells.specs.Cells.{IsNumberedCell, names_of_cells, numbers_of_cells, AreCellsOfOneLibrary}
 use Rattle.generated_modules.specs.Laws.{ModulesAreWellFormed}
-use Rattle.library_cells.proofs.NameLists.{unlike, told_apart, at_among, join_names}
+use Rattle.library_cells.proofs.NameLists.{unlike, told_apart, other_key, join_names}
 use Rattle.library_cells.proofs.NumberedNames.{decimal_digits, number_digits, numbered_form}
 use Rattle.generated_modules.proofs.GivenNames.{given_apart, given_no_lib}
 use Rattle.generated_modules.proofs.PrimitiveNames.{primitive_front, primitives_named, primitives_are_named, primitive_count}
@@ -110,21 +110,6 @@ outer_of (cell ∷ cells) x m =
       | inr later ↦ let rest = outer_of cells x later in (rest.0, inr rest.1, rest.2)
     ]
 
--- a cell is not one of those behind it
-other_number : (cell : CellData) (cells : List CellData) → IsDistinct nat_eq (numbers_of_cells (cell ∷ cells)) → (other : CellData) → Among other cells → cell.number ≡ other.number → ⊥
-other_number cell cells h other m e =
-    true≢false
-    (sym (eq-eqb cell.number other.number e)
-    ∙ at_among (λ n. nat_eq cell.number n ≡ false) other.number (numbers_of_cells cells) (IsDistinct-head nat_eq cell.number (numbers_of_cells cells) h)
-    (map-among (λ (c : CellData). c.number) other cells m))
-
-other_name : (cell : CellData) (cells : List CellData) → IsDistinct bytes_eq (names_of_cells (cell ∷ cells)) → (other : CellData) → Among other cells → cell.name ≡ other.name → ⊥
-other_name cell cells h other m e =
-    true≢false
-    (sym ((bytes_eq-Decides cell.name other.name).1 e)
-    ∙ at_among (λ n. bytes_eq cell.name n ≡ false) other.name (names_of_cells cells) (IsDistinct-head bytes_eq cell.name (names_of_cells cells) h)
-    (map-among (λ (c : CellData). c.name) other cells m))
-
 others : (cell : CellData) (cells : List CellData) → AreCellsOfOneLibrary (cell ∷ cells) → AreCellsOfOneLibrary cells
 others cell cells h = record {
   numbered = All-tail IsNumberedCell cell cells h.numbered;
@@ -141,8 +126,8 @@ all_named (cell ∷ cells) h =
     (λ x y m i.
     let found = outer_of cells y i in
     let its = All-contains IsNumberedCell cells found.0 (All-tail IsNumberedCell cell cells h.numbered) (among-contains found.0 cells found.1) in
-    outer_apart cell found.0 x y first.number its.number (other_number cell cells h.numbers found.0 found.1)
-    (other_name cell cells h.names found.0 found.1) (outer_form cell x m) found.2)
+    outer_apart cell found.0 x y first.number its.number (other_key nat_eq (λ (c : CellData). c.number) eq-eqb cell cells h.numbers found.0 found.1)
+    (other_key bytes_eq (λ (c : CellData). c.name) (λ a b. (bytes_eq-Decides a b).1) cell cells h.names found.0 found.1) (outer_form cell x m) found.2)
 
 all_well_formed : (cells : List CellData) → All IsNumberedCell cells → All IsWellFormedModule (map module_of cells)
 all_well_formed [] h = All-nil IsWellFormedModule

@@ -10,6 +10,7 @@ use Rattle.trit_cubes.specs.Prime.{prime_list}
 use Rattle.cell_machine.specs.CellData.{CellData}
 use Rattle.cell_machine.specs.CellTrace.{support_at}
 use Rattle.verilog_tokens.specs.Words.{verilog_words, is_verilog_word}
+use Rattle.udp_tables.specs.declared.table.Udp.{Udp}
 use Rattle.udp_tables.specs.declared.table.UdpRow.{UdpRow}
 use Rattle.udp_tables.specs.Tables.{value_rows, or_row}
 use Rattle.udp_tables.specs.PortNames.{output_name, input_name, input_names}
@@ -18,7 +19,8 @@ use Rattle.udp_tables.specs.CellPrimitives.{has_notifier, group_inputs, group_pr
 use Rattle.udp_tables.proofs.TableLemmas.{length-input_names, primitive-combinational}
 use Rattle.udp_tables.proofs.CellLaws.{groups_are_sequential-lem}
 use Rattle.specify_blocks.specs.Names.{numbered}
-use Rattle.specify_blocks.specs.WellFormed.{IsName, HasNoState, IsWellFormedUdp}
+use Rattle.specify_blocks.specs.Sound.{IsTable}
+use Rattle.specify_blocks.specs.WellFormed.{IsName, most_inputs_of, HasNoState, HasNoStates, IsWellFormedUdp}
 use Rattle.specify_blocks.proofs.ReadNames.{AreNames}
 use Rattle.library_cells.proofs.NameLists.{cons_name}
 use Rattle.library_cells.proofs.NumberedNames.{input_stem, numbered_names, numbered_form}
@@ -64,11 +66,16 @@ function_stateless n f =
     or_stateless (level_row Unknown (replicate n Unknown)) (value_rows level_row ones zeros) (row_stateless Unknown (replicate n Unknown))
     (All-append HasNoState (map (level_row One) ones) (map (level_row Zero) zeros) (rows_stateless One ones) (rows_stateless Zero zeros))
 
--- the primitive of a function of 1 to 10 places
-pub function_well_formed :
-    (name : List ℕ) (n : ℕ) (f : List Bool → Trit) → IsName name → 1 ≤ n → n ≤ 10 → IsWellFormedUdp (primitive_of name n f)
-function_well_formed name n f named some few =
-    let ports = ports_named n (omega arith) in
+-- a primitive with the numbered ports of its rows
+abbrev numbered_udp : List ℕ → Bool → ℕ → List UdpRow → Udp
+numbered_udp name sequential n rows = record { name = name; output = output_name; inputs = input_names n; sequential = sequential; rows = rows }
+
+numbered_well_formed :
+    (name : List ℕ) (sequential : Bool) (n : ℕ) (rows : List UdpRow) → IsName name → 1 ≤ n → n ≤ 10 → n ≤ most_inputs_of sequential → 1 ≤ length rows
+    → IsTable sequential (numbered_udp name sequential n rows) → HasNoStates sequential (numbered_udp name sequential n rows)
+    → IsWellFormedUdp (numbered_udp name sequential n rows)
+numbered_well_formed name sequential n rows named some few most row table stateless =
+    let ports = ports_named n (omega (arith, few)) in
     let long = length-input_names n in
     record {
       name = named;
@@ -76,11 +83,18 @@ function_well_formed name n f named some few =
       inputs = All-tail IsName output_name (input_names n) ports.all;
       apart = ports.apart;
       some = omega (arith, long, some);
-      most = omega (arith, long, few);
-      rows = some_row (level_row Unknown (replicate n Unknown)) _;
-      table = primitive-combinational name n f;
-      stateless = function_stateless n f;
+      most = subst (λ (k : ℕ). k ≤ most_inputs_of sequential) (sym long) most;
+      rows = row;
+      table = table;
+      stateless = stateless;
     }
+
+-- the primitive of a function of 1 to 10 places
+pub function_well_formed :
+    (name : List ℕ) (n : ℕ) (f : List Bool → Trit) → IsName name → 1 ≤ n → n ≤ 10 → IsWellFormedUdp (primitive_of name n f)
+function_well_formed name n f named some few =
+    numbered_well_formed name false n (function_rows n f) named some few few (some_row (level_row Unknown (replicate n Unknown)) _)
+    (primitive-combinational name n f) (function_stateless n f)
 
 -- one input more for the notifier, where there is one
 at_least : (b : Bool) (n : ℕ) → 1 ≤ n → 1 ≤ (if b then n + 1 else n)
@@ -96,19 +110,7 @@ pub group_well_formed :
     (cell : CellData) (i : ℕ) → IsName (group_primitive cell i).name → 1 ≤ length (support_at cell i) → length (support_at cell i) ≤ 8
     → IsWellFormedUdp (group_primitive cell i)
 group_well_formed cell i named some few =
-    let n : ℕ = group_inputs cell i in
-    let least : 1 ≤ n = at_least (has_notifier cell) (length (support_at cell i)) some in
-    let most : n ≤ 9 = at_most (has_notifier cell) (length (support_at cell i)) few in
-    let ports = ports_named n (omega (arith, most)) in
-    let long = length-input_names n in
-    record {
-      name = named;
-      output = All-head IsName output_name (input_names n) ports.all;
-      inputs = All-tail IsName output_name (input_names n) ports.all;
-      apart = ports.apart;
-      some = omega (arith, long, least);
-      most = omega (arith, long, most);
-      rows = some_row _ _;
-      table = groups_are_sequential-lem cell i;
-      stateless = tt;
-    }
+    let least : 1 ≤ group_inputs cell i = at_least (has_notifier cell) (length (support_at cell i)) some in
+    let most : group_inputs cell i ≤ 9 = at_most (has_notifier cell) (length (support_at cell i)) few in
+    numbered_well_formed (group_primitive cell i).name true (group_inputs cell i) (group_primitive cell i).rows named least (omega (arith, most)) most (some_row _ _)
+    (groups_are_sequential-lem cell i) tt

@@ -1,12 +1,12 @@
 -- Traces compared line by line.
-use Rattle.std.proofs.Common.{◌≡◌, ℕ, ◌+◌, Bool, true, false, ◌&&◌, if◌then◌else◌, List, [], ◌∷◌, length, Option, Some, None, refl, sym, ap, subst, ◌∙◌, arith}
+use Rattle.std.proofs.Common.{◌≡◌, ℕ, ◌+◌, Bool, true, false, ◌&&◌, if◌then◌else◌, List, [], ◌∷◌, length, drop, Option, Some, None, refl, sym, ap, subst, ◌∙◌, arith}
 use Rattle.std.proofs.lemmas.Bool.{and_parts, and_from, eqb-true, eq-eqb}
 use Rattle.trit_cubes.specs.declared.trits.Trit.{Trit}
-use Rattle.trit_cubes.specs.declared.trits.Trit.TheVariants.{Zero, One, Unknown}
 use Rattle.trit_cubes.specs.Filling.{same}
 use Rattle.cell_machine.specs.declared.changes.Change.{Change}
 use Rattle.cell_machine.specs.History.{IsProperFrom}
 use Rattle.cell_machine.specs.Lines.{Line, lines_from, trace, Machine, IsSized}
+use Rattle.cell_machine.proofs.StillLemmas.{same-is, same-self}
 use Rattle.section_runs.specs.Differences.{same_values, same_delay, same_delays, agree, same_reports, same_line, difference_from, first_difference, NoDifferenceIsEqual}
 
 -- Two simulators that stand after one history. The changes that are left go on from there, and the first difference of their
@@ -18,23 +18,13 @@ pub record Alike (left right : List Change → Type 0) (one other : List Change 
   pub proper : IsProperFrom n history rest
   pub later : difference_from number (lines_from one history rest) (lines_from other history rest) ≡ found
 
+-- Whatever the histories of two simulators, what is left of two lists of their lines from this place on decides whether these are the
+-- same.
+abbrev pub RestDecides : {A : Type 0} → (List A → List A → Bool) → (left right : List Change → Type 0) → (one other : List Change → List A) → ℕ → Type 0
+RestDecides same_lists left right one other place =
+    (h k : List Change) → left h → right k → same_lists (drop place (one h)) (drop place (other k)) ≡ same_lists (one h) (other k)
+
 -- Lines that show the same, and as many checks, are equal.
-
-same-is : (a b : Trit) → same a b ≡ true → a ≡ b
-same-is Zero Zero e = refl
-same-is Zero One e = absurd cc
-same-is Zero Unknown e = absurd cc
-same-is One Zero e = absurd cc
-same-is One One e = refl
-same-is One Unknown e = absurd cc
-same-is Unknown Zero e = absurd cc
-same-is Unknown One e = absurd cc
-same-is Unknown Unknown e = refl
-
-same-self : (a : Trit) → same a a ≡ true
-same-self Zero = refl
-same-self One = refl
-same-self Unknown = refl
 
 pub cons_path : {X : Type 0} (x y : X) (xs ys : List X) → x ≡ y → xs ≡ ys → x ∷ xs ≡ y ∷ ys
 cons_path x y xs ys e f = λ i. e i ∷ f i
@@ -51,9 +41,8 @@ values-self (x ∷ xs) = and_from (same x x) (same_values xs xs) (same-self x) (
 
 delay-is : (a b : Option ℕ) → same_delay a b ≡ true → a ≡ b
 delay-is None None e = refl
-delay-is None (Some n) e = absurd cc
-delay-is (Some m) None e = absurd cc
 delay-is (Some m) (Some n) e = ap Some (eqb-true m n e)
+delay-is _ _ e = absurd cc
 
 delay-self : (a : Option ℕ) → same_delay a a ≡ true
 delay-self None = refl

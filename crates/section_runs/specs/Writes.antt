@@ -1,10 +1,21 @@
 -- What a run that prints leaves on the desk. This project's rule.
-use Rattle.std.specs.Prelude.{◌≡◌, ◌≤◌, ℕ, List, ◌++◌, Result, OnOk, IfErr, OnErr}
+use Rattle.std.specs.Prelude.{◌≡◌, ◌≤◌, ℕ, List, [], ◌++◌, length, Result, OnOk, IfErr, OnErr}
 use Rattle.text_io.specs.declared.slots.OutSlot.TheVariants.{Report}
 use Rattle.text_io.specs.Desk.{DeskState, wrote, Rose}
 use Rattle.text_io.specs.Line.{Gathers, StopsWithin}
+use Rattle.cell_machine.specs.declared.changes.Change.{Change}
+use Rattle.cell_machine.specs.History.{IsProperFrom}
+use Rattle.cell_machine.specs.Lines.{Machine}
+use Rattle.stimulus.specs.declared.ports.Ports.{Ports}
 use Rattle.section_runs.specs.declared.faults.RunFault.{RunFault}
 use Rattle.section_runs.specs.declared.faults.RunFault.TheVariants as fault
+
+-- Such a simulator at its start can be given the changes, and the ports name its inputs and its outputs.
+pub record CanBegin (ports : Ports) (machine : Machine) (stands : List Change → Type 0) (changes : List Change) : Type 0 where
+  pub inputs : length ports.inputs ≡ machine.inputs
+  pub outputs : length ports.outputs ≡ machine.outputs
+  pub start : stands []
+  pub proper : IsProperFrom machine.inputs [] changes
 
 -- After a call that appends this text to the report: on `Ok` all of it was appended, else a prefix of it. Nothing else
 -- changed.

@@ -13,4 +13,3 @@ pub use differences::{first_difference, no_difference_is_equal, same_line};
 pub use faults::RunFault;
 pub use heading::write_heading;
 pub use section::write_section;
-pub use trace::write_trace;

@@ -1,12 +1,11 @@
 //! The lines of a trace, printed one after another as the simulator takes the changes.
-ghost use Rattle.std.specs.Prelude.{◌≡◌, ◌<◌, [], List, length, IfSome};
+ghost use Rattle.std.specs.Prelude.{◌≡◌, ◌<◌, List, length, IfSome};
 ghost use Rattle.std.specs.Option.{option_copied};
 ghost use Rattle.cell_machine.specs.declared.changes.Change.{Change as ChangeOf};
-ghost use Rattle.cell_machine.specs.History.{IsProperFrom};
 ghost use Rattle.cell_machine.specs.Lines.{trace};
 ghost use Rattle.stimulus.specs.TraceLine.{line_text};
 ghost use Rattle.section_runs.specs.TraceText.{trace_text};
-ghost use Rattle.section_runs.specs.Writes.{WritesTrace, PutsTrace, HasCause};
+ghost use Rattle.section_runs.specs.Writes.{CanBegin, WritesTrace, PutsTrace, HasCause};
 
 use crate::faults::RunFault;
 use cell_machine::{CellSim, Change};
@@ -19,7 +18,7 @@ use text_io::{Desk, Line, OutSlot};
 ///
 /// It needs as many names as the simulator has inputs and outputs, and changes of its inputs at times that rise strictly.
 /// After a fault a prefix of the lines was appended. `Failed` comes only where a write failed.
-pub fn write_trace<D: Desk, S: CellSim>(
+pub(crate) fn write_trace<D: Desk, S: CellSim>(
     alloc: Global,
     desk: &mut D,
     tag: u8,
@@ -27,10 +26,7 @@ pub fn write_trace<D: Desk, S: CellSim>(
     sim: &mut S,
     changes: &[Change],
 ) -> Result<(), RunFault>
-    requires inputs { length ports.now.inputs ≡ (S.machine sim.old).inputs }
-    requires outputs { length ports.now.outputs ≡ (S.machine sim.old).outputs }
-    requires start { S.stands sim.old [] }
-    requires proper { IsProperFrom (S.machine sim.old).inputs [] changes.now }
+    requires { CanBegin ports.now (S.machine sim.old) (S.stands sim.old) changes.now }
     ensures text { WritesTrace (D.state desk.old) (D.state desk.new) (trace_text tag ports.now changes.now (trace (S.machine sim.old).line changes.now)) result }
     ensures cause { HasCause (D.faults desk.old) (D.faults desk.new) result }
 {

@@ -1,11 +1,8 @@
-use Rattle.std.proofs.Common.{◌≡◌, List, drop}
-use Rattle.cell_machine.specs.declared.changes.Change.{Change}
 use Rattle.section_runs.specs.Differences.{same_values}
+use Rattle.section_runs.proofs.Compared.{RestDecides}
 use Rattle.section_runs.proofs.differences.same_values.Given as goal
 
--- the rest decides
 abbrev pub invariant-loop-place : goal.invariant-loop-place
 invariant-loop-place g l =
-    (h k : List Change) → g.A.CellSim.stands l.left h → g.B.CellSim.stands l.right k
-    → same_values (drop l.place ((g.A.CellSim.machine l.left).line h).values) (drop l.place ((g.B.CellSim.machine l.right).line k).values)
-    ≡ same_values ((g.A.CellSim.machine l.left).line h).values ((g.B.CellSim.machine l.right).line k).values
+    RestDecides same_values (g.A.CellSim.stands l.left) (g.B.CellSim.stands l.right) (λ h. ((g.A.CellSim.machine l.left).line h).values)
+    (λ k. ((g.B.CellSim.machine l.right).line k).values) l.place

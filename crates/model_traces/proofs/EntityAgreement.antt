@@ -11,7 +11,7 @@ use Rattle.cell_machine.specs.Each.{each}
 use Rattle.cell_machine.specs.Delay.{least_delay}
 use Rattle.cell_machine.specs.History.{inputs_after, value_before, is_event, IsProper, IsProperFrom}
 use Rattle.cell_machine.specs.Report.{happens, is_within, report, any_true}
-use Rattle.cell_machine.specs.CellTrace.{inputs_of, input_check, reports_of, NamedGroup, named_groups, state_step, state_after, states_after, cell_line, cell_trace}
+use Rattle.cell_machine.specs.CellTrace.{inputs_of, input_check, reports_of, NamedGroup, named_groups, state_step, state_after, states_after, cell_trace}
 use Rattle.cell_machine.specs.CellTrace as cell
 use Rattle.udp_tables.specs.CellPrimitives.{has_notifier}
 use Rattle.vital_models.specs.declared.model.VState.{VState}
@@ -25,12 +25,12 @@ use Rattle.model_traces.specs.SignalTimes.{check_reports}
 use Rattle.model_traces.specs.GatedPaths.{paths_from}
 use Rattle.model_traces.specs.ProcessRun.{columns, all_columns, violation_by, looked_up, reports_at, happened, process_after}
 use Rattle.model_traces.specs.ProcessLaws.{last_times}
-use Rattle.model_traces.specs.EntityTrace.{output_after, delay_after, reports_after, entity_line, entity_trace}
+use Rattle.model_traces.specs.EntityTrace.{output_after, delay_after, reports_after, entity_trace}
 use Rattle.model_traces.specs.EntityFits.{FitsGroup, FitsCheck, FitsOutput, EntityFits}
 use Rattle.model_traces.specs.Agreement.{FittingEntitiesAgree}
 use Rattle.model_traces.proofs.ProcessLemmas.{looked-each, process-inputs, process-times, process-columns, later-second, earlier-first}
-use Rattle.model_traces.proofs.FitLemmas.{fit-length, fit-map, fit-kept, fit-steps, start-states, opening-same, reports-tied, reports-after, states-step}
-use Rattle.model_traces.proofs.TraceLemmas.{trace-same, length-inputs, some-checks}
+use Rattle.model_traces.proofs.FitLemmas.{fit-length, fit-kept, fit-steps, start-states, opening-same, states-step, reports-fit, traces-fit}
+use Rattle.model_traces.proofs.TraceLemmas.{length-inputs, some-checks}
 
 module _ (d : CellData) (e : VEntity) (fits : EntityFits d e) where
   abbrev n : ℕ
@@ -124,23 +124,11 @@ module _ (d : CellData) (e : VEntity) (fits : EntityFits d e) where
       ap (λ v. paths_from e v c.pin o) (run-is (c ∷ h)) ∙ f.paths (inputs_after n (c ∷ h)) c.pin (length-inputs n (c ∷ h)) in
       λ i. if same (was i) (now i) then None else Some (least_delay (was i) (now i) (paths i))
 
-  reports-line : (h : List Change) → reports_after e h ≡ reports_of d h
-  reports-line =
-      let long = fit-length (FitsCheck d e) d.checks e.checks fits.checks in
-      reports-after d (reports_after e) (length e.checks) refl long
-      (λ c h. reports-tied d h c (process_after e h).inputs (reports_at e (process_after e h) c) (length e.checks) (run-is h) (event-reports h c) long)
-
-  line-tied : (h : List Change) → IsProper n h → entity_line e h ≡ cell_line d h
-  line-tied h proper =
-      λ i.
-      record {
-        values = fit-map (FitsOutput d e) (output_after e h) (cell.output_after d h) (output-tied h proper) d.outputs e.outputs fits.outputs i;
-        delays = fit-map (FitsOutput d e) (delay_after e h) (cell.delay_after d h) (delay-tied h proper) d.outputs e.outputs fits.outputs i;
-        reports = reports-line h i;
-      }
-
   pub traces-agree : (cs : List Change) → IsProperFrom n [] cs → entity_trace e cs ≡ cell_trace d cs
-  traces-agree = trace-same n (entity_line e) (cell_line d) line-tied
+  traces-agree =
+      traces-fit d (FitsOutput d e) e.outputs (output_after e) (delay_after e) (reports_after e) fits.outputs output-tied delay-tied
+      (reports-fit d (FitsCheck d e) e.checks (λ h. (process_after e h).inputs) (λ h c. reports_at e (process_after e h) c) (reports_after e)
+      fits.checks run-is event-reports refl (λ c h. refl))
 
 pub entities-agree : FittingEntitiesAgree
 entities-agree d e fits = (traces-agree d e fits, states-tied d e fits)

@@ -1,19 +1,21 @@
 -- Lists of parts that fit, and what models that fit a cell have in common.
-use Rattle.std.proofs.Common.{◌≡◌, ℕ, suc, Bool, true, false, List, [], ◌∷◌, length, map, replicate, inl, inr, refl, ap, sym, ◌∙◌, if◌then◌else◌}
+use Rattle.std.proofs.Common.{◌≡◌, ℕ, suc, Bool, true, false, List, [], ◌∷◌, length, map, replicate, Option, inl, inr, refl, ap, sym, ◌∙◌, if◌then◌else◌}
 use Rattle.std.proofs.lemmas.Simd.{map-map}
 use Rattle.trit_cubes.specs.declared.trits.Trit.{Trit}
 use Rattle.trit_cubes.specs.declared.trits.Trit.TheVariants.{Unknown}
 use Rattle.trit_cubes.proofs.ListLemmas.{Among}
 use Rattle.bool_functions.specs.declared.tree.Node.{Node}
+use Rattle.cell_machine.specs.declared.outputs.OutputPin.{OutputPin}
 use Rattle.cell_machine.specs.declared.checks.Check.{Check}
 use Rattle.cell_machine.specs.declared.changes.Change.{Change}
 use Rattle.cell_machine.specs.CellData.{CellData}
 use Rattle.cell_machine.specs.Each.{each}
 use Rattle.cell_machine.specs.Edges.{edge_of}
 use Rattle.cell_machine.specs.Inputs as cell_inputs
-use Rattle.cell_machine.specs.History.{inputs_after, value_before, is_event}
+use Rattle.cell_machine.specs.History.{inputs_after, value_before, is_event, IsProper, IsProperFrom}
 use Rattle.cell_machine.specs.Report.{is_period, last_event, opening_by, opening, any_true}
-use Rattle.cell_machine.specs.CellTrace.{inputs_of, input_check, reports_of, NamedGroup, named_groups, state_step, state_after, states_after}
+use Rattle.cell_machine.specs.Lines.{shown_line, trace}
+use Rattle.cell_machine.specs.CellTrace.{inputs_of, input_check, reports_of, NamedGroup, named_groups, state_step, state_after, states_after, output_after, delay_after, cell_line, cell_trace}
 use Rattle.cell_machine.proofs.EachLemmas.{each-map}
 use Rattle.udp_tables.specs.declared.models.VPort.{VPort}
 use Rattle.udp_tables.specs.declared.timing_checks.TimingCheck.{TimingCheck}
@@ -23,7 +25,7 @@ use Rattle.model_traces.specs.PortNumbers.{input_number, input_event}
 use Rattle.model_traces.specs.CheckEvents.{opening_event}
 use Rattle.model_traces.specs.CheckFits.{MeasuresSame}
 use Rattle.model_traces.specs.FitLists.{FitEach}
-use Rattle.model_traces.proofs.TraceLemmas.{still-reports, start-reports}
+use Rattle.model_traces.proofs.TraceLemmas.{still-reports, start-reports, trace-same}
 
 pub fit-length :
     {X Y : Type 0} (fits : X → Y → Type 0) (xs : List X) (ys : List Y) → FitEach fits xs ys → length ys ≡ length xs
@@ -146,3 +148,35 @@ states-step d h c v states happened still is at_event tied =
         ≡ map (λ g. if b then state_step (any_true (reports_of d (c ∷ h))) d.pins g (inputs_after (inputs_of d) (c ∷ h)) (value_before (inputs_after (inputs_of d) h) c) c (state_after d h g) else state_after d h g) (named_groups d)
     by true event = at_event event
     by false event = tied
+
+-- reports that are a cell's at each event are the cell's
+pub reports-fit :
+    {K : Type 0} (d : CellData) (fits : Check → K → Type 0) (checks : List K) (v : List Change → List Trit)
+    (told : List Change → Change → List Bool) (reports : List Change → List Bool)
+    → FitEach fits d.checks checks
+    → ((h : List Change) → v h ≡ inputs_after (inputs_of d) h)
+    → ((h : List Change) (c : Change) → told h c ≡ reports_of d (c ∷ h))
+    → reports [] ≡ replicate (length checks) false
+    → ((c : Change) (h : List Change) → reports (c ∷ h) ≡ (if is_event (v h) c then told h c else replicate (length checks) false))
+    → (h : List Change) → reports h ≡ reports_of d h
+reports-fit d fits checks v told reports all is same none step =
+    let long = fit-length fits d.checks checks all in
+    reports-after d reports (length checks) none long
+    (λ c h. step c h ∙ reports-tied d h c (v h) (told h c) (length checks) (is h) (same h c) long)
+
+-- outputs that fit those of a cell, and the cell's reports, give the cell's trace
+pub traces-fit :
+    {O : Type 0} (d : CellData) (fits : OutputPin → O → Type 0) (outputs : List O) (value : List Change → O → Trit)
+    (delay : List Change → O → Option ℕ) (reports : List Change → List Bool)
+    → FitEach fits d.outputs outputs
+    → ((h : List Change) → IsProper (inputs_of d) h → (output : OutputPin) (o : O) → fits output o → value h o ≡ output_after d h output)
+    → ((h : List Change) → IsProper (inputs_of d) h → (output : OutputPin) (o : O) → fits output o → delay h o ≡ delay_after d h output)
+    → ((h : List Change) → reports h ≡ reports_of d h)
+    → (cs : List Change) → IsProperFrom (inputs_of d) [] cs → trace (shown_line outputs value delay reports) cs ≡ cell_trace d cs
+traces-fit d fits outputs value delay reports all valued delayed reported =
+    trace-same (inputs_of d) (shown_line outputs value delay reports) (cell_line d)
+    (λ h proper i. record {
+      values = fit-map fits (value h) (output_after d h) (valued h proper) d.outputs outputs all i;
+      delays = fit-map fits (delay h) (delay_after d h) (delayed h proper) d.outputs outputs all i;
+      reports = reported h i;
+    })

@@ -11,7 +11,7 @@ use Rattle.cell_machine.specs.Each.{each}
 use Rattle.cell_machine.specs.Delay.{least_delay}
 use Rattle.cell_machine.specs.History.{inputs_after, value_before, is_event, IsProper, IsProperFrom}
 use Rattle.cell_machine.specs.Report.{happens, is_within, report, any_true}
-use Rattle.cell_machine.specs.CellTrace.{inputs_of, input_check, reports_of, NamedGroup, named_groups, moved, violated, state_step, state_after, states_after, cell_line, cell_trace}
+use Rattle.cell_machine.specs.CellTrace.{inputs_of, input_check, reports_of, NamedGroup, named_groups, moved, violated, state_step, state_after, states_after, cell_trace}
 use Rattle.cell_machine.specs.CellTrace as cell
 use Rattle.udp_tables.specs.CellPrimitives.{has_notifier}
 use Rattle.specify_blocks.specs.declared.model.Instance.{Instance}
@@ -27,15 +27,15 @@ use Rattle.model_traces.specs.Primitives.{next_state}
 use Rattle.model_traces.specs.CheckTimes.{check_reports}
 use Rattle.model_traces.specs.ModuleRun.{HasEach, turn_of, toggled, entered, kept, notified, shaken, reports_at, happened, run_after}
 use Rattle.model_traces.specs.PathDelays.{paths_between}
-use Rattle.model_traces.specs.ModuleTrace.{output_after, delay_after, reports_after, module_line, module_trace}
+use Rattle.model_traces.specs.ModuleTrace.{output_after, delay_after, reports_after, module_trace}
 use Rattle.model_traces.specs.ModuleSized.{entered-has-each, kept-has-each, notified-has-each, run-has-each}
 use Rattle.model_traces.specs.SequentialStates.{sequential_instances, states_among, sequential_states}
 use Rattle.model_traces.specs.ModuleFits.{FitsGroup, FitGroups, FitsCheck, FitsOutput, ModuleFits}
 use Rattle.model_traces.specs.Laws.{last_stamps}
 use Rattle.model_traces.specs.Agreement.{FittingModulesAgree}
 use Rattle.model_traces.proofs.RunLemmas.{run-inputs, run-stamps, opened-last}
-use Rattle.model_traces.proofs.FitLemmas.{fit-length, fit-map, fit-kept, fit-steps, start-states, opening-same, reports-tied, reports-after, states-step}
-use Rattle.model_traces.proofs.TraceLemmas.{trace-same, length-inputs, some-checks, picked-each, picked-replicate, length-picked}
+use Rattle.model_traces.proofs.FitLemmas.{fit-kept, fit-steps, start-states, opening-same, states-step, reports-fit, traces-fit}
+use Rattle.model_traces.proofs.TraceLemmas.{length-inputs, some-checks, picked-each, picked-replicate, length-picked}
 
 -- the register changes nothing where no check reports
 shaken-none : (m : VModule) (reports : List Bool) (r : ModuleRun) → any_true reports ≡ false → shaken m reports r ≡ r
@@ -194,23 +194,11 @@ module _ (d : CellData) (m : VModule) (fits : ModuleFits d m) where
       ∙ f.paths (inputs_after n (c ∷ h)) r.states c.pin (length-inputs n (c ∷ h)) (run-has-each m (c ∷ h)).states in
       λ i. if same (was i) (now i) then None else Some (least_delay (was i) (now i) (paths i))
 
-  reports-line : (h : List Change) → reports_after m h ≡ reports_of d h
-  reports-line =
-      let long = fit-length (FitsCheck d m) d.checks m.checks fits.checks in
-      reports-after d (reports_after m) (length m.checks) refl long
-      (λ c h. reports-tied d h c (run_after m h).inputs (reports_at m (run_after m h) c) (length m.checks) (run-is h) (event-reports h c) long)
-
-  line-tied : (h : List Change) → IsProper n h → module_line m h ≡ cell_line d h
-  line-tied h proper =
-      λ i.
-      record {
-        values = fit-map (FitsOutput d m) (output_after m h) (cell.output_after d h) (output-tied h proper) d.outputs (output_ports m.ports) fits.outputs i;
-        delays = fit-map (FitsOutput d m) (delay_after m h) (cell.delay_after d h) (delay-tied h proper) d.outputs (output_ports m.ports) fits.outputs i;
-        reports = reports-line h i;
-      }
-
   pub traces-agree : (cs : List Change) → IsProperFrom n [] cs → module_trace m cs ≡ cell_trace d cs
-  traces-agree = trace-same n (module_line m) (cell_line d) line-tied
+  traces-agree =
+      traces-fit d (FitsOutput d m) (output_ports m.ports) (output_after m) (delay_after m) (reports_after m) fits.outputs output-tied delay-tied
+      (reports-fit d (FitsCheck d m) m.checks (λ h. (run_after m h).inputs) (λ h c. reports_at m (run_after m h) c) (reports_after m)
+      fits.checks run-is event-reports refl (λ c h. refl))
 
 pub modules-agree : FittingModulesAgree
 modules-agree d m fits = (traces-agree d m fits, states-tied d m fits)

@@ -1,5 +1,5 @@
 -- The numbers of a cell's pins among its inputs, among its ports, and of those ports among the inputs.
-use Rattle.std.proofs.Common.{◌≡◌, ℕ, zero, suc, ◌+◌, ◌<◌, ◌≤◌, Bool, true, false, ◌||◌, cond, List, [], ◌∷◌, ◌++◌, map, get_or, set, take, refl, sym, ap, ◌∙◌, arith, IsTrue, Some, None, slice_get, nat_eq, nat_lt, eqb-true, if◌then◌else◌}
+use Rattle.std.proofs.Common.{◌≡◌, ℕ, zero, suc, ◌+◌, ◌<◌, ◌≤◌, Bool, true, false, ◌||◌, cond, List, [], ◌∷◌, ◌++◌, map, get_or, set, take, refl, sym, ap, ◌∙◌, arith, IsTrue, Option, Some, None, slice_get, nat_eq, nat_lt, eqb-true, if◌then◌else◌}
 use Rattle.std.specs.Prelude.{count_by}
 use Rattle.std.specs.List.{list_all, position_from}
 use Rattle.std.specs.Option.{option_map_or}
@@ -142,19 +142,18 @@ output-is-port direction.Input h = absurd cc
 output-is-port direction.Output h = refl
 output-is-port direction.Internal h = absurd cc
 
+-- a pin that passes a test passes what the test implies
+pin-implied :
+    (test other : Pin → Bool) → ((pin : Pin) → IsTrue (test pin) → IsTrue (other pin))
+    → (o : Option Pin) → IsTrue (option_map_or test o false) → IsTrue (option_map_or other o false)
+pin-implied test other implied None h = absurd cc
+pin-implied test other implied (Some pin) h = implied pin h
+
 pub input-pin-port : (pins : List Pin) (p : ℕ) → IsTrue (is_input_pin pins p) → IsTrue (is_port_pin pins p)
-input-pin-port pins p h =
-    elim (slice_get pins p) as (λ o. IsTrue (option_map_or (λ (pin : Pin). is_input pin.direction) o false) → IsTrue (option_map_or is_port o false)) [
-      | None ↦ λ k. absurd cc
-      | Some pin ↦ λ k. input-is-port pin.direction k
-    ] h
+input-pin-port pins p h = pin-implied (λ pin. is_input pin.direction) is_port (λ pin k. input-is-port pin.direction k) (slice_get pins p) h
 
 pub output-pin-port : (pins : List Pin) (p : ℕ) → IsTrue (is_output_pin pins p) → IsTrue (is_port_pin pins p)
-output-pin-port pins p h =
-    elim (slice_get pins p) as (λ o. IsTrue (option_map_or (λ (pin : Pin). is_output pin.direction) o false) → IsTrue (option_map_or is_port o false)) [
-      | None ↦ λ k. absurd cc
-      | Some pin ↦ λ k. output-is-port pin.direction k
-    ] h
+output-pin-port pins p h = pin-implied (λ pin. is_output pin.direction) is_port (λ pin k. output-is-port pin.direction k) (slice_get pins p) h
 
 swapped : (a b : ℕ) → nat_eq a b ≡ nat_eq b a
 swapped a b = by (nat_eq a b) refl

@@ -27,7 +27,7 @@ use Rattle.model_traces.specs.SignalTimes.{SignalTimes, has_reference, test_even
 use Rattle.model_traces.specs.SignalTimes as signal_times
 use Rattle.model_traces.specs.ProcessRun.{ProcessRun, all_columns, looked_up, reports_at, violation_by, happened, process_after}
 use Rattle.model_traces.specs.ProcessLaws.{last_times_by, last_times, ProcessHoldsInputs, ProcessKeepsLastEvents, ProcessKeepsColumns, LaterEventIsSecond, EarlierTimeIsFirst}
-use Rattle.model_traces.proofs.RunLemmas.{still-inputs, still-event}
+use Rattle.model_traces.proofs.RunLemmas.{still-inputs, still-event, kept-step}
 
 -- the tables are looked up one by one
 pub looked-each :
@@ -75,26 +75,17 @@ still-times ports n h c k none =
           (still-event n (input_event ports (second_of k edge.Fall)) h c none i)
     ]
 
-times-step :
-    (e : VEntity) (r : ProcessRun) (h : List Change) (c : Change) (b : Bool)
-    → r.inputs ≡ inputs_after (input_count e.ports) h
-    → r.times ≡ map (last_times e.ports (input_count e.ports) h) e.checks
-    → is_event r.inputs c ≡ b
-    → (if b then happened e r c else r).times ≡ map (last_times e.ports (input_count e.ports) (c ∷ h)) e.checks
-times-step e r h c true is kept_are event =
-    let n : ℕ = input_count e.ports in
-    (λ i. each (timed e.ports (value_before (is i) c) c) e.checks (kept_are i))
-    ∙ each-map (timed e.ports (value_before (inputs_after n h) c) c) (last_times e.ports n h) e.checks
-    ∙ (λ i. map (λ k. timed-after e.ports n h c k i) e.checks)
-times-step e r h c false is kept_are event =
-    let n : ℕ = input_count e.ports in
-    let none : is_event (inputs_after n h) c ≡ false = ap (λ xs. is_event xs c) (sym is) ∙ event in
-    kept_are ∙ (λ i. map (λ k. still-times e.ports n h c k none i) e.checks)
-
 pub process-times : ProcessKeepsLastEvents
 process-times e [] = λ i. map (λ k. start-times e.ports (input_count e.ports) k i) e.checks
 process-times e (c ∷ h) =
-    times-step e (process_after e h) h c (is_event (process_after e h).inputs c) (process-inputs e h) (process-times e h) refl
+    let n : ℕ = input_count e.ports in
+    let r : ProcessRun = process_after e h in
+    kept-step (λ (run : ProcessRun). run.times) (happened e r c) r r.inputs c (map (last_times e.ports n (c ∷ h)) e.checks) (is_event r.inputs c) refl
+    ((λ i. each (timed e.ports (value_before (process-inputs e h i) c) c) e.checks (process-times e h i))
+    ∙ each-map (timed e.ports (value_before (inputs_after n h) c) c) (last_times e.ports n h) e.checks
+    ∙ (λ i. map (λ k. timed-after e.ports n h c k i) e.checks))
+    (λ none. process-times e h
+    ∙ (λ i. map (λ k. still-times e.ports n h c k (ap (λ xs. is_event xs c) (sym (process-inputs e h)) ∙ none) i) e.checks))
 
 columns-step :
     (e : VEntity) (r : ProcessRun) (c : Change) (b : Bool)

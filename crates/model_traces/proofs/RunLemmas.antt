@@ -18,7 +18,8 @@ use Rattle.specify_blocks.specs.declared.model.VModule.{VModule}
 use Rattle.model_traces.specs.declared.module_run.ModuleRun.{ModuleRun}
 use Rattle.model_traces.specs.PortNumbers.{input_count, input_event}
 use Rattle.model_traces.specs.CheckEvents.{second_of, opening_event}
-use Rattle.model_traces.specs.CheckTimes.{no_stamps, stamped, same_edge, opened_by, opened}
+use Rattle.model_traces.specs.CheckTimes.{stamped, same_edge, opened_by, opened}
+use Rattle.cell_machine.specs.Times.{no_times}
 use Rattle.model_traces.specs.ModuleRun.{entered, kept, notified, shaken, reports_at, happened, run_after}
 use Rattle.model_traces.specs.Laws.{last_stamps, RunHoldsInputs, RunKeepsLastEvents}
 
@@ -60,16 +61,16 @@ still-event n e h c none =
     (no-event e (inputs_after n h) c (same-equal (value_before (inputs_after n h) c) c.to none)))
 
 pub start-stamps :
-    (ports : List VPort) (n : ℕ) (checks : List TimingCheck) → replicate (length checks) no_stamps ≡ map (last_stamps ports n []) checks
+    (ports : List VPort) (n : ℕ) (checks : List TimingCheck) → replicate (length checks) no_times ≡ map (last_stamps ports n []) checks
 start-stamps ports n [] = refl
-start-stamps ports n (k ∷ ks) = ap (λ r. no_stamps ∷ r) (start-stamps ports n ks)
+start-stamps ports n (k ∷ ks) = ap (λ r. no_times ∷ r) (start-stamps ports n ks)
 
 pub still-stamps :
     (ports : List VPort) (n : ℕ) (h : List Change) (c : Change) (checks : List TimingCheck)
     → is_event (inputs_after n h) c ≡ false → map (last_stamps ports n h) checks ≡ map (last_stamps ports n (c ∷ h)) checks
 still-stamps ports n h c checks none =
     λ i. map (λ (k : TimingCheck). record {
-      first = still-event n (input_event ports k.first) h c none i;
+      event = still-event n (input_event ports k.first) h c none i;
       rise = still-event n (input_event ports (second_of k edge.Rise)) h c none i;
       fall = still-event n (input_event ports (second_of k edge.Fall)) h c none i;
     }) checks
@@ -91,23 +92,21 @@ opened-last ports n h a c k = by (is_period k.kind)
     by true = edges (is_rise a c.to)
     by false = refl
 
-stamps-step :
-    (m : VModule) (r : ModuleRun) (h : List Change) (c : Change) (b : Bool)
-    → r.inputs ≡ inputs_after (input_count m.ports) h
-    → r.stamps ≡ map (last_stamps m.ports (input_count m.ports) h) m.checks
-    → is_event r.inputs c ≡ b
-    → (if b then happened m r c else r).stamps ≡ map (last_stamps m.ports (input_count m.ports) (c ∷ h)) m.checks
-stamps-step m r h c true is kept_are e =
-    shaken-stamps m (reports_at m r c) (kept m (entered m r c) (value_before r.inputs c) c)
-    ∙ (λ i. each (stamped m.ports (value_before (is i) c) c) m.checks (kept_are i))
-    ∙ each-map (stamped m.ports (value_before (inputs_after (input_count m.ports) h) c) c)
-    (last_stamps m.ports (input_count m.ports) h) m.checks
-stamps-step m r h c false is kept_are e =
-    let n : ℕ = input_count m.ports in
-    let none : is_event (inputs_after n h) c ≡ false = ap (λ xs. is_event xs c) (sym is) ∙ e in
-    kept_are ∙ still-stamps m.ports n h c m.checks none
+-- what a run of inputs v keeps after a change, by what it keeps after an event and where there is none
+pub kept-step :
+    {R T : Type 0} (kept_by : R → List T) (after still : R) (v : List Trit) (c : Change) (next : List T) (b : Bool)
+    → is_event v c ≡ b → kept_by after ≡ next → (is_event v c ≡ false → kept_by still ≡ next)
+    → kept_by (if b then after else still) ≡ next
+kept-step kept_by after still v c next true is at_event at_none = at_event
+kept-step kept_by after still v c next false is at_event at_none = at_none is
 
 pub run-stamps : RunKeepsLastEvents
 run-stamps m [] = start-stamps m.ports (input_count m.ports) m.checks
 run-stamps m (c ∷ h) =
-    stamps-step m (run_after m h) h c (is_event (run_after m h).inputs c) (run-inputs m h) (run-stamps m h) refl
+    let r : ModuleRun = run_after m h in
+    let n : ℕ = input_count m.ports in
+    kept-step (λ (run : ModuleRun). run.stamps) (happened m r c) r r.inputs c (map (last_stamps m.ports n (c ∷ h)) m.checks) (is_event r.inputs c) refl
+    (shaken-stamps m (reports_at m r c) (kept m (entered m r c) (value_before r.inputs c) c)
+    ∙ (λ i. each (stamped m.ports (value_before (run-inputs m h i) c) c) m.checks (run-stamps m h i))
+    ∙ each-map (stamped m.ports (value_before (inputs_after n h) c) c) (last_stamps m.ports n h) m.checks)
+    (λ none. run-stamps m h ∙ still-stamps m.ports n h c m.checks (ap (λ xs. is_event xs c) (sym (run-inputs m h)) ∙ none))

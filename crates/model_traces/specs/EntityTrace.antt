@@ -1,8 +1,8 @@
 -- The trace of an entity: its outputs, its delays and its reports after each history of its inputs.
-use Rattle.std.specs.Prelude.{ℕ, Bool, false, List, [], ◌∷◌, length, map, replicate, Option, None}
+use Rattle.std.specs.Prelude.{ℕ, Bool, false, List, [], ◌∷◌, length, replicate, Option, None}
 use Rattle.trit_cubes.specs.declared.trits.Trit.{Trit}
 use Rattle.cell_machine.specs.declared.changes.Change.{Change}
-use Rattle.cell_machine.specs.Lines.{Line, trace, Machine}
+use Rattle.cell_machine.specs.Lines.{Line, shown_line, trace, Machine, machine_by}
 use Rattle.vital_models.specs.declared.model.VOutput.{VOutput}
 use Rattle.vital_models.specs.declared.model.VEntity.{VEntity}
 use Rattle.model_traces.specs.PortNumbers.{input_count}
@@ -27,23 +27,11 @@ reports_after e (c ∷ h) = step_reports e (process_after e h) c
 
 -- What an entity shows after a history of its inputs. At the start it shows the results of its tables at X, and its constants.
 abbrev pub entity_line : VEntity → List Change → Line
-entity_line e h =
-    record {
-      values = map (output_after e h) e.outputs;
-      delays = map (delay_after e h) e.outputs;
-      reports = reports_after e h;
-    }
+entity_line e = shown_line e.outputs (output_after e) (delay_after e) (reports_after e)
 
--- The trace of an entity on changes of its inputs, the oldest first.
+-- The trace of an entity on changes of its inputs, the oldest first, and the entity as what a simulator runs.
 abbrev pub entity_trace : VEntity → List Change → List Line
 entity_trace e = trace (entity_line e)
 
--- the entity as what a simulator runs
 abbrev pub entity_machine : VEntity → Machine
-entity_machine e =
-    record {
-      inputs = input_count e.ports;
-      outputs = length e.outputs;
-      checks = length e.checks;
-      line = entity_line e;
-    }
+entity_machine e = machine_by (input_count e.ports) (length e.checks) e.outputs (entity_line e)

@@ -14,11 +14,15 @@ use Rattle.vital_models.specs.declared.model.VEntity.{VEntity}
 use Rattle.model_traces.specs.PortNumbers.{input_number}
 use Rattle.model_traces.specs.ProcessValues.{condition_value}
 
+-- whether all these conditions are 0
+abbrev pub all_zero : VEntity → List Trit → List ℕ → Bool
+all_zero e inputs is = list_all (λ i. is_zero (condition_value e inputs i)) is
+
 -- whether a path's condition holds: there is none, its condition is not 0, or all its conditions are 0
 abbrev pub gate_holds : VEntity → List Trit → HGate → Bool
 gate_holds e inputs gate.Always = true
 gate_holds e inputs (gate.NotZero i) = not (is_zero (condition_value e inputs i))
-gate_holds e inputs (gate.AllZero is) = list_all (λ i. is_zero (condition_value e inputs i)) is
+gate_holds e inputs (gate.AllZero is) = all_zero e inputs is
 
 -- a path with its delays, at values of the inputs
 abbrev pub path_at : VEntity → List Trit → HPath → Path

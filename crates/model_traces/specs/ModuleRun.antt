@@ -12,7 +12,8 @@ use Rattle.model_traces.specs.declared.turns.Turn.{Turn}
 use Rattle.model_traces.specs.declared.module_run.ModuleRun.{ModuleRun}
 use Rattle.model_traces.specs.PortNumbers.{input_count}
 use Rattle.model_traces.specs.Primitives.{next_states}
-use Rattle.model_traces.specs.CheckTimes.{no_stamps, stamped, check_reports}
+use Rattle.model_traces.specs.CheckTimes.{stamped, check_reports}
+use Rattle.cell_machine.specs.Times.{no_times}
 
 -- before any change: all inputs, states and the register are X, and no time is kept (this project's rule)
 abbrev pub start_run : VModule → ModuleRun
@@ -21,7 +22,7 @@ start_run m =
       inputs = replicate (input_count m.ports) Unknown;
       states = replicate (length m.instances) Unknown;
       notifier = Unknown;
-      stamps = replicate (length m.checks) no_stamps;
+      stamps = replicate (length m.checks) no_times;
     }
 
 -- the run has a state for each instance and kept times for each check

@@ -13,7 +13,8 @@ use Rattle.model_traces.specs.declared.turns.Turned.TheVariants as turned
 use Rattle.model_traces.specs.declared.module_run.ModuleRun.{ModuleRun}
 use Rattle.model_traces.specs.PortNumbers.{output_ports}
 use Rattle.model_traces.specs.Primitives.{next_state}
-use Rattle.model_traces.specs.CheckTimes.{no_stamps, stamped, check_reports}
+use Rattle.model_traces.specs.CheckTimes.{stamped, check_reports}
+use Rattle.cell_machine.specs.Times.{no_times}
 use Rattle.model_traces.specs.ModuleRun.{HasEach, start_run, turn_of, entered, kept, toggled, notified, shaken, reports_at, happened, run_after}
 use Rattle.model_traces.specs.ModuleTrace.{output_after, delay_after, reports_after, module_machine}
 
@@ -25,7 +26,7 @@ pub start-has-each : (m : VModule) → HasEach m (start_run m)
 start-has-each m =
     record {
       states = length-replicate (length m.instances) Unknown;
-      stamps = length-replicate (length m.checks) no_stamps;
+      stamps = length-replicate (length m.checks) no_times;
     }
 
 pub entered-has-each : (m : VModule) (r : ModuleRun) (c : Change) → HasEach m r → HasEach m (entered m r c)

@@ -1,8 +1,8 @@
 -- The trace of a module: its outputs, its delays and its reports after each history of its inputs.
-use Rattle.std.specs.Prelude.{ℕ, Bool, false, List, [], ◌∷◌, length, map, replicate, Option, None}
+use Rattle.std.specs.Prelude.{ℕ, Bool, false, List, [], ◌∷◌, length, replicate, Option, None}
 use Rattle.trit_cubes.specs.declared.trits.Trit.{Trit}
 use Rattle.cell_machine.specs.declared.changes.Change.{Change}
-use Rattle.cell_machine.specs.Lines.{Line, trace, Machine}
+use Rattle.cell_machine.specs.Lines.{Line, shown_line, trace, Machine, machine_by}
 use Rattle.specify_blocks.specs.declared.model.VNet.TheVariants as net
 use Rattle.specify_blocks.specs.declared.model.VModule.{VModule}
 use Rattle.model_traces.specs.declared.module_run.ModuleRun.{ModuleRun}
@@ -34,12 +34,7 @@ reports_after m (c ∷ h) = step_reports m (run_after m h) c
 
 -- What a module shows after a history of its inputs.
 abbrev pub module_line : VModule → List Change → Line
-module_line m h =
-    record {
-      values = map (output_after m h) (output_ports m.ports);
-      delays = map (delay_after m h) (output_ports m.ports);
-      reports = reports_after m h;
-    }
+module_line m = shown_line (output_ports m.ports) (output_after m) (delay_after m) (reports_after m)
 
 -- The trace of a module on changes of its inputs, the oldest first.
 abbrev pub module_trace : VModule → List Change → List Line
@@ -47,10 +42,4 @@ module_trace m = trace (module_line m)
 
 -- the module as what a simulator runs
 abbrev pub module_machine : VModule → Machine
-module_machine m =
-    record {
-      inputs = input_count m.ports;
-      outputs = length (output_ports m.ports);
-      checks = length m.checks;
-      line = module_line m;
-    }
+module_machine m = machine_by (input_count m.ports) (length m.checks) (output_ports m.ports) (module_line m)

@@ -1,8 +1,8 @@
 -- The ports of a model by their direction. Inputs are numbered from 0 among the input ports, in their order.
-use Rattle.std.specs.Prelude.{ℕ, ◌+◌, Bool, true, false, List, [], ◌∷◌, ◌++◌, take, count_by, slice_index_or}
+use Rattle.std.specs.Prelude.{ℕ, ◌+◌, Bool, true, false, List, [], ◌∷◌, ◌++◌, count_by}
 use Rattle.trit_cubes.specs.declared.trits.Trit.{Trit}
-use Rattle.trit_cubes.specs.declared.trits.Trit.TheVariants.{Unknown}
 use Rattle.cell_machine.specs.declared.checks.Event.{Event}
+use Rattle.cell_machine.specs.Inputs.{number_among, numbered_value}
 use Rattle.udp_tables.specs.declared.models.VPort.{VPort}
 
 abbrev pub is_input : VPort → Bool
@@ -14,11 +14,11 @@ input_count ports = count_by is_input ports
 
 -- the number of a port among the inputs: how many inputs stand before it
 abbrev pub input_number : List VPort → ℕ → ℕ
-input_number ports p = count_by is_input (take p ports)
+input_number = number_among is_input
 
 -- the value of an input port, of the values of the inputs
 abbrev pub input_value : List VPort → List Trit → ℕ → Trit
-input_value ports inputs p = slice_index_or inputs (input_number ports p) Unknown
+input_value ports inputs p = numbered_value inputs (input_number ports p)
 
 -- an event of a port as one of its input
 abbrev pub input_event : List VPort → Event → Event

@@ -1,15 +1,15 @@
 -- Laws of the runs of processes: what a run keeps is what the whole history says.
-use Rattle.std.specs.Prelude.{◌≡◌, ℕ, Bool, true, false, List, map, IsTrue}
+use Rattle.std.specs.Prelude.{◌≡◌, ℕ, Bool, true, false, List, IsTrue}
 use Rattle.trit_cubes.specs.declared.trits.Trit.{Trit}
 use Rattle.cell_machine.specs.declared.changes.Change.{Change}
 use Rattle.cell_machine.specs.declared.checks.Edge.TheVariants as edge
-use Rattle.cell_machine.specs.History.{inputs_after}
 use Rattle.cell_machine.specs.Report.{is_period, last_event}
 use Rattle.udp_tables.specs.declared.models.VPort.{VPort}
 use Rattle.udp_tables.specs.declared.timing_checks.TimingCheck.{TimingCheck}
 use Rattle.vital_models.specs.declared.model.VEntity.{VEntity}
 use Rattle.vital_models.specs.Sound.{has_events}
-use Rattle.model_traces.specs.PortNumbers.{input_count, input_event}
+use Rattle.model_traces.specs.PortNumbers.{input_event}
+use Rattle.model_traces.specs.Laws.{HoldInputs, KeepLastEvents}
 use Rattle.model_traces.specs.CheckEvents.{second_of, opening_event}
 use Rattle.model_traces.specs.SignalTimes.{SignalTimes, Pair, Edges, has_reference, test_event, reference_event, later_event, earlier_time}
 use Rattle.model_traces.specs.ProcessRun.{all_columns, process_after}
@@ -26,13 +26,11 @@ last_times ports n h k = last_times_by (has_reference k.kind) ports n h k
 
 -- a run holds the values that the changes gave to the inputs
 abbrev pub ProcessHoldsInputs : Type 0
-ProcessHoldsInputs = (e : VEntity) (h : List Change) → (process_after e h).inputs ≡ inputs_after (input_count e.ports) h
+ProcessHoldsInputs = HoldInputs (λ (e : VEntity). e.ports) (λ e h. (process_after e h).inputs)
 
 -- each check keeps the times of its last events in the whole history
 abbrev pub ProcessKeepsLastEvents : Type 0
-ProcessKeepsLastEvents =
-    (e : VEntity) (h : List Change)
-    → (process_after e h).times ≡ map (last_times e.ports (input_count e.ports) h) e.checks
+ProcessKeepsLastEvents = KeepLastEvents (λ (e : VEntity). e.ports) (λ e. e.checks) last_times (λ e h. (process_after e h).times)
 
 -- The columns that a run keeps are those of the inputs that it holds, at some violation.
 abbrev pub ProcessKeepsColumns : Type 0

@@ -76,15 +76,11 @@ resumed e r c violation =
 abbrev pub happened : VEntity → ProcessRun → Change → ProcessRun
 happened e r c = resumed e r c (violation_by (any_true (reports_at e r c)))
 
--- The run after a change. One to the value that the input has does not wake the process.
-abbrev pub process_step : VEntity → ProcessRun → Change → ProcessRun
-process_step e r c = (if is_event r.inputs c then happened e r c else r)
-
 -- the reports at a change: none where it is no event
 abbrev pub step_reports : VEntity → ProcessRun → Change → List Bool
 step_reports e r c = (if is_event r.inputs c then reports_at e r c else replicate (length e.checks) false)
 
--- the run after a history, which has the newest change first
+-- the run after a history, which has the newest change first; one to the value that the input has does not wake the process
 abbrev pub process_after : VEntity → List Change → ProcessRun
 process_after e [] = start_process e
-process_after e (c ∷ h) = process_step e (process_after e h) c
+process_after e (c ∷ h) = (if is_event (process_after e h).inputs c then happened e (process_after e h) c else process_after e h)

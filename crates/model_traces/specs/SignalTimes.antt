@@ -1,6 +1,6 @@
 -- When the timing checks of a process report, by the times that they keep. (IEEE 1076.4-2000, VitalSetupHoldCheck,
 -- VitalRecoveryRemovalCheck and VitalPeriodPulseCheck.)
-use Rattle.std.specs.Prelude.{ℕ, Bool, true, false, ◌&&◌, List, Option, None}
+use Rattle.std.specs.Prelude.{ℕ, Bool, true, false, ◌&&◌, List, Option, None, if◌then◌else◌}
 use Rattle.trit_cubes.specs.declared.trits.Trit.{Trit}
 use Rattle.cell_machine.specs.declared.changes.Change.{Change}
 use Rattle.cell_machine.specs.declared.checks.Edge.{Edge}
@@ -27,12 +27,9 @@ pub data SignalTimes : Type 0 where
 
 -- whether a check has a test signal and a reference signal: a width and a period have one signal
 abbrev pub has_reference : CheckKind → Bool
-has_reference check_kind.Setup = true
-has_reference check_kind.Hold = true
-has_reference check_kind.Recovery = true
-has_reference check_kind.Removal = true
 has_reference check_kind.Width = false
 has_reference check_kind.Period = false
+has_reference _ = true
 
 -- before any event
 abbrev pub no_times_by : Bool → SignalTimes
@@ -42,24 +39,20 @@ no_times_by false = Edges None None
 abbrev pub no_times : CheckKind → SignalTimes
 no_times kind = no_times_by (has_reference kind)
 
+-- whether the reference event of a check is the earlier one, as of a hold and of a removal
+abbrev pub is_turned : CheckKind → Bool
+is_turned check_kind.Hold = true
+is_turned check_kind.Removal = true
+is_turned _ = false
+
 -- The test event: the earlier one of a setup and of a recovery, the later one of a hold and of a removal. A check of one signal
 -- has none.
 abbrev pub test_event : CheckKind → TimingCheck → Event
-test_event check_kind.Setup k = k.first
-test_event check_kind.Hold k = k.second
-test_event check_kind.Recovery k = k.first
-test_event check_kind.Removal k = k.second
-test_event check_kind.Width k = k.first
-test_event check_kind.Period k = k.first
+test_event kind k = (if is_turned kind then k.second else k.first)
 
 -- the reference event: the other one
 abbrev pub reference_event : CheckKind → TimingCheck → Event
-reference_event check_kind.Setup k = k.second
-reference_event check_kind.Hold k = k.first
-reference_event check_kind.Recovery k = k.second
-reference_event check_kind.Removal k = k.first
-reference_event check_kind.Width k = k.second
-reference_event check_kind.Period k = k.second
+reference_event kind k = (if is_turned kind then k.first else k.second)
 
 -- The times that a check keeps after a change of an input that had the value a: each of its two events that the change is has
 -- the time of the change.
@@ -71,22 +64,14 @@ timed ports a c k (Edges rise fall) =
     Edges (renewed (happens (input_event ports (second_of k edge.Rise)) a c) c.at rise)
     (renewed (happens (input_event ports (second_of k edge.Fall)) a c) c.at fall)
 
--- the kept times by their names
-abbrev pub test_time : SignalTimes → Option ℕ
-test_time (Pair test reference) = test
-test_time (Edges rise fall) = None
+-- the kept times of a test signal and a reference signal, and those of a rise and a fall
+abbrev pub pair_times : SignalTimes → Option ℕ × Option ℕ
+pair_times (Pair test reference) = (test, reference)
+pair_times (Edges rise fall) = (None, None)
 
-abbrev pub reference_time : SignalTimes → Option ℕ
-reference_time (Pair test reference) = reference
-reference_time (Edges rise fall) = None
-
-abbrev pub rise_time : SignalTimes → Option ℕ
-rise_time (Pair test reference) = None
-rise_time (Edges rise fall) = rise
-
-abbrev pub fall_time : SignalTimes → Option ℕ
-fall_time (Pair test reference) = None
-fall_time (Edges rise fall) = fall
+abbrev pub edge_times : SignalTimes → Option ℕ × Option ℕ
+edge_times (Pair test reference) = (None, None)
+edge_times (Edges rise fall) = (rise, fall)
 
 -- whether a pulse is high: it begins with a rise
 abbrev pub is_high : Edge → Bool
@@ -101,8 +86,8 @@ pulse_end false = edge.Rise
 
 -- the last possible rise, or the last possible fall
 abbrev pub edge_time : Bool → SignalTimes → Option ℕ
-edge_time true times = rise_time times
-edge_time false times = fall_time times
+edge_time true times = (edge_times times).0
+edge_time false times = (edge_times times).1
 
 -- The later event of a check, at which it compares: the reference event of a setup and of a recovery, the test event of a hold
 -- and of a removal, the end of a pulse, and each event of a signal whose periods are checked.
@@ -117,10 +102,10 @@ later_event check_kind.Period k = second_of k edge.Any
 -- The time from which a check measures at its later event. A high pulse begins with its rise, a low one with its fall; a period
 -- lasts from a rise to a rise, or from a fall to a fall.
 abbrev pub earlier_time : CheckKind → TimingCheck → Trit → Change → SignalTimes → Option ℕ
-earlier_time check_kind.Setup k a c times = test_time times
-earlier_time check_kind.Hold k a c times = reference_time times
-earlier_time check_kind.Recovery k a c times = test_time times
-earlier_time check_kind.Removal k a c times = reference_time times
+earlier_time check_kind.Setup k a c times = (pair_times times).0
+earlier_time check_kind.Hold k a c times = (pair_times times).1
+earlier_time check_kind.Recovery k a c times = (pair_times times).0
+earlier_time check_kind.Removal k a c times = (pair_times times).1
 earlier_time check_kind.Width k a c times = edge_time (is_high k.first.edge) times
 earlier_time check_kind.Period k a c times = edge_time (is_rise a c.to) times
 

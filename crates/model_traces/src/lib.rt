@@ -4,7 +4,6 @@
 
 mod laws;
 mod module_run;
-mod stamps;
 mod turns;
 
 pub use laws::{
@@ -14,5 +13,4 @@ pub use laws::{
     run_keeps_last_events,
 };
 pub use module_run::ModuleRun;
-pub use stamps::Stamps;
 pub use turns::{Turn, Turned};

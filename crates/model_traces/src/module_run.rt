@@ -1,5 +1,5 @@
 //! What a run of a module holds.
-use crate::stamps::Stamps;
+use cell_machine::Times;
 use sqlite_items::Items;
 use trit_cubes::Trit;
 
@@ -13,5 +13,5 @@ pub struct ModuleRun {
     /// The value of the register of the checks.
     pub notifier: Trit,
     /// For each check the times that it keeps.
-    pub stamps: Items<Stamps>,
+    pub stamps: Items<Times>,
 }

@@ -1,13 +1,13 @@
 -- The entities of the cells of one library are well formed together: no two share a name, whatever the case of its letters.
-use Rattle.std.proofs.Common.{◌≡◌, ℕ, ◌^◌, ◌<◌, Bool, true, false, inl, inr, List, [], ◌∷◌, ◌++◌, refl, sym, ◌∙◌, subst, codes, decimal, nat_eq, is_some, Option, Some, None, if◌then◌else◌}
+use Rattle.std.proofs.Common.{◌≡◌, ℕ, ◌^◌, ◌<◌, Bool, true, false, inl, inr, List, [], ◌∷◌, ◌++◌, refl, sym, subst, codes, decimal, nat_eq, is_some, if◌then◌else◌}
 use Rattle.std.specs.Prelude.{All}
 use Rattle.std.specs.List.{IsDistinct}
 use Rattle.std.specs.Str.{bytes_eq, str_eq_ignore_ascii_case}
-use Rattle.std.proofs.lemmas.Bool.{true≢false, eq-eqb}
+use Rattle.std.proofs.lemmas.Bool.{eq-eqb}
 use Rattle.std.proofs.lemmas.List.Elements.{All-nil, All-cons, All-head, All-tail, All-contains}
-use Rattle.std.proofs.lemmas.Map.Keys.{IsDistinct-cons, IsDistinct-head, IsDistinct-tail}
+use Rattle.std.proofs.lemmas.Map.Keys.{IsDistinct-cons, IsDistinct-tail}
 use Rattle.std.proofs.lemmas.Slice.Eq.{bytes_eq-Decides}
-use Rattle.trit_cubes.proofs.ListLemmas.{Among, append-among_left, append-among_right, map-among, among-contains}
+use Rattle.trit_cubes.proofs.ListLemmas.{Among, append-among_left, append-among_right, among-contains}
 use Rattle.bool_functions.specs.NameList.{number_of}
 use Rattle.bool_functions.proofs.NameLists.{position-some}
 use Rattle.cell_machine.specs.CellData.{CellData}
@@ -17,22 +17,19 @@ use Rattle.vital_models.specs.Kept.{is_kept_entity_name, entity_name}
 use Rattle.vhdl_text.specs.VhdlText.{entity_names}
 use Rattle.vhdl_text.specs.WellFormed.{IsWellFormedEntity, AreApart}
 use Rattle.library_cells.specs.Cells.{IsNumberedCell, numbers_of_cells}
-use Rattle.library_cells.proofs.NameLists.{each_among, at_among}
+use Rattle.library_cells.proofs.NameLists.{each_among, other_key}
+use Rattle.grammar_phrases.proofs.Places.{none_if}
 use Rattle.generated_entities.specs.Library.{entity_behind, entities_behind}
 use Rattle.generated_entities.specs.Laws.{EntitiesAreWellFormed}
 use Rattle.generated_entities.proofs.Names.{unlike_lower, no_cell, cells_apart, kept}
 use Rattle.generated_entities.proofs.Entities.{entity-well-formed}
 
 -- a name that is kept is none of those before it
-is_some_of : (o : Option ℕ) → is_some o ≡ false → o ≡ None
-is_some_of None h = refl
-is_some_of (Some i) h = absurd cc
-
 kept_is_new : (given : List (List ℕ)) (name x : List ℕ) → is_some (number_of given (lowered name)) ≡ false → Among x given → lowered name ≡ x → ⊥
 kept_is_new given name x h m e =
     position-some (bytes_eq (lowered name)) given
     (found-any (bytes_eq (lowered name)) x given m ((bytes_eq-Decides (lowered name) x).1 e))
-    (is_some_of (number_of given (lowered name)) h)
+    (none_if (number_of given (lowered name)) h)
 
 -- the names of two cells, of which the second is given behind the first
 behind_apart :
@@ -75,14 +72,6 @@ behind_form given (cell ∷ cells) y (inr m) =
       same = rest.same;
     }
 
--- a cell is not one of those behind it
-other_number : (cell : CellData) (cells : List CellData) → IsDistinct nat_eq (numbers_of_cells (cell ∷ cells)) → (other : CellData) → Among other cells → cell.number ≡ other.number → ⊥
-other_number cell cells h other m e =
-    true≢false
-    (sym (eq-eqb cell.number other.number e)
-    ∙ at_among (λ n. nat_eq cell.number n ≡ false) other.number (numbers_of_cells cells) (IsDistinct-head nat_eq cell.number (numbers_of_cells cells) h)
-    (map-among (λ (c : CellData). c.number) other cells m))
-
 entities_apart :
     (given : List (List ℕ)) (cells : List CellData) → All IsNumberedCell cells → IsDistinct nat_eq (numbers_of_cells cells)
     → AreApart (entity_names (entities_behind given cells))
@@ -100,7 +89,7 @@ entities_apart given (cell ∷ cells) h d =
     let its = All-contains IsNumberedCell cells form.cell numbered (among-contains form.cell cells form.among) in
     subst (λ z. str_eq_ignore_ascii_case name z ≡ false) form.same
     (behind_apart cell form.cell given form.names (All-head IsNumberedCell cell cells h).number its.number
-    (other_number cell cells d form.cell form.among)
+    (other_key nat_eq (λ (c : CellData). c.number) eq-eqb cell cells d form.cell form.among)
     (form.known (lowered name) (append-among_right (lowered name) given (lowered name ∷ []) (inl refl))))))
     (entities_apart names cells numbered (IsDistinct-tail nat_eq cell.number (numbers_of_cells cells) d))
 

@@ -5,7 +5,7 @@ use Rattle.std.specs.List.{list_all}
 use Rattle.std.specs.Str.{str_eq_ignore_ascii_case}
 use Rattle.std.proofs.lemmas.Bool.{and_parts, and_from, not-true, true≢false, cases_Bool, leb-true, eq-eqb}
 use Rattle.std.proofs.lemmas.Fmt.{decimal_injective}
-use Rattle.std.proofs.lemmas.List.{append_cancel_left}
+use Rattle.std.proofs.lemmas.List.{append_cancel_left, map-append}
 use Rattle.std.proofs.lemmas.Slice.Eq.{bytes_eq-Decides}
 use Rattle.std.proofs.lemmas.Str.Ascii.{lowercase_is}
 use Rattle.bool_functions.specs.NameList.{number_of}
@@ -16,6 +16,7 @@ use Rattle.vhdl_tokens.specs.Tokens.{is_name_byte}
 use Rattle.vital_models.specs.Kept.{is_kept_entity_name, entity_name}
 use Rattle.vhdl_text.specs.WellFormed.{is_spelled_as_name, IsEntityName, IsPortName}
 use Rattle.library_cells.proofs.NumberedNames.{decimal_digits}
+use Rattle.library_cells.proofs.NameLists.{all_weaker}
 
 -- numbers in names
 pub decimal_number : (n : ℕ) → n < 2 ^ 64 → IsTrue (is_number (decimal n))
@@ -79,20 +80,14 @@ digit_alphanumeric d h = by (is_ascii_digit d) (is_ascii_uppercase d) (is_ascii_
     by false upper lower h = absurd cc
 
 digits_plain : (ds : List ℕ) → IsTrue (list_all is_ascii_digit ds) → IsTrue (list_all is_ascii_alphanumeric ds)
-digits_plain [] h = refl
-digits_plain (d ∷ ds) h =
-    let parts = and_parts (is_ascii_digit d) (list_all is_ascii_digit ds) h in
-    and_from (is_ascii_alphanumeric d) (list_all is_ascii_alphanumeric ds) (digit_alphanumeric d parts.0) (digits_plain ds parts.1)
+digits_plain ds h = all_weaker is_ascii_digit is_ascii_alphanumeric digit_alphanumeric ds h
 
 -- what is spelled
 alphanumeric_in_name : (b : ℕ) → IsTrue (is_ascii_alphanumeric b) → IsTrue (is_name_byte b)
 alphanumeric_in_name b h = ap (λ t. t || b == 95) h
 
 plain_in_name : (bs : List ℕ) → IsTrue (list_all is_ascii_alphanumeric bs) → IsTrue (list_all is_name_byte bs)
-plain_in_name [] h = refl
-plain_in_name (b ∷ bs) h =
-    let parts = and_parts (is_ascii_alphanumeric b) (list_all is_ascii_alphanumeric bs) h in
-    and_from (is_name_byte b) (list_all is_name_byte bs) (alphanumeric_in_name b parts.0) (plain_in_name bs parts.1)
+plain_in_name bs h = all_weaker is_ascii_alphanumeric is_name_byte alphanumeric_in_name bs h
 
 or_true : (x y : Bool) → y ≡ true → (x || y) ≡ true
 or_true true y e = refl
@@ -146,11 +141,13 @@ unlike_lower x y h =
       | inr e ↦ e
     ]
 
-pin_lower : (ds : List ℕ) → IsTrue (list_all is_ascii_digit ds) → map to_ascii_lowercase (codes "pin" ++ ds) ≡ codes "pin" ++ ds
-pin_lower ds h = ap (λ l. codes "pin" ++ l) (digits_lower ds h)
+-- a word in lower case, with digits behind it
+word_lower : (word ds : List ℕ) → map to_ascii_lowercase word ≡ word → IsTrue (list_all is_ascii_digit ds) → map to_ascii_lowercase (word ++ ds) ≡ word ++ ds
+word_lower word ds e h =
+    map-append to_ascii_lowercase word ds ∙ ap (λ l. l ++ map to_ascii_lowercase ds) e ∙ ap (λ l. word ++ l) (digits_lower ds h)
 
-cell_lower : (ds : List ℕ) → IsTrue (list_all is_ascii_digit ds) → map to_ascii_lowercase (codes "cell" ++ ds) ≡ codes "cell" ++ ds
-cell_lower ds h = ap (λ l. codes "cell" ++ l) (digits_lower ds h)
+number_lower : (word : List ℕ) (n : ℕ) → map to_ascii_lowercase word ≡ word → n < 2 ^ 64 → map to_ascii_lowercase (word ++ decimal n) ≡ word ++ decimal n
+number_lower word n e h = word_lower word (decimal n) e (number_digits (decimal n) (decimal_number n h))
 
 -- what is like a word with a number behind it begins so, and has the number
 equal_bytes : (a b : ℕ) → a ≡ b → (b == a) ≡ true
@@ -192,36 +189,32 @@ like_cell (a ∷ b ∷ c ∷ d ∷ x) ds h e =
     (subst (λ l. IsTrue (is_number l)) (sym same) h)
 
 -- a name that is no word with a number is unlike each such
+no_number :
+    (word : List ℕ) → map to_ascii_lowercase word ≡ word
+    → ((x ds : List ℕ) → IsTrue (is_number ds) → map to_ascii_lowercase x ≡ word ++ ds → is_numbered word x ≡ true)
+    → (x : List ℕ) (n : ℕ) → n < 2 ^ 64 → is_numbered word x ≡ false → str_eq_ignore_ascii_case x (word ++ decimal n) ≡ false
+no_number word low like x n h k =
+    unlike_lower x (word ++ decimal n) (λ e. true≢false (sym (like x (decimal n) (decimal_number n h) (e ∙ number_lower word n low h)) ∙ k))
+
 pub no_pin : (x : List ℕ) (n : ℕ) → n < 2 ^ 64 → is_numbered (codes "pin") x ≡ false → str_eq_ignore_ascii_case x (codes "pin" ++ decimal n) ≡ false
-no_pin x n h k =
-    let number = decimal_number n h in
-    unlike_lower x (codes "pin" ++ decimal n)
-    (λ e. true≢false (sym (like_pin x (decimal n) number (e ∙ pin_lower (decimal n) (number_digits (decimal n) number))) ∙ k))
+no_pin x n h k = no_number (codes "pin") refl like_pin x n h k
 
 pub no_cell : (x : List ℕ) (n : ℕ) → n < 2 ^ 64 → is_numbered (codes "cell") x ≡ false → str_eq_ignore_ascii_case x (codes "cell" ++ decimal n) ≡ false
-no_cell x n h k =
-    let number = decimal_number n h in
-    unlike_lower x (codes "cell" ++ decimal n)
-    (λ e. true≢false (sym (like_cell x (decimal n) number (e ∙ cell_lower (decimal n) (number_digits (decimal n) number))) ∙ k))
+no_cell x n h k = no_number (codes "cell") refl like_cell x n h k
 
 -- numbered names of two numbers
+numbers_apart :
+    (word : List ℕ) → map to_ascii_lowercase word ≡ word → (m n : ℕ) → m < 2 ^ 64 → n < 2 ^ 64 → (m ≡ n → ⊥)
+    → str_eq_ignore_ascii_case (word ++ decimal m) (word ++ decimal n) ≡ false
+numbers_apart word low m n h k apart =
+    unlike_lower (word ++ decimal m) (word ++ decimal n)
+    (λ e. apart (decimal_injective m n h k (append_cancel_left word (decimal m) (decimal n) (sym (number_lower word m low h) ∙ e ∙ number_lower word n low k))))
+
 pub pins_apart : (m n : ℕ) → m < 2 ^ 64 → n < 2 ^ 64 → (m ≡ n → ⊥) → str_eq_ignore_ascii_case (codes "pin" ++ decimal m) (codes "pin" ++ decimal n) ≡ false
-pins_apart m n h k apart =
-    unlike_lower (codes "pin" ++ decimal m) (codes "pin" ++ decimal n)
-    (λ e.
-    apart (decimal_injective m n h k
-    (append_cancel_left (codes "pin") (decimal m) (decimal n)
-    (sym (pin_lower (decimal m) (number_digits (decimal m) (decimal_number m h))) ∙ e
-    ∙ pin_lower (decimal n) (number_digits (decimal n) (decimal_number n k))))))
+pins_apart m n h k apart = numbers_apart (codes "pin") refl m n h k apart
 
 pub cells_apart : (m n : ℕ) → m < 2 ^ 64 → n < 2 ^ 64 → (m ≡ n → ⊥) → str_eq_ignore_ascii_case (codes "cell" ++ decimal m) (codes "cell" ++ decimal n) ≡ false
-cells_apart m n h k apart =
-    unlike_lower (codes "cell" ++ decimal m) (codes "cell" ++ decimal n)
-    (λ e.
-    apart (decimal_injective m n h k
-    (append_cancel_left (codes "cell") (decimal m) (decimal n)
-    (sym (cell_lower (decimal m) (number_digits (decimal m) (decimal_number m h))) ∙ e
-    ∙ cell_lower (decimal n) (number_digits (decimal n) (decimal_number n k))))))
+cells_apart m n h k apart = numbers_apart (codes "cell") refl m n h k apart
 
 -- the name of an entity
 pub record IsGivenName (name : List ℕ) : Type 0 where

@@ -42,21 +42,10 @@ none_kept text bytes false e = refl
 put_elsewhere : (kept slot other : OutSlot) (text bytes : List ℕ) → same_out kept slot ≡ false
     → written_at kept text other ≡ put_out (written_at kept text) slot (option_map (λ before. before ++ bytes) (written_at kept text slot)) other
 put_elsewhere kept VerilogText VerilogText text bytes e = none_kept text bytes (same_out kept VerilogText) e
-put_elsewhere kept VerilogText VitalText text bytes e = refl
-put_elsewhere kept VerilogText Report text bytes e = refl
-put_elsewhere kept VerilogText Faults text bytes e = refl
-put_elsewhere kept VitalText VerilogText text bytes e = refl
 put_elsewhere kept VitalText VitalText text bytes e = none_kept text bytes (same_out kept VitalText) e
-put_elsewhere kept VitalText Report text bytes e = refl
-put_elsewhere kept VitalText Faults text bytes e = refl
-put_elsewhere kept Report VerilogText text bytes e = refl
-put_elsewhere kept Report VitalText text bytes e = refl
 put_elsewhere kept Report Report text bytes e = none_kept text bytes (same_out kept Report) e
-put_elsewhere kept Report Faults text bytes e = refl
-put_elsewhere kept Faults VerilogText text bytes e = refl
-put_elsewhere kept Faults VitalText text bytes e = refl
-put_elsewhere kept Faults Report text bytes e = refl
 put_elsewhere kept Faults Faults text bytes e = none_kept text bytes (same_out kept Faults) e
+put_elsewhere kept _ _ text bytes e = refl
 
 pub elsewhere-wrote : (kept slot : OutSlot) (text bytes : List ℕ) → same_out kept slot ≡ false → keeps_text kept text ≡ wrote (keeps_text kept text) slot bytes
 unfolding keeps_text wrote
@@ -76,21 +65,10 @@ told text whole false e = absurd cc
 -- slots that are the same
 same_is : (a b : OutSlot) → same_out a b ≡ true → a ≡ b
 same_is VerilogText VerilogText e = refl
-same_is VerilogText VitalText e = absurd cc
-same_is VerilogText Report e = absurd cc
-same_is VerilogText Faults e = absurd cc
-same_is VitalText VerilogText e = absurd cc
 same_is VitalText VitalText e = refl
-same_is VitalText Report e = absurd cc
-same_is VitalText Faults e = absurd cc
-same_is Report VerilogText e = absurd cc
-same_is Report VitalText e = absurd cc
 same_is Report Report e = refl
-same_is Report Faults e = absurd cc
-same_is Faults VerilogText e = absurd cc
-same_is Faults VitalText e = absurd cc
-same_is Faults Report e = absurd cc
 same_is Faults Faults e = refl
+same_is _ _ e = absurd cc
 
 -- a desk whose text these bytes were appended to
 pub wrote_whole : (kept slot : OutSlot) (text bytes after : List ℕ) → same_out kept slot ≡ true → after ≡ text ++ bytes

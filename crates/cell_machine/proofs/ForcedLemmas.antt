@@ -4,25 +4,10 @@ use Rattle.trit_cubes.specs.declared.trits.Trit.{Trit}
 use Rattle.trit_cubes.specs.declared.trits.Trit.TheVariants.{Zero, One, Unknown}
 use Rattle.trit_cubes.specs.Filling.{Fits, IsFilling}
 use Rattle.trit_cubes.specs.Resolution.{agreed}
-use Rattle.trit_cubes.proofs.InsideLemmas.{res-fillings, fillings-res}
+use Rattle.trit_cubes.proofs.InsideLemmas.{res-fillings, fillings-res, agreed-parts, agreed-same}
 use Rattle.cell_machine.specs.Machine.{Step, insert, around, forced_at, over}
 use Rattle.cell_machine.specs.Laws.{ForcedIsStep}
 use Rattle.cell_machine.proofs.StepLemmas.{machine_step-parts}
-
--- two values that agree on a known one are both this one
-pub agreed-parts : (x y v : Trit) → v ≢ Unknown → agreed x y ≡ v → (x ≡ v) × (y ≡ v)
-agreed-parts Zero Zero v k e = (e, e)
-agreed-parts Zero One v k e = absurd (k (sym e))
-agreed-parts Zero Unknown v k e = absurd (k (sym e))
-agreed-parts One Zero v k e = absurd (k (sym e))
-agreed-parts One One v k e = (e, e)
-agreed-parts One Unknown v k e = absurd (k (sym e))
-agreed-parts Unknown y v k e = absurd (k (sym e))
-
-pub agreed-same : (v : Trit) → agreed v v ≡ v
-agreed-same Zero = refl
-agreed-same One = refl
-agreed-same Unknown = refl
 
 pub over-known : (f : Bool → Trit) (t v : Trit) → ((b : Bool) → Fits t b → f b ≡ v) → over f t ≡ v
 over-known f Zero v h = h false refl

@@ -23,7 +23,7 @@ use Rattle.specify_blocks.specs.Sound.{is_gate, IsPath, is_enabling, IsCheck}
 use Rattle.rule_readers.specs.Words.{is_this}
 use Rattle.specify_blocks.specs.VerilogBlocks.{a_number, kept, port_of, an_input, an_output, a_condition, if_gate, ifnone_gate, gate_by, path_gate, path, next_path, paths, edge_of, an_event, an_edge_event, condition_name, condition, check_end, ordered_check, turned_check, opposite, width_check, period_check, check_of_kind, check, next_check, checks, with_block, block, specify}
 use Rattle.specify_blocks.specs.WellFormed.{IsNumber, HasNumbers}
-use Rattle.specify_blocks.proofs.ReadNames.{IsSpelled, some_if, known_values, values, anything, surely}
+use Rattle.specify_blocks.proofs.ReadNames.{IsSpelled, some_if, known_values, values, behind, surely}
 
 -- Numbers.
 
@@ -59,8 +59,8 @@ unfolding path_gate if_gate ifnone_gate
 gates m x = by_word m (bytes_eq x (codes "if")) (bytes_eq x (codes "ifnone"))
   where
     by_word : (m : VModule) (a b : Bool) → Promises IsSpelled (gate_by m a b) (λ g. IsTrue (is_gate m g))
-    by_word m true b = in_turn (anything _) (λ c q. in_turn (a_value m) (λ w h. in_turn (anything _) (λ d q2. in_turn (anything _) (λ e q3. gives h))))
-    by_word m false true = in_turn (anything _) (λ c q. gives refl)
+    by_word m true b = behind (λ c. in_turn (a_value m) (λ w h. behind (λ d. behind (λ e. gives h))))
+    by_word m false true = behind (λ c. gives refl)
     by_word m false false = gives refl
 
 -- a path that a text can tell
@@ -73,17 +73,10 @@ unfolding path
 one_path m x =
     in_turn (gates m x) (λ when gated.
     in_turn (an_input_port m) (λ from starts.
-    in_turn (anything _) (λ a q.
-    in_turn (an_output_port m) (λ to ends.
-    in_turn (anything _) (λ b q2.
-    in_turn (anything _) (λ c q3.
-    in_turn (anything _) (λ d q4.
-    in_turn numbers (λ rise r.
-    in_turn (anything _) (λ e q5.
-    in_turn numbers (λ fall f.
-    in_turn (anything _) (λ g q6.
-    in_turn (anything _) (λ h q7.
-    gives (record { sound = record { starts = starts; ends = ends; gated = gated }; numbers = record { rise = r; fall = f } })))))))))))))
+    behind (λ a. in_turn (an_output_port m) (λ to ends.
+    behind (λ b. behind (λ c. behind (λ d. in_turn numbers (λ rise r.
+    behind (λ e. in_turn numbers (λ fall f.
+    behind (λ g. behind (λ h. gives (record { sound = record { starts = starts; ends = ends; gated = gated }; numbers = record { rise = r; fall = f } })))))))))))))
 
 all_paths : (m : VModule) → Promises IsSpelled (paths m) (All (IsToldPath m))
 unfolding paths next_path
@@ -97,7 +90,7 @@ IsEvent m e = IsTrue (is_input_port m.ports e.pin)
 
 events : (m : VModule) → Promises IsSpelled (an_event m) (IsEvent m)
 unfolding an_event
-events m = in_turn (anything _) (λ e q. in_turn (an_input_port m) (λ p h. gives h))
+events m = behind (λ e. in_turn (an_input_port m) (λ p h. gives h))
 
 -- an event with an edge
 record IsEdgeEvent (m : VModule) (e : Event) : Type 0 where
@@ -131,7 +124,7 @@ there_is (Some name) x a e = refl
 ends : (m : VModule) → Promises IsSpelled (check_end m) (λ _. IsTrue (is_some m.notifier))
 unfolding check_end
 ends m =
-    in_turn (anything _) (λ a q. in_turn (known_values (is_this bytes_eq m.notifier)) (λ b f. in_turn (anything _) (λ c q2. surely (λ d. there_is m.notifier f.0 b f.1))))
+    behind (λ a. in_turn (known_values (is_this bytes_eq m.notifier)) (λ b f. behind (λ c. surely (λ d. there_is m.notifier f.0 b f.1))))
 
 -- a check that a text can tell
 pub record IsToldCheck (m : VModule) (k : TimingCheck) : Type 0 where
@@ -146,11 +139,9 @@ ordered : (m : VModule) (kind : CheckKind) → HasTwoEvents kind → Promises Is
 unfolding ordered_check
 ordered m kind told =
     in_turn (events m) (λ first f.
-    in_turn (anything _) (λ a q.
-    in_turn (events m) (λ second s.
+    behind (λ a. in_turn (events m) (λ second s.
     in_turn (conditions m) (λ when w.
-    in_turn (anything _) (λ b q2.
-    in_turn numbers (λ limit l.
+    behind (λ b. in_turn numbers (λ limit l.
     in_turn (ends m) (λ c n.
     gives (told m first second limit when f s w n l))))))))
 
@@ -159,10 +150,8 @@ unfolding turned_check
 turned m kind told =
     in_turn (events m) (λ second s.
     in_turn (conditions m) (λ when w.
-    in_turn (anything _) (λ a q.
-    in_turn (events m) (λ first f.
-    in_turn (anything _) (λ b q2.
-    in_turn numbers (λ limit l.
+    behind (λ a. in_turn (events m) (λ first f.
+    behind (λ b. in_turn numbers (λ limit l.
     in_turn (ends m) (λ c n.
     gives (told m first second limit when f s w n l))))))))
 
@@ -171,11 +160,8 @@ unfolding width_check
 widths m =
     in_turn (edge_events m) (λ first f.
     in_turn (conditions m) (λ when w.
-    in_turn (anything _) (λ a q.
-    in_turn numbers (λ limit l.
-    in_turn (anything _) (λ b q2.
-    in_turn (anything _) (λ c q3.
-    in_turn (ends m) (λ d n.
+    behind (λ a. in_turn numbers (λ limit l.
+    behind (λ b. behind (λ c. in_turn (ends m) (λ d n.
     gives (record {
       sound = record {
         first = f.pin;
@@ -193,14 +179,11 @@ widths m =
 periods : (m : VModule) → Promises IsSpelled (period_check m) (IsToldCheck m)
 unfolding period_check
 periods m =
-    in_turn (anything _) (λ a q.
-    in_turn (an_input_port m) (λ p h.
+    behind (λ a. in_turn (an_input_port m) (λ p h.
     in_turn (conditions m) (λ when w.
-    in_turn (anything _) (λ b q2.
-    in_turn numbers (λ limit l.
+    behind (λ b. in_turn numbers (λ limit l.
     in_turn (ends m) (λ c n.
-    in_turn (anything _) (λ d q3.
-    gives (record {
+    behind (λ d. gives (record {
       sound = record { first = h; second = h; written = and_from (nat_eq p p) true (eq-eqb p p refl) refl; enabled = w; notified = n };
       number = l;
     }))))))))
@@ -218,7 +201,7 @@ all_checks : (m : VModule) → Promises IsSpelled (checks m) (All (IsToldCheck m
 unfolding checks next_check check
 all_checks m =
     many (λ k d h. absurd (omega arith))
-    (λ w x kind q p e. in_turn (in_turn (anything _) (λ a q2. kinds m kind)) (λ k h. gives (All-push (IsToldCheck m) w k q h)))
+    (λ w x kind q p e. in_turn (behind (λ a. kinds m kind)) (λ k h. gives (All-push (IsToldCheck m) w k q h)))
 
 -- Blocks.
 
@@ -246,6 +229,5 @@ specified m no_paths no_checks =
     (λ x a p e.
     in_turn (all_paths m) (λ some_paths hp.
     in_turn (all_checks m) (λ some_checks hc.
-    in_turn (anything _) (λ b q.
-    gives (record { paths = some_paths; checks = some_checks; same = refl; told_paths = hp; told_checks = hc })))))
+    behind (λ b. gives (record { paths = some_paths; checks = some_checks; same = refl; told_paths = hp; told_checks = hc })))))
     (gives (unspecified m no_paths no_checks))

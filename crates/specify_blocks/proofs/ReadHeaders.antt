@@ -16,7 +16,7 @@ use Rattle.verilog_tokens.specs.Tokens.{is_name}
 use Rattle.udp_tables.specs.VerilogRules.{place_from}
 use Rattle.specify_blocks.specs.VerilogModules.{port_name, port_names, plain_port, input_port, next_port, more_ports, some_ports, header, Inputs, with_input, input_at, declared_input, declared_inputs, declared_wire, declared_wires, declared_notifier, notifier, declarations}
 use Rattle.specify_blocks.specs.WellFormed.{register_names, inner_names}
-use Rattle.specify_blocks.proofs.ReadNames.{IsSpelled, AreNames, a_name, push_name, no_names, one_name, fits_same, some_if, new_names, known_values, anything}
+use Rattle.specify_blocks.proofs.ReadNames.{IsSpelled, AreNames, a_name, push_name, no_names, one_name, fits_same, some_if, new_names, known_values, behind}
 
 -- Headers.
 
@@ -45,7 +45,7 @@ any_ports =
 headers : Promises IsSpelled header AreNamed
 unfolding header
 headers =
-    in_turn (anything _) (λ a q. in_turn any_ports (λ ports named. in_turn (anything _) (λ b q2. in_turn (anything _) (λ c q3. gives named))))
+    behind (λ a. in_turn any_ports (λ ports named. behind (λ b. behind (λ c. gives named))))
 
 -- Ports that are declared inputs keep their names.
 
@@ -92,7 +92,7 @@ HasNames ports found = port_names found.ports ≡ port_names ports
 one_input : (ports : List VPort) (found : Inputs) → HasNames ports found → Promises IsSpelled (declared_input found) (HasNames ports)
 unfolding declared_input
 one_input ports found h =
-    in_turn (known_values (input_at found)) (λ more f. in_turn (anything _) (λ a q. gives (input_named found f.0 more f.1 ∙ h)))
+    in_turn (known_values (input_at found)) (λ more f. behind (λ a. gives (input_named found f.0 more f.1 ∙ h)))
 
 inputs : (ports : List VPort) (found : Inputs) → HasNames ports found → Promises IsSpelled (declared_inputs found) (HasNames ports)
 unfolding declared_inputs
@@ -106,8 +106,7 @@ AreWires ports wires = AreNames (port_names ports ++ wires)
 one_wire : (ports : List VPort) (wires : List (List ℕ)) → AreWires ports wires → Promises IsSpelled (declared_wire ports wires) (AreWires ports)
 unfolding declared_wire
 one_wire ports wires h =
-    in_turn (new_names (port_names ports ++ wires)) (λ name new. in_turn (anything _) (λ a q.
-    gives (subst AreNames (append_assoc (port_names ports) wires (name ∷ [])) (push_name (port_names ports ++ wires) name h new))))
+    in_turn (new_names (port_names ports ++ wires)) (λ name new. behind (λ a. gives (subst AreNames (append_assoc (port_names ports) wires (name ∷ [])) (push_name (port_names ports ++ wires) name h new))))
 
 all_wires : (ports : List VPort) → AreNamed ports → Promises IsSpelled (declared_wires ports) (AreWires ports)
 unfolding declared_wires
@@ -119,8 +118,7 @@ AreInner ports wires register = AreNames (port_names ports ++ wires ++ register_
 one_notifier : (ports : List VPort) (wires : List (List ℕ)) → AreWires ports wires → Promises IsSpelled (declared_notifier ports wires) (AreInner ports wires)
 unfolding declared_notifier
 one_notifier ports wires h =
-    in_turn (new_names (port_names ports ++ wires)) (λ name new. in_turn (anything _) (λ a q.
-    gives (push_name (port_names ports ++ wires) name h new)))
+    in_turn (new_names (port_names ports ++ wires)) (λ name new. behind (λ a. gives (push_name (port_names ports ++ wires) name h new)))
 
 notifiers : (ports : List VPort) (wires : List (List ℕ)) → AreWires ports wires → Promises IsSpelled (notifier ports wires) (AreInner ports wires)
 unfolding notifier
@@ -142,7 +140,6 @@ unfolding declarations
 bare_modules name udps =
     in_turn headers (λ plain named.
     in_turn (inputs plain (record { ports = plain; behind = 0 }) refl) (λ found same.
-    in_turn (anything _) (λ a q.
-    in_turn (all_wires found.ports (subst AreNames (sym same) named)) (λ wires h.
+    behind (λ a. in_turn (all_wires found.ports (subst AreNames (sym same) named)) (λ wires h.
     in_turn (notifiers found.ports wires h) (λ register inner.
     gives (record { named = refl; primitives = refl; inner = inner; no_instances = refl; no_paths = refl; no_checks = refl }))))))

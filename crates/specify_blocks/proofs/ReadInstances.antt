@@ -24,7 +24,7 @@ use Rattle.verilog_tokens.specs.Tokens.{is_name}
 use Rattle.rule_readers.specs.declared.refusal.Refusal.TheVariants.{Syntax, Width, Undefined, Twice}
 use Rattle.specify_blocks.specs.VerilogModules.{net_of, terminal_by, terminal, may_drive, is_driven_already, driven_terminal, may_feed, feeding_terminal, next_input, more_inputs, input_count, with_instance, call, constant, primitive_number, of_primitive, begins_instance, one_instance, instances}
 use Rattle.specify_blocks.proofs.InstanceLemmas.{drivers-cons, drivers-append, are-append}
-use Rattle.specify_blocks.proofs.ReadNames.{IsSpelled, fits_if, fits_unless, where_holds, anything}
+use Rattle.specify_blocks.proofs.ReadNames.{IsSpelled, fits_if, fits_unless, where_holds, behind}
 
 -- a module with these instances, paths and checks, and otherwise as this one
 abbrev pub filled : VModule → List Instance → List VPath → List TimingCheck → VModule
@@ -81,20 +81,11 @@ push_apart (x ∷ ns) n h new =
 -- What a place allows depends on the declarations alone.
 
 drives_of : (b : VModule) (is : List Instance) (s : Bool) (n : VNet) → may_drive (built b is) s n ≡ (if s then holds_state b n else is_driven b n)
-drives_of b is true (net.Port p) = refl
-drives_of b is true (net.Wire w) = refl
-drives_of b is true net.Notifier = refl
-drives_of b is false (net.Port p) = refl
-drives_of b is false (net.Wire w) = refl
-drives_of b is false net.Notifier = refl
+drives_of b is s n = grind arith
 
 feeds_of : (b : VModule) (is : List Instance) (s : Bool) (n : VNet) → may_feed (built b is) s n ≡ (if s then feeds_state b else feeds_value b is) n
-feeds_of b is true (net.Port p) = refl
-feeds_of b is true (net.Wire w) = refl
-feeds_of b is true net.Notifier = refl
-feeds_of b is false (net.Port p) = refl
-feeds_of b is false (net.Wire w) = refl
-feeds_of b is false net.Notifier = refl
+feeds_of b is true n = grind arith
+feeds_of b is false n = grind arith
 
 filled_drives : (b : VModule) (is : List Instance) (ps : List VPath) (cs : List TimingCheck) (s : Bool) (n : VNet)
     → (if s then holds_state b n else is_driven b n) ≡ (if s then holds_state (filled b is ps cs) n else is_driven (filled b is ps cs) n)
@@ -227,26 +218,18 @@ pushed b is i h = record { same = refl; driven = h }
 calls : (b : VModule) (is : List Instance) (j : ℕ) (udp : Udp) → slice_get b.udps j ≡ Some udp → AreDriven b is → Promises IsSpelled (call (built b is) j) (IsBuilt b)
 unfolding call driven_terminal
 calls b is j udp at h =
-    in_turn (anything _) (λ a q.
-    in_turn (terminals (built b is) (may_drive (built b is) (is_sequential b.udps j)) (is_driven_already (built b is))) (λ output t.
-    in_turn (anything _) (λ c q2.
-    in_turn (one_input (built b is) (is_sequential b.udps j) output [] (record { fed = refl; apart = refl })) (λ first one.
+    behind (λ a. in_turn (terminals (built b is) (may_drive (built b is) (is_sequential b.udps j)) (is_driven_already (built b is))) (λ output t.
+    behind (λ c. in_turn (one_input (built b is) (is_sequential b.udps j) output [] (record { fed = refl; apart = refl })) (λ first one.
     in_turn (all_inputs (built b is) (is_sequential b.udps j) output first one) (λ inputs all.
     in_turn (where_holds (length inputs == input_count b.udps j) Width (codes ")")) (λ d w.
-    in_turn (anything _) (λ e q3.
-    gives (pushed b is (instance.Primitive j output inputs)
+    behind (λ e. gives (pushed b is (instance.Primitive j output inputs)
     (push_instance b is (instance.Primitive j output inputs) h (udp, at, primitive_is b is j udp output inputs at t.allowed all (eqb-true (length inputs) (input_count b.udps j) w)) t.free)))))))))
 
 constants : (b : VModule) (is : List Instance) → AreDriven b is → Promises IsSpelled (constant (built b is)) (IsBuilt b)
 unfolding constant driven_terminal
 constants b is h =
-    in_turn (anything _) (λ a q.
-    in_turn (terminals (built b is) (may_drive (built b is) false) (is_driven_already (built b is))) (λ output t.
-    in_turn (anything _) (λ c q2.
-    in_turn (anything _) (λ one q3.
-    in_turn (anything _) (λ d q4.
-    in_turn (anything _) (λ e q5.
-    gives (pushed b is (instance.Constant output one)
+    behind (λ a. in_turn (terminals (built b is) (may_drive (built b is) false) (is_driven_already (built b is))) (λ output t.
+    behind (λ c. behind (λ one. behind (λ d. behind (λ e. gives (pushed b is (instance.Constant output one)
     (push_instance b is (instance.Constant output one) h (sym (drives_of b is false output) ∙ t.allowed) t.free))))))))
 
 begun_by : (o : Option ℕ) (a : Option ℕ) → of_primitive o ≡ Fits a → o ≡ a

@@ -13,7 +13,8 @@ use Rattle.verilog_tokens.specs.Kept.{is_identifier}
 use Rattle.verilog_tokens.specs.Words.{is_verilog_word}
 use Rattle.std.specs.Char.{is_ascii_alphabetic}
 use Rattle.grammar_rules.specs.Rule.{Verdict, Fits, Foul}
-use Rattle.grammar_rules.proofs.Promises.{Promises, token, gives, any, keeps}
+use Rattle.grammar_rules.specs.Rule as r
+use Rattle.grammar_rules.proofs.Promises.{Promises, token, gives, in_turn, keeps}
 use Rattle.verilog_tokens.specs.Tokens.{is_name}
 use Rattle.rule_readers.specs.declared.refusal.Refusal.{Refusal}
 use Rattle.rule_readers.specs.declared.refusal.Refusal.TheVariants.{Syntax, Undefined, Twice}
@@ -101,9 +102,9 @@ pub goes_on : (b : Bool) → Promises IsSpelled (go_on_where b) (λ _. b ≡ tru
 goes_on true = gives refl
 goes_on false = token (λ x a p e. absurd cc)
 
--- a part of which nothing is said
-pub anything : {A : Type 0} (p : Grammar A) → Promises IsSpelled p any
-anything p = keeps IsSpelled p
+-- behind a part of which nothing is said
+pub behind : {A B : Type 0} {p : Grammar A} {g : A → Grammar B} {Q : B → Type 0} → ((a : A) → Promises IsSpelled (g a) Q) → Promises IsSpelled (r.Then p g) Q
+behind {p = p} more = in_turn (keeps IsSpelled p) (λ a _. more a)
 
 -- what each value has
 pub surely : {A : Type 0} {p : Grammar A} {Q : A → Type 0} → ((a : A) → Q a) → Promises IsSpelled p Q

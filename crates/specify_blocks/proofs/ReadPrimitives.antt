@@ -24,7 +24,7 @@ use Rattle.udp_tables.specs.VerilogRules.{begins_where}
 use Rattle.udp_tables.specs.VerilogPrimitives.{Header, most_inputs, most_inputs_with_state, next_input, more_inputs, header, declared_state, register, level_by, change_by, next_by, symbol, begins_change, begins_entry, entry_by, entry_after, has_change, next_entry, more_entries, state_and_next, output_level, row_end, row, next_row, table, primitive}
 use Rattle.specify_blocks.specs.Sound.{IsTable}
 use Rattle.specify_blocks.specs.WellFormed.{most_inputs_of, HasNoState, HasNoStates, IsWellFormedUdp}
-use Rattle.specify_blocks.proofs.ReadNames.{IsSpelled, IsNew, AreNames, push_name, one_name, fits_if, fits_where, some_if, new_names, any_names, values, where_holds, anything, surely, fits_same, fits_unless}
+use Rattle.specify_blocks.proofs.ReadNames.{IsSpelled, IsNew, AreNames, push_name, one_name, fits_if, fits_where, some_if, new_names, any_names, values, where_holds, behind, surely, fits_same, fits_unless}
 
 -- Headers.
 
@@ -55,14 +55,11 @@ at_most n m e = grind (arith, nat_tests)
 headers : Promises IsSpelled header IsHeader
 unfolding header
 headers =
-    in_turn (anything _) (λ a h.
-    in_turn any_names (λ output name.
-    in_turn (anything _) (λ b h2.
-    in_turn (one_more output [] (one_name output name)) (λ first one.
+    behind (λ a. in_turn any_names (λ output name.
+    behind (λ b. in_turn (one_more output [] (one_name output name)) (λ first one.
     in_turn (all_inputs output first one) (λ inputs all.
     in_turn (where_holds (nat_le (length inputs) most_inputs) Width (codes ")")) (λ c few.
-    in_turn (anything _) (λ d h3.
-    gives (record { inputs = all; most = at_most (length inputs) 10 few }))))))))
+    behind (λ d. gives (record { inputs = all; most = at_most (length inputs) 10 few }))))))))
 
 -- whether a primitive with so many inputs may have a state
 abbrev MayHaveState : ℕ → Bool → Type 0
@@ -75,7 +72,7 @@ states : (h : Header) → Promises IsSpelled (register h) (MayHaveState (length 
 unfolding register declared_state
 states h =
     choice
-    (λ x a p e. in_turn (anything _) (λ b q. in_turn (anything _) (λ c q2. gives (λ t. at_most (length h.inputs) most_inputs_with_state (begun_where (nat_le (length h.inputs) most_inputs_with_state) Width (codes "reg") x a e)))))
+    (λ x a p e. behind (λ b. behind (λ c. gives (λ t. at_most (length h.inputs) most_inputs_with_state (begun_where (nat_le (length h.inputs) most_inputs_with_state) Width (codes "reg") x a e)))))
     (gives (λ t. absurd cc))
 
 -- Entries.
@@ -184,11 +181,9 @@ keeps_nothing (b ∷ c ∷ bs) e = absurd cc
 row_ends : (sequential : Bool) (n : ℕ) (entries : List Entry) → length entries ≡ n → AreEntries sequential entries → Promises IsSpelled (row_end sequential entries) (IsRowOf sequential n)
 unfolding state_and_next output_level
 row_ends true n entries h k =
-    in_turn (anything _) (λ state q. in_turn (anything _) (λ a q2. in_turn (anything _) (λ b q3. in_turn (anything _) (λ c q4.
-    gives (record { entries = h; kinds = k; stateless = λ f. absurd cc })))))
+    behind (λ state. behind (λ a. behind (λ b. behind (λ c. gives (record { entries = h; kinds = k; stateless = λ f. absurd cc })))))
 row_ends false n entries h k =
-    in_turn (values (symbol (next_by false))) (λ found f. in_turn (anything _) (λ c q.
-    gives (record {
+    in_turn (values (symbol (next_by false))) (λ found f. behind (λ c. gives (record {
       entries = h;
       kinds = k;
       stateless = λ s. record { state = refl; next = λ same. keeps_nothing f.0 (f.1 ∙ ap Some same) };
@@ -222,13 +217,12 @@ another_row sequential n rows x h begins =
 tables : (sequential : Bool) (n : ℕ) → Promises IsSpelled (table sequential n) (AreRows sequential n)
 unfolding table
 tables sequential n =
-    in_turn (anything _) (λ a q.
-    in_turn (token (λ x y p e. let f = fits_if (begins_entry sequential x) (Fits x) Syntax y e in subst (λ t. IsTrue (begins_entry sequential t)) (fits_same x y f.1) f.0)) (λ x begins.
+    behind (λ a. in_turn (token (λ x y p e. let f = fits_if (begins_entry sequential x) (Fits x) Syntax y e in subst (λ t. IsTrue (begins_entry sequential t)) (fits_same x y f.1) f.0)) (λ x begins.
     in_turn (another_row sequential n [] x (λ k d h. absurd (omega arith)) begins) (λ first one.
     in_turn (many one (λ w x y q p e.
     let f = some_if (begins_entry sequential x) (Fits x) (Fits y) e in
     subst (λ t. Promises IsSpelled (next_row sequential n w t) (AreRows sequential n)) (fits_same x y f.1) (another_row sequential n w x q.all f.0))) (λ rows all.
-    in_turn (anything _) (λ b q2. gives all)))))
+    behind (λ b. gives all)))))
 
 -- Primitives.
 
@@ -254,12 +248,9 @@ unfolding primitive
 primitives names =
     in_turn (new_names names) (λ name new.
     in_turn headers (λ h header.
-    in_turn (anything _) (λ a q.
-    in_turn (states h) (λ sequential state.
-    in_turn (anything _) (λ b q2.
-    in_turn (tables sequential (length h.inputs)) (λ rows all.
-    in_turn (anything _) (λ c q3.
-    gives (declared names name h sequential rows new header state all))))))))
+    behind (λ a. in_turn (states h) (λ sequential state.
+    behind (λ b. in_turn (tables sequential (length h.inputs)) (λ rows all.
+    behind (λ c. gives (declared names name h sequential rows new header state all))))))))
   where
     declared : (names : List (List ℕ)) (name : List ℕ) (h : Header) (sequential : Bool) (rows : List UdpRow)
         → IsNew names name → IsHeader h → MayHaveState (length h.inputs) sequential → AreRows sequential (length h.inputs) rows

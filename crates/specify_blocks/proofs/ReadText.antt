@@ -27,7 +27,7 @@ use Rattle.specify_blocks.specs.VerilogModules.{output_nets, wire_nets, is_drive
 use Rattle.specify_blocks.specs.VerilogBlocks.{with_block}
 use Rattle.specify_blocks.specs.VerilogText.{Before, with_primitive, with_module, next_primitive, one_module, next_module, more_primitives, primitives_and_module, design_by, designs, file, IsVerilogText, text_tokens}
 use Rattle.specify_blocks.specs.WellFormed.{IsName, IsWellFormedUdp, IsWellFormedModule, udp_names, outer_names, AreWellFormed}
-use Rattle.specify_blocks.proofs.ReadNames.{IsSpelled, IsNew, AreNames, push_name, no_names, new_names, where_holds, anything}
+use Rattle.specify_blocks.proofs.ReadNames.{IsSpelled, IsNew, AreNames, push_name, no_names, new_names, where_holds, behind}
 use Rattle.specify_blocks.proofs.ReadPrimitives.{IsNewUdp, primitives}
 use Rattle.specify_blocks.proofs.ReadHeaders.{IsBare, bare_modules}
 use Rattle.specify_blocks.proofs.ReadInstances.{filled, filled_instances, AreDriven, IsBuilt, all_instances}
@@ -203,7 +203,7 @@ all_primitives before h = many h (λ w x a q p e. one_primitive w q)
 one_design : (before : Before) → IsBefore before → (primitive : Bool) → Promises IsSpelled (design_by before primitive) IsWhole
 unfolding primitives_and_module
 one_design before h true =
-    in_turn (one_primitive before h) (λ first f. in_turn (all_primitives first f) (λ more m. in_turn (anything _) (λ a q. another_module more m)))
+    in_turn (one_primitive before h) (λ first f. in_turn (all_primitives first f) (λ more m. behind (λ a. another_module more m)))
 one_design before h false = another_module before h
 
 all_designs : Promises IsSpelled designs IsWhole
@@ -220,7 +220,7 @@ text_is_formed all h =
 
 files : Promises IsSpelled file AreWellFormed
 unfolding file
-files = in_turn (anything _) (λ a q. in_turn all_designs (λ all h. last (text_is_formed all h)))
+files = behind (λ a. in_turn all_designs (λ all h. last (text_is_formed all h)))
 
 pub text_modules : (bytes : List ℕ) (ms : List VModule) → IsVerilogText bytes ms → AreWellFormed ms
 text_modules bytes ms h = (files.kept (text_tokens bytes) ms [] (tokens_spelled bytes) h.takes).0

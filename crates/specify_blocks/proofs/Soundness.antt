@@ -33,7 +33,7 @@ use Rattle.cell_machine.specs.CellData.{CellData}
 use Rattle.udp_tables.specs.Conditions.{conditions_of, condition_place, condition_list, conditions_by}
 use Rattle.cell_machine.specs.CellTrace.{support_at, sources_at, output_value_at}
 use Rattle.udp_tables.specs.CellPrimitives.{has_notifier, group_inputs, group_primitive, condition_tree, condition_primitive, has_sources, output_primitive, primitive_name, output_number, condition_number}
-use Rattle.udp_tables.proofs.CellParts.{Rules, groups_hold, outputs_hold, checks_hold, arcs_hold}
+use Rattle.udp_tables.proofs.CellParts.{Rules, group_support-at, groups_hold, outputs_hold, checks_hold, arcs_hold}
 use Rattle.udp_tables.proofs.TableLemmas.{primitive-combinational}
 use Rattle.udp_tables.proofs.CellLaws.{groups_are_sequential-lem}
 use Rattle.cell_machine.specs.Outputs.{condition_at}
@@ -56,18 +56,15 @@ use Rattle.udp_tables.proofs.ConditionLemmas.{support-ascending}
 use Rattle.udp_tables.proofs.ConditionUses.{condition-over, check-numbered, arc-numbered}
 use Rattle.udp_tables.proofs.OutputLemmas.{among-at}
 
--- the support of each group
-group_support-at :
-    (pins : List Pin) (name : ℕ) (groups : List StateGroup) (g : ℕ) (group : StateGroup)
-    → IsTrue (are_groups_from pins name groups) → slice_get groups g ≡ Some group → IsTrue (is_support pins group.support)
-group_support-at pins name [] g group h e = absurd cc
-group_support-at pins name (x ∷ xs) zero group h e =
-    let parts = and_parts (is_group pins name x) (are_groups_from pins (name + 2) xs) h in
-    let same : x ≡ group = cc in
-    subst (λ (y : StateGroup). IsTrue (is_support pins y.support)) same (and_parts (is_support pins x.support) _ parts.0).0
-group_support-at pins name (x ∷ xs) (suc g) group h e =
-    let parts = and_parts (is_group pins name x) (are_groups_from pins (name + 2) xs) h in
-    group_support-at pins (name + 2) xs g group parts.1 e
+-- what is made of each element of which a test holds
+all-made :
+    {X Y : Type 0} (P : Y → Type 0) (make : X → Y) (test : X → Bool) (xs : List X) → IsTrue (list_all test xs)
+    → ((k : ℕ) (x : X) → k < length xs → slice_get xs k ≡ Some x → IsTrue (test x) → P (make x)) → All P (map make xs)
+all-made P make test xs h each =
+    All-map P make xs
+    (λ k d within.
+    let at : slice_get xs k ≡ Some (get_or xs k d) = slice_get-get_or xs k d within in
+    each k (get_or xs k d) within at (all-at test xs k (get_or xs k d) h at))
 
 -- each of the output pins is one
 outputs_pass :
@@ -412,11 +409,8 @@ module _ (cell : CellData) (h : Rules cell) where
 
   paths_are : All (IsPath (module_of cell)) (map (path_of cell) cell.arcs)
   paths_are =
-      All-map (IsPath (module_of cell)) (path_of cell) cell.arcs
-      (λ k d within.
-      let arc : Arc = get_or cell.arcs k d in
-      let at : slice_get cell.arcs k ≡ Some arc = slice_get-get_or cell.arcs k d within in
-      let rule = all-at (is_arc cell.pins) cell.arcs k arc (arcs_hold cell h) at in
+      all-made (IsPath (module_of cell)) (path_of cell) (is_arc cell.pins) cell.arcs (arcs_hold cell h)
+      (λ k arc within at rule.
       let first = and_parts (is_input_pin cell.pins arc.from) _ rule in
       let second = and_parts (is_output_pin cell.pins arc.to) _ first.1 in
       record {
@@ -438,12 +432,9 @@ module _ (cell : CellData) (h : Rules cell) where
       (eq-eqb (port_number cell.pins p) (port_number cell.pins q) (ap (port_number cell.pins) (eqb-true p q parts.0))) parts.1
 
   written_is : (k : Check) (c : CheckKind) → IsTrue (has_events k c) → IsTrue (has_written_events (check_of cell k) c)
-  written_is k check_kind.Setup e = refl
-  written_is k check_kind.Hold e = refl
-  written_is k check_kind.Recovery e = refl
-  written_is k check_kind.Removal e = refl
   written_is k check_kind.Width e = same_port k.first.pin k.second.pin (are_opposite k.first.edge k.second.edge) e
   written_is k check_kind.Period e = same_port k.first.pin k.second.pin (is_any_edge k.first.edge && is_any_edge k.second.edge) e
+  written_is k _ e = refl
 
   notifier_is : (i : ℕ) → i < length cell.checks → IsTrue (is_some (notifier_of cell))
   notifier_is i within =
@@ -452,11 +443,8 @@ module _ (cell : CellData) (h : Rules cell) where
 
   checks_are : All (IsCheck (module_of cell)) (map (check_of cell) cell.checks)
   checks_are =
-      All-map (IsCheck (module_of cell)) (check_of cell) cell.checks
-      (λ i d within.
-      let k : Check = get_or cell.checks i d in
-      let at : slice_get cell.checks i ≡ Some k = slice_get-get_or cell.checks i d within in
-      let rule = all-at (is_check cell.pins) cell.checks i k (checks_hold cell h) at in
+      all-made (IsCheck (module_of cell)) (check_of cell) (is_check cell.pins) cell.checks (checks_hold cell h)
+      (λ i k within at rule.
       let parts = check_parts cell.pins k rule in
       let first = and_parts (is_input_pin cell.pins k.first.pin) _ rule in
       let second = and_parts (is_input_pin cell.pins k.second.pin) _ first.1 in

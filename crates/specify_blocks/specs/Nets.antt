@@ -14,14 +14,9 @@ use Rattle.specify_blocks.specs.declared.model.VModule.{VModule}
 -- the same net
 abbrev pub same_net : VNet → VNet → Bool
 same_net (net.Port p) (net.Port q) = nat_eq p q
-same_net (net.Port p) (net.Wire w) = false
-same_net (net.Port p) net.Notifier = false
-same_net (net.Wire v) (net.Port p) = false
 same_net (net.Wire v) (net.Wire w) = nat_eq v w
-same_net (net.Wire v) net.Notifier = false
-same_net net.Notifier (net.Port p) = false
-same_net net.Notifier (net.Wire w) = false
 same_net net.Notifier net.Notifier = true
+same_net _ _ = false
 
 -- no net stands twice
 abbrev pub are_apart : List VNet → Bool

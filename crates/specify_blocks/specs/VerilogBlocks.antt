@@ -96,9 +96,7 @@ path m x = do
   r.Gives (record { from = from; to = to; rise = rise; fall = fall; gate = when })
 
 unfoldable pub next_path : VModule → List VPath → List ℕ → Grammar (List VPath)
-next_path m paths x = do
-  another ← path m x
-  r.Gives (paths ++ another ∷ [])
+next_path m paths x = path m x >>= λ another. r.Gives (paths ++ another ∷ [])
 
 -- { path }
 unfoldable pub paths : VModule → Grammar (List VPath)
@@ -264,9 +262,7 @@ check m kind = do
   check_of_kind m kind
 
 unfoldable pub next_check : VModule → List TimingCheck → CheckKind → Grammar (List TimingCheck)
-next_check m checks kind = do
-  another ← check m kind
-  r.Gives (checks ++ another ∷ [])
+next_check m checks kind = check m kind >>= λ another. r.Gives (checks ++ another ∷ [])
 
 -- { check }
 unfoldable pub checks : VModule → Grammar (List TimingCheck)
@@ -274,17 +270,7 @@ checks m = r.Many (λ _. begins_as check_of) (next_check m) []
 
 -- the module with these paths and checks
 abbrev pub with_block : VModule → List VPath → List TimingCheck → VModule
-with_block m some_paths some_checks =
-    record {
-      name = m.name;
-      ports = m.ports;
-      wires = m.wires;
-      notifier = m.notifier;
-      udps = m.udps;
-      instances = m.instances;
-      paths = some_paths;
-      checks = some_checks;
-    }
+with_block m some_paths some_checks = record m { paths = some_paths; checks = some_checks }
 
 -- { path } { check } "endspecify" behind "specify" (14.1)
 unfoldable pub block : VModule → Grammar VModule

@@ -196,17 +196,7 @@ input_count udps j = option_map_or (λ (udp : Udp). length udp.inputs) (slice_ge
 
 -- the module with one instance more
 abbrev pub with_instance : VModule → Instance → VModule
-with_instance m i =
-    record {
-      name = m.name;
-      ports = m.ports;
-      wires = m.wires;
-      notifier = m.notifier;
-      udps = m.udps;
-      instances = m.instances ++ i ∷ [];
-      paths = m.paths;
-      checks = m.checks;
-    }
+with_instance m i = record m { instances = m.instances ++ i ∷ [] }
 
 -- "(" NAME "," NAME { "," NAME } ")" ";" behind the name of the primitive with this number (8.6): its output, then its inputs
 unfoldable pub call : VModule → ℕ → Grammar VModule

@@ -13,7 +13,7 @@ use crate::timing::{module_checks, paths_of};
 use cell_machine::Cell;
 use sqlite_items::Items;
 use std::alloc::{AllocError, Global};
-use udp_tables::conditions;
+use udp_tables::{ModelSource, conditions};
 
 /// The Verilog module of a cell, with its primitives: one for each group, condition and output, a path for each arc, and the
 /// checks. Names that Verilog does not keep are replaced. What it answers is sound.
@@ -21,15 +21,16 @@ pub fn verilog_model(alloc: Global, cell: &Cell) -> Result<VModule, AllocError>
     ensures { IfOk result (λ model. model ≡ module_of (data_of cell.now)) }
 {
     let conditions = conditions(alloc, cell)?;
+    let from = ModelSource::new(alloc, cell, &conditions);
     Ok(VModule {
         name: module_name(alloc, cell.number, cell.name.as_slice())?,
         ports: verilog_ports(alloc, cell.pins.as_slice())?,
         wires: wires_of(alloc, cell, conditions.len())?,
         notifier: notifier_of(alloc, cell)?,
-        udps: primitives_of(alloc, cell, &conditions)?,
-        instances: instances_of(alloc, cell, &conditions)?,
-        paths: paths_of(alloc, cell, &conditions)?,
-        checks: module_checks(alloc, cell, &conditions)?,
+        udps: primitives_of(&from)?,
+        instances: instances_of(&from)?,
+        paths: paths_of(&from)?,
+        checks: module_checks(&from)?,
     })
 }
 

@@ -12,25 +12,23 @@ use bool_functions::Function;
 use cell_machine::{Cell, OutputPin, StateGroup, Values};
 use sqlite_items::Items;
 use std::alloc::{AllocError, Global};
+use udp_tables::ModelSource;
 
-/// The instances of a cell's module, where these are the cell's conditions: groups, conditions, outputs.
-pub(crate) fn instances_of(
-    alloc: Global,
-    cell: &Cell,
-    conditions: &[&Function],
-) -> Result<Items<Instance>, AllocError>
-    requires { map (λ f. f.now) conditions.now ≡ conditions_of (data_of cell.now) }
-    ensures { IfOk result (λ instances. instances ≡ instances_of (data_of cell.now)) }
+/// The instances of a cell's module, by its groups, conditions and outputs.
+pub(crate) fn instances_of(from: &ModelSource) -> Result<Items<Instance>, AllocError>
+    requires { map (λ f. f.now) from.now.conditions.now ≡ conditions_of (data_of from.now.cell.now) }
+    ensures { IfOk result (λ instances. instances ≡ instances_of (data_of from.now.cell.now)) }
 {
+    let ModelSource {
+        alloc,
+        cell,
+        conditions,
+    } = *from;
     let mut instances = Items::new(alloc);
     add_groups(alloc, &mut instances, cell)?;
     add_conditions(alloc, &mut instances, cell, conditions)?;
-    add_outputs(
-        alloc,
-        &mut instances,
-        cell,
-        cell.groups.len() + conditions.len(),
-    )?;
+    let first = cell.groups.len() + conditions.len();
+    add_outputs(alloc, &mut instances, cell, first)?;
     Ok(instances)
 }
 

@@ -9,36 +9,27 @@ use crate::model::{Gate, VPath};
 use bool_functions::Function;
 use cell_machine::{Arc, Cell};
 use sqlite_items::Items;
-use std::alloc::{AllocError, Global};
-use udp_tables::{TimingCheck, checks_of, condition_number, port_number};
+use std::alloc::AllocError;
+use udp_tables::{ModelSource, TimingCheck, checks_of, condition_number, port_number};
 
-/// The paths of a cell's module, where these are the cell's conditions: one for each arc, in order.
-pub(crate) fn paths_of(
-    alloc: Global,
-    cell: &Cell,
-    conditions: &[&Function],
-) -> Result<Items<VPath>, AllocError>
-    requires { map (λ f. f.now) conditions.now ≡ conditions_of (data_of cell.now) }
-    ensures { IfOk result (λ paths. paths ≡ map (path_of (data_of cell.now)) cell.now.arcs) }
+/// The paths of a cell's module: one for each arc, in order.
+pub(crate) fn paths_of(from: &ModelSource) -> Result<Items<VPath>, AllocError>
+    requires { map (λ f. f.now) from.now.conditions.now ≡ conditions_of (data_of from.now.cell.now) }
+    ensures { IfOk result (λ paths. paths ≡ map (path_of (data_of from.now.cell.now)) from.now.cell.now.arcs) }
 {
-    let mut paths = Items::new(alloc);
-    for arc in cell.arcs.as_slice() {
-        paths.push(path_of(cell, conditions, arc))?;
+    let mut paths = Items::new(from.alloc);
+    for arc in from.cell.arcs.as_slice() {
+        paths.push(path_of(from.cell, from.conditions, arc))?;
     }
     Ok(paths)
 }
 
-/// The timing checks of a cell's module, in order, where these are the cell's conditions: the wires of its states stand before
-/// theirs.
-pub(crate) fn module_checks(
-    alloc: Global,
-    cell: &Cell,
-    conditions: &[&Function],
-) -> Result<Items<TimingCheck>, AllocError>
-    requires { map (λ f. f.now) conditions.now ≡ conditions_of (data_of cell.now) }
-    ensures { IfOk result (λ checks. checks ≡ map (check_of (data_of cell.now)) cell.now.checks) }
+/// The timing checks of a cell's module, in order. The wires of its states stand before those of its conditions.
+pub(crate) fn module_checks(from: &ModelSource) -> Result<Items<TimingCheck>, AllocError>
+    requires { map (λ f. f.now) from.now.conditions.now ≡ conditions_of (data_of from.now.cell.now) }
+    ensures { IfOk result (λ checks. checks ≡ map (check_of (data_of from.now.cell.now)) from.now.cell.now.checks) }
 {
-    checks_of(alloc, cell.groups.len(), cell, conditions)
+    checks_of(from.cell.groups.len(), from)
 }
 
 /// The path of an arc.

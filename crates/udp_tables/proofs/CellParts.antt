@@ -1,13 +1,28 @@
 -- What the rules of cells say of a cell's parts.
-use Rattle.std.proofs.Common.{Bool, ◌&&◌, IsTrue, length, map, nat_le}
+use Rattle.std.proofs.Common.{◌≡◌, ℕ, zero, suc, ◌+◌, Bool, ◌&&◌, IsTrue, List, [], ◌∷◌, length, map, nat_le, slice_get, Some, subst}
 use Rattle.std.specs.List.{list_all}
 use Rattle.std.proofs.lemmas.Bool.{and_parts}
+use Rattle.cell_machine.specs.declared.pins.Pin.{Pin}
+use Rattle.cell_machine.specs.declared.groups.StateGroup.{StateGroup}
 use Rattle.cell_machine.specs.declared.arcs.Arc.{Arc}
-use Rattle.cell_machine.specs.CellRules.{are_groups_from, is_output_of, is_check, is_arc, is_in_order, HoldsRules}
+use Rattle.cell_machine.specs.CellRules.{is_support, is_group, are_groups_from, is_output_of, is_check, is_arc, is_in_order, HoldsRules}
 use Rattle.cell_machine.specs.CellData.{CellData}
 
 abbrev pub Rules : CellData → Type 0
 Rules cell = HoldsRules cell.name cell.pins cell.groups cell.outputs cell.checks cell.arcs
+
+-- the support of each group
+pub group_support-at :
+    (pins : List Pin) (name : ℕ) (groups : List StateGroup) (g : ℕ) (group : StateGroup)
+    → IsTrue (are_groups_from pins name groups) → slice_get groups g ≡ Some group → IsTrue (is_support pins group.support)
+group_support-at pins name [] g group h e = absurd cc
+group_support-at pins name (x ∷ xs) zero group h e =
+    let parts = and_parts (is_group pins name x) (are_groups_from pins (name + 2) xs) h in
+    let same : x ≡ group = cc in
+    subst (λ (y : StateGroup). IsTrue (is_support pins y.support)) same (and_parts (is_support pins x.support) _ parts.0).0
+group_support-at pins name (x ∷ xs) (suc g) group h e =
+    let parts = and_parts (is_group pins name x) (are_groups_from pins (name + 2) xs) h in
+    group_support-at pins (name + 2) xs g group parts.1 e
 
 module _ (cell : CellData) (h : Rules cell) where
   pub groups_hold : IsTrue (are_groups_from cell.pins (length cell.pins) cell.groups)

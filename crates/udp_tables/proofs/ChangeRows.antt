@@ -34,15 +34,9 @@ symbol-admits Unknown t = refl
 
 change-admits :
     (old new a b : Trit) → entry_matches (edge_entry old new) a b ≡ (not (same a b) && (admits old a && admits new b))
-change-admits Zero Zero a b = refl
-change-admits Zero One a b = refl
-change-admits Zero Unknown a b = refl
-change-admits One Zero a b = refl
-change-admits One One a b = refl
-change-admits One Unknown a b = refl
-change-admits Unknown Zero a b = refl
-change-admits Unknown One a b = refl
-change-admits Unknown Unknown a b = sym (and-true (not (same a b)))
+change-admits Zero new a b = grind arith
+change-admits One new a b = grind arith
+change-admits Unknown new a b = grind arith
 
 -- a change entry does not match an input that keeps its value
 change-still : (old new t : Trit) → entry_matches (edge_entry old new) t t ≡ false

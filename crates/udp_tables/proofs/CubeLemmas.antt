@@ -27,15 +27,7 @@ same-self One = refl
 same-self Unknown = refl
 
 pub same-is : (v t : Trit) → same v t ≡ true → t ≡ v
-same-is Zero Zero e = refl
-same-is Zero One e = absurd cc
-same-is Zero Unknown e = absurd cc
-same-is One Zero e = absurd cc
-same-is One One e = refl
-same-is One Unknown e = absurd cc
-same-is Unknown Zero e = absurd cc
-same-is Unknown One e = absurd cc
-same-is Unknown Unknown e = refl
+same-is v t e = grind arith
 
 pub differ : (a b : Trit) → a ≢ b → same a b ≡ false
 differ a b h = false_from_ne_true (same a b) (λ e. h (sym (same-is a b e)))
@@ -76,22 +68,21 @@ covers-last (r ∷ q ∷ rest) (o ∷ others) s e =
 both-fixed : (v a b : Trit) → same v a ≡ true → same v b ≡ true → same a b ≡ true
 both-fixed v a b h k = ap (λ x. same x b) (same-is v a h) ∙ k
 
+fixed-moves : (v a b : Trit) (rest : Bool) → same a b ≡ false → (same v a && (same v b && rest)) ≡ true → ⊥
+fixed-moves v a b rest n h =
+    let one = and_parts (same v a) (same v b && rest) h in
+    let clash : false ≡ true = sym n ∙ both-fixed v a b one.0 (and_parts (same v b) rest one.1).0 in cc
+
 pub covers-moves : (c : List Trit) (a b : Trit) (ts : List Trit) → same a b ≡ false → covers c (a ∷ b ∷ ts) ≡ true → moves c ≡ true
 covers-moves [] a b ts n h = absurd cc
 covers-moves (old ∷ []) a b ts n h = let clash : false ≡ true = sym (and-false (admits old a)) ∙ h in absurd cc
 covers-moves (Unknown ∷ new ∷ rest) a b ts n h = refl
 covers-moves (Zero ∷ Unknown ∷ rest) a b ts n h = refl
 covers-moves (Zero ∷ One ∷ rest) a b ts n h = refl
-covers-moves (Zero ∷ Zero ∷ rest) a b ts n h =
-    let one = and_parts (same Zero a) (same Zero b && covers rest ts) h in
-    let two = and_parts (same Zero b) (covers rest ts) one.1 in
-    let clash : false ≡ true = sym n ∙ both-fixed Zero a b one.0 two.0 in absurd cc
+covers-moves (Zero ∷ Zero ∷ rest) a b ts n h = absurd (fixed-moves Zero a b (covers rest ts) n h)
 covers-moves (One ∷ Unknown ∷ rest) a b ts n h = refl
 covers-moves (One ∷ Zero ∷ rest) a b ts n h = refl
-covers-moves (One ∷ One ∷ rest) a b ts n h =
-    let one = and_parts (same One a) (same One b && covers rest ts) h in
-    let two = and_parts (same One b) (covers rest ts) one.1 in
-    let clash : false ≡ true = sym n ∙ both-fixed One a b one.0 two.0 in absurd cc
+covers-moves (One ∷ One ∷ rest) a b ts n h = absurd (fixed-moves One a b (covers rest ts) n h)
 
 -- the cubes of the changes of one input
 pub edge-long : (step : Step) (n p : ℕ) (v : Trit) (c : List Trit) → Among c (edge_cubes step n p v) → length c ≡ suc (suc n)

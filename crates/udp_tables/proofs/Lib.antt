@@ -9,6 +9,7 @@ pub mod RowForms
 pub mod ForcedRows
 pub mod ChangeColumns
 pub mod CellParts
+pub mod GroupPlaces
 pub mod LawLemmas
 pub mod ChangeRows
 pub mod StepRows
@@ -24,3 +25,4 @@ pub mod RowWordLemmas
 pub mod RowKeyLemmas
 pub mod SequentialRows
 pub mod ModelFaultPlaces
+pub mod FaultCases

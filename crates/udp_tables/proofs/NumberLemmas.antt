@@ -18,25 +18,13 @@ use Rattle.udp_tables.specs.Pairs.{digit, number_of, AreNumbers}
 use Rattle.udp_tables.proofs.PairLemmas.{same_cube-is, same_cube-self}
 
 pub digit-some : (t : Trit) → 1 ≤ digit t
-digit-some Zero = omega arith
-digit-some One = omega arith
-digit-some Unknown = omega arith
+digit-some t = grind arith
 
 pub digit-lt : (t : Trit) → digit t < 4
-digit-lt Zero = omega arith
-digit-lt One = omega arith
-digit-lt Unknown = omega arith
+digit-lt t = grind arith
 
 digit-is : (s t : Trit) → digit s ≡ digit t → s ≡ t
-digit-is Zero Zero e = refl
-digit-is Zero One e = absurd (omega arith)
-digit-is Zero Unknown e = absurd (omega arith)
-digit-is One Zero e = absurd (omega arith)
-digit-is One One e = refl
-digit-is One Unknown e = absurd (omega arith)
-digit-is Unknown Zero e = absurd (omega arith)
-digit-is Unknown One e = absurd (omega arith)
-digit-is Unknown Unknown e = refl
+digit-is s t e = grind arith
 
 -- two cubes of one number are equal
 number-is : (c d : List Trit) → number_of c ≡ number_of d → c ≡ d

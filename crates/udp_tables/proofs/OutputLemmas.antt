@@ -1,10 +1,9 @@
 -- The conditions and outputs of a cell, by their numbers.
-use Rattle.std.proofs.Common.{◌≡◌, ℕ, zero, suc, ◌<◌, ◌≤◌, Bool, true, false, not, ◌&&◌, List, [], ◌∷◌, ◌++◌, length, slice_get, slice_index_or, Option, Some, None, IsTrue, nat_lt, nat_le, flat_map, ◌⊎◌, inl, inr, refl, sym, ◌∙◌, ap, subst, arith, if◌then◌else◌, map}
-use Rattle.std.specs.Prelude.{filter}
-use Rattle.std.specs.List.{list_all, list_any}
+use Rattle.std.proofs.Common.{◌≡◌, ℕ, zero, suc, ◌<◌, ◌≤◌, Bool, not, ◌&&◌, List, [], ◌∷◌, length, slice_get, slice_index_or, Option, Some, None, IsTrue, nat_lt, nat_le, inl, inr, sym, ◌∙◌, ap, subst, arith, map}
+use Rattle.std.specs.List.{list_all}
 use Rattle.std.proofs.lemmas.Bool.{and_parts, lt-ltb, leb-true}
 use Rattle.std.proofs.lemmas.List.{get_or-map, length-map}
-use Rattle.trit_cubes.proofs.ListLemmas.{Among, among-append, among-filter}
+use Rattle.trit_cubes.proofs.ListLemmas.{Among}
 use Rattle.bool_functions.specs.declared.tree.Node.{Node}
 use Rattle.bool_functions.specs.Tree.{names_of}
 use Rattle.bool_functions.specs.Support.{support_of}
@@ -14,49 +13,12 @@ use Rattle.cell_machine.specs.declared.arcs.Arc.{Arc}
 use Rattle.cell_machine.specs.declared.cells.Cell.{Cell}
 use Rattle.cell_machine.specs.Names.{has}
 use Rattle.cell_machine.specs.CellRules.{is_input_pin, is_condition, is_check, is_arc}
-use Rattle.cell_machine.specs.CellTrace.{same_pins}
 use Rattle.cell_machine.proofs.RuleLemmas.{few_pins, checks_hold, arcs_hold, check_parts, arc_condition}
 use Rattle.cell_machine.proofs.CellFacts.{input-below, list_all-implied, name_bound-below}
 use Rattle.cell_machine.proofs.TimingFacts.{support-passes}
 use Rattle.cell_machine.specs.CellData.{data_of}
-use Rattle.bool_functions.specs.SameTrees.{same_tree}
-use Rattle.udp_tables.specs.Conditions.{condition_list, conditions_by, arc_conditions, used_conditions, added, added_all, conditions_of, IsSmall}
-
--- a test of all elements, at one of them
-all-among : {X : Type 0} (p : X → Bool) (xs : List X) (x : X) → IsTrue (list_all p xs) → Among x xs → IsTrue (p x)
-all-among p [] x h m = absurd m
-all-among p (y ∷ ys) x h m =
-    let both = and_parts (p y) (list_all p ys) h in
-    elim m [ inl e ↦ subst (λ z. IsTrue (p z)) e both.0 | inr k ↦ all-among p ys x both.1 k ]
-
-among-flat : {X Y : Type 0} (f : X → List Y) (y : Y) (xs : List X) → Among y (flat_map f xs) → (x : X) × Among x xs × Among y (f x)
-among-flat f y [] m = absurd m
-among-flat f y (x ∷ xs) m =
-    elim (among-append y (f x) (flat_map f xs) m) [
-      | inl h ↦ (x, inl refl, h)
-      | inr h ↦ let r = among-flat f y xs h in (r.0, inr r.1, r.2)
-    ]
-
--- what a list of conditions gains is added
-added-among : (trees : List Node) (f g : Node) (b : Bool) → Among g (if b then trees else trees ++ f ∷ []) → Among g trees ⊎ (f ≡ g)
-added-among trees f g true m = inl m
-added-among trees f g false m =
-    elim (among-append g trees (f ∷ []) m) [
-      | inl h ↦ inl h
-      | inr h ↦ elim h [ inl e ↦ inr e | inr k ↦ absurd k ]
-    ]
-
-added_all-among : (trees fs : List Node) (g : Node) → Among g (added_all trees fs) → Among g trees ⊎ Among g fs
-added_all-among trees [] g m = inl m
-added_all-among trees (f ∷ fs) g m =
-    elim (added_all-among (added trees f) fs g m) [
-      | inl h ↦
-          elim (added-among trees f g (list_any (same_tree f) trees) h) [
-            | inl k ↦ inl k
-            | inr e ↦ inr (inl e)
-          ]
-      | inr h ↦ inr (inr h)
-    ]
+use Rattle.udp_tables.specs.Conditions.{condition_list, conditions_of, IsSmall}
+use Rattle.udp_tables.proofs.ConditionUses.{all-among, conditions-each}
 
 -- a condition that keeps the rules is small
 small-of :
@@ -94,29 +56,9 @@ arc-small cell arc f m h =
     small-of cell.pins (arc.from ∷ []) arc.condition f (few_pins cell)
     (arc_condition cell.pins arc (all-among (is_arc cell.pins) cell.arcs arc (arcs_hold cell) m)) h
 
-used-by :
-    (cell : Cell) (arc : Arc) (o : Option Node) (f : Node)
-    → (Among f (condition_list o) → IsSmall f) → Among f (conditions_by cell.arcs arc o) → IsSmall f
-used-by cell arc (Some g) f own m = own m
-used-by cell arc None f own m =
-    let r = among-flat (λ (other : Arc). condition_list other.condition) f (filter (same_pins arc) cell.arcs) m in
-    arc-small cell r.0 f (among-filter (same_pins arc) r.0 cell.arcs r.1).0 r.2
-
 -- each condition of a cell is small
 pub conditions-small : (cell : Cell) (f : Node) → Among f (conditions_of (data_of cell)) → IsSmall f
-conditions-small cell f m =
-    elim (added_all-among [] (used_conditions (data_of cell)) f m) [
-      | inl h ↦ absurd h
-      | inr h ↦
-          elim (among-append f (flat_map (λ (k : Check). condition_list k.condition) cell.checks) (flat_map (arc_conditions cell.arcs) cell.arcs) h) [
-            | inl k ↦
-                let r = among-flat (λ (k : Check). condition_list k.condition) f cell.checks k in
-                check-small cell r.0 f r.1 r.2
-            | inr k ↦
-                let r = among-flat (arc_conditions cell.arcs) f cell.arcs k in
-                used-by cell r.0 r.0.condition f (λ own. arc-small cell r.0 f r.1 own) r.2
-          ]
-    ]
+conditions-small cell = conditions-each IsSmall (data_of cell) (λ k m f h. check-small cell k f m h) (λ arc m f h. arc-small cell arc f m h)
 
 pub among-at : {X : Type 0} (xs : List X) (i : ℕ) (x : X) → slice_get xs i ≡ Some x → Among x xs
 among-at [] i x e = absurd cc

@@ -1,8 +1,10 @@
 -- The keys of a primitive's rows: which rows they rule out, and which of them are kept.
-use Rattle.std.proofs.Common.{◌≡◌, ℕ, zero, suc, true, false, ◌&&◌, List, [], ◌∷◌, map, slice_get, Some, refl, sym, ◌∙◌, ap}
-use Rattle.std.proofs.lemmas.Bool.{false≢true, and_parts}
+use Rattle.std.proofs.Common.{◌≡◌, ℕ, zero, suc, ◌<◌, true, false, ◌&&◌, List, [], ◌∷◌, map, length, get_or, slice_get, Some, refl, sym, ◌∙◌, ap}
+use Rattle.std.proofs.lemmas.Bool.{and_parts}
+use Rattle.std.proofs.lemmas.Option.{slice_get-get_or}
 use Rattle.trit_cubes.specs.declared.trits.Trit.{Trit}
-use Rattle.trit_cubes.specs.declared.trits.Trit.TheVariants.{Zero, One, Unknown}
+use Rattle.trit_cubes.specs.declared.trits.Trit.TheVariants.{Zero, One}
+use Rattle.trit_cubes.specs.Filling.{same}
 use Rattle.udp_tables.specs.declared.table.Level.TheVariants as level
 use Rattle.udp_tables.specs.declared.table.Entry.{Entry}
 use Rattle.udp_tables.specs.declared.table.Entry.TheVariants as entry
@@ -14,14 +16,10 @@ use Rattle.udp_tables.proofs.RowWordLemmas.{Fits, columns-ruled_out}
 
 -- an input goes to the second of two values
 goes-one : (old new : Trit) → entry_matches entry.R old new ≡ true → level_matches level.One new ≡ true
-goes-one Zero new h = h
-goes-one One new h = absurd (false≢true h)
-goes-one Unknown new h = absurd (false≢true h)
+goes-one old new h = (and_parts (same Zero old) (same One new) h).1
 
 goes-zero : (old new : Trit) → entry_matches entry.F old new ≡ true → level_matches level.Zero new ≡ true
-goes-zero Zero new h = absurd (false≢true h)
-goes-zero One new h = h
-goes-zero Unknown new h = absurd (false≢true h)
+goes-zero old new h = (and_parts (same One old) (same Zero new) h).1
 
 after-fits : Fits entry_matches level_after
 after-fits (entry.Level l) old new h = h
@@ -51,3 +49,10 @@ key-of key (r ∷ rows) (suc i) k row h e = key-of key rows i k row h e
 -- the keys of all rows
 pub all_kept : {R K : Type 0} (key : R → K) (rows : List R) → AreKept key (map key rows) rows
 all_kept key rows = record { each_is = key-of key rows }
+
+-- the key that is kept with the number of a row is that of the row
+pub kept_key : {R K : Type 0} (key : R → K) (keys : List K) (rows given : List R) (i : ℕ) (row : R)
+    → AreKept key keys rows → given ≡ rows → i < length given → row ≡ get_or given i row
+    → (k : K) → slice_get keys i ≡ Some k → k ≡ key row
+kept_key key keys rows given i row kept same inside is k found =
+    kept.each_is i k row found (ap (λ xs. slice_get xs i) (sym same) ∙ slice_get-get_or given i row inside ∙ ap Some (sym is))

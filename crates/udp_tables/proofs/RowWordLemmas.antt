@@ -1,9 +1,9 @@
 -- What the words of a row tell: they are words of 64 bits, and a row that matches is not ruled out by them.
 use Rattle.std.proofs.Common.{◌≡◌, ℕ, zero, suc, ◌+◌, ◌*◌, ◌^◌, ◌<◌, ◌≤◌, Bool, true, false, bit_and, List, [], ◌∷◌, length, map, take, drop, slice_get, Some, refl, sym, ◌∙◌, ap, subst, inl, inr, arith, pow-suc, length-drop, ◌-◌}
 use Rattle.std.proofs.lemmas.Bool.{cases_Bool, false≢true, and_parts, eq-eqb}
-use Rattle.std.proofs.lemmas.Nat.{and_block}
 use Rattle.std.proofs.lemmas.List.{length-map}
 use Rattle.trit_cubes.specs.declared.trits.Trit.{Trit}
+use Rattle.trit_cubes.proofs.WordLemmas.{and-blocks}
 use Rattle.trit_cubes.specs.declared.trits.Trit.TheVariants.{Zero, One, Unknown}
 use Rattle.udp_tables.specs.declared.table.Level.{Level}
 use Rattle.udp_tables.specs.declared.table.Level.TheVariants as level
@@ -13,18 +13,10 @@ use Rattle.udp_tables.specs.Primitive.{level_matches}
 use Rattle.udp_tables.specs.RowWords.{level_of, asked_bits, value_bits, words_of, row_words, value_word, may_match}
 
 asked_bits-below : (l : Level) → asked_bits l < 4
-asked_bits-below level.Zero = omega arith
-asked_bits-below level.One = omega arith
-asked_bits-below level.Unknown = omega arith
-asked_bits-below level.Any = omega arith
-asked_bits-below level.Binary = omega arith
+asked_bits-below l = grind arith
 
 value_bits-below : (l : Level) → value_bits l < 4
-value_bits-below level.Zero = omega arith
-value_bits-below level.One = omega arith
-value_bits-below level.Unknown = omega arith
-value_bits-below level.Any = omega arith
-value_bits-below level.Binary = omega arith
+value_bits-below l = grind arith
 
 pub asked-below : (ls : List Level) (k : ℕ) → length ls ≤ k → (words_of ls).asked < 4 ^ k
 asked-below [] zero h = omega arith
@@ -48,29 +40,7 @@ words-step f (x ∷ es) (suc i) e is = words-step f es i e is
 
 -- a value that a level matches has the bits that the level asks for
 bits-match : (l : Level) (t : Trit) → level_matches l t ≡ true → bit_and (value_bits (level_of t)) (asked_bits l) ≡ value_bits l
-bits-match level.Zero Zero h = refl
-bits-match level.Zero One h = absurd (false≢true h)
-bits-match level.Zero Unknown h = absurd (false≢true h)
-bits-match level.One Zero h = absurd (false≢true h)
-bits-match level.One One h = refl
-bits-match level.One Unknown h = absurd (false≢true h)
-bits-match level.Unknown Zero h = absurd (false≢true h)
-bits-match level.Unknown One h = absurd (false≢true h)
-bits-match level.Unknown Unknown h = refl
-bits-match level.Any Zero h = refl
-bits-match level.Any One h = refl
-bits-match level.Any Unknown h = refl
-bits-match level.Binary Zero h = refl
-bits-match level.Binary One h = refl
-bits-match level.Binary Unknown h = absurd (false≢true h)
-
--- the bits of two words, the lowest two apart
-and-quadruple : (b d m n : ℕ) → b < 4 → d < 4 → bit_and (b + 4 * m) (d + 4 * n) ≡ bit_and b d + 4 * bit_and m n
-and-quadruple b d m n p q =
-    let first : b + 4 * m ≡ m * 2 ^ 2 + b = omega arith in
-    let second : d + 4 * n ≡ n * 2 ^ 2 + d = omega arith in
-    let both : bit_and (m * 2 ^ 2 + b) (n * 2 ^ 2 + d) ≡ bit_and m n * 2 ^ 2 + bit_and b d = and_block 2 m n b d p q in
-    rw (first, second, both) (omega arith)
+bits-match l t h = grind arith
 
 -- an entry of any language matches only where its level matches the value after the change
 abbrev pub Fits : {E : Type 0} → (E → Trit → Trit → Bool) → (E → Level) → Type 0
@@ -87,7 +57,7 @@ module _ {E : Type 0} (matches : E → Trit → Trit → Bool) (f : E → Level)
   columns-fit (suc n) (e ∷ es) (o ∷ os) [] h = absurd (false≢true h)
   columns-fit (suc n) (e ∷ es) (o ∷ os) (t ∷ ts) h =
       let parts = and_parts (matches e o t) (columns_match matches es os ts) h in
-      and-quadruple (value_bits (level_of t)) (asked_bits (f e)) (words_of (map level_of (take n ts))).values (words_of (map f (take n es))).asked
+      and-blocks 2 (value_bits (level_of t)) (asked_bits (f e)) (words_of (map level_of (take n ts))).values (words_of (map f (take n es))).asked
       (value_bits-below (level_of t)) (asked_bits-below (f e))
       ∙ (λ i. bits-match (f e) t (fits e o t parts.0) i + 4 * columns-fit n es os ts parts.1 i)
 

@@ -1,5 +1,5 @@
 -- The rows of small steps, by computing.
-use Rattle.std.proofs.Common.{◌≡◌, true, false, not, ◌&&◌, List, [], ◌∷◌, refl, if◌then◌else◌}
+use Rattle.std.proofs.Common.{◌≡◌, true, false, not, ◌&&◌, List, [], ◌∷◌, ◌++◌, map, refl, if◌then◌else◌}
 use Rattle.trit_cubes.specs.declared.trits.Trit.TheVariants as trit
 use Rattle.trit_cubes.specs.Filling.{trit_of}
 use Rattle.cell_machine.specs.Machine.{Step}
@@ -13,7 +13,7 @@ use Rattle.udp_tables.specs.declared.table.UdpRow.{UdpRow}
 use Rattle.udp_tables.specs.Sequential.{sequential_rows, compact_rows}
 
 -- A flip-flop of a clock and a data input.
-abbrev flip_flop : Step
+abbrev pub flip_flop : Step
 flip_flop (old ∷ d ∷ []) (new ∷ e ∷ []) s = (if not old && new then trit_of e else trit_of s)
 flip_flop _ _ s = trit.Unknown
 
@@ -38,62 +38,49 @@ from_one = entry.Pair level.One level.Any
 to_zero : Entry
 to_zero = entry.Pair level.Any level.Zero
 
-flip_flop-rows : sequential_rows false 2 flip_flop
-    ≡ row (rise ∷ one ∷ []) level.Any next.One
-    ∷ row (from_one ∷ any ∷ []) level.One next.One
-    ∷ row (to_zero ∷ any ∷ []) level.One next.One
-    ∷ row (entry.Star ∷ one ∷ []) level.One next.One
-    ∷ row (rise ∷ zero ∷ []) level.Any next.Zero
-    ∷ row (from_one ∷ any ∷ []) level.Zero next.Zero
-    ∷ row (to_zero ∷ any ∷ []) level.Zero next.Zero
-    ∷ row (entry.Star ∷ zero ∷ []) level.Zero next.Zero
-    ∷ row (any ∷ entry.Star ∷ []) level.One next.One
+-- the row behind whose inputs a notifier stands that may be anything
+beside : UdpRow → UdpRow
+beside r = record r { inputs = r.inputs ++ any ∷ [] }
+
+-- the row of a notifier that changes
+changed : UdpRow
+changed = row (any ∷ any ∷ entry.Star ∷ []) level.Any next.Unknown
+
+-- the rows of the changes that give a value, by a data input of this value or by a state that stays
+changes : Entry → Level → Next → List UdpRow
+changes value state gives =
+    row (rise ∷ value ∷ []) level.Any gives
+    ∷ row (from_one ∷ any ∷ []) state gives
+    ∷ row (to_zero ∷ any ∷ []) state gives
+    ∷ row (entry.Star ∷ value ∷ []) state gives ∷ []
+
+plain : List UdpRow
+plain =
+    changes one level.One next.One ++ changes zero level.Zero next.Zero
+    ++ row (any ∷ entry.Star ∷ []) level.One next.One
     ∷ row (any ∷ entry.Star ∷ []) level.Zero next.Zero ∷ []
-unfolding row any zero one rise from_one to_zero
-flip_flop-rows = refl
 
--- with a notifier
-flip_flop-noted : sequential_rows true 2 flip_flop
-    ≡ row (any ∷ any ∷ entry.Star ∷ []) level.Any next.Unknown
-    ∷ row (rise ∷ one ∷ any ∷ []) level.Any next.One
-    ∷ row (from_one ∷ any ∷ any ∷ []) level.One next.One
-    ∷ row (to_zero ∷ any ∷ any ∷ []) level.One next.One
-    ∷ row (entry.Star ∷ one ∷ any ∷ []) level.One next.One
-    ∷ row (rise ∷ zero ∷ any ∷ []) level.Any next.Zero
-    ∷ row (from_one ∷ any ∷ any ∷ []) level.Zero next.Zero
-    ∷ row (to_zero ∷ any ∷ any ∷ []) level.Zero next.Zero
-    ∷ row (entry.Star ∷ zero ∷ any ∷ []) level.Zero next.Zero
-    ∷ row (any ∷ entry.Star ∷ any ∷ []) level.One next.One
-    ∷ row (any ∷ entry.Star ∷ any ∷ []) level.Zero next.Zero ∷ []
-unfolding row any zero one rise from_one to_zero
-flip_flop-noted = refl
-
--- in compact form
-flip_flop-compact : compact_rows false 2 flip_flop
-    ≡ row (rise ∷ one ∷ []) level.Any next.One
+compact : List UdpRow
+compact =
+    row (rise ∷ one ∷ []) level.Any next.One
     ∷ row (from_one ∷ any ∷ []) level.Any next.Keep
     ∷ row (to_zero ∷ any ∷ []) level.Any next.Keep
     ∷ row (entry.Star ∷ one ∷ []) level.One next.One
     ∷ row (rise ∷ zero ∷ []) level.Any next.Zero
     ∷ row (entry.Star ∷ zero ∷ []) level.Zero next.Zero
     ∷ row (any ∷ entry.Star ∷ []) level.Any next.Keep ∷ []
-unfolding row any zero one rise from_one to_zero
-flip_flop-compact = refl
 
-flip_flop-compact_noted : compact_rows true 2 flip_flop
-    ≡ row (any ∷ any ∷ entry.Star ∷ []) level.Any next.Unknown
-    ∷ row (rise ∷ one ∷ any ∷ []) level.Any next.One
-    ∷ row (from_one ∷ any ∷ any ∷ []) level.Any next.Keep
-    ∷ row (to_zero ∷ any ∷ any ∷ []) level.Any next.Keep
-    ∷ row (entry.Star ∷ one ∷ any ∷ []) level.One next.One
-    ∷ row (rise ∷ zero ∷ any ∷ []) level.Any next.Zero
-    ∷ row (entry.Star ∷ zero ∷ any ∷ []) level.Zero next.Zero
-    ∷ row (any ∷ entry.Star ∷ any ∷ []) level.Any next.Keep ∷ []
-unfolding row any zero one rise from_one to_zero
-flip_flop-compact_noted = refl
+-- in plain and in compact form, without a notifier and with one
+flip_flop-rows :
+    (sequential_rows false 2 flip_flop ≡ plain)
+    × (sequential_rows true 2 flip_flop ≡ changed ∷ map beside plain)
+    × (compact_rows false 2 flip_flop ≡ compact)
+    × (compact_rows true 2 flip_flop ≡ changed ∷ map beside compact)
+unfolding row any zero one rise from_one to_zero beside changed changes plain compact
+flip_flop-rows = (refl, refl, refl, refl)
 
 -- a clear that is 1 forces the state, whatever the clock and the data are
-abbrev cleared : Step
+abbrev pub cleared : Step
 cleared (before ∷ []) (clear ∷ []) s = (if clear then trit.Zero else trit_of s)
 cleared _ _ s = trit.Unknown
 

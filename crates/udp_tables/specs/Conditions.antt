@@ -4,10 +4,11 @@ use Rattle.std.specs.Prelude.{ℕ, ◌+◌, ◌≤◌, length, List, [], ◌∷�
 use Rattle.std.specs.List.{list_any}
 use Rattle.bool_functions.specs.declared.tree.Node.{Node}
 use Rattle.bool_functions.specs.Tree.{name_bound}
-use Rattle.bool_functions.specs.Support.{support_of}
+pub use Rattle.bool_functions.specs.Support.{support_of}
 use Rattle.cell_machine.specs.declared.checks.Check.{Check}
 use Rattle.cell_machine.specs.declared.arcs.Arc.{Arc}
 use Rattle.cell_machine.specs.CellTrace.{same_pins}
+pub use Rattle.cell_machine.specs.Outputs.{condition_at}
 use Rattle.bool_functions.specs.SameTrees.{same_tree}
 use Rattle.cell_machine.specs.CellData.{CellData}
 

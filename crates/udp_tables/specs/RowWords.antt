@@ -14,21 +14,20 @@ level_of trit.Zero = level.Zero
 level_of trit.One = level.One
 level_of trit.Unknown = level.Unknown
 
--- which of the two bits of a value a level asks for: `b` for the one that tells x apart
-abbrev pub asked_bits : Level → ℕ
-asked_bits level.Zero = 3
-asked_bits level.One = 3
-asked_bits level.Unknown = 3
-asked_bits level.Any = 0
-asked_bits level.Binary = 2
+-- Which of the two bits of a value a level asks for, and what these bits are: 0 is `00`, 1 is `01` and x is `10`. `b` asks for the one
+-- that tells x apart.
+abbrev pub level_bits : Level → ℕ × ℕ
+level_bits level.Zero = (3, 0)
+level_bits level.One = (3, 1)
+level_bits level.Unknown = (3, 2)
+level_bits level.Any = (0, 0)
+level_bits level.Binary = (2, 0)
 
--- what these bits are: 0 is `00`, 1 is `01` and x is `10`
+abbrev pub asked_bits : Level → ℕ
+asked_bits l = (level_bits l).0
+
 abbrev pub value_bits : Level → ℕ
-value_bits level.Zero = 0
-value_bits level.One = 1
-value_bits level.Unknown = 2
-value_bits level.Any = 0
-value_bits level.Binary = 0
+value_bits l = (level_bits l).1
 
 -- the words of levels
 abbrev pub words_of : List Level → RowWords

@@ -9,6 +9,7 @@ use Rattle.udp_tables.specs.declared.table.Level.{Level}
 use Rattle.udp_tables.specs.declared.table.Level.TheVariants as level
 use Rattle.udp_tables.specs.declared.table.Entry.{Entry}
 use Rattle.udp_tables.specs.declared.table.Entry.TheVariants as entry
+use Rattle.udp_tables.specs.declared.table.Next.{Next}
 use Rattle.udp_tables.specs.declared.table.Next.TheVariants as next
 use Rattle.udp_tables.specs.declared.table.UdpRow.{UdpRow}
 use Rattle.udp_tables.specs.declared.table.Udp.{Udp}
@@ -79,22 +80,13 @@ noted true note xs = xs ++ note ∷ []
 -- the row that gives this value on the points of a cube, whatever the state and the notifier are
 abbrev pub state_row : Bool → Trit → List Trit → UdpRow
 state_row checks value cube =
-    record {
-      inputs = noted checks (entry.Level level.Any) (map level_entry cube);
-      state = level.Any;
-      next = next_to value;
-    }
+    record { inputs = noted checks (entry.Level level.Any) (map level_entry cube); state = level.Any; next = next_to value }
 
 -- the row by which each change of the notifier makes the state unknown, unless a row of levels decides
 abbrev pub notifier_rows : Bool → ℕ → List UdpRow
 notifier_rows false n = []
 notifier_rows true n =
-    record {
-      inputs = noted true entry.Star (map level_entry (replicate n trit.Unknown));
-      state = level.Any;
-      next = next.Unknown;
-    }
-    ∷ []
+    record { inputs = noted true entry.Star (map level_entry (replicate n trit.Unknown)); state = level.Any; next = next.Unknown } ∷ []
 
 -- the entries of the inputs for the cube of a change of the one at place p
 abbrev pub edge_inputs : ℕ → List Trit → List Entry
@@ -102,23 +94,18 @@ edge_inputs p [] = []
 edge_inputs p (old ∷ []) = []
 edge_inputs p (old ∷ new ∷ rest) = insert p (edge_entry old new) (map level_entry (init rest))
 
+-- the row of the cube of a change that asks for this state and gives this next one
+abbrev pub change_row : Bool → ℕ → List Trit → Level → Next → UdpRow
+change_row checks p cube state following =
+    record { inputs = noted checks (entry.Level level.Any) (edge_inputs p cube); state = state; next = following }
+
 -- the row that gives this value on the points of the cube of a change
 abbrev pub edge_row : Bool → ℕ → Trit → List Trit → UdpRow
-edge_row checks p value cube =
-    record {
-      inputs = noted checks (entry.Level level.Any) (edge_inputs p cube);
-      state = level_symbol (last trit.Unknown cube);
-      next = next_to value;
-    }
+edge_row checks p value cube = change_row checks p cube (level_symbol (last trit.Unknown cube)) (next_to value)
 
 -- the row that keeps the state there, whatever it is
 abbrev pub keep_row : Bool → ℕ → List Trit → UdpRow
-keep_row checks p cube =
-    record {
-      inputs = noted checks (entry.Level level.Any) (edge_inputs p cube);
-      state = level.Any;
-      next = next.Keep;
-    }
+keep_row checks p cube = change_row checks p cube level.Any next.Keep
 
 -- The rows of a step of n inputs: the forced points, the notifier where there is one, and then the rows of the changes of
 -- each input. Where there is no row, one row of free places gives x.

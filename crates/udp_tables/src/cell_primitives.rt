@@ -4,7 +4,7 @@ ghost use Rattle.cell_machine.specs.CellData.{data_of};
 ghost use Rattle.udp_tables.specs.Conditions.{conditions_of, IsSmall};
 ghost use Rattle.udp_tables.specs.CellPrimitives.{group_inputs, group_primitive, has_sources, output_number, output_primitive, condition_udp, condition_primitive, part_primitive, IsPart};
 
-use crate::cell_conditions::conditions;
+use crate::cell_conditions::{ModelSource, conditions};
 use crate::combinational_rows::{condition_rows, output_rows};
 use crate::group_rows::group_rows;
 use crate::port_names::{input_names, output_name, primitive_name};
@@ -58,39 +58,31 @@ pub fn combinational_udp(alloc: Global, cell: &Cell, part: Part) -> Result<Udp, 
     ensures { IfOk result (λ udp. udp ≡ part_primitive (data_of cell.now) part) }
 {
     let conditions = conditions(alloc, cell)?;
-    let udp = part_udp(alloc, cell, &conditions, part)?;
+    let from = ModelSource::new(alloc, cell, &conditions);
+    let udp = part_udp(&from, part)?;
     Ok(udp)
 }
 
 /// The same for a caller that holds the cell's conditions, and so need not have them found again for each part.
-pub fn part_udp(
-    alloc: Global,
-    cell: &Cell,
-    conditions: &[&Function],
-    part: Part,
-) -> Result<Udp, AllocError>
-    requires part { IsPart (data_of cell.now) part }
-    requires conditions { map (λ condition. condition.now) conditions.now ≡ conditions_of (data_of cell.now) }
-    ensures { IfOk result (λ udp. udp ≡ part_primitive (data_of cell.now) part) }
+pub fn part_udp(from: &ModelSource, part: Part) -> Result<Udp, AllocError>
+    requires part { IsPart (data_of from.now.cell.now) part }
+    requires conditions { map (λ f. f.now) from.now.conditions.now ≡ conditions_of (data_of from.now.cell.now) }
+    ensures { IfOk result (λ udp. udp ≡ part_primitive (data_of from.now.cell.now) part) }
 {
     match part {
-        Part::Output(output) => output_udp(alloc, cell, conditions, output),
-        Part::Condition(condition) => condition_udp(alloc, cell, conditions, condition),
+        Part::Output(output) => output_udp(from, output),
+        Part::Condition(condition) => condition_udp(from, condition),
     }
 }
 
 /// The primitive of an output.
-fn output_udp(
-    alloc: Global,
-    cell: &Cell,
-    conditions: &[&Function],
-    output: usize,
-) -> Result<Udp, AllocError>
-    requires output { output < length cell.now.outputs }
-    requires conditions { map (λ condition. condition.now) conditions.now ≡ conditions_of (data_of cell.now) }
-    ensures { IfOk result (λ udp. udp ≡ output_primitive (data_of cell.now) output) }
+fn output_udp(from: &ModelSource, output: usize) -> Result<Udp, AllocError>
+    requires output { output < length from.now.cell.now.outputs }
+    requires conditions { map (λ f. f.now) from.now.conditions.now ≡ conditions_of (data_of from.now.cell.now) }
+    ensures { IfOk result (λ udp. udp ≡ output_primitive (data_of from.now.cell.now) output) }
 {
-    let number = output_number(cell, conditions, output);
+    let ModelSource { alloc, cell, .. } = *from;
+    let number = output_number(cell, from.conditions, output);
     Ok(Udp {
         name: primitive_name(alloc, cell.number, number)?,
         output: output_name(alloc)?,
@@ -133,16 +125,16 @@ fn has_sources(output: &OutputPin) -> bool
 }
 
 /// The primitive of a condition.
-fn condition_udp(
-    alloc: Global,
-    cell: &Cell,
-    conditions: &[&Function],
-    number: usize,
-) -> Result<Udp, AllocError>
-    requires number { number < length (conditions_of (data_of cell.now)) }
-    requires conditions { map (λ condition. condition.now) conditions.now ≡ conditions_of (data_of cell.now) }
-    ensures { IfOk result (λ udp. udp ≡ condition_primitive (data_of cell.now) number) }
+fn condition_udp(from: &ModelSource, number: usize) -> Result<Udp, AllocError>
+    requires number { number < length (conditions_of (data_of from.now.cell.now)) }
+    requires conditions { map (λ f. f.now) from.now.conditions.now ≡ conditions_of (data_of from.now.cell.now) }
+    ensures { IfOk result (λ udp. udp ≡ condition_primitive (data_of from.now.cell.now) number) }
 {
+    let ModelSource {
+        alloc,
+        cell,
+        conditions,
+    } = *from;
     let condition = conditions[number];
     let name = primitive_name(alloc, cell.number, cell.groups.len() + number + 1)?;
     let udp = udp_of_condition(alloc, name, condition)?;

@@ -36,7 +36,7 @@ pub(crate) fn add_rows_of_input(
     requires place { place < length (support_at (data_of cell.now) group) }
     ensures { OnOk result (rows.new ≡ rows.old ++ compact_edge_rows (edge_row notifier) (keep_row notifier) (step_at (data_of cell.now) group) (length (support_at (data_of cell.now) group)) place) }
 {
-    let values = change_values(alloc, cell, group, still, place)?;
+    let values = change_values(alloc, cell, group, place, still)?;
     let ones = edge_cubes(alloc, cell, group, place, &values, Trit::One)?;
     let zeros = edge_cubes(alloc, cell, group, place, &values, Trit::Zero)?;
     add_rows_of_ones(alloc, rows, notifier, place, &ones, &zeros)?;
@@ -49,8 +49,8 @@ fn change_values(
     alloc: Global,
     cell: &Cell,
     group: usize,
-    still: &[Trit],
     place: usize,
+    still: &[Trit],
 ) -> Result<Vec<Trit>, AllocError>
     requires group { group < length cell.now.groups }
     requires still { AreValuesOf (suc (length (support_at (data_of cell.now) group))) (still_value (step_at (data_of cell.now) group)) still.now }
@@ -82,29 +82,10 @@ fn edge_cubes(
     ensures list { IfOk result (λ cubes. cubes.items ≡ edge_cubes (step_at (data_of cell.now) group) (length (support_at (data_of cell.now) group)) place value) }
     ensures wide { IfOk result (λ cubes. All (λ cube. place + 3 ≤ length cube) cubes.items) }
 {
-    let cubes = change_primes(alloc, cell, group, place, values, value)?;
-    let moving = moving_cubes(alloc, &cubes)?;
-    Ok(moving)
-}
-
-/// The primes of the points at which a change of one input gives this value.
-fn change_primes(
-    alloc: Global,
-    cell: &Cell,
-    group: usize,
-    place: usize,
-    values: &[Trit],
-    value: Trit,
-) -> Result<Vec<Cube>, AllocError>
-    requires group { group < length cell.now.groups }
-    requires place { place < length (support_at (data_of cell.now) group) }
-    requires values { AreValuesOf (suc (suc (length (support_at (data_of cell.now) group)))) (edge_value (step_at (data_of cell.now) group) place) values.now }
-    ensures list { IfOk result (λ cubes. cubes.items ≡ prime_list (suc (suc (length (support_at (data_of cell.now) group)))) (gives value (edge_value (step_at (data_of cell.now) group) place))) }
-    ensures wide { IfOk result (λ cubes. All (λ cube. place + 3 ≤ length cube) cubes.items) }
-{
     let pins = cell.group(group).support.len();
     let cubes = primes_where(alloc, pins + 2, values, value)?;
-    Ok(cubes)
+    let moving = moving_cubes(alloc, &cubes)?;
+    Ok(moving)
 }
 
 /// The cubes of changes that have points that change.

@@ -1,12 +1,10 @@
 //! The rows of a cell's conditions and outputs.
 ghost use Rattle.std.specs.Prelude.{◌≡◌, ◌<◌, length, IfOk};
 ghost use Rattle.trit_cubes.specs.Sets.{AreValuesOf};
-ghost use Rattle.bool_functions.specs.Support.{support_of};
-ghost use Rattle.cell_machine.specs.Outputs.{condition_at};
-ghost use Rattle.udp_tables.specs.Generated.{function_rows};
-ghost use Rattle.udp_tables.specs.Conditions.{IsSmall};
 ghost use Rattle.cell_machine.specs.CellData.{data_of};
 ghost use Rattle.cell_machine.specs.CellTrace.{sources_at, output_value_at};
+ghost use Rattle.udp_tables.specs.Generated.{function_rows};
+ghost use Rattle.udp_tables.specs.Conditions.{IsSmall, support_of, condition_at};
 
 use crate::cell_values::output_value;
 use crate::generation::{cube_rows, table_rows};

@@ -24,7 +24,7 @@ mod table;
 mod text_faults;
 mod timing_checks;
 
-pub use cell_conditions::{condition_number, conditions};
+pub use cell_conditions::{ModelSource, condition_number, conditions};
 pub use cell_primitives::{Part, combinational_udp, part_udp, sequential_udp};
 pub use combinational::{keyed_level, udp_level};
 pub use generation::function_udp;

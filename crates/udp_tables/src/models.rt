@@ -1,4 +1,7 @@
 //! What the models in both languages share.
+ghost use Rattle.std.specs.Prelude.{◌≡◌};
+ghost use Rattle.udp_tables.specs.declared.models.ModelFault.TheVariants as fault;
+
 use sqlite_items::Items;
 use std::alloc::{AllocError, AllocFailed};
 use thiserror::Error;
@@ -46,9 +49,6 @@ pub enum ModelFault {
 }
 
 impl From<AllocError> for ModelFault {
-    ghost use Rattle.std.specs.Prelude.{◌≡◌};
-    ghost use Rattle.udp_tables.specs.declared.models.ModelFault.TheVariants as fault;
-
     ghost from_gives = { λ _ e. e ≡ fault.Memory };
 
     fn from(_: AllocError) -> ModelFault {
@@ -57,9 +57,6 @@ impl From<AllocError> for ModelFault {
 }
 
 impl<T: Drop> From<AllocFailed<T>> for ModelFault {
-    ghost use Rattle.std.specs.Prelude.{◌≡◌};
-    ghost use Rattle.udp_tables.specs.declared.models.ModelFault.TheVariants as fault;
-
     ghost from_gives = { λ _ e. e ≡ fault.Memory };
 
     fn from(_: AllocFailed<T>) -> ModelFault {

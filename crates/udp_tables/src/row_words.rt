@@ -42,33 +42,19 @@ impl Column for Trit {
 }
 
 impl Level {
-    ghost use Rattle.udp_tables.specs.RowWords.{asked_bits, value_bits};
+    ghost use Rattle.udp_tables.specs.RowWords.{level_bits};
 
-    /// Which of the two bits of a value the level asks for.
-    fn asked_bits(self) -> u64
-        ensures is { result ≡ asked_bits self }
-        ensures below { result < 4 }
+    /// Which of the two bits of a value the level asks for, and what these bits are.
+    fn bits(self) -> (u64, u64)
+        ensures is { result ≡ level_bits self }
+        ensures below { (result.0 < 4) × (result.1 < 4) }
     {
         match self {
-            Level::Zero => 3,
-            Level::One => 3,
-            Level::Unknown => 3,
-            Level::Any => 0,
-            Level::Binary => 2,
-        }
-    }
-
-    /// What these bits are.
-    fn value_bits(self) -> u64
-        ensures is { result ≡ value_bits self }
-        ensures below { result < 4 }
-    {
-        match self {
-            Level::Zero => 0,
-            Level::One => 1,
-            Level::Unknown => 2,
-            Level::Any => 0,
-            Level::Binary => 0,
+            Level::Zero => (3, 0),
+            Level::One => (3, 1),
+            Level::Unknown => (3, 2),
+            Level::Any => (0, 0),
+            Level::Binary => (2, 0),
         }
     }
 }
@@ -93,9 +79,10 @@ impl RowWords {
         requires values { self.values < 2 ^ 62 }
         ensures { result ≡ record { asked = asked_bits level + 4 * self.asked; values = value_bits level + 4 * self.values } }
     {
+        let (asked, values) = level.bits();
         RowWords {
-            asked: level.asked_bits() + 4 * self.asked,
-            values: level.value_bits() + 4 * self.values,
+            asked: asked + 4 * self.asked,
+            values: values + 4 * self.values,
         }
     }
 

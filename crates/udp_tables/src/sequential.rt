@@ -134,12 +134,7 @@ impl UdpRow {
 fn all_levels(entries: &[Entry]) -> bool
     ensures { result ≡ list_all is_level entries.now }
 {
-    for entry in entries {
-        if !entry.is_level() {
-            return false;
-        }
-    }
-    true
+    entries.iter().all(|entry| entry.is_level())
 }
 
 /// The value before a change of the input with the number `changed`, of the input i.

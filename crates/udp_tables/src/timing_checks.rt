@@ -4,12 +4,12 @@ ghost use Rattle.cell_machine.specs.CellData.{data_of};
 ghost use Rattle.udp_tables.specs.Conditions.{conditions_of};
 ghost use Rattle.udp_tables.specs.TimingChecks.{number_behind, check_behind};
 
-use crate::cell_conditions::condition_number;
+use crate::cell_conditions::{ModelSource, condition_number};
 use crate::ports::event_of;
 use bool_functions::Function;
-use cell_machine::{Cell, Check, CheckKind, Event};
+use cell_machine::{Check, CheckKind, Event};
 use sqlite_items::Items;
-use std::alloc::{AllocError, Global};
+use std::alloc::AllocError;
 
 /// A timing check of a model. (IEEE 1364-2005, clause 15; IEEE 1076.4-2000, VitalSetupHoldCheck, VitalRecoveryRemovalCheck and
 /// VitalPeriodPulseCheck.) In a Verilog text a `Period` stands for two checks, of its rises and of its falls.
@@ -42,38 +42,32 @@ fn number_behind(
     }
 }
 
-/// The timing check of a cell's check, where these are the cell's conditions and so many other things, no more than its groups,
-/// are numbered before them.
-fn check_behind(before: usize, cell: &Cell, conditions: &[&Function], check: &Check) -> TimingCheck
-    requires few { before ≤ length cell.now.groups }
-    requires all { map (λ f. f.now) conditions.now ≡ conditions_of (data_of cell.now) }
-    ensures { result ≡ check_behind before (data_of cell.now) check.now }
+/// The timing check of a cell's check, where so many other things, no more than its groups, are numbered before its conditions.
+fn check_behind(before: usize, from: &ModelSource, check: &Check) -> TimingCheck
+    requires few { before ≤ length from.now.cell.now.groups }
+    requires all { map (λ f. f.now) from.now.conditions.now ≡ conditions_of (data_of from.now.cell.now) }
+    ensures { result ≡ check_behind before (data_of from.now.cell.now) check.now }
 {
-    let pins = cell.pins.as_slice();
+    let pins = from.cell.pins.as_slice();
     TimingCheck {
         kind: check.kind,
         first: event_of(pins, check.first),
         second: event_of(pins, check.second),
         limit: check.limit,
-        condition: number_behind(before, conditions, &check.condition),
+        condition: number_behind(before, from.conditions, &check.condition),
     }
 }
 
-/// The timing checks of a cell's model, in order, where these are the cell's conditions and so many other things, no more than
-/// its groups, are numbered before them. `AllocError` comes only where memory is wanting.
-pub fn checks_of(
-    alloc: Global,
-    before: usize,
-    cell: &Cell,
-    conditions: &[&Function],
-) -> Result<Items<TimingCheck>, AllocError>
-    requires few { before ≤ length cell.now.groups }
-    requires all { map (λ f. f.now) conditions.now ≡ conditions_of (data_of cell.now) }
-    ensures { IfOk result (λ checks. checks ≡ map (check_behind before (data_of cell.now)) cell.now.checks) }
+/// The timing checks of a cell's model, in order, where so many other things, no more than its groups, are numbered before its
+/// conditions. `AllocError` comes only where memory is wanting.
+pub fn checks_of(before: usize, from: &ModelSource) -> Result<Items<TimingCheck>, AllocError>
+    requires few { before ≤ length from.now.cell.now.groups }
+    requires all { map (λ f. f.now) from.now.conditions.now ≡ conditions_of (data_of from.now.cell.now) }
+    ensures { IfOk result (λ checks. checks ≡ map (check_behind before (data_of from.now.cell.now)) from.now.cell.now.checks) }
 {
-    let mut checks = Items::new(alloc);
-    for check in cell.checks.as_slice() {
-        checks.push(check_behind(before, cell, conditions, check))?;
+    let mut checks = Items::new(from.alloc);
+    for check in from.cell.checks.as_slice() {
+        checks.push(check_behind(before, from, check))?;
     }
     Ok(checks)
 }

@@ -1,38 +1,28 @@
 -- Which rows of VITAL's tables their words rule out.
-use Rattle.std.proofs.Common.{◌≡◌, ℕ, ◌<◌, true, false, List, length, get_or, slice_get, Some, refl, sym, ◌∙◌, ap}
-use Rattle.std.proofs.lemmas.Bool.{false≢true, and_parts}
-use Rattle.std.proofs.lemmas.Option.{slice_get-get_or}
+use Rattle.std.proofs.Common.{◌≡◌, true, false, List, refl}
+use Rattle.std.proofs.lemmas.Bool.{and_parts}
 use Rattle.trit_cubes.specs.declared.trits.Trit.{Trit}
-use Rattle.trit_cubes.specs.declared.trits.Trit.TheVariants.{Zero, One, Unknown}
+use Rattle.trit_cubes.specs.declared.trits.Trit.TheVariants.{Zero, One}
+use Rattle.trit_cubes.specs.Filling.{same}
 use Rattle.udp_tables.specs.declared.table.Level.TheVariants as level
-use Rattle.udp_tables.specs.Tables.{columns_match, AreKept}
+use Rattle.udp_tables.specs.Tables.{columns_match}
 use Rattle.udp_tables.specs.Primitive.{level_matches as matches_level}
-use Rattle.udp_tables.specs.declared.row_words.RowWords.{RowWords}
 use Rattle.udp_tables.specs.RowWords.{row_words, value_word, may_match}
 use Rattle.udp_tables.proofs.RowWordLemmas.{Fits, columns-ruled_out}
 use Rattle.vital_models.specs.declared.table.Trits.{Trits}
-use Rattle.vital_models.specs.declared.table.Trits.TheVariants as trits
 use Rattle.vital_models.specs.declared.table.VSymbol.{VSymbol}
 use Rattle.vital_models.specs.declared.table.VSymbol.TheVariants as symbol
 use Rattle.vital_models.specs.Symbols.{level_matches, symbol_matches, moved}
 use Rattle.vital_models.specs.RowWords.{level_of, level_now}
 
 level-fits : Fits level_matches level_of
-level-fits trits.Zero old new h = h
-level-fits trits.One old new h = h
-level-fits trits.Unknown old new h = h
-level-fits trits.Any old new h = h
-level-fits trits.Binary old new h = h
+level-fits l old new h = h
 
 rise-fits : (old new : Trit) → symbol_matches symbol.Rise old new ≡ true → matches_level level.One new ≡ true
-rise-fits Zero new h = h
-rise-fits One new h = absurd (false≢true h)
-rise-fits Unknown new h = absurd (false≢true h)
+rise-fits old new h = (and_parts (same Zero old) (same One new) h).1
 
 fall-fits : (old new : Trit) → symbol_matches symbol.Fall old new ≡ true → matches_level level.Zero new ≡ true
-fall-fits Zero new h = absurd (false≢true h)
-fall-fits One new h = h
-fall-fits Unknown new h = absurd (false≢true h)
+fall-fits old new h = (and_parts (same One old) (same Zero new) h).1
 
 symbol-fits : Fits symbol_matches level_now
 symbol-fits (symbol.Level l) old new h = level-fits l old new h
@@ -54,10 +44,3 @@ levels_ruled_out ls os ts h = columns-ruled_out level_matches level_of level-fit
 pub symbols_ruled_out : (ss : List VSymbol) (os ts : List Trit)
     → may_match (row_words level_now ss) (value_word ts) ≡ false → columns_match symbol_matches ss os ts ≡ false
 symbols_ruled_out ss os ts h = columns-ruled_out symbol_matches level_now symbol-fits ss os ts h
-
--- the words that are kept with the number of a row are those of the row
-pub kept-words : {R : Type 0} (words_by : R → RowWords) (words : List RowWords) (rows given : List R) (i : ℕ) (row : R)
-    → AreKept words_by words rows → given ≡ rows → i < length given → row ≡ get_or given i row
-    → (w : RowWords) → slice_get words i ≡ Some w → w ≡ words_by row
-kept-words words_by words rows given i row kept same inside is w found =
-    kept.each_is i w row found (ap (λ xs. slice_get xs i) (sym same) ∙ slice_get-get_or given i row inside ∙ ap Some (sym is))

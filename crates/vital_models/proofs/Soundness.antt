@@ -215,12 +215,9 @@ module _ (cell : CellData) (name : List ℕ) (h : Rules cell) where
       (eq-eqb (port_number cell.pins p) (port_number cell.pins q) (ap (port_number cell.pins) (eqb-true p q parts.0))) parts.1
 
   events_are : (k : Check) (kind : CheckKind) → IsTrue (rule.has_events k kind) → IsTrue (has_events (check_of cell k) kind)
-  events_are k check_kind.Setup e = e
-  events_are k check_kind.Hold e = e
-  events_are k check_kind.Recovery e = e
-  events_are k check_kind.Removal e = e
   events_are k check_kind.Width e = same_port k.first.pin k.second.pin (are_opposite k.first.edge k.second.edge) e
   events_are k check_kind.Period e = same_port k.first.pin k.second.pin (is_any_edge k.first.edge && is_any_edge k.second.edge) e
+  events_are k _ e = e
 
   check_is : (k : Check) → Among k cell.checks → IsCheck entity (check_of cell k)
   check_is k m =

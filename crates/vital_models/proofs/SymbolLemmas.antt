@@ -57,18 +57,10 @@ steady-moved n p a b others e l h =
 
 -- edges
 rises : (a b : Trit) → (same Zero a && same One b) ≡ (not (same a b) && (same Zero a && same One b))
-rises Zero Zero = refl
-rises Zero One = refl
-rises Zero Unknown = refl
-rises One b = sym (and-false (not (same One b)))
-rises Unknown b = sym (and-false (not (same Unknown b)))
+rises a b = grind arith
 
 falls : (a b : Trit) → (same One a && same Zero b) ≡ (not (same a b) && (same One a && same Zero b))
-falls One Zero = refl
-falls One One = refl
-falls One Unknown = refl
-falls Zero b = sym (and-false (not (same Zero b)))
-falls Unknown b = sym (and-false (not (same Unknown b)))
+falls a b = grind arith
 
 from-free : (x y : Bool) → (x && y) ≡ (x && (y && true))
 from-free x y = ap (λ z. x && z) (sym (and-true y))
@@ -88,14 +80,10 @@ change-admits Unknown One a b rest m = refl
 change-admits Unknown Unknown a b rest m = sym (and-true (not (same a b)))
 
 rise-still : (t : Trit) → (same Zero t && same One t) ≡ false
-rise-still Zero = refl
-rise-still One = refl
-rise-still Unknown = refl
+rise-still t = grind arith
 
 fall-still : (t : Trit) → (same One t && same Zero t) ≡ false
-fall-still Zero = refl
-fall-still One = refl
-fall-still Unknown = refl
+fall-still t = grind arith
 
 unmoved : (t : Trit) (b : Bool) → (not (same t t) && b) ≡ false
 unmoved t b = ap (λ s. not s && b) (same-self t)

@@ -24,23 +24,25 @@ use Rattle.vital_models.specs.Rows.{level_of, level_symbol, edge_symbol, truth_r
 use Rattle.vital_models.specs.Translation.{level_from, trits_from, truth_row_from, symbol_from, violation_from, columns_from, result_from, state_row_from, is_written, state_rows_from}
 
 -- levels
+levels-mapped : {X : Type 0} (f : Entry → X) (g : Trit → X) → ((t : Trit) → f (prim.level_entry t) ≡ g t) → (c : List Trit) → map f (map prim.level_entry c) ≡ map g c
+levels-mapped f g same [] = refl
+levels-mapped f g same (t ∷ c) = λ i. same t i ∷ levels-mapped f g same c i
+
 level-trits : (t : Trit) → trits_from (prim.level_entry t) ≡ level_of t
 level-trits Zero = refl
 level-trits One = refl
 level-trits Unknown = refl
-
-levels-trits : (c : List Trit) → map trits_from (map prim.level_entry c) ≡ map level_of c
-levels-trits [] = refl
-levels-trits (t ∷ c) = λ i. level-trits t i ∷ levels-trits c i
 
 level-symbol : (t : Trit) → symbol_from (prim.level_entry t) ≡ level_symbol t
 level-symbol Zero = refl
 level-symbol One = refl
 level-symbol Unknown = refl
 
+levels-trits : (c : List Trit) → map trits_from (map prim.level_entry c) ≡ map level_of c
+levels-trits = levels-mapped trits_from level_of level-trits
+
 levels-symbols : (c : List Trit) → map symbol_from (map prim.level_entry c) ≡ map level_symbol c
-levels-symbols [] = refl
-levels-symbols (t ∷ c) = λ i. level-symbol t i ∷ levels-symbols c i
+levels-symbols = levels-mapped symbol_from level_symbol level-symbol
 
 -- truth tables
 truth-row : (v : Trit) (c : List Trit) → truth_row_from (prim.level_row v c) ≡ truth_row v c

@@ -17,7 +17,7 @@ level_of trits.Zero = level.Zero
 level_of trits.One = level.One
 level_of trits.Unknown = level.Unknown
 level_of trits.Any = level.Any
-level_of trits.Binary = level.Binary
+level_of _ = level.Binary
 
 -- the level that a column has now wherever the symbol matches it
 abbrev pub level_now : VSymbol → Level

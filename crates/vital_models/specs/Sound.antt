@@ -1,13 +1,12 @@
 -- When an entity is sound: each number names a thing that its place allows, each row has the length of its table, the outputs are
 -- the output ports in their order, and each check has events of its kind. (IEEE 1076.4-2000; the restrictions on places are this
 -- project's.)
-use Rattle.std.specs.Prelude.{◌≡◌, ℕ, ◌+◌, Bool, true, ◌&&◌, All, ⊤, List, [], ◌∷◌, Option, Some, None, nat_eq, nat_lt, length, map, IsTrue, if◌then◌else◌}
+use Rattle.std.specs.Prelude.{◌≡◌, ℕ, ◌+◌, Bool, true, All, ⊤, List, [], ◌∷◌, Option, Some, None, nat_lt, length, map, IsTrue, if◌then◌else◌}
 use Rattle.std.specs.List.{list_all}
 use Rattle.cell_machine.specs.declared.outputs.Source.{Source}
 use Rattle.cell_machine.specs.declared.outputs.Source.TheVariants as source
 use Rattle.cell_machine.specs.declared.checks.CheckKind.{CheckKind}
-use Rattle.cell_machine.specs.declared.checks.CheckKind.TheVariants as check_kind
-use Rattle.cell_machine.specs.CellRules.{is_any_edge, is_one_edge, are_opposite}
+use Rattle.cell_machine.specs.CellRules as rule
 use Rattle.udp_tables.specs.declared.models.VPort.{VPort}
 use Rattle.udp_tables.specs.Ports.{is_input_port}
 use Rattle.vital_models.specs.declared.table.TruthTable.{TruthTable}
@@ -81,13 +80,7 @@ pub record IsOutput (e : VEntity) (output : VOutput) : Type 0 where
 -- The events of a check, by its kind. (Liberty Reference Manual, timing_type and the attributes min_pulse_width_high,
 -- min_pulse_width_low and min_period.)
 abbrev pub has_events : TimingCheck → CheckKind → Bool
-has_events k check_kind.Setup = is_any_edge k.first.edge && is_one_edge k.second.edge
-has_events k check_kind.Hold = is_one_edge k.first.edge && is_any_edge k.second.edge
-has_events k check_kind.Recovery = is_one_edge k.first.edge && is_one_edge k.second.edge
-has_events k check_kind.Removal = is_one_edge k.first.edge && is_one_edge k.second.edge
-has_events k check_kind.Width = nat_eq k.first.pin k.second.pin && are_opposite k.first.edge k.second.edge
-has_events k check_kind.Period =
-    nat_eq k.first.pin k.second.pin && (is_any_edge k.first.edge && is_any_edge k.second.edge)
+has_events k = rule.has_events (record { kind = k.kind; first = k.first; second = k.second; limit = k.limit; condition = None })
 
 abbrev pub is_enabling : VEntity → Option ℕ → Bool
 is_enabling e None = true

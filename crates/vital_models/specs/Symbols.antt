@@ -1,11 +1,12 @@
 -- What the symbols of a table match and what its rows give. (IEEE 1076.4-2000, VITAL table symbols and their matching.)
-use Rattle.std.specs.Prelude.{Bool, true, not, ◌&&◌}
+use Rattle.std.specs.Prelude.{Bool, not, ◌&&◌}
 use Rattle.trit_cubes.specs.declared.trits.Trit.{Trit}
 use Rattle.trit_cubes.specs.declared.trits.Trit.TheVariants.{Zero, One, Unknown}
-use Rattle.trit_cubes.specs.Filling.{is_unknown, same}
+use Rattle.trit_cubes.specs.Filling.{same}
 use Rattle.udp_tables.specs.Primitive.{goes}
+use Rattle.udp_tables.specs.Primitive.{level_matches as matches_level}
+use Rattle.vital_models.specs.RowWords.{level_of}
 use Rattle.vital_models.specs.declared.table.Trits.{Trits}
-use Rattle.vital_models.specs.declared.table.Trits.TheVariants as trits
 use Rattle.vital_models.specs.declared.table.VSymbol.{VSymbol}
 use Rattle.vital_models.specs.declared.table.VSymbol.TheVariants as symbol
 use Rattle.vital_models.specs.declared.table.VNext.{VNext}
@@ -13,11 +14,7 @@ use Rattle.vital_models.specs.declared.table.VNext.TheVariants as next
 
 -- `'0'`, `'1'` and `'X'` match themselves, `'-'` all three, `'B'` 0 and 1
 abbrev pub trits_match : Trits → Trit → Bool
-trits_match trits.Zero t = same Zero t
-trits_match trits.One t = same One t
-trits_match trits.Unknown t = same Unknown t
-trits_match trits.Any _ = true
-trits_match trits.Binary t = not (is_unknown t)
+trits_match l t = matches_level (level_of l) t
 
 -- a level matches the value that a column has now
 abbrev pub level_matches : Trits → Trit → Trit → Bool

@@ -14,7 +14,7 @@ use bool_functions::Function;
 use cell_machine::{Cell, OutputPin, Pin, Source, Values};
 use sqlite_items::Items;
 use std::alloc::{AllocError, Global};
-use udp_tables::{conditions, port_number};
+use udp_tables::{ModelSource, conditions, port_number};
 
 /// The entity of a cell, with this name: a state for each group, a truth table for each condition and for each output that
 /// depends on something, a path for each arc, and the checks. What it answers is sound. `AllocError` comes only where memory is
@@ -23,13 +23,14 @@ pub fn vital_model(alloc: Global, cell: &Cell, name: &[u8]) -> Result<VEntity, A
     ensures { IfOk result (λ entity. entity ≡ entity_of (data_of cell.now) name.now) }
 {
     let conditions = conditions(alloc, cell)?;
+    let from = ModelSource::new(alloc, cell, &conditions);
     Ok(VEntity {
         name: Items::from_slice(alloc, name)?,
         ports: vital_ports(alloc, cell.pins.as_slice(), name)?,
         states: states_of(alloc, cell)?,
-        conditions: conditions_of(alloc, cell, &conditions)?,
-        outputs: outputs_of(alloc, cell, &conditions)?,
-        checks: entity_checks(alloc, cell, &conditions)?,
+        conditions: conditions_of(&from)?,
+        outputs: outputs_of(&from)?,
+        checks: entity_checks(&from)?,
     })
 }
 
@@ -68,96 +69,76 @@ fn ports_at(alloc: Global, pins: &[Pin], support: &[usize]) -> Result<Items<usiz
     Ok(ports)
 }
 
-/// The truth tables of the cell's conditions, which are these.
-fn conditions_of(
-    alloc: Global,
-    cell: &Cell,
-    conditions: &[&Function],
-) -> Result<Items<VTruth>, AllocError>
-    requires { map (λ f. f.now) conditions.now ≡ conditions_of (data_of cell.now) }
-    ensures { IfOk result (λ truths. truths ≡ map (condition_of cell.now.pins) (map (λ f. f.now) conditions.now)) }
+/// The truth tables of the cell's conditions.
+fn conditions_of(from: &ModelSource) -> Result<Items<VTruth>, AllocError>
+    requires { map (λ f. f.now) from.now.conditions.now ≡ conditions_of (data_of from.now.cell.now) }
+    ensures { IfOk result (λ truths. truths ≡ map (condition_of from.now.cell.now.pins) (map (λ f. f.now) from.now.conditions.now)) }
 {
-    let mut truths = Items::new(alloc);
+    let conditions = from.conditions;
+    let mut truths = Items::new(from.alloc);
     for (i, condition) in conditions.iter().enumerate() {
-        truths.push(condition_of(alloc, cell, conditions, i, condition)?)?;
+        truths.push(condition_of(from, i, condition)?)?;
     }
     Ok(truths)
 }
 
 /// The truth table of the condition with this number.
 fn condition_of(
-    alloc: Global,
-    cell: &Cell,
-    conditions: &[&Function],
+    from: &ModelSource,
     number: usize,
     condition: &Function,
 ) -> Result<VTruth, AllocError>
-    requires all { map (λ f. f.now) conditions.now ≡ conditions_of (data_of cell.now) }
-    requires number { number < length (conditions_of (data_of cell.now)) }
-    requires is { condition_tree (data_of cell.now) number ≡ condition.now }
-    ensures { IfOk result (λ truth. truth ≡ condition_of cell.now.pins condition.now) }
+    requires all { map (λ f. f.now) from.now.conditions.now ≡ conditions_of (data_of from.now.cell.now) }
+    requires number { number < length (conditions_of (data_of from.now.cell.now)) }
+    requires is { condition_tree (data_of from.now.cell.now) number ≡ condition.now }
+    ensures { IfOk result (λ truth. truth ≡ condition_of from.now.cell.now.pins condition.now) }
 {
-    let names = condition.support(alloc)?;
+    let names = condition.support(from.alloc)?;
     Ok(VTruth {
-        table: condition_table(alloc, cell, conditions, number)?,
-        inputs: ports_at(alloc, cell.pins.as_slice(), &names)?,
+        table: condition_table(from, number)?,
+        inputs: ports_at(from.alloc, from.cell.pins.as_slice(), &names)?,
     })
 }
 
-/// What drives the output pins, where these are the cell's conditions.
-fn outputs_of(
-    alloc: Global,
-    cell: &Cell,
-    conditions: &[&Function],
-) -> Result<Items<VOutput>, AllocError>
-    requires { map (λ f. f.now) conditions.now ≡ conditions_of (data_of cell.now) }
-    ensures { IfOk result (λ outputs. outputs ≡ map (output_of (data_of cell.now)) cell.now.outputs) }
+/// What drives the output pins.
+fn outputs_of(from: &ModelSource) -> Result<Items<VOutput>, AllocError>
+    requires { map (λ f. f.now) from.now.conditions.now ≡ conditions_of (data_of from.now.cell.now) }
+    ensures { IfOk result (λ outputs. outputs ≡ map (output_of (data_of from.now.cell.now)) from.now.cell.now.outputs) }
 {
-    let mut outputs = Items::new(alloc);
-    for i in 0..cell.outputs.len() {
-        let output = cell.output_pin(i);
-        outputs.push(output_of(alloc, cell, conditions, i, output)?)?;
+    let mut outputs = Items::new(from.alloc);
+    for i in 0..from.cell.outputs.len() {
+        let output = from.cell.output_pin(i);
+        outputs.push(output_of(from, i, output)?)?;
     }
     Ok(outputs)
 }
 
 /// What drives the output pin with this number among the outputs.
-fn output_of(
-    alloc: Global,
-    cell: &Cell,
-    conditions: &[&Function],
-    number: usize,
-    output: &OutputPin,
-) -> Result<VOutput, AllocError>
-    requires all { map (λ f. f.now) conditions.now ≡ conditions_of (data_of cell.now) }
-    requires is { slice_get cell.now.outputs number ≡ Some output.now }
+fn output_of(from: &ModelSource, number: usize, output: &OutputPin) -> Result<VOutput, AllocError>
+    requires all { map (λ f. f.now) from.now.conditions.now ≡ conditions_of (data_of from.now.cell.now) }
+    requires is { slice_get from.now.cell.now.outputs number ≡ Some output.now }
     requires bounded { name_bound output.now.function ≤ 96 }
-    ensures { IfOk result (λ made. made ≡ output_of (data_of cell.now) output.now) }
+    ensures { IfOk result (λ made. made ≡ output_of (data_of from.now.cell.now) output.now) }
 {
     Ok(VOutput {
-        port: port_number(cell.pins.as_slice(), output.pin),
-        value: value_of(alloc, cell, conditions, number, output)?,
-        paths: paths_to(alloc, cell, conditions, output.pin)?,
+        port: port_number(from.cell.pins.as_slice(), output.pin),
+        value: value_of(from, number, output)?,
+        paths: paths_to(from, output.pin)?,
     })
 }
 
 /// The value of the output with this number: a constant where it depends on nothing, else a table.
-fn value_of(
-    alloc: Global,
-    cell: &Cell,
-    conditions: &[&Function],
-    number: usize,
-    output: &OutputPin,
-) -> Result<OutValue, AllocError>
-    requires all { map (λ f. f.now) conditions.now ≡ conditions_of (data_of cell.now) }
-    requires is { slice_get cell.now.outputs number ≡ Some output.now }
+fn value_of(from: &ModelSource, number: usize, output: &OutputPin) -> Result<OutValue, AllocError>
+    requires all { map (λ f. f.now) from.now.conditions.now ≡ conditions_of (data_of from.now.cell.now) }
+    requires is { slice_get from.now.cell.now.outputs number ≡ Some output.now }
     requires bounded { name_bound output.now.function ≤ 96 }
-    ensures { IfOk result (λ value. value ≡ value_of_output (data_of cell.now) output.now) }
+    ensures { IfOk result (λ value. value ≡ value_of_output (data_of from.now.cell.now) output.now) }
 {
     if has_sources(output) {
+        let pins = from.cell.pins.as_slice();
         Ok(OutValue::Table {
-            table: output_table(alloc, cell, conditions, number, output)?,
-            inputs: sources_at(alloc, cell.pins.as_slice(), output.support.as_slice())?,
+            table: output_table(from, number, output)?,
+            inputs: sources_at(from.alloc, pins, output.support.as_slice())?,
         })
     } else {
         Ok(OutValue::Constant(Values::new().value(&output.function)))

@@ -4,19 +4,14 @@ ghost use Rattle.vital_models.specs.Symbols.{trits_match, symbol_matches, next_o
 
 use crate::table::{Trits, VNext, VSymbol};
 use trit_cubes::Trit;
+use udp_tables::Column;
 
 impl Trits {
     /// Whether the level stands for this value.
     pub(crate) fn matches(self, value: Trit) -> bool
         ensures { result ≡ trits_match self value }
     {
-        match self {
-            Trits::Zero => value == Trit::Zero,
-            Trits::One => value == Trit::One,
-            Trits::Unknown => value == Trit::Unknown,
-            Trits::Any => true,
-            Trits::Binary => value != Trit::Unknown,
-        }
+        self.level().matches(value)
     }
 }
 

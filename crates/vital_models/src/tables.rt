@@ -8,11 +8,10 @@ ghost use Rattle.vital_models.specs.Generated.{has_violation, state_table, condi
 
 use crate::table::{Trits, TruthTable, VNext, VStateRow, VStateTable, VSymbol};
 use crate::translation::{add_state_rows, truth_rows_from};
-use bool_functions::Function;
 use cell_machine::{Cell, OutputPin};
 use sqlite_items::Items;
 use std::alloc::{AllocError, Global};
-use udp_tables::{Part, part_udp, sequential_udp};
+use udp_tables::{ModelSource, Part, part_udp, sequential_udp};
 
 /// Whether state tables have a column of the violation: the cell has checks.
 pub(crate) fn has_violation(cell: &Cell) -> bool
@@ -87,40 +86,31 @@ fn columns(
     Ok(Items::from_vec(columns))
 }
 
-/// The truth table of a condition, which the cell has with this number, over the pins that it names. These are the cell's
-/// conditions.
-pub(crate) fn condition_table(
-    alloc: Global,
-    cell: &Cell,
-    conditions: &[&Function],
-    number: usize,
-) -> Result<TruthTable, AllocError>
-    requires all { map (λ f. f.now) conditions.now ≡ conditions_of (data_of cell.now) }
-    requires number { number < length (conditions_of (data_of cell.now)) }
-    ensures { IfOk result (λ table. table ≡ condition_table (condition_tree (data_of cell.now) number)) }
+/// The truth table of a condition, which the cell has with this number, over the pins that it names.
+pub(crate) fn condition_table(from: &ModelSource, number: usize) -> Result<TruthTable, AllocError>
+    requires all { map (λ f. f.now) from.now.conditions.now ≡ conditions_of (data_of from.now.cell.now) }
+    requires number { number < length (conditions_of (data_of from.now.cell.now)) }
+    ensures { IfOk result (λ table. table ≡ condition_table (condition_tree (data_of from.now.cell.now) number)) }
 {
-    let udp = part_udp(alloc, cell, conditions, Part::Condition(number))?;
+    let udp = part_udp(from, Part::Condition(number))?;
     Ok(TruthTable {
-        rows: truth_rows_from(alloc, udp.rows.as_slice())?,
+        rows: truth_rows_from(from.alloc, udp.rows.as_slice())?,
     })
 }
 
-/// The truth table of an output, which the cell has with this number and which depends on something, over its support. These are
-/// the cell's conditions.
+/// The truth table of an output, which the cell has with this number and which depends on something, over its support.
 pub(crate) fn output_table(
-    alloc: Global,
-    cell: &Cell,
-    conditions: &[&Function],
+    from: &ModelSource,
     number: usize,
     output: &OutputPin,
 ) -> Result<TruthTable, AllocError>
-    requires all { map (λ f. f.now) conditions.now ≡ conditions_of (data_of cell.now) }
-    requires is { slice_get cell.now.outputs number ≡ Some output.now }
+    requires all { map (λ f. f.now) from.now.conditions.now ≡ conditions_of (data_of from.now.cell.now) }
+    requires is { slice_get from.now.cell.now.outputs number ≡ Some output.now }
     requires some { 0 < length output.now.support }
-    ensures { IfOk result (λ table. table ≡ output_table (data_of cell.now) output.now) }
+    ensures { IfOk result (λ table. table ≡ output_table (data_of from.now.cell.now) output.now) }
 {
-    let udp = part_udp(alloc, cell, conditions, Part::Output(number))?;
+    let udp = part_udp(from, Part::Output(number))?;
     Ok(TruthTable {
-        rows: truth_rows_from(alloc, udp.rows.as_slice())?,
+        rows: truth_rows_from(from.alloc, udp.rows.as_slice())?,
     })
 }

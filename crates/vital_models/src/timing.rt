@@ -7,40 +7,31 @@ ghost use Rattle.vital_models.specs.Generated.{place_of, all_zero, gate_by, path
 
 use crate::model::{HGate, HPath};
 use bool_functions::Function;
-use cell_machine::{Arc, Cell};
+use cell_machine::Arc;
 use sqlite_items::Items;
-use std::alloc::{AllocError, Global};
-use udp_tables::{TimingCheck, checks_of, condition_number, port_number};
+use std::alloc::AllocError;
+use udp_tables::{ModelSource, TimingCheck, checks_of, condition_number, port_number};
 
-/// The paths of a cell's entity to an output pin, where these are the cell's conditions: one for each arc that ends there.
-pub(crate) fn paths_to(
-    alloc: Global,
-    cell: &Cell,
-    conditions: &[&Function],
-    pin: usize,
-) -> Result<Items<HPath>, AllocError>
-    requires { map (λ f. f.now) conditions.now ≡ conditions_of (data_of cell.now) }
-    ensures { IfOk result (λ paths. paths ≡ paths_to (data_of cell.now) pin) }
+/// The paths of a cell's entity to an output pin: one for each arc that ends there.
+pub(crate) fn paths_to(from: &ModelSource, pin: usize) -> Result<Items<HPath>, AllocError>
+    requires { map (λ f. f.now) from.now.conditions.now ≡ conditions_of (data_of from.now.cell.now) }
+    ensures { IfOk result (λ paths. paths ≡ paths_to (data_of from.now.cell.now) pin) }
 {
-    let mut paths = Items::new(alloc);
-    for arc in cell.arcs.as_slice() {
+    let mut paths = Items::new(from.alloc);
+    for arc in from.cell.arcs.as_slice() {
         if ends_at(arc, pin) {
-            paths.push(path_of(alloc, cell, conditions, arc)?)?;
+            paths.push(path_of(from, arc)?)?;
         }
     }
     Ok(paths)
 }
 
-/// The timing checks of a cell's entity, in order, where these are the cell's conditions.
-pub(crate) fn entity_checks(
-    alloc: Global,
-    cell: &Cell,
-    conditions: &[&Function],
-) -> Result<Items<TimingCheck>, AllocError>
-    requires { map (λ f. f.now) conditions.now ≡ conditions_of (data_of cell.now) }
-    ensures { IfOk result (λ checks. checks ≡ map (check_of (data_of cell.now)) cell.now.checks) }
+/// The timing checks of a cell's entity, in order.
+pub(crate) fn entity_checks(from: &ModelSource) -> Result<Items<TimingCheck>, AllocError>
+    requires { map (λ f. f.now) from.now.conditions.now ≡ conditions_of (data_of from.now.cell.now) }
+    ensures { IfOk result (λ checks. checks ≡ map (check_of (data_of from.now.cell.now)) from.now.cell.now.checks) }
 {
-    checks_of(alloc, 0, cell, conditions)
+    checks_of(0, from)
 }
 
 /// Whether an arc ends at this pin.
@@ -51,37 +42,27 @@ fn ends_at(arc: &Arc, pin: usize) -> bool
 }
 
 /// The path of an arc.
-fn path_of(
-    alloc: Global,
-    cell: &Cell,
-    conditions: &[&Function],
-    arc: &Arc,
-) -> Result<HPath, AllocError>
-    requires { map (λ f. f.now) conditions.now ≡ conditions_of (data_of cell.now) }
-    ensures { IfOk result (λ path. path ≡ path_of (data_of cell.now) arc.now) }
+fn path_of(from: &ModelSource, arc: &Arc) -> Result<HPath, AllocError>
+    requires { map (λ f. f.now) from.now.conditions.now ≡ conditions_of (data_of from.now.cell.now) }
+    ensures { IfOk result (λ path. path ≡ path_of (data_of from.now.cell.now) arc.now) }
 {
     Ok(HPath {
-        from: port_number(cell.pins.as_slice(), arc.from),
+        from: port_number(from.cell.pins.as_slice(), arc.from),
         rise: arc.rise,
         fall: arc.fall,
-        gate: gate_of(alloc, cell, conditions, arc)?,
+        gate: gate_of(from, arc)?,
     })
 }
 
 /// When the path of an arc counts.
-fn gate_of(
-    alloc: Global,
-    cell: &Cell,
-    conditions: &[&Function],
-    arc: &Arc,
-) -> Result<HGate, AllocError>
-    requires { map (λ f. f.now) conditions.now ≡ conditions_of (data_of cell.now) }
-    ensures { IfOk result (λ gate. gate ≡ gate_by (data_of cell.now) arc.now arc.now.condition) }
+fn gate_of(from: &ModelSource, arc: &Arc) -> Result<HGate, AllocError>
+    requires { map (λ f. f.now) from.now.conditions.now ≡ conditions_of (data_of from.now.cell.now) }
+    ensures { IfOk result (λ gate. gate ≡ gate_by (data_of from.now.cell.now) arc.now arc.now.condition) }
 {
     match &arc.condition {
-        Some(condition) => Ok(HGate::NotZero(place_of(cell, conditions, condition))),
+        Some(condition) => Ok(HGate::NotZero(place_of(from, condition))),
         None => {
-            let beside = places_beside(alloc, cell, conditions, arc)?;
+            let beside = places_beside(from, arc)?;
             Ok(all_zero(beside))
         }
     }
@@ -99,20 +80,15 @@ fn all_zero(conditions: Items<usize>) -> HGate
 }
 
 /// The numbers of the conditions of all arcs that have the two pins of an arc.
-fn places_beside(
-    alloc: Global,
-    cell: &Cell,
-    conditions: &[&Function],
-    arc: &Arc,
-) -> Result<Items<usize>, AllocError>
-    requires { map (λ f. f.now) conditions.now ≡ conditions_of (data_of cell.now) }
-    ensures { IfOk result (λ places. places ≡ map (place_of (data_of cell.now)) (conditions_beside cell.now.arcs arc.now)) }
+fn places_beside(from: &ModelSource, arc: &Arc) -> Result<Items<usize>, AllocError>
+    requires { map (λ f. f.now) from.now.conditions.now ≡ conditions_of (data_of from.now.cell.now) }
+    ensures { IfOk result (λ places. places ≡ map (place_of (data_of from.now.cell.now)) (conditions_beside from.now.cell.now.arcs arc.now)) }
 {
-    let mut places = Items::new(alloc);
-    for other in cell.arcs.as_slice() {
+    let mut places = Items::new(from.alloc);
+    for other in from.cell.arcs.as_slice() {
         if arc.same_pins(other) {
             if let Some(condition) = &other.condition {
-                places.push(place_of(cell, conditions, condition))?;
+                places.push(place_of(from, condition))?;
             }
         }
     }
@@ -120,9 +96,9 @@ fn places_beside(
 }
 
 /// The number of a condition of the cell.
-fn place_of(cell: &Cell, conditions: &[&Function], condition: &Function) -> usize
-    requires { map (λ f. f.now) conditions.now ≡ conditions_of (data_of cell.now) }
-    ensures { result ≡ place_of (data_of cell.now) condition.now }
+fn place_of(from: &ModelSource, condition: &Function) -> usize
+    requires { map (λ f. f.now) from.now.conditions.now ≡ conditions_of (data_of from.now.cell.now) }
+    ensures { result ≡ place_of (data_of from.now.cell.now) condition.now }
 {
-    condition_number(conditions, condition)
+    condition_number(from.conditions, condition)
 }

@@ -9,20 +9,20 @@ use Rattle.specify_blocks.proofs.primitives.add_conditions.Goals as goal
 
 pub part_udp-requires-clause-part : goal.part_udp-requires-clause-part
 part_udp-requires-clause-part c =
-    let all : length (map (λ x. x.now) c.args.conditions.now) ≡ length (conditions_of (data_of c.args.cell.now))
+    let all : length (map (λ x. x.now) c.args.from.now.conditions.now) ≡ length (conditions_of (data_of c.args.from.now.cell.now))
     = ap length c.requires in
-    omega (arith, all, length-map c.args.conditions.now (λ x. x.now))
+    omega (arith, all, length-map c.args.from.now.conditions.now (λ x. x.now))
 
 pub loop-condition-preserved : goal.loop-condition-preserved
 loop-condition-preserved c =
-    below-more (condition_primitive (data_of c.args.cell.now)) c.loop-condition.condition _ _ _ c.in_ok-part_udp.field-0
+    below-more (condition_primitive (data_of c.args.from.now.cell.now)) c.loop-condition.condition _ _ _ c.in_ok-part_udp.field-0
     c.loop-condition.invariant c.in_ok-push.ensures.ok c.in_ok-part_udp.ensures
 
 pub returns : goal.returns
 returns c =
-    let all : length (map (λ x. x.now) c.args.conditions.now) ≡ length (conditions_of (data_of c.args.cell.now))
+    let all : length (map (λ x. x.now) c.args.from.now.conditions.now) ≡ length (conditions_of (data_of c.args.from.now.cell.now))
     = ap length c.requires in
-    let last : c.loop-condition.condition ≡ length (conditions_of (data_of c.args.cell.now))
-    = omega (arith, all, length-map c.args.conditions.now (λ x. x.now)) in
-    subst (λ n. c.loop-condition.udps ≡ c.args.udps.now ++ each_below (λ i. condition_primitive (data_of c.args.cell.now) i ∷ []) n)
+    let last : c.loop-condition.condition ≡ length (conditions_of (data_of c.args.from.now.cell.now))
+    = omega (arith, all, length-map c.args.from.now.conditions.now (λ x. x.now)) in
+    subst (λ n. c.loop-condition.udps ≡ c.args.udps.now ++ each_below (λ i. condition_primitive (data_of c.args.from.now.cell.now) i ∷ []) n)
     last c.loop-condition.invariant

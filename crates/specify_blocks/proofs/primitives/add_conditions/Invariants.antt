@@ -5,4 +5,4 @@ use Rattle.udp_tables.specs.CellPrimitives.{condition_primitive}
 use Rattle.specify_blocks.proofs.primitives.add_conditions.Given as goal
 
 abbrev pub invariant-loop-condition : goal.invariant-loop-condition
-invariant-loop-condition l = l.udps ≡ l.initial.udps ++ each_below (λ i. condition_primitive (data_of l.cell) i ∷ []) l.condition
+invariant-loop-condition l = l.udps ≡ l.initial.udps ++ each_below (λ i. condition_primitive (data_of l.from.cell.now) i ∷ []) l.condition

@@ -1,13 +1,8 @@
-use Rattle.std.proofs.Common.{Some, slice_get, ap, sym, ◌∙◌}
-use Rattle.std.proofs.lemmas.Option.{slice_get-get_or}
+use Rattle.udp_tables.specs.RowKeys.{row_key}
+use Rattle.udp_tables.proofs.RowKeyLemmas.{kept_key}
 use Rattle.udp_tables.proofs.combinational.keyed_level.Goals as goal
 
 pub kept-key-requires : goal.kept-key-requires
 kept-key-requires c =
-    let rows = c.as_slice-row-items.result.now in
-    let row = c.row-item.result in
-    λ k kept.
-    c.requires.keys.each_is c.loop-i.i k row kept
-    (ap (λ xs. slice_get xs c.loop-i.i) (sym c.as_slice-row-items.ensures)
-    ∙ slice_get-get_or rows c.loop-i.i row c.loop-i-test.true
-    ∙ ap Some (sym c.row-item.is))
+    kept_key row_key c.args.keys.now c.args.udp.now.rows c.as_slice-row-items.result.now c.loop-i.i c.row-item.result
+    c.requires.keys c.as_slice-row-items.ensures c.loop-i-test.true c.row-item.is

@@ -1,17 +1,16 @@
-use Rattle.std.proofs.Common.{◌≡◌, length, ◌∙◌, sym, ap, subst, rules}
+use Rattle.std.proofs.Common.{◌≡◌, length, ◌∙◌, subst, rules}
 use Rattle.trit_cubes.specs.Sets.{AreValuesOf}
 use Rattle.cell_machine.specs.Machine.{forced_at}
 use Rattle.cell_machine.specs.CellData.{data_of}
 use Rattle.cell_machine.specs.CellTrace.{step_at, support_at}
-use Rattle.cell_machine.proofs.GroupSteps.{support_at-is}
+use Rattle.udp_tables.proofs.GroupPlaces.{pins-counted}
 use Rattle.udp_tables.proofs.group_rows.forced_values.Goals as goal
 
 pub returns : goal.returns
 returns c =
     let cell = data_of c.args.cell.now in
     let f = forced_at (step_at cell c.args.group) in
-    let pins : c.len-pins.result ≡ length (support_at cell c.args.group)
-    = c.len-pins.ensures ∙ sym (ap length (support_at-is cell c.args.group c.group.result.now c.group.ensures.is)) in
+    let pins : c.len-pins.result ≡ length (support_at cell c.args.group) = pins-counted cell c.args.group _ _ c.len-pins.ensures c.group.ensures.is in
     let values = c.in_ok-values.ensures.values f
     (record {
       at_point = λ p long t says. let wide : length p ≡ length (support_at cell c.args.group) = long ∙ pins in search rules;

@@ -1,8 +1,8 @@
-use Rattle.std.proofs.Common.{◌≡◌, ◌+◌, suc, length, ◌∙◌, sym, ap, subst, rules, arith}
+use Rattle.std.proofs.Common.{◌≡◌, ◌+◌, suc, length, ◌∙◌, subst, rules, arith}
 use Rattle.trit_cubes.specs.Sets.{AreValuesOf}
 use Rattle.cell_machine.specs.CellData.{data_of}
 use Rattle.cell_machine.specs.CellTrace.{step_at, support_at}
-use Rattle.cell_machine.proofs.GroupSteps.{support_at-is}
+use Rattle.udp_tables.proofs.GroupPlaces.{pins-counted}
 use Rattle.udp_tables.specs.Edges.{still_value}
 use Rattle.udp_tables.proofs.group_rows.still_values.Goals as goal
 
@@ -10,8 +10,7 @@ pub returns : goal.returns
 returns c =
     let cell = data_of c.args.cell.now in
     let f = still_value (step_at cell c.args.group) in
-    let pins : c.len-pins.result ≡ length (support_at cell c.args.group)
-    = c.len-pins.ensures ∙ sym (ap length (support_at-is cell c.args.group c.group.result.now c.group.ensures.is)) in
+    let pins : c.len-pins.result ≡ length (support_at cell c.args.group) = pins-counted cell c.args.group _ _ c.len-pins.ensures c.group.ensures.is in
     let places : c.len-pins.result + 1 ≡ suc (length (support_at cell c.args.group)) = omega (arith, pins) in
     let values = c.in_ok-values.ensures.values f
     (record {

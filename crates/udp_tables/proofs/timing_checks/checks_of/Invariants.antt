@@ -5,5 +5,5 @@ use Rattle.udp_tables.proofs.timing_checks.checks_of.Given as goal
 
 abbrev pub invariant-loop-check : goal.invariant-loop-check
 invariant-loop-check l =
-    l.checks ++ map (check_behind l.before (data_of l.cell)) (drop l.check-index l.cell.checks)
-    ≡ map (check_behind l.before (data_of l.cell)) l.cell.checks
+    l.checks ++ map (check_behind l.before (data_of l.from.cell.now)) (drop l.check-index l.from.cell.now.checks)
+    ≡ map (check_behind l.before (data_of l.from.cell.now)) l.from.cell.now.checks

@@ -5,4 +5,4 @@ use Rattle.vital_models.proofs.generation.outputs_of.Given as goal
 
 abbrev pub invariant-loop-i : goal.invariant-loop-i
 invariant-loop-i l =
-    l.outputs ++ map (output_of (data_of l.cell)) (drop l.i l.cell.outputs) ≡ map (output_of (data_of l.cell)) l.cell.outputs
+    l.outputs ++ map (output_of (data_of l.from.cell.now)) (drop l.i l.from.cell.now.outputs) ≡ map (output_of (data_of l.from.cell.now)) l.from.cell.now.outputs

@@ -10,7 +10,7 @@ use Rattle.vital_models.proofs.tables.condition_table.Goals as goal
 
 pub returns : goal.returns
 returns c =
-    let f = condition_tree (data_of c.args.cell.now) c.args.number in
+    let f = condition_tree (data_of c.args.from.now.cell.now) c.args.number in
     ap (λ rows. record { rows = rows })
     (c.in_ok-truth_rows_from.ensures ∙ ap (map truth_row_from) (c.as_slice.ensures ∙ ap (λ (udp : Udp). udp.rows) c.in_ok-udp.ensures)
     ∙ truth-from (length (support_of f)) (condition_at (support_of f) f))

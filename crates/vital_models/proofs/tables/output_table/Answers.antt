@@ -10,7 +10,7 @@ use Rattle.vital_models.proofs.tables.output_table.Goals as goal
 
 pub returns : goal.returns
 returns c =
-    let cell = data_of c.args.cell.now in
+    let cell = data_of c.args.from.now.cell.now in
     let o = c.args.number in
     let sources = sources_at-is cell o c.args.output.now c.requires.is in
     let value = output_value_at-is cell o c.args.output.now c.requires.is in

@@ -5,5 +5,5 @@ use Rattle.vital_models.proofs.timing.entity_checks.Goals as goal
 
 pub returns : goal.returns
 returns c =
-    subst (λ wanted. IfOk c.checks_of.result (λ checks. checks ≡ wanted)) (checks_alone (data_of c.args.cell.now) c.args.cell.now.checks)
+    subst (λ wanted. IfOk c.checks_of.result (λ checks. checks ≡ wanted)) (checks_alone (data_of c.args.from.now.cell.now) c.args.from.now.cell.now.checks)
     c.checks_of.ensures

@@ -8,10 +8,10 @@ use Rattle.vital_models.proofs.timing.paths_to.Goals.{then-ends_at+in_ok-path_of
 
 pub loop-arc-preserved : goal.loop-arc-preserved
 loop-arc-preserved c =
-    let arcs = c.args.cell.now.arcs in
+    let arcs = c.args.from.now.cell.now.arcs in
     let i = c.loop-arc.arc-index in
     let arc : Arc = c.arc-item.result in
-    let make = path_of (data_of c.args.cell.now) in
+    let make = path_of (data_of c.args.from.now.cell.now) in
     let test = λ (arc : Arc). nat_eq arc.to c.args.pin in
     let within : i < length arcs = subst (λ xs. i < length xs) c.as_slice-arc-items.ensures c.loop-arc-test.true in
     let is : arc ≡ get_or arcs i arc = subst (λ xs. arc ≡ get_or xs i arc) c.as_slice-arc-items.ensures c.arc-item.is in

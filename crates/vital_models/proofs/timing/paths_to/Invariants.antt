@@ -7,5 +7,5 @@ use Rattle.vital_models.proofs.timing.paths_to.Given as goal
 
 abbrev pub invariant-loop-arc : goal.invariant-loop-arc
 invariant-loop-arc l =
-    l.paths ++ map (path_of (data_of l.cell)) (filter (λ (arc : Arc). nat_eq arc.to l.pin) (drop l.arc-index l.cell.arcs))
-    ≡ paths_to (data_of l.cell) l.pin
+    l.paths ++ map (path_of (data_of l.from.cell.now)) (filter (λ (arc : Arc). nat_eq arc.to l.pin) (drop l.arc-index l.from.cell.now.arcs))
+    ≡ paths_to (data_of l.from.cell.now) l.pin

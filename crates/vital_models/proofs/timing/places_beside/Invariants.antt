@@ -6,5 +6,5 @@ use Rattle.vital_models.proofs.timing.places_beside.Given as goal
 
 abbrev pub invariant-loop-other : goal.invariant-loop-other
 invariant-loop-other l =
-    l.places ++ map (place_of (data_of l.cell)) (conditions_beside (drop l.other-index l.cell.arcs) l.arc)
-    ≡ map (place_of (data_of l.cell)) (conditions_beside l.cell.arcs l.arc)
+    l.places ++ map (place_of (data_of l.from.cell.now)) (conditions_beside (drop l.other-index l.from.cell.now.arcs) l.arc)
+    ≡ map (place_of (data_of l.from.cell.now)) (conditions_beside l.from.cell.now.arcs l.arc)

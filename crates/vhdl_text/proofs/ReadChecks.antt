@@ -21,7 +21,7 @@ use Rattle.vhdl_text.specs.VhdlRules.{a_time}
 use Rattle.vhdl_text.specs.VhdlNames.{Uses}
 use Rattle.vhdl_text.specs.VhdlChecks.{Procedure, SetupHold, RecoveryRemoval, PeriodPulse, Checks, tested, referred, enabling_condition, always_enabled, enabled, reference_edge, transition, setup_or_hold, both_limits, check_with, with_check, setup_hold, recovery_or_removal, control_edge, one_limit, active_low, recovery_removal, Pulse, pulse_of, pulse_check, period_pulse, check, checks}
 use Rattle.vhdl_text.specs.WellFormed.{IsNumber, conditions_of_check}
-use Rattle.vhdl_text.proofs.ReadNames.{IsSpelled, numbers, values, goes_on, anything}
+use Rattle.vhdl_text.proofs.ReadNames.{IsSpelled, numbers, values, goes_on, behind}
 use Rattle.vhdl_text.proofs.ReadLists.{input_ports, AreLookedUp, none_looked_up, conditions}
 
 -- Parts of checks.
@@ -32,16 +32,15 @@ IsInput scope p = IsTrue (is_input_port scope.ports p)
 tested_inputs : (scope : Scope) (is_period : Bool) (word : List ℕ) (j : ℕ) → Promises IsSpelled (tested scope is_period word j) (IsInput scope)
 unfolding tested
 tested_inputs scope is_period word j =
-    in_turn (anything _) (λ a q. in_turn (anything _) (λ b q2. in_turn (anything _) (λ c q3. in_turn (anything _) (λ d q4. in_turn (anything _) (λ e q5.
-    in_turn (input_ports scope.ports) (λ p h. in_turn (anything _) (λ f q6. gives h)))))))
+    behind (λ a. behind (λ b. behind (λ c. behind (λ d. behind (λ e. in_turn (input_ports scope.ports) (λ p h. behind (λ f. gives h)))))))
 
 referred_inputs : (scope : Scope) → Promises IsSpelled (referred scope) (IsInput scope)
 unfolding referred
-referred_inputs scope = in_turn (anything _) (λ a q. in_turn (input_ports scope.ports) (λ p h. in_turn (anything _) (λ b q2. gives h)))
+referred_inputs scope = behind (λ a. in_turn (input_ports scope.ports) (λ p h. behind (λ b. gives h)))
 
 times : Promises IsSpelled a_time IsNumber
 unfolding a_time
-times = in_turn numbers (λ n h. in_turn (anything _) (λ a q. gives h))
+times = in_turn numbers (λ n h. behind (λ a. gives h))
 
 -- the condition of a check is one of so many
 abbrev pub is_enabled_in : ℕ → Option ℕ → Bool
@@ -60,10 +59,9 @@ record IsEnabling (scope : Scope) (is : List ℕ) (found : Option ℕ × Uses) :
 enabling : (scope : Scope) (is : List ℕ) (uses : Uses) → AreLookedUp scope is uses → Promises IsSpelled (enabled scope uses) (IsEnabling scope is)
 unfolding enabled enabling_condition always_enabled
 enabling scope is uses h =
-    in_turn (anything _) (λ a q.
-    choice
-    (λ x b p e. in_turn (conditions scope is uses h) (λ found f. in_turn (anything _) (λ c q2. gives (record { condition = f.condition; looked_up = f.looked_up }))))
-    (in_turn (anything _) (λ b q2. gives (record { condition = refl; looked_up = subst (λ (js : List ℕ). AreLookedUp scope js uses) (sym (append-nil is)) h }))))
+    behind (λ a. choice
+    (λ x b p e. in_turn (conditions scope is uses h) (λ found f. behind (λ c. gives (record { condition = f.condition; looked_up = f.looked_up }))))
+    (behind (λ b. gives (record { condition = refl; looked_up = subst (λ (js : List ℕ). AreLookedUp scope js uses) (sym (append-nil is)) h }))))
 
 one_of : {A : Type 0} (a b : Bool) (v w k : A) → (if a then Some v else (if b then Some w else None)) ≡ Some k → (v ≡ k) ⊎ (w ≡ k)
 one_of true b v w k e = inl cc
@@ -85,21 +83,21 @@ control_edges x e h = elim (one_of (is_same x (codes "true")) (is_same x (codes 
 transitions : Promises IsSpelled transition (λ e. is_one_edge e ≡ true)
 unfolding transition
 transitions =
-    in_turn (anything _) (λ a q. in_turn (weaker (values reference_edge) (λ e f. reference_edges f.0 e f.1)) (λ e h. in_turn (anything _) (λ b q2. gives h)))
+    behind (λ a. in_turn (weaker (values reference_edge) (λ e f. reference_edges f.0 e f.1)) (λ e h. behind (λ b. gives h)))
 
 controls : Promises IsSpelled active_low (λ e. is_one_edge e ≡ true)
 unfolding active_low
 controls =
-    in_turn (anything _) (λ a q. in_turn (weaker (values control_edge) (λ e f. control_edges f.0 e f.1)) (λ e h. in_turn (anything _) (λ b q2. gives h)))
+    behind (λ a. in_turn (weaker (values control_edge) (λ e f. control_edges f.0 e f.1)) (λ e h. behind (λ b. gives h)))
 
 limits : Promises IsSpelled one_limit IsNumber
 unfolding one_limit
-limits = in_turn (anything _) (λ a q. in_turn times (λ n h. in_turn (anything _) (λ b q2. gives h)))
+limits = behind (λ a. in_turn times (λ n h. behind (λ b. gives h)))
 
 equal_limits : (kind : CheckKind) → Promises IsSpelled (both_limits kind) IsNumber
 unfolding both_limits
 equal_limits kind =
-    in_turn (anything _) (λ a q. in_turn times (λ n h. in_turn (anything _) (λ b q2. in_turn (anything _) (λ c q3. in_turn (anything _) (λ d q4. gives h)))))
+    behind (λ a. in_turn times (λ n h. behind (λ b. behind (λ c. behind (λ d. gives h)))))
 
 -- Checks.
 
@@ -179,8 +177,7 @@ push_check scope before k when h told same looked = record {
 setup_holds : (scope : Scope) (before : Checks) → AreChecks scope before → Promises IsSpelled (setup_hold scope before) (AreChecks scope)
 unfolding setup_hold
 setup_holds scope before h =
-    in_turn (tested_inputs scope false (codes "TimingData") (length before.checks)) (λ test t.
-    in_turn (referred_inputs scope) (λ reference r.
+    in_turn (tested_inputs scope false (codes "TimingData") (length before.checks)) (λ test t. in_turn (referred_inputs scope) (λ reference r.
     in_turn (values setup_or_hold) (λ kind f.
     in_turn (equal_limits kind) (λ limit l.
     in_turn (enabling scope (flat_map conditions_of_check before.checks) before.uses h.looked_up) (λ when w.
@@ -192,8 +189,7 @@ setup_holds scope before h =
 recovery_removals : (scope : Scope) (before : Checks) → AreChecks scope before → Promises IsSpelled (recovery_removal scope before) (AreChecks scope)
 unfolding recovery_removal
 recovery_removals scope before h =
-    in_turn (tested_inputs scope false (codes "TimingData") (length before.checks)) (λ test t.
-    in_turn (referred_inputs scope) (λ reference r.
+    in_turn (tested_inputs scope false (codes "TimingData") (length before.checks)) (λ test t. in_turn (referred_inputs scope) (λ reference r.
     in_turn (values recovery_or_removal) (λ kind f.
     in_turn limits (λ limit l.
     in_turn controls (λ control c.
@@ -233,8 +229,7 @@ period_pulses scope before h =
     in_turn (values pulse_of) (λ pulse f.
     in_turn limits (λ limit l.
     in_turn (enabling scope (flat_map conditions_of_check before.checks) before.uses h.looked_up) (λ when w.
-    in_turn (anything _) (λ a q.
-    gives (push_check scope before (pulse_check pulse test limit when.0) when h (pulses_told scope f.0 pulse f.1 test limit when.0 t w.condition l)
+    behind (λ a. gives (push_check scope before (pulse_check pulse test limit when.0) when h (pulses_told scope f.0 pulse f.1 test limit when.0 t w.condition l)
     (with_conditions pulse.kind (record { pin = test; edge = pulse.first }) (record { pin = test; edge = pulse.second }) limit when.0) w))))))
 
 one_check : (scope : Scope) (before : Checks) → AreChecks scope before → (of : Procedure) → Promises IsSpelled (check scope before of) (AreChecks scope)

@@ -25,7 +25,7 @@ use Rattle.vhdl_text.specs.VhdlTables.{state_width}
 use Rattle.vhdl_text.specs.VhdlDeclarations.{width_at}
 use Rattle.vhdl_text.specs.VhdlNames.{input_of, listed_by, input_by, violated_columns, no_columns, with_input, column_count, behind_input, takes_violation, next_column, columns_of, same_source, source_or_state, source_of, listed_source, sources_of}
 use Rattle.vhdl_text.specs.VhdlChecks.{state_call_start, state_call, state_calls}
-use Rattle.vhdl_text.proofs.ReadNames.{IsSpelled, fits_if, known_values, where_holds, goes_on, anything, surely}
+use Rattle.vhdl_text.proofs.ReadNames.{IsSpelled, fits_if, known_values, where_holds, goes_on, behind, surely}
 use Rattle.vhdl_text.proofs.ReadTables.{all_elements}
 use Rattle.vhdl_text.proofs.ReadLists.{input_port, listed_fits, AreInputs, no_inputs, new_input, push_input, place_below}
 
@@ -98,15 +98,14 @@ named_where b word n = weaker (known_values (is_this is_same (numbered_where b w
 starts : (scope : Scope) (g : ℕ) → Promises IsSpelled (state_call_start scope g) (λ _. nat_lt g (length scope.tables.states) ≡ true)
 unfolding state_call_start
 starts scope g =
-    in_turn (anything _) (λ a q. in_turn (named_where (nat_lt g (length scope.tables.states)) (codes "s_") (g + 1)) (λ b h. surely (λ c. h)))
+    behind (λ a. in_turn (named_where (nat_lt g (length scope.tables.states)) (codes "s_") (g + 1)) (λ b h. surely (λ c. h)))
 
 one_call : (scope : Scope) (states : List Columns) → AreStates scope scope.tables.states states → Promises IsSpelled (state_call scope states) (AreStates scope scope.tables.states)
 unfolding state_call
 one_call scope states h =
     in_turn (starts scope (length states)) (λ a t.
     in_turn (all_columns scope (length states)) (λ columns c.
-    in_turn (anything _) (λ b q.
-    gives (push_state scope scope.tables.states states columns h (below t) c))))
+    behind (λ b. gives (push_state scope scope.tables.states states columns h (below t) c))))
   where
     below : nat_lt (length states) (length scope.tables.states) ≡ true → length states < length scope.tables.states
     below t = grind (arith, nat_tests)

@@ -34,7 +34,7 @@ use Rattle.vhdl_text.specs.VhdlNames.{Uses}
 use Rattle.vhdl_text.specs.VhdlChecks.{Checks}
 use Rattle.vhdl_text.specs.VhdlOutputs.{Lines}
 use Rattle.vhdl_text.specs.VhdlText.{states_with, conditions_with, values_with, outputs_with, entity_with, are_looked_up}
-use Rattle.vhdl_text.specs.WellFormed.{names_procedure, IsAssignable, IsEntityName, IsPortName, AreApart, IsNumber, IsWrittenState, IsWrittenTruth, IsWrittenValue, IsWrittenOutput, conditions_of_check, conditions_of_output, looked_up, looks_up_in_order}
+use Rattle.vhdl_text.specs.WellFormed.{part_count, IsWellFormedEntity, names_procedure, IsAssignable, IsEntityName, IsPortName, AreApart, IsNumber, IsWrittenState, IsWrittenTruth, IsWrittenValue, IsWrittenOutput, conditions_of_check, conditions_of_output, looked_up, looks_up_in_order}
 use Rattle.vhdl_text.proofs.ReadTables.{HasStateRows, HasTruthRows}
 use Rattle.vhdl_text.proofs.ReadHeaders.{IsScope}
 use Rattle.vhdl_text.proofs.ReadLists.{AreUses}
@@ -86,6 +86,11 @@ states_count [] states h = refl
 states_count (table ∷ tables) [] h = absurd (omega arith)
 states_count (table ∷ tables) (columns ∷ states) h = let rest = states_count tables states (omega arith) in omega (arith, rest)
 
+conditions_count : (tables : List TruthTable) (uses : Uses) → length uses ≡ length tables → length (conditions_with tables uses) ≡ length tables
+conditions_count [] uses h = refl
+conditions_count (table ∷ tables) [] h = absurd (omega arith)
+conditions_count (table ∷ tables) (inputs ∷ uses) h = let rest = conditions_count tables uses (omega arith) in omega (arith, rest)
+
 -- Conditions.
 
 record IsGoodTruth (e : VEntity) (truth : VTruth) : Type 0 where
@@ -107,11 +112,6 @@ good_conditions scope e of (table ∷ tables) (inputs ∷ uses) rows h =
       written = record { rows = first.some; columns = subst (λ (n : ℕ). 1 ≤ n) (sym h.0.count) first.wide; apart = h.0.all.apart };
     })
     (good_conditions scope e of tables uses (All-tail HasTruthRows table tables rows) h.1)
-
-conditions_count : (tables : List TruthTable) (uses : Uses) → length uses ≡ length tables → length (conditions_with tables uses) ≡ length tables
-conditions_count [] uses h = refl
-conditions_count (table ∷ tables) [] h = absurd (omega arith)
-conditions_count (table ∷ tables) (inputs ∷ uses) h = let rest = conditions_count tables uses (omega arith) in omega (arith, rest)
 
 -- Values.
 
@@ -229,18 +229,9 @@ check_sound scope e of k h = record {
 
 -- Entities.
 
--- all that a well-formed entity is, but for its number of parts
-pub record IsReadEntity (e : VEntity) : Type 0 where
-  pub name : IsEntityName e.name
-  pub ports : All IsPortName (port_names e.ports)
-  pub apart : AreApart (e.name ∷ port_names e.ports)
-  pub sound : IsSound e
-  pub states : All IsWrittenState e.states
-  pub conditions : All IsWrittenTruth e.conditions
-  pub in_order : IsTrue (looks_up_in_order (length e.conditions) 0 (looked_up e))
-  pub outputs : All IsWrittenOutput e.outputs
-  pub assignable : All (IsAssignable e) e.outputs
-  pub limits : All (λ (k : TimingCheck). IsNumber k.limit) e.checks
+-- the entity is well formed, if it has not too many parts
+abbrev pub IsReadEntity : VEntity → Type 0
+IsReadEntity e = IsNumber (part_count e) → IsWellFormedEntity e
 
 -- the statements of an entity of these declarations
 pub record AreStatements (scope : Scope) (all : Checks) (columns : List Columns) (values : List Assigned) (lines : Lines) : Type 0 where
@@ -274,7 +265,7 @@ in_order scope all columns values lines h n =
 
 pub read_entity : (name : List ℕ) (scope : Scope) (all : Checks) (columns : List Columns) (values : List Assigned) (lines : Lines) → IsEntityName name → IsScope name scope
     → AreStatements scope all columns values lines → length lines.1 ≡ length scope.tables.conditions → IsReadEntity (entity_with scope all.checks columns values lines)
-read_entity name scope all columns values lines named s h n =
+read_entity name scope all columns values lines named s h n few =
     let e : VEntity = entity_with scope all.checks columns values lines in
     let of : IsOf scope e = is_of scope all columns values lines h n in
     let values_are : length (values_with scope.tables.outputs values) ≡ output_count scope.ports = values_count scope scope.tables.outputs values h.valued.are ∙ h.valued.count in
@@ -300,4 +291,5 @@ read_entity name scope all columns values lines named s h n =
       assignable = assignable_outputs scope e of 0 (output_ports_from 0 scope.ports) (values_with scope.tables.outputs values) lines.0
           (λ k p found. let same : 0 + k ≡ k = omega arith in ap (λ (m : ℕ). slice_get (output_ports_from 0 scope.ports) m) same ∙ found) h.lined.are.named;
       limits = λ k d below. (h.checks.are.told k d below).limit;
+      few = few;
     }

@@ -19,7 +19,7 @@ use Rattle.vhdl_text.specs.declared.scope.Scope.{Scope}
 use Rattle.vhdl_text.specs.VhdlRules.{is_among}
 use Rattle.vhdl_text.specs.VhdlDeclarations.{name_of_port, port_names, has_underscore, port_by, next_port, port_list, ports_of, entity_header, VariableOf, Check, Violation, State, Output, Glitch, awaits_violation, output_count, check_variables, violation_variable, width_at, state_variables, output_variable, glitch_variable, variable_as, variable, are_declared, variables, scope_of}
 use Rattle.vhdl_text.specs.WellFormed.{IsEntityName, IsPortName, AreApart, IsNumber}
-use Rattle.vhdl_text.proofs.ReadNames.{IsSpelled, a_name, fits_if, fits_unless, push_apart, these_numbers, goes_on, anything}
+use Rattle.vhdl_text.proofs.ReadNames.{IsSpelled, a_name, fits_if, fits_unless, push_apart, these_numbers, goes_on, behind}
 use Rattle.vhdl_text.proofs.ReadTables.{neither, AreTables, all_tables}
 
 -- Ports.
@@ -82,10 +82,7 @@ one_port : (entity : List ℕ) (ports : List VPort) → ArePorts entity ports �
 unfolding next_port
 one_port entity ports h =
     in_turn (token (λ x name p e. new_port entity ports x name p e)) (λ name new.
-    in_turn (anything _) (λ a q.
-    in_turn (anything _) (λ input q2.
-    in_turn (anything _) (λ b q3.
-    gives (push_port entity ports name input h new)))))
+    behind (λ a. behind (λ input. behind (λ b. gives (push_port entity ports name input h new)))))
 
 no_ports : (entity : List ℕ) → ArePorts entity []
 unfolding IsDistinct
@@ -96,22 +93,16 @@ unfolding ports_of port_list
 all_ports entity =
     choice
     (λ x a p e.
-    in_turn (anything _) (λ b q.
-    in_turn (one_port entity [] (no_ports entity)) (λ first f.
+    behind (λ b. in_turn (one_port entity [] (no_ports entity)) (λ first f.
     in_turn (many f (λ w x a q2 p e. one_port entity w q2)) (λ ports h.
-    in_turn (anything _) (λ c q3.
-    gives h)))))
+    behind (λ c. gives h)))))
     (gives (no_ports entity))
 
 headers : (entity : List ℕ) → Promises IsSpelled (entity_header entity) (ArePorts entity)
 unfolding entity_header
 headers entity =
-    in_turn (anything _) (λ a q.
-    in_turn (all_ports entity) (λ ports h.
-    in_turn (anything _) (λ b q2.
-    in_turn (anything _) (λ c q3.
-    in_turn (anything _) (λ d q4.
-    gives h)))))
+    behind (λ a. in_turn (all_ports entity) (λ ports h.
+    behind (λ b. behind (λ c. behind (λ d. gives h)))))
 
 -- Variables.
 
@@ -135,23 +126,17 @@ HasNumbers tables v = HaveNumbers tables v.states
 by_variable : (tables : Tables) (v : Variables) → HasNumbers tables v → (of : VariableOf) → Promises IsSpelled (variable_as tables v of) (HasNumbers tables)
 unfolding check_variables violation_variable state_variables output_variable glitch_variable
 by_variable tables v h Check =
-    in_turn (anything _) (λ a q. in_turn (anything _) (λ b q2. in_turn (anything _) (λ c q3. in_turn (anything _) (λ is_period q4. in_turn (anything _) (λ d q5. gives h)))))
-by_variable tables v h Violation = in_turn (anything _) (λ a q. gives h)
+    behind (λ a. behind (λ b. behind (λ c. behind (λ is_period. behind (λ d. gives h)))))
+by_variable tables v h Violation = behind (λ a. gives h)
 by_variable tables v h State =
-    in_turn (anything _) (λ a q.
-    in_turn (anything _) (λ b q2.
-    in_turn (anything _) (λ c q3.
-    in_turn (anything _) (λ d q4.
-    in_turn (anything _) (λ e q5.
-    in_turn (these_numbers (width_at tables v.states)) (λ f n.
-    in_turn (anything _) (λ g q6.
-    gives (last_number tables v.states h n))))))))
-by_variable tables v h Output = in_turn (anything _) (λ a q. gives h)
-by_variable tables v h Glitch = in_turn (anything _) (λ a q. gives h)
+    behind (λ a. behind (λ b. behind (λ c. behind (λ d. behind (λ e. in_turn (these_numbers (width_at tables v.states)) (λ f n.
+    behind (λ g. gives (last_number tables v.states h n))))))))
+by_variable tables v h Output = behind (λ a. gives h)
+by_variable tables v h Glitch = behind (λ a. gives h)
 
 one_variable : (ports : List VPort) (tables : Tables) (v : Variables) → HasNumbers tables v → Promises IsSpelled (variable ports tables v) (HasNumbers tables)
 unfolding variable
-one_variable ports tables v h = in_turn (anything _) (λ of q. by_variable tables v h of)
+one_variable ports tables v h = behind (λ of. by_variable tables v h of)
 
 -- the variables of all checks, states and outputs
 pub record AreVariables (ports : List VPort) (tables : Tables) (v : Variables) : Type 0 where
@@ -186,10 +171,6 @@ pub scopes : (entity : List ℕ) → Promises IsSpelled (scope_of entity) (IsSco
 unfolding scope_of
 scopes entity =
     in_turn (headers entity) (λ ports hp.
-    in_turn (anything _) (λ a q.
-    in_turn all_tables (λ tables ht.
-    in_turn (anything _) (λ b q2.
-    in_turn (anything _) (λ c q3.
-    in_turn (all_variables ports tables) (λ v hv.
-    in_turn (anything _) (λ d q4.
-    gives (record { named = refl; ports = hp; tables = ht; variables = hv }))))))))
+    behind (λ a. in_turn all_tables (λ tables ht.
+    behind (λ b. behind (λ c. in_turn (all_variables ports tables) (λ v hv.
+    behind (λ d. gives (record { named = refl; ports = hp; tables = ht; variables = hv }))))))))

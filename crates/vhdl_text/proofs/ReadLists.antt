@@ -19,7 +19,7 @@ use Rattle.vhdl_text.specs.VhdlRules.{numbered, place_among}
 use Rattle.vhdl_text.specs.VhdlTables.{truth_width}
 use Rattle.vhdl_text.specs.VhdlNames.{kept, port_of, input_of, an_input, listed_by, input_by, listed_input, Uses, condition_of, condition_width, first_list, list_by, condition}
 use Rattle.vhdl_text.specs.WellFormed.{looks_up_in_order}
-use Rattle.vhdl_text.proofs.ReadNames.{IsSpelled, fits_if, fits_unless, nat_equivalence, known_values, where_holds, anything}
+use Rattle.vhdl_text.proofs.ReadNames.{IsSpelled, fits_if, fits_unless, nat_equivalence, known_values, where_holds, behind}
 use Rattle.vhdl_text.proofs.ReadTables.{all_elements}
 
 -- Names of inputs.
@@ -159,7 +159,7 @@ looked_anew scope is uses i inputs h same below list = record {
 next_uses : (scope : Scope) (is : List ℕ) (uses : Uses) (i : ℕ) → AreLookedUp scope is uses → i < length uses + 1 → i < length scope.tables.conditions
     → (o : Option (List ℕ)) → slice_get uses i ≡ o → Promises IsSpelled (list_by scope uses i o) (AreLookedUp scope (is ++ i ∷ []))
 unfolding list_by
-next_uses scope is uses i h near below (Some inputs) e = in_turn (anything _) (λ a q. gives (looked_again scope is uses i h (within uses i inputs e)))
+next_uses scope is uses i h near below (Some inputs) e = behind (λ a. gives (looked_again scope is uses i h (within uses i inputs e)))
 next_uses scope is uses i h near below None e =
     let past = beyond uses i e in
     let same : i ≡ length uses = omega (arith, past, near) in
@@ -181,12 +181,9 @@ pub record IsNextLookUp (scope : Scope) (is : List ℕ) (found : ℕ × Uses) : 
 pub conditions : (scope : Scope) (is : List ℕ) (uses : Uses) → AreLookedUp scope is uses → Promises IsSpelled (condition scope uses) (IsNextLookUp scope is)
 unfolding condition
 conditions scope is uses h =
-    in_turn (anything _) (λ a q.
-    in_turn (weaker (known_values (condition_of scope uses)) (λ i f. place_below (codes "c_") (min (length uses + 1) (length scope.tables.conditions)) f.0 i f.1)) (λ i least.
-    in_turn (anything _) (λ b q2.
-    in_turn (next_uses scope is uses i h (near uses i least) (below uses i least) (slice_get uses i) refl) (λ more m.
-    in_turn (anything _) (λ c q3.
-    gives (record { condition = less i (below uses i least); looked_up = m }))))))
+    behind (λ a. in_turn (weaker (known_values (condition_of scope uses)) (λ i f. place_below (codes "c_") (min (length uses + 1) (length scope.tables.conditions)) f.0 i f.1)) (λ i least.
+    behind (λ b. in_turn (next_uses scope is uses i h (near uses i least) (below uses i least) (slice_get uses i) refl) (λ more m.
+    behind (λ c. gives (record { condition = less i (below uses i least); looked_up = m }))))))
   where
     near : (uses : Uses) (i : ℕ) → i < min (length uses + 1) (length scope.tables.conditions) → i < length uses + 1
     near uses i h = omega (arith, h)

@@ -10,7 +10,8 @@ use Rattle.std.proofs.lemmas.Bool.Decides.{nat_tests, same_from_decides}
 use Rattle.std.proofs.lemmas.Slice.Eq.{bytes_eq-Decides}
 use Rattle.std.proofs.lemmas.Map.Keys.{IsDistinct-push}
 use Rattle.grammar_rules.specs.Rule.{Fits, Foul}
-use Rattle.grammar_rules.proofs.Promises.{Promises, token, gives, any, keeps, weaker}
+use Rattle.grammar_rules.specs.Rule as r
+use Rattle.grammar_rules.proofs.Promises.{Promises, token, gives, in_turn, keeps, weaker}
 use Rattle.rule_readers.specs.declared.refusal.Refusal.{Refusal}
 use Rattle.rule_readers.specs.declared.refusal.Refusal.TheVariants.{Syntax, Undefined}
 use Rattle.rule_readers.specs.Words.{Grammar, go_on_where, allowed_by, valued}
@@ -89,9 +90,9 @@ pub goes_on : (b : Bool) → Promises IsSpelled (go_on_where b) (λ _. b ≡ tru
 goes_on true = gives refl
 goes_on false = token (λ x a p e. absurd cc)
 
--- a part of which nothing is said
-pub anything : {A : Type 0} (p : Grammar A) → Promises IsSpelled p any
-anything p = keeps IsSpelled p
+-- behind a part of which nothing is said
+pub behind : {A B : Type 0} {p : Grammar A} {g : A → Grammar B} {Q : B → Type 0} → ((a : A) → Promises IsSpelled (g a) Q) → Promises IsSpelled (r.Then p g) Q
+behind {p = p} more = in_turn (keeps IsSpelled p) (λ a _. more a)
 
 -- what each value has
 pub surely : {A : Type 0} {p : Grammar A} {Q : A → Type 0} → ((a : A) → Q a) → Promises IsSpelled p Q

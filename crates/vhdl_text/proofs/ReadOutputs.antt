@@ -33,7 +33,7 @@ use Rattle.vhdl_text.specs.VhdlDeclarations.{name_of_port, output_count}
 use Rattle.vhdl_text.specs.VhdlNames.{Uses}
 use Rattle.vhdl_text.specs.VhdlOutputs.{is_lookup, lookups, output_width, lookup, a_constant, next_value, values_of, next_zero, all_zero, not_zero, equals_zero, gate_of_conditions, always, gate_of, delays, next_path, paths, Lines, output_name, has_glitch, is_unpathed, path_call, assignment, begins_line, line_by, output_lines}
 use Rattle.vhdl_text.specs.WellFormed.{IsNumber, names_procedure, names_condition, IsWrittenPath, conditions_of_gate, conditions_of_path}
-use Rattle.vhdl_text.proofs.ReadNames.{IsSpelled, same_equivalence, same_name, numbers, these_numbers, goes_on, anything}
+use Rattle.vhdl_text.proofs.ReadNames.{IsSpelled, same_equivalence, same_name, numbers, these_numbers, goes_on, behind}
 use Rattle.vhdl_text.proofs.ReadLists.{input_ports, AreLookedUp, IsNextLookUp, conditions}
 use Rattle.vhdl_text.proofs.ReadColumns.{IsSourceList, source_lists, named_where}
 
@@ -83,22 +83,17 @@ less n m h = grind (arith, nat_tests)
 looked_up : (scope : Scope) (values : List Assigned) → AreValues scope scope.tables.outputs values → Promises IsSpelled (lookup scope (lookups values)) (IsNextValue scope values)
 unfolding lookup
 looked_up scope values h =
-    in_turn (anything _) (λ a q.
-    in_turn (named_where (nat_lt (lookups values) (length scope.tables.outputs)) (codes "k_") (length scope.tables.states + lookups values + 1)) (λ b t.
-    in_turn (anything _) (λ c q2.
-    in_turn (source_lists scope (output_width scope (lookups values))) (λ sources s.
-    in_turn (anything _) (λ d q3.
-    gives (push_lookup scope scope.tables.outputs values sources (lookups values) refl h (less (lookups values) (length scope.tables.outputs) t) s))))))
+    behind (λ a. in_turn (named_where (nat_lt (lookups values) (length scope.tables.outputs)) (codes "k_") (length scope.tables.states + lookups values + 1)) (λ b t.
+    behind (λ c. in_turn (source_lists scope (output_width scope (lookups values))) (λ sources s.
+    behind (λ d. gives (push_lookup scope scope.tables.outputs values sources (lookups values) refl h (less (lookups values) (length scope.tables.outputs) t) s))))))
 
 one_value : (scope : Scope) (values : List Assigned) → AreValues scope scope.tables.outputs values → Promises IsSpelled (next_value scope values) (AreValues scope scope.tables.outputs)
 unfolding next_value a_constant
 one_value scope values h =
-    in_turn (anything _) (λ a q.
-    in_turn
-    (choice {Q = IsNextValue scope values} (λ x b p e. looked_up scope values h) (in_turn (anything _) (λ one q2. gives (push_constant scope scope.tables.outputs values one h))))
+    behind (λ a. in_turn
+    (choice {Q = IsNextValue scope values} (λ x b p e. looked_up scope values h) (behind (λ one. gives (push_constant scope scope.tables.outputs values one h))))
     (λ value v.
-    in_turn (anything _) (λ c q3.
-    gives v)))
+    behind (λ c. gives v)))
 
 -- the values of all outputs
 pub record AreAllValues (scope : Scope) (values : List Assigned) : Type 0 where
@@ -110,8 +105,7 @@ unfolding values_of
 all_values scope =
     in_turn (many {Q = AreValues scope scope.tables.outputs} tt (λ w x a q p e. one_value scope w q)) (λ values h.
     in_turn (goes_on (nat_eq (length values) (output_count scope.ports))) (λ a n.
-    in_turn (anything _) (λ b q.
-    gives (record { are = h; count = eqb-true (length values) (output_count scope.ports) n }))))
+    behind (λ b. gives (record { are = h; count = eqb-true (length values) (output_count scope.ports) n }))))
 
 -- Gates.
 
@@ -145,10 +139,8 @@ push_zero scope is before found h f = record {
 one_zero : (scope : Scope) (is : List ℕ) (before : List ℕ × Uses) → AreZeros scope is before → Promises IsSpelled (next_zero scope before) (AreZeros scope is)
 unfolding next_zero
 one_zero scope is before h =
-    in_turn (anything _) (λ a q.
-    in_turn (conditions scope (is ++ before.0) before.1 h.looked_up) (λ found f.
-    in_turn (anything _) (λ b q2.
-    gives (push_zero scope is before found h f))))
+    behind (λ a. in_turn (conditions scope (is ++ before.0) before.1 h.looked_up) (λ found f.
+    behind (λ b. gives (push_zero scope is before found h f))))
 
 some_named : (n : ℕ) → 0 < n → nat_lt 0 n ≡ true
 some_named n h = grind (arith, nat_tests)
@@ -156,8 +148,7 @@ some_named n h = grind (arith, nat_tests)
 zeros : (scope : Scope) (is : List ℕ) (first : ℕ × Uses) → IsNextLookUp scope is first → Promises IsSpelled (all_zero scope first) (IsToldGate scope is)
 unfolding all_zero
 zeros scope is first f =
-    in_turn (anything _) (λ a q.
-    in_turn
+    behind (λ a. in_turn
     (many {Q = AreZeros scope is} (record { conditions = and_from (nat_lt first.0 (length scope.tables.conditions)) true f.condition refl; some = omega arith; looked_up = f.looked_up })
     (λ w x b z p e. one_zero scope is w z))
     (λ all z.
@@ -170,15 +161,15 @@ gates scope is uses h =
     (λ x a p e.
     in_turn (conditions scope is uses h) (λ found f.
     choice
-    (λ x a p e. in_turn (anything _) (λ b q. gives (record { conditions = f.condition; named = refl; looked_up = f.looked_up })))
-    (in_turn (anything _) (λ b q. zeros scope is found f))))
-    (in_turn (anything _) (λ b q. gives (record { conditions = refl; named = refl; looked_up = subst (λ (js : List ℕ). AreLookedUp scope js uses) (sym (append-nil is)) h })))
+    (λ x a p e. behind (λ b. gives (record { conditions = f.condition; named = refl; looked_up = f.looked_up })))
+    (behind (λ b. zeros scope is found f))))
+    (behind (λ b. gives (record { conditions = refl; named = refl; looked_up = subst (λ (js : List ℕ). AreLookedUp scope js uses) (sym (append-nil is)) h })))
 
 -- Paths.
 
 times : Promises IsSpelled a_time IsNumber
 unfolding a_time
-times = in_turn numbers (λ n h. in_turn (anything _) (λ a q. gives h))
+times = in_turn numbers (λ n h. behind (λ a. gives h))
 
 record AreDelays (times : ℕ × ℕ) : Type 0 where
   rise : IsNumber times.0
@@ -187,8 +178,7 @@ record AreDelays (times : ℕ × ℕ) : Type 0 where
 all_delays : Promises IsSpelled delays AreDelays
 unfolding delays
 all_delays =
-    in_turn (anything _) (λ a q. in_turn times (λ rise r. in_turn (anything _) (λ b q2. in_turn times (λ fall f. in_turn (anything _) (λ c q3.
-    gives (record { rise = r; fall = f }))))))
+    behind (λ a. in_turn times (λ rise r. behind (λ b. in_turn times (λ fall f. behind (λ c. gives (record { rise = r; fall = f }))))))
 
 -- a path that a text can tell
 pub record IsToldPath (scope : Scope) (path : HPath) : Type 0 where
@@ -227,13 +217,10 @@ one_path : (scope : Scope) (is : List ℕ) (before : List HPath × Uses) → Are
 unfolding next_path
 one_path scope is before h =
     in_turn (these_numbers (length before.0)) (λ a n.
-    in_turn (anything _) (λ b q.
-    in_turn (input_ports scope.ports) (λ from p.
-    in_turn (anything _) (λ c q2.
-    in_turn all_delays (λ times t.
+    behind (λ b. in_turn (input_ports scope.ports) (λ from p.
+    behind (λ c. in_turn all_delays (λ times t.
     in_turn (gates scope (is ++ flat_map conditions_of_path before.0) before.1 h.looked_up) (λ when g.
-    in_turn (anything _) (λ d q3.
-    gives (push_path scope is before (record { from = from; rise = times.0; fall = times.1; gate = when.0 }) when.1 h n
+    behind (λ d. gives (push_path scope is before (record { from = from; rise = times.0; fall = times.1; gate = when.0 }) when.1 h n
     (record { starts = p; gated = g.conditions; written = record { rise = t.rise; fall = t.fall; gated = g.named } }) g.looked_up))))))))
 
 no_paths : (scope : Scope) (is : List ℕ) (uses : Uses) → AreLookedUp scope is uses → ArePaths scope is ([], uses)
@@ -249,11 +236,9 @@ no_paths scope is uses h = record {
 all_paths : (scope : Scope) (is : List ℕ) (uses : Uses) → AreLookedUp scope is uses → Promises IsSpelled (paths scope uses) (AreSomePaths scope is)
 unfolding paths
 all_paths scope is uses h =
-    in_turn (anything _) (λ a q.
-    in_turn (one_path scope is ([], uses) (no_paths scope is uses h)) (λ first f.
+    behind (λ a. in_turn (one_path scope is ([], uses) (no_paths scope is uses h)) (λ first f.
     in_turn (many f (λ w x b p q2 e. one_path scope is w p.are)) (λ all k.
-    in_turn (anything _) (λ c q3.
-    gives k))))
+    behind (λ c. gives k))))
 
 -- Lines of outputs.
 
@@ -345,16 +330,10 @@ one_line : (scope : Scope) (is : List ℕ) (lines : Lines) → AreLines scope is
     → Promises IsSpelled (line_by scope lines b) (AreLines scope is)
 unfolding path_call assignment
 one_line scope is lines h x true e =
-    in_turn (anything _) (λ a q.
-    in_turn (anything _) (λ b q2.
-    in_turn (all_paths scope (is ++ flat_map conditions_of_line lines.0) lines.1 h.looked_up) (λ found f.
-    in_turn (anything _) (λ c q3.
-    gives (push_line scope is lines found h f.are (λ none. let some = f.some in absurd (omega (arith, none, some))))))))
+    behind (λ a. behind (λ b. in_turn (all_paths scope (is ++ flat_map conditions_of_line lines.0) lines.1 h.looked_up) (λ found f.
+    behind (λ c. gives (push_line scope is lines found h f.are (λ none. let some = f.some in absurd (omega (arith, none, some))))))))
 one_line scope is lines h x false e =
-    in_turn (anything _) (λ a q.
-    in_turn (anything _) (λ b q2.
-    in_turn (anything _) (λ c q3.
-    gives (push_line scope is lines ([], lines.1) h (no_paths scope (is ++ flat_map conditions_of_line lines.0) lines.1 h.looked_up) (λ none. unpathed_name scope lines x e)))))
+    behind (λ a. behind (λ b. behind (λ c. gives (push_line scope is lines ([], lines.1) h (no_paths scope (is ++ flat_map conditions_of_line lines.0) lines.1 h.looked_up) (λ none. unpathed_name scope lines x e)))))
 
 -- the lines of all outputs
 pub record AreAllLines (scope : Scope) (is : List ℕ) (lines : Lines) : Type 0 where

@@ -25,7 +25,7 @@ use Rattle.std.specs.Prelude.{codes}
 use Rattle.vhdl_text.specs.VhdlRules.{only_element, more_elements, several_elements, elements}
 use Rattle.vhdl_text.specs.VhdlTables.{symbol_of, is_edge, next_by, next_symbol, symbols, state_in, next_in, state_row_with, state_row_of, row_end, state_width, is_as_long_as_state_rows, state_row, state_table, value_of, truth_row_with, truth_row_of, truth_width, is_as_long_as_truth_rows, truth_row, truth_table, ConstantOf, StateOrOutput, Condition, assigned_truth_table, condition_constant, output_constant, state_constant, constant_by, constant, constants}
 use Rattle.vhdl_text.specs.WellFormed.{HasOneEdge}
-use Rattle.vhdl_text.proofs.ReadNames.{IsSpelled, fits_if, fits_unless, fits_where, anything}
+use Rattle.vhdl_text.proofs.ReadNames.{IsSpelled, fits_if, fits_unless, fits_where, behind}
 
 -- Lists of elements.
 
@@ -35,10 +35,9 @@ pub all_elements : {S : Type 0} (element : S → Grammar S) (Q R : S → Type 0)
 unfolding elements only_element several_elements more_elements
 all_elements element Q R start q one back =
     choice
-    (λ x a p e. in_turn (anything _) (λ b h. one start q))
+    (λ x a p e. behind (λ b. one start q))
     (in_turn (one start q) (λ first f.
-    in_turn (anything _) (λ b h.
-    in_turn (one first (back first f)) (λ second s.
+    behind (λ b. in_turn (one first (back first f)) (λ second s.
     many s (λ w x a r p e. one w (back w r))))))
 
 -- Rows of a table of a state.
@@ -171,8 +170,7 @@ row_ends test (Some r) x row e =
 one_state_row : (rows : List VStateRow) → MayBeStateRows rows → Promises IsSpelled (state_row rows) AreStateRows
 unfolding state_row
 one_state_row rows h =
-    in_turn (anything _) (λ a q.
-    in_turn all_symbols (λ all few.
+    behind (λ a. in_turn all_symbols (λ all few.
     in_turn
     (token {Q = λ row. (state_row_of all ≡ Some row) × (is_as_long_as_state_rows rows row ≡ true)}
     (λ x row p e. row_ends (is_as_long_as_state_rows rows) (state_row_of all) x row e))
@@ -184,11 +182,7 @@ HasStateRows table = AreStateRows table.rows
 
 state_tables : Promises IsSpelled state_table HasStateRows
 unfolding state_table
-state_tables =
-    in_turn (anything _) (λ a q.
-    in_turn (all_elements state_row MayBeStateRows AreStateRows [] (inl refl) one_state_row (λ w r. inr r)) (λ rows h.
-    in_turn (anything _) (λ b q2.
-    gives h)))
+state_tables = behind (λ a. in_turn (all_elements state_row MayBeStateRows AreStateRows [] (inl refl) one_state_row (λ w r. inr r)) (λ rows h. behind (λ b. gives h)))
 
 -- Rows of a truth table.
 
@@ -236,9 +230,7 @@ push_truth_row (first ∷ rows) row (inr h) wide long = record {
 one_truth_row : (rows : List TruthRow) → MayBeTruthRows rows → Promises IsSpelled (truth_row rows) AreTruthRows
 unfolding truth_row
 one_truth_row rows h =
-    in_turn (anything _) (λ a q.
-    in_turn (anything _) (λ all q2.
-    in_turn
+    behind (λ a. behind (λ all. in_turn
     (token {Q = λ row. (truth_row_of all ≡ Some row) × (is_as_long_as_truth_rows rows row ≡ true)}
     (λ x row p e. row_ends (is_as_long_as_truth_rows rows) (truth_row_of all) x row e))
     (λ row f. gives (push_truth_row rows row h (truth_row_is all row f.0) f.1))))
@@ -249,11 +241,7 @@ HasTruthRows table = AreTruthRows table.rows
 
 truth_tables : Promises IsSpelled truth_table HasTruthRows
 unfolding truth_table
-truth_tables =
-    in_turn (anything _) (λ a q.
-    in_turn (all_elements truth_row MayBeTruthRows AreTruthRows [] (inl refl) one_truth_row (λ w r. inr r)) (λ rows h.
-    in_turn (anything _) (λ b q2.
-    gives h)))
+truth_tables = behind (λ a. in_turn (all_elements truth_row MayBeTruthRows AreTruthRows [] (inl refl) one_truth_row (λ w r. inr r)) (λ rows h. behind (λ b. gives h)))
 
 -- Constants.
 
@@ -264,23 +252,22 @@ pub record AreTables (tables : Tables) : Type 0 where
 
 assigned : Promises IsSpelled assigned_truth_table HasTruthRows
 unfolding assigned_truth_table
-assigned = in_turn (anything _) (λ a q. in_turn truth_tables (λ table t. in_turn (anything _) (λ b q2. gives t)))
+assigned = behind (λ a. in_turn truth_tables (λ table t. behind (λ b. gives t)))
 
 by_kind : (tables : Tables) → AreTables tables → (of : ConstantOf) → Promises IsSpelled (constant_by tables of) AreTables
 unfolding state_constant output_constant condition_constant
 by_kind tables h StateOrOutput =
     choice
-    (λ x a p e. in_turn (anything _) (λ b q. in_turn state_tables (λ table t. in_turn (anything _) (λ c q2.
-    gives (record { states = All-push HasStateRows tables.states table h.states t; conditions = h.conditions; outputs = h.outputs })))))
-    (in_turn (anything _) (λ b q. in_turn assigned (λ table t.
+    (λ x a p e. behind (λ b. in_turn state_tables (λ table t. behind (λ c. gives (record { states = All-push HasStateRows tables.states table h.states t; conditions = h.conditions; outputs = h.outputs })))))
+    (behind (λ b. in_turn assigned (λ table t.
     gives (record { states = h.states; conditions = h.conditions; outputs = All-push HasTruthRows tables.outputs table h.outputs t }))))
 by_kind tables h Condition =
-    in_turn (anything _) (λ b q. in_turn assigned (λ table t.
+    behind (λ b. in_turn assigned (λ table t.
     gives (record { states = h.states; conditions = All-push HasTruthRows tables.conditions table h.conditions t; outputs = h.outputs })))
 
 one_constant : (tables : Tables) → AreTables tables → Promises IsSpelled (constant tables) AreTables
 unfolding constant
-one_constant tables h = in_turn (anything _) (λ of q. in_turn (anything _) (λ a q2. by_kind tables h of))
+one_constant tables h = behind (λ of. behind (λ a. by_kind tables h of))
 
 pub all_tables : Promises IsSpelled constants AreTables
 unfolding constants

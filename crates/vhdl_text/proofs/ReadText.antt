@@ -15,7 +15,7 @@ use Rattle.vhdl_text.specs.VhdlRules.{is_among, new_name}
 use Rattle.vhdl_text.specs.VhdlNames.{Uses}
 use Rattle.vhdl_text.specs.VhdlText.{are_looked_up, entity_end, statements, entity, entity_names, next_entity, file, IsVhdlText, text_tokens}
 use Rattle.vhdl_text.specs.WellFormed.{IsEntityName, AreApart, IsNumber, part_count, conditions_of_check, IsWellFormedEntity, AreWellFormed}
-use Rattle.vhdl_text.proofs.ReadNames.{IsSpelled, a_name, fits_if, fits_unless, push_apart, where_holds, anything, surely}
+use Rattle.vhdl_text.proofs.ReadNames.{IsSpelled, a_name, fits_if, fits_unless, push_apart, where_holds, behind, surely}
 use Rattle.vhdl_text.proofs.ReadTokens.{tokens_spelled}
 use Rattle.vhdl_text.proofs.ReadHeaders.{IsScope, scopes}
 use Rattle.vhdl_text.proofs.ReadChecks.{all_checks}
@@ -39,7 +39,7 @@ new_names names = token (λ x name p e.
 ends : (scope : Scope) (uses : Uses) → Promises IsSpelled (entity_end scope uses) (λ _. are_looked_up scope uses ≡ true)
 unfolding entity_end
 ends scope uses =
-    in_turn (anything _) (λ a q. in_turn (where_holds (are_looked_up scope uses) Undriven (codes "end")) (λ b h. surely (λ c. h)))
+    behind (λ a. in_turn (where_holds (are_looked_up scope uses) Undriven (codes "end")) (λ b h. surely (λ c. h)))
 
 -- an entity behind others of these names
 record IsNewEntity (names : List (List ℕ)) (e : VEntity) : Type 0 where
@@ -51,8 +51,7 @@ stated : (names : List (List ℕ)) (name : List ℕ) (scope : Scope) → IsNewNa
 unfolding statements
 stated names name scope new s =
     in_turn (all_checks scope) (λ all c.
-    in_turn (anything _) (λ a q.
-    in_turn (all_states scope) (λ columns states.
+    behind (λ a. in_turn (all_states scope) (λ columns states.
     in_turn (all_values scope) (λ values v.
     in_turn (all_lines scope (flat_map conditions_of_check all.checks) all.uses c.are.looked_up) (λ lines l.
     in_turn (ends scope lines.1) (λ b u.
@@ -66,9 +65,7 @@ stated names name scope new s =
 entities : (names : List (List ℕ)) → Promises IsSpelled (entity names) (IsNewEntity names)
 unfolding entity
 entities names =
-    in_turn (anything _) (λ a q.
-    in_turn (anything _) (λ b q2.
-    in_turn (new_names names) (λ name new.
+    behind (λ a. behind (λ b. in_turn (new_names names) (λ name new.
     in_turn (scopes name) (λ scope s.
     stated names name scope new s))))
 
@@ -94,26 +91,11 @@ files : Promises IsSpelled file AreRead
 unfolding file
 files = in_turn (many none_read (λ w x a q p e. one_entity w q)) (λ es h. last h)
 
-well_formed : (e : VEntity) → IsReadEntity e → IsNumber (part_count e) → IsWellFormedEntity e
-well_formed e h few = record {
-  name = h.name;
-  ports = h.ports;
-  apart = h.apart;
-  sound = h.sound;
-  states = h.states;
-  conditions = h.conditions;
-  in_order = h.in_order;
-  outputs = h.outputs;
-  assignable = h.assignable;
-  limits = h.limits;
-  few = few;
-}
-
 pub text_entities : (bytes : List ℕ) (es : List VEntity) → IsNumber (length bytes) → IsVhdlText bytes es → AreWellFormed es
 text_entities bytes es number h =
     let read = (files.kept (text_tokens bytes) es [] (tokens_spelled bytes) h.takes).0 in
     record {
-      entities = λ k d below. well_formed (get_or es k d) (read.entities k d below) (few k d below);
+      entities = λ k d below. read.entities k d below (few k d below);
       apart = read.apart;
     }
   where

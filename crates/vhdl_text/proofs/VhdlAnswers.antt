@@ -2,7 +2,6 @@
 use Rattle.std.proofs.Common.{◌≡◌, ℕ, List, [], refl}
 use Rattle.grammar_rules.specs.Rule.{Takes}
 use Rattle.rule_readers.proofs.TextAnswers as answers
-use Rattle.rule_readers.proofs.TextAnswers.{Known}
 use Rattle.udp_tables.proofs.ModelFaultPlaces.{place_of_fault}
 use Rattle.vital_models.specs.declared.model.VEntity.{VEntity}
 use Rattle.vhdl_text.specs.VhdlText.{file, language, IsVhdlAnswer, vhdl_text}
@@ -12,10 +11,7 @@ file_ends : (s : List (List ℕ)) (a : List VEntity) (r : List (List ℕ)) → T
 unfolding file
 file_ends s a r (all, n, i, (e, j, k)) = k
 
-known : Known language
-known = record { place_of_lexical = λ at. refl; place_of_fault = place_of_fault; file_ends = file_ends }
-
 -- a text is entities, or it has a fault, and not both, as the function of its bytes says
 pub is_answer : (bytes : List ℕ) → IsVhdlAnswer bytes
 unfolding vhdl_text
-is_answer bytes = let a = answers.is_answer language known bytes in record { entities = a.value; fault = a.fault }
+is_answer bytes = let a = answers.is_answer language (record { place_of_lexical = λ at. refl; place_of_fault = place_of_fault; file_ends = file_ends }) bytes in record { entities = a.value; fault = a.fault }

@@ -107,12 +107,11 @@ advance_ends o m n s t xs scans limit_is none h nothing limit_on answer_is waits
   takes = h;
   limit = limit_on ∙ limit_is;
   stands = λ bytes items g.
-      (let there = (scans bytes items g).keeps in
-      let k = taken_within m bytes items m.limit there m.within in
+      (let k = taken_within m bytes items m.limit (scans bytes items g).keeps m.within in
       let same : bytes ++ xs ≡ bytes = ap (λ (b : List ℕ). bytes ++ b) nothing ∙ append-nil bytes in
       subst (λ (b : List ℕ). Stands n b items) (sym same)
       (stands_by n (Some (answer_at m.place m.part.before m.part.bytes true)) bytes items (items_in (part_outcome m.place m.part.before m.part.bytes)) answer_is waits
-      (knows_end m n bytes items none limit_on there) (omega (arith, k, limit_on))
+      (knows_end m n bytes items none limit_on (scans bytes items g).keeps) (omega (arith, k, limit_on))
       (subst (λ (b : List ℕ). HasGiven b items) same (given_of_going o bytes xs items (none_few xs nothing) g))));
   given = λ bytes items g. given_of_going o bytes xs items (none_few xs nothing) g;
   ended = λ _. nothing_after s t xs h source;
@@ -126,12 +125,11 @@ advance_stops o m n s t xs y scans limit_is none full h one limit_on answer_is w
   takes = h;
   limit = limit_on ∙ limit_is;
   stands = λ bytes items g.
-      (let there = (scans bytes items g).keeps in
-      let k = taken_within m bytes items m.limit there m.within in
+      (let k = taken_within m bytes items m.limit (scans bytes items g).keeps m.within in
       let j = length-append bytes (y ∷ []) in
       subst (λ (b : List ℕ). Stands n (bytes ++ b) items) (sym one)
       (stands_by n (Some (answer_at m.place m.part.before m.part.bytes false)) (bytes ++ y ∷ []) items (items_in (part_outcome m.place m.part.before m.part.bytes)) answer_is waits
-      (knows_limit m n bytes y items none limit_on full there) (omega (arith, k, j, limit_on))
+      (knows_limit m n bytes y items none limit_on full (scans bytes items g).keeps) (omega (arith, k, j, limit_on))
       (subst (λ (b : List ℕ). HasGiven (bytes ++ b) items) one (given_of_going o bytes xs items (one_few xs y one) g))));
   given = λ bytes items g. given_of_going o bytes xs items (one_few xs y one) g;
   ended = never_ended n.answer (ap is_ended answer_is ∙ front_goes m.place m.part.before m.part.bytes);

@@ -52,51 +52,29 @@ left_true false y e = absurd cc
 
 open_plain : (k : TokenKind) → is_mark mark.Open k ≡ true → IsPlain k
 open_plain (kind.Brace b) e = brace_plain b 40 e refl refl
-open_plain kind.Word e = absurd cc
-open_plain kind.Text e = absurd cc
-open_plain kind.Colon e = absurd cc
-open_plain kind.Semicolon e = absurd cc
-open_plain kind.Comma e = absurd cc
+open_plain _ e = absurd cc
 
 close_plain : (k : TokenKind) → is_mark mark.Close k ≡ true → IsPlain k
 close_plain (kind.Brace b) e = brace_plain b 41 e refl refl
-close_plain kind.Word e = absurd cc
-close_plain kind.Text e = absurd cc
-close_plain kind.Colon e = absurd cc
-close_plain kind.Semicolon e = absurd cc
-close_plain kind.Comma e = absurd cc
+close_plain _ e = absurd cc
 
 colon_plain : (k : TokenKind) → is_mark mark.Colon k ≡ true → IsPlain k
-colon_plain (kind.Brace b) e = absurd cc
-colon_plain kind.Word e = absurd cc
-colon_plain kind.Text e = absurd cc
 colon_plain kind.Colon e = (refl, refl)
-colon_plain kind.Semicolon e = absurd cc
-colon_plain kind.Comma e = absurd cc
+colon_plain _ e = absurd cc
 
 begin_begins : (k : TokenKind) → is_mark mark.Begin k ≡ true → begins_group k ≡ true
 begin_begins (kind.Brace b) e = e
-begin_begins kind.Word e = absurd cc
-begin_begins kind.Text e = absurd cc
-begin_begins kind.Colon e = absurd cc
-begin_begins kind.Semicolon e = absurd cc
-begin_begins kind.Comma e = absurd cc
+begin_begins _ e = absurd cc
 
 end_ends : (k : TokenKind) → is_mark mark.End k ≡ true → ends_group k ≡ true
 end_ends (kind.Brace b) e = e
-end_ends kind.Word e = absurd cc
-end_ends kind.Text e = absurd cc
-end_ends kind.Colon e = absurd cc
-end_ends kind.Semicolon e = absurd cc
-end_ends kind.Comma e = absurd cc
+end_ends _ e = absurd cc
 
 argument_plain : (k : TokenKind) → is_argument k ≡ true → IsPlain k
-argument_plain (kind.Brace b) e = absurd cc
 argument_plain kind.Word e = (refl, refl)
 argument_plain kind.Text e = (refl, refl)
-argument_plain kind.Colon e = absurd cc
-argument_plain kind.Semicolon e = absurd cc
 argument_plain kind.Comma e = (refl, refl)
+argument_plain _ e = absurd cc
 
 value_plain : (k : TokenKind) → is_value k ≡ true → IsPlain k
 value_plain (kind.Brace b) e = elim (either_true (b == 40) (b == 41) e) [ inl f ↦ brace_plain b 40 f refl refl | inr f ↦ brace_plain b 41 f refl refl ]
@@ -107,12 +85,8 @@ value_plain kind.Semicolon e = absurd cc
 value_plain kind.Comma e = (refl, refl)
 
 word_is_plain : (k : TokenKind) → is_word k ≡ true → IsPlain k
-word_is_plain (kind.Brace b) e = absurd cc
 word_is_plain kind.Word e = (refl, refl)
-word_is_plain kind.Text e = absurd cc
-word_is_plain kind.Colon e = absurd cc
-word_is_plain kind.Semicolon e = absurd cc
-word_is_plain kind.Comma e = absurd cc
+word_is_plain _ e = absurd cc
 
 part_plain : (p : ValuePlace) (t : Token) → goes_on p t ≡ true → IsPlain t.kind
 part_plain part.Arguments t e = argument_plain t.kind e
@@ -120,20 +94,12 @@ part_plain part.ValueStart t e = value_plain t.kind e
 part_plain part.Value t e = value_plain t.kind (left_true (is_value t.kind) _ e)
 
 pub named_plain : (k : TokenKind) → start_by k ≡ start.Named → IsPlain k
-named_plain (kind.Brace b) e = absurd cc
 named_plain kind.Word e = (refl, refl)
-named_plain kind.Text e = absurd cc
-named_plain kind.Colon e = absurd cc
-named_plain kind.Semicolon e = absurd cc
-named_plain kind.Comma e = absurd cc
+named_plain _ e = absurd cc
 
 pub empty_plain : (k : TokenKind) → start_by k ≡ start.Empty → IsPlain k
-empty_plain (kind.Brace b) e = absurd cc
-empty_plain kind.Word e = absurd cc
-empty_plain kind.Text e = absurd cc
-empty_plain kind.Colon e = absurd cc
 empty_plain kind.Semicolon e = (refl, refl)
-empty_plain kind.Comma e = absurd cc
+empty_plain _ e = absurd cc
 
 -- walks over tokens that are no braces of groups
 

@@ -32,22 +32,12 @@ not_text : (k : TokenKind) → Some Text ≡ Some k → ends_by k ≡ true → �
 not_text k e h = let f : false ≡ true = ap ends_by (some_same Text k e) ∙ h in absurd cc
 
 word_closes : (begun at b : ℕ) (line : Bool) (c : Class) → Closes (after_token (token Word begun at line) (opened_by false at b c))
-word_closes begun at b line LineEnd k e h = absurd (not_word k e h)
-word_closes begun at b line Blank k e h = absurd (not_word k e h)
 word_closes begun at b line (Mark kind) k e h = refl
-word_closes begun at b line Quote k e h = absurd (not_word k e h)
-word_closes begun at b line Backslash k e h = absurd (not_word k e h)
-word_closes begun at b line WordByte k e h = absurd (not_word k e h)
-word_closes begun at b line Bad k e h = absurd (not_word k e h)
+word_closes begun at b line _ k e h = absurd (not_word k e h)
 
 in_word_closes : (begun at b : ℕ) (line : Bool) (c : Class) → Closes (in_word_by begun line at b c)
-in_word_closes begun at b line LineEnd = word_closes begun at b line (class_of b)
-in_word_closes begun at b line Blank = word_closes begun at b line (class_of b)
-in_word_closes begun at b line (Mark kind) = word_closes begun at b line (class_of b)
-in_word_closes begun at b line Quote = word_closes begun at b line (class_of b)
-in_word_closes begun at b line Backslash = word_closes begun at b line (class_of b)
 in_word_closes begun at b line WordByte = λ k e h. absurd cc
-in_word_closes begun at b line Bad = word_closes begun at b line (class_of b)
+in_word_closes begun at b line _ = word_closes begun at b line (class_of b)
 
 choice_closes : (x : Bool) (p q : Mode × List Token) → Closes p → Closes q → Closes (cond x p q)
 choice_closes true p q h i = h

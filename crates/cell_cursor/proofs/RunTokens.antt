@@ -34,22 +34,12 @@ opened_few line at b WordByte = refl
 opened_few line at b Bad = refl
 
 word_few : (begun at b : ℕ) (line : Bool) (c : Class) → GiveFew (after_token (token Word begun at line) (opened_by false at b c))
-word_few begun at b line LineEnd = inl refl
-word_few begun at b line Blank = inl refl
 word_few begun at b line (Mark kind) = inr refl
-word_few begun at b line Quote = inl refl
-word_few begun at b line Backslash = inl refl
-word_few begun at b line WordByte = inl refl
-word_few begun at b line Bad = inl refl
+word_few begun at b line _ = inl refl
 
 in_word_few : (begun at b : ℕ) (line : Bool) (c : Class) → GiveFew (in_word_by begun line at b c)
-in_word_few begun at b line LineEnd = word_few begun at b line (class_of b)
-in_word_few begun at b line Blank = word_few begun at b line (class_of b)
-in_word_few begun at b line (Mark kind) = word_few begun at b line (class_of b)
-in_word_few begun at b line Quote = word_few begun at b line (class_of b)
-in_word_few begun at b line Backslash = word_few begun at b line (class_of b)
 in_word_few begun at b line WordByte = refl
-in_word_few begun at b line Bad = word_few begun at b line (class_of b)
+in_word_few begun at b line _ = word_few begun at b line (class_of b)
 
 choice_few : (x : Bool) (p q : Mode × List Token) → GiveFew p → GiveFew q → GiveFew (cond x p q)
 choice_few true p q h i = h

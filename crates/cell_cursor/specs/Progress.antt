@@ -1,5 +1,5 @@
 -- How much a cursor has still to do.
-use Rattle.std.specs.Prelude.{ℕ, ◌+◌, ◌-◌, ◌*◌, Bool, true, false, length}
+use Rattle.std.specs.Prelude.{◌≡◌, ℕ, ◌+◌, ◌-◌, ◌*◌, Bool, true, false, length}
 use Rattle.cell_cursor.specs.declared.cursor.CellCursor.{CellCursor}
 use Rattle.cell_cursor.specs.declared.seeking.Scanned.{Scanned}
 use Rattle.cell_cursor.specs.declared.seeking.Scanned.TheVariants as scanned
@@ -25,3 +25,9 @@ scanned_by c = c.part.before + length c.part.bytes
 -- each byte up to the limit is read and scanned
 unfoldable pub to_do : CellCursor → ℕ
 to_do c = 2 * (c.limit - taken_by c) + length c.piece
+
+-- what is left to read stays as it is: the limit, how many bytes are taken, and those that are not scanned yet
+pub record ReadsNothing (old new : CellCursor) : Type 0 where
+  pub limit : new.limit ≡ old.limit
+  pub taken : taken_by new ≡ taken_by old
+  pub piece : new.piece ≡ old.piece

@@ -4,7 +4,7 @@ ghost use Rattle.std.specs.Prelude.{◌≡◌, ℕ, true, false, ◌≤◌, ◌+
 ghost use Rattle.liberty_text.specs.declared.scanner.Mode.TheVariants.{Between};
 ghost use Rattle.cell_cursor.specs.Finish.{part_outcome, answer_at};
 ghost use Rattle.cell_cursor.specs.Items.{items_in};
-ghost use Rattle.cell_cursor.specs.Progress.{taken_by};
+ghost use Rattle.cell_cursor.specs.Progress.{ReadsNothing};
 ghost use Rattle.cell_cursor.specs.declared.item.LibraryItem.{LibraryItem as Given};
 ghost use Rattle.cell_cursor.specs.Stands.{is_failed, is_ended, Goes, GoesBy, Stands};
 
@@ -31,9 +31,7 @@ impl CellCursor {
         ensures stands { OnOk result ((bytes : List ℕ) (items : List Given) → GoesBy may_have_ended self.old bytes items → Stands self.new bytes items) }
         ensures err { OnErr result (self.new.waiting.items ≡ []) }
         ensures open { OnOk result (is_ended self.new.answer ≡ false) }
-        ensures limit { self.new.limit ≡ self.old.limit }
-        ensures taken { taken_by self.new ≡ taken_by self.old }
-        ensures piece { self.new.piece ≡ self.old.piece }
+        ensures reading { ReadsNothing self.old self.new }
         ensures never { is_failed self.old.answer ≡ false → is_failed self.new.answer ≡ false }
     {
         let mut items = Vec::new(self.alloc);
@@ -62,9 +60,7 @@ impl CellCursor {
         ensures stands { OnOk result ((bytes : List ℕ) (items : List Given) → Goes self.old bytes items → Stands self.new bytes items) }
         ensures err { OnErr result (self.new.waiting.items ≡ []) }
         ensures open { OnOk result (is_ended self.new.answer ≡ false) }
-        ensures limit { self.new.limit ≡ self.old.limit }
-        ensures taken { taken_by self.new ≡ taken_by self.old }
-        ensures piece { self.new.piece ≡ self.old.piece }
+        ensures reading { ReadsNothing self.old self.new }
         ensures never { is_failed self.old.answer ≡ false → is_failed self.new.answer ≡ false }
     {
         let mut items = Vec::new(self.alloc);

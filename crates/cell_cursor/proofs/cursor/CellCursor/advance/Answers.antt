@@ -24,33 +24,33 @@ pub returns-in_err-take_part-in-MayEnd-clause-advances : goal.returns-in_err-tak
 returns-in_err-take_part-in-MayEnd-clause-advances g c =
     let y = err_from_is_err_and c.from_residual-in_err-take_part-in-MayEnd.result c.from_residual-in_err-take_part-in-MayEnd.ensures.1 in
     subst (λ r. Advances r c.args.self.now c.take_part.new.self (g.D.Desk.state c.args.desk.now) (g.D.Desk.state c.args.desk.now)) (sym y.1)
-    (advance_fails c.args.self.now c.take_part.new.self _ _ [] y.0 (takes_none _) (c.take_part.ensures.limit ∙ c.scan_on.ensures.limit) c.in_err-take_part-in-MayEnd.ensures.err (omega arith) (omega (arith, c.args.self.now.within)))
+    (advance_fails c.args.self.now c.take_part.new.self _ _ [] y.0 (takes_none _) (c.take_part.ensures.reading.limit ∙ c.scan_on.ensures.limit) c.in_err-take_part-in-MayEnd.ensures.err (omega arith) (omega (arith, c.args.self.now.within)))
 
 pub returns-in-MayEnd-clause-advances : goal.returns-in-MayEnd-clause-advances
 returns-in-MayEnd-clause-advances g c =
     advance_takes true c.args.self.now c.scan_on.new.self c.take_part.new.self _ (goes_by _ _ (ap may_have_ended c.in-MayEnd.is) c.in_ok-scan_on.ensures.goes)
-    c.scan_on.ensures.limit c.take_part.ensures.limit c.in_ok-take_part-in-MayEnd.ensures.stands c.in_ok-take_part-in-MayEnd.ensures.open
+    c.scan_on.ensures.limit c.take_part.ensures.reading.limit c.in_ok-take_part-in-MayEnd.ensures.stands c.in_ok-take_part-in-MayEnd.ensures.open
 
 pub returns-in-MayEnd-clause-progress : goal.returns-in-MayEnd-clause-progress
 returns-in-MayEnd-clause-progress g c = λ _.
     less_to_do c.args.self.now c.scan_on.new.self c.take_part.new.self c.scan_on.ensures.limit c.in_ok-scan_on.ensures.taken (c.in_ok-scan_on.ensures.some (ap is_whole c.in-MayEnd.is))
-    c.take_part.ensures.limit c.take_part.ensures.taken c.take_part.ensures.piece
+    c.take_part.ensures.reading.limit c.take_part.ensures.reading.taken c.take_part.ensures.reading.piece
 
 pub returns-in_err-take_part-in-Misfit-clause-advances : goal.returns-in_err-take_part-in-Misfit-clause-advances
 returns-in_err-take_part-in-Misfit-clause-advances g c =
     let y = err_from_is_err_and c.from_residual-in_err-take_part-in-Misfit.result c.from_residual-in_err-take_part-in-Misfit.ensures.1 in
     subst (λ r. Advances r c.args.self.now c.take_part-in-Misfit.new.self (g.D.Desk.state c.args.desk.now) (g.D.Desk.state c.args.desk.now)) (sym y.1)
-    (advance_fails c.args.self.now c.take_part-in-Misfit.new.self _ _ [] y.0 (takes_none _) (c.take_part-in-Misfit.ensures.limit ∙ c.scan_on.ensures.limit) c.in_err-take_part-in-Misfit.ensures.err (omega arith) (omega (arith, c.args.self.now.within)))
+    (advance_fails c.args.self.now c.take_part-in-Misfit.new.self _ _ [] y.0 (takes_none _) (c.take_part-in-Misfit.ensures.reading.limit ∙ c.scan_on.ensures.limit) c.in_err-take_part-in-Misfit.ensures.err (omega arith) (omega (arith, c.args.self.now.within)))
 
 pub returns-in-Misfit-clause-advances : goal.returns-in-Misfit-clause-advances
 returns-in-Misfit-clause-advances g c =
     advance_takes false c.args.self.now c.scan_on.new.self c.take_part-in-Misfit.new.self _ (goes_by _ _ (ap may_have_ended c.in-Misfit.is) c.in_ok-scan_on.ensures.goes)
-    c.scan_on.ensures.limit c.take_part-in-Misfit.ensures.limit c.in_ok-take_part-in-Misfit.ensures.stands c.in_ok-take_part-in-Misfit.ensures.open
+    c.scan_on.ensures.limit c.take_part-in-Misfit.ensures.reading.limit c.in_ok-take_part-in-Misfit.ensures.stands c.in_ok-take_part-in-Misfit.ensures.open
 
 pub returns-in-Misfit-clause-progress : goal.returns-in-Misfit-clause-progress
 returns-in-Misfit-clause-progress g c = λ _.
     less_to_do c.args.self.now c.scan_on.new.self c.take_part-in-Misfit.new.self c.scan_on.ensures.limit c.in_ok-scan_on.ensures.taken (c.in_ok-scan_on.ensures.some (ap is_whole c.in-Misfit.is))
-    c.take_part-in-Misfit.ensures.limit c.take_part-in-Misfit.ensures.taken c.take_part-in-Misfit.ensures.piece
+    c.take_part-in-Misfit.ensures.reading.limit c.take_part-in-Misfit.ensures.reading.taken c.take_part-in-Misfit.ensures.reading.piece
 
 pub returns-in_ok-take_end-clause-never : goal.returns-in_ok-take_end-clause-never
 returns-in_ok-take_end-clause-never g c = never_by _ _ _ _ _ c.in_ok-take_end.ensures.answer
@@ -97,14 +97,14 @@ pub returns-in_err-take_before_name-in-Name-clause-advances : goal.returns-in_er
 returns-in_err-take_before_name-in-Name-clause-advances g c =
     let y = err_from_is_err_and c.from_residual-in_err-take_before_name-in-Name.result c.from_residual-in_err-take_before_name-in-Name.ensures.1 in
     subst (λ r. Advances r c.args.self.now c.take_before_name.new.self (g.D.Desk.state c.args.desk.now) (g.D.Desk.state c.args.desk.now)) (sym y.1)
-    (advance_fails c.args.self.now c.take_before_name.new.self _ _ [] y.0 (takes_none _) (c.take_before_name.ensures.limit ∙ c.scan_on.ensures.limit) c.in_err-take_before_name-in-Name.ensures.err (omega arith) (omega (arith, c.args.self.now.within)))
+    (advance_fails c.args.self.now c.take_before_name.new.self _ _ [] y.0 (takes_none _) (c.take_before_name.ensures.reading.limit ∙ c.scan_on.ensures.limit) c.in_err-take_before_name-in-Name.ensures.err (omega arith) (omega (arith, c.args.self.now.within)))
 
 pub returns-in-Name-clause-advances : goal.returns-in-Name-clause-advances
 returns-in-Name-clause-advances g c =
     advance_takes false c.args.self.now c.scan_on.new.self c.take_before_name.new.self _ (goes_by _ _ (ap may_have_ended c.in-Name.is) c.in_ok-scan_on.ensures.goes)
-    c.scan_on.ensures.limit c.take_before_name.ensures.limit c.in_ok-take_before_name-in-Name.ensures.stands c.in_ok-take_before_name-in-Name.ensures.open
+    c.scan_on.ensures.limit c.take_before_name.ensures.reading.limit c.in_ok-take_before_name-in-Name.ensures.stands c.in_ok-take_before_name-in-Name.ensures.open
 
 pub returns-in-Name-clause-progress : goal.returns-in-Name-clause-progress
 returns-in-Name-clause-progress g c = λ _.
     less_to_do c.args.self.now c.scan_on.new.self c.take_before_name.new.self c.scan_on.ensures.limit c.in_ok-scan_on.ensures.taken (c.in_ok-scan_on.ensures.some (ap is_whole c.in-Name.is))
-    c.take_before_name.ensures.limit c.take_before_name.ensures.taken c.take_before_name.ensures.piece
+    c.take_before_name.ensures.reading.limit c.take_before_name.ensures.reading.taken c.take_before_name.ensures.reading.piece

@@ -7,12 +7,12 @@ go_on_with-requires c =
     let size = cut_size c.args.self.now.place c.args.self.now.part c.in-Some.rest _ c.in_ok-rest.field-0 c.in_ok-rest.ensures c.in-Some.is in
     omega (arith, size, c.args.self.now.within)
 
-pub returns-in-Some-clause-taken : goal.returns-in-Some-clause-taken
-returns-in-Some-clause-taken c =
+pub returns-in-Some-clause-reading : goal.returns-in-Some-clause-reading
+returns-in-Some-clause-reading c =
     let size = cut_size c.args.self.now.place c.args.self.now.part c.in-Some.rest _ c.in_ok-rest.field-0 c.in_ok-rest.ensures c.in-Some.is in
     let part = ap (λ p. p.before + length p.bytes) c.go_on_with.ensures.part in
     let piece = ap length c.go_on_with.ensures.piece in
-    omega (arith, size, part, piece)
+    record { limit = c.go_on_with.ensures.limit; taken = omega (arith, size, part, piece); piece = c.go_on_with.ensures.piece }
 
 pub returns-in-Some-clause-stands : goal.returns-in-Some-clause-stands
 returns-in-Some-clause-stands c =

@@ -15,7 +15,7 @@ use Rattle.cell_machine.specs.declared.outputs.OutputPin.{OutputPin}
 use Rattle.cell_machine.specs.declared.checks.Check.{Check}
 use Rattle.cell_machine.specs.declared.arcs.Arc.{Arc}
 use Rattle.cell_machine.specs.CellData.{CellData}
-use Rattle.cell_machine.specs.CellRules.{is_ascending, is_output, is_input_pin, is_output_pin, output_pins_from, is_source, is_output_of, is_support, is_group, are_groups_from, HoldsRules}
+use Rattle.cell_machine.specs.CellRules.{is_ascending, is_output, is_input_pin, is_output_pin, output_pins_from, is_source, is_output_of, are_groups_from, HoldsRules}
 use Rattle.cell_machine.specs.Names.{state_name}
 use Rattle.cell_machine.specs.Step.{group_step}
 use Rattle.cell_machine.specs.Supports.{Ascending}
@@ -23,6 +23,7 @@ use Rattle.cell_machine.specs.CellTrace.{NamedGroup, named_from, step_of, suppor
 use Rattle.cell_machine.proofs.StepLemmas.{ascending}
 use Rattle.udp_tables.specs.Conditions.{condition_list, arc_conditions, used_conditions, conditions_of, condition_place}
 use Rattle.udp_tables.specs.Laws.{ConditionsAreNumbered}
+use Rattle.udp_tables.proofs.CellParts.{group_support-at}
 use Rattle.specify_blocks.proofs.OutputPins.{outputs_are_pins}
 
 -- a group at its place, with the name of its state
@@ -57,17 +58,6 @@ step-is d i g h =
     λ n before after s.
     option_map_or (λ (group : StateGroup). group_step (sym h.name n) group before after s) (h.at n) Unknown
 
-group-at :
-    (pins : List Pin) (name : ℕ) (groups : List StateGroup) (i : ℕ) (group : StateGroup)
-    → IsTrue (are_groups_from pins name groups) → slice_get groups i ≡ Some group → IsTrue (is_support pins group.support)
-group-at pins name [] i group h e = absurd cc
-group-at pins name (x ∷ xs) zero group h e =
-    let parts = and_parts (is_group pins name x) (are_groups_from pins (name + 2) xs) h in
-    let same : x ≡ group = cc in
-    subst (λ (y : StateGroup). IsTrue (is_support pins y.support)) same (and_parts (is_support pins x.support) _ parts.0).0
-group-at pins name (x ∷ xs) (suc i) group h e =
-    group-at pins (name + 2) xs i group (and_parts (is_group pins name x) (are_groups_from pins (name + 2) xs) h).1 e
-
 -- the support of a group as its steps need it
 pub record IsSupport (pins : List Pin) (support : List ℕ) : Type 0 where
   pub inputs : IsTrue (list_all (is_input_pin pins) support)
@@ -77,7 +67,7 @@ pub supported :
     (pins : List Pin) (name : ℕ) (groups : List StateGroup) (i : ℕ) (group : StateGroup)
     → IsTrue (are_groups_from pins name groups) → slice_get groups i ≡ Some group → IsSupport pins group.support
 supported pins name groups i group h e =
-    let some = and_parts _ _ (group-at pins name groups i group h e) in
+    let some = and_parts _ _ (group_support-at pins name groups i group h e) in
     let few = and_parts _ _ some.1 in
     let parts = and_parts (is_ascending group.support) (list_all (is_input_pin pins) group.support) few.1 in
     record { inputs = parts.1; ascends = ascending group.support parts.0 }

@@ -3,10 +3,4 @@
 #![tactic(auto)]
 
 #[cfg(test)]
-mod pin_timings;
-#[cfg(test)]
-mod port_names;
-#[cfg(test)]
-mod stimuli;
-#[cfg(test)]
-mod verilog_texts;
+mod tests;

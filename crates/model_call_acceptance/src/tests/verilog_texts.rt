@@ -7,46 +7,17 @@ use verilog_reader::read_models;
 
 /// Its rows are in plain form, one for each prime; those that are written today are in compact form.
 const FLIP_FLOP: &[u8] = b"`timescale 1ps/1ps
-primitive lib_1_1 (q, i1, i2, i3);
-  output q;
-  reg q;
-  input i1;
-  input i2;
-  input i3;
+primitive lib_1_1 (q, i1, i2, i3); output q; reg q; input i1; input i2; input i3;
   table
-    ? ? * : ? : x;
-    (01) 1 ? : ? : 1;
-    (1?) ? ? : 1 : 1;
-    (?0) ? ? : 1 : 1;
-    * 1 ? : 1 : 1;
-    (01) 0 ? : ? : 0;
-    (1?) ? ? : 0 : 0;
-    (?0) ? ? : 0 : 0;
-    * 0 ? : 0 : 0;
-    ? * ? : 1 : 1;
-    ? * ? : 0 : 0;
+    ? ? * : ? : x; ? * ? : 1 : 1; ? * ? : 0 : 0;
+    (01) 1 ? : ? : 1; (1?) ? ? : 1 : 1; (?0) ? ? : 1 : 1; * 1 ? : 1 : 1;
+    (01) 0 ? : ? : 0; (1?) ? ? : 0 : 0; (?0) ? ? : 0 : 0; * 0 ? : 0 : 0;
   endtable
 endprimitive
-primitive lib_1_2 (q, i1);
-  output q;
-  input i1;
-  table
-    1 : 1;
-    0 : 0;
-  endtable
-endprimitive
-module FD1 (CP, D, Q);
-  input CP;
-  input D;
-  output Q;
-  wire lib_s1;
-  reg lib_n;
-  lib_1_1 (lib_s1, CP, D, lib_n);
-  lib_1_2 (Q, lib_s1);
-  specify
-    (CP => Q) = (100, 120);
-    $setup(D, posedge CP, 50, lib_n);
-  endspecify
+primitive lib_1_2 (q, i1); output q; input i1; table 1 : 1; 0 : 0; endtable endprimitive
+module FD1 (CP, D, Q); input CP; input D; output Q; wire lib_s1; reg lib_n;
+  lib_1_1 (lib_s1, CP, D, lib_n); lib_1_2 (Q, lib_s1);
+  specify (CP => Q) = (100, 120); $setup(D, posedge CP, 50, lib_n); endspecify
 endmodule
 ";
 
@@ -93,26 +64,17 @@ table (01) (01) : ? : 1; endtable endprimitive";
 
 /// Whether a text is refused for a second change in a row, at this offset.
 fn has_two_changes(alloc: Global, text: &[u8], at: usize) -> bool {
-    match read_models(alloc, text) {
-        Err(ModelFault::TwoEdges(found)) => found == at,
-        _ => false,
-    }
+    matches!(read_models(alloc, text), Err(ModelFault::TwoEdges(found)) if found == at)
 }
 
 /// Whether a text is refused at this offset, where no text goes on so.
 fn is_misspelled(alloc: Global, text: &[u8], at: usize) -> bool {
-    match read_models(alloc, text) {
-        Err(ModelFault::Syntax(found)) => found == at,
-        _ => false,
-    }
+    matches!(read_models(alloc, text), Err(ModelFault::Syntax(found)) if found == at)
 }
 
 /// Whether a text is refused at this offset, where no token begins.
 fn has_no_token(alloc: Global, text: &[u8], at: usize) -> bool {
-    match read_models(alloc, text) {
-        Err(ModelFault::Lexical(found)) => found == at,
-        _ => false,
-    }
+    matches!(read_models(alloc, text), Err(ModelFault::Lexical(found)) if found == at)
 }
 
 /// Whether a text is read.

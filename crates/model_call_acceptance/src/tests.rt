@@ -1,0 +1,5 @@
+//! The tests, and what they share.
+mod pin_timings;
+mod port_names;
+mod stimuli;
+mod verilog_texts;

@@ -5,5 +5,5 @@
 mod refusals;
 mod status;
 
-pub use refusals::write_refusal;
+pub use refusals::RefusalText;
 pub use status::{Status, ended};

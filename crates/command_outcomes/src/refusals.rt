@@ -1,39 +1,32 @@
 //! How a line tells that something is refused.
-ghost use Rattle.std.specs.Prelude.{IsTrue};
-ghost use Rattle.text_io.specs.declared.slots.Slot.TheVariants.{Output};
-ghost use Rattle.text_io.specs.Desk.{is_bound, HasCause, WritesText};
 ghost use Rattle.command_outcomes.specs.Refusals.{refusal_text};
 
-use itoa::Buffer;
-use text_io::{Desk, Failed, OutSlot, write_pieces};
+use text_io::{Desk, Line, OutSlot};
+use text_parts::{Bytes, Decimal, Part, Put, parts};
 
-/// Appends the end of a line on something that is refused: the number and the word of the reason, and the offset, from 0, of what
-/// meets it. After `Failed`, which comes only where a write failed, a prefix of it was appended. It takes no memory.
-#[tactic(auto, unfolding(crate::specs::Refusals::refusal_text))]
-pub fn write_refusal<D: Desk>(
-    desk: &mut D,
-    slot: OutSlot,
-    number: u8,
-    word: &[u8],
-    at: usize,
-) -> Result<(), Failed>
-    requires { IsTrue (is_bound (D.state desk.old) (Output slot)) }
-    ensures text { WritesText (D.state desk.old) (D.state desk.new) slot (refusal_text number word.now at) result }
-    ensures cause { HasCause (D.faults desk.old) (D.faults desk.new) result }
-{
-    let mut reason = Buffer::new();
-    let mut offset = Buffer::new();
-    write_pieces(
-        desk,
-        slot,
-        &[
-            b" refused ",
-            reason.format(number).as_bytes(),
-            b" ",
-            word,
-            b" at ",
-            offset.format(at).as_bytes(),
-            b"\n",
-        ],
-    )
+/// The end of a line on something that is refused.
+#[derive(Drop)]
+pub struct RefusalText<'a> {
+    /// The number of the reason.
+    pub number: u8,
+    /// The word of the reason.
+    pub word: &'a [u8],
+    /// The offset, from 0, of what meets the reason.
+    pub at: usize,
+}
+
+impl Part for RefusalText<'_> {
+    ghost text = { λ r. refusal_text r.number r.word.now r.at };
+
+    #[tactic(auto, unfolding(crate::specs::Refusals::refusal_text))]
+    fn put<D: Desk>(&self, line: &mut Line, desk: &mut D, slot: OutSlot) -> Put {
+        let place = parts!(Bytes(b" at "), Decimal(self.at as u128), Bytes(b"\n"));
+        let reason = parts!(
+            Decimal(self.number as u128),
+            Bytes(b" "),
+            Bytes(self.word),
+            place
+        );
+        parts!(Bytes(b" refused "), reason).put(line, desk, slot)
+    }
 }

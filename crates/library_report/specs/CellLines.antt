@@ -10,6 +10,10 @@ use Rattle.command_outcomes.specs.Refusals.{refusal_text}
 unfoldable pub printed_name : List ℕ → List ℕ
 printed_name name = if is_name name then name else codes "?"
 
+-- the end of a line on a cell that is refused, with the offset of the statement or group that meets the reason
+abbrev pub refusal_line : Refusal → List ℕ
+refusal_line refusal = refusal_text (number_of_reason refusal.reason) (word_of_reason refusal.reason) refusal.at
+
 -- the front of a line on a cell: its number and its name
 unfoldable pub cell_text : ℕ → List ℕ → List ℕ
 cell_text number name = codes "cell " ++ (decimal number ++ (codes " " ++ printed_name name))
@@ -18,9 +22,9 @@ cell_text number name = codes "cell " ++ (decimal number ++ (codes " " ++ printe
 unfoldable pub accepted_line : ℕ → List ℕ → List ℕ
 accepted_line number name = cell_text number name ++ codes " ok\n"
 
--- a cell that is refused, with the offset of the statement or group that meets the reason
+-- a cell that is refused
 unfoldable pub refused_line : ℕ → List ℕ → Refusal → List ℕ
-refused_line number name refusal = cell_text number name ++ refusal_text (number_of_reason refusal.reason) (word_of_reason refusal.reason) refusal.at
+refused_line number name refusal = cell_text number name ++ refusal_line refusal
 
 -- the last line of a library that was read to its end
 unfoldable pub totals_line : ℕ → ℕ → List ℕ

@@ -1,30 +1,75 @@
 //! What became of the cells of a library.
-ghost use Rattle.std.specs.Prelude.{◌≡◌};
 ghost use Rattle.text_io.specs.declared.slots.OutSlot.TheVariants.{Report};
 ghost use Rattle.text_io.specs.Desk.{HasCause, WritesText};
-ghost use Rattle.library_report.specs.CellLines.{cell_text, printed_name as printed_name_of, accepted_line, refused_line, totals_line};
+ghost use Rattle.library_report.specs.CellLines.{cell_text, printed_name, refusal_line, accepted_line, refused_line, totals_line};
 
 use cell_parts::declarations::is_name;
 use cell_reader::Refusal;
-use command_outcomes::write_refusal;
-use itoa::Buffer;
-use text_io::{Desk, Failed, OutSlot, write_pieces, write_whole};
+use command_outcomes::RefusalText;
+use text_io::{Desk, Failed, Line, OutSlot};
+use text_parts::{Bytes, Decimal, Part, Put, parts, write_part};
+
+/// The name of a cell as a line shows it: `?` where no cell may bear it.
+#[derive(Drop)]
+pub struct PrintedName<'a>(pub &'a [u8]);
+
+impl Part for PrintedName<'_> {
+    ghost text = { λ n. printed_name n.0.now };
+
+    #[tactic(auto, unfolding(crate::specs::CellLines::printed_name))]
+    fn put<D: Desk>(&self, line: &mut Line, desk: &mut D, slot: OutSlot) -> Put {
+        let name: &[u8] = if is_name(self.0) { self.0 } else { b"?" };
+        line.put(desk, slot, name)
+    }
+}
+
+/// The end of a line on a cell that is refused for this: the reason, with the offset, from 0, of the statement or group that meets it.
+#[derive(Drop)]
+pub struct RefusalLine<'a>(pub &'a Refusal);
+
+impl Part for RefusalLine<'_> {
+    ghost text = { λ r. refusal_line r.0.now };
+
+    fn put<D: Desk>(&self, line: &mut Line, desk: &mut D, slot: OutSlot) -> Put {
+        let reason = self.0.reason;
+        RefusalText {
+            number: reason.number(),
+            word: reason.word(),
+            at: self.0.at,
+        }
+        .put(line, desk, slot)
+    }
+}
+
+/// The front of a line on a cell: its number, and its name.
+#[derive(Drop)]
+struct Front<'a>(usize, &'a [u8]);
+
+impl Part for Front<'_> {
+    ghost text = { λ f. cell_text f.0 f.1.now };
+
+    #[tactic(auto, unfolding(crate::specs::CellLines::cell_text))]
+    fn put<D: Desk>(&self, line: &mut Line, desk: &mut D, slot: OutSlot) -> Put {
+        let name = PrintedName(self.1);
+        parts!(Bytes(b"cell "), Decimal(self.0 as u128), Bytes(b" "), name).put(line, desk, slot)
+    }
+}
 
 /// Reports a cell that is accepted: its number, from 1 among all cells of the library, and its name. After `Failed`,
 /// which comes only where a write failed, a prefix of the line was appended.
-#[tactic(auto, unfolding(text_io::specs::Desk::wrote))]
+#[tactic(auto, unfolding(crate::specs::CellLines::accepted_line))]
 pub fn write_accepted_cell<D: Desk>(desk: &mut D, number: usize, name: &[u8]) -> Result<(), Failed>
     ensures text { WritesText (D.state desk.old) (D.state desk.new) Report (accepted_line number name.now) result }
     ensures cause { HasCause (D.faults desk.old) (D.faults desk.new) result }
 {
-    write_cell(desk, number, name)?;
-    write_whole(desk, OutSlot::Report, b" ok\n")
+    let line = parts!(Front(number, name), Bytes(b" ok\n"));
+    write_part(desk, OutSlot::Report, &line)
 }
 
 /// Reports a cell that is refused: its number, its name, which is `?` where no cell may bear it, and the reason with the
 /// offset, from 0, of the statement or group that meets it. After `Failed`, which comes only where a write failed, a
 /// prefix of the line was appended.
-#[tactic(auto, unfolding(text_io::specs::Desk::wrote))]
+#[tactic(auto, unfolding(crate::specs::CellLines::refused_line))]
 pub fn write_refused_cell<D: Desk>(
     desk: &mut D,
     number: usize,
@@ -34,34 +79,8 @@ pub fn write_refused_cell<D: Desk>(
     ensures text { WritesText (D.state desk.old) (D.state desk.new) Report (refused_line number name.now refusal.now) result }
     ensures cause { HasCause (D.faults desk.old) (D.faults desk.new) result }
 {
-    write_cell(desk, number, name)?;
-    let reason = refusal.reason;
-    write_refusal(
-        desk,
-        OutSlot::Report,
-        reason.number(),
-        reason.word(),
-        refusal.at,
-    )
-}
-
-/// The front of a line on a cell.
-#[tactic(auto, unfolding(crate::specs::CellLines::cell_text))]
-fn write_cell<D: Desk>(desk: &mut D, number: usize, name: &[u8]) -> Result<(), Failed>
-    ensures text { WritesText (D.state desk.old) (D.state desk.new) Report (cell_text number name.now) result }
-    ensures cause { HasCause (D.faults desk.old) (D.faults desk.new) result }
-{
-    let mut digits = Buffer::new();
-    write_pieces(
-        desk,
-        OutSlot::Report,
-        &[
-            b"cell ",
-            digits.format(number).as_bytes(),
-            b" ",
-            printed_name(name),
-        ],
-    )
+    let line = parts!(Front(number, name), RefusalLine(refusal));
+    write_part(desk, OutSlot::Report, &line)
 }
 
 /// Reports how many cells of a library that was read to its end are accepted and refused. After `Failed`, which comes
@@ -71,25 +90,7 @@ pub fn write_totals<D: Desk>(desk: &mut D, accepted: usize, refused: usize) -> R
     ensures text { WritesText (D.state desk.old) (D.state desk.new) Report (totals_line accepted refused) result }
     ensures cause { HasCause (D.faults desk.old) (D.faults desk.new) result }
 {
-    let mut all_accepted = Buffer::new();
-    let mut all_refused = Buffer::new();
-    write_pieces(
-        desk,
-        OutSlot::Report,
-        &[
-            b"accepted ",
-            all_accepted.format(accepted).as_bytes(),
-            b" refused ",
-            all_refused.format(refused).as_bytes(),
-            b"\n",
-        ],
-    )
-}
-
-/// The name as a report shows it.
-#[tactic(auto, unfolding(crate::specs::CellLines::printed_name))]
-fn printed_name(name: &[u8]) -> &[u8]
-    ensures { result.now ≡ printed_name_of name.now }
-{
-    if is_name(name) { name } else { b"?" }
+    let refused = parts!(Bytes(b" refused "), Decimal(refused as u128), Bytes(b"\n"));
+    let line = parts!(Bytes(b"accepted "), Decimal(accepted as u128), refused);
+    write_part(desk, OutSlot::Report, &line)
 }

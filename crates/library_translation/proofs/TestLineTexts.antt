@@ -1,5 +1,5 @@
 -- The line on the test cell of a cell.
-use Rattle.std.proofs.Common.{◌≡◌, ℕ, Bool, List, ◌++◌, codes, decimal, sym, ap, subst, ◌∙◌, append_assoc, Option, Some, None, Result, Ok, Err, IsErr}
+use Rattle.std.proofs.Common.{◌≡◌, sym, ap, subst, ◌∙◌, Option, Some, None, Result, Ok, Err, IsErr}
 use Rattle.std.specs.Option.{option_map}
 use Rattle.text_io.specs.declared.outside.Failed.{Failed}
 use Rattle.text_io.specs.declared.slots.OutSlot.TheVariants.{Report}
@@ -12,41 +12,8 @@ use Rattle.scan_cells.specs.declared.answers.Agreement.{Agreement}
 use Rattle.scan_cells.specs.TestGroup.{test_of}
 use Rattle.scan_cells.specs.Functional.{functional_view}
 use Rattle.scan_cells.specs.Comparison.{agreement}
-use Rattle.scan_cells.specs.TestLines.{digit, difference_text, test_line}
+use Rattle.scan_cells.specs.TestLines.{test_line}
 use Rattle.library_translation.specs.Cells.{lines_on_test, test_lines}
-
--- a text behind two others and more
-behind_two : (a b rest last : List ℕ) → (a ++ (b ++ rest)) ++ last ≡ a ++ (b ++ (rest ++ last))
-behind_two a b rest last = append_assoc a (b ++ rest) last ∙ ap (λ t. a ++ t) (append_assoc b rest last)
-
--- a text behind eight others
-behind_eight : (a b c d e f g h last : List ℕ)
-    → (a ++ (b ++ (c ++ (d ++ (e ++ (f ++ (g ++ h))))))) ++ last ≡ a ++ (b ++ (c ++ (d ++ (e ++ (f ++ (g ++ (h ++ last)))))))
-behind_eight a b c d e f g h last =
-    behind_two a b (c ++ (d ++ (e ++ (f ++ (g ++ h))))) last
-    ∙ ap (λ t. a ++ (b ++ t))
-    (behind_two c d (e ++ (f ++ (g ++ h))) last
-    ∙ ap (λ t. c ++ (d ++ t)) (behind_two e f (g ++ h) last ∙ ap (λ t. e ++ (f ++ t)) (append_assoc g h last)))
-
--- what it says, with the end of the line
-difference_ended : (part before after : ℕ) (state : Bool)
-    → difference_text part before after state ++ codes "\n"
-    ≡ codes "differs part " ++ (decimal part ++ (codes " before " ++ (decimal before ++ (codes " after " ++ (decimal after ++ (codes " state "
-    ++ (digit state ++ codes "\n")))))))
-unfolding difference_text
-difference_ended part before after state =
-    behind_eight (codes "differs part ") (decimal part) (codes " before ") (decimal before) (codes " after ") (decimal after) (codes " state ") (digit state)
-    (codes "\n")
-
--- the line, written in its pieces
-pub difference_whole : {T : Type 0} (old new : DeskState) (number part before after : ℕ) (state : Bool) (r : Result T Failed)
-    → WritesText old new Report
-    (codes "test " ++ (decimal number ++ (codes " " ++ (codes "differs part " ++ (decimal part ++ (codes " before " ++ (decimal before ++ (codes " after "
-    ++ (decimal after ++ (codes " state " ++ (digit state ++ codes "\n")))))))))))
-    r
-    → WritesText old new Report (codes "test " ++ (decimal number ++ (codes " " ++ (difference_text part before after state ++ codes "\n")))) r
-difference_whole old new number part before after state r w =
-    subst (λ t. WritesText old new Report (codes "test " ++ (decimal number ++ (codes " " ++ t))) r) (sym (difference_ended part before after state)) w
 
 -- a cell without a test cell has no line
 pub none_whole : {E : Type 0} (s : DeskState) (cell : CellData) (group : Group) → test_of group ≡ None

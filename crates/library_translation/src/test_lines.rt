@@ -1,5 +1,5 @@
 //! The line on the test cell of a cell.
-ghost use Rattle.std.specs.Prelude.{◌≡◌, ◌++◌, IfOk, codes, decimal, Some};
+ghost use Rattle.std.specs.Prelude.{◌≡◌, IfOk};
 ghost use Rattle.std.specs.Option.{option_map};
 ghost use Rattle.text_io.specs.declared.slots.OutSlot.TheVariants.{Report};
 ghost use Rattle.text_io.specs.Desk.{HasCause, WritesText};
@@ -8,16 +8,16 @@ ghost use Rattle.command_outcomes.specs.Written.{Writes, in_report};
 ghost use Rattle.library_items.specs.Stops.{StopsWithCause};
 ghost use Rattle.scan_cells.specs.Functional.{functional_view};
 ghost use Rattle.scan_cells.specs.Comparison.{agreement as agreement_with};
-ghost use Rattle.scan_cells.specs.TestLines.{digit as digit_of, difference_text, test_line};
+ghost use Rattle.scan_cells.specs.TestLines.{digit as digit_of, agreement_text, test_line};
 ghost use Rattle.library_translation.specs.Cells.{test_lines};
 
 use cell_machine::Cell;
-use itoa::Buffer;
 use liberty_groups::Group;
 use library_items::Stop;
 use scan_cells::{Agreement, agrees, functional_cell, test_of};
 use std::alloc::{AllocError, Global};
-use text_io::{Desk, Failed, OutSlot, write_pieces};
+use text_io::{Desk, Failed, Line, OutSlot};
+use text_parts::{Bytes, Decimal, Part, Put, parts, write_part};
 
 /// A state as a digit.
 fn digit(state: bool) -> &'static [u8]
@@ -26,62 +26,38 @@ fn digit(state: bool) -> &'static [u8]
     if state { b"1" } else { b"0" }
 }
 
-/// Writes a line that says this of the test cell of the cell with this number.
-fn write_words<D: Desk>(desk: &mut D, number: usize, words: &[u8]) -> Result<(), Failed>
-    ensures text { WritesText (D.state desk.old) (D.state desk.new) Report (codes "test " ++ (decimal number ++ (codes " " ++ (words.now ++ codes "\n")))) result }
-    ensures cause { HasCause (D.faults desk.old) (D.faults desk.new) result }
-{
-    let mut digits = Buffer::new();
-    write_pieces(
-        desk,
-        OutSlot::Report,
-        &[
-            b"test ",
-            digits.format(number).as_bytes(),
-            b" ",
-            words,
-            b"\n",
-        ],
-    )
+/// What a line says of a test cell: whether its view does what the cell does, and else where they differ first, or that it is left
+/// out, since it gives no view.
+#[derive(Drop)]
+struct Words(Option<Agreement>);
+
+impl Part for Words {
+    ghost text = { λ w. agreement_text w.0 };
+
+    #[tactic(auto, unfolding(scan_cells::specs::TestLines::difference_text))]
+    fn put<D: Desk>(&self, line: &mut Line, desk: &mut D, slot: OutSlot) -> Put {
+        match self.0 {
+            None => line.put(desk, slot, b"left-out"),
+            Some(Agreement::Same) => line.put(desk, slot, b"same"),
+            Some(
+                Agreement::Differs {
+                    part,
+                    before,
+                    after,
+                    state,
+                    ..
+                },
+            ) => {
+                let state = parts!(Bytes(b" state "), Bytes(digit(state)));
+                let after = parts!(Bytes(b" after "), Decimal(after as u128), state);
+                let before = parts!(Bytes(b" before "), Decimal(before as u128), after);
+                parts!(Bytes(b"differs part "), Decimal(part as u128), before).put(line, desk, slot)
+            }
+        }
+    }
 }
 
-/// Writes the line on a test cell whose view differs from the cell with this number: the state group or the output, from 1,
-/// the points before and after the change, and the state before it.
-fn write_difference<D: Desk>(
-    desk: &mut D,
-    number: usize,
-    part: usize,
-    before: u32,
-    after: u32,
-    state: bool,
-) -> Result<(), Failed>
-    ensures text { WritesText (D.state desk.old) (D.state desk.new) Report (codes "test " ++ (decimal number ++ (codes " " ++ (difference_text part before after state ++ codes "\n")))) result }
-    ensures cause { HasCause (D.faults desk.old) (D.faults desk.new) result }
-{
-    let mut cell = Buffer::new();
-    let mut parts = Buffer::new();
-    let mut first = Buffer::new();
-    let mut second = Buffer::new();
-    write_pieces(
-        desk,
-        OutSlot::Report,
-        &[
-            b"test ",
-            cell.format(number).as_bytes(),
-            b" differs part ",
-            parts.format(part).as_bytes(),
-            b" before ",
-            first.format(before).as_bytes(),
-            b" after ",
-            second.format(after).as_bytes(),
-            b" state ",
-            digit(state),
-            b"\n",
-        ],
-    )
-}
-
-/// Writes the line on the test cell of the cell with this number; of a test cell without a view it says that it is left out.
+/// Writes the line on the test cell of the cell with this number.
 #[tactic(auto, unfolding(scan_cells::specs::TestLines::test_line))]
 fn write_agreement<D: Desk>(
     desk: &mut D,
@@ -91,19 +67,9 @@ fn write_agreement<D: Desk>(
     ensures text { WritesText (D.state desk.old) (D.state desk.new) Report (test_line number found) result }
     ensures cause { HasCause (D.faults desk.old) (D.faults desk.new) result }
 {
-    match found {
-        None => write_words(desk, number, b"left-out"),
-        Some(Agreement::Same) => write_words(desk, number, b"same"),
-        Some(
-            Agreement::Differs {
-                part,
-                before,
-                after,
-                state,
-                ..
-            },
-        ) => write_difference(desk, number, part, before, after, state),
-    }
+    let words = parts!(Bytes(b" "), Words(found), Bytes(b"\n"));
+    let line = parts!(Bytes(b"test "), Decimal(number as u128), words);
+    write_part(desk, OutSlot::Report, &line)
 }
 
 /// Whether the view that a test cell gives does what the cell does; none where it gives no view.

@@ -2,6 +2,7 @@
 use Rattle.std.specs.Prelude.{ℕ, List, [], ◌++◌, codes, decimal}
 use Rattle.udp_tables.specs.declared.models.ModelFault.{ModelFault}
 use Rattle.udp_tables.specs.declared.models.ModelFault.TheVariants as fault
+use Rattle.udp_tables.specs.ModelFaults.{fault_place}
 use Rattle.stimulus.specs.declared.faults.Cause.{Cause}
 use Rattle.stimulus.specs.CauseWords.{word_of_cause}
 use Rattle.model_replay.specs.declared.format.ModelFormat.{ModelFormat}
@@ -19,22 +20,10 @@ word_of_fault (fault.Undriven at) = codes "undriven"
 word_of_fault (fault.Unequal at) = codes "unequal"
 word_of_fault fault.Memory = []
 
--- the place of a fault
-unfoldable pub place_of_fault : ModelFault → ℕ
-place_of_fault (fault.Lexical at) = at
-place_of_fault (fault.Syntax at) = at
-place_of_fault (fault.TwoEdges at) = at
-place_of_fault (fault.Width at) = at
-place_of_fault (fault.Undefined at) = at
-place_of_fault (fault.Twice at) = at
-place_of_fault (fault.Undriven at) = at
-place_of_fault (fault.Unequal at) = at
-place_of_fault fault.Memory = 0
-
 -- a text of models that is refused: the word of its format, the offset of its fault, and the fault's word
 unfoldable pub model_fault_line : ModelFormat → ModelFault → List ℕ
 model_fault_line format fault =
-    word_of_format format ++ (codes " refused at " ++ (decimal (place_of_fault fault) ++ (codes ": " ++ (word_of_fault fault ++ codes "\n"))))
+    word_of_format format ++ (codes " refused at " ++ (decimal (fault_place fault) ++ (codes ": " ++ (word_of_fault fault ++ codes "\n"))))
 
 -- a stimulus with a bad line: the first one's number, from 1, and its cause
 unfoldable pub stimulus_fault_line : ℕ → Cause → List ℕ

@@ -2,12 +2,13 @@
 ghost use Rattle.std.specs.Prelude.{◌≡◌};
 ghost use Rattle.text_io.specs.declared.slots.OutSlot.TheVariants.{Faults};
 ghost use Rattle.text_io.specs.Desk.{HasCause, WritesText};
-ghost use Rattle.model_replay.specs.FaultLines.{word_of_fault, place_of_fault, model_fault_line, stimulus_fault_line, model_too_long_line, stimulus_too_long_line};
+ghost use Rattle.udp_tables.specs.ModelFaults.{fault_place};
+ghost use Rattle.model_replay.specs.FaultLines.{word_of_fault, model_fault_line, stimulus_fault_line, model_too_long_line, stimulus_too_long_line};
 
 use crate::format::ModelFormat;
-use itoa::Buffer;
 use stimulus::Cause;
 use text_io::{Desk, Failed, OutSlot, write_pieces, write_whole};
+use text_parts::{Bytes, Decimal, parts, write_part};
 use udp_tables::ModelFault;
 
 /// The word of a fault.
@@ -29,9 +30,8 @@ fn word_of_fault(fault: &ModelFault) -> &'static [u8]
 }
 
 /// The offset of a fault.
-#[tactic(auto, unfolding(crate::specs::FaultLines::place_of_fault))]
 fn place_of_fault(fault: &ModelFault) -> usize
-    ensures { result ≡ place_of_fault fault.now }
+    ensures { result ≡ fault_place fault.now }
 {
     match fault {
         ModelFault::Lexical(at) => *at,
@@ -57,19 +57,10 @@ pub fn write_model_fault<D: Desk>(
     ensures text { WritesText (D.state desk.old) (D.state desk.new) Faults (model_fault_line format fault.now) result }
     ensures cause { HasCause (D.faults desk.old) (D.faults desk.new) result }
 {
-    let mut offset = Buffer::new();
-    write_pieces(
-        desk,
-        OutSlot::Faults,
-        &[
-            format.word(),
-            b" refused at ",
-            offset.format(place_of_fault(fault)).as_bytes(),
-            b": ",
-            word_of_fault(fault),
-            b"\n",
-        ],
-    )
+    let found = parts!(Bytes(b": "), Bytes(word_of_fault(fault)), Bytes(b"\n"));
+    let place = parts!(Decimal(place_of_fault(fault) as u128), found);
+    let line = parts!(Bytes(format.word()), Bytes(b" refused at "), place);
+    write_part(desk, OutSlot::Faults, &line)
 }
 
 /// Tells a stimulus with a bad line, with the first one's number, from 1, and its cause. After `Failed`, which comes only
@@ -79,18 +70,9 @@ pub fn write_stimulus_fault<D: Desk>(desk: &mut D, line: usize, cause: Cause) ->
     ensures text { WritesText (D.state desk.old) (D.state desk.new) Faults (stimulus_fault_line line cause) result }
     ensures cause { HasCause (D.faults desk.old) (D.faults desk.new) result }
 {
-    let mut number = Buffer::new();
-    write_pieces(
-        desk,
-        OutSlot::Faults,
-        &[
-            b"stimulus line ",
-            number.format(line).as_bytes(),
-            b": ",
-            cause.word(),
-            b"\n",
-        ],
-    )
+    let found = parts!(Bytes(b": "), Bytes(cause.word()), Bytes(b"\n"));
+    let line = parts!(Bytes(b"stimulus line "), Decimal(line as u128), found);
+    write_part(desk, OutSlot::Faults, &line)
 }
 
 /// Tells a file of models with too many bytes. After `Failed`, which comes only where a write failed, a prefix of the line was

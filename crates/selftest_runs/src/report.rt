@@ -5,9 +5,9 @@ ghost use Rattle.text_io.specs.Desk.{HasCause, WritesText};
 ghost use Rattle.selftest_runs.specs.Report.{report_text};
 
 use crate::counts::Counts;
-use itoa::Buffer;
 use selftest_cells::CHANGES_EACH;
-use text_io::{Desk, Failed, OutSlot, write_pieces};
+use text_io::{Desk, Failed, OutSlot};
+use text_parts::{Bytes, Decimal, parts, write_part};
 
 /// Appends to the report the five lines of a run on so many cells, of which this was counted. After `Failed`, which comes only where
 /// a write failed, a prefix of them was appended. It takes no memory.
@@ -17,26 +17,14 @@ pub fn write_report<D: Desk>(desk: &mut D, cells: u64, counts: &Counts) -> Resul
     ensures text { WritesText (D.state desk.old) (D.state desk.new) Report (report_text cells counts.now) result }
     ensures cause { HasCause (D.faults desk.old) (D.faults desk.new) result }
 {
-    let mut all_cells = Buffer::new();
-    let mut all_changes = Buffer::new();
-    let mut known = Buffer::new();
-    let mut verilog = Buffer::new();
-    let mut vital = Buffer::new();
-    write_pieces(
-        desk,
-        OutSlot::Report,
-        &[
-            b"cells ",
-            all_cells.format(cells).as_bytes(),
-            b"\nchanges ",
-            all_changes.format(CHANGES_EACH * cells).as_bytes(),
-            b"\nknown ",
-            known.format(counts.known).as_bytes(),
-            b"\ncaught ",
-            verilog.format(counts.verilog).as_bytes(),
-            b" ",
-            vital.format(counts.vital).as_bytes(),
-            b"\nequal\n",
-        ],
-    )
+    let vital = parts!(
+        Bytes(b" "),
+        Decimal(counts.vital as u128),
+        Bytes(b"\nequal\n")
+    );
+    let caught = parts!(Bytes(b"\ncaught "), Decimal(counts.verilog as u128), vital);
+    let known = parts!(Bytes(b"\nknown "), Decimal(counts.known as u128), caught);
+    let changes = Decimal((CHANGES_EACH * cells) as u128);
+    let lines = parts!(Decimal(cells as u128), Bytes(b"\nchanges "), changes, known);
+    write_part(desk, OutSlot::Report, &parts!(Bytes(b"cells "), lines))
 }

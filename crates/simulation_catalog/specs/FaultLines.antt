@@ -1,28 +1,18 @@
 -- How a simulation ends whose stimulus has a bad line: the status, and the line that tells it. (This project's rules and formats.)
-use Rattle.std.specs.Prelude.{ℕ, List, [], ◌++◌, codes, Option, Some, None, slice_get, if◌then◌else◌}
+use Rattle.std.specs.Prelude.{ℕ, List, [], ◌++◌, codes, Option, Some, None, slice_get}
 use Rattle.std.specs.Option.{option_map_or}
-use Rattle.cell_machine.specs.CellRules.{is_name}
 use Rattle.cell_reader.specs.declared.refusal.Refusal.{Refusal}
 use Rattle.cell_reader.specs.LibraryCells.{CellEntry, Accepted, Refused, name_of}
-use Rattle.cell_reader.specs.ReasonWords.{number_of_reason, word_of_reason}
 use Rattle.stimulus.specs.declared.faults.Cause.{Cause}
 use Rattle.stimulus.specs.declared.faults.Cause.TheVariants as cause
-use Rattle.command_outcomes.specs.Refusals.{refusal_text}
+use Rattle.library_report.specs.CellLines.{printed_name, refusal_line}
 use Rattle.command_outcomes.specs.declared.status.Status.{Status}
 use Rattle.command_outcomes.specs.declared.status.Status.TheVariants as status
 use Rattle.model_replay.specs.FaultLines.{stimulus_fault_line}
 
--- a name as a line shows it: one that no cell may bear, for its length or a byte of it, is a question mark
-unfoldable pub shown_name : List ℕ → List ℕ
-shown_name name = if is_name name then name else codes "?"
-
--- the front of a line on a cell that is refused: its name
-unfoldable pub refused_name_text : List ℕ → List ℕ
-refused_name_text name = codes "cell " ++ shown_name name
-
--- a cell that is refused, with the offset of the statement or group that meets the reason
+-- a cell that is refused: its name, and why
 unfoldable pub refused_cell_line : List ℕ → Refusal → List ℕ
-refused_cell_line name refusal = refused_name_text name ++ refusal_text (number_of_reason refusal.reason) (word_of_reason refusal.reason) refusal.at
+refused_cell_line name refusal = codes "cell " ++ (printed_name name ++ refusal_line refusal)
 
 -- a cell whose module is absent or has other ports
 unfoldable pub verilog_ports_line : List ℕ → List ℕ

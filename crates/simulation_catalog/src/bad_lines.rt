@@ -4,14 +4,15 @@ ghost use Rattle.std.specs.Option.{option_copied, option_map, option_map_or};
 ghost use Rattle.text_io.specs.declared.slots.OutSlot.TheVariants.{Faults};
 ghost use Rattle.text_io.specs.Desk.{HasCause, WritesText};
 ghost use Rattle.cell_reader.specs.LibraryCells.{described, all_described, name_of};
-ghost use Rattle.simulation_catalog.specs.FaultLines.{shown_name as shown_name_of, refused_name_text, refused_cell_line, verilog_ports_line, vital_ports_line, refused_line_by, cause_line, cause_status as cause_status_of};
+ghost use Rattle.simulation_catalog.specs.FaultLines.{refused_cell_line, verilog_ports_line, vital_ports_line, refused_line_by, cause_line, cause_status as cause_status_of};
 
-use cell_parts::declarations::is_name;
 use cell_reader::{LibraryCell, Refusal};
-use command_outcomes::{Status, write_refusal};
+use command_outcomes::Status;
+use library_report::{PrintedName, RefusalLine};
 use model_replay::write_stimulus_fault;
 use stimulus::Cause;
 use text_io::{Desk, Failed, OutSlot, write_pieces};
+use text_parts::{Bytes, parts, write_part};
 
 /// The status of a run whose stimulus has a first bad line with this cause.
 pub fn cause_status(cause: Cause) -> Status
@@ -20,13 +21,7 @@ pub fn cause_status(cause: Cause) -> Status
     match cause {
         Cause::RefusedCell(_) => Status::Cells,
         Cause::VerilogPorts(_) | Cause::VitalPorts(_) => Status::Model,
-        Cause::Form
-        | Cause::UnknownCell
-        | Cause::Count
-        | Cause::UnknownPin
-        | Cause::OutputPin
-        | Cause::Value
-        | Cause::Time => Status::Stimulus,
+        _ => Status::Stimulus,
     }
 }
 
@@ -66,14 +61,6 @@ fn name_of(cell: Option<&LibraryCell>) -> &[u8]
     }
 }
 
-/// The name as a line shows it.
-#[tactic(auto, unfolding(crate::specs::FaultLines::shown_name))]
-fn shown_name(name: &[u8]) -> &[u8]
-    ensures { result.now ≡ shown_name_of name.now }
-{
-    if is_name(name) { name } else { b"?" }
-}
-
 /// Tells why a cell is refused; nothing of one that is not.
 #[tactic(auto, using(text_io::proofs::Wrote::desk_laws))]
 fn write_refused<D: Desk>(desk: &mut D, cell: Option<&LibraryCell>) -> Result<(), Failed>
@@ -89,29 +76,13 @@ fn write_refused<D: Desk>(desk: &mut D, cell: Option<&LibraryCell>) -> Result<()
 }
 
 /// Tells why the cell with this name is refused, and where.
-#[tactic(auto, unfolding(text_io::specs::Desk::wrote))]
+#[tactic(auto, unfolding(crate::specs::FaultLines::refused_cell_line))]
 fn write_refused_cell<D: Desk>(desk: &mut D, name: &[u8], refusal: &Refusal) -> Result<(), Failed>
     ensures text { WritesText (D.state desk.old) (D.state desk.new) Faults (refused_cell_line name.now refusal.now) result }
     ensures cause { HasCause (D.faults desk.old) (D.faults desk.new) result }
 {
-    write_refused_name(desk, name)?;
-    let reason = refusal.reason;
-    write_refusal(
-        desk,
-        OutSlot::Faults,
-        reason.number(),
-        reason.word(),
-        refusal.at,
-    )
-}
-
-/// Tells the name of a cell that is refused.
-#[tactic(auto, unfolding(crate::specs::FaultLines::refused_name_text))]
-fn write_refused_name<D: Desk>(desk: &mut D, name: &[u8]) -> Result<(), Failed>
-    ensures text { WritesText (D.state desk.old) (D.state desk.new) Faults (refused_name_text name.now) result }
-    ensures cause { HasCause (D.faults desk.old) (D.faults desk.new) result }
-{
-    write_pieces(desk, OutSlot::Faults, &[b"cell ", shown_name(name)])
+    let line = parts!(Bytes(b"cell "), PrintedName(name), RefusalLine(refusal));
+    write_part(desk, OutSlot::Faults, &line)
 }
 
 /// Tells that the module of the cell with this name is absent or has other ports.

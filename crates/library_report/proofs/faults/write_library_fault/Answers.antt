@@ -3,5 +3,4 @@ use Rattle.library_report.proofs.faults.write_library_fault.Goals as goal
 
 pub returns-clause-text : goal.returns-clause-text
 unfolding library_fault_line
-returns-clause-text g c =
-    rw (c.fault_text.ensures, c.as_bytes.ensures.value, c.format.ensures.text, c.at.ensures) at c.write_pieces.ensures.text
+returns-clause-text g c = rw (c.fault_text.ensures, c.at.ensures) at c.write_part.ensures.text

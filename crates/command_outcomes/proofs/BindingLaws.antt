@@ -4,9 +4,8 @@ use Rattle.std.proofs.lemmas.List.{append-nil}
 use Rattle.std.specs.Option.{option_map}
 use Rattle.text_io.specs.declared.slots.InSlot.{InSlot}
 use Rattle.text_io.specs.declared.slots.InSlot.TheVariants.{Library, Verilog, Vital, Stimulus}
-use Rattle.text_io.specs.Desk.{DeskState, Folder, opened, took, wrote, IsFileAt}
+use Rattle.text_io.specs.Desk.{DeskState, Folder, opened, took, IsFileAt}
 use Rattle.text_io.proofs.Took.{took-zero}
-use Rattle.command_outcomes.specs.Written.{Written, wrote_all}
 use Rattle.command_outcomes.specs.Binding.{Files, bound_state, bound_at, IsFront, took_all, only, bytes_at}
 
 -- nothing is bound before the first file
@@ -40,11 +39,6 @@ took_all-only s Vital n =
     took-zero (took (took (took s Library 0) Verilog 0) Vital n) Stimulus ∙ ap (λ t. took t Vital n) (took-zero (took s Library 0) Verilog ∙ took-zero s Library)
 took_all-only s Stimulus n =
     ap (λ t. took t Stimulus n) (took-zero (took (took s Library 0) Verilog 0) Vital ∙ took-zero (took s Library 0) Verilog ∙ took-zero s Library)
-
--- reading leaves alone what was written
-pub took_all-wrote_all : (s : DeskState) (text : Written) (taken : InSlot → ℕ) → took_all (wrote_all s text) taken ≡ wrote_all (took_all s taken) text
-unfolding took took_all wrote wrote_all
-took_all-wrote_all s text taken = refl
 
 -- what is left of a slot that was bound
 pub left_opened : (s : DeskState) (slot : InSlot) (bytes : List ℕ) → (opened s slot bytes).left slot ≡ option_map (λ _. bytes) (s.left slot)

@@ -57,25 +57,26 @@ drop_more : (o : Option (List ℕ)) (m n : ℕ) → option_map (drop n) (option_
 drop_more None m n = refl
 drop_more (Some bytes) m n = ap Some (drop-drop n m bytes)
 
-more_of : (w : InSlot → Option (List ℕ)) (taken : InSlot → ℕ) (slot : InSlot) (n : ℕ) (t : InSlot)
-    → put_in (λ x. option_map (drop (taken x)) (w x)) slot (option_map (drop n) (option_map (drop (taken slot)) (w slot))) t
-    ≡ option_map (drop (put_in taken slot (taken slot + n) t)) (w t)
-more_of w taken Library n Library = drop_more (w Library) (taken Library) n
-more_of w taken Library n Verilog = refl
-more_of w taken Library n Vital = refl
-more_of w taken Library n Stimulus = refl
-more_of w taken Verilog n Library = refl
-more_of w taken Verilog n Verilog = drop_more (w Verilog) (taken Verilog) n
-more_of w taken Verilog n Vital = refl
-more_of w taken Verilog n Stimulus = refl
-more_of w taken Vital n Library = refl
-more_of w taken Vital n Verilog = refl
-more_of w taken Vital n Vital = drop_more (w Vital) (taken Vital) n
-more_of w taken Vital n Stimulus = refl
-more_of w taken Stimulus n Library = refl
-more_of w taken Stimulus n Verilog = refl
-more_of w taken Stimulus n Vital = refl
-more_of w taken Stimulus n Stimulus = drop_more (w Stimulus) (taken Stimulus) n
+-- what holds at one slot after another
+at_each : {X : Type 0} (f g : InSlot → X) → f Library ≡ g Library → f Verilog ≡ g Verilog → f Vital ≡ g Vital → f Stimulus ≡ g Stimulus → (t : InSlot) → f t ≡ g t
+at_each f g library verilog vital stimulus Library = library
+at_each f g library verilog vital stimulus Verilog = verilog
+at_each f g library verilog vital stimulus Vital = vital
+at_each f g library verilog vital stimulus Stimulus = stimulus
+
+-- what is left after so many bytes of each slot were read
+abbrev left_of : (InSlot → Option (List ℕ)) → (InSlot → ℕ) → InSlot → Option (List ℕ)
+left_of w taken t = option_map (drop (taken t)) (w t)
+
+-- and after more of one
+abbrev left_more : (InSlot → Option (List ℕ)) → (InSlot → ℕ) → InSlot → ℕ → InSlot → Option (List ℕ)
+left_more w taken slot n = put_in (left_of w taken) slot (option_map (drop n) (left_of w taken slot))
+
+more_of : (w : InSlot → Option (List ℕ)) (taken : InSlot → ℕ) (slot : InSlot) (n : ℕ) (t : InSlot) → left_more w taken slot n t ≡ left_of w (put_in taken slot (taken slot + n)) t
+more_of w taken Library n = at_each (left_more w taken Library n) (left_of w (put_in taken Library (taken Library + n))) (drop_more (w Library) (taken Library) n) refl refl refl
+more_of w taken Verilog n = at_each (left_more w taken Verilog n) (left_of w (put_in taken Verilog (taken Verilog + n))) refl (drop_more (w Verilog) (taken Verilog) n) refl refl
+more_of w taken Vital n = at_each (left_more w taken Vital n) (left_of w (put_in taken Vital (taken Vital + n))) refl refl (drop_more (w Vital) (taken Vital) n) refl
+more_of w taken Stimulus n = at_each (left_more w taken Stimulus n) (left_of w (put_in taken Stimulus (taken Stimulus + n))) refl refl refl (drop_more (w Stimulus) (taken Stimulus) n)
 
 took_of_each : (s : DeskState) (taken : InSlot → ℕ) (slot : InSlot) (n : ℕ) → took (took_each s taken) slot n ≡ took_each s (put_in taken slot (taken slot + n))
 unfolding took took_each

@@ -11,26 +11,15 @@ use Rattle.text_io.specs.Desk.{DeskState, is_bound, took, wrote, IsPrefix, Write
 use Rattle.text_io.proofs.Wrote.{wrote-nil, IsPrefix-append, IsPrefix-front}
 use Rattle.command_outcomes.specs.Written.{Written, nothing_written, in_verilog, in_vital, in_report, joined, IsPart, wrote_all, Writes}
 
-appended-nil : (known : Option (List ℕ)) → option_map (λ before. before ++ []) known ≡ known
-appended-nil None = refl
-appended-nil (Some before) = ap Some (append-nil before)
-
 appended-twice : (known : Option (List ℕ)) (a b : List ℕ)
     → option_map (λ before. before ++ b) (option_map (λ before. before ++ a) known) ≡ option_map (λ before. before ++ (a ++ b)) known
 appended-twice None a b = refl
 appended-twice (Some before) a b = ap Some (append_assoc before a b)
 
-nothing_at : (s : DeskState) (t : OutSlot) → (wrote_all s nothing_written).written t ≡ s.written t
-unfolding wrote wrote_all
-nothing_at s VerilogText = appended-nil (s.written VerilogText)
-nothing_at s VitalText = appended-nil (s.written VitalText)
-nothing_at s Report = appended-nil (s.written Report)
-nothing_at s Faults = refl
-
 -- nothing appended
 pub wrote_all-nothing : (s : DeskState) → wrote_all s nothing_written ≡ s
-unfolding wrote wrote_all
-wrote_all-nothing s = λ i. record s { written = λ t. nothing_at s t i }
+unfolding wrote_all
+wrote_all-nothing s = wrote-nil (wrote (wrote s VerilogText []) VitalText []) Report ∙ wrote-nil (wrote s VerilogText []) VitalText ∙ wrote-nil s VerilogText
 
 twice_at : (s : DeskState) (a b : Written) (t : OutSlot) → (wrote_all (wrote_all s a) b).written t ≡ (wrote_all s (joined a b)).written t
 unfolding wrote wrote_all
@@ -44,34 +33,20 @@ pub wrote_all-joined : (s : DeskState) (a b : Written) → wrote_all (wrote_all 
 unfolding wrote wrote_all
 wrote_all-joined s a b = λ i. record s { written = λ t. twice_at s a b t i }
 
-verilog_at : (s : DeskState) (text : List ℕ) (t : OutSlot) → (wrote_all s (in_verilog text)).written t ≡ (wrote s VerilogText text).written t
-unfolding wrote wrote_all
-verilog_at s text VerilogText = refl
-verilog_at s text VitalText = appended-nil (s.written VitalText)
-verilog_at s text Report = appended-nil (s.written Report)
-verilog_at s text Faults = refl
-
 -- Verilog text alone
 pub wrote_all-verilog : (s : DeskState) (text : List ℕ) → wrote_all s (in_verilog text) ≡ wrote s VerilogText text
-unfolding wrote wrote_all
-wrote_all-verilog s text = λ i. record s { written = λ t. verilog_at s text t i }
+unfolding wrote_all
+wrote_all-verilog s text = wrote-nil (wrote (wrote s VerilogText text) VitalText []) Report ∙ wrote-nil (wrote s VerilogText text) VitalText
 
 -- VHDL text alone
 wrote_all-vital : (s : DeskState) (text : List ℕ) → wrote_all s (in_vital text) ≡ wrote s VitalText text
 unfolding wrote_all
 wrote_all-vital s text = wrote-nil (wrote (wrote s VerilogText []) VitalText text) Report ∙ ap (λ t. wrote t VitalText text) (wrote-nil s VerilogText)
 
-report_at : (s : DeskState) (text : List ℕ) (t : OutSlot) → (wrote_all s (in_report text)).written t ≡ (wrote s Report text).written t
-unfolding wrote wrote_all
-report_at s text VerilogText = appended-nil (s.written VerilogText)
-report_at s text VitalText = appended-nil (s.written VitalText)
-report_at s text Report = refl
-report_at s text Faults = refl
-
 -- lines of the report alone
 pub wrote_all-report : (s : DeskState) (text : List ℕ) → wrote_all s (in_report text) ≡ wrote s Report text
-unfolding wrote wrote_all
-wrote_all-report s text = λ i. record s { written = λ t. report_at s text t i }
+unfolding wrote_all
+wrote_all-report s text = ap (λ t. wrote t Report text) (wrote-nil (wrote s VerilogText []) VitalText ∙ wrote-nil s VerilogText)
 
 -- reading leaves alone what was written
 pub took-wrote_all : (s : DeskState) (text : Written) (slot : InSlot) (n : ℕ) → took (wrote_all s text) slot n ≡ wrote_all (took s slot n) text
@@ -124,10 +99,6 @@ stopped old new text part (Err y) e p h = record { whole = tt; part = record { p
 -- before anything was appended
 pub stopped_before : {T E : Type 0} (old : DeskState) (text : Written) (r : Result T E) → IsErr r → Writes old old text r
 stopped_before old text r e = stopped old old text nothing_written r e (IsPart-nothing text) (sym (wrote_all-nothing old))
-
--- after all of it was appended
-pub stopped_after : {T E : Type 0} (old new : DeskState) (text : Written) (r : Result T E) → IsErr r → new ≡ wrote_all old text → Writes old new text r
-stopped_after old new text r e h = stopped old new text text r e (IsPart-all text) h
 
 -- after some bytes, a call that appends more
 pub all_goes_on : {T E : Type 0} (old now new : DeskState) (a b : Written) (r : Result T E)

@@ -1,14 +1,14 @@
 -- Files that a run reads one after another: each is read as something, or ends the run. The first that ends it decides. This
 -- project's rule.
-use Rattle.std.specs.Prelude.{◌≡◌, ◌≤◌, ◌⊎◌, ℕ, Bool, true, false, List, [], Result, Ok, Err, IfSome, IsTrue}
+use Rattle.std.specs.Prelude.{◌≡◌, ◌⊎◌, ℕ, Bool, true, false, List, [], Result, Ok, Err, IfSome, IsTrue}
 use Rattle.text_io.specs.declared.slots.InSlot.{InSlot}
 use Rattle.text_io.specs.declared.slots.OutSlot.TheVariants.{Faults}
-use Rattle.text_io.specs.Desk.{DeskState, opened, took, wrote, IsFileAt, IsPrefix, Rose}
+use Rattle.text_io.specs.Desk.{DeskState, opened, took, wrote, IsFileAt, IsPrefix}
 use Rattle.command_outcomes.specs.declared.status.Status.{Status}
-use Rattle.command_outcomes.specs.declared.status.Status.TheVariants.{Outside, Usage}
-use Rattle.command_outcomes.specs.Status.{is_decided, is_unfailed}
+use Rattle.command_outcomes.specs.Status.{is_decided}
 use Rattle.command_outcomes.specs.Written.{nothing_written}
 use Rattle.command_outcomes.specs.Outcome.{Outcome}
+pub use Rattle.command_outcomes.specs.Runs.{StopsWithStatus}
 
 -- how a file ends a run: the status, and the line of the faults
 pub record FileStop : Type 0 where
@@ -66,10 +66,3 @@ pub record EndsBy {T : Type 0} (answer : Result T FileStop) (old new : DeskState
   pub state : new ≡ wrote old Faults line
   pub part : (line ≡ []) ⊎ ((stop : FileStop) × (answer ≡ Err stop) × IsPrefix line stop.line)
   pub whole : IsTrue (is_decided end) → answer ≡ Err (record { status = end; line = line })
-
--- the count of faults rose where a call failed, and in every other case it stayed as it was; words without a reading end no run here
-pub record StopsWithStatus (before now : ℕ) (end : Status) : Type 0 where
-  pub later : before ≤ now
-  pub kept : IsTrue (is_unfailed end) → now ≡ before
-  pub outside : end ≡ Outside → Rose before now
-  pub usage : end ≡ Usage → ⊥

@@ -1,10 +1,11 @@
 -- What a run of a command leaves on the desk.
-use Rattle.std.specs.Prelude.{◌≡◌, ℕ, List, take, IsTrue}
+use Rattle.std.specs.Prelude.{◌≡◌, ◌≤◌, ℕ, List, take, IsTrue}
 use Rattle.text_io.specs.declared.slots.InSlot.{InSlot}
 use Rattle.text_io.specs.declared.slots.OutSlot.TheVariants.{Faults}
-use Rattle.text_io.specs.Desk.{DeskState, Folder, wrote}
+use Rattle.text_io.specs.Desk.{DeskState, Folder, wrote, Rose}
 use Rattle.command_outcomes.specs.declared.status.Status.{Status}
-use Rattle.command_outcomes.specs.Status.{is_decided}
+use Rattle.command_outcomes.specs.declared.status.Status.TheVariants.{Outside, Usage}
+use Rattle.command_outcomes.specs.Status.{is_decided, is_unfailed}
 use Rattle.command_outcomes.specs.Written.{Written, wrote_all}
 use Rattle.command_outcomes.specs.Binding.{Files, bound_state, AreNamed, IsFront, HasOutputs, took_all, Tells}
 use Rattle.command_outcomes.specs.Outcome.{Outcome, IsPartOf, IsAllOf}
@@ -27,3 +28,10 @@ pub record RunsAs (files : Files) (outcome : Folder → Outcome) (old new : Desk
   pub outputs : IsTrue (is_decided result) → HasOutputs bound files
   pub all_bound : IsTrue (is_decided result) → (folder : Folder) → Tells files old folder → bound ≡ take (outcome folder).binds files
   pub whole : IsTrue (is_decided result) → (folder : Folder) → Tells files old folder → IsAllOf result text faults (outcome folder)
+
+-- the count of faults rose where a call failed, and in every other case it stayed as it was; words without a reading end no run here
+pub record StopsWithStatus (before now : ℕ) (end : Status) : Type 0 where
+  pub later : before ≤ now
+  pub kept : IsTrue (is_unfailed end) → now ≡ before
+  pub outside : end ≡ Outside → Rose before now
+  pub usage : end ≡ Usage → ⊥

@@ -4,15 +4,7 @@ use Rattle.specify_blocks.specs.VerilogText.{verilog_text}
 use Rattle.specify_blocks.specs.WellFormed.{IsWellFormedModule}
 use Rattle.model_traces.specs.ModuleTrace.{module_machine}
 use Rattle.model_replay.specs.declared.format.ModelFormat.TheVariants.{Verilog}
-use Rattle.model_replay.specs.Languages.{Language}
+use Rattle.model_replay.specs.Languages.{Language, language_of}
 
 abbrev pub verilog : Language VModule
-verilog =
-    record {
-      format = Verilog;
-      text = verilog_text;
-      name = λ (m : VModule). m.name;
-      ports = λ (m : VModule). m.ports;
-      machine = module_machine;
-      is_well_formed = IsWellFormedModule;
-    }
+verilog = language_of Verilog verilog_text (λ (m : VModule). m.name) (λ (m : VModule). m.ports) module_machine IsWellFormedModule

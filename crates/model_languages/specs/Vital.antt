@@ -4,15 +4,7 @@ use Rattle.vhdl_text.specs.VhdlText.{vhdl_text}
 use Rattle.vhdl_text.specs.WellFormed.{IsWellFormedEntity}
 use Rattle.model_traces.specs.EntityTrace.{entity_machine}
 use Rattle.model_replay.specs.declared.format.ModelFormat.TheVariants.{Vital}
-use Rattle.model_replay.specs.Languages.{Language}
+use Rattle.model_replay.specs.Languages.{Language, language_of}
 
 abbrev pub vital : Language VEntity
-vital =
-    record {
-      format = Vital;
-      text = vhdl_text;
-      name = λ (e : VEntity). e.name;
-      ports = λ (e : VEntity). e.ports;
-      machine = entity_machine;
-      is_well_formed = IsWellFormedEntity;
-    }
+vital = language_of Vital vhdl_text (λ (e : VEntity). e.name) (λ (e : VEntity). e.ports) entity_machine IsWellFormedEntity

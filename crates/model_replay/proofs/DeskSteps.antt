@@ -35,27 +35,24 @@ took_all-both format.Vital s m n =
     ap (λ t. took (took t Vital m) Stimulus n) (took-zero (took s Library 0) Verilog ∙ took-zero s Library)
 
 -- what is left of each slot, whichever of the two comes first
-swapped_verilog : (w : InSlot → Option (List ℕ)) (m : ℕ) (bytes : List ℕ) (t : InSlot)
-    → put_in (put_in w Verilog (option_map (drop m) (w Verilog))) Stimulus (option_map (λ _. bytes) (put_in w Verilog (option_map (drop m) (w Verilog)) Stimulus)) t
-    ≡ put_in (put_in w Stimulus (option_map (λ _. bytes) (w Stimulus))) Verilog (option_map (drop m) (put_in w Stimulus (option_map (λ _. bytes) (w Stimulus)) Verilog)) t
-swapped_verilog w m bytes Library = refl
-swapped_verilog w m bytes Verilog = refl
-swapped_verilog w m bytes Vital = refl
-swapped_verilog w m bytes Stimulus = refl
-
-swapped_vital : (w : InSlot → Option (List ℕ)) (m : ℕ) (bytes : List ℕ) (t : InSlot)
-    → put_in (put_in w Vital (option_map (drop m) (w Vital))) Stimulus (option_map (λ _. bytes) (put_in w Vital (option_map (drop m) (w Vital)) Stimulus)) t
-    ≡ put_in (put_in w Stimulus (option_map (λ _. bytes) (w Stimulus))) Vital (option_map (drop m) (put_in w Stimulus (option_map (λ _. bytes) (w Stimulus)) Vital)) t
-swapped_vital w m bytes Library = refl
-swapped_vital w m bytes Verilog = refl
-swapped_vital w m bytes Vital = refl
-swapped_vital w m bytes Stimulus = refl
+swapped : (f : ModelFormat) (w : InSlot → Option (List ℕ)) (m : ℕ) (bytes : List ℕ) (t : InSlot)
+    → put_in (put_in w (slot_of f) (option_map (drop m) (w (slot_of f)))) Stimulus
+    (option_map (λ _. bytes) (put_in w (slot_of f) (option_map (drop m) (w (slot_of f))) Stimulus)) t
+    ≡ put_in (put_in w Stimulus (option_map (λ _. bytes) (w Stimulus))) (slot_of f)
+    (option_map (drop m) (put_in w Stimulus (option_map (λ _. bytes) (w Stimulus)) (slot_of f))) t
+swapped format.Verilog w m bytes Library = refl
+swapped format.Verilog w m bytes Verilog = refl
+swapped format.Verilog w m bytes Vital = refl
+swapped format.Verilog w m bytes Stimulus = refl
+swapped format.Vital w m bytes Library = refl
+swapped format.Vital w m bytes Verilog = refl
+swapped format.Vital w m bytes Vital = refl
+swapped format.Vital w m bytes Stimulus = refl
 
 -- the stimulus is bound after bytes of the file of models were read, or before
 pub opened-took : (f : ModelFormat) (s : DeskState) (m : ℕ) (bytes : List ℕ) → opened (took s (slot_of f) m) Stimulus bytes ≡ took (opened s Stimulus bytes) (slot_of f) m
 unfolding took opened
-opened-took format.Verilog s m bytes = λ i. record s { bound = (opened s Stimulus bytes).bound; left = λ t. swapped_verilog s.left m bytes t i }
-opened-took format.Vital s m bytes = λ i. record s { bound = (opened s Stimulus bytes).bound; left = λ t. swapped_vital s.left m bytes t i }
+opened-took f s m bytes = λ i. record s { bound = (opened s Stimulus bytes).bound; left = λ t. swapped f s.left m bytes t i }
 
 -- nothing was appended but to the faults
 pub faults_alone : (s : DeskState) (line : List ℕ) → wrote s Faults line ≡ wrote (wrote_all s nothing_written) Faults line

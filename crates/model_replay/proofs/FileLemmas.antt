@@ -141,47 +141,61 @@ pub IfSome-map : {X : Type 0} (o : Option X) (P Q : Type 0) → (P → Q) → If
 IfSome-map None P Q f h = tt
 IfSome-map (Some x) P Q f h = f h
 
+-- where the bytes have a reason, it is the file's, as far as the desk tells it
+refused_by : {T : Type 0} (answer : Answer T) → SaysNothing answer → (old mid : DeskState) (slot : InSlot) (place limit : ℕ) (taken : Taken) (r : Refused)
+    → (t : TakesFile old mid slot place limit taken) → answer taken.more taken.bytes.items ≡ Err r → (P : Refused → Type 0) → P r
+    → IfSome (old.left slot) (λ _. IsRefusedBy answer limit t.bytes P)
+refused_by answer same old mid slot place limit taken r t e P h =
+    IfSome-map (old.left slot) (answer_within answer limit t.bytes ≡ Err r) (IsRefusedBy answer limit t.bytes P) (λ is. (r, is, h))
+    (answer_told answer same old mid slot place limit taken (Err r) t e)
+
+-- want of memory has no line
+of_memory : (line : List ℕ) (r : Refused) → r ≡ refused.Memory → IsPrefix line (line_of r) → line ≡ []
+of_memory line r e part = let p : IsPrefix line (line_of refused.Memory) = subst (λ x. IsPrefix line (line_of x)) e part in nothing_of_nothing line p.0 p.1
+
+-- want of memory decides nothing
+memory_undecided : (r : Refused) (end : Ending) → r ≡ refused.Memory → end ≡ ending_of r → is_decided (status_of end) ≡ false
+memory_undecided r end e is = let so : end ≡ ending.Memory = is ∙ ap ending_of e in ap (λ x. is_decided (status_of x)) so
+
 file_refused : {T : Type 0} (answer : Answer T) → SaysNothing answer → (old mid new : DeskState) (slot : InSlot) (place limit : ℕ) (taken : Taken) (r : Refused) (end : Ending)
     → TakesFile old mid slot place limit taken → (r ≡ refused.Memory) ⊎ (answer taken.more taken.bytes.items ≡ Err r) → TellsRefused mid new r end
     → FileIsRefused answer limit old new slot place end
-file_refused answer same old mid new slot place limit taken r end t (inl e) w =
-    let of_memory : IsPrefix w.line (line_of refused.Memory) = subst (λ x. IsPrefix w.line (line_of x)) e w.part in
-    record {
-      bound = true;
-      bytes = t.bytes;
-      count = t.count;
-      line = w.line;
-      named = λ _. t.named;
-      state = w.state ∙ ap (λ s. wrote s Faults w.line) t.state;
-      part = inl (nothing_of_nothing w.line of_memory.0 of_memory.1);
-      whole = λ d. absurd (
-          let is : end ≡ ending.Memory = (w.whole d).0 ∙ ap ending_of e in
-          let no : is_decided (status_of end) ≡ false = ap (λ x. is_decided (status_of x)) is in
-          cc);
-    }
-file_refused answer same old mid new slot place limit taken r end t (inr e) w =
-    let told = answer_told answer same old mid slot place limit taken (Err r) t e in
-    record {
-      bound = true;
-      bytes = t.bytes;
-      count = t.count;
-      line = w.line;
-      named = λ _. t.named;
-      state = w.state ∙ ap (λ s. wrote s Faults w.line) t.state;
-      part = inr (refl, IfSome-map (old.left slot) (answer_within answer limit t.bytes ≡ Err r) (IsRefusedBy answer limit t.bytes (λ refused. IsPrefix w.line (line_of refused))) (λ h. (r, h, w.part)) told);
-      whole = λ d. (refl, IfSome-map (old.left slot) (answer_within answer limit t.bytes ≡ Err r) (IsRefusedBy answer limit t.bytes (λ refused. (end ≡ ending_of refused) × (w.line ≡ line_of refused))) (λ h. (r, h, w.whole d)) told);
-    }
+file_refused answer same old mid new slot place limit taken r end t why w = record {
+  bound = true;
+  bytes = t.bytes;
+  count = t.count;
+  line = w.line;
+  named = λ _. t.named;
+  state = w.state ∙ ap (λ s. wrote s Faults w.line) t.state;
+  part = elim why [
+    | inl e ↦ inl (of_memory w.line r e w.part)
+    | inr e ↦ inr (refl, refused_by answer same old mid slot place limit taken r t e (λ refused. IsPrefix w.line (line_of refused)) w.part)
+  ];
+  whole = λ d. elim why [
+    | inl e ↦ absurd (let no = memory_undecided r end e (w.whole d).0 in cc)
+    | inr e ↦ (refl, refused_by answer same old mid slot place limit taken r t e (λ refused. (end ≡ ending_of refused) × (w.line ≡ line_of refused)) (w.whole d))
+  ];
+}
 
 -- a file that was taken was read, or its reason told
-pub read_or_refused : {T A : Type 0} (answer : Answer (List T)) → SaysNothing answer → (old mid new : DeskState) (slot : InSlot) (place limit : ℕ) (taken : Taken)
+read_or_told : {T A : Type 0} (answer : Answer (List T)) → SaysNothing answer → (old mid new : DeskState) (slot : InSlot) (place limit : ℕ) (taken : Taken)
     (found : Result (Vec T A) Refused) (result : Result (Vec T A) Ending) → TakesFile old mid slot place limit taken → Answers found (answer taken.more taken.bytes.items)
     → MatchResult found (λ value. (result ≡ Ok value) × (new ≡ mid)) (λ r. IsErrAnd result (TellsRefused mid new r))
     → IfOk result (λ value. FileIsRead answer limit old new slot place value.items) × IfErr result (FileIsRefused answer limit old new slot place)
-read_or_refused answer same old mid new slot place limit taken (Ok value) result t a h =
+read_or_told answer same old mid new slot place limit taken (Ok value) result t a h =
     rw (h.0, h.1) (file_read answer same old mid slot place limit taken value.items t a, tt)
-read_or_refused answer same old mid new slot place limit taken (Err r) (Ok value) t a h = absurd h
-read_or_refused {A = A} answer same old mid new slot place limit taken (Err r) (Err end) t a h =
+read_or_told answer same old mid new slot place limit taken (Err r) (Ok value) t a h = absurd h
+read_or_told {A = A} answer same old mid new slot place limit taken (Err r) (Err end) t a h =
     (tt, file_refused answer same old mid new slot place limit taken r end t (reason A (answer taken.more taken.bytes.items) r a) h)
+
+-- the same of a slot that is this one
+pub read_or_refused : {T A : Type 0} (answer : Answer (List T)) → SaysNothing answer → (old mid new : DeskState) (bound slot : InSlot) (place limit : ℕ) (taken : Taken)
+    (found : Result (Vec T A) Refused) (result : Result (Vec T A) Ending) → bound ≡ slot → TakesFile old mid bound place limit taken
+    → Answers found (answer taken.more taken.bytes.items)
+    → MatchResult found (λ value. (result ≡ Ok value) × (new ≡ mid)) (λ r. IsErrAnd result (TellsRefused mid new r))
+    → IfOk result (λ value. FileIsRead answer limit old new slot place value.items) × IfErr result (FileIsRefused answer limit old new slot place)
+read_or_refused answer same old mid new bound slot place limit taken found result is t a h =
+    read_or_told answer same old mid new slot place limit taken found result (subst (λ s. TakesFile old mid s place limit taken) is t) a h
 
 pub file_stopped : {T : Type 0} (answer : Answer T) (old new : DeskState) (slot : InSlot) (place limit : ℕ) (end : Ending) → StopsAtFile old new slot place end
     → FileIsRefused answer limit old new slot place end

@@ -25,6 +25,7 @@ use Rattle.command_outcomes.specs.Written.{nothing_written, in_report, wrote_all
 use Rattle.command_outcomes.specs.Binding.{Files, bound_state, AreNamed, IsFront, HasOutputs, took_all, only, Tells, bytes_at}
 use Rattle.command_outcomes.specs.Outcome.{Outcome, IsPartOf, IsAllOf}
 use Rattle.command_outcomes.specs.Runs.{RunsAs}
+use Rattle.command_outcomes.specs.FileSteps.{opened_where}
 use Rattle.command_outcomes.proofs.WrittenLaws.{wrote_all-report, IsPart-nothing}
 use Rattle.command_outcomes.proofs.BindingLaws.{took_all-only, named_bytes}
 use Rattle.command_outcomes.proofs.RunsLaws.{nothing}
@@ -38,7 +39,7 @@ use Rattle.model_replay.specs.ModelPorts.{models_named, HaveOwnNames}
 use Rattle.model_replay.specs.Outcome.{model_limit, stimulus_limit, replay_files, sections_text, models_outcome, replay_outcome, replay_of}
 use Rattle.model_replay.specs.Endings.{status_of, ending_of, line_of, printed_status}
 use Rattle.model_replay.specs.Answers.{models_or, models_answer, sections_or, sections_answer}
-use Rattle.model_replay.specs.FileEnds.{answer_within, opened_if, FileIsRead, FileIsRefused, IsRefusedBy}
+use Rattle.model_replay.specs.FileEnds.{answer_within, FileIsRead, FileIsRefused, IsRefusedBy}
 use Rattle.model_replay.specs.Replays.{ReadsReplay}
 use Rattle.model_replay.proofs.DeskSteps.{of_both, both, both-text, took_all-both, faults_alone, both_state, file_before, words_before, left_before}
 use Rattle.model_replay.proofs.Sections.{all_can_be_run}
@@ -78,7 +79,7 @@ text_named : (f : ModelFormat) (b : Bool) (old : DeskState) (bytes : List ℕ) �
 text_named f true old bytes h = (h refl, tt)
 text_named f false old bytes h = tt
 
-text_state : (f : ModelFormat) (b : Bool) (old : DeskState) (bytes : List ℕ) → opened_if b old (slot_of f) bytes ≡ bound_state old (text_if f b) (λ _. bytes)
+text_state : (f : ModelFormat) (b : Bool) (old : DeskState) (bytes : List ℕ) → opened_where b old (slot_of f) bytes ≡ bound_state old (text_if f b) (λ _. bytes)
 text_state f true old bytes = refl
 text_state f false old bytes = refl
 
@@ -152,7 +153,7 @@ stimulus_named f true old text stimulus h k = (subst (IsFileAt old 1) (sym (both
 stimulus_named f false old text stimulus h k = (subst (IsFileAt old 1) (sym (both-text f text stimulus)) h, tt)
 
 stimulus_state : (f : ModelFormat) (b : Bool) (old now : DeskState) (text stimulus : List ℕ) (m n : ℕ) → now ≡ took (opened old (slot_of f) text) (slot_of f) m
-    → took (opened_if b now Stimulus stimulus) Stimulus n ≡ took_all (bound_state old ((Input (slot_of f), 1) ∷ stimulus_if b) (both text stimulus)) (of_both f m n)
+    → took (opened_where b now Stimulus stimulus) Stimulus n ≡ took_all (bound_state old ((Input (slot_of f), 1) ∷ stimulus_if b) (both text stimulus)) (of_both f m n)
 stimulus_state f true old now text stimulus m n e = both_state f old now text stimulus m n e
 stimulus_state f false old now text stimulus m n e =
     ap (λ s. took s Stimulus n) e

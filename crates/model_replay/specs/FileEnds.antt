@@ -5,6 +5,7 @@ use Rattle.text_io.specs.declared.slots.OutSlot.TheVariants.{Faults}
 use Rattle.text_io.specs.declared.reading.Taken.{Taken}
 use Rattle.text_io.specs.Desk.{DeskState, opened, took, wrote, IsFileAt, IsPrefix}
 use Rattle.command_outcomes.specs.Status.{is_decided}
+use Rattle.command_outcomes.specs.FileSteps.{opened_where}
 use Rattle.model_replay.specs.declared.ending.Ending.{Ending}
 use Rattle.model_replay.specs.declared.refused.Refused.{Refused}
 use Rattle.model_replay.specs.Endings.{status_of, ending_of, line_of}
@@ -16,11 +17,6 @@ Answer T = Bool → List ℕ → Result T Refused
 -- what a file with these bytes is read as, within a limit
 abbrev pub answer_within : {T : Type 0} → Answer T → ℕ → List ℕ → Result T Refused
 answer_within answer limit bytes = answer (nat_lt limit (length bytes)) bytes
-
--- after the slot was bound to a file with these bytes, or was not
-abbrev pub opened_if : Bool → DeskState → InSlot → List ℕ → DeskState
-opened_if true s slot bytes = opened s slot bytes
-opened_if false s slot bytes = s
 
 -- After a call that binds the file that a word names and takes its first bytes: nothing else changed. Where the desk tells them
 -- they are the file's.
@@ -39,7 +35,7 @@ pub record StopsAtFile (old new : DeskState) (slot : InSlot) (place : ℕ) (end 
   pub bytes : List ℕ
   pub count : ℕ
   pub named : bound ≡ true → IsFileAt old place bytes
-  pub state : new ≡ took (opened_if bound old slot bytes) slot count
+  pub state : new ≡ took (opened_where bound old slot bytes) slot count
   pub undecided : is_decided (status_of end) ≡ false
 
 -- after a call that tells of a file that is not read, and ends so
@@ -74,7 +70,7 @@ pub record FileIsRefused {T : Type 0} (answer : Answer T) (limit : ℕ) (old new
   pub count : ℕ
   pub line : List ℕ
   pub named : bound ≡ true → IsFileAt old place bytes
-  pub state : new ≡ wrote (took (opened_if bound old slot bytes) slot count) Faults line
+  pub state : new ≡ wrote (took (opened_where bound old slot bytes) slot count) Faults line
   pub part : (line ≡ []) ⊎ ((bound ≡ true) × IfSome (old.left slot) (λ _. IsRefusedBy answer limit bytes (λ refused. IsPrefix line (line_of refused))))
   pub whole : IsTrue (is_decided (status_of end))
       → (bound ≡ true) × IfSome (old.left slot) (λ _. IsRefusedBy answer limit bytes (λ refused. (end ≡ ending_of refused) × (line ≡ line_of refused)))

@@ -20,6 +20,11 @@ pub record Language (M : Type 0) : Type 1 where
   pub machine : M → Machine
   pub is_well_formed : M → Type 0
 
+-- the language of these
+abbrev pub language_of : {M : Type 0} → ModelFormat → (List ℕ → Result (List M) ModelFault) → (M → List ℕ) → (M → List VPort) → (M → Machine) → (M → Type 0) → Language M
+language_of format text name ports machine is_well_formed =
+    record { format = format; text = text; name = name; ports = ports; machine = machine; is_well_formed = is_well_formed }
+
 -- this is the fault of a text of which this is the answer; want of memory is told of no text
 abbrev pub IsFaultIn : {M : Type 0} → Result (List M) ModelFault → ModelFault → Type 0
 IsFaultIn answer fault.Memory = Unit {0}

@@ -5,14 +5,13 @@
 mod catalog;
 mod ending;
 mod faults;
+mod files;
 mod format;
 mod language;
-mod model_file;
 mod printing;
 mod reading;
 mod refused;
 mod run;
-mod stimulus_file;
 mod whole_file;
 
 pub use catalog::models_named;
@@ -20,12 +19,11 @@ pub use ending::Ending;
 pub use faults::{
     write_model_fault, write_model_too_long, write_stimulus_fault, write_stimulus_too_long,
 };
+pub use files::{read_models, read_sections};
 pub use format::ModelFormat;
 pub use language::ModelLanguage;
-pub use model_file::read_models;
 pub use printing::write_sections;
 pub use reading::{Replay, read_replay};
 pub use refused::Refused;
 pub use run::replay_models;
-pub use stimulus_file::read_sections;
 pub use whole_file::take_file;

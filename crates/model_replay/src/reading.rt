@@ -8,9 +8,8 @@ ghost use Rattle.model_replay.specs.Replays.{ReadsReplay};
 
 use crate::catalog::models_named;
 use crate::ending::Ending;
+use crate::files::{read_models, read_sections};
 use crate::language::ModelLanguage;
-use crate::model_file::read_models;
-use crate::stimulus_file::read_sections;
 use sqlite_items::Items;
 use std::alloc::Global;
 use stimulus::{PortCatalog, Section};

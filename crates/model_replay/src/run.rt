@@ -1,9 +1,7 @@
 //! Replaying a file of models: its files are read, and then its sections are run and printed.
-ghost use Rattle.std.specs.Prelude.{◌≡◌, ◌≤◌, IsTrue};
-ghost use Rattle.text_io.specs.Desk.{Rose};
+ghost use Rattle.std.specs.Prelude.{◌≡◌};
 ghost use Rattle.text_io.specs.Plan.{plan};
-ghost use Rattle.command_outcomes.specs.Status.{is_unfailed};
-ghost use Rattle.command_outcomes.specs.Runs.{RunsAs};
+ghost use Rattle.command_outcomes.specs.Runs.{RunsAs, StopsWithStatus};
 ghost use Rattle.model_replay.specs.Outcome.{replay_files, replay_of};
 ghost use Rattle.model_replay.specs.Endings.{printed_status};
 
@@ -23,10 +21,7 @@ use text_io::Desk;
 pub fn replay_models<D: Desk, L: ModelLanguage>(alloc: Global, desk: &mut D) -> Status
     requires { plan (D.state desk.old).words ≡ replay_files L.language.format }
     ensures writes { RunsAs (replay_files L.language.format) (replay_of L.language (D.state desk.old).words) (D.state desk.old) (D.state desk.new) result }
-    ensures usage { result ≡ Status.Usage → ⊥ }
-    ensures outside { result ≡ Status.Outside → Rose (D.faults desk.old) (D.faults desk.new) }
-    ensures later { D.faults desk.old ≤ D.faults desk.new }
-    ensures kept { IsTrue (is_unfailed result) → D.faults desk.new ≡ D.faults desk.old }
+    ensures cause { StopsWithStatus (D.faults desk.old) (D.faults desk.new) result }
 {
     match read_replay::<D, L>(alloc, desk) {
         Ok(replay) => ended(write_sections::<D, L>(alloc, desk, &replay)),

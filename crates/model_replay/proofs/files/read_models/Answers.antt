@@ -2,9 +2,9 @@ use Rattle.std.proofs.Common.{sym, ap, subst, refl, ◌∙◌}
 use Rattle.model_replay.specs.Formats.{slot_of}
 use Rattle.model_replay.specs.Outcome.{model_limit}
 use Rattle.model_replay.specs.Answers.{models_answer}
-use Rattle.model_replay.specs.FileEnds.{TakesFile, StopsAtFile, FileIsRefused}
+use Rattle.model_replay.specs.FileEnds.{StopsAtFile, FileIsRefused}
 use Rattle.model_replay.proofs.FileLemmas.{err_is, file_stopped, read_or_refused}
-use Rattle.model_replay.proofs.model_file.read_models.Goals as goal
+use Rattle.model_replay.proofs.files.read_models.Goals as goal
 
 pub returns-in_err-taken-clause-err : goal.returns-in_err-taken-clause-err
 returns-in_err-taken-clause-err g c =
@@ -19,18 +19,10 @@ returns-in_err-taken-clause-err g c =
 
 pub returns-clause-ok : goal.returns-clause-ok
 returns-clause-ok g c =
-    let old = g.D.Desk.state c.args.desk.now in
-    let mid = g.D.Desk.state c.take_file.new.desk in
     let l = g.L.ModelLanguage.language in
-    let slot = c.slot.ensures ∙ ap slot_of c.format.ensures in
-    let takes = subst (λ s. TakesFile old mid s c.args.place model_limit c.in_ok-taken.taken) slot c.in_ok-taken.ensures.ok in
-    (read_or_refused (models_answer l) (λ xs ys. refl) _ _ _ (slot_of l.format) c.args.place model_limit c.in_ok-taken.taken c.models_in-found.result c.or_tell.result takes c.models_in-found.ensures.answer c.or_tell.ensures.found).0
+    (read_or_refused (models_answer l) (λ xs ys. refl) _ _ _ _ (slot_of l.format) c.args.place model_limit c.in_ok-taken.taken c.models_in-found.result c.or_tell.result (c.slot.ensures ∙ ap slot_of c.format.ensures) c.in_ok-taken.ensures.ok c.models_in-found.ensures.answer c.or_tell.ensures.found).0
 
 pub returns-clause-err : goal.returns-clause-err
 returns-clause-err g c =
-    let old = g.D.Desk.state c.args.desk.now in
-    let mid = g.D.Desk.state c.take_file.new.desk in
     let l = g.L.ModelLanguage.language in
-    let slot = c.slot.ensures ∙ ap slot_of c.format.ensures in
-    let takes = subst (λ s. TakesFile old mid s c.args.place model_limit c.in_ok-taken.taken) slot c.in_ok-taken.ensures.ok in
-    (read_or_refused (models_answer l) (λ xs ys. refl) _ _ _ (slot_of l.format) c.args.place model_limit c.in_ok-taken.taken c.models_in-found.result c.or_tell.result takes c.models_in-found.ensures.answer c.or_tell.ensures.found).1
+    (read_or_refused (models_answer l) (λ xs ys. refl) _ _ _ _ (slot_of l.format) c.args.place model_limit c.in_ok-taken.taken c.models_in-found.result c.or_tell.result (c.slot.ensures ∙ ap slot_of c.format.ensures) c.in_ok-taken.ensures.ok c.models_in-found.ensures.answer c.or_tell.ensures.found).1

@@ -1,6 +1,6 @@
 -- Beside the models that are generated for a library's cells a simulation ends neither for want of a model nor with traces that differ.
 use Rattle.std.proofs.Common.{◌≡◌, ℕ, zero, suc, Bool, true, false, if◌then◌else◌, List, [], ◌∷◌, length, map, nat_lt, position, bytes_eq, Option, Some, None, Result, Ok, Err, refl, sym, ap, subst, ◌∙◌}
-use Rattle.std.specs.Prelude.{slice_get, All}
+use Rattle.std.specs.Prelude.{◌≢◌, slice_get, All}
 use Rattle.std.specs.Option.{option_map}
 use Rattle.std.proofs.lemmas.List.{length-map}
 use Rattle.cell_reader.specs.LibraryCells.{CellEntry, Accepted, Refused, name_of, cell_names}
@@ -96,17 +96,18 @@ not_model listing cause.OutputPin fine names e = absurd cc
 not_model listing cause.Value fine names e = absurd cc
 not_model listing cause.Time fine names e = absurd cc
 
-not_differ : (why : Cause) → cause_status why ≡ status.Differ → ⊥
-not_differ cause.Form e = absurd cc
-not_differ cause.UnknownCell e = absurd cc
-not_differ (cause.RefusedCell number) e = absurd cc
-not_differ (cause.VerilogPorts number) e = absurd cc
-not_differ (cause.VitalPorts number) e = absurd cc
-not_differ cause.Count e = absurd cc
-not_differ cause.UnknownPin e = absurd cc
-not_differ cause.OutputPin e = absurd cc
-not_differ cause.Value e = absurd cc
-not_differ cause.Time e = absurd cc
+-- a bad line ends a run neither by traces that differ nor as done
+pub bad_line_stops : (why : Cause) → (cause_status why ≢ status.Differ) × (cause_status why ≢ status.Done)
+bad_line_stops cause.Form = (λ e. absurd cc, λ e. absurd cc)
+bad_line_stops cause.UnknownCell = (λ e. absurd cc, λ e. absurd cc)
+bad_line_stops (cause.RefusedCell number) = (λ e. absurd cc, λ e. absurd cc)
+bad_line_stops (cause.VerilogPorts number) = (λ e. absurd cc, λ e. absurd cc)
+bad_line_stops (cause.VitalPorts number) = (λ e. absurd cc, λ e. absurd cc)
+bad_line_stops cause.Count = (λ e. absurd cc, λ e. absurd cc)
+bad_line_stops cause.UnknownPin = (λ e. absurd cc, λ e. absurd cc)
+bad_line_stops cause.OutputPin = (λ e. absurd cc, λ e. absurd cc)
+bad_line_stops cause.Value = (λ e. absurd cc, λ e. absurd cc)
+bad_line_stops cause.Time = (λ e. absurd cc, λ e. absurd cc)
 
 -- a run that is stopped, neither for want of a model nor by traces that differ
 stopped_fine : (cells : List CellEntry) (modules : List VModule) (entities : List VEntity) (stop : FileStop) → (stop.status ≡ status.Model → ⊥) → (stop.status ≡ status.Differ → ⊥)
@@ -133,7 +134,7 @@ ends_equal cells bytes false keep own = by (stimulus_of listing bytes) refl
         }
     by (Err (fault.Line line why)) e =
         stopped_fine cells (modules_of cells) (entities_of cells) (fault_stop cells (fault.Line line why))
-        (not_model listing why (all_supplied cells own) (causes_name_answers listing bytes line why e)) (not_differ why)
+        (not_model listing why (all_supplied cells own) (causes_name_answers listing bytes line why e)) (bad_line_stops why).0
     by (Err fault.Memory) e = stopped_fine cells (modules_of cells) (entities_of cells) (fault_stop cells fault.Memory) (λ f. absurd cc) (λ f. absurd cc)
 
 pub never_model_or_differ : NeverModelOrDiffer

@@ -6,26 +6,22 @@ use Rattle.std.proofs.lemmas.Bool.Decides.{nat_tests}
 use Rattle.text_io.specs.declared.slots.InSlot.{InSlot}
 use Rattle.text_io.specs.declared.slots.OutSlot.TheVariants.{Faults}
 use Rattle.text_io.specs.declared.reading.Taken.{Taken}
-use Rattle.text_io.specs.Desk.{DeskState, took, wrote, IsPrefix}
+use Rattle.text_io.specs.Desk.{DeskState, wrote, IsPrefix}
 use Rattle.text_io.proofs.Wrote.{wrote-nil}
 use Rattle.cell_reader.specs.LibraryCells.{CellEntry}
 use Rattle.stimulus.specs.declared.sections.Section.{Section}
 use Rattle.stimulus.specs.PortEntries.{NamedCells}
 use Rattle.command_outcomes.specs.declared.status.Status.{Status}
 use Rattle.command_outcomes.specs.declared.status.Status.TheVariants as status
-use Rattle.command_outcomes.specs.FileSteps.{FileStop, FileAnswer, opened_where, FileIsTaken, FileEndsRun, EndsBy}
+use Rattle.command_outcomes.specs.FileSteps.{FileStop, FileAnswer, FileIsTaken, FileEndsRun, EndsBy}
 use Rattle.model_replay.specs.declared.ending.Ending.{Ending}
 use Rattle.model_replay.specs.Endings.{status_of}
-use Rattle.model_replay.specs.FileEnds.{opened_if, TakesFile, StopsAtFile}
+use Rattle.model_replay.specs.FileEnds.{TakesFile, StopsAtFile}
 use Rattle.model_replay.specs.Outcome.{stimulus_limit}
 use Rattle.model_replay.proofs.FileLemmas.{IfSome-map}
 use Rattle.simulation_catalog.specs.StimulusFile.{answer_where, stimulus_answer}
 
 -- A file that could not be taken.
-
-opened_as : (bound : Bool) (s : DeskState) (slot : InSlot) (bytes : List ℕ) → opened_if bound s slot bytes ≡ opened_where bound s slot bytes
-opened_as true s slot bytes = refl
-opened_as false s slot bytes = refl
 
 pub not_taken : {T : Type 0} (answer : FileAnswer T) (old new : DeskState) (slot : InSlot) (place : ℕ) (end : Ending) → StopsAtFile old new slot place end
     → FileEndsRun answer old new slot place (status_of end)
@@ -35,7 +31,7 @@ not_taken answer old new slot place end s = record {
   count = s.count;
   line = [];
   named = s.named;
-  state = s.state ∙ ap (λ x. took x slot s.count) (opened_as s.bound old slot s.bytes) ∙ sym (wrote-nil _ Faults);
+  state = s.state ∙ sym (wrote-nil _ Faults);
   part = inl refl;
   whole = λ d. absurd (let no = s.undecided in cc);
 }

@@ -95,21 +95,14 @@ fits spelling ports ports_at (Some k) number e = by (has_ports spelling ports (p
     by true f g = let same : k ≡ number = cc in subst (λ n. has_ports spelling ports (ports_at n) ≡ true) same f
     by false f g = absurd cc
 
-fitting_module : (ports : List VPort) (modules : List VModule) (number : ℕ) → has_ports Exact ports (module_ports modules number) ≡ true
-    → (m : VModule) × ((slice_get modules number ≡ Some m) × (same_ports Exact ports m.ports ≡ true))
-fitting_module ports modules number e = by (slice_get modules number) refl e
+-- the model with this number has the ports
+fitting_model : {M : Type 0} (spelling : Spelling) (ports_in : M → List VPort) (ports : List VPort) (models : List M) (number : ℕ)
+    → has_ports spelling ports (option_map ports_in (slice_get models number)) ≡ true
+    → (m : M) × ((slice_get models number ≡ Some m) × (same_ports spelling ports (ports_in m) ≡ true))
+fitting_model {M = M} spelling ports_in ports models number e = by (slice_get models number) refl e
   where
-    by : (found : Option VModule) → slice_get modules number ≡ found → has_ports Exact ports (option_map (λ (m : VModule). m.ports) found) ≡ true
-        → (m : VModule) × ((slice_get modules number ≡ Some m) × (same_ports Exact ports m.ports ≡ true))
-    by None f g = absurd cc
-    by (Some m) f g = (m, (f, g))
-
-fitting_entity : (ports : List VPort) (entities : List VEntity) (number : ℕ) → has_ports AnyCase ports (entity_ports entities number) ≡ true
-    → (m : VEntity) × ((slice_get entities number ≡ Some m) × (same_ports AnyCase ports m.ports ≡ true))
-fitting_entity ports entities number e = by (slice_get entities number) refl e
-  where
-    by : (found : Option VEntity) → slice_get entities number ≡ found → has_ports AnyCase ports (option_map (λ (m : VEntity). m.ports) found) ≡ true
-        → (m : VEntity) × ((slice_get entities number ≡ Some m) × (same_ports AnyCase ports m.ports ≡ true))
+    by : (found : Option M) → slice_get models number ≡ found → has_ports spelling ports (option_map ports_in found) ≡ true
+        → (m : M) × ((slice_get models number ≡ Some m) × (same_ports spelling ports (ports_in m) ≡ true))
     by None f g = absurd cc
     by (Some m) f g = (m, (f, g))
 
@@ -131,10 +124,10 @@ has_models modules entities cell entity e =
     let models = named_models modules entities in
     let found = both_found (verilog_number models cell) (vital_number models entity cell) e in
     let (m, (m_is, m_ports)) =
-    fitting_module (in_verilog.ports_of cell.pins) modules found.module_number
+    fitting_model Exact (λ (m : VModule). m.ports) (in_verilog.ports_of cell.pins) modules found.module_number
     (fits Exact (in_verilog.ports_of cell.pins) (module_ports modules) (number_of models.module_names (module_name cell.number cell.name)) found.module_number found.module_is) in
     let (n, (n_is, n_ports)) =
-    fitting_entity (in_vital.ports_of entity cell.pins) entities found.entity_number
+    fitting_model AnyCase (λ (e : VEntity). e.ports) (in_vital.ports_of entity cell.pins) entities found.entity_number
     (fits AnyCase (in_vital.ports_of entity cell.pins) (entity_ports entities) (number_of models.entity_names (lowered entity)) found.entity_number found.entity_is) in
     record {
       numbers = record { verilog = found.module_number; vital = found.entity_number };

@@ -1,5 +1,5 @@
 -- The text of the section of a cell beside the models that stand for it: how far it was appended, and whether it differs.
-use Rattle.std.proofs.Common.{◌≡◌, ◌<◌, ◌≤◌, ℕ, Bool, List, ◌++◌, length, take, get_or, ◌+◌, ◌||◌, Option, is_some, Result, Ok, Err, IsErr, IsErrAnd, sym, ap, subst, ◌∙◌}
+use Rattle.std.proofs.Common.{◌≡◌, ◌<◌, ◌≤◌, ℕ, Bool, List, ◌++◌, length, take, get_or, ◌+◌, ◌||◌, Option, is_some, Result, Ok, Err, IfOk, IsErr, IsErrAnd, sym, ap, subst, ◌∙◌}
 use Rattle.std.specs.List.{list_any}
 use Rattle.std.proofs.lemmas.List.{take_all}
 use Rattle.std.proofs.lemmas.List.Folds.{list_any_more}
@@ -20,12 +20,12 @@ use Rattle.stimulus.specs.declared.sections.Section.{Section}
 use Rattle.section_runs.specs.declared.faults.RunFault.{RunFault}
 use Rattle.section_runs.specs.declared.faults.RunFault.TheVariants as fault
 use Rattle.section_runs.specs.TraceText.{heading_text}
-use Rattle.section_runs.specs.Comparison.{Lines, three_lines, compared_text, first_unlike, verdict_text}
+use Rattle.section_runs.specs.Comparison.{HavePorts, three_lines, compared_text, first_unlike, verdict_text}
 use Rattle.section_runs.specs.Writes.{WritesTrace, HasCause}
 use Rattle.section_runs.proofs.Runs.{behind, stops_before, written_part}
 use Rattle.simulation_catalog.specs.Comparisons.{Compared, lines_of, compared_section, section_by, section_text, differs_by, differs, any_differs}
 use Rattle.model_simulation.specs.declared.comparisons.Beside.{Beside}
-use Rattle.model_simulation.specs.Besides.{compared_of, IsRunOn}
+use Rattle.model_simulation.specs.Besides.{compared_with, compared_of, IsRunOn}
 
 -- What is appended for what the section is run on is the section's text, and it differs so.
 
@@ -45,60 +45,64 @@ trace_stops s t a b y (Ok x) w e = absurd cc
 trace_stops s t a b y (Err z) w e =
     record { whole = tt; part = record { part = w.part.part; front = IsPrefix-front w.part.part a b w.part.front; state = w.part.state } }
 
--- The machines of the three simulators are those of what the section is run on.
+-- The machines of three simulators that were started are those of what the section is run on.
 
-pub lines_are : (beside : Beside) (liberty verilog vital : Machine) → liberty ≡ cell_machine_of (data_of beside.cell.now) → verilog ≡ module_machine beside.module.now → vital ≡ entity_machine beside.entity.now
-    → three_lines liberty verilog vital ≡ lines_of (compared_of beside)
-lines_are beside liberty verilog vital l v h = λ i. three_lines (l i) (v i) (h i)
+-- what holds of what was started
+pub of_started : {T E : Type 0} (r : Result T E) (x : T) (P : T → Type 0) → r ≡ Ok x → IfOk r P → P x
+of_started r x P e h = rw e at h
+
+pub have_ports : (beside : Beside) (liberty verilog vital : Machine) → liberty ≡ cell_machine_of (data_of beside.cell.now) → verilog ≡ module_machine beside.module.now → vital ≡ entity_machine beside.entity.now
+    → HavePorts beside.ports.now (cell_machine_of (data_of beside.cell.now)) (module_machine beside.module.now) (entity_machine beside.entity.now)
+    → HavePorts beside.ports.now liberty verilog vital
+have_ports beside liberty verilog vital l v h have = rw (l, v, h) have
+
+pub text_is : {T : Type 0} (beside : Beside) (name : List ℕ) (liberty verilog vital : Machine) (given changes : List Change) (s t : DeskState) (r : Result T RunFault)
+    → name ≡ beside.cell.now.name → given ≡ changes
+    → liberty ≡ cell_machine_of (data_of beside.cell.now) → verilog ≡ module_machine beside.module.now → vital ≡ entity_machine beside.entity.now
+    → WritesTrace s t (compared_section (compared_with name beside.ports.now liberty verilog vital) given) r → WritesTrace s t (compared_section (compared_of beside) changes) r
+text_is beside name liberty verilog vital given changes s t r n e l v h w =
+    subst (λ x. WritesTrace s t x r) (λ i. compared_section (compared_with (n i) beside.ports.now (l i) (v i) (h i)) (e i)) w
+
+pub unlike_is : {E : Type 0} (beside : Beside) (liberty verilog vital : Machine) (given changes : List Change) (r : Result Bool E) → given ≡ changes
+    → liberty ≡ cell_machine_of (data_of beside.cell.now) → verilog ≡ module_machine beside.module.now → vital ≡ entity_machine beside.entity.now
+    → IfOk r (λ some_differ. some_differ ≡ is_some (first_unlike given (three_lines liberty verilog vital)))
+    → IfOk r (λ some_differ. some_differ ≡ is_some (first_unlike changes (lines_of (compared_of beside))))
+unlike_is beside liberty verilog vital given changes r e l v h w =
+    subst (λ d. IfOk r (λ some_differ. some_differ ≡ d)) (λ i. is_some (first_unlike (e i) (three_lines (l i) (v i) (h i)))) w
 
 -- How far a section was appended: its parts are its heading, the lines and the verdict.
 
-pub heading_stops : {S T : Type 0} (c : Compared) (changes : List Change) (name : List ℕ) (s t : DeskState) (y : Failed) (r : Result T RunFault)
-    → name ≡ c.name → WritesText {T = S} s t Report (heading_text name) (Err y) → IsErr r → WritesTrace s t (compared_section c changes) r
+pub heading_stops : {S T : Type 0} (c : Compared) (changes : List Change) (s t : DeskState) (y : Failed) (r : Result T RunFault)
+    → WritesText {T = S} s t Report (heading_text c.name) (Err y) → IsErr r → WritesTrace s t (compared_section c changes) r
 unfolding compared_section
-heading_stops {S = S} c changes name s t y r named w e =
-    stops_before s t (heading_text c.name) (compared_text c.ports changes (lines_of c) ++ verdict_text (first_unlike changes (lines_of c))) y r
-    (subst (λ n. WritesText {T = S} s t Report (heading_text n) (Err y)) named w) e
+heading_stops c changes s t y r w e =
+    stops_before s t (heading_text c.name) (compared_text c.ports changes (lines_of c) ++ verdict_text (first_unlike changes (lines_of c))) y r w e
 
-pub lines_stop : {S T : Type 0} (c : Compared) (changes given : List Change) (lines : List Change → Lines) (name : List ℕ) (s t u : DeskState) (y : RunFault) (r : Result T RunFault)
-    → name ≡ c.name → given ≡ changes → lines ≡ lines_of c → t ≡ wrote s Report (heading_text name) → WritesTrace {T = S} t u (compared_text c.ports given lines) (Err y) → IsErr r
+pub lines_stop : {S T : Type 0} (c : Compared) (changes : List Change) (s t u : DeskState) (y : RunFault) (r : Result T RunFault)
+    → t ≡ wrote s Report (heading_text c.name) → WritesTrace {T = S} t u (compared_text c.ports changes (lines_of c)) (Err y) → IsErr r
     → WritesTrace s u (compared_section c changes) r
 unfolding compared_section
-lines_stop {S = S} c changes given lines name s t u y r named same shown h w e =
-    behind s t u (heading_text c.name) (compared_text c.ports changes (lines_of c) ++ verdict_text (first_unlike changes (lines_of c))) r
-    (h ∙ ap (λ n. wrote s Report (heading_text n)) named)
-    (trace_stops t u (compared_text c.ports changes (lines_of c)) (verdict_text (first_unlike changes (lines_of c))) y r (subst (λ x. WritesTrace {T = S} t u x (Err y)) (λ i. compared_text c.ports (same i) (shown i)) w) e)
+lines_stop c changes s t u y r h w e =
+    behind s t u (heading_text c.name) (compared_text c.ports changes (lines_of c) ++ verdict_text (first_unlike changes (lines_of c))) r h
+    (trace_stops t u (compared_text c.ports changes (lines_of c)) (verdict_text (first_unlike changes (lines_of c))) y r w e)
 
-pub verdict_stops : {S T : Type 0} (c : Compared) (changes given : List Change) (lines : List Change → Lines) (name : List ℕ) (first : Option ℕ) (s t u v : DeskState) (y : Failed) (r : Result T RunFault)
-    → name ≡ c.name → given ≡ changes → lines ≡ lines_of c → first ≡ first_unlike given lines
-    → t ≡ wrote s Report (heading_text name) → u ≡ wrote t Report (compared_text c.ports given lines) → WritesText {T = S} u v Report (verdict_text first) (Err y) → IsErr r
-    → WritesTrace s v (compared_section c changes) r
+pub verdict_stops : {S T : Type 0} (c : Compared) (changes : List Change) (first : Option ℕ) (s t u v : DeskState) (y : Failed) (r : Result T RunFault)
+    → first ≡ first_unlike changes (lines_of c) → t ≡ wrote s Report (heading_text c.name) → u ≡ wrote t Report (compared_text c.ports changes (lines_of c))
+    → WritesText {T = S} u v Report (verdict_text first) (Err y) → IsErr r → WritesTrace s v (compared_section c changes) r
 unfolding compared_section
-verdict_stops {S = S} c changes given lines name first s t u v y r named same shown found h l w e =
-    let told : first ≡ first_unlike changes (lines_of c) = found ∙ (λ i. first_unlike (same i) (shown i)) in
-    behind s t v (heading_text c.name) (compared_text c.ports changes (lines_of c) ++ verdict_text (first_unlike changes (lines_of c))) r
-    (h ∙ ap (λ n. wrote s Report (heading_text n)) named)
-    (behind t u v (compared_text c.ports changes (lines_of c)) (verdict_text (first_unlike changes (lines_of c))) r
-    (l ∙ (λ i. wrote t Report (compared_text c.ports (same i) (shown i))))
-    (written_part u v (verdict_text (first_unlike changes (lines_of c))) y r (subst (λ f. WritesText {T = S} u v Report (verdict_text f) (Err y)) told w) e))
+verdict_stops {S = S} c changes first s t u v y r found h l w e =
+    behind s t v (heading_text c.name) (compared_text c.ports changes (lines_of c) ++ verdict_text (first_unlike changes (lines_of c))) r h
+    (behind t u v (compared_text c.ports changes (lines_of c)) (verdict_text (first_unlike changes (lines_of c))) r l
+    (written_part u v (verdict_text (first_unlike changes (lines_of c))) y r (subst (λ f. WritesText {T = S} u v Report (verdict_text f) (Err y)) found w) e))
 
-pub section_whole : (c : Compared) (changes given : List Change) (lines : List Change → Lines) (name : List ℕ) (first : Option ℕ) (s t u v : DeskState)
-    → name ≡ c.name → given ≡ changes → lines ≡ lines_of c → first ≡ first_unlike given lines
-    → t ≡ wrote s Report (heading_text name) → u ≡ wrote t Report (compared_text c.ports given lines) → v ≡ wrote u Report (verdict_text first)
-    → v ≡ wrote s Report (compared_section c changes)
+pub section_whole : (c : Compared) (changes : List Change) (first : Option ℕ) (s t u v : DeskState)
+    → first ≡ first_unlike changes (lines_of c) → t ≡ wrote s Report (heading_text c.name) → u ≡ wrote t Report (compared_text c.ports changes (lines_of c))
+    → v ≡ wrote u Report (verdict_text first) → v ≡ wrote s Report (compared_section c changes)
 unfolding compared_section
-section_whole c changes given lines name first s t u v named same shown found h l w =
-    let told : first ≡ first_unlike changes (lines_of c) = found ∙ (λ i. first_unlike (same i) (shown i)) in
-    wrote_more s t v Report (heading_text c.name) (compared_text c.ports changes (lines_of c) ++ verdict_text (first_unlike changes (lines_of c)))
-    (h ∙ ap (λ n. wrote s Report (heading_text n)) named)
-    (wrote_more t u v Report (compared_text c.ports changes (lines_of c)) (verdict_text (first_unlike changes (lines_of c)))
-    (l ∙ (λ i. wrote t Report (compared_text c.ports (same i) (shown i))))
-    (w ∙ ap (λ f. wrote u Report (verdict_text f)) told))
-
--- what was found among the lines is found among those of what the section is run on
-pub first_is : (c : Compared) (changes given : List Change) (lines : List Change → Lines) (first : Option ℕ) (some_differ : Bool)
-    → given ≡ changes → lines ≡ lines_of c → first ≡ first_unlike given lines → some_differ ≡ is_some first → some_differ ≡ is_some (first_unlike changes (lines_of c))
-first_is c changes given lines first some_differ same shown found is = is ∙ (ap is_some found ∙ (λ i. is_some (first_unlike (same i) (shown i))))
+section_whole c changes first s t u v found h l w =
+    wrote_more s t v Report (heading_text c.name) (compared_text c.ports changes (lines_of c) ++ verdict_text (first_unlike changes (lines_of c))) h
+    (wrote_more t u v Report (compared_text c.ports changes (lines_of c)) (verdict_text (first_unlike changes (lines_of c))) l
+    (w ∙ ap (λ f. wrote u Report (verdict_text f)) found))
 
 -- Why a section was not appended whole.
 

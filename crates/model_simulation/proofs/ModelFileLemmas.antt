@@ -1,16 +1,15 @@
 -- A file of models that a run reads, by what its language says of it.
-use Rattle.std.proofs.Common.{◌≡◌, ◌⊎◌, inl, inr, ℕ, Bool, true, false, List, [], Ok, Err, IfSome, refl, ap, ◌∙◌}
+use Rattle.std.proofs.Common.{◌≡◌, ◌⊎◌, inl, inr, ℕ, true, List, [], Ok, Err, IfSome, refl, ap, ◌∙◌}
 use Rattle.text_io.specs.declared.slots.InSlot.{InSlot}
-use Rattle.text_io.specs.declared.slots.OutSlot.TheVariants.{Faults}
-use Rattle.text_io.specs.Desk.{DeskState, took, wrote, IsPrefix}
+use Rattle.text_io.specs.Desk.{DeskState, IsPrefix}
 use Rattle.command_outcomes.specs.declared.status.Status.{Status}
-use Rattle.command_outcomes.specs.FileSteps.{FileStop, opened_where, FileIsTaken, FileEndsRun}
+use Rattle.command_outcomes.specs.FileSteps.{FileStop, FileIsTaken, FileEndsRun}
 use Rattle.model_replay.specs.declared.ending.Ending.{Ending}
 use Rattle.model_replay.specs.Languages.{Language}
 use Rattle.model_replay.specs.Outcome.{model_limit}
 use Rattle.model_replay.specs.Endings.{status_of, ending_of, line_of}
 use Rattle.model_replay.specs.Answers.{models_answer}
-use Rattle.model_replay.specs.FileEnds.{answer_within, opened_if, FileIsRead, FileIsRefused, IsRefusedBy}
+use Rattle.model_replay.specs.FileEnds.{answer_within, FileIsRead, FileIsRefused, IsRefusedBy}
 use Rattle.model_replay.proofs.FileLemmas.{IfSome-map}
 use Rattle.model_simulation.specs.ModelAnswers.{stop_of, or_stop, model_answer}
 
@@ -26,10 +25,6 @@ models_taken l old new slot place models r = record {
   told = IfSome-map (old.left slot) (answer_within (models_answer l) model_limit r.bytes ≡ Ok models) (or_stop (answer_within (models_answer l) model_limit r.bytes) ≡ Ok models) (ap or_stop) r.told;
 }
 
-same_opened : (bound : Bool) (s : DeskState) (slot : InSlot) (bytes : List ℕ) → opened_if bound s slot bytes ≡ opened_where bound s slot bytes
-same_opened true s slot bytes = refl
-same_opened false s slot bytes = refl
-
 -- one that ended the run
 pub models_end : {M : Type 0} (l : Language M) (old new : DeskState) (slot : InSlot) (place : ℕ) (end : Ending) (result : Status) → FileIsRefused (models_answer l) model_limit old new slot place end
     → result ≡ status_of end → FileEndsRun (model_answer l) old new slot place result
@@ -40,7 +35,7 @@ models_end {M = M} l old new slot place end result f is = rw is (record {
   count = f.count;
   line = f.line;
   named = f.named;
-  state = f.state ∙ ap (λ s. wrote (took s slot f.count) Faults f.line) (same_opened f.bound old slot f.bytes);
+  state = f.state;
   part = by_part f.part;
   whole = λ d. ((f.whole d).0, IfSome-map (old.left slot) (IsRefusedBy (models_answer l) model_limit f.bytes (λ r. (end ≡ ending_of r) × (f.line ≡ line_of r))) (or_stop (answer_within (models_answer l) model_limit f.bytes) ≡ Err (record { status = status_of end; line = f.line })) stops (f.whole d).1);
 })

@@ -19,7 +19,7 @@ use Rattle.section_runs.specs.declared.faults.RunFault.TheVariants as run
 use Rattle.section_runs.specs.Writes.{HasCause}
 use Rattle.model_replay.specs.Outcome.{model_limit}
 use Rattle.command_outcomes.specs.declared.status.Status.{Status}
-use Rattle.command_outcomes.specs.FileSteps.{StopsWithStatus}
+use Rattle.command_outcomes.specs.Runs.{StopsWithStatus}
 use Rattle.simulation_catalog.specs.Catalog.{HaveOwnNames}
 use Rattle.model_simulation.specs.Besides.{compared_status}
 use Rattle.model_simulation.proofs.LanguageLemmas.{short_number}

@@ -1,8 +1,9 @@
 -- A cell beside the models that stand for it, and how a simulation that was printed ends.
-use Rattle.std.specs.Prelude.{◌≡◌, Bool, List, [], length, Some, Result, Ok, Err, if◌then◌else◌}
+use Rattle.std.specs.Prelude.{◌≡◌, ℕ, Bool, List, [], length, Some, Result, Ok, Err, if◌then◌else◌}
 use Rattle.cell_machine.specs.CellData.{data_of}
 use Rattle.cell_machine.specs.CellTrace.{cell_machine_of}
 use Rattle.cell_machine.specs.History.{IsProperFrom}
+use Rattle.cell_machine.specs.Lines.{Machine}
 use Rattle.cell_reader.specs.LibraryCells.{CellEntry}
 use Rattle.specify_blocks.specs.declared.model.VModule.{VModule}
 use Rattle.specify_blocks.specs.Sound as modules_of
@@ -10,6 +11,7 @@ use Rattle.vital_models.specs.declared.model.VEntity.{VEntity}
 use Rattle.vital_models.specs.Sound as entities_of
 use Rattle.model_traces.specs.ModuleTrace.{module_machine}
 use Rattle.model_traces.specs.EntityTrace.{entity_machine}
+use Rattle.stimulus.specs.declared.ports.Ports.{Ports}
 use Rattle.stimulus.specs.declared.sections.Section.{Section}
 use Rattle.section_runs.specs.declared.faults.RunFault.{RunFault}
 use Rattle.section_runs.specs.declared.faults.RunFault.TheVariants as run
@@ -19,15 +21,14 @@ use Rattle.command_outcomes.specs.declared.status.Status.TheVariants as status
 use Rattle.simulation_catalog.specs.Comparisons.{Compared, compared_at}
 use Rattle.model_simulation.specs.declared.comparisons.Beside.{Beside}
 
+-- what a section is run on, with these machines
+abbrev pub compared_with : List ℕ → Ports → Machine → Machine → Machine → Compared
+compared_with name ports liberty verilog vital = record { name = name; ports = ports; liberty = liberty; verilog = verilog; vital = vital }
+
 -- what a section of the cell is run on
 abbrev pub compared_of : Beside → Compared
-compared_of beside = record {
-  name = beside.cell.now.name;
-  ports = beside.ports.now;
-  liberty = cell_machine_of (data_of beside.cell.now);
-  verilog = module_machine beside.module.now;
-  vital = entity_machine beside.entity.now;
-}
+compared_of beside =
+    compared_with beside.cell.now.name beside.ports.now (cell_machine_of (data_of beside.cell.now)) (module_machine beside.module.now) (entity_machine beside.entity.now)
 
 -- Changes can be given to all three: both models are sound, all have as many inputs and outputs as there are names, and the changes are
 -- of these inputs, at times that rise strictly.

@@ -1,21 +1,22 @@
 //! The sections of a simulation: each is run on its cell and on the models of this cell, printed and compared.
-ghost use Rattle.std.specs.Prelude.{◌≡◌, is_some, IfOk};
+ghost use Rattle.std.specs.Prelude.{◌≡◌, [], length, is_some, Ok, IfOk};
 ghost use Rattle.cell_reader.specs.LibraryCells.{all_described};
-ghost use Rattle.section_runs.specs.Comparison.{first_unlike};
+ghost use Rattle.cell_machine.specs.History.{IsProperFrom};
+ghost use Rattle.section_runs.specs.Comparison.{HavePorts, three_lines, first_unlike};
 ghost use Rattle.section_runs.specs.Writes.{WritesTrace, HasCause};
 ghost use Rattle.simulation_catalog.specs.Catalog.{simulated_of};
 ghost use Rattle.simulation_catalog.specs.Comparisons.{lines_of, compared_section, section_text, sections_text, differs, any_differs};
 ghost use Rattle.simulation_catalog.specs.Sections.{CanBeCompared};
-ghost use Rattle.model_simulation.specs.Besides.{compared_of, CanBeGiven, IsRunOn};
+ghost use Rattle.model_simulation.specs.Besides.{compared_with, compared_of, CanBeGiven, IsRunOn};
 ghost use Rattle.model_simulation.specs.Simulations.{CanBePrinted};
 
 use crate::simulation::Simulation;
-use cell_machine::{Cell, LibertySim};
+use cell_machine::{Cell, CellSim, Change, LibertySim};
 use cell_reader::LibraryCell;
 use section_runs::{RunFault, Three, write_comparison, write_heading, write_verdict};
 use simulation_catalog::described_are_cells;
 use specify_blocks::VModule;
-use std::alloc::Global;
+use std::alloc::{AllocError, Global};
 use stimulus::{Ports, Section};
 use table_interpreters::{VerilogSim, VitalSim};
 use text_io::Desk;
@@ -56,6 +57,46 @@ fn stands_beside<'a>(simulation: &'a Simulation, section: &Section) -> Beside<'a
     }
 }
 
+/// Three simulators, where each was started.
+fn all_started<L: Drop, V: Drop, H: Drop>(
+    liberty: Result<L, AllocError>,
+    verilog: Result<V, AllocError>,
+    vital: Result<H, AllocError>,
+) -> Result<Three<L, V, H>, AllocError>
+    ensures { IfOk result (λ three. (liberty ≡ Ok three.liberty) × ((verilog ≡ Ok three.verilog) × (vital ≡ Ok three.vital))) }
+{
+    Ok(Three {
+        liberty: liberty?,
+        verilog: verilog?,
+        vital: vital?,
+    })
+}
+
+/// Appends to the report the section of three simulators that stand at their starts: this name, the lines of the three traces on the
+/// changes, and whether these are equal. It answers whether two of them differ. After a fault a prefix of the section was appended.
+fn write_started<D: Desk, L: CellSim + Drop, V: CellSim + Drop, H: CellSim + Drop>(
+    alloc: Global,
+    desk: &mut D,
+    name: &[u8],
+    ports: &Ports,
+    mut three: Three<L, V, H>,
+    changes: &[Change],
+) -> Result<bool, RunFault>
+    requires ports { HavePorts ports.now (L.machine three.liberty) (V.machine three.verilog) (H.machine three.vital) }
+    requires liberty { L.stands three.liberty [] }
+    requires verilog { V.stands three.verilog [] }
+    requires vital { H.stands three.vital [] }
+    requires proper { IsProperFrom (length ports.now.inputs) [] changes.now }
+    ensures text { WritesTrace (D.state desk.old) (D.state desk.new) (compared_section (compared_with name.now ports.now (L.machine three.liberty) (V.machine three.verilog) (H.machine three.vital)) changes.now) result }
+    ensures differs { IfOk result (λ some_differ. some_differ ≡ is_some (first_unlike changes.now (three_lines (L.machine three.liberty) (V.machine three.verilog) (H.machine three.vital)))) }
+    ensures cause { HasCause (D.faults desk.old) (D.faults desk.new) result }
+{
+    write_heading(desk, name)?;
+    let first = write_comparison(alloc, desk, ports, &mut three, changes)?;
+    write_verdict(desk, first)?;
+    Ok(first.is_some())
+}
+
 /// Appends to the report the section of a cell: its name, the lines of the three traces on the section's changes, and whether these
 /// are equal. It answers whether two of them differ. After a fault a prefix of the section was appended.
 fn write_compared<D: Desk>(
@@ -69,25 +110,15 @@ fn write_compared<D: Desk>(
     ensures differs { IfOk result (λ some_differ. some_differ ≡ is_some (first_unlike section.now.changes (lines_of (compared_of beside.now)))) }
     ensures cause { HasCause (D.faults desk.old) (D.faults desk.new) result }
 {
-    let Ok(liberty) = LibertySim::start(alloc, beside.cell) else {
-        return Err(RunFault::Memory);
-    };
-    let Ok(verilog) = VerilogSim::start(alloc, beside.module) else {
-        return Err(RunFault::Memory);
-    };
-    let Ok(vital) = VitalSim::start(alloc, beside.entity) else {
-        return Err(RunFault::Memory);
-    };
-    let mut three = Three {
-        liberty,
-        verilog,
-        vital,
-    };
-    write_heading(desk, beside.cell.name.as_slice())?;
+    let name = beside.cell.name.as_slice();
     let changes = section.changes.as_slice();
-    let first = write_comparison(alloc, desk, beside.ports, &mut three, changes)?;
-    write_verdict(desk, first)?;
-    Ok(first.is_some())
+    let liberty = LibertySim::start(alloc, beside.cell);
+    let verilog = VerilogSim::start(alloc, beside.module);
+    let vital = VitalSim::start(alloc, beside.entity);
+    match all_started(liberty, verilog, vital) {
+        Ok(three) => write_started(alloc, desk, name, beside.ports, three, changes),
+        Err(_) => Err(RunFault::Memory),
+    }
 }
 
 /// Appends a section of a simulation to the report, and answers whether two of its three traces differ. After a fault a prefix of the

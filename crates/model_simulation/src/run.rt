@@ -1,9 +1,7 @@
 //! A run of a simulation: four files are read, and then the traces of each section are printed and compared.
-ghost use Rattle.std.specs.Prelude.{◌≡◌, ◌≤◌, IsTrue};
-ghost use Rattle.text_io.specs.Desk.{Rose};
+ghost use Rattle.std.specs.Prelude.{◌≡◌};
 ghost use Rattle.text_io.specs.Plan.{plan};
-ghost use Rattle.command_outcomes.specs.Status.{is_unfailed};
-ghost use Rattle.command_outcomes.specs.Runs.{RunsAs};
+ghost use Rattle.command_outcomes.specs.Runs.{RunsAs, StopsWithStatus};
 ghost use Rattle.model_simulation.specs.Simulate.{simulate_files, simulate_of};
 ghost use Rattle.model_simulation.specs.Besides.{compared_status};
 
@@ -22,10 +20,7 @@ use text_io::Desk;
 pub fn simulate_library<D: Desk>(alloc: Global, desk: &mut D) -> Status
     requires { plan (D.state desk.old).words ≡ simulate_files }
     ensures writes { RunsAs simulate_files (simulate_of (D.state desk.old).words) (D.state desk.old) (D.state desk.new) result }
-    ensures usage { result ≡ Status.Usage → ⊥ }
-    ensures outside { result ≡ Status.Outside → Rose (D.faults desk.old) (D.faults desk.new) }
-    ensures later { D.faults desk.old ≤ D.faults desk.new }
-    ensures kept { IsTrue (is_unfailed result) → D.faults desk.new ≡ D.faults desk.old }
+    ensures cause { StopsWithStatus (D.faults desk.old) (D.faults desk.new) result }
 {
     match read_simulation(alloc, desk) {
         Ok(simulation) => ended(write_sections(alloc, desk, &simulation)),

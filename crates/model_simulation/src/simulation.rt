@@ -2,8 +2,7 @@
 ghost use Rattle.std.specs.Prelude.{◌≡◌, IfOk, IfErr, OnOk};
 ghost use Rattle.text_io.specs.Plan.{plan};
 ghost use Rattle.cell_reader.specs.LibraryCells.{all_described};
-ghost use Rattle.command_outcomes.specs.FileSteps.{StopsWithStatus};
-ghost use Rattle.command_outcomes.specs.Runs.{RunsAs};
+ghost use Rattle.command_outcomes.specs.Runs.{RunsAs, StopsWithStatus};
 ghost use Rattle.simulation_catalog.specs.Catalog.{simulated_of, HaveOwnNames};
 ghost use Rattle.model_simulation.specs.Simulate.{simulate_files, simulate_of};
 ghost use Rattle.model_simulation.specs.Simulations.{ReadsModels, ReadsSimulation};

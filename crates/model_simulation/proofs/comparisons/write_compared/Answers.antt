@@ -1,45 +1,35 @@
 use Rattle.model_replay.proofs.SectionTexts.{appends_nothing}
-use Rattle.model_simulation.specs.Besides.{compared_of}
-use Rattle.model_simulation.proofs.BesideLemmas.{lines_are, heading_stops, lines_stop, verdict_stops, section_whole, first_is, write_cause}
+use Rattle.model_simulation.proofs.BesideLemmas.{of_started, have_ports, text_is, unlike_is}
 use Rattle.model_simulation.proofs.comparisons.write_compared.Goals as goal
 
-pub returns-in_default-clause-text : goal.returns-in_default-clause-text
-returns-in_default-clause-text g c = appends_nothing _ _ _ cc
+pub write_started-requires-clause-ports : goal.write_started-requires-clause-ports
+write_started-requires-clause-ports g c =
+    have_ports c.args.beside.now _ _ _ (of_started c.start-liberty.result _ _ c.in-Ok.ensures.0 c.start-liberty.ensures.machine)
+    (of_started c.start-verilog.result _ _ c.in-Ok.ensures.1.0 c.start-verilog.ensures.machine)
+    (of_started c.start-vital.result _ _ c.in-Ok.ensures.1.1 c.start-vital.ensures.machine) c.requires.have_ports
 
-pub returns-in_default-start-clause-text : goal.returns-in_default-start-clause-text
-returns-in_default-start-clause-text g c = appends_nothing _ _ _ cc
+pub write_started-requires-clause-liberty : goal.write_started-requires-clause-liberty
+write_started-requires-clause-liberty g c = of_started c.start-liberty.result _ _ c.in-Ok.ensures.0 c.start-liberty.ensures.stands
 
-pub returns-in_default-start-2-clause-text : goal.returns-in_default-start-2-clause-text
-returns-in_default-start-2-clause-text g c = appends_nothing _ _ _ cc
+pub write_started-requires-clause-verilog : goal.write_started-requires-clause-verilog
+write_started-requires-clause-verilog g c = of_started c.start-verilog.result _ _ c.in-Ok.ensures.1.0 c.start-verilog.ensures.stands
 
-pub returns-in_err-write_heading-clause-text : goal.returns-in_err-write_heading-clause-text
-returns-in_err-write_heading-clause-text g c = heading_stops (compared_of c.args.beside.now) _ _ _ _ _ _ c.as_slice.ensures c.in_err-write_heading.ensures.text c.from_residual.ensures.0
+pub write_started-requires-clause-vital : goal.write_started-requires-clause-vital
+write_started-requires-clause-vital g c = of_started c.start-vital.result _ _ c.in-Ok.ensures.1.1 c.start-vital.ensures.stands
 
-pub returns-in_err-write_heading-clause-cause : goal.returns-in_err-write_heading-clause-cause
-returns-in_err-write_heading-clause-cause g c = write_cause _ _ _ _ c.from_residual.ensures.1 c.in_err-write_heading.ensures.cause
+pub returns-in-Ok-clause-text : goal.returns-in-Ok-clause-text
+returns-in-Ok-clause-text g c =
+    text_is c.args.beside.now _ _ _ _ _ c.args.section.now.changes _ _ _ c.as_slice-name.ensures c.as_slice-changes.ensures
+    (of_started c.start-liberty.result _ _ c.in-Ok.ensures.0 c.start-liberty.ensures.machine)
+    (of_started c.start-verilog.result _ _ c.in-Ok.ensures.1.0 c.start-verilog.ensures.machine)
+    (of_started c.start-vital.result _ _ c.in-Ok.ensures.1.1 c.start-vital.ensures.machine) c.write_started.ensures.text
 
-pub returns-in_err-first-clause-text : goal.returns-in_err-first-clause-text
-returns-in_err-first-clause-text g c =
-    lines_stop (compared_of c.args.beside.now) _ _ _ _ _ _ _ _ _ c.as_slice.ensures c.as_slice-changes.ensures
-    (lines_are c.args.beside.now _ _ _ c.in-Ok.ensures.machine c.in-Ok-start.ensures.machine c.in-Ok-start-2.ensures.machine)
-    c.in_ok-write_heading.ensures.text.whole c.in_err-first.ensures.text c.from_residual-in_err-first.ensures.0
+pub returns-in-Ok-clause-differs : goal.returns-in-Ok-clause-differs
+returns-in-Ok-clause-differs g c =
+    unlike_is c.args.beside.now _ _ _ _ c.args.section.now.changes _ c.as_slice-changes.ensures
+    (of_started c.start-liberty.result _ _ c.in-Ok.ensures.0 c.start-liberty.ensures.machine)
+    (of_started c.start-verilog.result _ _ c.in-Ok.ensures.1.0 c.start-verilog.ensures.machine)
+    (of_started c.start-vital.result _ _ c.in-Ok.ensures.1.1 c.start-vital.ensures.machine) c.write_started.ensures.differs
 
-pub returns-in_err-write_verdict-clause-text : goal.returns-in_err-write_verdict-clause-text
-returns-in_err-write_verdict-clause-text g c =
-    verdict_stops (compared_of c.args.beside.now) _ _ _ _ _ _ _ _ _ _ _ c.as_slice.ensures c.as_slice-changes.ensures
-    (lines_are c.args.beside.now _ _ _ c.in-Ok.ensures.machine c.in-Ok-start.ensures.machine c.in-Ok-start-2.ensures.machine)
-    c.in_ok-first.ensures.first c.in_ok-write_heading.ensures.text.whole c.in_ok-first.ensures.text.whole c.in_err-write_verdict.ensures.text c.from_residual-in_err-write_verdict.ensures.0
-
-pub returns-clause-text : goal.returns-clause-text
-returns-clause-text g c = record {
-  whole = section_whole (compared_of c.args.beside.now) _ _ _ _ _ _ _ _ _ c.as_slice.ensures c.as_slice-changes.ensures
-      (lines_are c.args.beside.now _ _ _ c.in-Ok.ensures.machine c.in-Ok-start.ensures.machine c.in-Ok-start-2.ensures.machine)
-      c.in_ok-first.ensures.first c.in_ok-write_heading.ensures.text.whole c.in_ok-first.ensures.text.whole c.in_ok-write_verdict.ensures.text.whole;
-  part = tt;
-}
-
-pub returns-clause-differs : goal.returns-clause-differs
-returns-clause-differs g c =
-    first_is (compared_of c.args.beside.now) _ _ _ _ _ c.as_slice-changes.ensures
-    (lines_are c.args.beside.now _ _ _ c.in-Ok.ensures.machine c.in-Ok-start.ensures.machine c.in-Ok-start-2.ensures.machine)
-    c.in_ok-first.ensures.first c.is_some.ensures
+pub returns-in-Err-clause-text : goal.returns-in-Err-clause-text
+returns-in-Err-clause-text g c = appends_nothing _ _ _ cc

@@ -15,14 +15,5 @@ returns-in-Ok-clause-writes g c =
     printed_runs old now new (all_described read.cells) read.modules read.entities c.in-Ok.simulation.sections c.write_sections.result c.ended.result
     c.in-Ok.ensures.read.files c.write_sections.ensures.text c.write_sections.ensures.differs c.ended.ensures
 
-pub returns-in-Ok-clause-usage : goal.returns-in-Ok-clause-usage
-returns-in-Ok-clause-usage g c = (printed_stops _ _ _ _ _ c.in-Ok.ensures.kept c.write_sections.ensures.cause c.ended.ensures).usage
-
-pub returns-in-Ok-clause-outside : goal.returns-in-Ok-clause-outside
-returns-in-Ok-clause-outside g c = (printed_stops _ _ _ _ _ c.in-Ok.ensures.kept c.write_sections.ensures.cause c.ended.ensures).outside
-
-pub returns-in-Ok-clause-later : goal.returns-in-Ok-clause-later
-returns-in-Ok-clause-later g c = (printed_stops _ _ _ _ _ c.in-Ok.ensures.kept c.write_sections.ensures.cause c.ended.ensures).later
-
-pub returns-in-Ok-clause-kept : goal.returns-in-Ok-clause-kept
-returns-in-Ok-clause-kept g c = (printed_stops _ _ _ _ _ c.in-Ok.ensures.kept c.write_sections.ensures.cause c.ended.ensures).kept
+pub returns-in-Ok-clause-cause : goal.returns-in-Ok-clause-cause
+returns-in-Ok-clause-cause g c = printed_stops _ _ _ _ _ c.in-Ok.ensures.kept c.write_sections.ensures.cause c.ended.ensures

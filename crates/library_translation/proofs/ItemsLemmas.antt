@@ -1,5 +1,5 @@
 -- Handling the items of a library one after another.
-use Rattle.std.proofs.Common.{◌≡◌, ℕ, ◌≤◌, List, [], ◌∷◌, ◌++◌, take, length, None, Result, Ok, Err, IsErr, IfSome, sym, ap, ◌∙◌, length-append}
+use Rattle.std.proofs.Common.{◌≡◌, ℕ, ◌≤◌, List, [], ◌∷◌, ◌++◌, take, length, None, Result, Ok, Err, IfOk, IsErr, IfSome, sym, ap, ◌∙◌, length-append}
 use Rattle.text_io.specs.declared.slots.InSlot.TheVariants.{Library}
 use Rattle.text_io.specs.Desk.{DeskState, took, wrote}
 use Rattle.text_io.proofs.Took.{took-zero, took-took}
@@ -96,10 +96,10 @@ stops_first limit base p r e = record {
   whole = IfOk-error r _ e;
 }
 
--- a stop where the next item is sought
-pub stops_seeking : (limit : ℕ) (base now next : DeskState) (p q : Progress) (c d : CellCursor) (r : Result Ending Stop)
-    → Reached limit base now p q c → Moves c d now next [] → IsErr r → Handles limit base next p q r
-stops_seeking limit base now next p q c d r h m e =
+-- after the next item was sought in vain, where this is known of the end
+sought : (limit : ℕ) (base now next : DeskState) (p q : Progress) (c d : CellCursor) (r : Result Ending Stop) → (h : Reached limit base now p q c) → Moves c d now next []
+    → IfOk r (λ end. IfSome (base.left Library) (λ all. IsHandled limit all p q (items_written p h.follows.items) end)) → Handles limit base next p q r
+sought limit base now next p q c d r h m whole =
     let f = h.follows in
     record {
       taken = length (f.taken ++ m.taken);
@@ -107,8 +107,13 @@ stops_seeking limit base now next p q c d r h m e =
       state = more_state base now next f.taken m.taken (items_written p f.items) h.state m.takes.state;
       part = first_written limit base now p q c h;
       cells = held_still limit base now next p q c d [] _ h m (IsPart-all _);
-      whole = IfOk-error r _ e;
+      whole = whole;
     }
+
+-- a stop where the next item is sought
+pub stops_seeking : (limit : ℕ) (base now next : DeskState) (p q : Progress) (c d : CellCursor) (r : Result Ending Stop)
+    → Reached limit base now p q c → Moves c d now next [] → IsErr r → Handles limit base next p q r
+stops_seeking limit base now next p q c d r h m e = sought limit base now next p q c d r h m (IfOk-error r _ e)
 
 -- a stop between two items
 pub stops_between : (limit : ℕ) (base now : DeskState) (p q : Progress) (c : CellCursor) (r : Result Ending Stop)
@@ -147,17 +152,11 @@ pub ends_so : (limit : ℕ) (base now next : DeskState) (p q : Progress) (c d : 
     → Reached limit base now p q c → Moves c d now next [] → (IsAtEnd c now → IsAtEnd d next) → TellsEnd d e → Handles limit base next p q (Ok e)
 ends_so limit base now next p q c d e h m a t =
     let f = h.follows in
+    sought limit base now next p q c d (Ok e) h m
+    (IfSome-each (base.left Library) (λ all. IsHandled limit all p q (items_written p f.items) e) (λ all is.
+    let known = all_given limit (base.left Library) now next p q c d e all f m a t is in
     record {
-      taken = length (f.taken ++ m.taken);
-      text = items_written p f.items;
-      state = more_state base now next f.taken m.taken (items_written p f.items) h.state m.takes.state;
-      part = first_written limit base now p q c h;
-      cells = held_still limit base now next p q c d [] _ h m (IsPart-all _);
-      whole = IfSome-each (base.left Library) (λ all. IsHandled limit all p q (items_written p f.items) e) (λ all is.
-          let known = all_given limit (base.left Library) now next p q c d e all f m a t is in
-          record {
-            same_text = ap (items_written p) known.0;
-            same_progress = f.progress ∙ ap (progress_after p) known.0;
-            same_ending = known.1;
-          });
-    }
+      same_text = ap (items_written p) known.0;
+      same_progress = f.progress ∙ ap (progress_after p) known.0;
+      same_ending = known.1;
+    }))

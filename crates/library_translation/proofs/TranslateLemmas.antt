@@ -1,5 +1,5 @@
 -- Translating a library that is bound: what stands on the desk at each exit.
-use Rattle.std.proofs.Common.{◌≡◌, ℕ, List, [], Result, Ok, Err, IsErr, IfSome, sym, ap, ◌∙◌}
+use Rattle.std.proofs.Common.{◌≡◌, ℕ, List, [], Result, Ok, Err, IfOk, IsErr, IfSome, sym, ap, ◌∙◌}
 use Rattle.text_io.specs.declared.outside.Failed.{Failed}
 use Rattle.text_io.specs.declared.slots.InSlot.TheVariants.{Library}
 use Rattle.text_io.specs.declared.slots.OutSlot.TheVariants.{VerilogText, Faults}
@@ -157,40 +157,36 @@ all_behind bytes text end before after status report faults fresh h f =
     let a = rw fresh at h.same_progress in
     rw (← h.same_ending) (finished_all (items_within library_limit bytes) end text after status report faults t a f)
 
+-- after the items, where this is known of the end
+translated : (old now next new : DeskState) (before after : Progress) (end : Ending) (written : Result Status Failed) (r : Result Status Stop)
+    → now ≡ wrote old VerilogText prelude_text → before ≡ no_progress → (h : Handles library_limit now next before after (Ok end)) → (f : Finishes next new after end written)
+    → IfOk r (λ status. IfSome (old.left Library) (λ bytes.
+    IsAllOf status (joined (joined (in_verilog prelude_text) h.text) (in_report f.report)) f.faults (translate_outcome bytes)))
+    → Translates old new r
+translated old now next new before after end written r first fresh h f whole = record {
+  taken = h.taken;
+  text = joined (joined (in_verilog prelude_text) h.text) (in_report f.report);
+  faults = f.faults;
+  state = finished_state old next new h.taken _ f.report f.faults (handled_state old now next h.taken h.text first h.state) f.state;
+  part = IfSome-map (old.left Library) (λ bytes. IsHandled library_limit bytes before after h.text end)
+      (λ bytes. IsPartOf (joined (joined (in_verilog prelude_text) h.text) (in_report f.report)) f.faults (translate_outcome bytes))
+      (λ bytes k. part_behind bytes h.text end before after f.report f.faults fresh k f.report_part f.faults_part) (rw (left_behind old now prelude_text first) at h.whole);
+  models = models_before old now before h.taken h.text (in_report f.report) first fresh h.cells;
+  whole = whole;
+}
+
 -- a stop behind the items
 pub finish_stops : (old now next new : DeskState) (before after : Progress) (end : Ending) (y : Failed) (r : Result Status Stop)
     → now ≡ wrote old VerilogText prelude_text → before ≡ no_progress → Handles library_limit now next before after (Ok end)
     → Finishes next new after end (Err y) → IsErr r → Translates old new r
-finish_stops old now next new before after end y r first fresh h f e =
-    let whole = rw (left_behind old now prelude_text first) at h.whole in
-    record {
-      taken = h.taken;
-      text = joined (joined (in_verilog prelude_text) h.text) (in_report f.report);
-      faults = f.faults;
-      state = finished_state old next new h.taken _ f.report f.faults (handled_state old now next h.taken h.text first h.state) f.state;
-      part = IfSome-map (old.left Library) (λ bytes. IsHandled library_limit bytes before after h.text end)
-          (λ bytes. IsPartOf (joined (joined (in_verilog prelude_text) h.text) (in_report f.report)) f.faults (translate_outcome bytes))
-          (λ bytes k. part_behind bytes h.text end before after f.report f.faults fresh k f.report_part f.faults_part) whole;
-      models = models_before old now before h.taken h.text (in_report f.report) first fresh h.cells;
-      whole = IfOk-err r _ e;
-    }
+finish_stops old now next new before after end y r first fresh h f e = translated old now next new before after end (Err y) r first fresh h f (IfOk-err r _ e)
 
 -- the end
 pub finished : (old now next new : DeskState) (before after : Progress) (end : Ending) (status : Status)
     → now ≡ wrote old VerilogText prelude_text → before ≡ no_progress → Handles library_limit now next before after (Ok end)
     → Finishes next new after end (Ok status) → Translates old new (Ok status)
 finished old now next new before after end status first fresh h f =
-    let whole = rw (left_behind old now prelude_text first) at h.whole in
-    record {
-      taken = h.taken;
-      text = joined (joined (in_verilog prelude_text) h.text) (in_report f.report);
-      faults = f.faults;
-      state = finished_state old next new h.taken _ f.report f.faults (handled_state old now next h.taken h.text first h.state) f.state;
-      part = IfSome-map (old.left Library) (λ bytes. IsHandled library_limit bytes before after h.text end)
-          (λ bytes. IsPartOf (joined (joined (in_verilog prelude_text) h.text) (in_report f.report)) f.faults (translate_outcome bytes))
-          (λ bytes k. part_behind bytes h.text end before after f.report f.faults fresh k f.report_part f.faults_part) whole;
-      models = models_before old now before h.taken h.text (in_report f.report) first fresh h.cells;
-      whole = IfSome-map (old.left Library) (λ bytes. IsHandled library_limit bytes before after h.text end)
-          (λ bytes. IsAllOf status (joined (joined (in_verilog prelude_text) h.text) (in_report f.report)) f.faults (translate_outcome bytes))
-          (λ bytes k. all_behind bytes h.text end before after status f.report f.faults fresh k f.whole) whole;
-    }
+    translated old now next new before after end (Ok status) (Ok status) first fresh h f
+    (IfSome-map (old.left Library) (λ bytes. IsHandled library_limit bytes before after h.text end)
+    (λ bytes. IsAllOf status (joined (joined (in_verilog prelude_text) h.text) (in_report f.report)) f.faults (translate_outcome bytes))
+    (λ bytes k. all_behind bytes h.text end before after status f.report f.faults fresh k f.whole) (rw (left_behind old now prelude_text first) at h.whole))

@@ -1,6 +1,9 @@
 -- What becomes of one item of a library: the two models of a cell and the lines of the report. This project's rules.
-use Rattle.std.specs.Prelude.{ℕ, List, [], ◌∷◌, ◌++◌, Option, Some, None}
+use Rattle.std.specs.Prelude.{ℕ, List, [], ◌∷◌, ◌++◌, Option, Some, None, IsTrue}
 use Rattle.std.specs.Option.{option_map}
+use Rattle.text_io.specs.declared.slots.OutSlot.TheVariants.{VerilogText, VitalText}
+use Rattle.text_io.specs.declared.slots.Slot.TheVariants.{Output}
+use Rattle.text_io.specs.Desk.{DeskState, is_bound}
 use Rattle.liberty_groups.specs.declared.tree.Group.{Group}
 use Rattle.cell_machine.specs.declared.pins.Pin.{Pin}
 use Rattle.cell_reader.specs.declared.refusal.Refusal.{Refusal}
@@ -22,6 +25,11 @@ use Rattle.cell_cursor.specs.declared.item.LibraryItem.{LibraryItem}
 use Rattle.cell_cursor.specs.declared.item.LibraryItem.TheVariants as item
 use Rattle.command_outcomes.specs.Written.{Written, nothing_written, in_verilog, in_vital, in_report, joined}
 use Rattle.library_items.specs.Progress.{next_number, next_refusal, next_data, next_left_out, next_entity, after_item}
+
+-- both model files are bound
+pub record ModelsAreBound (s : DeskState) : Type 0 where
+  pub verilog : IsTrue (is_bound s (Output VerilogText))
+  pub vital : IsTrue (is_bound s (Output VitalText))
 
 -- the report lines of an accepted cell: its own, and one for each of its timing groups that are left out
 unfoldable pub accepted_lines : ℕ → List ℕ → List Pin → List LeftOut → List ℕ

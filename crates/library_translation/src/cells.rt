@@ -1,5 +1,5 @@
 //! One cell of a library: its models and its lines.
-ghost use Rattle.std.specs.Prelude.{◌≡◌, ◌+◌, ◌<◌, ◌^◌, IsTrue, IfOk, OnOk};
+ghost use Rattle.std.specs.Prelude.{◌≡◌, ◌+◌, ◌<◌, ◌^◌, IsTrue, IfOk, IfErr, OnOk};
 ghost use Rattle.text_io.specs.declared.slots.Slot.TheVariants.{Output};
 ghost use Rattle.text_io.specs.declared.slots.OutSlot.TheVariants.{VerilogText, VitalText, Report};
 ghost use Rattle.text_io.specs.Desk.{is_bound, HasCause, WritesText};
@@ -8,7 +8,7 @@ ghost use Rattle.cell_cursor.specs.declared.item.LibraryItem.TheVariants as item
 ghost use Rattle.command_outcomes.specs.Written.{Writes, in_verilog, in_vital};
 ghost use Rattle.library_items.specs.Stops.{StopsWithCause};
 ghost use Rattle.library_items.specs.Progress.{next_refusal, entity_by, after_item};
-ghost use Rattle.library_translation.specs.Cells.{model_text, vital_text, models_written, accepted_lines, accepted_written, written_by, item_written};
+ghost use Rattle.library_translation.specs.Cells.{ModelsAreBound, model_text, vital_text, models_written, accepted_lines, accepted_written, written_by};
 
 use crate::test_lines::write_test;
 use cell_machine::Cell;
@@ -59,8 +59,7 @@ fn write_models<D: Desk>(
     cell: &Cell,
     entity: &[u8],
 ) -> Result<(), Stop>
-    requires verilog { IsTrue (is_bound (D.state desk.old) (Output VerilogText)) }
-    requires vital { IsTrue (is_bound (D.state desk.old) (Output VitalText)) }
+    requires { ModelsAreBound (D.state desk.old) }
     ensures text { Writes (D.state desk.old) (D.state desk.new) (models_written entity.now (data_of cell.now)) result }
     ensures cause { StopsWithCause (D.faults desk.old) (D.faults desk.new) result }
 {
@@ -94,8 +93,7 @@ fn write_accepted<D: Desk>(
     entity: &[u8],
     group: &Group,
 ) -> Result<(), Stop>
-    requires verilog { IsTrue (is_bound (D.state desk.old) (Output VerilogText)) }
-    requires vital { IsTrue (is_bound (D.state desk.old) (Output VitalText)) }
+    requires { ModelsAreBound (D.state desk.old) }
     ensures text { Writes (D.state desk.old) (D.state desk.new) (accepted_written entity.now (data_of read.now.cell) read.now.left_out group.now) result }
     ensures cause { StopsWithCause (D.faults desk.old) (D.faults desk.new) result }
 {
@@ -105,14 +103,13 @@ fn write_accepted<D: Desk>(
 }
 
 /// Writes what becomes of the next cell, and answers the name of its entity where it was accepted.
-fn write_cell<D: Desk>(
+pub(crate) fn write_cell<D: Desk>(
     alloc: Global,
     desk: &mut D,
     progress: &Progress,
     group: &Group,
 ) -> Result<Option<Items<u8>>, Stop>
-    requires verilog { IsTrue (is_bound (D.state desk.old) (Output VerilogText)) }
-    requires vital { IsTrue (is_bound (D.state desk.old) (Output VitalText)) }
+    requires models { ModelsAreBound (D.state desk.old) }
     requires room { progress.now.accepted + progress.now.refused + 1 < 2 ^ 64 }
     ensures text { Writes (D.state desk.old) (D.state desk.new) (written_by progress.now group.now (next_refusal progress.now group.now)) result }
     ensures entity { IfOk result (λ entity. entity ≡ entity_by progress.now group.now (next_refusal progress.now group.now)) }
@@ -130,21 +127,19 @@ fn write_cell<D: Desk>(
     }
 }
 
-/// Writes what becomes of a cell of a library, and counts it.
-pub(crate) fn handle_cell<D: Desk>(
+/// Counts the next cell, whose entity has this name where it was accepted. It stops only where memory is wanting.
+pub(crate) fn count_cell(
     alloc: Global,
-    desk: &mut D,
     progress: &mut Progress,
     group: &Group,
+    entity: Option<Items<u8>>,
 ) -> Result<(), Stop>
-    requires verilog { IsTrue (is_bound (D.state desk.old) (Output VerilogText)) }
-    requires vital { IsTrue (is_bound (D.state desk.old) (Output VitalText)) }
+    requires entity { entity ≡ entity_by progress.old group.now (next_refusal progress.old group.now) }
     requires room { progress.old.accepted + progress.old.refused + 1 < 2 ^ 64 }
-    ensures text { Writes (D.state desk.old) (D.state desk.new) (item_written progress.old (item.Cell group.now)) result }
-    ensures progress { OnOk result (progress.new ≡ after_item progress.old (item.Cell group.now)) }
-    ensures cause { StopsWithCause (D.faults desk.old) (D.faults desk.new) result }
+    ensures counted { OnOk result (progress.new ≡ after_item progress.old (item.Cell group.now)) }
+    ensures memory { IfErr result (λ stop. stop ≡ Stop.Memory) }
 {
-    match write_cell(alloc, desk, progress, group)? {
+    match entity {
         Some(entity) => progress.count_accepted(alloc, cell_name(group), entity.as_slice())?,
         None => progress.count_refused(cell_name(group))?,
     }

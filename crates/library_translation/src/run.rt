@@ -1,14 +1,16 @@
 //! Translating a library: its files are bound, its items are handled in order, and its end is told.
-ghost use Rattle.std.specs.Prelude.{◌≡◌, ◌≤◌, [], ◌∷◌, IsTrue, IfOk};
+ghost use Rattle.std.specs.Prelude.{◌≡◌, [], ◌∷◌, IsTrue, IfOk};
 ghost use Rattle.text_io.specs.declared.slots.Slot.TheVariants.{Input, Output};
 ghost use Rattle.text_io.specs.declared.slots.InSlot.TheVariants.{Library};
 ghost use Rattle.text_io.specs.declared.slots.OutSlot.TheVariants.{VerilogText, VitalText};
-ghost use Rattle.text_io.specs.Desk.{is_bound, HasCause, Rose};
+ghost use Rattle.text_io.specs.Desk.{is_bound, HasCause};
 ghost use Rattle.text_io.specs.Plan.{plan};
-ghost use Rattle.command_outcomes.specs.Status.{is_decided, is_unfailed};
-ghost use Rattle.library_items.specs.Stops.{StopsWithCause};
+ghost use Rattle.command_outcomes.specs.Status.{is_decided};
 ghost use Rattle.command_outcomes.specs.Binding.{Binds};
+ghost use Rattle.command_outcomes.specs.Runs.{StopsWithStatus};
+ghost use Rattle.library_items.specs.Stops.{StopsWithCause};
 ghost use Rattle.library_items.specs.declared.ending.Ending.TheVariants as ending;
+ghost use Rattle.library_translation.specs.Cells.{ModelsAreBound};
 ghost use Rattle.library_translation.specs.Library.{status_at, Finishes, Translates};
 ghost use Rattle.library_translation.specs.Runs.{translate_files, RunsTranslation};
 
@@ -31,10 +33,7 @@ const LIMIT: usize = 67_108_864;
 pub fn translate_library<D: Desk>(alloc: Global, desk: &mut D) -> Status
     requires { plan (D.state desk.old).words ≡ translate_files }
     ensures writes { RunsTranslation (D.state desk.old) (D.state desk.new) result }
-    ensures usage { result ≡ Status.Usage → ⊥ }
-    ensures outside { result ≡ Status.Outside → Rose (D.faults desk.old) (D.faults desk.new) }
-    ensures later { D.faults desk.old ≤ D.faults desk.new }
-    ensures kept { IsTrue (is_unfailed result) → D.faults desk.new ≡ D.faults desk.old }
+    ensures cause { StopsWithStatus (D.faults desk.old) (D.faults desk.new) result }
 {
     match bind_files(desk) {
         Ok(()) => match translate_bound(alloc, desk) {
@@ -61,8 +60,7 @@ fn bind_files<D: Desk>(desk: &mut D) -> Result<(), Failed>
 /// Translates the library that is bound.
 fn translate_bound<D: Desk>(alloc: Global, desk: &mut D) -> Result<Status, Stop>
     requires library { IsTrue (is_bound (D.state desk.old) (Input Library)) }
-    requires verilog { IsTrue (is_bound (D.state desk.old) (Output VerilogText)) }
-    requires vital { IsTrue (is_bound (D.state desk.old) (Output VitalText)) }
+    requires models { ModelsAreBound (D.state desk.old) }
     ensures text { Translates (D.state desk.old) (D.state desk.new) result }
     ensures cause { StopsWithCause (D.faults desk.old) (D.faults desk.new) result }
     ensures usage { IfOk result (λ status. status ≡ Status.Usage → ⊥) }

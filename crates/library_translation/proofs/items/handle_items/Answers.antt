@@ -16,8 +16,7 @@ pub loop-turn-init : goal.loop-turn-init
 loop-turn-init g c = record {
   reached = reached_start c.args.limit _ c.args.progress.now c.in_ok-cursor.cursor c.in_ok-cursor.ensures.limit c.in_ok-cursor.ensures.stands c.in_ok-cursor.ensures.going;
   library = c.requires.library;
-  verilog = c.requires.verilog;
-  vital = c.requires.vital;
+  models = c.requires.models;
   room = omega arith;
   kept = refl;
   unfailed = ap is_failed c.in_ok-cursor.ensures.going;
@@ -35,13 +34,11 @@ returns-in-Err-clause-cause g c = record {
   failed = λ e. failed_now _ _ _ _ c.loop-turn.invariant.kept c.loop-turn.invariant.unfailed (c.in-Err.ensures.failed e);
 }
 
-pub handle_item-requires-clause-verilog : goal.handle_item-requires-clause-verilog
-handle_item-requires-clause-verilog g c =
-    bound_still _ _ _ _ (Output VerilogText) c.in-Ok-Item.ensures.steps.moves.takes.state c.loop-turn.invariant.verilog
-
-pub handle_item-requires-clause-vital : goal.handle_item-requires-clause-vital
-handle_item-requires-clause-vital g c =
-    bound_still _ _ _ _ (Output VitalText) c.in-Ok-Item.ensures.steps.moves.takes.state c.loop-turn.invariant.vital
+pub handle_item-requires-clause-models : goal.handle_item-requires-clause-models
+handle_item-requires-clause-models g c =
+    let state = c.in-Ok-Item.ensures.steps.moves.takes.state in
+    let models = c.loop-turn.invariant.models in
+    record { verilog = bound_still _ _ _ _ (Output VerilogText) state models.verilog; vital = bound_still _ _ _ _ (Output VitalText) state models.vital }
 
 pub returns-in_err-handle_item-in-Ok-Item-clause-text : goal.returns-in_err-handle_item-in-Ok-Item-clause-text
 returns-in_err-handle_item-in-Ok-Item-clause-text g c =
@@ -62,8 +59,10 @@ loop-turn-preserved g c =
     record {
       reached = reached_next c.args.limit _ _ _ _ _ _ _ _ _ c.in-Ok-Item.item c.loop-turn.invariant.reached moves (ends_on _ _ _ _ _ moves c.in-Ok-Item.ensures.kept) text c.in_ok-handle_item-in-Ok-Item.ensures.progress;
       library = still_bound_all _ _ _ (Input Library) text (bound_still _ _ _ _ (Input Library) moves.takes.state c.loop-turn.invariant.library);
-      verilog = still_bound_all _ _ _ (Output VerilogText) text (bound_still _ _ _ _ (Output VerilogText) moves.takes.state c.loop-turn.invariant.verilog);
-      vital = still_bound_all _ _ _ (Output VitalText) text (bound_still _ _ _ _ (Output VitalText) moves.takes.state c.loop-turn.invariant.vital);
+      models = record {
+        verilog = still_bound_all _ _ _ (Output VerilogText) text (bound_still _ _ _ _ (Output VerilogText) moves.takes.state c.loop-turn.invariant.models.verilog);
+        vital = still_bound_all _ _ _ (Output VitalText) text (bound_still _ _ _ _ (Output VitalText) moves.takes.state c.loop-turn.invariant.models.vital);
+      };
       room = room_kept c.loop-turn.progress c.handle_item.new.progress c.in-Ok-Item.item c.loop-turn._turn c.in_ok-handle_item-in-Ok-Item.ensures.progress c.loop-turn.invariant.room;
       kept = c.in_ok-handle_item-in-Ok-Item.ensures.cause.kept ∙ c.in-Ok-Item.ensures.clean c.loop-turn.invariant.unfailed ∙ c.loop-turn.invariant.kept;
       unfailed = c.in-Ok-Item.ensures.unfailed c.loop-turn.invariant.unfailed;

@@ -23,8 +23,10 @@ returns-clause-text g c =
 pub handle_items-requires-clause-library : goal.handle_items-requires-clause-library
 handle_items-requires-clause-library g c = still_bound _ _ _ _ (Input Library) c.in_ok-write_prelude.ensures.text.whole c.requires.library
 
-pub handle_items-requires-clause-verilog : goal.handle_items-requires-clause-verilog
-handle_items-requires-clause-verilog g c = still_bound _ _ _ _ (Output VerilogText) c.in_ok-write_prelude.ensures.text.whole c.requires.verilog
-
-pub handle_items-requires-clause-vital : goal.handle_items-requires-clause-vital
-handle_items-requires-clause-vital g c = still_bound _ _ _ _ (Output VitalText) c.in_ok-write_prelude.ensures.text.whole c.requires.vital
+pub handle_items-requires-clause-models : goal.handle_items-requires-clause-models
+handle_items-requires-clause-models g c =
+    let prelude = c.in_ok-write_prelude.ensures.text.whole in
+    record {
+      verilog = still_bound _ _ _ _ (Output VerilogText) prelude c.requires.models.verilog;
+      vital = still_bound _ _ _ _ (Output VitalText) prelude c.requires.models.vital;
+    }

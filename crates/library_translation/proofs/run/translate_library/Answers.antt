@@ -8,13 +8,10 @@ pub translate_bound-requires-clause-library : goal.translate_bound-requires-clau
 translate_bound-requires-clause-library g c =
     library_bound _ _ c.in-Ok.ensures.binds.bytes (bound_all _ _ _ c.in-Ok.ensures.binds)
 
-pub translate_bound-requires-clause-verilog : goal.translate_bound-requires-clause-verilog
-translate_bound-requires-clause-verilog g c =
-    verilog_bound _ _ c.in-Ok.ensures.binds.bytes (bound_all _ _ _ c.in-Ok.ensures.binds)
-
-pub translate_bound-requires-clause-vital : goal.translate_bound-requires-clause-vital
-translate_bound-requires-clause-vital g c =
-    vital_bound _ _ c.in-Ok.ensures.binds.bytes (bound_all _ _ _ c.in-Ok.ensures.binds)
+pub translate_bound-requires-clause-models : goal.translate_bound-requires-clause-models
+translate_bound-requires-clause-models g c =
+    let all = bound_all _ _ _ c.in-Ok.ensures.binds in
+    record { verilog = verilog_bound _ _ c.in-Ok.ensures.binds.bytes all; vital = vital_bound _ _ c.in-Ok.ensures.binds.bytes all }
 
 pub returns-in-Ok-translate_bound-clause-writes : goal.returns-in-Ok-translate_bound-clause-writes
 returns-in-Ok-translate_bound-clause-writes g c =

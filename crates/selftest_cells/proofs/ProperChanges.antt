@@ -1,19 +1,10 @@
 -- The drawn changes are changes of the inputs at times that rise strictly.
-use Rattle.std.proofs.Common.{◌≡◌, ℕ, zero, suc, ◌+◌, ◌<◌, ◌/◌, List, [], ◌∷◌, ◌++◌, refl, sym, ap, subst, arith, add-one}
+use Rattle.std.proofs.Common.{◌≡◌, ℕ, zero, suc, ◌<◌, ◌/◌, List, [], ◌∷◌, ◌++◌, refl, sym, subst, arith}
 use Rattle.std.proofs.Math.Nat.{mod-lt}
 use Rattle.cell_machine.specs.declared.changes.Change.{Change}
 use Rattle.cell_machine.specs.History.{ComesAfter, IsProperFrom}
-use Rattle.selftest_library.specs.Draws.{next, pick}
+use Rattle.selftest_library.specs.Draws.{next}
 use Rattle.selftest_cells.specs.Changes.{number_before, time_before, change_at, first_changes, changes_of, ChangesAreProper}
-
-pub number-step : (k i : ℕ) → number_before k (i + 1) ≡ next (next (next (number_before k i)))
-number-step k i = ap (number_before k) (add-one i)
-
-pub time-step : (k i : ℕ) → time_before k (i + 1) ≡ time_before k i + (1 + pick (next (next (next (number_before k i)))) 40)
-time-step k i = ap (time_before k) (add-one i)
-
-pub changes-step : (k n i : ℕ) → first_changes k n (i + 1) ≡ first_changes k n i ++ change_at k n i ∷ []
-changes-step k n i = ap (first_changes k n) (add-one i)
 
 -- the history after changes that go on from another
 behind : List Change → List Change → List Change

@@ -1,4 +1,3 @@
-pub mod SumLemmas
 pub mod Writable
 pub mod LibraryText
 pub mod ReadingLemmas

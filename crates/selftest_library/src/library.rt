@@ -7,7 +7,7 @@ ghost use Rattle.selftest_library.specs.Library.{input as input_of, output as ou
 ghost use Rattle.liberty_groups.specs.Writing.{group_text};
 
 use crate::draws::{next, pick};
-use crate::statements::{Statements, alone, group, inner, one, table, timing, two};
+use crate::statements::{Statements, alone, group, one, table, timing, two};
 use crate::sums::function_text;
 use itoa::Buffer;
 use liberty_groups::{Group, Item, write_group};
@@ -50,32 +50,12 @@ fn function_items(alloc: Global, function: &[u8]) -> Result<Items<Item>, AllocEr
     Ok(all.into_items())
 }
 
-/// The setup time of the flip-flop's data.
-#[tactic(auto, unfolding(crate::specs::Library::setup))]
-fn setup(alloc: Global) -> Result<Item, AllocError>
-    ensures { IfOk result (λ item. item ≡ the_setup) }
-{
-    let rise = table(alloc, b"rise_constraint", b"20")?;
-    let fall = table(alloc, b"fall_constraint", b"20")?;
-    Ok(timing(alloc, b"CK", b"setup_rising", rise, fall)?)
-}
-
-/// The delays of the flip-flop's output.
-#[tactic(auto, unfolding(crate::specs::Library::arc))]
-fn arc(alloc: Global) -> Result<Item, AllocError>
-    ensures { IfOk result (λ item. item ≡ the_arc) }
-{
-    let rise = table(alloc, b"cell_rise", b"5")?;
-    let fall = table(alloc, b"cell_fall", b"7")?;
-    Ok(timing(alloc, b"CK", b"rising_edge", rise, fall)?)
-}
-
 /// A group of the state IQ and its inverse.
 fn states(alloc: Global, name: &[u8], items: Items<Item>) -> Result<Item, AllocError>
     ensures { IfOk result (λ item. item ≡ inner_of name.now (text_of (codes "IQ") ∷ text_of (codes "IQN") ∷ []) items) }
 {
     let names = two(alloc, b"IQ", b"IQN")?;
-    Ok(inner(alloc, name, names, items)?)
+    Ok(Item::Inner(group(alloc, name, names, items)?))
 }
 
 /// The flip-flop, with a clear.
@@ -90,21 +70,27 @@ fn flip_flop(alloc: Global) -> Result<Item, AllocError>
     Ok(states(alloc, b"ff", items.into_items())?)
 }
 
-/// What stands in the flip-flop's data.
+/// What stands in the flip-flop's data: its setup time.
+#[tactic(auto, unfolding(crate::specs::Library::setup))]
 fn setup_alone(alloc: Global) -> Result<Items<Item>, AllocError>
     ensures { IfOk result (λ items. items ≡ the_setup ∷ []) }
 {
-    let only = Statements::new(alloc).and(setup(alloc)?)?;
+    let rise = table(alloc, b"rise_constraint", b"20")?;
+    let fall = table(alloc, b"fall_constraint", b"20")?;
+    let setup = timing(alloc, b"CK", b"setup_rising", rise, fall)?;
+    let only = Statements::new(alloc).and(setup)?;
     Ok(only.into_items())
 }
 
-/// What stands in the flip-flop's output.
+/// What stands in the flip-flop's output: its function, and its delays.
+#[tactic(auto, unfolding(crate::specs::Library::arc))]
 fn delayed_state(alloc: Global) -> Result<Items<Item>, AllocError>
     ensures { IfOk result (λ items. items ≡ simple_of (codes "function") (codes "IQ") ∷ the_arc ∷ []) }
 {
-    let both = Statements::new(alloc)
-        .simple(b"function", b"IQ")?
-        .and(arc(alloc)?)?;
+    let rise = table(alloc, b"cell_rise", b"5")?;
+    let fall = table(alloc, b"cell_fall", b"7")?;
+    let arc = timing(alloc, b"CK", b"rising_edge", rise, fall)?;
+    let both = Statements::new(alloc).simple(b"function", b"IQ")?.and(arc)?;
     Ok(both.into_items())
 }
 
@@ -164,7 +150,7 @@ fn state_table(alloc: Global) -> Result<Item, AllocError>
     let rows = state_rows(alloc)?;
     let items = alone(alloc, b"table", rows.as_slice())?;
     let names = two(alloc, b"CK E SE", b"IQ")?;
-    Ok(inner(alloc, b"statetable", names, items)?)
+    Ok(Item::Inner(group(alloc, b"statetable", names, items)?))
 }
 
 /// The statements of a cell with a clock gate.

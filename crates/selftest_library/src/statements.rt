@@ -1,6 +1,6 @@
 //! Statements and groups of the test library.
 ghost use Rattle.std.specs.Prelude.{◌≡◌, [], ◌∷◌, ◌++◌, codes, IfOk};
-ghost use Rattle.selftest_library.specs.Statements.{text as text_of, simple as simple_of, complex as complex_of, group as group_of, inner as inner_of, pin as pin_of, table as table_of, timing as timing_of};
+ghost use Rattle.selftest_library.specs.Statements.{text as text_of, simple as simple_of, complex as complex_of, group as group_of, pin as pin_of, table as table_of, timing as timing_of};
 
 use liberty_groups::{Group, Item, Value};
 use sqlite_items::Items;
@@ -67,18 +67,6 @@ pub(crate) fn group(
         items,
         at: 0,
     })
-}
-
-/// A group as a statement.
-pub(crate) fn inner(
-    alloc: Global,
-    name: &[u8],
-    arguments: Items<Value>,
-    items: Items<Item>,
-) -> Result<Item, AllocError>
-    ensures { IfOk result (λ item. item ≡ inner_of name.now arguments items) }
-{
-    Ok(Item::Inner(group(alloc, name, arguments, items)?))
 }
 
 /// Statements of a group, put one behind another. Each call takes those so far, so that where memory is wanting nothing is left to drop.
@@ -162,7 +150,7 @@ fn pin(alloc: Global, name: &[u8], direction: &[u8], more: Items<Item>) -> Resul
     let mut items = alone(alloc, b"direction", direction)?;
     items.append(more)?;
     let names = one(alloc, name)?;
-    Ok(inner(alloc, b"pin", names, items)?)
+    Ok(Item::Inner(group(alloc, b"pin", names, items)?))
 }
 
 /// A table with one entry.
@@ -173,7 +161,8 @@ pub(crate) fn table(alloc: Global, name: &[u8], entry: &[u8]) -> Result<Item, Al
     let values = complex(alloc, b"values", entry)?;
     let items = Statements::new(alloc).and(values)?;
     let arguments = one(alloc, b"scalar")?;
-    Ok(inner(alloc, name, arguments, items.into_items())?)
+    let group = group(alloc, name, arguments, items.into_items())?;
+    Ok(Item::Inner(group))
 }
 
 /// What stands first in a timing group: its related pin and its type.
@@ -198,5 +187,6 @@ pub(crate) fn timing(
     ensures { IfOk result (λ item. item ≡ timing_of related.now kind.now rise fall) }
 {
     let items = timing_head(alloc, related, kind)?.and(rise)?.and(fall)?;
-    Ok(inner(alloc, b"timing", Items::new(alloc), items.into_items())?)
+    let group = group(alloc, b"timing", Items::new(alloc), items.into_items())?;
+    Ok(Item::Inner(group))
 }

@@ -3,4 +3,4 @@ use Rattle.selftest_library.proofs.library.states.Goals as goal
 
 pub returns : goal.returns
 returns c =
-    rw c.in_ok-inner.ensures (rw c.in_ok-names.ensures refl)
+    rw c.in_ok-group.ensures (rw c.in_ok-names.ensures refl)

@@ -1,7 +1,0 @@
-use Rattle.std.proofs.Common.{refl}
-use Rattle.selftest_library.specs.Library.{arc}
-use Rattle.selftest_library.proofs.library.arc.Goals as goal
-
-pub returns : goal.returns
-unfolding arc
-returns c = rw c.in_ok-timing.ensures (rw c.in_ok-rise.ensures (rw c.in_ok-fall.ensures refl))

@@ -6,8 +6,6 @@ use Rattle.cell_reader.specs.LibraryCells.{CellEntry}
 use Rattle.specify_blocks.specs.declared.model.VModule.{VModule}
 use Rattle.udp_tables.specs.declared.models.ModelFault.{ModelFault}
 use Rattle.vital_models.specs.declared.model.VEntity.{VEntity}
-use Rattle.stimulus.specs.declared.faults.Cause.{Cause}
-use Rattle.stimulus.specs.declared.faults.Cause.TheVariants as cause
 use Rattle.stimulus.specs.declared.faults.StimulusFault.{StimulusFault}
 use Rattle.stimulus.specs.declared.faults.StimulusFault.TheVariants as fault
 use Rattle.stimulus.specs.declared.sections.Section.{Section}
@@ -25,11 +23,10 @@ use Rattle.model_languages.specs.Verilog.{verilog}
 use Rattle.model_languages.specs.Vital.{vital}
 use Rattle.simulation_catalog.specs.Catalog.{cells_named}
 use Rattle.simulation_catalog.specs.Comparisons.{sections_text}
-use Rattle.simulation_catalog.specs.FaultLines.{cause_status}
 use Rattle.simulation_catalog.specs.Generated.{modules_of, entities_of, HaveOwnModels, EndsEqual}
 use Rattle.simulation_catalog.specs.StimulusFile.{sections_or, answer_where, stimulus_answer}
 use Rattle.simulation_catalog.specs.Ends.{sections_outcome}
-use Rattle.simulation_catalog.proofs.EqualEnds.{never_model_or_differ}
+use Rattle.simulation_catalog.proofs.EqualEnds.{bad_line_stops, never_model_or_differ}
 use Rattle.library_items.specs.declared.ending.Ending.{Ending}
 use Rattle.library_items.specs.declared.ending.Ending.TheVariants as ending
 use Rattle.library_items.specs.declared.ending.NotWhole.TheVariants as not_whole
@@ -105,25 +102,13 @@ goes_on library stimulus binds value answer more (inr (stop, e, long)) h =
 
 -- The stimulus.
 
-bad_line_undone : (why : Cause) → cause_status why ≢ status.Done
-bad_line_undone cause.Form e = absurd cc
-bad_line_undone cause.UnknownCell e = absurd cc
-bad_line_undone (cause.RefusedCell number) e = absurd cc
-bad_line_undone (cause.VerilogPorts number) e = absurd cc
-bad_line_undone (cause.VitalPorts number) e = absurd cc
-bad_line_undone cause.Count e = absurd cc
-bad_line_undone cause.UnknownPin e = absurd cc
-bad_line_undone cause.OutputPin e = absurd cc
-bad_line_undone cause.Value e = absurd cc
-bad_line_undone cause.Time e = absurd cc
-
 -- a stimulus that is not read does not end a run as done
 abbrev IsUndone : {T : Type 0} → Result T FileStop → Type 0
 IsUndone answer = IfErr answer (λ stop. stop.status ≢ status.Done)
 
 fault_undone : (cells : List CellEntry) (answer : Result (List Section) StimulusFault) → IsUndone (sections_or cells answer)
 fault_undone cells (Ok sections) = tt
-fault_undone cells (Err (fault.Line line why)) = bad_line_undone why
+fault_undone cells (Err (fault.Line line why)) = (bad_line_stops why).1
 fault_undone cells (Err fault.Memory) = λ e. absurd cc
 
 stimulus_undone : (cells : List CellEntry) (catalog : NamedCells) (more : Bool) (bytes : List ℕ) → IsUndone (answer_where cells catalog more bytes)

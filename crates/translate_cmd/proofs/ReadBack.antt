@@ -1,5 +1,6 @@
 -- The Verilog and the VHDL of a library read back.
-use Rattle.std.proofs.Common.{◌≡◌, ℕ, List, ◌∙◌, ap, subst}
+use Rattle.std.proofs.Common.{◌≡◌, ℕ, List, Result, Ok, ◌∙◌, ap, subst}
+use Rattle.udp_tables.specs.declared.models.ModelFault.{ModelFault}
 use Rattle.specify_blocks.specs.VerilogText.{IsVerilogText, verilog_text}
 use Rattle.vhdl_text.specs.VhdlText.{IsVhdlText, vhdl_text}
 use Rattle.written_modules.specs.Laws.{modules_text}
@@ -8,7 +9,7 @@ use Rattle.written_entities.specs.Laws.{entities_text}
 use Rattle.written_entities.proofs.EntityFile.{entities_read_back}
 use Rattle.library_translation.specs.Library.{translate_outcome}
 use Rattle.translate_cmd.specs.TranslatedModels.{modules_in, entities_in}
-use Rattle.translate_cmd.specs.TranslatedLaws.{ReadsAsModules, ReadsAsEntities, LibrariesReadBack}
+use Rattle.translate_cmd.specs.TranslatedLaws.{ReadsAs, LibrariesReadBack}
 use Rattle.translate_cmd.proofs.AcceptedCells.{modules-well-formed, entities-well-formed}
 use Rattle.translate_cmd.proofs.ModuleTexts.{verilog-of-modules}
 use Rattle.translate_cmd.proofs.EntityTexts.{vital-of-entities}
@@ -17,25 +18,23 @@ verilog_written : (bytes : List ℕ) → (translate_outcome bytes).text.verilog 
 unfolding modules_text
 verilog_written bytes = verilog-of-modules bytes
 
-verilog_back : (bytes : List ℕ) → ReadsAsModules (translate_outcome bytes).text.verilog (modules_in bytes)
-verilog_back bytes =
-    let back = read_back (modules_in bytes) (modules-well-formed bytes) in
-    record {
-      answer = ap verilog_text (verilog_written bytes) ∙ back.answer;
-      only = λ others h. back.only others (subst (λ (text : List ℕ). IsVerilogText text others) (verilog_written bytes) h);
-    }
-
 vital_written : (bytes : List ℕ) → (translate_outcome bytes).text.vital ≡ entities_text (entities_in bytes)
 unfolding entities_text
 vital_written bytes = vital-of-entities bytes
 
-vital_back : (bytes : List ℕ) → ReadsAsEntities (translate_outcome bytes).text.vital (entities_in bytes)
-vital_back bytes =
-    let back = entities_read_back (entities_in bytes) (entities-well-formed bytes) in
-    record {
-      answer = ap vhdl_text (vital_written bytes) ∙ back.answer;
-      only = λ others h. back.only others (subst (λ (text : List ℕ). IsVhdlText text others) (vital_written bytes) h);
-    }
+-- what is read of a text that is the written one
+reads_as : {M : Type 0} (read : List ℕ → Result (List M) ModelFault) (IsTextOf : List ℕ → List M → Type 0) (text written : List ℕ) (models : List M) → text ≡ written
+    → read written ≡ Ok models → ((others : List M) → IsTextOf written others → others ≡ models) → ReadsAs read IsTextOf text models
+reads_as read IsTextOf text written models is answer only = record {
+  answer = ap read is ∙ answer;
+  only = λ others h. only others (subst (λ (t : List ℕ). IsTextOf t others) is h);
+}
 
 pub libraries-read-back : LibrariesReadBack
-libraries-read-back bytes = record { verilog = verilog_back bytes; vital = vital_back bytes }
+libraries-read-back bytes =
+    let modules = read_back (modules_in bytes) (modules-well-formed bytes) in
+    let entities = entities_read_back (entities_in bytes) (entities-well-formed bytes) in
+    record {
+      verilog = reads_as verilog_text IsVerilogText (translate_outcome bytes).text.verilog (modules_text (modules_in bytes)) (modules_in bytes) (verilog_written bytes) modules.answer modules.only;
+      vital = reads_as vhdl_text IsVhdlText (translate_outcome bytes).text.vital (entities_text (entities_in bytes)) (entities_in bytes) (vital_written bytes) entities.answer entities.only;
+    }

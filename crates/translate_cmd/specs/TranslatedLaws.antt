@@ -1,10 +1,9 @@
 -- Laws of what `translate` writes.
-use Rattle.std.specs.Prelude.{◌≡◌, ℕ, List, ◌++◌, Ok}
+use Rattle.std.specs.Prelude.{◌≡◌, ℕ, List, ◌++◌, Result, Ok}
 use Rattle.std.specs.List.{flat_map}
-use Rattle.specify_blocks.specs.declared.model.VModule.{VModule}
+use Rattle.udp_tables.specs.declared.models.ModelFault.{ModelFault}
 use Rattle.specify_blocks.specs.VerilogText.{IsVerilogText, verilog_text}
 use Rattle.specify_blocks.specs.WellFormed as verilog
-use Rattle.vital_models.specs.declared.model.VEntity.{VEntity}
 use Rattle.vhdl_text.specs.VhdlText.{IsVhdlText, vhdl_text}
 use Rattle.vhdl_text.specs.WellFormed as vhdl
 use Rattle.verilog_writer.specs.Model.{prelude_text, module_text}
@@ -28,20 +27,15 @@ VerilogIsOfModules = (bytes : List ℕ) → (translate_outcome bytes).text.veril
 abbrev pub VitalIsOfEntities : Type 0
 VitalIsOfEntities = (bytes : List ℕ) → (translate_outcome bytes).text.vital ≡ flat_map entity_text (entities_in bytes)
 
--- a text reads as these modules, and as no others
-pub record ReadsAsModules (text : List ℕ) (ms : List VModule) : Type 0 where
-  pub answer : verilog_text text ≡ Ok ms
-  pub only : (others : List VModule) → IsVerilogText text others → others ≡ ms
-
--- a text reads as these entities, and as no others
-pub record ReadsAsEntities (text : List ℕ) (es : List VEntity) : Type 0 where
-  pub answer : vhdl_text text ≡ Ok es
-  pub only : (others : List VEntity) → IsVhdlText text others → others ≡ es
+-- a text reads as these models, and as no others
+pub record ReadsAs {M : Type 0} (read : List ℕ → Result (List M) ModelFault) (IsTextOf : List ℕ → List M → Type 0) (text : List ℕ) (models : List M) : Type 0 where
+  pub answer : read text ≡ Ok models
+  pub only : (others : List M) → IsTextOf text others → others ≡ models
 
 -- the texts of a library read as the modules and the entities of its accepted cells
 pub record ReadsBack (bytes : List ℕ) : Type 0 where
-  pub verilog : ReadsAsModules (translate_outcome bytes).text.verilog (modules_in bytes)
-  pub vital : ReadsAsEntities (translate_outcome bytes).text.vital (entities_in bytes)
+  pub verilog : ReadsAs verilog_text IsVerilogText (translate_outcome bytes).text.verilog (modules_in bytes)
+  pub vital : ReadsAs vhdl_text IsVhdlText (translate_outcome bytes).text.vital (entities_in bytes)
 
 -- so those of every library do
 abbrev pub LibrariesReadBack : Type 0

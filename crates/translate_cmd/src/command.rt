@@ -12,10 +12,7 @@ ghost use Rattle.translate_cmd.specs.Complete.{Completes};
 ghost use Rattle.translate_cmd.specs.Selftests.{SelftestsEnd};
 ghost use Rattle.translate_cmd.specs.AgreementRuns.{OwnModelsEndInAgreement};
 
-use crate::replay::replay;
-use crate::selftest::selftest;
-use crate::simulate::simulate;
-use crate::translate::translate;
+use crate::commands::{replay, selftest, simulate, translate};
 use command_outcomes::{Status, ended};
 use command_words::{Command, Memory, asked};
 use std::alloc::Global;

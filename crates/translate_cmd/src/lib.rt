@@ -2,11 +2,8 @@
 #![tactic(auto)]
 
 mod command;
+mod commands;
 mod laws;
-mod replay;
-mod selftest;
-mod simulate;
-mod translate;
 
 pub use command::{run, run_gated, run_sure};
 pub use command_outcomes::Status;

@@ -1,7 +1,7 @@
 use Rattle.std.proofs.Common.{refl}
 use Rattle.translate_cmd.proofs.PlanLemmas.{planned_files}
 use Rattle.translate_cmd.proofs.AskedRuns.{asked_as, replay_asked}
-use Rattle.translate_cmd.proofs.replay.replay.Goals as goal
+use Rattle.translate_cmd.proofs.commands.replay.Goals as goal
 
 pub replay_models-requires : goal.replay_models-requires
 replay_models-requires g c =

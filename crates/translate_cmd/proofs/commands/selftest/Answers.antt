@@ -1,6 +1,6 @@
 use Rattle.translate_cmd.proofs.RunsLemmas.{nothing_runs, selftest_runs}
 use Rattle.command_words.proofs.FewCells.{few_cells}
-use Rattle.translate_cmd.proofs.selftest.selftest.Goals as goal
+use Rattle.translate_cmd.proofs.commands.selftest.Goals as goal
 
 pub selftest_counts-requires : goal.selftest_counts-requires
 selftest_counts-requires g c = few_cells (g.D.Desk.state c.args.desk.now).words c.args.cells c.requires

@@ -10,19 +10,20 @@ use Rattle.cell_machine.proofs.EachLemmas.{each-map}
 use Rattle.udp_tables.specs.declared.timing_checks.TimingCheck.{TimingCheck}
 use Rattle.vital_models.specs.declared.model.VEntity.{VEntity}
 use Rattle.vital_models.specs.Sound.{IsCheck, IsSound}
-use Rattle.model_traces.specs.declared.stamps.Stamps.{Stamps}
+use Rattle.cell_machine.specs.declared.times.Times.{Times}
 use Rattle.model_traces.specs.PortNumbers.{input_count, input_event}
-use Rattle.model_traces.specs.CheckTimes.{no_stamps, stamped, reports_where}
+use Rattle.model_traces.specs.CheckTimes.{stamped, reports_where}
+use Rattle.cell_machine.specs.Times.{no_times}
 use Rattle.model_traces.specs.Laws.{last_stamps}
 use Rattle.model_traces.specs.SignalTimes.{check_reports}
 use Rattle.model_traces.specs.ProcessLaws.{last_times}
 use Rattle.model_traces.specs.ProcessValues.{is_enabled}
-use Rattle.model_traces.specs.ProcessRun.{ProcessRun, columns, all_columns, violation_by, looked_up, reports_at, happened, process_after, step_reports}
+use Rattle.model_traces.specs.ProcessRun.{columns, all_columns, violation_by, looked_up, reports_at, happened, process_after, step_reports}
 use Rattle.model_traces.proofs.RunLemmas.{start-stamps, still-stamps, opened-last}
 use Rattle.model_traces.proofs.ProcessLemmas.{looked-each, process-inputs, process-times, later-second, earlier-first}
 use Rattle.table_interpreters.specs.declared.shown.Shown.{Shown}
 use Rattle.table_interpreters.specs.declared.process_run.ProcessState.{ProcessState}
-use Rattle.table_interpreters.specs.EntitySteps.{next_by, event_reports, event_step, state_step, change_reports, output_step, output_first, output_shown, EntityStands}
+use Rattle.table_interpreters.specs.EntitySteps.{next_by, event_reports, event_step, state_step, change_reports, output_step, output_first, output_shown, IsTied, EntityStands}
 
 -- a check with the events of its kind reports as the process says
 report-same :
@@ -49,32 +50,27 @@ reports-same e n h inputs a c (k ∷ ks) are =
 
 -- Before any change.
 pub entity-starts :
-    (e : VEntity) (inputs before states : List Trit) (stamps : List Stamps) (reports : List Bool) (shown : List Shown)
+    (e : VEntity) (inputs before states : List Trit) (stamps : List Times) (reports : List Bool) (shown : List Shown)
     → inputs ≡ replicate (input_count e.ports) Unknown
     → before ≡ replicate (input_count e.ports) Unknown
     → states ≡ replicate (length e.states) Unknown
-    → stamps ≡ replicate (length e.checks) no_stamps
+    → stamps ≡ replicate (length e.checks) no_times
     → reports ≡ replicate (length e.checks) false
     → shown ≡ map (output_first e inputs states) e.outputs
     → EntityStands e (record { inputs = inputs; before = before; states = states; violation = Unknown; stamps = stamps }) reports shown []
 entity-starts e inputs before states stamps reports shown i b s k r o =
     record {
-      inputs_are = i;
-      before_are = b;
-      states_are = s;
-      columns_are = ap (all_columns e Unknown) (sym b);
+      tied =
+          record {
+            inputs_are = i;
+            before_are = b;
+            states_are = s;
+            columns_are = ap (all_columns e Unknown) (sym b);
+          };
       stamps_are = k ∙ start-stamps e.ports (input_count e.ports) e.checks;
       reports_are = r;
       shown_are = o ∙ (λ j. map (output_first e (i j) (s j)) e.outputs);
     }
-
--- the fields of a simulator's run, and those of the process after a history
-record IsTied (e : VEntity) (r : ProcessState) (p : ProcessRun) (h : List Change) : Type 0 where
-  inputs_tied : r.inputs ≡ p.inputs
-  before_tied : r.before ≡ p.inputs
-  states_tied : r.states ≡ p.states
-  columns_tied : p.previous ≡ all_columns e r.violation r.before
-  stamps_tied : r.stamps ≡ map (last_stamps e.ports (input_count e.ports) h) e.checks
 
 module _ (e : VEntity) (sound : IsSound e) (run : ProcessState) (reports : List Bool) (shown : List Shown) (h : List Change)
     (st : EntityStands e run reports shown h) (c : Change) where
@@ -84,51 +80,47 @@ module _ (e : VEntity) (sound : IsSound e) (run : ProcessState) (reports : List 
   -- the reports at an event
   reports-are : event_reports e run c ≡ reports_at e (process_after e h) c
   reports-are =
-      (λ i. each (reports_where e.ports (is_enabled e (set (st.inputs_are i) c.pin c.to)) (value_before (st.inputs_are i) c) c) e.checks (st.stamps_are i))
+      (λ i. each (reports_where e.ports (is_enabled e (set (st.tied.inputs_are i) c.pin c.to)) (value_before (st.tied.inputs_are i) c) c) e.checks (st.stamps_are i))
       ∙ reports-same e n h (set (process_after e h).inputs c.pin c.to) (value_before (process_after e h).inputs c) c e.checks sound.checks
       ∙ ap (each (check_reports e (set (process_after e h).inputs c.pin c.to) (value_before (process_after e h).inputs c) c) e.checks)
       (sym (process-times e h))
 
   changed-reports : change_reports e run c ≡ step_reports e (process_after e h) c
   changed-reports =
-      λ i. if is_event (st.inputs_are i) c then reports-are i else replicate (length e.checks) false
+      λ i. if is_event (st.tied.inputs_are i) c then reports-are i else replicate (length e.checks) false
 
   -- the fields of the run after a change, by whether it is an event
-  event-fields : IsTied e (event_step e run c (violation_by (any_true (event_reports e run c)))) (happened e (process_after e h) c) (c ∷ h)
+  event-fields : IsTied e (event_step e run c (violation_by (any_true (event_reports e run c)))) (happened e (process_after e h) c)
   event-fields =
       let p = process_after e h in
-      let inputs = st.inputs_are ∙ process-inputs e h in
       record {
-        inputs_tied = λ i. set (st.inputs_are i) c.pin c.to;
-        before_tied = λ i. set (st.before_are i) c.pin c.to;
-        states_tied =
+        inputs_are = λ i. set (st.tied.inputs_are i) c.pin c.to;
+        before_are = λ i. set (st.tied.before_are i) c.pin c.to;
+        states_are =
             (λ i.
-            each (next_by e run.violation run.before (violation_by (any_true (reports-are i))) (set (st.inputs_are i) c.pin c.to)) e.states (st.states_are i))
+            each (next_by e run.violation run.before (violation_by (any_true (reports-are i))) (set (st.tied.inputs_are i) c.pin c.to)) e.states (st.tied.states_are i))
             ∙ sym (looked-each (columns e.ports run.violation run.before) (columns e.ports (violation_by (any_true (reports_at e p c))) (set p.inputs c.pin c.to)) e.states p.states)
-            ∙ ap (λ previous. looked_up e.states previous (all_columns e (violation_by (any_true (reports_at e p c))) (set p.inputs c.pin c.to)) p.states) (sym st.columns_are);
-        columns_tied = λ i. all_columns e (violation_by (any_true (sym reports-are i))) (set (sym st.before_are i) c.pin c.to);
-        stamps_tied =
-            (λ i. each (stamped e.ports (value_before (inputs i) c) c) e.checks (st.stamps_are i))
-            ∙ each-map (stamped e.ports (value_before (inputs_after n h) c) c) (last_stamps e.ports n h) e.checks;
-      }
-
-  still-fields : is_event (process_after e h).inputs c ≡ false → IsTied e run (process_after e h) (c ∷ h)
-  still-fields quiet =
-      let none : is_event (inputs_after n h) c ≡ false = ap (λ v. is_event v c) (sym (process-inputs e h)) ∙ quiet in
-      record {
-        inputs_tied = st.inputs_are;
-        before_tied = st.before_are;
-        states_tied = st.states_are;
-        columns_tied = st.columns_are;
-        stamps_tied = st.stamps_are ∙ still-stamps e.ports n h c e.checks none;
+            ∙ ap (λ previous. looked_up e.states previous (all_columns e (violation_by (any_true (reports_at e p c))) (set p.inputs c.pin c.to)) p.states) (sym st.tied.columns_are);
+        columns_are = λ i. all_columns e (violation_by (any_true (sym reports-are i))) (set (sym st.tied.before_are i) c.pin c.to);
       }
 
   fields :
-      (b : Bool) → is_event (process_after e h).inputs c ≡ b
+      (b : Bool)
       → IsTied e (if b then event_step e run c (violation_by (any_true (event_reports e run c))) else run)
-      (if b then happened e (process_after e h) c else process_after e h) (c ∷ h)
-  fields true event = event-fields
-  fields false event = still-fields event
+      (if b then happened e (process_after e h) c else process_after e h)
+  fields true = event-fields
+  fields false = st.tied
+
+  -- the kept times after a change, by whether it is an event
+  stamps :
+      (b : Bool) → is_event (process_after e h).inputs c ≡ b
+      → (if b then event_step e run c (violation_by (any_true (event_reports e run c))) else run).stamps
+      ≡ map (last_stamps e.ports n (c ∷ h)) e.checks
+  stamps true event =
+      (λ i. each (stamped e.ports (value_before ((st.tied.inputs_are ∙ process-inputs e h) i) c) c) e.checks (st.stamps_are i))
+      ∙ each-map (stamped e.ports (value_before (inputs_after n h) c) c) (last_stamps e.ports n h) e.checks
+  stamps false quiet =
+      st.stamps_are ∙ still-stamps e.ports n h c e.checks (ap (λ v. is_event v c) (sym (process-inputs e h)) ∙ quiet)
 
   -- After a change.
   pub entity-changes :
@@ -137,18 +129,15 @@ module _ (e : VEntity) (sound : IsSound e) (run : ProcessState) (reports : List 
       → shown' ≡ each (output_step e run'.inputs run'.states c.pin) e.outputs shown
       → EntityStands e run' reports' shown' (c ∷ h)
   entity-changes run' reports' shown' stepped reported shows =
-      let path = stepped ∙ ap (λ v. if is_event v c then event_step e run c (violation_by (any_true (event_reports e run c))) else run) st.inputs_are in
-      let tied : IsTied e run' (process_after e (c ∷ h)) (c ∷ h) =
-      subst (λ r. IsTied e r (process_after e (c ∷ h)) (c ∷ h)) (sym path) (fields (is_event (process_after e h).inputs c) refl) in
+      let path = stepped ∙ ap (λ v. if is_event v c then event_step e run c (violation_by (any_true (event_reports e run c))) else run) st.tied.inputs_are in
+      let tied : IsTied e run' (process_after e (c ∷ h)) =
+      subst (λ r. IsTied e r (process_after e (c ∷ h))) (sym path) (fields (is_event (process_after e h).inputs c)) in
       record {
-        inputs_are = tied.inputs_tied;
-        before_are = tied.before_tied;
-        states_are = tied.states_tied;
-        columns_are = tied.columns_tied;
-        stamps_are = tied.stamps_tied;
+        tied = tied;
+        stamps_are = ap (λ (r : ProcessState). r.stamps) path ∙ stamps (is_event (process_after e h).inputs c) refl;
         reports_are = reported ∙ changed-reports;
         shown_are =
             shows
-            ∙ (λ i. each (output_step e (tied.inputs_tied i) (tied.states_tied i) c.pin) e.outputs (st.shown_are i))
+            ∙ (λ i. each (output_step e (tied.inputs_are i) (tied.states_are i) c.pin) e.outputs (st.shown_are i))
             ∙ each-map (output_step e (process_after e (c ∷ h)).inputs (process_after e (c ∷ h)).states c.pin) (output_shown e h) e.outputs;
       }

@@ -1,6 +1,15 @@
 -- Lists that are written in place, entry by entry.
-use Rattle.std.proofs.Common.{◌≡◌, ℕ, zero, suc, ◌+◌, ◌<◌, ◌≤◌, List, [], ◌∷◌, ◌++◌, length, map, get_or, set, take, drop, replicate, refl, ap, sym, ◌∙◌, Some, slice_get, arith, add-one}
+use Rattle.std.proofs.Common.{◌≡◌, ℕ, zero, suc, ◌+◌, ◌<◌, ◌≤◌, List, [], ◌∷◌, ◌++◌, length, map, get_or, set, take, drop, replicate, refl, ap, sym, ◌∙◌, Some, slice_get, subst, arith, add-one}
+use Rattle.std.specs.Prelude.{All}
+use Rattle.std.proofs.lemmas.List.{take_all}
 use Rattle.cell_machine.specs.Each.{each}
+
+-- what holds of all entries holds of the one at a place
+pub all-at :
+    {X : Type 0} (P : X → Type 0) (xs : List X) (i : ℕ) (x : X) → All P xs → slice_get xs i ≡ Some x → P x
+all-at P [] i x h e = absurd cc
+all-at P (y ∷ ys) zero x h e = let same : y ≡ x = cc in subst P same (h 0 y (omega arith))
+all-at P (y ∷ ys) (suc i) x h e = all-at P ys i x (λ k d within. h (suc k) d (omega arith)) e
 
 pub take-set :
     {X : Type 0} (xs : List X) (i : ℕ) (v : X) → i < length xs → take (suc i) (set xs i v) ≡ take i xs ++ v ∷ []
@@ -43,23 +52,17 @@ pub clear-step :
     → i < length xs → take i xs ≡ replicate i x → take (i + 1) (set xs i x) ≡ replicate (i + 1) x
 clear-step xs i x h front = rw add-one (take-set xs i x h ∙ ap (λ r. r ++ x ∷ []) front ∙ replicate-more i x)
 
-take-all : {X : Type 0} (xs : List X) (i : ℕ) → length xs ≤ i → take i xs ≡ xs
-take-all [] zero h = refl
-take-all [] (suc i) h = refl
-take-all (x ∷ xs) zero h = absurd (omega arith)
-take-all (x ∷ xs) (suc i) h = ap (λ r. x ∷ r) (take-all xs i (omega arith))
-
 -- all entries are written
 pub front-done :
     {X S T : Type 0} (f : X → S → T) (xs : List X) (ss : List S) (ts : List T) (i : ℕ)
     → length xs ≤ i → length ss ≤ i → length ts ≤ i → take i ts ≡ each f (take i xs) (take i ss) → ts ≡ each f xs ss
 front-done f xs ss ts i h k l front =
-    sym (take-all ts i l) ∙ front ∙ (λ j. each f (take-all xs i h j) (take-all ss i k j))
+    sym (take_all i ts l) ∙ front ∙ (λ j. each f (take_all i xs h j) (take_all i ss k j))
 
 pub clear-done :
     {X : Type 0} (xs : List X) (i n : ℕ) (x : X)
     → length xs ≤ i → i ≡ n → take i xs ≡ replicate i x → xs ≡ replicate n x
-clear-done xs i n x h e front = sym (take-all xs i h) ∙ front ∙ ap (λ k. replicate k x) e
+clear-done xs i n x h e front = sym (take_all i xs h) ∙ front ∙ ap (λ k. replicate k x) e
 
 pub map-done :
     {S : Type 0} (f : S → S) (ss : List S) (i : ℕ) → length ss ≤ i → take i ss ++ map f (drop i ss) ≡ ss

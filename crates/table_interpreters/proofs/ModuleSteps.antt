@@ -9,11 +9,11 @@ use Rattle.std.proofs.lemmas.Simd.{map-map}
 use Rattle.cell_machine.proofs.ArcDelays.{drop-at}
 use Rattle.udp_tables.specs.declared.models.VPort.{VPort}
 use Rattle.specify_blocks.specs.declared.model.VModule.{VModule}
-use Rattle.model_traces.specs.declared.stamps.Stamps.{Stamps}
+use Rattle.cell_machine.specs.declared.times.Times.{Times}
 use Rattle.model_traces.specs.declared.module_run.ModuleRun.{ModuleRun}
 use Rattle.table_interpreters.specs.declared.shown.Shown.{Shown}
 use Rattle.model_traces.specs.PortNumbers.{input_count, output_by, outputs_from, output_ports}
-use Rattle.model_traces.specs.CheckTimes.{no_stamps}
+use Rattle.cell_machine.specs.Times.{no_times}
 use Rattle.model_traces.specs.ModuleRun.{shaken, reports_at, happened, run_step, step_reports, run_after}
 use Rattle.table_interpreters.specs.ShownPorts.{shown_first, shown_step}
 use Rattle.table_interpreters.specs.ModuleStands.{shown_after, Stands}
@@ -52,10 +52,10 @@ outputs-step f ports i port old new e is =
 
 -- Before any change.
 pub start-stands :
-    (m : VModule) (inputs states : List Trit) (stamps : List Stamps) (reports : List Bool) (shown : List Shown)
+    (m : VModule) (inputs states : List Trit) (stamps : List Times) (reports : List Bool) (shown : List Shown)
     → inputs ≡ replicate (input_count m.ports) Unknown
     → states ≡ replicate (length m.instances) Unknown
-    → stamps ≡ replicate (length m.checks) no_stamps
+    → stamps ≡ replicate (length m.checks) no_times
     → reports ≡ replicate (length m.checks) false
     → shown ≡ map (shown_first m inputs states) (output_ports m.ports)
     → Stands m (record { inputs = inputs; states = states; notifier = Unknown; stamps = stamps }) reports shown []

@@ -7,6 +7,7 @@ use Rattle.vital_models.specs.declared.model.OutValue.TheVariants as value
 use Rattle.vital_models.specs.declared.model.VOutput.{VOutput}
 use Rattle.vital_models.specs.declared.model.VEntity.{VEntity}
 use Rattle.vital_models.specs.Sound.{columns_of}
+pub use Rattle.vital_models.specs.Sound.{IsSound}
 
 -- how many columns the table of an output has
 abbrev pub source_count : OutValue → ℕ

@@ -1,6 +1,6 @@
 -- How the simulator of an entity takes its run on. A check keeps the times of a Verilog module's, of which those of the process are
 -- a part, and in place of the columns of the last event their inputs and the violation are kept.
-use Rattle.std.specs.Prelude.{◌≡◌, ℕ, Bool, false, List, length, map, replicate, slice_set, None, if◌then◌else◌}
+use Rattle.std.specs.Prelude.{◌≡◌, ◌<◌, ℕ, Bool, false, List, length, map, replicate, slice_set, None, if◌then◌else◌}
 use Rattle.trit_cubes.specs.declared.trits.Trit.{Trit}
 use Rattle.cell_machine.specs.declared.changes.Change.{Change}
 use Rattle.cell_machine.specs.Each.{each}
@@ -15,10 +15,14 @@ use Rattle.model_traces.specs.CheckTimes.{stamped, reports_where}
 use Rattle.model_traces.specs.Laws.{last_stamps}
 use Rattle.model_traces.specs.ProcessValues.{is_enabled, output_value}
 use Rattle.model_traces.specs.GatedPaths.{delay_at}
-use Rattle.model_traces.specs.ProcessRun.{columns, all_columns, violation_by, process_after}
+use Rattle.model_traces.specs.ProcessRun.{ProcessRun, columns, all_columns, process_after}
 use Rattle.model_traces.specs.EntityTrace.{output_after, delay_after, reports_after}
 use Rattle.table_interpreters.specs.declared.shown.Shown.{Shown}
 use Rattle.table_interpreters.specs.declared.process_run.ProcessState.{ProcessState}
+use Rattle.table_interpreters.specs.EntityRooms.{IsSound, HasRoom}
+pub use Rattle.model_traces.specs.ProcessRun.{violation_by}
+pub use Rattle.model_traces.specs.EntityTrace.{entity_machine}
+pub use Rattle.table_interpreters.specs.EntitySized.{entity_sized}
 
 -- the next state, where the violation and the inputs were these before and are those now
 abbrev pub next_by : VEntity → Trit → List Trit → Trit → List Trit → VState → Trit → Trit
@@ -73,12 +77,30 @@ pub record HasParts (e : VEntity) (r : ProcessState) : Type 0 where
   pub stamps : length r.stamps ≡ length e.checks
   pub before : length r.before ≡ length r.inputs
 
+-- A run of an entity, with the reports of its checks and with room for the columns of any table, before a change and after it.
+pub record IsReady (e : VEntity) (run : ProcessState) (reports : List Bool) (before after : ℕ) : Type 0 where
+  pub sound : IsSound e
+  pub earlier : HasRoom before e
+  pub room : HasRoom after e
+  pub each_input : length run.inputs ≡ input_count e.ports
+  pub one_each : HasParts e run
+  pub one_report : length reports ≡ length e.checks
+
+-- The same, where this input changes.
+pub record CanTake (e : VEntity) (run : ProcessState) (reports : List Bool) (before after pin : ℕ) : Type 0 where
+  pub ready : IsReady e run reports before after
+  pub inside : pin < length run.inputs
+
+-- The fields of a simulator's run, but for the kept times, are those of the process's run.
+pub record IsTied (e : VEntity) (run : ProcessState) (process : ProcessRun) : Type 0 where
+  pub inputs_are : run.inputs ≡ process.inputs
+  pub before_are : run.before ≡ process.inputs
+  pub states_are : run.states ≡ process.states
+  pub columns_are : process.previous ≡ all_columns e run.violation run.before
+
 -- The simulator of an entity stands after a history: its fields are what the run of the process gives there.
 pub record EntityStands (e : VEntity) (run : ProcessState) (reports : List Bool) (shown : List Shown) (h : List Change) : Type 0 where
-  pub inputs_are : run.inputs ≡ (process_after e h).inputs
-  pub before_are : run.before ≡ (process_after e h).inputs
-  pub states_are : run.states ≡ (process_after e h).states
-  pub columns_are : (process_after e h).previous ≡ all_columns e run.violation run.before
+  pub tied : IsTied e run (process_after e h)
   pub stamps_are : run.stamps ≡ map (last_stamps e.ports (input_count e.ports) h) e.checks
   pub reports_are : reports ≡ reports_after e h
   pub shown_are : shown ≡ map (output_shown e h) e.outputs

@@ -2,6 +2,7 @@
 use Rattle.std.specs.Prelude.{ℕ, Bool, ◌&&◌, List, map, filter, Option, Some, None, if◌then◌else◌}
 use Rattle.trit_cubes.specs.declared.trits.Trit.{Trit}
 use Rattle.cell_machine.specs.Delay.{Path, path_delay, active_delays, least}
+pub use Rattle.cell_machine.specs.Delay.{least_delay}
 
 -- the delay of a change from a to b by one path, there where it leads to the output and is active
 abbrev pub path_delay_of : {X : Type 0} → (X → Bool) → (X → Path) → Trit → Trit → X → Option ℕ

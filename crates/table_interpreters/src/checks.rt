@@ -7,8 +7,7 @@ ghost use Rattle.model_traces.specs.CheckTimes.{stamped, opened, reports_where};
 
 use crate::conditions::Conditions;
 use crate::ports::input_number;
-use cell_machine::{Change, Edge, Event, is_rise, is_within, moves, renewed};
-use model_traces::Stamps;
+use cell_machine::{Change, Edge, Event, Times, is_rise, is_within, moves, renewed};
 use sqlite_items::Items;
 use trit_cubes::Trit;
 use udp_tables::{TimingCheck, VPort};
@@ -33,7 +32,7 @@ fn happens(seen: &InputChange, event: Event) -> bool
 }
 
 /// The times that a check keeps after a change.
-fn stamped(seen: &InputChange, check: &TimingCheck, stamps: Stamps) -> Stamps
+fn stamped(seen: &InputChange, check: &TimingCheck, stamps: Times) -> Times
     ensures { result ≡ stamped seen.now.ports.now seen.now.from seen.now.change check.now stamps }
 {
     let at = seen.change.at;
@@ -42,15 +41,15 @@ fn stamped(seen: &InputChange, check: &TimingCheck, stamps: Stamps) -> Stamps
     let rises = happens(seen, Event { pin, edge });
     let edge = Edge::Fall;
     let falls = happens(seen, Event { pin, edge });
-    Stamps {
-        first: renewed(happens(seen, check.first), at, stamps.first),
+    Times {
+        event: renewed(happens(seen, check.first), at, stamps.event),
         rise: renewed(rises, at, stamps.rise),
         fall: renewed(falls, at, stamps.fall),
     }
 }
 
 /// The time from which a check measures at a change.
-fn opened(seen: &InputChange, check: &TimingCheck, stamps: Stamps) -> Option<u64>
+fn opened(seen: &InputChange, check: &TimingCheck, stamps: Times) -> Option<u64>
     ensures { result ≡ opened check.now seen.now.from seen.now.change stamps }
 {
     if check.kind.is_period() {
@@ -60,7 +59,7 @@ fn opened(seen: &InputChange, check: &TimingCheck, stamps: Stamps) -> Option<u64
             stamps.fall
         }
     } else {
-        stamps.first
+        stamps.event
     }
 }
 
@@ -69,7 +68,7 @@ fn check_reports<V: Conditions>(
     values: &V,
     seen: &InputChange,
     check: &TimingCheck,
-    stamps: Stamps,
+    stamps: Times,
     room: &mut Items<Trit>,
 ) -> bool
     requires { V.fits values.now (length room.old) }
@@ -88,7 +87,7 @@ pub(crate) fn compare_all<V: Conditions>(
     values: &V,
     seen: &InputChange,
     checks: &[TimingCheck],
-    stamps: &[Stamps],
+    stamps: &[Times],
     reports: &mut Items<bool>,
     room: &mut Items<Trit>,
 )
@@ -106,7 +105,7 @@ pub(crate) fn compare_all<V: Conditions>(
 }
 
 /// Takes the kept times of all checks over a change.
-pub(crate) fn stamp_all(seen: &InputChange, checks: &[TimingCheck], stamps: &mut Items<Stamps>)
+pub(crate) fn stamp_all(seen: &InputChange, checks: &[TimingCheck], stamps: &mut Items<Times>)
     requires { length stamps.old ≡ length checks.now }
     ensures stamped { stamps.new ≡ each (stamped seen.now.ports.now seen.now.from seen.now.change) checks.now stamps.old }
     ensures len { length stamps.new ≡ length stamps.old }

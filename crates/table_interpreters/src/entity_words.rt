@@ -1,6 +1,7 @@
 //! The words of the rows of an entity's tables.
-ghost use Rattle.std.specs.Prelude.{◌≡◌, List, map, IfOk};
+ghost use Rattle.std.specs.Prelude.{◌≡◌, ℕ, List, length, map, IfOk};
 
+use crate::process_rooms::{columns_of, source_count};
 use sqlite_items::Items;
 use std::alloc::{AllocError, Global};
 use udp_tables::RowWords;
@@ -39,8 +40,15 @@ impl EntityWords {
 pub(crate) trait Tabled {
     ghost use Rattle.udp_tables.specs.declared.row_words.RowWords.{RowWords};
 
+    /// How many columns its table has.
+    ghost columns: { Self → ℕ };
+
     /// The words of the rows of its table.
     ghost row_words: { Self → List RowWords };
+
+    /// How many columns its table has.
+    fn columns(&self) -> usize
+        ensures { result ≡ columns self.now };
 
     /// The words of the rows of its table.
     fn row_words(&self, alloc: Global) -> Result<Items<RowWords>, AllocError>
@@ -49,8 +57,15 @@ pub(crate) trait Tabled {
 
 impl Tabled for VState {
     ghost use Rattle.table_interpreters.specs.TableWords.{words_of_state};
+    ghost use Rattle.vital_models.specs.Sound.{columns_of};
+
+    ghost columns = { columns_of };
 
     ghost row_words = { words_of_state };
+
+    fn columns(&self) -> usize {
+        columns_of(self)
+    }
 
     fn row_words(&self, alloc: Global) -> Result<Items<RowWords>, AllocError> {
         words_of(alloc, self.table.rows.as_slice())
@@ -60,7 +75,13 @@ impl Tabled for VState {
 impl Tabled for VTruth {
     ghost use Rattle.table_interpreters.specs.TableWords.{words_of_truth};
 
+    ghost columns = { λ truth. length truth.inputs };
+
     ghost row_words = { words_of_truth };
+
+    fn columns(&self) -> usize {
+        self.inputs.len()
+    }
 
     fn row_words(&self, alloc: Global) -> Result<Items<RowWords>, AllocError> {
         words_of(alloc, self.table.rows.as_slice())
@@ -69,8 +90,15 @@ impl Tabled for VTruth {
 
 impl Tabled for VOutput {
     ghost use Rattle.table_interpreters.specs.TableWords.{words_of_output};
+    ghost use Rattle.table_interpreters.specs.EntityRooms.{source_count};
+
+    ghost columns = { λ output. source_count output.value };
 
     ghost row_words = { words_of_output };
+
+    fn columns(&self) -> usize {
+        source_count(&self.value)
+    }
 
     fn row_words(&self, alloc: Global) -> Result<Items<RowWords>, AllocError> {
         match &self.value {

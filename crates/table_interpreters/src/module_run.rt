@@ -1,6 +1,7 @@
 //! How a change of an input takes the run of a module on. `room` has place for the values of the nets that feed one instance.
 ghost use Rattle.std.specs.Prelude.{◌≡◌, ◌<◌, [], ◌∷◌, length, IsTrue};
 ghost use Rattle.table_interpreters.specs.Wiring.{is_wired};
+ghost use Rattle.table_interpreters.specs.ModuleStands.{IsReady};
 ghost use Rattle.cell_machine.specs.History.{value_before};
 ghost use Rattle.model_traces.specs.Primitives.{next_states};
 ghost use Rattle.model_traces.specs.ModuleRun.{toggled, entered, notified, shaken, reports_at, happened, step_reports, run_step, HasEach};
@@ -121,17 +122,12 @@ fn happen(
     reports: &mut Items<bool>,
     room: &mut Items<Trit>,
 )
-    requires wired { IsTrue (is_wired (length room.old) tables.now.model.now) }
-    requires one_each { HasEach tables.now.model.now run.old }
-    requires one_report { length reports.old ≡ length tables.now.model.now.checks }
+    requires ready { IsReady tables.now.model.now run.old reports.old (length room.old) }
     requires inside { change.pin < length run.old.inputs }
     requires from { from ≡ value_before run.old.inputs change }
     ensures stepped { run.new ≡ happened tables.now.model.now run.old change }
     ensures reports { reports.new ≡ reports_at tables.now.model.now run.old change }
-    ensures one_each { HasEach tables.now.model.now run.new }
-    ensures inputs { length run.new.inputs ≡ length run.old.inputs }
-    ensures one_report { length reports.new ≡ length reports.old }
-    ensures len { length room.new ≡ length room.old }
+    ensures ready { IsReady tables.now.model.now run.new reports.new (length room.new) }
 {
     enter(run, tables, change, from, room);
     let values = ModuleValues {
@@ -159,16 +155,11 @@ pub(crate) fn change(
     reports: &mut Items<bool>,
     room: &mut Items<Trit>,
 )
-    requires wired { IsTrue (is_wired (length room.old) tables.now.model.now) }
-    requires one_each { HasEach tables.now.model.now run.old }
-    requires one_report { length reports.old ≡ length tables.now.model.now.checks }
+    requires ready { IsReady tables.now.model.now run.old reports.old (length room.old) }
     requires inside { change.pin < length run.old.inputs }
     ensures stepped { run.new ≡ run_step tables.now.model.now run.old change }
     ensures reports { reports.new ≡ step_reports tables.now.model.now run.old change }
-    ensures one_each { HasEach tables.now.model.now run.new }
-    ensures inputs { length run.new.inputs ≡ length run.old.inputs }
-    ensures one_report { length reports.new ≡ length reports.old }
-    ensures len { length room.new ≡ length room.old }
+    ensures ready { IsReady tables.now.model.now run.new reports.new (length room.new) }
 {
     let from = run.inputs.as_slice()[change.pin];
     if from == change.to {

@@ -12,6 +12,7 @@ ghost use Rattle.model_traces.specs.NetValues.{driver, kept_state, source_value,
 use crate::module_values::ModuleValues;
 use crate::ports::input_value;
 use crate::wiring::instance_at;
+use cell_machine::numbered_value;
 use specify_blocks::{Instance, VNet};
 use sqlite_items::Items;
 use trit_cubes::Trit;
@@ -30,11 +31,8 @@ fn driver(instances: &[Instance], net: VNet) -> Option<usize>
 fn kept_state(states: &[Trit], place: Option<usize>) -> Trit
     ensures { result ≡ kept_state states.now place }
 {
-    let Some(place) = place else {
-        return Trit::Unknown;
-    };
-    match states.get(place) {
-        Some(state) => *state,
+    match place {
+        Some(place) => numbered_value(states, place),
         None => Trit::Unknown,
     }
 }

@@ -2,6 +2,7 @@
 ghost use Rattle.std.specs.Prelude.{◌≡◌};
 ghost use Rattle.model_traces.specs.PortNumbers.{input_count, input_number, input_value};
 
+use cell_machine::numbered_value;
 use trit_cubes::Trit;
 use udp_tables::VPort;
 
@@ -23,8 +24,5 @@ pub(crate) fn input_number(ports: &[VPort], port: usize) -> usize
 pub(crate) fn input_value(ports: &[VPort], inputs: &[Trit], port: usize) -> Trit
     ensures { result ≡ input_value ports.now inputs.now port }
 {
-    match inputs.get(input_number(ports, port)) {
-        Some(value) => *value,
-        None => Trit::Unknown,
-    }
+    numbered_value(inputs, input_number(ports, port))
 }

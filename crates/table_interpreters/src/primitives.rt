@@ -2,7 +2,6 @@
 //! values of the nets that feed one instance.
 ghost use Rattle.std.specs.Prelude.{◌≡◌, ◌≤◌, ◌<◌, length, map, take, position, IsTrue};
 ghost use Rattle.udp_tables.specs.Tables.{AreKept};
-ghost use Rattle.udp_tables.specs.Sequential.{udp_next};
 ghost use Rattle.udp_tables.specs.RowKeys.{row_key};
 ghost use Rattle.table_interpreters.specs.Wiring.{is_table, is_joined, is_wired};
 ghost use Rattle.model_traces.specs.Primitives.{is_turned, entry_value, primitive_next, next_state, next_states};

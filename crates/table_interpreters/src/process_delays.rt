@@ -1,13 +1,8 @@
 //! The delay of an output's change: the least over the path entries that hold.
 ghost use Rattle.std.specs.Prelude.{◌≡◌, ◌<◌, length, drop};
-ghost use Rattle.std.specs.List.{list_all};
-ghost use Rattle.cell_machine.specs.Delay.{least_delay};
-ghost use Rattle.cell_machine.specs.Outputs.{is_zero};
-ghost use Rattle.vital_models.specs.Sound.{IsSound};
-ghost use Rattle.table_interpreters.specs.EntityRooms.{HasRoom};
-ghost use Rattle.table_interpreters.specs.LeastPath.{path_delay_of};
-ghost use Rattle.model_traces.specs.ProcessValues.{condition_value};
-ghost use Rattle.model_traces.specs.GatedPaths.{gate_holds, path_at, begins_at, paths_from, delay_at};
+ghost use Rattle.table_interpreters.specs.EntityRooms.{IsSound, HasRoom};
+ghost use Rattle.table_interpreters.specs.LeastPath.{path_delay_of, least_delay};
+ghost use Rattle.model_traces.specs.GatedPaths.{all_zero, gate_holds, path_at, begins_at, paths_from};
 
 use crate::delays::OutputChange;
 use crate::entity_values::EntityValues;
@@ -22,7 +17,7 @@ use vital_models::{HGate, HPath, VOutput};
 fn all_zero(values: &EntityValues, conditions: &[usize], room: &mut Items<Trit>) -> bool
     requires sound { IsSound values.now.tables.model.now }
     requires room { HasRoom (length room.old) values.now.tables.model.now }
-    ensures zero { result ≡ list_all (λ i. is_zero (condition_value values.now.tables.model.now values.now.inputs.now i)) conditions.now }
+    ensures zero { result ≡ all_zero values.now.tables.model.now values.now.inputs.now conditions.now }
     ensures len { length room.new ≡ length room.old }
 {
     for i in 0..conditions.len() {
@@ -69,7 +64,7 @@ fn path_delay(
 }
 
 /// The least delay over the paths of an output that hold, 0 where none does.
-fn least_delay(
+pub(crate) fn least_delay(
     values: &EntityValues,
     change: OutputChange,
     output: &VOutput,
@@ -86,23 +81,4 @@ fn least_delay(
         best = lesser(best, path_delay(values, change, &paths[i], room));
     }
     best.unwrap_or(0)
-}
-
-/// The delay of an output, there where it changes.
-pub(crate) fn entity_delay(
-    values: &EntityValues,
-    change: OutputChange,
-    output: &VOutput,
-    room: &mut Items<Trit>,
-) -> Option<u64>
-    requires sound { IsSound values.now.tables.model.now }
-    requires room { HasRoom (length room.old) values.now.tables.model.now }
-    ensures delay { result ≡ delay_at values.now.tables.model.now values.now.inputs.now change.input output.now change.from change.to }
-    ensures len { length room.new ≡ length room.old }
-{
-    if change.from == change.to {
-        None
-    } else {
-        Some(least_delay(values, change, output, room))
-    }
 }

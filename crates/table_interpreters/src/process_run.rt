@@ -2,17 +2,13 @@
 ghost use Rattle.std.specs.Prelude.{◌≡◌, ◌<◌, length};
 ghost use Rattle.cell_machine.specs.History.{value_before};
 ghost use Rattle.cell_machine.specs.Report.{any_true};
-ghost use Rattle.vital_models.specs.Sound.{IsSound};
-ghost use Rattle.table_interpreters.specs.EntityRooms.{HasRoom};
-ghost use Rattle.table_interpreters.specs.EntitySteps.{event_reports, event_step, state_step, change_reports, HasParts};
-ghost use Rattle.model_traces.specs.ProcessRun.{violation_by};
+ghost use Rattle.table_interpreters.specs.EntitySteps.{violation_by, event_reports, event_step, state_step, change_reports, IsReady, CanTake};
 
 use crate::checks::{InputChange, clear, compare_all, stamp_all};
 use crate::entity_tables::EntityTables;
 use crate::entity_values::EntityValues;
 use crate::process_states::step_entity;
-use cell_machine::Change;
-use model_traces::Stamps;
+use cell_machine::{Change, Times};
 use sqlite_items::Items;
 use trit_cubes::Trit;
 
@@ -28,7 +24,7 @@ pub struct ProcessState {
     /// The violation at the last event.
     pub violation: Trit,
     /// For each check the times that it keeps.
-    pub stamps: Items<Stamps>,
+    pub stamps: Items<Times>,
 }
 
 /// Whether some check reported.
@@ -59,20 +55,11 @@ fn happen(
     earlier: &mut Items<Trit>,
     room: &mut Items<Trit>,
 )
-    requires sound { IsSound tables.now.model.now }
-    requires earlier { HasRoom (length earlier.old) tables.now.model.now }
-    requires room { HasRoom (length room.old) tables.now.model.now }
-    requires one_each { HasParts tables.now.model.now run.old }
-    requires one_report { length reports.old ≡ length tables.now.model.now.checks }
-    requires inside { change.pin < length run.old.inputs }
+    requires able { CanTake tables.now.model.now run.old reports.old (length earlier.old) (length room.old) change.pin }
     requires from { from ≡ value_before run.old.inputs change }
     ensures stepped { run.new ≡ event_step tables.now.model.now run.old change (violation_by (any_true (event_reports tables.now.model.now run.old change))) }
     ensures reports { reports.new ≡ event_reports tables.now.model.now run.old change }
-    ensures one_each { HasParts tables.now.model.now run.new }
-    ensures inputs { length run.new.inputs ≡ length run.old.inputs }
-    ensures one_report { length reports.new ≡ length reports.old }
-    ensures earlier { length earlier.new ≡ length earlier.old }
-    ensures room { length room.new ≡ length room.old }
+    ensures ready { IsReady tables.now.model.now run.new reports.new (length earlier.new) (length room.new) }
 {
     run.inputs.set(change.pin, change.to);
     let values = EntityValues {
@@ -113,19 +100,10 @@ pub(crate) fn take(
     earlier: &mut Items<Trit>,
     room: &mut Items<Trit>,
 )
-    requires sound { IsSound tables.now.model.now }
-    requires earlier { HasRoom (length earlier.old) tables.now.model.now }
-    requires room { HasRoom (length room.old) tables.now.model.now }
-    requires one_each { HasParts tables.now.model.now run.old }
-    requires one_report { length reports.old ≡ length tables.now.model.now.checks }
-    requires inside { change.pin < length run.old.inputs }
+    requires { CanTake tables.now.model.now run.old reports.old (length earlier.old) (length room.old) change.pin }
     ensures stepped { run.new ≡ state_step tables.now.model.now run.old change }
     ensures reports { reports.new ≡ change_reports tables.now.model.now run.old change }
-    ensures one_each { HasParts tables.now.model.now run.new }
-    ensures inputs { length run.new.inputs ≡ length run.old.inputs }
-    ensures one_report { length reports.new ≡ length reports.old }
-    ensures earlier { length earlier.new ≡ length earlier.old }
-    ensures room { length room.new ≡ length room.old }
+    ensures ready { IsReady tables.now.model.now run.new reports.new (length earlier.new) (length room.new) }
 {
     let from = run.inputs.as_slice()[change.pin];
     if from == change.to {

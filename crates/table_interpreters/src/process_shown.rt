@@ -11,10 +11,10 @@ ghost use Rattle.table_interpreters.specs.TableWords.{value_rows};
 use crate::delays::OutputChange;
 use crate::entity_tables::EntityTables;
 use crate::entity_values::EntityValues;
-use crate::process_delays::entity_delay;
-use crate::process_rooms::output_at;
+use crate::process_delays::least_delay;
 use crate::process_values::output_value;
 use crate::shown::Shown;
+use cell_machine::entry;
 use sqlite_items::Items;
 use std::alloc::{AllocError, Global};
 use trit_cubes::Trit;
@@ -39,15 +39,22 @@ fn output_step(
     ensures len { length room.new ≡ length room.old }
 {
     let value = output_value(values, &output.value, words, room);
-    let port = output.port;
     let change = OutputChange {
         input,
-        port,
+        port: output.port,
         from: was.value,
         to: value,
     };
-    let delay = entity_delay(values, change, output, room);
-    Shown { port, value, delay }
+    let delay = if was.value == value {
+        None
+    } else {
+        Some(least_delay(values, change, output, room))
+    };
+    Shown {
+        port: output.port,
+        value,
+        delay,
+    }
 }
 
 /// Takes what the outputs show over a change of an input. `inputs` and `states` are those after it.
@@ -65,7 +72,7 @@ pub(crate) fn show_entity(
     ensures room { length room.new ≡ length room.old }
 {
     for i in 0..shown.len() {
-        let output = output_at(values.tables.model, i);
+        let output = entry(&values.tables.model.outputs, i);
         let words = values.tables.output_words(i);
         let was = shown.as_slice()[i];
         let now = output_step(values, input, output, words, was, room);
@@ -93,7 +100,7 @@ pub(crate) fn show_first(
     };
     let mut shown = Items::new(alloc);
     for i in 0..tables.model.outputs.len() {
-        let output = output_at(tables.model, i);
+        let output = entry(&tables.model.outputs, i);
         let words = tables.output_words(i);
         let value = output_value(&values, &output.value, words, room);
         shown.push(Shown {

@@ -2,15 +2,16 @@
 ghost use Rattle.std.specs.Prelude.{◌≡◌, ◌≤◌, length, take};
 ghost use Rattle.cell_machine.specs.Each.{each};
 ghost use Rattle.udp_tables.specs.Tables.{AreKept};
-ghost use Rattle.vital_models.specs.Sound.{IsState, IsSound, columns_of};
+ghost use Rattle.vital_models.specs.Sound.{IsState, columns_of};
 ghost use Rattle.vital_models.specs.RowWords.{state_words};
-ghost use Rattle.table_interpreters.specs.EntityRooms.{HasRoom};
+ghost use Rattle.table_interpreters.specs.EntityRooms.{IsSound, HasRoom};
 ghost use Rattle.table_interpreters.specs.EntitySteps.{next_by};
 ghost use Rattle.model_traces.specs.ProcessRun.{columns};
 
 use crate::entity_tables::EntityTables;
-use crate::process_rooms::{columns_of, state_at};
+use crate::process_rooms::columns_of;
 use crate::process_values::feed;
+use cell_machine::entry;
 use sqlite_items::Items;
 use trit_cubes::Trit;
 use udp_tables::{RowWords, VPort};
@@ -91,7 +92,7 @@ pub(crate) fn step_entity(
     ensures room { length room.new ≡ length room.old }
 {
     for i in 0..states.len() {
-        let table = state_at(tables.model, i);
+        let table = entry(&tables.model.states, i);
         let words = tables.state_words(i);
         let state = states.as_slice()[i];
         let next = next_state(

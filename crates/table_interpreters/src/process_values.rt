@@ -2,17 +2,16 @@
 //! any table.
 ghost use Rattle.std.specs.Prelude.{◌≡◌, ◌+◌, ◌<◌, ◌≤◌, ◌++◌, length, map, take, All};
 ghost use Rattle.udp_tables.specs.Tables.{AreKept};
-ghost use Rattle.vital_models.specs.Sound.{IsTruth, IsValue, IsSound};
+ghost use Rattle.vital_models.specs.Sound.{IsValue};
 ghost use Rattle.vital_models.specs.RowWords.{truth_words};
-ghost use Rattle.table_interpreters.specs.EntityRooms.{source_count, HasRoom};
+ghost use Rattle.table_interpreters.specs.EntityRooms.{IsSound, source_count, HasRoom};
 ghost use Rattle.table_interpreters.specs.TableWords.{value_rows};
 ghost use Rattle.model_traces.specs.PortNumbers.{input_value};
 ghost use Rattle.model_traces.specs.ProcessValues.{truth_value, condition_value, source_value, output_value};
 
 use crate::entity_values::EntityValues;
 use crate::ports::input_value;
-use crate::process_rooms::condition_at;
-use cell_machine::Source;
+use cell_machine::{Source, entry, numbered_value};
 use sqlite_items::Items;
 use trit_cubes::Trit;
 use udp_tables::{RowWords, VPort};
@@ -68,7 +67,7 @@ pub(crate) fn condition_value(values: &EntityValues, i: usize, room: &mut Items<
     truth_value(
         values.tables.model.ports.as_slice(),
         values.inputs,
-        condition_at(values.tables.model, i),
+        entry(&values.tables.model.conditions, i),
         values.tables.condition_words(i),
         room,
     )
@@ -80,10 +79,7 @@ fn source_value(ports: &[VPort], inputs: &[Trit], states: &[Trit], source: Sourc
 {
     match source {
         Source::Pin(port) => input_value(ports, inputs, port),
-        Source::State(state) => match states.get(state) {
-            Some(value) => *value,
-            None => Trit::Unknown,
-        },
+        Source::State(state) => numbered_value(states, state),
     }
 }
 

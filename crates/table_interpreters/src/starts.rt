@@ -1,9 +1,9 @@
 //! What a simulator holds before any change.
 ghost use Rattle.std.specs.Prelude.{◌≡◌, false, replicate, IfOk};
 ghost use Rattle.trit_cubes.specs.declared.trits.Trit.TheVariants.{Unknown};
-ghost use Rattle.model_traces.specs.CheckTimes.{no_stamps};
+ghost use Rattle.cell_machine.specs.Times.{no_times};
 
-use model_traces::Stamps;
+use cell_machine::Times;
 use sqlite_items::Items;
 use std::alloc::{AllocError, Global};
 use trit_cubes::Trit;
@@ -17,10 +17,10 @@ pub(crate) fn unknown_values(alloc: Global, count: usize) -> Result<Items<Trit>,
 }
 
 /// No times of so many checks.
-pub(crate) fn no_times(alloc: Global, count: usize) -> Result<Items<Stamps>, AllocError>
-    ensures { IfOk result (λ stamps. stamps ≡ replicate count no_stamps) }
+pub(crate) fn no_times(alloc: Global, count: usize) -> Result<Items<Times>, AllocError>
+    ensures { IfOk result (λ stamps. stamps ≡ replicate count no_times) }
 {
-    let stamps = vec![in alloc; Stamps::none(); count]?;
+    let stamps = vec![in alloc; Times::none(); count]?;
     Ok(Items::from_vec(stamps))
 }
 

@@ -1,8 +1,9 @@
 //! The simulator of a Verilog module.
-ghost use Rattle.std.specs.Prelude.{◌≡◌, [], length, map, IsTrue};
+ghost use Rattle.std.specs.Prelude.{◌≡◌, [], length, map, IfOk};
+ghost use Rattle.specify_blocks.specs.Sound.{IsSound};
+ghost use Rattle.model_traces.specs.PortNumbers.{output_ports};
 ghost use Rattle.table_interpreters.specs.Keys.{udp_keys};
-ghost use Rattle.table_interpreters.specs.Wiring.{is_wired};
-ghost use Rattle.model_traces.specs.PortNumbers.{input_count, output_ports};
+ghost use Rattle.table_interpreters.specs.ModuleStands.{IsReady, Stands, module_machine, module_sized};
 
 use crate::module_run::change;
 use crate::module_tables::ModuleTables;
@@ -30,19 +31,11 @@ pub struct VerilogSim<'a> {
     shown: Items<Shown>,
     room: Items<Trit>,
     ghost keyed: { keys ≡ map udp_keys model.now.udps },
-    ghost wired: { IsTrue (is_wired (length room) model.now) },
-    ghost each_input: { length run.inputs ≡ input_count model.now.ports },
-    ghost each_state: { length run.states ≡ length model.now.instances },
-    ghost each_stamp: { length run.stamps ≡ length model.now.checks },
-    ghost each_check: { length reports ≡ length model.now.checks },
+    ghost ready: { IsReady model.now run reports (length room) },
     ghost each_output: { length shown ≡ length (output_ports model.now.ports) },
 }
 
 impl<'a> VerilogSim<'a> {
-    ghost use Rattle.std.specs.Prelude.{IfOk};
-    ghost use Rattle.specify_blocks.specs.Sound.{IsSound};
-    ghost use Rattle.model_traces.specs.ModuleTrace.{module_machine};
-
     /// The simulator of a sound module before any change: all inputs, states and the register of the checks are unknown.
     pub fn start(alloc: Global, model: &'a VModule) -> Result<VerilogSim<'a>, AllocError>
         requires { IsSound model.now }
@@ -85,10 +78,6 @@ impl<'a> VerilogSim<'a> {
 }
 
 impl<'a> CellSim for VerilogSim<'a> {
-    ghost use Rattle.model_traces.specs.ModuleTrace.{module_machine};
-    ghost use Rattle.table_interpreters.specs.ModuleStands.{Stands};
-    ghost use Rattle.model_traces.specs.ModuleSized.{module_sized};
-
     ghost machine = { λ s. module_machine s.model.now };
 
     ghost stands = { λ s h. Stands s.model.now s.run s.reports s.shown h };

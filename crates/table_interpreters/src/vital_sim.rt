@@ -1,12 +1,10 @@
 //! The simulator of a VITAL entity.
-ghost use Rattle.std.specs.Prelude.{◌≡◌, [], length};
-ghost use Rattle.vital_models.specs.Sound.{IsSound};
+ghost use Rattle.std.specs.Prelude.{◌≡◌, [], length, IfOk};
 ghost use Rattle.std.proofs.Props.{props};
 ghost use Rattle.table_interpreters.specs.EntityProps.{value_prop};
-ghost use Rattle.table_interpreters.specs.EntityRooms.{HasRoom};
-ghost use Rattle.table_interpreters.specs.EntitySteps.{HasParts};
 ghost use Rattle.table_interpreters.specs.TableWords.{entity_words};
-ghost use Rattle.model_traces.specs.PortNumbers.{input_count};
+ghost use Rattle.table_interpreters.specs.EntityRooms.{IsSound};
+ghost use Rattle.table_interpreters.specs.EntitySteps.{IsReady, EntityStands, entity_machine, entity_sized};
 
 use crate::entity_tables::EntityTables;
 use crate::entity_values::EntityValues;
@@ -34,19 +32,11 @@ pub struct VitalSim<'a> {
     earlier: Items<Trit>,
     room: Items<Trit>,
     ghost keyed: { words ≡ entity_words model.now },
-    ghost sound: { IsSound model.now } by { Prim.hlevel (props, value_prop) },
-    ghost earlier_room: { HasRoom (length earlier) model.now },
-    ghost now_room: { HasRoom (length room) model.now },
-    ghost each_input: { length run.inputs ≡ input_count model.now.ports },
-    ghost each_part: { HasParts model.now run },
-    ghost each_check: { length reports ≡ length model.now.checks },
+    ghost ready: { IsReady model.now run reports (length earlier) (length room) } by { Prim.hlevel (props, value_prop) },
     ghost each_output: { length shown ≡ length model.now.outputs },
 }
 
 impl<'a> VitalSim<'a> {
-    ghost use Rattle.std.specs.Prelude.{IfOk};
-    ghost use Rattle.model_traces.specs.EntityTrace.{entity_machine};
-
     /// The simulator of a sound entity before any change: all inputs and states, the columns of its tables and the violation are
     /// unknown. `AllocError` comes only where memory is wanted and not there.
     pub fn start(alloc: Global, model: &'a VEntity) -> Result<VitalSim<'a>, AllocError>
@@ -95,10 +85,6 @@ impl<'a> VitalSim<'a> {
 }
 
 impl<'a> CellSim for VitalSim<'a> {
-    ghost use Rattle.model_traces.specs.EntityTrace.{entity_machine};
-    ghost use Rattle.table_interpreters.specs.EntitySteps.{EntityStands};
-    ghost use Rattle.table_interpreters.specs.EntitySized.{entity_sized};
-
     ghost machine = { λ s. entity_machine s.model.now };
 
     ghost stands = { λ s h. EntityStands s.model.now s.run s.reports s.shown h };

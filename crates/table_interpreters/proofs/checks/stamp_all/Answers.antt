@@ -1,7 +1,7 @@
-use Rattle.std.proofs.Common.{◌<◌, sym, ap, ◌∙◌, length, add-one, arith}
+use Rattle.std.proofs.Common.{◌<◌, sym, ap, ◌∙◌, length, arith}
 use Rattle.std.proofs.lemmas.List.{length-set}
 use Rattle.std.proofs.lemmas.Option.{slice_get-get_or}
-use Rattle.cell_machine.proofs.EachLemmas.{each-step, each-done}
+use Rattle.cell_machine.proofs.EachLemmas.{each-kept, each-done}
 use Rattle.model_traces.specs.CheckTimes.{stamped}
 use Rattle.table_interpreters.proofs.checks.stamp_all.Goals as goal
 
@@ -12,11 +12,8 @@ loop-i-preserved c =
     let inside : c.loop-i.i < length checks = omega (arith, c.loop-i.invariant.len, c.requires) in
     record {
       whole =
-          rw (c.set.ensures, add-one)
-          (each-step (stamped c.args.seen.now.ports.now c.args.seen.now.from c.args.seen.now.change) checks c.loop-i.stamps c.loop-i.i _ c.stamped.result _
-          (slice_get-get_or checks c.loop-i.i _ inside) many
-          (rw c.as_slice.ensures at c.stamped.ensures)
-          ∙ c.loop-i.invariant.whole);
+          each-kept (stamped c.args.seen.now.ports.now c.args.seen.now.from c.args.seen.now.change) checks c.loop-i.stamps c.loop-i.i _
+          (slice_get-get_or checks c.loop-i.i _ inside) many (rw c.as_slice.ensures at c.stamped.ensures) c.set.ensures c.loop-i.invariant.whole;
       len = ap length c.set.ensures ∙ length-set c.loop-i.stamps c.loop-i.i c.stamped.result ∙ c.loop-i.invariant.len;
     }
 

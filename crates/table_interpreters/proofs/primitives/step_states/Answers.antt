@@ -1,7 +1,7 @@
-use Rattle.std.proofs.Common.{◌<◌, sym, ap, ◌∙◌, length, add-one, arith}
+use Rattle.std.proofs.Common.{◌<◌, sym, ap, ◌∙◌, length, arith}
 use Rattle.std.proofs.lemmas.List.{length-set}
 use Rattle.trit_cubes.specs.declared.trits.Trit.TheVariants.{Zero}
-use Rattle.cell_machine.proofs.EachLemmas.{each-step, each-done}
+use Rattle.cell_machine.proofs.EachLemmas.{each-kept, each-done}
 use Rattle.model_traces.specs.Primitives.{next_state}
 use Rattle.table_interpreters.proofs.primitives.step_states.Goals as goal
 
@@ -12,10 +12,8 @@ loop-i-preserved c =
     let many : c.loop-i.i < length c.loop-i.states = omega arith in
     record {
       whole =
-          rw (c.set.ensures, add-one)
-          (each-step f m.instances c.loop-i.states c.loop-i.i c.instance_at-instance.result.now c.next_state-next.result Zero
-          c.instance_at-instance.ensures.is many (rw c.as_slice.ensures at c.next_state-next.ensures.next)
-          ∙ c.loop-i.invariant.whole);
+          each-kept f m.instances c.loop-i.states c.loop-i.i Zero c.instance_at-instance.ensures.is many
+          (rw c.as_slice.ensures at c.next_state-next.ensures.next) c.set.ensures c.loop-i.invariant.whole;
       len = ap length c.set.ensures ∙ length-set c.loop-i.states c.loop-i.i c.next_state-next.result ∙ c.loop-i.invariant.len;
       room = c.next_state-next.ensures.len ∙ c.loop-i.invariant.room;
     }

@@ -1,7 +1,9 @@
 use Rattle.std.proofs.Common.{◌∙◌, add-one}
 use Rattle.cell_machine.proofs.EachLemmas.{map-take-more}
+use Rattle.vital_models.specs.Sound.{IsOutput}
 use Rattle.table_interpreters.specs.EntitySteps.{output_first}
 use Rattle.std.proofs.Common.{None}
+use Rattle.table_interpreters.proofs.Fronts.{all-at}
 use Rattle.table_interpreters.proofs.process_shown.show_first.Goals as goal
 
 pub loop-i-preserved : goal.loop-i-preserved
@@ -11,12 +13,17 @@ loop-i-preserved c =
       front =
           c.in_ok-push.ensures.ok
           ∙ rw add-one
-          (map-take-more (output_first m c.args.inputs.now c.args.states.now) m.outputs c.loop-i.i c.output_at-output.result.now
-          _ c.loop-i.shown c.output_at-output.ensures.is
-          (λ i. record { port = c.output_at-output.result.now.port; value = c.output_value-value.ensures.value i; delay = None })
+          (map-take-more (output_first m c.args.inputs.now c.args.states.now) m.outputs c.loop-i.i c.entry-output.result.now
+          _ c.loop-i.shown c.entry-output.ensures.is
+          (λ i. record { port = c.entry-output.result.now.port; value = c.output_value-value.ensures.value i; delay = None })
           c.loop-i.invariant.front);
       room = c.output_value-value.ensures.len ∙ c.loop-i.invariant.room;
     }
 
 pub output_value-value-requires-clause-words : goal.output_value-value-requires-clause-words
-output_value-value-requires-clause-words c = c.output_words-words.ensures c.output_at-output.result.now c.output_at-output.ensures.is
+output_value-value-requires-clause-words c = c.output_words-words.ensures c.entry-output.result.now c.entry-output.ensures.is
+
+pub output_value-value-requires-clause-value : goal.output_value-value-requires-clause-value
+output_value-value-requires-clause-value c =
+    let m = c.args.tables.now.model.now in
+    (all-at (IsOutput m) m.outputs c.loop-i.i c.entry-output.result.now c.requires.sound.outputs c.entry-output.ensures.is).valued

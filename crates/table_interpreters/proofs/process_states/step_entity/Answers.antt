@@ -1,8 +1,10 @@
-use Rattle.std.proofs.Common.{◌<◌, sym, ap, ◌∙◌, length, add-one, arith}
+use Rattle.std.proofs.Common.{◌<◌, sym, ap, ◌∙◌, length, arith}
 use Rattle.std.proofs.lemmas.List.{length-set}
 use Rattle.trit_cubes.specs.declared.trits.Trit.TheVariants.{Zero}
-use Rattle.cell_machine.proofs.EachLemmas.{each-step, each-done}
+use Rattle.cell_machine.proofs.EachLemmas.{each-kept, each-done}
+use Rattle.vital_models.specs.Sound.{IsState}
 use Rattle.table_interpreters.specs.EntitySteps.{next_by}
+use Rattle.table_interpreters.proofs.Fronts.{all-at}
 use Rattle.table_interpreters.proofs.process_states.step_entity.Goals as goal
 
 pub loop-i-preserved : goal.loop-i-preserved
@@ -12,10 +14,8 @@ loop-i-preserved c =
     let many : c.loop-i.i < length c.loop-i.states = omega arith in
     record {
       whole =
-          rw (c.set.ensures, add-one)
-          (each-step f m.states c.loop-i.states c.loop-i.i c.state_at-table.result.now c.next_state-next.result Zero
-          c.state_at-table.ensures.is many (rw c.as_slice.ensures at c.next_state-next.ensures.next)
-          ∙ c.loop-i.invariant.whole);
+          each-kept f m.states c.loop-i.states c.loop-i.i Zero c.entry-table.ensures.is many
+          (rw c.as_slice.ensures at c.next_state-next.ensures.next) c.set.ensures c.loop-i.invariant.whole;
       len = ap length c.set.ensures ∙ length-set c.loop-i.states c.loop-i.i c.next_state-next.result ∙ c.loop-i.invariant.len;
       earlier = c.next_state-next.ensures.earlier ∙ c.loop-i.invariant.earlier;
       room = c.next_state-next.ensures.room ∙ c.loop-i.invariant.room;
@@ -28,4 +28,9 @@ returns-clause-stepped c =
     ∙ c.loop-i.invariant.whole
 
 pub next_state-next-requires-clause-words : goal.next_state-next-requires-clause-words
-next_state-next-requires-clause-words c = c.state_words-words.ensures c.state_at-table.result.now c.state_at-table.ensures.is
+next_state-next-requires-clause-words c = c.state_words-words.ensures c.entry-table.result.now c.entry-table.ensures.is
+
+pub next_state-next-requires-clause-table : goal.next_state-next-requires-clause-table
+next_state-next-requires-clause-table c =
+    let m = c.args.tables.now.model.now in
+    all-at (IsState m) m.states c.loop-i.i c.entry-table.result.now c.requires.sound.states c.entry-table.ensures.is

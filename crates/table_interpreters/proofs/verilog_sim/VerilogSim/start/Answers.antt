@@ -2,7 +2,7 @@ use Rattle.std.proofs.Common.{◌∙◌, ap, sym, subst, replicate, length, fals
 use Rattle.std.proofs.lemmas.List.{length-replicate}
 use Rattle.trit_cubes.specs.declared.trits.Trit.TheVariants.{Unknown}
 use Rattle.table_interpreters.specs.Wiring.{is_wired}
-use Rattle.model_traces.specs.CheckTimes.{no_stamps}
+use Rattle.cell_machine.specs.Times.{no_times}
 use Rattle.table_interpreters.proofs.ModuleSteps.{start-stands}
 use Rattle.table_interpreters.proofs.verilog_sim.VerilogSim.start.Goals as goal
 
@@ -19,5 +19,5 @@ returns-clause-stands c =
     start-stands m c.in_ok-inputs.inputs c.in_ok-states.states c.in_ok-stamps.stamps c.in_ok-reports.reports c.in_ok-shown.shown
     (c.in_ok-inputs.ensures ∙ ap (λ n. replicate n Unknown) count)
     (c.in_ok-states.ensures ∙ ap (λ n. replicate n Unknown) c.len.ensures)
-    (c.in_ok-stamps.ensures ∙ ap (λ n. replicate n no_stamps) c.len-2.ensures)
+    (c.in_ok-stamps.ensures ∙ ap (λ n. replicate n no_times) c.len-2.ensures)
     (c.in_ok-reports.ensures ∙ ap (λ n. replicate n false) c.len-3.ensures) shown

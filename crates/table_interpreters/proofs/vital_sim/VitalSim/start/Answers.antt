@@ -1,6 +1,6 @@
 use Rattle.std.proofs.Common.{◌∙◌, ap, replicate, false}
 use Rattle.trit_cubes.specs.declared.trits.Trit.TheVariants.{Unknown}
-use Rattle.model_traces.specs.CheckTimes.{no_stamps}
+use Rattle.cell_machine.specs.Times.{no_times}
 use Rattle.table_interpreters.proofs.EntityLemmas.{entity-starts}
 use Rattle.table_interpreters.proofs.vital_sim.VitalSim.start.Goals as goal
 
@@ -12,5 +12,5 @@ returns-clause-stands c =
     c.in_ok-reports.reports c.in_ok-shown.shown (c.in_ok-inputs.ensures ∙ ap (λ n. replicate n Unknown) count)
     (c.in_ok-before.ensures ∙ ap (λ n. replicate n Unknown) count)
     (c.in_ok-states.ensures ∙ ap (λ n. replicate n Unknown) c.len.ensures)
-    (c.in_ok-stamps.ensures ∙ ap (λ n. replicate n no_stamps) c.len-2.ensures)
+    (c.in_ok-stamps.ensures ∙ ap (λ n. replicate n no_times) c.len-2.ensures)
     (c.in_ok-reports.ensures ∙ ap (λ n. replicate n false) c.len-3.ensures) shown

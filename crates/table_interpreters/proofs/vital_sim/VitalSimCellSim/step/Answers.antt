@@ -5,6 +5,6 @@ pub returns-clause-stands : goal.returns-clause-stands
 returns-clause-stands c = λ h st.
     let sim = c.args.self.now in
     let shown = rw (c.as_slice.ensures, c.as_slice-2.ensures) at c.show_entity.ensures.stepped in
-    entity-changes sim.model.now sim.sound sim.run sim.reports sim.shown h st
+    entity-changes sim.model.now sim.ready.sound sim.run sim.reports sim.shown h st
     (record { at = c.args.at; pin = c.args.pin; to = c.args.to }) c.take.new.run c.take.new.reports c.show_entity.new.shown
     c.take.ensures.stepped c.take.ensures.reports shown

@@ -10,6 +10,7 @@ use Rattle.std.proofs.lemmas.List.Folds.{list_any-append}
 use Rattle.std.proofs.lemmas.Slice.Eq.{bytes_eq-Decides}
 use Rattle.bool_functions.specs.NameList.{number_of, Adds}
 use Rattle.bool_functions.proofs.NameLists.{list_any-map, position-map, position-none, position-some}
+use Rattle.rule_readers.proofs.Tests.{there, not_there}
 use Rattle.udp_tables.specs.declared.models.VPort.{VPort}
 use Rattle.vital_models.specs.declared.model.VEntity.{VEntity}
 use Rattle.vital_models.specs.Sound.{output_ports_from}
@@ -60,14 +61,6 @@ some_position p xs = by (list_any p xs) refl (position p xs) refl
 -- a name is one of others exactly where it is found in lower case
 pub found_among : (known others : List (List ℕ)) (x : List ℕ) → HaveSame known others → is_name x ≡ true → is_some (number_of known (lowered x)) ≡ is_among others x
 found_among known others x h e = some_position (bytes_eq (lowered x)) known ∙ h (lowered x) ∙ sym (among_lowered others x e)
-
-there : (a b : Bool) → a ≡ true → a ≡ (a || b)
-there true b e = refl
-there false b e = absurd cc
-
-not_there : (a b : Bool) → b ≡ false → a ≡ (a || b)
-not_there true b e = refl
-not_there false b e = sym e
 
 any_added : (names : List (List ℕ)) (name x : List ℕ) → list_any (bytes_eq x) (all_lowered (names ++ name ∷ [])) ≡ (list_any (bytes_eq x) (all_lowered names) || list_any (bytes_eq x) (lowered name ∷ []))
 any_added names name x = ap (list_any (bytes_eq x)) (map-append lowered names (name ∷ [])) ∙ list_any-append (bytes_eq x) (all_lowered names) (lowered name ∷ [])

@@ -35,7 +35,7 @@ same_lower x y e =
     (λ h. ap lowered ((bytes_eq-Decides x y).0 h)) (λ h. (bytes_eq-Decides (lowered x) (lowered y)).0 h) e
 
 -- the number of a numbered name stands behind its word
-pub number_stands : (word x : List ℕ) (n : ℕ) → n < 2 ^ 64 → is_same x (numbered word n) ≡ true → drop (length word) (lowered x) ≡ decimal n
+number_stands : (word x : List ℕ) (n : ℕ) → n < 2 ^ 64 → is_same x (numbered word n) ≡ true → drop (length word) (lowered x) ≡ decimal n
 number_stands word x n h e =
     ap (λ (l : List ℕ). drop (length word) l) (same_lower x (numbered word n) e ∙ map-append to_ascii_lowercase word (decimal n))
     ∙ ap (λ (k : ℕ). drop k (lowered word ++ lowered (decimal n))) (sym (length-map word to_ascii_lowercase))
@@ -44,6 +44,10 @@ number_stands word x n h e =
 -- only this number may be the token's
 abbrev pub IsOnly : List ℕ → List ℕ → Option ℕ → Type 0
 IsOnly word x found = (n : ℕ) → n < 2 ^ 64 → is_same x (numbered word n) ≡ true → found ≡ Some n
+
+-- the number that was found behind as many bytes as the word has is the only one
+pub only_number : (word x lower : List ℕ) (found : Option ℕ) → lower ≡ lowered x → ((n : ℕ) → n < 2 ^ 64 → drop (length word) lower ≡ decimal n → found ≡ Some n) → IsOnly word x found
+only_number word x lower found same there n h e = there n h (ap (λ (l : List ℕ). drop (length word) l) same ∙ number_stands word x n h e)
 
 if_same : (b : Bool) (place other outcome : Option ℕ) → (b ≡ true → place ≡ outcome) → (b ≡ false → other ≡ outcome) → (if b then place else other) ≡ outcome
 if_same true place other outcome f g = f refl

@@ -5,7 +5,7 @@ use Rattle.grammar_rules.specs.Rule.{Verdict, Fits, Foul, Misfit}
 use Rattle.grammar_rules.specs.Reading.{Outcome, choose, read}
 use Rattle.rule_readers.specs.declared.refusal.Refusal.{Refusal}
 use Rattle.rule_readers.specs.declared.refusal.Refusal.TheVariants.{Syntax}
-use Rattle.rule_readers.specs.Next.{is_next, next_bytes, rest}
+use Rattle.rule_readers.specs.Next.{is_next, is_next_name, next_bytes, rest}
 use Rattle.rule_readers.proofs.Repeats as repeats
 use Rattle.vhdl_tokens.specs.Tokens.{is_name}
 use Rattle.vhdl_text.specs.VhdlRules.{begins, named, expect_all}
@@ -18,6 +18,11 @@ choose_begun text s go other e = repeats.choose_begun is_same text s go other e
 pub choose_other : {B : Type 0} (text : List ℕ) (s : List (List ℕ)) (go : Unit {0} → List (List ℕ) → Outcome (List ℕ) Refusal B) (other : Outcome (List ℕ) Refusal B) →
     is_next is_same text s ≡ false → choose (begins text) s go other ≡ other
 choose_other text s go other e = repeats.choose_other is_same text s go other e
+
+-- the bytes of a next token that is a name are one
+pub next_is_name : (s : List (List ℕ)) (x : List ℕ) → x ≡ next_bytes s → is_next_name is_name s ≡ true → is_name x ≡ true
+next_is_name [] x e n = absurd cc
+next_is_name (y ∷ s) x e n = rw e n
 
 -- tokens that must stand one behind the other, where the first does, or does not
 pub expect_next : (text : List ℕ) (texts s : List (List ℕ)) → is_next is_same text s ≡ true → read (expect_all (text ∷ texts)) s ≡ read (expect_all texts) (rest s)

@@ -1,23 +1,24 @@
 //! The calls that look up conditions. (IEEE 1076.4-2000, VitalTruthTable.)
 
-ghost use Rattle.std.specs.Prelude.{◌≡◌, ℕ, ◌+◌, ◌-◌, ◌<◌, ◌^◌, if◌then◌else◌, min, length, drop, slice_get, Option, Some, None, option_copied, IfOk, codes, decimal};
-ghost use Rattle.grammar_rules.specs.Rule.{Gives, Many, Then};
-ghost use Rattle.grammar_rules.specs.Reading.{read};
-ghost use Rattle.rule_readers.specs.Reading.{Reads};
+ghost use Rattle.std.specs.Prelude.{◌≡◌, ℕ, ◌+◌, ◌-◌, ◌<◌, ◌^◌, if◌then◌else◌, min, length, drop, slice_get, Option, Some, None, IfOk, codes, decimal};
+ghost use Rattle.grammar_rules.specs.Rule.{Gives, Then};
+ghost use Rattle.rule_readers.specs.Reading.{read, Many, Reads};
 ghost use Rattle.vhdl_tokens.specs.Spelling.{is_same};
 ghost use Rattle.vhdl_text.specs.VhdlRules as rules;
 ghost use Rattle.vhdl_text.specs.VhdlNames as spec;
 
 use crate::declarations::Declarations;
-use crate::language::Vhdl;
+use crate::language::Cursor;
 use crate::names::{input_at, inputs, list_end};
 use crate::ports::Ports;
 use crate::widths::truth_width;
 use crate::words::{expect_all, is_number_token, is_numbered};
-use rule_readers::{Cursor, Refusal, Stop};
+use rule_readers::Read;
 use sqlite_items::Items;
 use std::alloc::{AllocError, Global};
-use vhdl_tokens::is_name;
+
+/// The lists of the inputs of the conditions that were looked up so far, in the order of the conditions' numbers.
+pub type Uses = Items<Items<usize>>;
 
 /// The number that stands in a token behind as many bytes as a word has.
 fn number_behind(word: &[u8], token: &[u8]) -> Option<usize>
@@ -100,11 +101,11 @@ fn condition_of(
 
 /// The name of a condition.
 fn condition_name(
-    cursor: &mut Cursor<'_, Vhdl>,
+    cursor: &mut Cursor<'_>,
     alloc: Global,
     scope: &Declarations,
     uses: &[Items<usize>],
-) -> Result<usize, Stop>
+) -> Read<usize>
     ensures { Reads (read (rules.known (spec.condition_of scope.now uses.now)) cursor.old) result cursor.new }
 {
     let found = condition_of(alloc, scope, uses, cursor.bytes())?;
@@ -124,11 +125,11 @@ fn condition_width(scope: &Declarations, condition: usize) -> usize
 /// The list of inputs of a condition that is looked up for the first time.
 #[tactic(auto, unfolding(vhdl_text::specs::VhdlNames::first_list))]
 fn first_list(
-    cursor: &mut Cursor<'_, Vhdl>,
+    cursor: &mut Cursor<'_>,
     alloc: Global,
     scope: &Declarations,
     condition: usize,
-) -> Result<Items<usize>, Stop>
+) -> Read<Items<usize>>
     ensures { Reads (read (spec.first_list scope.now condition) cursor.old) result cursor.new }
 {
     let inputs = inputs(cursor, alloc, scope.ports())?;
@@ -137,31 +138,16 @@ fn first_list(
 }
 
 /// The name of the input at this place of a list.
-#[tactic(auto, using(rule_readers::proofs::Values::known_other))]
-fn same_name(
-    cursor: &mut Cursor<'_, Vhdl>,
-    ports: &Ports,
-    inputs: &[usize],
-    place: usize,
-) -> Result<usize, Stop>
+fn same_name(cursor: &mut Cursor<'_>, ports: &Ports, inputs: &[usize], place: usize) -> Read<usize>
     ensures { Reads (read (rules.known (λ x. spec.kept (spec.stands_at inputs.now place) (spec.input_of ports.now x))) cursor.old) result cursor.new }
 {
-    let token = cursor.bytes();
-    if !is_name(token) {
-        return Err(Stop::Refused(Refusal::Syntax));
-    }
-    let found = input_at(ports, inputs, place, token)?;
+    let found = input_at(ports, inputs, place, cursor.bytes())?;
     cursor.known(found)
 }
 
 /// The next input of a list, where so many of it stand before.
 #[tactic(auto, unfolding(vhdl_text::specs::VhdlNames::same_input))]
-fn same_input(
-    cursor: &mut Cursor<'_, Vhdl>,
-    ports: &Ports,
-    inputs: &[usize],
-    place: usize,
-) -> Result<usize, Stop>
+fn same_input(cursor: &mut Cursor<'_>, ports: &Ports, inputs: &[usize], place: usize) -> Read<usize>
     ensures { Reads (read (spec.same_input ports.now inputs.now place) cursor.old) result cursor.new }
 {
     same_name(cursor, ports, inputs, place)?;
@@ -171,11 +157,11 @@ fn same_input(
 /// How many inputs of a list stand behind so many.
 #[tactic(auto, using(rule_readers::proofs::Repeats::turn, crate::proofs::NextWords::choose_begun, crate::proofs::NextWords::choose_other))]
 fn more_same_inputs(
-    cursor: &mut Cursor<'_, Vhdl>,
+    cursor: &mut Cursor<'_>,
     ports: &Ports,
     inputs: &[usize],
     mut place: usize,
-) -> Result<usize, Stop>
+) -> Read<usize>
     ensures { Reads (read (Many (λ _. rules.begins (codes ",")) (λ found _. spec.same_input ports.now inputs.now found) place) cursor.old) result cursor.new }
 {
     for _turn in 0..cursor.left() {
@@ -190,11 +176,7 @@ fn more_same_inputs(
 
 /// How many inputs of a list stand in one of two or more.
 #[tactic(auto, unfolding(vhdl_text::specs::VhdlRules::several_elements, vhdl_text::specs::VhdlRules::more_elements))]
-fn several_same_inputs(
-    cursor: &mut Cursor<'_, Vhdl>,
-    ports: &Ports,
-    inputs: &[usize],
-) -> Result<usize, Stop>
+fn several_same_inputs(cursor: &mut Cursor<'_>, ports: &Ports, inputs: &[usize]) -> Read<usize>
     ensures { Reads (read (rules.several_elements (spec.same_input ports.now inputs.now) 0) cursor.old) result cursor.new }
 {
     let first = same_input(cursor, ports, inputs, 0)?;
@@ -205,11 +187,7 @@ fn several_same_inputs(
 
 /// How many inputs of a list stand next.
 #[tactic(auto, unfolding(vhdl_text::specs::VhdlRules::elements, vhdl_text::specs::VhdlRules::only_element), using(rule_readers::proofs::Choices::choose_by, rule_readers::proofs::Choices::choose_not_by))]
-fn same_inputs(
-    cursor: &mut Cursor<'_, Vhdl>,
-    ports: &Ports,
-    inputs: &[usize],
-) -> Result<usize, Stop>
+fn same_inputs(cursor: &mut Cursor<'_>, ports: &Ports, inputs: &[usize]) -> Read<usize>
     ensures { Reads (read (rules.elements (spec.same_input ports.now inputs.now) 0) cursor.old) result cursor.new }
 {
     if !is_number_token(0, cursor.bytes()) {
@@ -222,11 +200,7 @@ fn same_inputs(
 
 /// The list of inputs of a condition that was looked up before.
 #[tactic(auto, unfolding(vhdl_text::specs::VhdlNames::same_list))]
-fn same_list(
-    cursor: &mut Cursor<'_, Vhdl>,
-    scope: &Declarations,
-    inputs: &[usize],
-) -> Result<(), Stop>
+fn same_list(cursor: &mut Cursor<'_>, scope: &Declarations, inputs: &[usize]) -> Read<()>
     ensures { Reads (read (spec.same_list scope.now inputs.now) cursor.old) result cursor.new }
 {
     let count = same_inputs(cursor, scope.ports(), inputs)?;
@@ -237,12 +211,12 @@ fn same_list(
 /// The lists behind a look-up of this condition.
 #[tactic(auto, unfolding(vhdl_text::specs::VhdlNames::list_by))]
 fn list_of(
-    cursor: &mut Cursor<'_, Vhdl>,
+    cursor: &mut Cursor<'_>,
     alloc: Global,
     scope: &Declarations,
     mut uses: Items<Items<usize>>,
     condition: usize,
-) -> Result<Items<Items<usize>>, Stop>
+) -> Read<Items<Items<usize>>>
     ensures { Reads (read (spec.list_by scope.now uses condition (slice_get uses condition)) cursor.old) result cursor.new }
 {
     if let Some(inputs) = uses.as_slice().get(condition) {
@@ -256,12 +230,12 @@ fn list_of(
 
 /// The end of a look-up of this condition, from its list on: the condition's number, and the lists.
 fn list_and_end(
-    cursor: &mut Cursor<'_, Vhdl>,
+    cursor: &mut Cursor<'_>,
     alloc: Global,
     scope: &Declarations,
     uses: Items<Items<usize>>,
     condition: usize,
-) -> Result<(usize, Items<Items<usize>>), Stop>
+) -> Read<(usize, Items<Items<usize>>)>
     ensures { Reads (read (Then (spec.list_by scope.now uses condition (slice_get uses condition)) (λ more. Then (rules.expect (codes ")")) (λ _. Gives (condition, more)))) cursor.old) result cursor.new }
 {
     let more = list_of(cursor, alloc, scope, uses, condition)?;
@@ -272,11 +246,11 @@ fn list_and_end(
 /// A look-up of a condition, behind its word: the condition's number, and the lists.
 #[tactic(auto, unfolding(vhdl_text::specs::VhdlNames::condition))]
 pub fn condition(
-    cursor: &mut Cursor<'_, Vhdl>,
+    cursor: &mut Cursor<'_>,
     alloc: Global,
     scope: &Declarations,
     uses: Items<Items<usize>>,
-) -> Result<(usize, Items<Items<usize>>), Stop>
+) -> Read<(usize, Items<Items<usize>>)>
     ensures { Reads (read (spec.condition scope.now uses) cursor.old) result cursor.new }
 {
     expect_all(cursor, &[b"(", b"TruthTable", b"=>"])?;

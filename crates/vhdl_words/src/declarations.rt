@@ -2,6 +2,7 @@
 
 use crate::ports::Ports;
 use sqlite_items::Items;
+use std::alloc::Global;
 use std::marker::Model;
 use vhdl_text::{Scope, Tables, Variables};
 
@@ -35,6 +36,11 @@ impl Declarations {
             tables,
             variables,
         }
+    }
+
+    /// Where what is read over these declarations is kept.
+    pub fn alloc(&self) -> Global {
+        self.ports.alloc()
     }
 
     /// The ports.

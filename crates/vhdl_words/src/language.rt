@@ -6,6 +6,9 @@ ghost use Rattle.vhdl_tokens.specs.Spelling as spelling;
 use rule_readers::Language;
 use vhdl_tokens::{is_name, is_same};
 
+/// A cursor over the tokens of a VHDL text.
+pub type Cursor<'a> = rule_readers::Cursor<'a, Vhdl>;
+
 /// Whether a token stands for a word. One that is spelled as the word, as nearly all are, is found by one comparison.
 #[tactic(auto, using(crate::proofs::SameBytes::same_bytes))]
 fn stands_for(token: &[u8], word: &[u8]) -> bool

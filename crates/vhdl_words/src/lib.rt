@@ -4,6 +4,7 @@
 
 mod conditions;
 mod declarations;
+mod elements;
 mod language;
 mod listed;
 mod names;
@@ -11,9 +12,9 @@ mod ports;
 mod widths;
 mod words;
 
-pub use conditions::{condition, place_among};
+pub use conditions::{Uses, condition, place_among};
 pub use declarations::Declarations;
-pub use language::Vhdl;
+pub use language::{Cursor, Vhdl};
 pub use listed::Listed;
 pub use names::{an_input, input_of, list_end};
 pub use ports::Ports;

@@ -1,28 +1,26 @@
 //! The inputs that statements name, and lists of them. (IEEE 1076-1993, 6.2 and 7.3.2.)
 
-ghost use Rattle.std.specs.Prelude.{◌≡◌, ℕ, nat_eq, List, [], true, false, IfOk, codes};
+ghost use Rattle.std.specs.Prelude.{◌≡◌, nat_eq, [], true, false, IfOk, codes};
 ghost use Rattle.std.specs.List.{list_any};
-ghost use Rattle.grammar_rules.specs.Rule.{Many};
-ghost use Rattle.grammar_rules.specs.Reading.{read};
-ghost use Rattle.rule_readers.specs.Reading.{Reads};
+ghost use Rattle.rule_readers.specs.Reading.{read, Many, Reads};
 ghost use Rattle.vhdl_tokens.specs.Tokens.{is_name};
 ghost use Rattle.vhdl_text.specs.VhdlRules as rules;
 ghost use Rattle.vhdl_text.specs.VhdlNames as spec;
 
-use crate::language::Vhdl;
+use crate::language::Cursor;
 use crate::listed::Listed;
 use crate::ports::Ports;
+use crate::unlisted;
 use crate::words::is_number_token;
-use rule_readers::{Cursor, Refusal, Stop};
+use rule_readers::{Read, Refusal};
 use sqlite_items::Items;
 use std::alloc::{AllocError, Global};
 use udp_tables::is_input_port;
-use vhdl_tokens::is_name;
 
-/// The number of the input with this name, in the time of one look-up. An `Err` comes only where memory is wanting.
+/// The number of the input with this name, in the time of one look-up. What is found of a token that is no name means nothing. An
+/// `Err` comes only where memory is wanting.
 pub fn input_of(ports: &Ports, name: &[u8]) -> Result<Option<usize>, AllocError>
-    requires { is_name name.now ≡ true }
-    ensures { IfOk result (λ found. found ≡ spec.input_of ports.now name.now) }
+    ensures { is_name name.now ≡ true → IfOk result (λ found. found ≡ spec.input_of ports.now name.now) }
 {
     match ports.number(name)? {
         Some(port) if is_input_port(ports.as_slice(), port) => Ok(Some(port)),
@@ -40,15 +38,15 @@ fn stands_at(inputs: &[usize], place: usize, port: usize) -> bool
     }
 }
 
-/// The input of a name that stands at this place of a list. An `Err` comes only where memory is wanting.
+/// The input of a name that stands at this place of a list. What is found of a token that is no name means nothing. An `Err` comes
+/// only where memory is wanting.
 pub fn input_at(
     ports: &Ports,
     inputs: &[usize],
     place: usize,
     name: &[u8],
 ) -> Result<Option<usize>, AllocError>
-    requires { is_name name.now ≡ true }
-    ensures { IfOk result (λ found. found ≡ spec.kept (spec.stands_at inputs.now place) (spec.input_of ports.now name.now)) }
+    ensures { is_name name.now ≡ true → IfOk result (λ found. found ≡ spec.kept (spec.stands_at inputs.now place) (spec.input_of ports.now name.now)) }
 {
     match input_of(ports, name)? {
         Some(port) if stands_at(inputs, place, port) => Ok(Some(port)),
@@ -57,45 +55,32 @@ pub fn input_at(
 }
 
 /// The name of an input.
-#[tactic(auto, unfolding(vhdl_text::specs::VhdlNames::an_input), using(rule_readers::proofs::Values::known_other))]
-pub fn an_input(cursor: &mut Cursor<'_, Vhdl>, ports: &Ports) -> Result<usize, Stop>
+#[tactic(auto, unfolding(vhdl_text::specs::VhdlNames::an_input))]
+pub fn an_input(cursor: &mut Cursor<'_>, ports: &Ports) -> Read<usize>
     ensures { Reads (read (spec.an_input ports.now) cursor.old) result cursor.new }
 {
-    let token = cursor.bytes();
-    if !is_name(token) {
-        return Err(Stop::Refused(Refusal::Syntax));
-    }
-    let found = input_of(ports, token)?;
+    let found = input_of(ports, cursor.bytes())?;
     cursor.known(found)
 }
 
 /// The name of an input behind these in a list.
 #[tactic(auto, using(crate::proofs::NextWords::named_fits, crate::proofs::NextWords::named_foul, crate::proofs::NextWords::named_misfit, crate::proofs::NextWords::named_other))]
-fn listed_name(cursor: &mut Cursor<'_, Vhdl>, ports: &Ports, inputs: &Listed) -> Result<usize, Stop>
+fn listed_name(cursor: &mut Cursor<'_>, ports: &Ports, inputs: &Listed) -> Read<usize>
     ensures reads { Reads (read (rules.named (spec.input_by ports.now inputs.now)) cursor.old) result cursor.new }
     ensures fresh { IfOk result (λ port. list_any (nat_eq port) inputs.now ≡ false) }
 {
-    let token = cursor.bytes();
-    if !is_name(token) {
-        return Err(Stop::Refused(Refusal::Syntax));
-    }
-    let Some(port) = input_of(ports, token)? else {
-        return Err(Stop::Refused(Refusal::Undefined));
-    };
-    if inputs.has(port) {
-        return Err(Stop::Refused(Refusal::Twice));
-    }
-    cursor.skip();
+    unlisted!(
+        cursor,
+        token,
+        port = input_of(ports, token)?,
+        inputs.has(port)
+    );
     Ok(port)
 }
 
 /// One more input of a list.
 #[tactic(auto, unfolding(vhdl_text::specs::VhdlNames::listed_input))]
-fn listed_input(
-    cursor: &mut Cursor<'_, Vhdl>,
-    ports: &Ports,
-    inputs: Listed,
-) -> Result<Listed, Stop>
+fn listed_input(cursor: &mut Cursor<'_>, ports: &Ports, inputs: Listed) -> Read<Listed>
     ensures { Reads (read (spec.listed_input ports.now inputs) cursor.old) result cursor.new }
 {
     let port = listed_name(cursor, ports, &inputs)?;
@@ -105,11 +90,7 @@ fn listed_input(
 
 /// The inputs of a list behind these.
 #[tactic(auto, using(rule_readers::proofs::Repeats::turn, crate::proofs::NextWords::choose_begun, crate::proofs::NextWords::choose_other))]
-fn more_inputs(
-    cursor: &mut Cursor<'_, Vhdl>,
-    ports: &Ports,
-    mut inputs: Listed,
-) -> Result<Listed, Stop>
+fn more_inputs(cursor: &mut Cursor<'_>, ports: &Ports, mut inputs: Listed) -> Read<Listed>
     ensures { Reads (read (Many (λ _. rules.begins (codes ",")) (λ found _. spec.listed_input ports.now found) inputs) cursor.old) result cursor.new }
 {
     for _turn in 0..cursor.left() {
@@ -124,11 +105,7 @@ fn more_inputs(
 
 /// A list of two inputs or more.
 #[tactic(auto, unfolding(vhdl_text::specs::VhdlRules::several_elements, vhdl_text::specs::VhdlRules::more_elements))]
-fn several_inputs(
-    cursor: &mut Cursor<'_, Vhdl>,
-    alloc: Global,
-    ports: &Ports,
-) -> Result<Listed, Stop>
+fn several_inputs(cursor: &mut Cursor<'_>, alloc: Global, ports: &Ports) -> Read<Listed>
     ensures { Reads (read (rules.several_elements (spec.listed_input ports.now) []) cursor.old) result cursor.new }
 {
     let first = listed_input(cursor, ports, Listed::new(alloc))?;
@@ -139,11 +116,7 @@ fn several_inputs(
 
 /// A list of inputs, as a list that finds each at once.
 #[tactic(auto, unfolding(vhdl_text::specs::VhdlRules::elements, vhdl_text::specs::VhdlRules::only_element), using(rule_readers::proofs::Choices::choose_by, rule_readers::proofs::Choices::choose_not_by))]
-fn listed_inputs(
-    cursor: &mut Cursor<'_, Vhdl>,
-    alloc: Global,
-    ports: &Ports,
-) -> Result<Listed, Stop>
+fn listed_inputs(cursor: &mut Cursor<'_>, alloc: Global, ports: &Ports) -> Read<Listed>
     ensures { Reads (read (rules.elements (spec.listed_input ports.now) []) cursor.old) result cursor.new }
 {
     if !is_number_token(0, cursor.bytes()) {
@@ -155,11 +128,7 @@ fn listed_inputs(
 }
 
 /// A list of inputs, in time that grows with its length.
-pub fn inputs(
-    cursor: &mut Cursor<'_, Vhdl>,
-    alloc: Global,
-    ports: &Ports,
-) -> Result<Items<usize>, Stop>
+pub fn inputs(cursor: &mut Cursor<'_>, alloc: Global, ports: &Ports) -> Read<Items<usize>>
     ensures { Reads (read (rules.elements (spec.listed_input ports.now) []) cursor.old) result cursor.new }
 {
     let inputs = listed_inputs(cursor, alloc, ports)?;
@@ -167,7 +136,7 @@ pub fn inputs(
 }
 
 /// The end of a list of so many names, which has to have another number of them.
-pub fn list_end(cursor: &mut Cursor<'_, Vhdl>, width: usize, count: usize) -> Result<(), Stop>
+pub fn list_end(cursor: &mut Cursor<'_>, width: usize, count: usize) -> Read<()>
     ensures { Reads (read (spec.list_end width count) cursor.old) result cursor.new }
 {
     cursor.expect_where(count == width, Refusal::Width, b")")

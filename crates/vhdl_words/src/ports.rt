@@ -66,6 +66,11 @@ impl Ports {
         }
     }
 
+    /// Where these ports are kept.
+    pub fn alloc(&self) -> Global {
+        self.alloc
+    }
+
     /// The list of these ports.
     pub fn as_slice(&self) -> &[VPort]
         ensures { result.now ≡ self.now }
@@ -80,10 +85,10 @@ impl Ports {
         self.outputs.as_slice()
     }
 
-    /// The number of the port with this name, in the time of one look-up. An `Err` comes only where memory is wanting.
+    /// The number of the port with this name, in the time of one look-up. What is found of a token that is no name means nothing. An
+    /// `Err` comes only where memory is wanting.
     pub fn number(&self, name: &[u8]) -> Result<Option<usize>, AllocError>
-        requires { is_name name.now ≡ true }
-        ensures { IfOk result (λ found. found ≡ port_of self.now name.now) }
+        ensures { is_name name.now ≡ true → IfOk result (λ found. found ≡ port_of self.now name.now) }
     {
         let lowered = name.to_ascii_lowercase(self.alloc)?;
         Ok(self.lowered.number(&lowered))

@@ -2,21 +2,20 @@
 
 ghost use Rattle.std.specs.Prelude.{◌≡◌, map, IfOk};
 ghost use Rattle.vhdl_tokens.specs.Spelling.{is_same};
-ghost use Rattle.grammar_rules.specs.Reading.{read};
 ghost use Rattle.vhdl_text.specs.VhdlRules as spec;
-ghost use Rattle.rule_readers.specs.Reading.{Reads};
+ghost use Rattle.rule_readers.specs.Reading.{read, Reads};
 ghost use Rattle.rule_readers.specs.Words.{valued};
 ghost use Rattle.vhdl_words.specs.EitherWord.{either_word};
 
-use crate::language::Vhdl;
-use rule_readers::{Cursor, Refusal, Stop};
+use crate::language::Cursor;
+use rule_readers::{Read, Refusal, Stop};
 use std::alloc::{AllocError, Global};
 use vhdl_names::numbered_name;
 use vhdl_tokens::{is_same, number_of};
 
 /// Tokens that must stand next, one behind the other.
 #[tactic(auto, using(crate::proofs::NextWords::expect_next, crate::proofs::NextWords::expect_other))]
-pub fn expect_all(cursor: &mut Cursor<'_, Vhdl>, texts: &[&[u8]]) -> Result<(), Stop>
+pub fn expect_all(cursor: &mut Cursor<'_>, texts: &[&[u8]]) -> Read<()>
     ensures { Reads (read (spec.expect_all (map (λ text. text.now) texts.now)) cursor.old) result cursor.new }
 {
     for text in texts {
@@ -39,7 +38,7 @@ pub fn is_number_token(number: usize, token: &[u8]) -> bool
 }
 
 /// This number.
-pub fn this_number(cursor: &mut Cursor<'_, Vhdl>, number: usize) -> Result<(), Stop>
+pub fn this_number(cursor: &mut Cursor<'_>, number: usize) -> Read<()>
     ensures { Reads (read (spec.this_number number) cursor.old) result cursor.new }
 {
     if !is_number_token(number, cursor.bytes()) {
@@ -51,7 +50,7 @@ pub fn this_number(cursor: &mut Cursor<'_, Vhdl>, number: usize) -> Result<(), S
 
 /// The number that stands next.
 #[tactic(auto, using(rule_readers::proofs::Values::valued_found), unfolding(vhdl_text::specs::VhdlRules::a_number))]
-pub fn number(cursor: &mut Cursor<'_, Vhdl>) -> Result<u64, Stop>
+pub fn number(cursor: &mut Cursor<'_>) -> Read<u64>
     ensures { Reads (read spec.a_number cursor.old) result cursor.new }
 {
     let found = number_of(cursor.bytes());
@@ -61,12 +60,12 @@ pub fn number(cursor: &mut Cursor<'_, Vhdl>) -> Result<u64, Stop>
 /// What the next token stands for, which has to be one of these two words.
 #[tactic(auto, using(crate::proofs::EitherWords::either_found))]
 pub fn either_word<A: Drop>(
-    cursor: &mut Cursor<'_, Vhdl>,
+    cursor: &mut Cursor<'_>,
     first: &[u8],
     one: A,
     second: &[u8],
     other: A,
-) -> Result<A, Stop>
+) -> Read<A>
     ensures { Reads (read (valued (either_word first.now one second.now other)) cursor.old) result cursor.new }
 {
     let found = if cursor.is_next(first) {
@@ -81,7 +80,7 @@ pub fn either_word<A: Drop>(
 
 /// The time in picoseconds that stands next.
 #[tactic(auto, unfolding(vhdl_text::specs::VhdlRules::a_time))]
-pub fn time(cursor: &mut Cursor<'_, Vhdl>) -> Result<u64, Stop>
+pub fn time(cursor: &mut Cursor<'_>) -> Read<u64>
     ensures { Reads (read spec.a_time cursor.old) result cursor.new }
 {
     let number = number(cursor)?;
@@ -91,12 +90,12 @@ pub fn time(cursor: &mut Cursor<'_, Vhdl>) -> Result<u64, Stop>
 
 /// The name with this number, where it is the next one.
 pub fn numbered(
-    cursor: &mut Cursor<'_, Vhdl>,
+    cursor: &mut Cursor<'_>,
     alloc: Global,
     is_next: bool,
     word: &[u8],
     number: usize,
-) -> Result<(), Stop>
+) -> Read<()>
     ensures { Reads (read (spec.this_name (spec.numbered_where is_next word.now number)) cursor.old) result cursor.new }
 {
     if !is_next {

@@ -4,4 +4,4 @@ use Rattle.vhdl_words.proofs.LoweredNames.{port_found}
 use Rattle.vhdl_words.proofs.ports.Ports.has.Goals as goal
 
 pub returns : goal.returns
-returns c = c.is_some.ensures ∙ ap is_some c.in_ok-found.ensures ∙ port_found c.args.self.now c.args.name.now
+returns c = c.is_some.ensures ∙ ap is_some (c.in_ok-found.ensures c.requires) ∙ port_found c.args.self.now c.args.name.now

@@ -45,6 +45,7 @@ use Rattle.cell_parts.proofs.Numbering.{state_flags, NumberIs, numbers_are}
 use Rattle.cell_parts.proofs.OwnNames.{no_place}
 use Rattle.cell_parts.proofs.TextNames.{text_names, is_absent, IsSound, names_of_written, absent_text, function_apart, state_function_apart, is_value_number, names_values, function_names_are, state_function_names_are, node_names_are}
 use Rattle.cell_parts.proofs.CellGroups.{pins_distinct, groups_keep_rules}
+use Rattle.cell_parts.proofs.GroupCount.{flags_with}
 use Rattle.cell_parts.proofs.SourceRules.{has_second, group_flags, output_keeps_rules}
 
 -- Second variables of groups and of the states that they are for.
@@ -56,24 +57,6 @@ group_flags_append (x ∷ xs) ys = ap (λ bs. has_second x.kind ∷ bs) (group_f
 state_flags_append : (xs ys : List StateName) → state_flags (xs ++ ys) ≡ state_flags xs ++ state_flags ys
 state_flags_append [] ys = refl
 state_flags_append (x ∷ xs) ys = ap (λ bs. state_flags (x ∷ []) ++ bs) (state_flags_append xs ys)
-
-node_flags : (table : StateTable) (r : StateReading) (node : ℕ) (names : List (List ℕ)) → group_flags (node_groups table r node names) ≡ state_flags (map node_named names)
-node_flags table r node [] = refl
-node_flags table r node (name ∷ names) = ap (λ bs. false ∷ bs) (node_flags table r (node + 1) names)
-
-flags_with :
-    (to : List ℕ) (group : Group) (r : StateReading) (arguments : Option Arguments)
-    → group_flags (groups_with to group r arguments) ≡ state_flags (states_with (is_table group) arguments)
-flags_with to group r None = refl
-flags_with to group r (Some arguments) =
-    elim (cases_Bool (is_table group)) [
-      | inl e ↦
-          rw e
-          (node_flags
-          (table_in (length (names_in arguments.first)) (length (names_in arguments.second)) (attribute_of group (codes "table")))
-          r 0 (names_in arguments.second))
-      | inr e ↦ elim (cases_Bool (is_ff group)) [ inl f ↦ rw (e, f) refl | inr f ↦ rw (e, f) refl ]
-    ]
 
 -- a state group has a second variable where its state has one
 same_flags :

@@ -220,7 +220,8 @@ pins_are_fresh (group ∷ groups) seen h =
           rw e (pins_are_fresh groups seen less)
     ]
 
-bytes_unlike : (x y : List ℕ) → bytes_eq y x ≡ false → bytes_eq x y ≡ false
+-- names that differ do so in both orders
+pub bytes_unlike : (x y : List ℕ) → bytes_eq y x ≡ false → bytes_eq x y ≡ false
 bytes_unlike x y h =
     elim (cases_Bool (bytes_eq x y)) [
       | inl e ↦

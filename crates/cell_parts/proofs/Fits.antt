@@ -25,6 +25,7 @@ use Rattle.timing_arcs.specs.Attributes.{Attribute, attribute_of}
 use Rattle.cell_parts.specs.Groups.{names_in}
 use Rattle.cell_parts.specs.States.{Arguments, arguments_of, is_table}
 use Rattle.cell_parts.specs.Vocabulary.{Vocabulary}
+use Rattle.cell_parts.specs.declared.texts.Text.{Text}
 use Rattle.cell_parts.specs.Texts.{text_as, node_text, use_at, use_of, class_at, is_unknown, is_node_class, has_unknown, has_coupled, judged_tree, judged, node_at}
 use Rattle.cell_machine.specs.declared.pins.Direction.{Direction}
 use Rattle.cell_machine.specs.declared.pins.Direction.TheVariants as direction
@@ -204,3 +205,7 @@ pin_text_as_fits v group (Some direction.Internal) = node_as_fits v (attribute_o
 
 pub pin_text_fits : (v : Vocabulary) (group : Group) → FitsText (length v.classes) (pin_text v group)
 pin_text_fits v group = pin_text_as_fits v group (direction_of group)
+
+-- so it does where it is read, over as many numbers as there are names
+pub read_text_fits : (n : ℕ) (v : Vocabulary) (group : Group) (t : Text) → n ≡ length v.classes → t ≡ pin_text v group → FitsText n t
+read_text_fits n v group t count is = subst (λ m. FitsText m t) (sym count) (subst (λ u. FitsText (length v.classes) u) (sym is) (pin_text_fits v group))

@@ -34,7 +34,7 @@ none_listed None h = refl
 none_listed (Some x) h = absurd cc
 
 -- the parts of four lists and an optional place that are empty together
-record AllEmpty (o : Option ℕ) (a b c d : List ℕ) : Type 0 where
+pub record AllEmpty (o : Option ℕ) (a b c d : List ℕ) : Type 0 where
   pub place : o ≡ None
   pub one : a ≡ []
   pub two : b ≡ []
@@ -49,32 +49,18 @@ all_empty o a b c d h =
     let s = nil_parts c d r.1 in
     record { place = none_listed o p.0; one = q.0; two = r.0; three = s.0; four = s.1 }
 
-malformed_parts :
-    (r : StateReading) → malformed_in r ≡ []
-    → AllEmpty r.malformed (malformed_at r.data_text) (malformed_at r.control) (malformed_at r.clear) (malformed_at r.preset)
-unfolding malformed_in
-malformed_parts r h =
-    all_empty r.malformed (malformed_at r.data_text) (malformed_at r.control) (malformed_at r.clear) (malformed_at r.preset) h
-
-unknown_parts :
-    (r : StateReading) → unknown_in r ≡ []
-    → AllEmpty r.unknown (unknown_at r.data_text) (unknown_at r.control) (unknown_at r.clear) (unknown_at r.preset)
-unfolding unknown_in
-unknown_parts r h =
-    all_empty r.unknown (unknown_at r.data_text) (unknown_at r.control) (unknown_at r.clear) (unknown_at r.preset) h
-
-coupled_parts :
-    (r : StateReading) → coupled_in r ≡ []
-    → AllEmpty r.coupled (coupled_at r.data_text) (coupled_at r.control) (coupled_at r.clear) (coupled_at r.preset)
-unfolding coupled_in
-coupled_parts r h =
-    all_empty r.coupled (coupled_at r.data_text) (coupled_at r.control) (coupled_at r.clear) (coupled_at r.preset) h
+-- of one kind of what is wrong with a reading, at the offset for the group and at those in its texts
+pub none_in : (o : Option ℕ) (at : Text → List ℕ) (r : StateReading)
+    → option_to_list o ++ (at r.data_text ++ (at r.control ++ (at r.clear ++ at r.preset))) ≡ []
+    → AllEmpty o (at r.data_text) (at r.control) (at r.clear) (at r.preset)
+none_in o at r h = all_empty o (at r.data_text) (at r.control) (at r.clear) (at r.preset) h
 
 pub sound_reading : (r : StateReading) → malformed_in r ≡ [] → unknown_in r ≡ [] → coupled_in r ≡ [] → IsSoundReading r
+unfolding malformed_in unknown_in coupled_in
 sound_reading r h k l =
-    let m = malformed_parts r h in
-    let u = unknown_parts r k in
-    let c = coupled_parts r l in
+    let m = none_in r.malformed malformed_at r h in
+    let u = none_in r.unknown unknown_at r k in
+    let c = none_in r.coupled coupled_at r l in
     record {
       whole = m.place;
       inputs_known = u.place;

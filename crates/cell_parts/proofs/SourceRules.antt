@@ -1,5 +1,5 @@
 -- What the names of an output's function stand for: input pins and states.
-use Rattle.std.proofs.Common.{◌≡◌, ℕ, suc, ◌+◌, ◌-◌, ◌*◌, ◌/◌, ◌<◌, ◌≤◌, Bool, true, false, ◌&&◌, ◌||◌, List, [], ◌∷◌, ◌++◌, length, map, refl, sym, ◌∙◌, ap, subst, arith, IsTrue, Option, Some, None, inl, inr, nat_eq, nat_lt, nat_le, eqb-true}
+use Rattle.std.proofs.Common.{◌≡◌, ℕ, suc, ◌+◌, ◌-◌, ◌*◌, ◌/◌, ◌<◌, ◌≤◌, Bool, true, false, ◌&&◌, ◌||◌, List, [], ◌∷◌, ◌++◌, length, map, refl, sym, ◌∙◌, ap, subst, arith, IsTrue, Option, Some, None, if◌then◌else◌, inl, inr, nat_eq, nat_lt, nat_le, eqb-true}
 use Rattle.std.specs.Prelude.{flat_map}
 use Rattle.std.specs.List.{list_all}
 use Rattle.std.proofs.lemmas.Bool.{cases_Bool, and_from, and_parts, or_left, or_right, or_cases, lt-ltb, le-ltb, le-leb, eq-eqb, ne_eqb}
@@ -46,10 +46,10 @@ are_plain pins [] = true
 are_plain pins (group ∷ groups) = is_plain_second pins group.kind && are_plain pins groups
 
 both_pass : (p : ℕ → Bool) (f g : Option Tree) → IsTrue (list_all p (names_of_optional f ++ names_of_optional g)) → IsTrue (list_all p (names_of_both f g))
+both_pass p (Some f) (Some g) h = h
 both_pass p None None h = refl
 both_pass p None (Some g) h = refl
 both_pass p (Some f) None h = refl
-both_pass p (Some f) (Some g) h = h
 
 plain_second : (pins : List Pin) (k : GroupKind) → IsTrue (list_all (is_input_pin pins) (control_names k)) → IsTrue (is_plain_second pins k)
 plain_second pins (kind.Ff k) h =
@@ -79,59 +79,56 @@ groups_are_plain pins m (group ∷ groups) h =
 
 -- Written names and supports stand for the same.
 
+-- what passes of two lists passes of two others, where what passes of each does
+two_pass :
+    (p : ℕ → Bool) (one other : Tree → List ℕ) → ((f : Tree) → IsTrue (list_all p (one f)) → IsTrue (list_all p (other f)))
+    → (f g : Tree) → IsTrue (list_all p (one f ++ one g)) → IsTrue (list_all p (other f ++ other g))
+two_pass p one other pass f g h =
+    let parts = all_parts p (one f) (one g) h in
+    all_from p (other f) (other g) (pass f parts.0) (pass g parts.1)
+
 supports_pass : (p : ℕ → Bool) (f g : Option Tree) → IsTrue (list_all p (names_of_both f g)) → IsTrue (list_all p (supports_of_both f g))
-supports_pass p None None h = refl
-supports_pass p None (Some g) h = refl
-supports_pass p (Some f) None h = refl
-supports_pass p (Some f) (Some g) h =
-    let parts = all_parts p (names_of f) (names_of g) h in
-    all_from p (support_of f) (support_of g) (in_passes p (support_of f) (names_of f) (placed_in (names_of f)) parts.0)
-    (in_passes p (support_of g) (names_of g) (placed_in (names_of g)) parts.1)
+supports_pass p (Some f) (Some g) h = two_pass p names_of support_of (λ f. in_passes p (support_of f) (names_of f) (placed_in (names_of f))) f g h
+supports_pass p _ _ h = refl
 
 names_pass : (p : ℕ → Bool) (f g : Option Tree) → IsTrue (list_all p (supports_of_both f g)) → IsTrue (list_all p (names_of_both f g))
+names_pass p (Some f) (Some g) h = two_pass p support_of names_of (λ f. in_passes p (names_of f) (support_of f) (in_placed (names_of f))) f g h
 names_pass p None None h = refl
 names_pass p None (Some g) h = refl
 names_pass p (Some f) None h = refl
-names_pass p (Some f) (Some g) h =
-    let parts = all_parts p (support_of f) (support_of g) h in
-    all_from p (names_of f) (names_of g) (in_passes p (names_of f) (support_of f) (in_placed (names_of f)) parts.0)
-    (in_passes p (names_of g) (support_of g) (in_placed (names_of g)) parts.1)
+
+-- what passes behind a number that stands for itself
+behind_own : (p : ℕ → Bool) (m : ℕ) (xs ys : List ℕ) → (IsTrue (list_all p xs) → IsTrue (list_all p ys)) → IsTrue (list_all p (m ∷ xs)) → IsTrue (list_all p (m ∷ ys))
+behind_own p m xs ys pass h = let parts = and_parts (p m) (list_all p xs) h in and_from (p m) (list_all p ys) parts.0 (pass parts.1)
 
 second_names_pass : (p : ℕ → Bool) (m : ℕ) (k : GroupKind) → IsTrue (list_all p (second_support m k)) → IsTrue (list_all p (second_names m k))
-second_names_pass p m (kind.Ff k) h =
-    let parts = and_parts (p m) (list_all p (supports_of_both k.clear k.preset)) h in
-    and_from (p m) (list_all p (names_of_both k.clear k.preset)) parts.0 (names_pass p k.clear k.preset parts.1)
-second_names_pass p m (kind.Latch k) h =
-    let parts = and_parts (p m) (list_all p (supports_of_both k.clear k.preset)) h in
-    and_from (p m) (list_all p (names_of_both k.clear k.preset)) parts.0 (names_pass p k.clear k.preset parts.1)
+second_names_pass p m (kind.Ff k) h = behind_own p m (supports_of_both k.clear k.preset) (names_of_both k.clear k.preset) (names_pass p k.clear k.preset) h
+second_names_pass p m (kind.Latch k) h = behind_own p m (supports_of_both k.clear k.preset) (names_of_both k.clear k.preset) (names_pass p k.clear k.preset) h
 second_names_pass p m (kind.Table table node inputs) h = h
 
 second_support_passes : (p : ℕ → Bool) (m : ℕ) (k : GroupKind) → IsTrue (list_all p (second_names m k)) → IsTrue (list_all p (second_support m k))
-second_support_passes p m (kind.Ff k) h =
-    let parts = and_parts (p m) (list_all p (names_of_both k.clear k.preset)) h in
-    and_from (p m) (list_all p (supports_of_both k.clear k.preset)) parts.0 (supports_pass p k.clear k.preset parts.1)
-second_support_passes p m (kind.Latch k) h =
-    let parts = and_parts (p m) (list_all p (names_of_both k.clear k.preset)) h in
-    and_from (p m) (list_all p (supports_of_both k.clear k.preset)) parts.0 (supports_pass p k.clear k.preset parts.1)
+second_support_passes p m (kind.Ff k) h = behind_own p m (names_of_both k.clear k.preset) (supports_of_both k.clear k.preset) (supports_pass p k.clear k.preset) h
+second_support_passes p m (kind.Latch k) h = behind_own p m (names_of_both k.clear k.preset) (supports_of_both k.clear k.preset) (supports_pass p k.clear k.preset) h
 second_support_passes p m (kind.Table table node inputs) h = h
 
-behind_pass :
-    (p : ℕ → Bool) (m : ℕ) (groups : List StateGroup) (i : ℕ) → IsTrue (list_all p (stands_for m groups i)) → IsTrue (list_all p (names_behind m groups i))
+-- what passes of whichever of two lists is taken
+either_passes :
+    (p : ℕ → Bool) (b : Bool) (a c x y : List ℕ) → (IsTrue (list_all p a) → IsTrue (list_all p x)) → (IsTrue (list_all p c) → IsTrue (list_all p y))
+    → IsTrue (list_all p (if b then a else c)) → IsTrue (list_all p (if b then x else y))
+either_passes p true a c x y first second h = first h
+either_passes p false a c x y first second h = second h
+
+behind_pass : (p : ℕ → Bool) (m : ℕ) (groups : List StateGroup) (i : ℕ) → IsTrue (list_all p (stands_for m groups i)) → IsTrue (list_all p (names_behind m groups i))
 behind_pass p m [] i h = h
 behind_pass p m (group ∷ groups) i h =
-    elim (cases_Bool (nat_eq i (m + 1))) [
-      | inl e ↦ let k : IsTrue (list_all p (second_support m group.kind)) = rw e at h in rw e (second_names_pass p m group.kind k)
-      | inr e ↦ let k : IsTrue (list_all p (stands_for (m + 2) groups i)) = rw e at h in rw e (behind_pass p (m + 2) groups i k)
-    ]
+    either_passes p (nat_eq i (m + 1)) (second_support m group.kind) (stands_for (m + 2) groups i) (second_names m group.kind) (names_behind (m + 2) groups i)
+    (second_names_pass p m group.kind) (λ k. behind_pass p (m + 2) groups i k) h
 
-stands_pass :
-    (p : ℕ → Bool) (m : ℕ) (groups : List StateGroup) (i : ℕ) → IsTrue (list_all p (names_behind m groups i)) → IsTrue (list_all p (stands_for m groups i))
+stands_pass : (p : ℕ → Bool) (m : ℕ) (groups : List StateGroup) (i : ℕ) → IsTrue (list_all p (names_behind m groups i)) → IsTrue (list_all p (stands_for m groups i))
 stands_pass p m [] i h = h
 stands_pass p m (group ∷ groups) i h =
-    elim (cases_Bool (nat_eq i (m + 1))) [
-      | inl e ↦ let k : IsTrue (list_all p (second_names m group.kind)) = rw e at h in rw e (second_support_passes p m group.kind k)
-      | inr e ↦ let k : IsTrue (list_all p (names_behind (m + 2) groups i)) = rw e at h in rw e (stands_pass p (m + 2) groups i k)
-    ]
+    either_passes p (nat_eq i (m + 1)) (second_names m group.kind) (names_behind (m + 2) groups i) (second_support m group.kind) (stands_for (m + 2) groups i)
+    (second_support_passes p m group.kind) (λ k. stands_pass p (m + 2) groups i k) h
 
 -- What values stand for.
 

@@ -64,41 +64,26 @@ module _ (to : List ℕ) where
 
 -- the numbers of the names of a text, as they are written
 abbrev pub text_names : Text → List ℕ
-text_names text.Absent = []
 text_names (text.Reads f at) = names_of f
-text_names (text.Malformed at) = []
-text_names (text.Unknown at) = []
-text_names (text.Coupled at) = []
+text_names _ = []
 
 pub names_in_support : (t : Text) → IsTrue (stand_in (text_support t) (text_names t))
-names_in_support text.Absent = refl
 names_in_support (text.Reads f at) = in_placed (names_of f)
-names_in_support (text.Malformed at) = refl
-names_in_support (text.Unknown at) = refl
-names_in_support (text.Coupled at) = refl
+names_in_support _ = refl
 
 pub support_in_names : (t : Text) → IsTrue (stand_in (text_names t) (text_support t))
-support_in_names text.Absent = refl
 support_in_names (text.Reads f at) = placed_in (names_of f)
-support_in_names (text.Malformed at) = refl
-support_in_names (text.Unknown at) = refl
-support_in_names (text.Coupled at) = refl
+support_in_names _ = refl
 
 -- the function of a text names the numbers of its names
 pub names_of_function : (to : List ℕ) (t : Text) → names_of_optional (function_in to t) ≡ map (slice_index to) (text_names t)
-names_of_function to text.Absent = refl
 names_of_function to (text.Reads f at) = names_of_renamed to f
-names_of_function to (text.Malformed at) = refl
-names_of_function to (text.Unknown at) = refl
-names_of_function to (text.Coupled at) = refl
+names_of_function to _ = refl
 
 -- whether a text is not written
 abbrev pub is_absent : Text → Bool
 is_absent text.Absent = true
-is_absent (text.Reads f at) = false
-is_absent (text.Malformed at) = false
-is_absent (text.Unknown at) = false
-is_absent (text.Coupled at) = false
+is_absent _ = false
 
 -- nothing is wrong with a text
 pub record IsSound (t : Text) : Type 0 where
@@ -110,18 +95,14 @@ pub record IsSound (t : Text) : Type 0 where
 pub sound_has_function : (to : List ℕ) (t : Text) → IsSound t → is_none (function_in to t) ≡ is_absent t
 sound_has_function to text.Absent s = refl
 sound_has_function to (text.Reads f at) s = refl
-sound_has_function to (text.Malformed at) s = let h = s.well_formed in absurd cc
-sound_has_function to (text.Unknown at) s = let h = s.known in absurd cc
-sound_has_function to (text.Coupled at) s = let h = s.apart in absurd cc
+sound_has_function to _ s = let h = s.well_formed in let k = s.known in let l = s.apart in absurd cc
 
 pub names_of_written :
     (to : List ℕ) (t : Text) → IsSound t → is_absent t ≡ false
     → names_of (function_of to t) ≡ map (slice_index to) (text_names t)
 names_of_written to text.Absent s h = absurd cc
 names_of_written to (text.Reads f at) s h = names_of_renamed to f
-names_of_written to (text.Malformed at) s h = let k = s.well_formed in absurd cc
-names_of_written to (text.Unknown at) s h = let k = s.known in absurd cc
-names_of_written to (text.Coupled at) s h = let k = s.apart in absurd cc
+names_of_written to _ s h = let k = s.well_formed in let l = s.known in let m = s.apart in absurd cc
 
 -- a text is absent where its attribute is
 tree_is_there : (classes : List Class) (s : Scope) (at : ℕ) (f : Tree) → is_absent (judged_tree classes s at f) ≡ false
@@ -134,9 +115,7 @@ tree_is_there classes s at f =
 judged_is_there : (classes : List Class) (s : Scope) (at : ℕ) (r : Result Tree FunctionFault) → is_absent (judged classes s at r) ≡ false
 judged_is_there classes s at (Ok f) = tree_is_there classes s at f
 judged_is_there classes s at (Err fault.TooLong) = refl
-judged_is_there classes s at (Err (fault.Malformed n)) = refl
-judged_is_there classes s at (Err (fault.UnknownName n)) = refl
-judged_is_there classes s at (Err fault.Memory) = refl
+judged_is_there classes s at (Err _) = refl
 
 pub absent_text : (v : Vocabulary) (s : Scope) (attribute : Option Attribute) → is_absent (text_as v s attribute) ≡ is_none attribute
 absent_text v s None = refl
@@ -146,13 +125,11 @@ absent_text v s (Some attribute) = judged_is_there v.classes s attribute.at (rea
 
 abbrev pub is_allowed : Use → Bool
 is_allowed use_.Allowed = true
-is_allowed use_.Unknown = false
-is_allowed use_.Coupled = false
+is_allowed _ = false
 
 pub allowed_use : (u : Use) → is_unknown u ≡ false → is_coupled u ≡ false → IsTrue (is_allowed u)
 allowed_use use_.Allowed h k = refl
-allowed_use use_.Unknown h k = absurd cc
-allowed_use use_.Coupled h k = absurd cc
+allowed_use _ h k = absurd cc
 
 allowed_all :
     (u : ℕ → Use) (xs : List ℕ) → list_any (λ i. is_unknown (u i)) xs ≡ false → list_any (λ i. is_coupled (u i)) xs ≡ false
@@ -180,9 +157,7 @@ judged_allowed :
     → IsTrue (list_all (λ i. is_allowed (use_at classes s i)) (text_names (judged classes s at r)))
 judged_allowed classes s at (Ok f) = tree_allowed classes s at f
 judged_allowed classes s at (Err fault.TooLong) = refl
-judged_allowed classes s at (Err (fault.Malformed n)) = refl
-judged_allowed classes s at (Err (fault.UnknownName n)) = refl
-judged_allowed classes s at (Err fault.Memory) = refl
+judged_allowed classes s at (Err _) = refl
 
 -- all names of a text are allowed in it
 text_allowed :
@@ -194,19 +169,11 @@ text_allowed v s (Some attribute) = judged_allowed v.classes s attribute.at (rea
 -- no text of an output makes a state hang on another
 pub function_apart : (c : Class) → is_coupled (function_use c) ≡ false
 function_apart Input = refl
-function_apart Driven = refl
-function_apart Alias = refl
-function_apart Shared = refl
-function_apart Node = refl
-function_apart Variable = refl
+function_apart _ = refl
 
 pub state_function_apart : (c : Class) → is_coupled (state_function_use c) ≡ false
 state_function_apart Input = refl
-state_function_apart Driven = refl
-state_function_apart Alias = refl
-state_function_apart Shared = refl
-state_function_apart Node = refl
-state_function_apart Variable = refl
+state_function_apart _ = refl
 
 number_is_there : (i : ℕ) (number : Option ℕ) → is_number i number ≡ true → number ≡ Some i
 number_is_there i None h = absurd cc

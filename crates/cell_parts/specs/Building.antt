@@ -49,10 +49,7 @@ number_in (state ∷ states) n name =
 abbrev pub number_as : List StateName → ℕ → ℕ → Class → List ℕ → ℕ
 number_as states pins i Input target = i
 number_as states pins i Driven target = i
-number_as states pins i Alias target = unwrap_or (number_in states pins target) i
-number_as states pins i Shared target = unwrap_or (number_in states pins target) i
-number_as states pins i NodeClass target = unwrap_or (number_in states pins target) i
-number_as states pins i Variable target = unwrap_or (number_in states pins target) i
+number_as states pins i _ target = unwrap_or (number_in states pins target) i
 
 abbrev pub numbers_from : List StateName → ℕ → List Class → ℕ → List (List ℕ) → List ℕ
 numbers_from states pins classes i [] = []
@@ -65,19 +62,13 @@ cell_numbers states pins v = numbers_from states pins v.classes 0 v.targets
 
 -- the function of a text, over the numbers of a cell
 abbrev pub function_in : List ℕ → Text → Option Node
-function_in to text.Absent = None
 function_in to (text.Reads f at) = Some (renamed_by to f)
-function_in to (text.Malformed at) = None
-function_in to (text.Unknown at) = None
-function_in to (text.Coupled at) = None
+function_in to _ = None
 
 -- the numbers of the names of a text are below a bound
 abbrev pub FitsText : ℕ → Text → Type 0
-FitsText n text.Absent = ⊤
 FitsText n (text.Reads f at) = name_bound f ≤ n
-FitsText n (text.Malformed at) = ⊤
-FitsText n (text.Unknown at) = ⊤
-FitsText n (text.Coupled at) = ⊤
+FitsText n _ = ⊤
 
 pub record FitsReading (n : ℕ) (r : StateReading) : Type 0 where
   pub data_fits : FitsText n r.data_text
@@ -155,9 +146,7 @@ source_of pins i = if nat_lt i pins then source.Pin i else source.State ((i - pi
 -- A second variable stands for its state and, where both `clear` and `preset` are written, for the names of both.
 abbrev pub supports_of_both : Option Node → Option Node → List ℕ
 supports_of_both (Some f) (Some g) = support_of f ++ support_of g
-supports_of_both None None = []
-supports_of_both None (Some g) = []
-supports_of_both (Some f) None = []
+supports_of_both _ _ = []
 
 abbrev pub second_support : ℕ → GroupKind → List ℕ
 second_support name (kind.Ff k) = name ∷ supports_of_both k.clear k.preset

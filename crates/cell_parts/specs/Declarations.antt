@@ -61,11 +61,7 @@ declared_of cell = flat_map declared_in (inner_groups cell.items)
 abbrev pub may_share : Role → Role → Bool
 may_share Bearer Node = true
 may_share Node Bearer = true
-may_share Bearer Bearer = false
-may_share Node Node = false
-may_share Plain other = false
-may_share Bearer Plain = false
-may_share Node Plain = false
+may_share _ _ = false
 
 abbrev pub clashes : Declared → Declared → Bool
 clashes one other = bytes_eq one.name other.name && not (may_share one.role other.role)

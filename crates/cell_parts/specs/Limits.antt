@@ -42,11 +42,8 @@ wide_function pins groups to written at =
     if nat_lt 10 (length (sources_of pins groups (function_of to written))) then at ∷ [] else []
 
 abbrev pub wide_text : ℕ → List StateGroup → List ℕ → Text → List ℕ
-wide_text pins groups to text.Absent = []
 wide_text pins groups to (text.Reads f at) = wide_function pins groups to (text.Reads f at) at
-wide_text pins groups to (text.Malformed at) = []
-wide_text pins groups to (text.Unknown at) = []
-wide_text pins groups to (text.Coupled at) = []
+wide_text pins groups to _ = []
 
 unfoldable pub wide_output : Vocabulary → ℕ → List StateGroup → List ℕ → Group → List ℕ
 wide_output v pins groups to owner =

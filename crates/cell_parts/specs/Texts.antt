@@ -27,35 +27,24 @@ abbrev pub control_use : Class → Use
 control_use Input = use_.Allowed
 control_use Driven = use_.Unknown
 control_use Alias = use_.Unknown
-control_use Shared = use_.Coupled
-control_use Node = use_.Coupled
-control_use Variable = use_.Coupled
+control_use _ = use_.Coupled
 
 abbrev pub own_use : Bool → Class → Use
-own_use own Input = use_.Allowed
-own_use own Driven = use_.Unknown
-own_use own Alias = use_.Unknown
-own_use own Shared = use_.Coupled
-own_use own Node = use_.Coupled
 own_use own Variable = if own then use_.Allowed else use_.Coupled
+own_use own class = control_use class
 
 -- `function` names input pins and the variables of `ff` and `latch` groups.
 abbrev pub function_use : Class → Use
 function_use Input = use_.Allowed
-function_use Driven = use_.Unknown
-function_use Alias = use_.Unknown
-function_use Shared = use_.Unknown
-function_use Node = use_.Unknown
 function_use Variable = use_.Allowed
+function_use _ = use_.Unknown
 
 -- `state_function` names input pins and internal pins that name a node.
 abbrev pub state_function_use : Class → Use
 state_function_use Input = use_.Allowed
-state_function_use Driven = use_.Unknown
 state_function_use Alias = use_.Allowed
 state_function_use Shared = use_.Allowed
-state_function_use Node = use_.Unknown
-state_function_use Variable = use_.Unknown
+state_function_use _ = use_.Unknown
 
 abbrev pub is_number : ℕ → Option ℕ → Bool
 is_number i number = option_map_or (λ j. i == j) number false
@@ -68,14 +57,12 @@ use_of scope.Function i class = function_use class
 use_of scope.StateFunction i class = state_function_use class
 
 abbrev pub is_unknown : Use → Bool
-is_unknown use_.Allowed = false
 is_unknown use_.Unknown = true
-is_unknown use_.Coupled = false
+is_unknown _ = false
 
 abbrev pub is_coupled : Use → Bool
-is_coupled use_.Allowed = false
-is_coupled use_.Unknown = false
 is_coupled use_.Coupled = true
+is_coupled _ = false
 
 -- what the name of a number is; a number that no name has counts as a pin that nothing reads
 abbrev pub class_at : List Class → ℕ → Class
@@ -111,12 +98,9 @@ text_as v scope (Some attribute) = judged v.classes scope attribute.at (reading_
 
 -- `internal_node` names a node, or the internal pin that bears its name.
 abbrev pub is_node_class : Class → Bool
-is_node_class Input = false
-is_node_class Driven = false
-is_node_class Alias = false
 is_node_class Shared = true
 is_node_class Node = true
-is_node_class Variable = false
+is_node_class _ = false
 
 abbrev pub node_at : List Class → ℕ → Option ℕ → Text
 node_at classes at None = text.Unknown at
@@ -127,30 +111,18 @@ node_text v attribute = node_at v.classes attribute.at (number_of v.names attrib
 
 -- The offsets at which texts are wrong.
 abbrev pub malformed_at : Text → List ℕ
-malformed_at text.Absent = []
-malformed_at (text.Reads f at) = []
 malformed_at (text.Malformed at) = at ∷ []
-malformed_at (text.Unknown at) = []
-malformed_at (text.Coupled at) = []
+malformed_at _ = []
 
 abbrev pub unknown_at : Text → List ℕ
-unknown_at text.Absent = []
-unknown_at (text.Reads f at) = []
-unknown_at (text.Malformed at) = []
 unknown_at (text.Unknown at) = at ∷ []
-unknown_at (text.Coupled at) = []
+unknown_at _ = []
 
 abbrev pub coupled_at : Text → List ℕ
-coupled_at text.Absent = []
-coupled_at (text.Reads f at) = []
-coupled_at (text.Malformed at) = []
-coupled_at (text.Unknown at) = []
 coupled_at (text.Coupled at) = at ∷ []
+coupled_at _ = []
 
 -- the names that a text names, ascending
 abbrev pub text_support : Text → List ℕ
-text_support text.Absent = []
 text_support (text.Reads f at) = support_of f
-text_support (text.Malformed at) = []
-text_support (text.Unknown at) = []
-text_support (text.Coupled at) = []
+text_support _ = []

@@ -46,12 +46,9 @@ class_as states group name (Some direction.Output) = Driven
 class_as states group name (Some direction.Internal) = internal_class states name (attribute_of group (codes "internal_node"))
 
 abbrev pub is_bound : Class → Bool
-is_bound Input = false
-is_bound Driven = false
 is_bound Alias = true
 is_bound Shared = true
-is_bound Node = false
-is_bound Variable = false
+is_bound _ = false
 
 -- what a pin of this class and name stands for
 abbrev pub target_as : Group → List ℕ → Class → List ℕ

@@ -152,6 +152,19 @@ pub struct Known {
     pub nodes: Names,
 }
 
+impl Known {
+    /// Those with which a name of this role clashes.
+    fn against(&self, role: Role) -> &Names
+        ensures { (earlier : List DeclaredName) → IsKnown earlier self.now → IsAgainst role earlier result.now }
+    {
+        match role {
+            Role::Plain => &self.plain,
+            Role::Bearer => &self.bearers,
+            Role::Node => &self.nodes,
+        }
+    }
+}
+
 /// Adds a name to those with which a name of this role clashes, unless the two may share it.
 fn keep(names: &mut Names, role: Role, one: &Declared<'_>) -> Result<(), AllocError>
     ensures { OnOk result ((earlier : List DeclaredName) → IsAgainst role earlier names.old → IsAgainst role (earlier ++ shown_name one.now ∷ []) names.new) }
@@ -175,11 +188,7 @@ fn add(known: &mut Known, one: &Declared<'_>) -> Result<(), AllocError>
 fn clashes_with(known: &Known, one: &Declared<'_>) -> bool
     ensures { (earlier : List DeclaredName) → IsKnown earlier known.now → result ≡ list_any (clashes_of (shown_name one.now)) earlier }
 {
-    match one.role {
-        Role::Plain => known.plain.number(one.name).is_some(),
-        Role::Bearer => known.bearers.number(one.name).is_some(),
-        Role::Node => known.nodes.number(one.name).is_some(),
-    }
+    known.against(one.role).number(one.name).is_some()
 }
 
 /// The offset of a declared name, where it clashes with one of those that are declared so far.

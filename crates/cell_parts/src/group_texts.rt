@@ -31,78 +31,60 @@ fn own_scope(vocabulary: &Vocabulary<'_>, arguments: Option<Arguments<'_>>) -> S
     }
 }
 
-/// The text of the attribute of this name, which may name the group's own variables.
-fn own_text(
+/// The text of the attribute of this name, which may name what this scope allows.
+fn named_text(
     alloc: Global,
     vocabulary: &Vocabulary<'_>,
+    scope: Scope,
     group: &Group,
     name: &[u8],
 ) -> Result<Text, AllocError>
-    ensures { IfOk result (λ text. text ≡ text_as_of (shown_vocabulary vocabulary.now) (own_scope_of (shown_vocabulary vocabulary.now) (arguments_of_group group.now)) (attribute_of group.now name.now)) }
+    ensures { IfOk result (λ text. text ≡ text_as_of (shown_vocabulary vocabulary.now) scope (attribute_of group.now name.now)) }
 {
-    let own = own_scope(vocabulary, arguments_of(group));
-    text_as(alloc, vocabulary, own, last_attribute(group, name))
+    text_as(alloc, vocabulary, scope, last_attribute(group, name))
 }
 
-/// The text of the attribute of this name, which may not.
-fn other_text(
-    alloc: Global,
-    vocabulary: &Vocabulary<'_>,
-    group: &Group,
-    name: &[u8],
-) -> Result<Text, AllocError>
-    ensures { IfOk result (λ text. text ≡ text_as_of (shown_vocabulary vocabulary.now) scope_of.Control (attribute_of group.now name.now)) }
-{
-    text_as(
-        alloc,
-        vocabulary,
-        Scope::Control,
-        last_attribute(group, name),
-    )
+/// The names of the attributes that drive the state of a group.
+#[derive(Clone, Copy)]
+pub(crate) struct DrivingNames {
+    /// The one that gives the data: `next_state` or `data_in`.
+    pub(crate) data: &'static [u8],
+    /// The one that gives the clock or the enable: `clocked_on` or `enable`.
+    pub(crate) control: &'static [u8],
 }
 
-/// What drives the state of a group.
+/// The texts of an `ff` or `latch`.
 #[derive(Drop)]
-pub(crate) struct DrivingTexts {
+pub(crate) struct GroupTexts {
     /// `next_state` or `data_in`.
     pub(crate) data_text: Text,
     /// `clocked_on` or `enable`.
     pub(crate) control: Text,
-}
-
-/// What drives the state of a group, by the attributes of these names.
-pub(crate) fn driving_texts(
-    alloc: Global,
-    vocabulary: &Vocabulary<'_>,
-    group: &Group,
-    data_name: &[u8],
-    control_name: &[u8],
-) -> Result<DrivingTexts, AllocError>
-    ensures data_text { IfOk result (λ texts. texts.data_text ≡ text_as_of (shown_vocabulary vocabulary.now) (own_scope_of (shown_vocabulary vocabulary.now) (arguments_of_group group.now)) (attribute_of group.now data_name.now)) }
-    ensures control { IfOk result (λ texts. texts.control ≡ text_as_of (shown_vocabulary vocabulary.now) scope_of.Control (attribute_of group.now control_name.now)) }
-{
-    let data_text = own_text(alloc, vocabulary, group, data_name)?;
-    let control = other_text(alloc, vocabulary, group, control_name)?;
-    Ok(DrivingTexts { data_text, control })
-}
-
-/// What forces the state of a group.
-#[derive(Drop)]
-pub(crate) struct ForcingTexts {
     pub(crate) clear: Text,
     pub(crate) preset: Text,
 }
 
-/// What forces the state of a group.
-pub(crate) fn forcing_texts(
+/// The texts of a group, where the attributes of these names drive its state.
+pub(crate) fn group_texts(
     alloc: Global,
     vocabulary: &Vocabulary<'_>,
     group: &Group,
-) -> Result<ForcingTexts, AllocError>
+    names: DrivingNames,
+) -> Result<GroupTexts, AllocError>
+    ensures data_text { IfOk result (λ texts. texts.data_text ≡ text_as_of (shown_vocabulary vocabulary.now) (own_scope_of (shown_vocabulary vocabulary.now) (arguments_of_group group.now)) (attribute_of group.now names.data.now)) }
+    ensures control { IfOk result (λ texts. texts.control ≡ text_as_of (shown_vocabulary vocabulary.now) scope_of.Control (attribute_of group.now names.control.now)) }
     ensures clear { IfOk result (λ texts. texts.clear ≡ text_as_of (shown_vocabulary vocabulary.now) scope_of.Control (attribute_of group.now (codes "clear"))) }
     ensures preset { IfOk result (λ texts. texts.preset ≡ text_as_of (shown_vocabulary vocabulary.now) scope_of.Control (attribute_of group.now (codes "preset"))) }
 {
-    let clear = other_text(alloc, vocabulary, group, b"clear")?;
-    let preset = other_text(alloc, vocabulary, group, b"preset")?;
-    Ok(ForcingTexts { clear, preset })
+    let own = own_scope(vocabulary, arguments_of(group));
+    let data_text = named_text(alloc, vocabulary, own, group, names.data)?;
+    let control = named_text(alloc, vocabulary, Scope::Control, group, names.control)?;
+    let clear = named_text(alloc, vocabulary, Scope::Control, group, b"clear")?;
+    let preset = named_text(alloc, vocabulary, Scope::Control, group, b"preset")?;
+    Ok(GroupTexts {
+        data_text,
+        control,
+        clear,
+        preset,
+    })
 }

@@ -68,28 +68,29 @@ pub fn inner_groups(alloc: Global, cell: &Group) -> Result<Vec<&Group>, AllocErr
     Ok(groups)
 }
 
+/// Those of some groups that pass this test, in order.
+macro_rules! groups_that {
+    ($alloc:expr, $groups:expr, $passes:ident) => {{
+        let mut found = Vec::new($alloc);
+        for group in $groups {
+            if $passes(group) {
+                found.push(*group)?;
+            }
+        }
+        Ok(found)
+    }};
+}
+
 /// Those of some groups that make pins, in order.
 pub fn pins_among<'a>(alloc: Global, groups: &[&'a Group]) -> Result<Vec<&'a Group>, AllocError>
     ensures { IfOk result (λ pins. map (λ group. group.now) pins.items ≡ filter is_pin_of (map (λ group. group.now) groups.now)) }
 {
-    let mut pins = Vec::new(alloc);
-    for group in groups {
-        if is_pin(group) {
-            pins.push(*group)?;
-        }
-    }
-    Ok(pins)
+    groups_that!(alloc, groups, is_pin)
 }
 
 /// Those of some groups that hold states, in order.
 pub fn states_among<'a>(alloc: Global, groups: &[&'a Group]) -> Result<Vec<&'a Group>, AllocError>
     ensures { IfOk result (λ states. map (λ group. group.now) states.items ≡ filter is_state_of (map (λ group. group.now) groups.now)) }
 {
-    let mut states = Vec::new(alloc);
-    for group in groups {
-        if is_state(group) {
-            states.push(*group)?;
-        }
-    }
-    Ok(states)
+    groups_that!(alloc, groups, is_state)
 }

@@ -1,9 +1,9 @@
 //! What the groups that hold states say.
 ghost use Rattle.std.specs.Prelude.{◌≡◌, IfOk, map};
-ghost use Rattle.cell_parts.specs.StateReadings.{is_ff as is_ff_of, data_name as data_name_of, control_name as control_name_of, lacks_attribute as lacks_attribute_of, group_malformed as group_malformed_of, place_if as place_if_of, holds_state as holds_state_of, reading_of_texts as reading_of_texts_of, reading_of_table as reading_of_table_of, state_reading as state_reading_of};
+ghost use Rattle.cell_parts.specs.StateReadings.{is_ff as is_ff_of, data_name as data_name_of, control_name as control_name_of, lacks_attribute as lacks_attribute_of, group_malformed as group_malformed_of, place_if as place_if_of, holds_state as holds_state_of, reading_of_texts, reading_of_table, state_reading};
 ghost use Rattle.cell_parts.specs.Shown.{shown_vocabulary};
 
-use crate::group_texts::{driving_texts, forcing_texts};
+use crate::group_texts::{DrivingNames, group_texts};
 use crate::groups::{is_called, is_missing};
 use crate::states::{arguments_of, is_table, states_in};
 use crate::supports::{pins_among, support_of};
@@ -48,25 +48,21 @@ pub fn is_ff(group: &Group) -> bool
     is_called(group, b"ff")
 }
 
-/// The attribute that gives the data: `next_state` or `data_in`.
-fn data_name(group: &Group) -> &[u8]
-    ensures { result.now ≡ data_name_of group.now }
+/// The names of the attributes that drive the state of an `ff` or of a `latch`.
+fn driving_names(group: &Group) -> DrivingNames
+    ensures data { result.data.now ≡ data_name_of group.now }
+    ensures control { result.control.now ≡ control_name_of group.now }
 {
     if is_ff(group) {
-        b"next_state"
+        DrivingNames {
+            data: b"next_state",
+            control: b"clocked_on",
+        }
     } else {
-        b"data_in"
-    }
-}
-
-/// The attribute that gives the clock or the enable.
-fn control_name(group: &Group) -> &[u8]
-    ensures { result.now ≡ control_name_of group.now }
-{
-    if is_ff(group) {
-        b"clocked_on"
-    } else {
-        b"enable"
+        DrivingNames {
+            data: b"data_in",
+            control: b"enable",
+        }
     }
 }
 
@@ -77,8 +73,9 @@ fn lacks_attribute(group: &Group) -> bool
     if is_table(group) {
         return is_missing(group, b"table");
     }
-    let no_data = is_missing(group, data_name(group));
-    let no_control = is_missing(group, control_name(group));
+    let names = driving_names(group);
+    let no_data = is_missing(group, names.data);
+    let no_control = is_missing(group, names.control);
     if is_ff(group) {
         no_data || no_control
     } else {
@@ -111,85 +108,78 @@ fn group_malformed(group: &Group) -> Option<usize>
     )
 }
 
-/// What an `ff` or `latch` says.
-fn reading_of_texts(
+/// What the groups of a cell with so many pins are read with.
+#[derive(Clone, Copy)]
+struct Readings<'a, 'b> {
     alloc: Global,
-    vocabulary: &Vocabulary<'_>,
+    vocabulary: &'a Vocabulary<'b>,
     pins: usize,
-    group: &Group,
-) -> Result<StateReading, AllocError>
-    ensures { IfOk result (λ reading. reading ≡ reading_of_texts_of (shown_vocabulary vocabulary.now) pins group.now) }
-{
-    let holds = holds_state(alloc, group)?;
-    let data = data_name(group);
-    let driving = driving_texts(alloc, vocabulary, group, data, control_name(group))?;
-    let forcing = forcing_texts(alloc, vocabulary, group)?;
-    let support = support_of(
-        alloc,
-        pins,
-        &driving.data_text,
-        &driving.control,
-        &forcing.clear,
-        &forcing.preset,
-    )?;
-    Ok(StateReading {
-        at: group.at,
-        holds,
-        malformed: group_malformed(group),
-        unknown: None,
-        coupled: None,
-        data_text: driving.data_text,
-        control: driving.control,
-        clear: forcing.clear,
-        preset: forcing.preset,
-        inputs: Items::new(alloc),
-        support,
-    })
 }
 
-/// What a `statetable` says.
-fn reading_of_table(
-    alloc: Global,
-    vocabulary: &Vocabulary<'_>,
-    pins: usize,
-    group: &Group,
-) -> Result<StateReading, AllocError>
-    ensures { IfOk result (λ reading. reading ≡ reading_of_table_of (shown_vocabulary vocabulary.now) pins group.now) }
-{
-    let holds = holds_state(alloc, group)?;
-    let arguments = arguments_of(group);
-    let words = input_words(alloc, arguments)?;
-    let numbers = numbers_of(alloc, vocabulary, &words)?;
-    let support = pins_among(alloc, pins, &numbers)?;
-    let data_text = table_with(alloc, arguments, last_attribute(group, b"table"))?;
-    Ok(StateReading {
-        at: group.at,
-        holds,
-        malformed: group_malformed(group),
-        unknown: place_if(has_unknown_word(vocabulary, &words), group.at),
-        coupled: place_if(has_coupled_word(vocabulary, &words), group.at),
-        data_text,
-        control: Text::Absent,
-        clear: Text::Absent,
-        preset: Text::Absent,
-        inputs: Items::from_vec(numbers),
-        support,
-    })
-}
+impl Readings<'_, '_> {
+    /// What an `ff` or `latch` says.
+    fn of_texts(&self, group: &Group) -> Result<StateReading, AllocError>
+        ensures { IfOk result (λ reading. reading ≡ reading_of_texts (shown_vocabulary self.now.vocabulary.now) self.now.pins group.now) }
+    {
+        let holds = holds_state(self.alloc, group)?;
+        let texts = group_texts(self.alloc, self.vocabulary, group, driving_names(group))?;
+        let support = support_of(
+            self.alloc,
+            self.pins,
+            &texts.data_text,
+            &texts.control,
+            &texts.clear,
+            &texts.preset,
+        )?;
+        Ok(StateReading {
+            at: group.at,
+            holds,
+            malformed: group_malformed(group),
+            unknown: None,
+            coupled: None,
+            data_text: texts.data_text,
+            control: texts.control,
+            clear: texts.clear,
+            preset: texts.preset,
+            inputs: Items::new(self.alloc),
+            support,
+        })
+    }
 
-/// What a group that holds states says.
-fn state_reading(
-    alloc: Global,
-    vocabulary: &Vocabulary<'_>,
-    pins: usize,
-    group: &Group,
-) -> Result<StateReading, AllocError>
-    ensures { IfOk result (λ reading. reading ≡ state_reading_of (shown_vocabulary vocabulary.now) pins group.now) }
-{
-    if is_table(group) {
-        reading_of_table(alloc, vocabulary, pins, group)
-    } else {
-        reading_of_texts(alloc, vocabulary, pins, group)
+    /// What a `statetable` says.
+    fn of_table(&self, group: &Group) -> Result<StateReading, AllocError>
+        ensures { IfOk result (λ reading. reading ≡ reading_of_table (shown_vocabulary self.now.vocabulary.now) self.now.pins group.now) }
+    {
+        let holds = holds_state(self.alloc, group)?;
+        let arguments = arguments_of(group);
+        let words = input_words(self.alloc, arguments)?;
+        let numbers = numbers_of(self.alloc, self.vocabulary, &words)?;
+        let support = pins_among(self.alloc, self.pins, &numbers)?;
+        let data_text = table_with(self.alloc, arguments, last_attribute(group, b"table"))?;
+        Ok(StateReading {
+            at: group.at,
+            holds,
+            malformed: group_malformed(group),
+            unknown: place_if(has_unknown_word(self.vocabulary, &words), group.at),
+            coupled: place_if(has_coupled_word(self.vocabulary, &words), group.at),
+            data_text,
+            control: Text::Absent,
+            clear: Text::Absent,
+            preset: Text::Absent,
+            inputs: Items::from_vec(numbers),
+            support,
+        })
+    }
+
+    /// What a group that holds states says.
+    fn of_group(&self, group: &Group) -> Result<StateReading, AllocError>
+        ensures { IfOk result (λ reading. reading ≡ state_reading (shown_vocabulary self.now.vocabulary.now) self.now.pins group.now) }
+    {
+        if is_table(group) {
+            self.of_table(group)
+        } else {
+            self.of_texts(group)
+        }
     }
 }
 
@@ -200,11 +190,16 @@ pub fn state_readings(
     pins: usize,
     groups: &[&Group],
 ) -> Result<Items<StateReading>, AllocError>
-    ensures { IfOk result (λ readings. readings ≡ map (state_reading_of (shown_vocabulary vocabulary.now) pins) (map (λ group. group.now) groups.now)) }
+    ensures { IfOk result (λ readings. readings ≡ map (state_reading (shown_vocabulary vocabulary.now) pins) (map (λ group. group.now) groups.now)) }
 {
+    let with = Readings {
+        alloc,
+        vocabulary,
+        pins,
+    };
     let mut readings = Items::new(alloc);
     for group in groups {
-        readings.push(state_reading(alloc, vocabulary, pins, group)?)?;
+        readings.push(with.of_group(group)?)?;
     }
     Ok(readings)
 }

@@ -33,28 +33,30 @@ fn word_use(vocabulary: &Vocabulary<'_>, word: &[u8]) -> Use
     }
 }
 
+/// Whether what one of some words is passes this test.
+macro_rules! any_word {
+    ($vocabulary:expr, $words:expr, $passes:ident) => {{
+        for word in $words {
+            if word_use($vocabulary, word).$passes() {
+                return true;
+            }
+        }
+        false
+    }};
+}
+
 /// Whether a word among the inputs of a table names nothing.
 pub(crate) fn has_unknown_word(vocabulary: &Vocabulary<'_>, words: &[&[u8]]) -> bool
     ensures { result ≡ has_unknown_word_of (shown_vocabulary vocabulary.now) (map (λ word. word.now) words.now) }
 {
-    for word in words {
-        if word_use(vocabulary, word) == Use::Unknown {
-            return true;
-        }
-    }
-    false
+    any_word!(vocabulary, words, is_unknown)
 }
 
 /// Whether a word among the inputs of a table is a variable or node.
 pub(crate) fn has_coupled_word(vocabulary: &Vocabulary<'_>, words: &[&[u8]]) -> bool
     ensures { result ≡ has_coupled_word_of (shown_vocabulary vocabulary.now) (map (λ word. word.now) words.now) }
 {
-    for word in words {
-        if word_use(vocabulary, word) == Use::Coupled {
-            return true;
-        }
-    }
-    false
+    any_word!(vocabulary, words, is_coupled)
 }
 
 /// The number of a name.

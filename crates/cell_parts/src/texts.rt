@@ -23,6 +23,28 @@ pub enum Use {
     Coupled,
 }
 
+impl Use {
+    /// Whether it is nothing that the text may name.
+    pub(crate) fn is_unknown(self) -> bool
+        ensures { result ≡ is_unknown_use self }
+    {
+        match self {
+            Use::Unknown => true,
+            Use::Allowed | Use::Coupled => false,
+        }
+    }
+
+    /// Whether it would make one state hang on another one.
+    pub(crate) fn is_coupled(self) -> bool
+        ensures { result ≡ is_coupled_use self }
+    {
+        match self {
+            Use::Coupled => true,
+            Use::Allowed | Use::Unknown => false,
+        }
+    }
+}
+
 /// What a text may name.
 #[derive(Clone, Copy, Debug)]
 pub enum Scope {
@@ -70,10 +92,10 @@ fn own_use(own: bool, class: Class) -> Use
     ensures { result ≡ own_use_of own class }
 {
     match class {
-        Class::Input => Use::Allowed,
-        Class::Driven | Class::Alias => Use::Unknown,
-        Class::Shared | Class::Node => Use::Coupled,
         Class::Variable => { if own { Use::Allowed } else { Use::Coupled } }
+        Class::Input | Class::Driven | Class::Alias | Class::Shared | Class::Node => {
+            control_use(class)
+        }
     }
 }
 
@@ -142,24 +164,18 @@ fn use_at(classes: &[Class], scope: Scope, i: usize) -> Use
 fn has_unknown(classes: &[Class], scope: Scope, support: &[usize]) -> bool
     ensures { result ≡ list_any (λ i. is_unknown_use (use_at_place classes.now scope i)) support.now }
 {
-    for i in support {
-        if use_at(classes, scope, *i) == Use::Unknown {
-            return true;
-        }
-    }
-    false
+    support
+        .iter()
+        .any(|i| use_at(classes, scope, *i).is_unknown())
 }
 
 /// Whether one of these names makes one state hang on another one.
 fn has_coupled(classes: &[Class], scope: Scope, support: &[usize]) -> bool
     ensures { result ≡ list_any (λ i. is_coupled_use (use_at_place classes.now scope i)) support.now }
 {
-    for i in support {
-        if use_at(classes, scope, *i) == Use::Coupled {
-            return true;
-        }
-    }
-    false
+    support
+        .iter()
+        .any(|i| use_at(classes, scope, *i).is_coupled())
 }
 
 /// What a text with this tree is.

@@ -1,23 +1,18 @@
 //! The places of names that are declared, with all names before them in a list that finds a name at once.
 
 ghost use Rattle.std.specs.Prelude.{◌≡◌, [], ◌∷◌, ◌++◌, IfOk};
-ghost use Rattle.grammar_rules.specs.Reading.{read};
 ghost use Rattle.udp_tables.specs.VerilogRules.{new_name};
-ghost use Rattle.rule_readers.specs.Reading.{Reads};
+ghost use Rattle.rule_readers.specs.Reading.{read, Reads};
 
-use crate::language::Verilog;
+use crate::language::Cursor;
 use bool_functions::Names;
-use rule_readers::{Cursor, Stop};
+use rule_readers::{Read, Stop};
 use sqlite_items::Items;
 use std::alloc::Global;
 
 /// A name that is declared here, and was none of these before; it then is the last of them. Where the reading stops they may
 /// have one name more. It takes the time of one look-up, however many there are.
-pub fn declare(
-    cursor: &mut Cursor<'_, Verilog>,
-    alloc: Global,
-    names: &mut Names,
-) -> Result<Items<u8>, Stop>
+pub fn declare(cursor: &mut Cursor<'_>, alloc: Global, names: &mut Names) -> Read<Items<u8>>
     ensures reads { Reads (read (new_name names.old) cursor.old) result cursor.new }
     ensures added { IfOk result (λ name. names.new ≡ names.old ++ name ∷ []) }
 {

@@ -9,6 +9,9 @@ use verilog_tokens::is_name;
 /// The spelling of Verilog: upper and lower case differ.
 pub struct Verilog;
 
+/// A cursor over the tokens of a Verilog text.
+pub type Cursor<'a> = rule_readers::Cursor<'a, Verilog>;
+
 impl Language for Verilog {
     ghost use Rattle.std.specs.Str.{bytes_eq};
     ghost use Rattle.verilog_tokens.specs.Tokens.{is_name};

@@ -8,6 +8,6 @@ mod row;
 mod text_names;
 
 pub use declared::declare;
-pub use language::Verilog;
+pub use language::{Cursor, Verilog};
 pub use primitives::primitive;
 pub use text_names::TextNames;

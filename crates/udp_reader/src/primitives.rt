@@ -1,21 +1,19 @@
 //! Primitives, by recursive descent. (IEEE 1364-2005, clause 8.)
 
 ghost use Rattle.std.specs.Prelude.{◌≡◌, [], ◌∷◌, ◌++◌, IfOk};
-ghost use Rattle.grammar_rules.specs.Rule.{Token, Many};
-ghost use Rattle.grammar_rules.specs.Reading.{read};
 ghost use Rattle.rule_readers.specs.declared.refusal.Refusal.TheVariants.{Syntax};
 ghost use Rattle.udp_tables.specs.VerilogPrimitives as spec;
-ghost use Rattle.rule_readers.specs.Reading.{Reads, ReadsAs};
+ghost use Rattle.rule_readers.specs.Reading.{read, Token, Many, Reads, ReadsAs};
 ghost use Rattle.rule_readers.specs.Next.{next_bytes};
 ghost use Rattle.udp_tables.specs.VerilogRules.{any_name};
 ghost use Rattle.udp_reader.specs.Headers.{header_of, inputs_of};
 
 use crate::declared::declare;
-use crate::language::Verilog;
+use crate::language::Cursor;
 use crate::row::{begins_entry, row};
 use crate::text_names::TextNames;
 use bool_functions::Names;
-use rule_readers::{Cursor, Refusal, Stop};
+use rule_readers::{Read, Refusal, Stop, while_next};
 use sqlite_items::Items;
 use std::alloc::Global;
 use udp_tables::{Udp, UdpRow};
@@ -46,10 +44,7 @@ pub struct HeaderInputs<'a> {
 
 /// The name of the output, as the only one of a header.
 #[tactic(auto, using(crate::proofs::NewNames::any_fits, crate::proofs::NewNames::any_other))]
-fn first_name<'a>(
-    cursor: &mut Cursor<'a, Verilog>,
-    alloc: Global,
-) -> Result<(Items<u8>, TextNames<'a>), Stop>
+fn first_name<'a>(cursor: &mut Cursor<'a>, alloc: Global) -> Read<(Items<u8>, TextNames<'a>)>
     ensures reads { ReadsAs (λ first. first.0) (read any_name cursor.old) result cursor.new }
     ensures named { IfOk result (λ first. first.1 ≡ first.0 ∷ []) }
 {
@@ -66,11 +61,11 @@ fn first_name<'a>(
 /// One more input of a header with this output.
 #[tactic(auto, unfolding(udp_tables::specs::VerilogPrimitives::next_input), using(crate::proofs::NewNames::new_fits, crate::proofs::NewNames::new_taken, crate::proofs::NewNames::new_other))]
 fn next_input<'a>(
-    cursor: &mut Cursor<'a, Verilog>,
+    cursor: &mut Cursor<'a>,
     alloc: Global,
     output: &[u8],
     before: HeaderInputs<'a>,
-) -> Result<HeaderInputs<'a>, Stop>
+) -> Read<HeaderInputs<'a>>
     requires { before.names ≡ output.now ∷ before.inputs }
     ensures reads { ReadsAs inputs_of (read (spec.next_input output.now before.entry.inputs) cursor.old) result cursor.new }
     ensures named { IfOk result (λ more. more.names ≡ output.now ∷ more.inputs) }
@@ -90,29 +85,28 @@ fn next_input<'a>(
 }
 
 /// The inputs of a header with this output behind these.
-#[tactic(auto, unfolding(udp_tables::specs::VerilogPrimitives::more_inputs), using(rule_readers::proofs::Repeats::turn, crate::proofs::Words::choose_begun, crate::proofs::Words::choose_other))]
+#[tactic(auto, unfolding(udp_tables::specs::VerilogPrimitives::more_inputs), using(rule_readers::proofs::Repeats::turns))]
 fn more_inputs<'a>(
-    cursor: &mut Cursor<'a, Verilog>,
+    cursor: &mut Cursor<'a>,
     alloc: Global,
     output: &[u8],
     mut found: HeaderInputs<'a>,
-) -> Result<HeaderInputs<'a>, Stop>
+) -> Read<HeaderInputs<'a>>
     requires { found.names ≡ output.now ∷ found.inputs }
     ensures { ReadsAs inputs_of (read (spec.more_inputs output.now found.entry.inputs) cursor.old) result cursor.new }
 {
-    for _turn in 0..cursor.left() {
-        if !cursor.is_next(b",") {
-            break;
-        }
-        cursor.skip();
-        found = next_input(cursor, alloc, output, found)?;
-    }
+    while_next!(
+        cursor,
+        _turn,
+        b",",
+        found = next_input(cursor, alloc, output, found)
+    );
     Ok(found)
 }
 
 /// The header of a primitive, behind its name.
 #[tactic(auto, unfolding(udp_tables::specs::VerilogPrimitives::header))]
-fn primitive_header(cursor: &mut Cursor<'_, Verilog>, alloc: Global) -> Result<Header, Stop>
+fn primitive_header(cursor: &mut Cursor<'_>, alloc: Global) -> Read<Header>
     ensures { ReadsAs header_of (read spec.header cursor.old) result cursor.new }
 {
     cursor.expect(b"(")?;
@@ -131,7 +125,7 @@ fn primitive_header(cursor: &mut Cursor<'_, Verilog>, alloc: Global) -> Result<H
 
 /// The declaration of the output.
 #[tactic(auto, unfolding(udp_tables::specs::VerilogPrimitives::declared_output))]
-fn primitive_output(cursor: &mut Cursor<'_, Verilog>, output: &[u8]) -> Result<(), Stop>
+fn primitive_output(cursor: &mut Cursor<'_>, output: &[u8]) -> Read<()>
     ensures { Reads (read (spec.declared_output output.now) cursor.old) result cursor.new }
 {
     cursor.expect(b"output")?;
@@ -141,7 +135,7 @@ fn primitive_output(cursor: &mut Cursor<'_, Verilog>, output: &[u8]) -> Result<(
 
 /// The declaration of the state, behind its word.
 #[tactic(auto, unfolding(udp_tables::specs::VerilogPrimitives::declared_state))]
-fn primitive_state(cursor: &mut Cursor<'_, Verilog>, output: &[u8]) -> Result<bool, Stop>
+fn primitive_state(cursor: &mut Cursor<'_>, output: &[u8]) -> Read<bool>
     ensures { Reads (read (spec.declared_state output.now) cursor.old) result cursor.new }
 {
     cursor.this_name(output)?;
@@ -151,7 +145,7 @@ fn primitive_state(cursor: &mut Cursor<'_, Verilog>, output: &[u8]) -> Result<bo
 
 /// Whether the primitive has a state.
 #[tactic(auto, unfolding(udp_tables::specs::VerilogPrimitives::register))]
-fn primitive_register(cursor: &mut Cursor<'_, Verilog>, header: &Header) -> Result<bool, Stop>
+fn primitive_register(cursor: &mut Cursor<'_>, header: &Header) -> Read<bool>
     ensures { Reads (read (spec.register (header_of header.now)) cursor.old) result cursor.new }
 {
     if !cursor.is_next(b"reg") {
@@ -164,11 +158,7 @@ fn primitive_register(cursor: &mut Cursor<'_, Verilog>, header: &Header) -> Resu
 
 /// One more declared input, where so many are declared.
 #[tactic(auto, unfolding(udp_tables::specs::VerilogPrimitives::declared_input))]
-fn primitive_input(
-    cursor: &mut Cursor<'_, Verilog>,
-    inputs: &[Items<u8>],
-    count: usize,
-) -> Result<usize, Stop>
+fn primitive_input(cursor: &mut Cursor<'_>, inputs: &[Items<u8>], count: usize) -> Read<usize>
     ensures { Reads (read (spec.declared_input inputs.now count) cursor.old) result cursor.new }
 {
     let Some(name) = inputs.get(count) else {
@@ -180,30 +170,29 @@ fn primitive_input(
 }
 
 /// The declarations of all inputs.
-#[tactic(auto, unfolding(udp_tables::specs::VerilogPrimitives::declared_inputs), using(rule_readers::proofs::Repeats::turn, crate::proofs::Words::choose_begun, crate::proofs::Words::choose_other))]
-fn primitive_inputs(cursor: &mut Cursor<'_, Verilog>, inputs: &[Items<u8>]) -> Result<(), Stop>
+#[tactic(auto, unfolding(udp_tables::specs::VerilogPrimitives::declared_inputs), using(rule_readers::proofs::Repeats::turns))]
+fn primitive_inputs(cursor: &mut Cursor<'_>, inputs: &[Items<u8>]) -> Read<()>
     ensures { Reads (read (spec.declared_inputs inputs.now) cursor.old) result cursor.new }
 {
     let mut count = 0;
-    for _turn in 0..cursor.left() {
-        if !cursor.is_next(b"input") {
-            break;
-        }
-        cursor.skip();
-        count = primitive_input(cursor, inputs, count)?;
-    }
+    while_next!(
+        cursor,
+        _turn,
+        b"input",
+        count = primitive_input(cursor, inputs, count)
+    );
     cursor.go_on_where(count == inputs.len())
 }
 
 /// One more row, behind its first token.
 #[tactic(auto, unfolding(udp_tables::specs::VerilogPrimitives::next_row))]
 fn first_row(
-    cursor: &mut Cursor<'_, Verilog>,
+    cursor: &mut Cursor<'_>,
     alloc: Global,
     sequential: bool,
     inputs: usize,
     first: &[u8],
-) -> Result<Items<UdpRow>, Stop>
+) -> Read<Items<UdpRow>>
     ensures { Reads (read (spec.next_row sequential inputs [] first.now) cursor.old) result cursor.new }
 {
     let mut rows = Items::from_vec(Vec::with_capacity(alloc, SOME_ROWS)?);
@@ -214,12 +203,12 @@ fn first_row(
 /// The rows of a table behind these.
 #[tactic(auto, unfolding(udp_tables::specs::VerilogPrimitives::next_row), using(rule_readers::proofs::Repeats::turn, crate::proofs::Entries::no_row, crate::proofs::Entries::one_row))]
 fn more_rows(
-    cursor: &mut Cursor<'_, Verilog>,
+    cursor: &mut Cursor<'_>,
     alloc: Global,
     sequential: bool,
     inputs: usize,
     mut rows: Items<UdpRow>,
-) -> Result<Items<UdpRow>, Stop>
+) -> Read<Items<UdpRow>>
     ensures { Reads (read (Many (λ _. spec.begins_row sequential) (spec.next_row sequential inputs) rows) cursor.old) result cursor.new }
 {
     for _turn in 0..cursor.left() {
@@ -234,7 +223,7 @@ fn more_rows(
 }
 
 /// Goes behind the first token of a table's first row.
-fn begin_row(cursor: &mut Cursor<'_, Verilog>, sequential: bool) -> Result<(), Stop>
+fn begin_row(cursor: &mut Cursor<'_>, sequential: bool) -> Read<()>
     ensures { ReadsAs (λ _. next_bytes cursor.old) (read (Token (spec.first_of_row sequential) Syntax) cursor.old) result cursor.new }
 {
     if !begins_entry(sequential, cursor.bytes()) {
@@ -247,11 +236,11 @@ fn begin_row(cursor: &mut Cursor<'_, Verilog>, sequential: bool) -> Result<(), S
 /// The table of a primitive.
 #[tactic(auto, unfolding(udp_tables::specs::VerilogPrimitives::table))]
 fn table(
-    cursor: &mut Cursor<'_, Verilog>,
+    cursor: &mut Cursor<'_>,
     alloc: Global,
     sequential: bool,
     inputs: usize,
-) -> Result<Items<UdpRow>, Stop>
+) -> Read<Items<UdpRow>>
     ensures { Reads (read (spec.table sequential inputs) cursor.old) result cursor.new }
 {
     cursor.expect(b"table")?;
@@ -266,11 +255,7 @@ fn table(
 /// A primitive behind the word `primitive`, where primitives and modules of these names stand before it. Its own name is then
 /// the last of them; where the reading stops they may have one name more.
 #[tactic(auto, unfolding(udp_tables::specs::VerilogPrimitives::primitive))]
-pub fn primitive(
-    cursor: &mut Cursor<'_, Verilog>,
-    alloc: Global,
-    names: &mut Names,
-) -> Result<Udp, Stop>
+pub fn primitive(cursor: &mut Cursor<'_>, alloc: Global, names: &mut Names) -> Read<Udp>
     ensures reads { Reads (read (spec.primitive names.old) cursor.old) result cursor.new }
     ensures added { IfOk result (λ udp. names.new ≡ names.old ++ udp.name ∷ []) }
 {

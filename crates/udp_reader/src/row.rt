@@ -1,31 +1,15 @@
 //! The rows of a primitive's table, by recursive descent. (IEEE 1364-2005, 8.1.4, 8.2 and 8.4.)
 
 ghost use Rattle.std.specs.Prelude.{◌≡◌, ◌&&◌, []};
-ghost use Rattle.grammar_rules.specs.Reading.{read};
 ghost use Rattle.rule_readers.specs.Words.{valued};
 ghost use Rattle.udp_tables.specs.VerilogPrimitives as spec;
-ghost use Rattle.rule_readers.specs.Reading.{Reads};
+ghost use Rattle.rule_readers.specs.Reading.{read, Reads};
 
-use crate::language::Verilog;
-use rule_readers::{Cursor, Language, Refusal, Stop};
+use crate::language::{Cursor, Verilog};
+use rule_readers::{Language, Read, Refusal, Stop};
 use sqlite_items::Items;
 use std::alloc::Global;
 use udp_tables::{Entry, Level, Next, UdpRow};
-
-/// The level that a symbol stands for.
-#[inline(always)]
-fn level_by(byte: u8) -> Option<Level>
-    ensures { result ≡ spec.level_by byte }
-{
-    match byte {
-        b'0' => Some(Level::Zero),
-        b'1' => Some(Level::One),
-        b'x' | b'X' => Some(Level::Unknown),
-        b'?' => Some(Level::Any),
-        b'b' | b'B' => Some(Level::Binary),
-        _ => None,
-    }
-}
 
 /// The level that a token stands for.
 #[inline(always)]
@@ -33,22 +17,14 @@ fn level(token: &[u8]) -> Option<Level>
     ensures { result ≡ spec.symbol spec.level_by token.now }
 {
     match token {
-        [byte] => level_by(*byte),
-        _ => None,
-    }
-}
-
-/// The change that a symbol stands for.
-#[inline(always)]
-fn change_by(byte: u8) -> Option<Entry>
-    ensures { result ≡ spec.change_by byte }
-{
-    match byte {
-        b'r' | b'R' => Some(Entry::R),
-        b'f' | b'F' => Some(Entry::F),
-        b'p' | b'P' => Some(Entry::P),
-        b'n' | b'N' => Some(Entry::N),
-        b'*' => Some(Entry::Star),
+        [byte] => match byte {
+            b'0' => Some(Level::Zero),
+            b'1' => Some(Level::One),
+            b'x' | b'X' => Some(Level::Unknown),
+            b'?' => Some(Level::Any),
+            b'b' | b'B' => Some(Level::Binary),
+            _ => None,
+        },
         _ => None,
     }
 }
@@ -59,21 +35,14 @@ fn change(token: &[u8]) -> Option<Entry>
     ensures { result ≡ spec.symbol spec.change_by token.now }
 {
     match token {
-        [byte] => change_by(*byte),
-        _ => None,
-    }
-}
-
-/// What a symbol gives as an output.
-#[inline(always)]
-fn next_by(sequential: bool, byte: u8) -> Option<Next>
-    ensures { result ≡ spec.next_by sequential byte }
-{
-    match byte {
-        b'0' => Some(Next::Zero),
-        b'1' => Some(Next::One),
-        b'x' | b'X' => Some(Next::Unknown),
-        b'-' if sequential => Some(Next::Keep),
+        [byte] => match byte {
+            b'r' | b'R' => Some(Entry::R),
+            b'f' | b'F' => Some(Entry::F),
+            b'p' | b'P' => Some(Entry::P),
+            b'n' | b'N' => Some(Entry::N),
+            b'*' => Some(Entry::Star),
+            _ => None,
+        },
         _ => None,
     }
 }
@@ -84,7 +53,13 @@ fn next(sequential: bool, token: &[u8]) -> Option<Next>
     ensures { result ≡ spec.symbol (spec.next_by sequential) token.now }
 {
     match token {
-        [byte] => next_by(sequential, *byte),
+        [byte] => match byte {
+            b'0' => Some(Next::Zero),
+            b'1' => Some(Next::One),
+            b'x' | b'X' => Some(Next::Unknown),
+            b'-' if sequential => Some(Next::Keep),
+            _ => None,
+        },
         _ => None,
     }
 }
@@ -138,7 +113,7 @@ fn begins_second_change(entries: &[Entry], token: &[u8]) -> bool
 
 /// A level.
 #[tactic(auto, using(rule_readers::proofs::Values::valued_found))]
-fn a_level(cursor: &mut Cursor<'_, Verilog>) -> Result<Level, Stop>
+fn a_level(cursor: &mut Cursor<'_>) -> Read<Level>
     ensures { Reads (read spec.a_level cursor.old) result cursor.new }
 {
     let found = level(cursor.bytes());
@@ -147,7 +122,7 @@ fn a_level(cursor: &mut Cursor<'_, Verilog>) -> Result<Level, Stop>
 
 /// What a row gives as an output.
 #[tactic(auto, using(rule_readers::proofs::Values::valued_found))]
-fn an_output(cursor: &mut Cursor<'_, Verilog>, sequential: bool) -> Result<Next, Stop>
+fn an_output(cursor: &mut Cursor<'_>, sequential: bool) -> Read<Next>
     ensures { Reads (read (valued (spec.symbol (spec.next_by sequential))) cursor.old) result cursor.new }
 {
     let found = next(sequential, cursor.bytes());
@@ -156,7 +131,7 @@ fn an_output(cursor: &mut Cursor<'_, Verilog>, sequential: bool) -> Result<Next,
 
 /// A change from a level to another, behind its bracket.
 #[tactic(auto, unfolding(udp_tables::specs::VerilogPrimitives::pair))]
-fn pair(cursor: &mut Cursor<'_, Verilog>) -> Result<Entry, Stop>
+fn pair(cursor: &mut Cursor<'_>) -> Read<Entry>
     ensures { Reads (read spec.pair cursor.old) result cursor.new }
 {
     let before = a_level(cursor)?;
@@ -166,7 +141,7 @@ fn pair(cursor: &mut Cursor<'_, Verilog>) -> Result<Entry, Stop>
 }
 
 /// An entry, behind its first token.
-fn entry_after(cursor: &mut Cursor<'_, Verilog>, first: &[u8]) -> Result<Entry, Stop>
+fn entry_after(cursor: &mut Cursor<'_>, first: &[u8]) -> Read<Entry>
     ensures { Reads (read (spec.entry_after first.now) cursor.old) result cursor.new }
 {
     match whole_entry(first) {
@@ -178,11 +153,11 @@ fn entry_after(cursor: &mut Cursor<'_, Verilog>, first: &[u8]) -> Result<Entry, 
 /// The first entry of a row, behind its first token, with room for so many entries.
 #[tactic(auto, unfolding(udp_tables::specs::VerilogPrimitives::next_entry))]
 fn first_entry(
-    cursor: &mut Cursor<'_, Verilog>,
+    cursor: &mut Cursor<'_>,
     alloc: Global,
     room: usize,
     first: &[u8],
-) -> Result<Items<Entry>, Stop>
+) -> Read<Items<Entry>>
     ensures { Reads (read (spec.next_entry [] first.now) cursor.old) result cursor.new }
 {
     let mut entries = Items::from_vec(Vec::with_capacity(alloc, room)?);
@@ -193,10 +168,10 @@ fn first_entry(
 /// The entries of a row behind these. A level, as most of them are, is told by one look at its token.
 #[tactic(auto, unfolding(udp_tables::specs::VerilogPrimitives::more_entries, udp_tables::specs::VerilogPrimitives::next_entry), using(rule_readers::proofs::Repeats::turn, crate::proofs::Entries::no_entry, crate::proofs::Entries::second_change, crate::proofs::Entries::one_entry))]
 fn more_entries(
-    cursor: &mut Cursor<'_, Verilog>,
+    cursor: &mut Cursor<'_>,
     sequential: bool,
     mut entries: Items<Entry>,
-) -> Result<Items<Entry>, Stop>
+) -> Read<Items<Entry>>
     ensures { Reads (read (spec.more_entries sequential entries) cursor.old) result cursor.new }
 {
     for _turn in 0..cursor.left() {
@@ -220,7 +195,7 @@ fn more_entries(
 
 /// The state and the output of a row with a state, behind its entries.
 #[tactic(auto, unfolding(udp_tables::specs::VerilogPrimitives::state_and_next))]
-fn state_and_next(cursor: &mut Cursor<'_, Verilog>, inputs: Items<Entry>) -> Result<UdpRow, Stop>
+fn state_and_next(cursor: &mut Cursor<'_>, inputs: Items<Entry>) -> Read<UdpRow>
     ensures { Reads (read (spec.state_and_next inputs) cursor.old) result cursor.new }
 {
     let state = a_level(cursor)?;
@@ -236,7 +211,7 @@ fn state_and_next(cursor: &mut Cursor<'_, Verilog>, inputs: Items<Entry>) -> Res
 
 /// The output of a row without a state, behind its entries.
 #[tactic(auto, unfolding(udp_tables::specs::VerilogPrimitives::output_level))]
-fn output_level(cursor: &mut Cursor<'_, Verilog>, inputs: Items<Entry>) -> Result<UdpRow, Stop>
+fn output_level(cursor: &mut Cursor<'_>, inputs: Items<Entry>) -> Read<UdpRow>
     ensures { Reads (read (spec.output_level inputs) cursor.old) result cursor.new }
 {
     let next = an_output(cursor, false)?;
@@ -249,11 +224,7 @@ fn output_level(cursor: &mut Cursor<'_, Verilog>, inputs: Items<Entry>) -> Resul
 }
 
 /// What stands behind the entries of a row.
-fn row_end(
-    cursor: &mut Cursor<'_, Verilog>,
-    sequential: bool,
-    inputs: Items<Entry>,
-) -> Result<UdpRow, Stop>
+fn row_end(cursor: &mut Cursor<'_>, sequential: bool, inputs: Items<Entry>) -> Read<UdpRow>
     ensures { Reads (read (spec.row_end sequential inputs) cursor.old) result cursor.new }
 {
     if sequential {
@@ -266,12 +237,12 @@ fn row_end(
 /// A row with an entry for each of so many inputs, behind its first token.
 #[tactic(auto, unfolding(udp_tables::specs::VerilogPrimitives::row))]
 pub fn row(
-    cursor: &mut Cursor<'_, Verilog>,
+    cursor: &mut Cursor<'_>,
     alloc: Global,
     sequential: bool,
     inputs: usize,
     first: &[u8],
-) -> Result<UdpRow, Stop>
+) -> Read<UdpRow>
     ensures { Reads (read (spec.row sequential inputs first.now) cursor.old) result cursor.new }
 {
     let one = first_entry(cursor, alloc, inputs, first)?;

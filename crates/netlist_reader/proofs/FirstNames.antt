@@ -11,6 +11,7 @@ use Rattle.std.proofs.lemmas.Slice.Eq.{bytes_eq-Decides}
 use Rattle.bool_functions.specs.NameList.{number_of, Adds}
 use Rattle.netlist_reader.specs.declared.first_names.FirstNames.{FirstNames}
 use Rattle.netlist_reader.specs.FirstNames.{place_by, places_with, AddsPlace, FindsFirst}
+use Rattle.netlist_reader.specs.Netlist.{MayFind}
 
 -- the first answer, and else the number of the last element where it passes
 abbrev or_last : Option ℕ → Bool → ℕ → Option ℕ
@@ -116,3 +117,9 @@ first_more name_of old new xs i x h e f a =
 -- behind all things
 pub first_all : {X : Type 0} (name_of : X → List ℕ) (found : FirstNames) (xs : List X) (i : ℕ) → length xs ≤ i → FindsFirst name_of found (take i xs) → FindsFirst name_of found xs
 first_all name_of found xs i h f = subst (FindsFirst name_of found) (take_all i xs h) f
+
+-- the number of a name, where the names are kept
+pub may_find : {X : Type 0} (name_of : X → List ℕ) (kept : Option FirstNames) (things : List X) (found : FirstNames) (x : List ℕ) → MayFind name_of kept things → kept ≡ Some found
+    → place_by found x ≡ position (λ y. bytes_eq x (name_of y)) things
+may_find name_of (Some other) things found x f e = let same : other ≡ found = cc in subst (λ o. place_by o x ≡ position (λ y. bytes_eq x (name_of y)) things) same (f.first x)
+may_find name_of None things found x f e = absurd cc

@@ -1,22 +1,20 @@
 -- Nets that are found beside a module.
-use Rattle.std.proofs.Common.{◌≡◌, ℕ, ◌+◌, Bool, true, false, cond, not, ◌||◌, ◌&&◌, List, [], ◌∷◌, ◌++◌, nat_lt, Option, Some, None, refl, sym, ap, subst, ◌∙◌, arith}
+use Rattle.std.proofs.Common.{◌≡◌, ℕ, ◌+◌, Bool, true, false, cond, not, ◌||◌, ◌&&◌, List, [], ◌∷◌, ◌++◌, nat_lt, Option, Some, None, refl, sym, ap, subst, ◌∙◌, arith, if◌then◌else◌}
 use Rattle.std.specs.Prelude.{slice_get}
-use Rattle.std.specs.List.{list_any, position}
-use Rattle.std.specs.Str.{bytes_eq}
+use Rattle.std.specs.List.{list_any}
 use Rattle.udp_tables.specs.declared.table.Udp.{Udp}
 use Rattle.specify_blocks.specs.declared.model.VNet.{VNet}
 use Rattle.specify_blocks.specs.declared.model.VNet.TheVariants as net
 use Rattle.specify_blocks.specs.declared.model.Instance.{Instance}
 use Rattle.specify_blocks.specs.declared.model.VModule.{VModule}
-use Rattle.specify_blocks.specs.Nets.{same_net, net_driven, has_state, is_state, is_value, drivers}
-use Rattle.specify_blocks.specs.VerilogModules.{port_name, is_driven_already, primitive_number}
-use Rattle.specify_blocks.specs.VerilogBlocks.{port_of}
+use Rattle.specify_blocks.specs.Nets.{same_net, net_driven, has_state, drivers}
+use Rattle.specify_blocks.specs.VerilogModules.{is_driven_already}
 use Rattle.specify_blocks.proofs.InstanceLemmas.{drivers-cons}
 use Rattle.netlist_reader.specs.declared.driven_nets.DrivenNets.{DrivenNets}
 use Rattle.netlist_reader.specs.declared.first_names.FirstNames.{FirstNames}
-use Rattle.netlist_reader.specs.FirstNames.{place_by, own_name, udp_name}
-use Rattle.netlist_reader.specs.DrivenNets.{AreDriven, driven_by, drives_state, drives_value}
-use Rattle.netlist_reader.specs.Netlist.{MayFind, AreKeptOf}
+use Rattle.netlist_reader.specs.DrivenNets.{AreDriven, driven_by, drives_wire, drives_state, drives_value}
+use Rattle.netlist_reader.specs.Netlist.{AreKeptOf}
+use Rattle.rule_readers.proofs.Tests.{there}
 use Rattle.netlist_reader.proofs.DrivenNets.{driven_more}
 
 one_more : (b : Bool) (count : ℕ) (a : Bool) → nat_lt 0 count ≡ a → nat_lt 0 (cond b 1 0 + count) ≡ (b || a)
@@ -43,38 +41,16 @@ wire_any udps (i ∷ instances) w =
     either_way (has_state udps i) (same_net (net_driven i) (net.Wire w)) (list_any (drives_state udps w) instances) (list_any (drives_value udps w) instances)
     ∙ ap (λ b. same_net (net_driven i) (net.Wire w) || b) (wire_any udps instances w)
 
-first_true : (b c : Bool) → b ≡ true → b ≡ (b || c)
-first_true true c e = refl
-first_true false c e = absurd cc
-
 first_false : (b c : Bool) → b ≡ false → c ≡ (b || c)
 first_false true c e = absurd cc
 first_false false c e = refl
 
--- the number of a name, where the names are kept
-may_find : {X : Type 0} (name_of : X → List ℕ) (kept : Option FirstNames) (things : List X) (found : FirstNames) (x : List ℕ) → MayFind name_of kept things → kept ≡ Some found
-    → place_by found x ≡ position (λ y. bytes_eq x (name_of y)) things
-may_find name_of (Some other) things found x f e = let same : other ≡ found = cc in subst (λ o. place_by o x ≡ position (λ y. bytes_eq x (name_of y)) things) same (f.first x)
-may_find name_of None things found x f e = absurd cc
-
--- the number of a primitive, where the names of the primitives are kept
-pub primitive_found : (kept : Option FirstNames) (udps : List Udp) (found : FirstNames) (x : List ℕ) → MayFind udp_name kept udps → kept ≡ Some found
-    → place_by found x ≡ primitive_number udps x
-primitive_found kept udps found x f e = may_find udp_name kept udps found x f e
-
 module _ (m : VModule) (ports wires : Option FirstNames) (driven : DrivenNets) (k : AreKeptOf m ports wires driven) where
-  pub port_found : (found : FirstNames) (x : List ℕ) → ports ≡ Some found → place_by found x ≡ port_of m x
-  port_found found x e = may_find port_name ports m.ports found x k.ports e
-
-  pub wire_found : (found : FirstNames) (x : List ℕ) → wires ≡ Some found → place_by found x ≡ position (bytes_eq x) m.wires
-  wire_found found x e = may_find own_name wires m.wires found x k.wires e
-
   -- what a mark tells
-  pub state_told : (w : ℕ) (b : Bool) → slice_get driven.states w ≡ Some b → b ≡ is_state m m.instances w
-  state_told w b e = k.driven.states w b e
-
-  pub value_told : (w : ℕ) (b : Bool) → slice_get driven.values w ≡ Some b → b ≡ is_value m m.instances w
-  value_told w b e = k.driven.values w b e
+  pub wire_told_of : (stateful : Bool) (w : ℕ) (b : Bool) → slice_get (if stateful then driven.states else driven.values) w ≡ Some b
+      → b ≡ list_any (drives_wire stateful m.udps w) m.instances
+  wire_told_of true w b e = k.driven.states w b e
+  wire_told_of false w b e = k.driven.values w b e
 
   pub port_told : (p : ℕ) (b : Bool) → slice_get driven.ports p ≡ Some b → b ≡ is_driven_already m (net.Port p)
   port_told p b e = k.driven.ports p b e ∙ sym (driven_any m.instances (net.Port p))
@@ -85,24 +61,14 @@ module _ (m : VModule) (ports wires : Option FirstNames) (driven : DrivenNets) (
       ∙ wire_any m.udps m.instances w ∙ sym (driven_any m.instances (net.Wire w))
 
   pub wire_first : (w : ℕ) (b c : Bool) → slice_get driven.states w ≡ Some b → slice_get driven.values w ≡ Some c → b ≡ true → b ≡ is_driven_already m (net.Wire w)
-  wire_first w b c e f t = first_true b c t ∙ wire_told w b c e f
+  wire_first w b c e f t = there b c t ∙ wire_told w b c e f
 
   pub wire_second : (w : ℕ) (b c : Bool) → slice_get driven.states w ≡ Some b → slice_get driven.values w ≡ Some c → b ≡ false → c ≡ is_driven_already m (net.Wire w)
   wire_second w b c e f t = first_false b c t ∙ wire_told w b c e f
 
 -- the module with other instances
 abbrev pub with_instances : VModule → List Instance → VModule
-with_instances m instances =
-    record {
-      name = m.name;
-      ports = m.ports;
-      wires = m.wires;
-      notifier = m.notifier;
-      udps = m.udps;
-      instances = instances;
-      paths = m.paths;
-      checks = m.checks;
-    }
+with_instances m instances = record m { instances = instances }
 
 -- behind one instance more
 pub kept_next : (m : VModule) (ports wires : Option FirstNames) (driven new : DrivenNets) (udps : List Udp) (instances : List Instance) (i : Instance) (b : Bool) (n : VNet)

@@ -110,11 +110,15 @@ named_more m names nets x n a e =
     map-append (net_of m) names (x ∷ []) ∙ ap (λ ns. ns ++ net_of m x ∷ []) a ∙ ap (λ o. map Some nets ++ o ∷ []) e ∙ sym (map-append Some nets (n ∷ []))
 
 -- the terminal that is next, where its name is one of theirs, and where it is none
-module _ (m : VModule) (is_allowed : VNet → Bool) (names : List (List ℕ)) (nets : List VNet) (s : List (List ℕ)) (n : VNet) where
-  pub taken : AreNamed m names nets → is_name (next_bytes s) ≡ true → net_of m (next_bytes s) ≡ Some n → is_allowed n ≡ true → is_among names (next_bytes s) ≡ true →
+module _ (m : VModule) (is_allowed : VNet → Bool) (names : List (List ℕ)) (nets : List VNet) (s : List (List ℕ)) (n : VNet) (x : List ℕ) (next : x ≡ next_bytes s) where
+  pub taken : AreNamed m names nets → is_name x ≡ true → net_of m x ≡ Some n → is_allowed n ≡ true → is_among names x ≡ true →
       read (terminal m is_allowed (λ k. list_any (same_net k) nets)) s ≡ Err (Twice, s)
-  taken a e f g h = named.taken m is_allowed (λ k. list_any (same_net k) nets) s n e f g (sym (is_terminal m names nets (next_bytes s) n a f) ∙ h)
+  taken a e f g h =
+      named.taken m is_allowed (λ k. list_any (same_net k) nets) s n (ap is_name (sym next) ∙ e) (ap (net_of m) (sym next) ∙ f) g
+      (sym (is_terminal m names nets x n a f) ∙ h)
 
-  pub fits : AreNamed m names nets → is_name (next_bytes s) ≡ true → net_of m (next_bytes s) ≡ Some n → is_allowed n ≡ true → is_among names (next_bytes s) ≡ false →
+  pub fits : AreNamed m names nets → is_name x ≡ true → net_of m x ≡ Some n → is_allowed n ≡ true → is_among names x ≡ false →
       read (terminal m is_allowed (λ k. list_any (same_net k) nets)) s ≡ Ok (n, rest s)
-  fits a e f g h = named.fits m is_allowed (λ k. list_any (same_net k) nets) s n e f g (sym (is_terminal m names nets (next_bytes s) n a f) ∙ h)
+  fits a e f g h =
+      named.fits m is_allowed (λ k. list_any (same_net k) nets) s n (ap is_name (sym next) ∙ e) (ap (net_of m) (sym next) ∙ f) g
+      (sym (is_terminal m names nets x n a f) ∙ h)

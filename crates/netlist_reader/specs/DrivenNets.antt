@@ -1,5 +1,5 @@
 -- The nets that instances drive, told by marks.
-use Rattle.std.specs.Prelude.{◌≡◌, ℕ, Bool, true, false, not, ◌&&◌, List, slice_get, slice_set, Some}
+use Rattle.std.specs.Prelude.{◌≡◌, ℕ, Bool, true, false, not, ◌&&◌, if◌then◌else◌, List, slice_get, slice_set, Some}
 use Rattle.std.specs.List.{list_any}
 use Rattle.udp_tables.specs.declared.table.Udp.{Udp}
 use Rattle.specify_blocks.specs.declared.model.VNet.{VNet}
@@ -15,11 +15,15 @@ Tell test marks instances = (n : ℕ) (b : Bool) → slice_get marks n ≡ Some 
 abbrev pub drives_port : ℕ → Instance → Bool
 drives_port p i = same_net (net_driven i) (net.Port p)
 
+-- the instance is one with a state, or one without, and drives this wire
+abbrev pub drives_wire : Bool → List Udp → ℕ → Instance → Bool
+drives_wire stateful udps w i = (if stateful then has_state udps i else not (has_state udps i)) && same_net (net_driven i) (net.Wire w)
+
 abbrev pub drives_state : List Udp → ℕ → Instance → Bool
-drives_state udps w i = has_state udps i && same_net (net_driven i) (net.Wire w)
+drives_state udps w i = drives_wire true udps w i
 
 abbrev pub drives_value : List Udp → ℕ → Instance → Bool
-drives_value udps w i = not (has_state udps i) && same_net (net_driven i) (net.Wire w)
+drives_value udps w i = drives_wire false udps w i
 
 -- the marks tell which ports these instances drive, which wires as a state and which without a state
 pub record AreDriven (found : DrivenNets) (udps : List Udp) (instances : List Instance) : Type 0 where

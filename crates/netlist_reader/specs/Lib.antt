@@ -1,7 +1,5 @@
-pub mod Headers
 pub mod Begun
 pub mod FirstNames
-pub mod SameNames
 pub mod DrivenNets
 pub mod Netlist
 pub mod Terminals

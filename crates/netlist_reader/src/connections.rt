@@ -1,20 +1,19 @@
 //! The nets that an instance is connected to, by recursive descent. (IEEE 1364-2005, 8.6.)
 
 ghost use Rattle.std.specs.Prelude.{◌≡◌, ◌∷◌, [], false, Some, IfOk};
-ghost use Rattle.grammar_rules.specs.Reading.{read};
 ghost use Rattle.udp_tables.specs.VerilogRules.{is_among};
 ghost use Rattle.specify_blocks.specs.VerilogModules as spec;
 ghost use Rattle.rule_readers.specs.Next.{next_bytes};
-ghost use Rattle.rule_readers.specs.Reading.{Reads, ReadsAs};
+ghost use Rattle.rule_readers.specs.Reading.{read, Reads, ReadsAs};
 ghost use Rattle.netlist_reader.specs.Terminals.{AreNamed, inputs_of};
 
 use crate::netlist::Netlist;
 use crate::terminals::{may_drive, may_feed, net_of};
-use rule_readers::{Cursor, Refusal, Stop};
+use rule_readers::{Read, Refusal, Stop};
 use specify_blocks::VNet;
 use sqlite_items::Items;
 use std::alloc::Global;
-use udp_reader::{TextNames, Verilog};
+use udp_reader::{Cursor, TextNames};
 use verilog_tokens::is_name;
 
 /// The nets that feed an instance so far, and the names of the net that it drives and of these, as they stand in the text.
@@ -26,11 +25,7 @@ pub struct Terminals<'a> {
 
 /// The net that an instance drives.
 #[tactic(auto, unfolding(specify_blocks::specs::VerilogModules::driven_terminal), using(crate::proofs::NamedNets::other, crate::proofs::NamedNets::no_net, crate::proofs::NamedNets::barred, crate::proofs::NamedNets::taken, crate::proofs::NamedNets::fits))]
-pub fn driven_terminal(
-    cursor: &mut Cursor<'_, Verilog>,
-    model: &Netlist,
-    sequential: bool,
-) -> Result<VNet, Stop>
+pub fn driven_terminal(cursor: &mut Cursor, model: &Netlist, sequential: bool) -> Read<VNet>
     ensures reads { Reads (read (spec.driven_terminal model.now sequential) cursor.old) result cursor.new }
     ensures named { IfOk result (λ net. spec.net_of model.now (next_bytes cursor.old) ≡ Some net) }
 {
@@ -51,14 +46,14 @@ pub fn driven_terminal(
 }
 
 /// A net that feeds an instance with this output and these inputs already.
-#[tactic(auto, unfolding(specify_blocks::specs::VerilogModules::feeding_terminal), using(crate::proofs::NamedNets::other, crate::proofs::NamedNets::no_net, crate::proofs::NamedNets::barred, crate::proofs::SameTerminals::taken, crate::proofs::SameTerminals::fits))]
+#[tactic(auto, unfolding(specify_blocks::specs::VerilogModules::feeding_terminal), using(crate::proofs::NamedNets::other, crate::proofs::NamedNets::no_net, crate::proofs::NamedNets::barred))]
 fn feeding_terminal(
-    cursor: &mut Cursor<'_, Verilog>,
+    cursor: &mut Cursor,
     model: &Netlist,
     sequential: bool,
     output: VNet,
     before: &Terminals<'_>,
-) -> Result<VNet, Stop>
+) -> Read<VNet>
     requires { AreNamed model.now before.now.names (output ∷ before.now.inputs) }
     ensures reads { Reads (read (spec.feeding_terminal model.now sequential (output ∷ before.now.inputs)) cursor.old) result cursor.new }
     ensures named { IfOk result (λ net. spec.net_of model.now (next_bytes cursor.old) ≡ Some net) }
@@ -84,12 +79,12 @@ fn feeding_terminal(
 /// One more net that feeds an instance.
 #[tactic(auto, unfolding(specify_blocks::specs::VerilogModules::next_input), using(crate::proofs::SameTerminals::named_more))]
 fn next_terminal<'a>(
-    cursor: &mut Cursor<'a, Verilog>,
+    cursor: &mut Cursor<'a>,
     model: &Netlist,
     sequential: bool,
     output: VNet,
     before: Terminals<'a>,
-) -> Result<Terminals<'a>, Stop>
+) -> Read<Terminals<'a>>
     requires { AreNamed model.now before.names (output ∷ before.inputs) }
     ensures reads { ReadsAs inputs_of (read (spec.next_input model.now sequential output before.entry.inputs) cursor.old) result cursor.new }
     ensures named { IfOk result (λ more. AreNamed model.now more.names (output ∷ more.inputs)) }
@@ -104,13 +99,13 @@ fn next_terminal<'a>(
 
 /// The first net that feeds an instance, behind the name of its output.
 pub fn first_terminal<'a>(
-    cursor: &mut Cursor<'a, Verilog>,
+    cursor: &mut Cursor<'a>,
     alloc: Global,
     model: &Netlist,
     sequential: bool,
     output: VNet,
     name: &'a [u8],
-) -> Result<Terminals<'a>, Stop>
+) -> Read<Terminals<'a>>
     requires { spec.net_of model.now name.now ≡ Some output }
     ensures reads { ReadsAs inputs_of (read (spec.next_input model.now sequential output []) cursor.old) result cursor.new }
     ensures named { IfOk result (λ more. AreNamed model.now more.names (output ∷ more.inputs)) }
@@ -127,14 +122,14 @@ pub fn first_terminal<'a>(
 }
 
 /// The nets that feed an instance behind these.
-#[tactic(auto, unfolding(specify_blocks::specs::VerilogModules::more_inputs), using(rule_readers::proofs::Repeats::turn, udp_reader::proofs::Words::choose_begun, udp_reader::proofs::Words::choose_other))]
+#[tactic(auto, unfolding(specify_blocks::specs::VerilogModules::more_inputs), using(rule_readers::proofs::Repeats::turns))]
 pub fn more_terminals<'a>(
-    cursor: &mut Cursor<'a, Verilog>,
+    cursor: &mut Cursor<'a>,
     model: &Netlist,
     sequential: bool,
     output: VNet,
     mut found: Terminals<'a>,
-) -> Result<Items<VNet>, Stop>
+) -> Read<Items<VNet>>
     requires { AreNamed model.now found.names (output ∷ found.inputs) }
     ensures { Reads (read (spec.more_inputs model.now sequential output found.entry.inputs) cursor.old) result cursor.new }
 {

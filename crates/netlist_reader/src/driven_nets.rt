@@ -6,7 +6,7 @@ ghost use Rattle.specify_blocks.specs.declared.model.Instance.{Instance};
 ghost use Rattle.netlist_reader.specs.DrivenNets.{AreDriven};
 
 use crate::nets::{FEW, has_state};
-use rule_readers::Stop;
+use rule_readers::{Read, Stop};
 use specify_blocks::{VModule, VNet};
 use sqlite_items::Items;
 use std::alloc::Global;
@@ -31,7 +31,7 @@ fn mark(marks: &mut Items<bool>, at: usize)
 }
 
 /// So many marks that are not set.
-fn unset(alloc: Global, count: usize) -> Result<Items<bool>, Stop>
+fn unset(alloc: Global, count: usize) -> Read<Items<bool>>
     ensures unset { IfOk result (λ marks. marks ≡ replicate count false) }
     ensures memory { IfErr result (λ stop. stop ≡ Stop.Memory) }
 {
@@ -40,8 +40,19 @@ fn unset(alloc: Global, count: usize) -> Result<Items<bool>, Stop>
 }
 
 impl DrivenNets {
-    ghost use Rattle.std.specs.Prelude.{◌≡◌};
+    ghost use Rattle.std.specs.Prelude.{◌≡◌, if◌then◌else◌, slice_get};
     ghost use Rattle.netlist_reader.specs.DrivenNets.{driven_by};
+
+    /// The mark of a wire that an instance with a state, or one without, drives.
+    pub fn mark_of(&self, stateful: bool, wire: usize) -> Option<bool>
+        ensures { result ≡ slice_get (if stateful then self.now.states else self.now.values) wire }
+    {
+        if stateful {
+            self.states.get(wire).copied()
+        } else {
+            self.values.get(wire).copied()
+        }
+    }
 
     /// Marks the net that an instance with a state, or one without, drives.
     pub fn drive(&mut self, has_state: bool, net: VNet)
@@ -70,7 +81,7 @@ fn no_marks(alloc: Global) -> DrivenNets
 
 /// Marks for so many ports and wires, of which none is driven.
 #[tactic(auto, using(crate::proofs::DrivenNets::none_driven))]
-fn undriven(alloc: Global, ports: usize, wires: usize) -> Result<DrivenNets, Stop>
+fn undriven(alloc: Global, ports: usize, wires: usize) -> Read<DrivenNets>
     ensures undriven { IfOk result (λ driven. (udps : List Udp) → AreDriven driven udps []) }
     ensures memory { IfErr result (λ stop. stop ≡ Stop.Memory) }
 {
@@ -85,7 +96,7 @@ fn undriven(alloc: Global, ports: usize, wires: usize) -> Result<DrivenNets, Sto
 }
 
 /// The nets that the instances of a module drive. Where it has few nets there are no marks, which takes no memory.
-pub fn driven_nets(alloc: Global, model: &VModule) -> Result<DrivenNets, Stop>
+pub fn driven_nets(alloc: Global, model: &VModule) -> Read<DrivenNets>
     ensures driven { IfOk result (λ driven. AreDriven driven model.now.udps model.now.instances) }
     ensures memory { IfErr result (λ stop. stop ≡ Stop.Memory) }
 {

@@ -1,14 +1,54 @@
 //! Things that are found by their names, in the time of one look-up.
 
 ghost use Rattle.std.specs.Prelude.{◌≡◌, IfOk, IfErr, OnOk};
+ghost use Rattle.std.specs.List.{position};
+ghost use Rattle.std.specs.Str.{bytes_eq};
 ghost use Rattle.specify_blocks.specs.VerilogModules.{port_name};
 ghost use Rattle.netlist_reader.specs.FirstNames.{place_by, AddsPlace, FindsFirst, udp_name, own_name};
+ghost use Rattle.netlist_reader.specs.Netlist.{MayFind};
 
+use crate::nets::FEW;
 use bool_functions::Names;
-use rule_readers::Stop;
+use rule_readers::{Language, Read, Stop};
 use sqlite_items::Items;
 use std::alloc::Global;
+use udp_reader::Verilog;
 use udp_tables::{Udp, VPort};
+
+/// A thing with a name.
+pub trait Named {
+    ghost use Rattle.std.specs.Prelude.{ℕ, List};
+
+    ghost name_of: { Self → List ℕ };
+
+    /// The name.
+    fn name(&self) -> &[u8]
+        ensures { result.now ≡ name_of self.now };
+}
+
+impl Named for Udp {
+    ghost name_of = { udp_name };
+
+    fn name(&self) -> &[u8] {
+        self.name.as_slice()
+    }
+}
+
+impl Named for VPort {
+    ghost name_of = { port_name };
+
+    fn name(&self) -> &[u8] {
+        self.name.as_slice()
+    }
+}
+
+impl Named for Items<u8> {
+    ghost name_of = { own_name };
+
+    fn name(&self) -> &[u8] {
+        self.as_slice()
+    }
+}
 
 /// Different names, and for each the number of the first thing that has it.
 #[derive(Drop)]
@@ -29,7 +69,7 @@ impl FirstNames {
     }
 
     /// Adds the thing with this number, where none so far has its name.
-    fn add(&mut self, name: &[u8], number: usize) -> Result<(), Stop>
+    fn add(&mut self, name: &[u8], number: usize) -> Read<()>
         ensures added { OnOk result (AddsPlace self.old name.now number self.new) }
         ensures memory { IfErr result (λ stop. stop ≡ Stop.Memory) }
     {
@@ -41,47 +81,50 @@ impl FirstNames {
     }
 }
 
-/// The names of these primitives.
-pub fn primitive_names(alloc: Global, udps: &[Udp]) -> Result<FirstNames, Stop>
-    ensures first { IfOk result (λ found. FindsFirst udp_name found udps.now) }
+/// The names of these things.
+fn first_names<T: Named>(alloc: Global, things: &[T]) -> Read<FirstNames>
+    ensures first { IfOk result (λ found. FindsFirst T.name_of found things.now) }
     ensures memory { IfErr result (λ stop. stop ≡ Stop.Memory) }
 {
     let mut found = FirstNames {
         names: Names::new(alloc),
         places: Items::new(alloc),
     };
-    for (number, udp) in udps.iter().enumerate() {
-        found.add(udp.name.as_slice(), number)?;
+    for (number, thing) in things.iter().enumerate() {
+        found.add(thing.name(), number)?;
     }
     Ok(found)
 }
 
-/// The names of these ports.
-pub fn port_names(alloc: Global, ports: &[VPort]) -> Result<FirstNames, Stop>
-    ensures first { IfOk result (λ found. FindsFirst port_name found ports.now) }
+/// The names of these things, where there are more than a few.
+pub fn many_names<T: Named>(alloc: Global, things: &[T]) -> Read<Option<FirstNames>>
+    ensures first { IfOk result (λ found. MayFind T.name_of found things.now) }
     ensures memory { IfErr result (λ stop. stop ≡ Stop.Memory) }
 {
-    let mut found = FirstNames {
-        names: Names::new(alloc),
-        places: Items::new(alloc),
-    };
-    for (number, port) in ports.iter().enumerate() {
-        found.add(port.name.as_slice(), number)?;
+    if things.len() <= FEW {
+        return Ok(None);
     }
-    Ok(found)
+    let names = first_names(alloc, things)?;
+    Ok(Some(names))
 }
 
-/// The names of these wires.
-pub fn wire_names(alloc: Global, wires: &[Items<u8>]) -> Result<FirstNames, Stop>
-    ensures first { IfOk result (λ found. FindsFirst own_name found wires.now) }
-    ensures memory { IfErr result (λ stop. stop ≡ Stop.Memory) }
+/// The number of the first of these things with a name, looked for one after another.
+fn place_among<T: Named>(things: &[T], name: &[u8]) -> Option<usize>
+    ensures { result ≡ position (λ x. bytes_eq name.now (T.name_of x)) things.now }
 {
-    let mut found = FirstNames {
-        names: Names::new(alloc),
-        places: Items::new(alloc),
-    };
-    for (number, wire) in wires.iter().enumerate() {
-        found.add(wire.as_slice(), number)?;
+    things
+        .iter()
+        .position(|thing| Verilog::is_same(name, thing.name()))
+}
+
+/// The number of the first of these things with a name, where these are their names, if there are more than a few.
+#[tactic(auto, using(crate::proofs::FirstNames::may_find))]
+pub fn place_of<T: Named>(kept: &Option<FirstNames>, things: &[T], name: &[u8]) -> Option<usize>
+    requires { MayFind T.name_of kept.now things.now }
+    ensures { result ≡ position (λ x. bytes_eq name.now (T.name_of x)) things.now }
+{
+    match kept {
+        Some(found) => found.number(name),
+        None => place_among(things, name),
     }
-    Ok(found)
 }

@@ -1,37 +1,29 @@
 //! The instances of a module, by recursive descent. (IEEE 1364-2005, 7.1, 7.3 and 8.6.)
 
-ghost use Rattle.std.specs.Prelude.{◌≡◌, IfOk, IfErr};
-ghost use Rattle.grammar_rules.specs.Reading.{read};
+ghost use Rattle.std.specs.Prelude.{◌≡◌, IfOk};
 ghost use Rattle.rule_readers.specs.Words.{valued};
 ghost use Rattle.specify_blocks.specs.VerilogModules as spec;
 ghost use Rattle.netlist_reader.specs.Begun.{is_instance_start, instance_primitive};
 ghost use Rattle.netlist_reader.specs.FirstNames.{udp_name};
 ghost use Rattle.netlist_reader.specs.Netlist.{MayFind};
-ghost use Rattle.rule_readers.specs.Reading.{Reads, ReadsAs};
+ghost use Rattle.rule_readers.specs.Reading.{read, Reads, ReadsAs};
 
 use crate::connections::{driven_terminal, first_terminal, more_terminals};
-use crate::first_names::{FirstNames, primitive_names};
+use crate::first_names::{FirstNames, many_names, place_of};
 use crate::netlist::Netlist;
-use crate::nets::{FEW, is_sequential};
+use crate::nets::is_sequential;
 use crate::terminals::has_all_inputs;
-use rule_readers::{Cursor, Language, Refusal, Stop};
+use rule_readers::{Language, Read, Refusal, Stop, value_of};
 use specify_blocks::{Instance, VModule};
 use std::alloc::Global;
-use udp_reader::Verilog;
-use udp_tables::Udp;
+use udp_reader::{Cursor, Verilog};
 use verilog_tokens::is_name;
 
 /// The bit that a token stands for.
 fn bit(token: &[u8]) -> Option<bool>
     ensures { result ≡ spec.bit token.now }
 {
-    if Verilog::is_same(token, b"1'b0") {
-        Some(false)
-    } else if Verilog::is_same(token, b"1'b1") {
-        Some(true)
-    } else {
-        None
-    }
+    value_of::<Verilog, _>(token, &[(b"1'b0", false), (b"1'b1", true)])
 }
 
 /// Whether a token begins an instance.
@@ -39,38 +31,6 @@ fn is_instance_start(token: &[u8]) -> bool
     ensures { result ≡ is_instance_start token.now }
 {
     Verilog::is_same(token, b"buf") || is_name(token)
-}
-
-/// The names of these primitives, where there are more than a few.
-fn many_primitives(alloc: Global, udps: &[Udp]) -> Result<Option<FirstNames>, Stop>
-    ensures first { IfOk result (λ found. MayFind udp_name found udps.now) }
-    ensures memory { IfErr result (λ stop. stop ≡ Stop.Memory) }
-{
-    if udps.len() <= FEW {
-        return Ok(None);
-    }
-    let names = primitive_names(alloc, udps)?;
-    Ok(Some(names))
-}
-
-/// The number of the primitive with this name, looked for one after another.
-fn primitive_of(udps: &[Udp], name: &[u8]) -> Option<usize>
-    ensures { result ≡ spec.primitive_number udps.now name.now }
-{
-    udps.iter()
-        .position(|udp| Verilog::is_same(name, udp.name.as_slice()))
-}
-
-/// The number of the primitive with this name, where these are the names of the module's primitives, if there are many.
-#[tactic(auto, using(crate::proofs::FoundNets::primitive_found))]
-fn primitive_number(names: &Option<FirstNames>, model: &Netlist, name: &[u8]) -> Option<usize>
-    requires { MayFind udp_name names.now model.now.udps }
-    ensures { result ≡ spec.primitive_number model.now.udps name.now }
-{
-    match names {
-        Some(found) => found.number(name),
-        None => primitive_of(model.module().udps.as_slice(), name),
-    }
 }
 
 /// What a token begins an instance of: the primitive with a number, or a buffer. None where there is no such primitive.
@@ -85,7 +45,7 @@ fn instance_primitive(
     if Verilog::is_same(token, b"buf") {
         return Some(None);
     }
-    match primitive_number(names, model, token) {
+    match place_of(names, model.module().udps.as_slice(), token) {
         Some(udp) => Some(Some(udp)),
         None => None,
     }
@@ -93,12 +53,7 @@ fn instance_primitive(
 
 /// The terminals of an instance of the primitive with this number, behind its name.
 #[tactic(auto, unfolding(specify_blocks::specs::VerilogModules::call))]
-fn call(
-    cursor: &mut Cursor<'_, Verilog>,
-    alloc: Global,
-    model: &Netlist,
-    udp: usize,
-) -> Result<Instance, Stop>
+fn call(cursor: &mut Cursor, alloc: Global, model: &Netlist, udp: usize) -> Read<Instance>
     ensures { ReadsAs (spec.with_instance model.now) (read (spec.call model.now udp) cursor.old) result cursor.new }
 {
     let sequential = is_sequential(model.module().udps.as_slice(), udp);
@@ -120,7 +75,7 @@ fn call(
 
 /// A bit.
 #[tactic(auto, using(rule_readers::proofs::Values::valued_found))]
-fn a_bit(cursor: &mut Cursor<'_, Verilog>) -> Result<bool, Stop>
+fn a_bit(cursor: &mut Cursor) -> Read<bool>
     ensures { Reads (read (valued spec.bit) cursor.old) result cursor.new }
 {
     let found = bit(cursor.bytes());
@@ -129,7 +84,7 @@ fn a_bit(cursor: &mut Cursor<'_, Verilog>) -> Result<bool, Stop>
 
 /// The terminals of a buffer of a constant, behind its word.
 #[tactic(auto, unfolding(specify_blocks::specs::VerilogModules::constant))]
-fn constant(cursor: &mut Cursor<'_, Verilog>, model: &Netlist) -> Result<Instance, Stop>
+fn constant(cursor: &mut Cursor, model: &Netlist) -> Read<Instance>
     ensures { ReadsAs (spec.with_instance model.now) (read (spec.constant model.now) cursor.old) result cursor.new }
 {
     cursor.expect(b"(")?;
@@ -143,11 +98,11 @@ fn constant(cursor: &mut Cursor<'_, Verilog>, model: &Netlist) -> Result<Instanc
 
 /// An instance of a primitive, or a buffer, behind its first token.
 fn one_instance(
-    cursor: &mut Cursor<'_, Verilog>,
+    cursor: &mut Cursor,
     alloc: Global,
     model: &Netlist,
     udp: Option<usize>,
-) -> Result<Instance, Stop>
+) -> Read<Instance>
     ensures { ReadsAs (spec.with_instance model.now) (read (spec.one_instance model.now udp) cursor.old) result cursor.new }
 {
     match udp {
@@ -159,11 +114,11 @@ fn one_instance(
 /// The instances of a module behind those that it has, where its primitives have these names, if they are many.
 #[tactic(auto, unfolding(specify_blocks::specs::VerilogModules::instances), using(rule_readers::proofs::Repeats::turn, crate::proofs::Begun::no_instance, crate::proofs::Begun::undefined, crate::proofs::Begun::some_instance))]
 fn more_instances(
-    cursor: &mut Cursor<'_, Verilog>,
+    cursor: &mut Cursor,
     alloc: Global,
     names: &Option<FirstNames>,
     mut model: Netlist,
-) -> Result<Netlist, Stop>
+) -> Read<Netlist>
     requires { MayFind udp_name names.now model.udps }
     ensures reads { Reads (read (spec.instances model) cursor.old) result cursor.new }
     ensures named { IfOk result (λ joined. joined.name ≡ model.name) }
@@ -183,15 +138,11 @@ fn more_instances(
 }
 
 /// All instances of a module, which it then has.
-pub fn module_instances(
-    cursor: &mut Cursor<'_, Verilog>,
-    alloc: Global,
-    declared: VModule,
-) -> Result<Netlist, Stop>
+pub fn module_instances(cursor: &mut Cursor, alloc: Global, declared: VModule) -> Read<Netlist>
     ensures reads { Reads (read (spec.instances declared) cursor.old) result cursor.new }
     ensures named { IfOk result (λ joined. joined.name ≡ declared.name) }
 {
-    let names = many_primitives(alloc, declared.udps.as_slice())?;
+    let names = many_names(alloc, declared.udps.as_slice())?;
     let model = Netlist::new(alloc, declared)?;
     more_instances(cursor, alloc, &names, model)
 }

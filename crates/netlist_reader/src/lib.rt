@@ -1,18 +1,15 @@
-//! The nets and instances of Verilog modules: headers, declarations and what drives each net. (IEEE 1364-2005, clauses 7, 8 and 12.)
+//! The nets and instances of Verilog modules: what stands at the terminals of each instance, and what drives each net. (IEEE 1364-2005,
+//! clauses 7 and 8.)
 #![tactic(auto)]
 
 mod connections;
-mod declarations;
 mod driven_nets;
 mod first_names;
 mod instances;
 mod netlist;
 mod nets;
-mod ports;
 mod terminals;
-mod wires;
 
-pub use declarations::module_declarations;
 pub use instances::module_instances;
 pub use netlist::Netlist;
 pub use nets::is_output_port;

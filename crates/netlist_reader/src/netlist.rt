@@ -1,19 +1,16 @@
 //! A module that finds each of its nets, and what drives it, in the time of one look-up.
 
-ghost use Rattle.std.specs.Prelude.{◌≡◌, IfOk, IfErr};
-ghost use Rattle.specify_blocks.specs.VerilogModules.{port_name};
-ghost use Rattle.netlist_reader.specs.FirstNames.{own_name};
-ghost use Rattle.netlist_reader.specs.Netlist.{MayFind};
+ghost use Rattle.std.specs.Prelude.{◌≡◌};
 
 use crate::driven_nets::{DrivenNets, driven_nets};
-use crate::first_names::{FirstNames, port_names, wire_names};
-use crate::nets::{FEW, has_state, is_driven_already, is_state, is_value, port_of, wire_of};
-use rule_readers::Stop;
+use crate::first_names::{FirstNames, many_names, place_of};
+use crate::nets::{has_state, is_driven_already, is_wire_driven_by};
+use rule_readers::{Read, Stop};
 use specify_blocks::{Instance, VModule, VNet, VPath};
 use sqlite_items::Items;
 use std::alloc::Global;
 use std::marker::Model;
-use udp_tables::{TimingCheck, VPort};
+use udp_tables::TimingCheck;
 
 /// A module. Contracts see it alone. Beside it stand the names of its ports, where there are more than a few, those of its wires
 /// likewise, and which nets are driven.
@@ -36,46 +33,23 @@ impl Model for Netlist {
     ghost invariant = { λ n. AreKeptOf n.model n.ports n.wires n.driven };
 }
 
-/// The names of these ports, where there are more than a few.
-fn many_ports(alloc: Global, ports: &[VPort]) -> Result<Option<FirstNames>, Stop>
-    ensures first { IfOk result (λ found. MayFind port_name found ports.now) }
-    ensures memory { IfErr result (λ stop. stop ≡ Stop.Memory) }
-{
-    if ports.len() <= FEW {
-        return Ok(None);
-    }
-    let names = port_names(alloc, ports)?;
-    Ok(Some(names))
-}
-
-/// The names of these wires, where there are more than a few.
-fn many_wires(alloc: Global, wires: &[Items<u8>]) -> Result<Option<FirstNames>, Stop>
-    ensures first { IfOk result (λ found. MayFind own_name found wires.now) }
-    ensures memory { IfErr result (λ stop. stop ≡ Stop.Memory) }
-{
-    if wires.len() <= FEW {
-        return Ok(None);
-    }
-    let names = wire_names(alloc, wires)?;
-    Ok(Some(names))
-}
-
 impl Netlist {
     ghost use Rattle.std.specs.Prelude.{◌≡◌, IfErr, IfOk, OnOk};
-    ghost use Rattle.std.specs.List.{position};
+    ghost use Rattle.std.specs.List.{list_any, position};
     ghost use Rattle.std.specs.Str.{bytes_eq};
     ghost use Rattle.specify_blocks.specs.declared.model.VNet.TheVariants as net;
     ghost use Rattle.specify_blocks.specs.Nets as nets;
     ghost use Rattle.specify_blocks.specs.VerilogModules.{is_driven_already, with_instance};
     ghost use Rattle.specify_blocks.specs.VerilogBlocks.{port_of, with_block};
+    ghost use Rattle.netlist_reader.specs.DrivenNets.{drives_wire};
 
     /// A module, with what finds its nets.
-    pub fn new(alloc: Global, model: VModule) -> Result<Netlist, Stop>
+    pub fn new(alloc: Global, model: VModule) -> Read<Netlist>
         ensures same { IfOk result (λ made. made ≡ model) }
         ensures memory { IfErr result (λ stop. stop ≡ Stop.Memory) }
     {
-        let ports = many_ports(alloc, model.ports.as_slice())?;
-        let wires = many_wires(alloc, model.wires.as_slice())?;
+        let ports = many_names(alloc, model.ports.as_slice())?;
+        let wires = many_names(alloc, model.wires.as_slice())?;
         let driven = driven_nets(alloc, &model)?;
         Ok(Netlist {
             model,
@@ -96,52 +70,46 @@ impl Netlist {
     pub fn into_module(self) -> VModule
         ensures { result ≡ self }
     {
-        let Netlist { model, .. } = self;
-        model
+        self.model
     }
 
     /// The number of the port with this name.
-    #[tactic(auto, using(crate::proofs::FoundNets::port_found))]
     pub fn port_of(&self, name: &[u8]) -> Option<usize>
         ensures { result ≡ port_of self.now name.now }
     {
-        match &self.ports {
-            Some(found) => found.number(name),
-            None => port_of(&self.model, name),
-        }
+        place_of(&self.ports, self.model.ports.as_slice(), name)
     }
 
     /// The number of the wire with this name.
-    #[tactic(auto, using(crate::proofs::FoundNets::wire_found))]
     pub fn wire_of(&self, name: &[u8]) -> Option<usize>
         ensures { result ≡ position (bytes_eq name.now) self.now.wires }
     {
-        match &self.wires {
-            Some(found) => found.number(name),
-            None => wire_of(self.model.wires.as_slice(), name),
+        place_of(&self.wires, self.model.wires.as_slice(), name)
+    }
+
+    /// Whether an instance with a state, or one without, drives this wire.
+    #[tactic(auto, using(crate::proofs::FoundNets::wire_told_of))]
+    fn is_wire_driven_by(&self, stateful: bool, wire: usize) -> bool
+        ensures { result ≡ list_any (drives_wire stateful self.now.udps wire) self.now.instances }
+    {
+        match self.driven.mark_of(stateful, wire) {
+            Some(told) => told,
+            None => is_wire_driven_by(&self.model, stateful, wire),
         }
     }
 
     /// Whether an instance with a state drives this wire.
-    #[tactic(auto, using(crate::proofs::FoundNets::state_told))]
     pub fn is_state(&self, wire: usize) -> bool
         ensures { result ≡ nets.is_state self.now self.now.instances wire }
     {
-        match self.driven.states.get(wire) {
-            Some(told) => *told,
-            None => is_state(&self.model, wire),
-        }
+        self.is_wire_driven_by(true, wire)
     }
 
     /// Whether an instance without a state drives this wire.
-    #[tactic(auto, using(crate::proofs::FoundNets::value_told))]
     pub fn is_value(&self, wire: usize) -> bool
         ensures { result ≡ nets.is_value self.now self.now.instances wire }
     {
-        match self.driven.values.get(wire) {
-            Some(told) => *told,
-            None => is_value(&self.model, wire),
-        }
+        self.is_wire_driven_by(false, wire)
     }
 
     /// Whether an instance drives this port.
@@ -178,7 +146,7 @@ impl Netlist {
     }
 
     /// Puts an instance behind the others.
-    pub fn join(&mut self, instance: Instance) -> Result<(), Stop>
+    pub fn join(&mut self, instance: Instance) -> Read<()>
         ensures joined { OnOk result (self.new ≡ with_instance self.old instance) }
         ensures memory { IfErr result (λ stop. stop ≡ Stop.Memory) }
     {

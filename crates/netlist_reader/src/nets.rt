@@ -1,40 +1,16 @@
 //! The nets of a module, looked for one after another. (IEEE 1364-2005, clauses 8 and 12.)
 
 ghost use Rattle.std.specs.Prelude.{◌≡◌};
-ghost use Rattle.std.specs.Str.{bytes_eq};
-ghost use Rattle.std.specs.List.{position};
+ghost use Rattle.std.specs.List.{list_any};
 ghost use Rattle.specify_blocks.specs.Nets as spec;
 ghost use Rattle.specify_blocks.specs.VerilogModules.{is_driven_already};
-ghost use Rattle.specify_blocks.specs.VerilogBlocks.{port_of};
+ghost use Rattle.netlist_reader.specs.DrivenNets.{drives_wire};
 
-use rule_readers::Language;
 use specify_blocks::{Instance, VModule, VNet};
-use sqlite_items::Items;
-use udp_reader::Verilog;
 use udp_tables::{Udp, VPort};
 
 /// How many nets of a kind are looked for one after another.
 pub const FEW: usize = 16;
-
-/// The number of the port with this name.
-pub fn port_of(model: &VModule, name: &[u8]) -> Option<usize>
-    ensures { result ≡ port_of model.now name.now }
-{
-    model
-        .ports
-        .as_slice()
-        .iter()
-        .position(|port| Verilog::is_same(name, port.name.as_slice()))
-}
-
-/// The number of the wire with this name.
-pub fn wire_of(wires: &[Items<u8>], name: &[u8]) -> Option<usize>
-    ensures { result ≡ position (bytes_eq name.now) wires.now }
-{
-    wires
-        .iter()
-        .position(|wire| Verilog::is_same(name, wire.as_slice()))
-}
 
 /// Whether this is the number of an output.
 pub fn is_output_port(ports: &[VPort], port: usize) -> bool
@@ -66,28 +42,21 @@ pub fn has_state(udps: &[Udp], instance: &Instance) -> bool
     }
 }
 
-/// Whether an instance without a state drives this wire.
-pub fn is_value(model: &VModule, wire: usize) -> bool
-    ensures { result ≡ spec.is_value model.now model.now.instances wire }
+/// Whether an instance is one with a state, or one without, and drives this wire.
+fn drives_wire(udps: &[Udp], instance: &Instance, stateful: bool, wire: usize) -> bool
+    ensures { result ≡ drives_wire stateful udps.now wire instance.now }
 {
-    for instance in model.instances.as_slice() {
-        if !has_state(model.udps.as_slice(), instance)
-            && instance.net_driven().is_same(VNet::Wire(wire))
-        {
-            return true;
-        }
-    }
-    false
+    let has_state = has_state(udps, instance);
+    let is_kind = if stateful { has_state } else { !has_state };
+    is_kind && instance.net_driven().is_same(VNet::Wire(wire))
 }
 
-/// Whether an instance with a state drives this wire.
-pub fn is_state(model: &VModule, wire: usize) -> bool
-    ensures { result ≡ spec.is_state model.now model.now.instances wire }
+/// Whether an instance with a state, or one without, drives this wire.
+pub fn is_wire_driven_by(model: &VModule, stateful: bool, wire: usize) -> bool
+    ensures { result ≡ list_any (drives_wire stateful model.now.udps wire) model.now.instances }
 {
     for instance in model.instances.as_slice() {
-        if has_state(model.udps.as_slice(), instance)
-            && instance.net_driven().is_same(VNet::Wire(wire))
-        {
+        if drives_wire(model.udps.as_slice(), instance, stateful, wire) {
             return true;
         }
     }

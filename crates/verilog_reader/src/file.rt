@@ -7,7 +7,8 @@ ghost use Rattle.verilog_reader.specs.File.{before_of, modules_of, module_end};
 ghost use Rattle.rule_readers.specs.Reading.{Reads, ReadsAs};
 
 use bool_functions::Names;
-use netlist_reader::{Netlist, are_all_driven, module_declarations, module_instances};
+use header_reader::module_declarations;
+use netlist_reader::{Netlist, are_all_driven, module_instances};
 use rule_readers::{Cursor, Language, Refusal, Stop};
 use specify_blocks::VModule;
 use specify_reader::specify;

@@ -1,0 +1,4 @@
+pub mod Among
+pub mod Headers
+pub mod SameNames
+pub mod NoWires

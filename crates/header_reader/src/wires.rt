@@ -1,0 +1,150 @@
+//! The wires of a module and the register of its checks, by recursive descent. (IEEE 1364-2005, A.2.1.3.)
+
+ghost use Rattle.std.specs.Prelude.{◌≡◌, ◌++◌, ◌∷◌, [], false, IfOk, IfErr};
+ghost use Rattle.udp_tables.specs.VerilogRules.{is_among, new_name};
+ghost use Rattle.specify_blocks.specs.VerilogModules as spec;
+ghost use Rattle.rule_readers.specs.Next.{next_bytes};
+ghost use Rattle.rule_readers.specs.Reading.{read, Reads, ReadsAs};
+ghost use Rattle.header_reader.specs.SameNames.{HaveSame};
+ghost use Rattle.header_reader.specs.Headers.{wires_of};
+
+use crate::ports::is_declared;
+use rule_readers::{Read, Stop};
+use sqlite_items::Items;
+use std::alloc::Global;
+use udp_reader::{Cursor, TextNames};
+use udp_tables::VPort;
+
+/// A name that is declared here, behind those of ports and of wires.
+fn new_net_name(
+    cursor: &mut Cursor,
+    alloc: Global,
+    ports: &[VPort],
+    wires: &[Items<u8>],
+) -> Read<Items<u8>>
+    ensures { Reads (read (new_name (spec.port_names ports.now ++ wires.now)) cursor.old) result cursor.new }
+{
+    let taken = is_declared(ports, wires, cursor.bytes());
+    cursor.fresh_name(alloc, taken)
+}
+
+/// The wires so far, and the names of the ports and of these.
+#[derive(Drop)]
+pub struct DeclaredWires<'a> {
+    pub wires: Items<Items<u8>>,
+    pub names: TextNames<'a>,
+}
+
+/// These names, and another behind them where it is none of them.
+#[tactic(auto, using(crate::proofs::SameNames::same_kept))]
+fn with_name<'a>(names: TextNames<'a>, name: &'a [u8]) -> Read<TextNames<'a>>
+    ensures same { IfOk result (λ more. HaveSame more (names.entry ++ name.now ∷ [])) }
+    ensures memory { IfErr result (λ stop. stop ≡ Stop.Memory) }
+{
+    if names.has(name) {
+        return Ok(names);
+    }
+    names.with(name)
+}
+
+/// The names of these ports.
+fn names_of_ports<'a>(alloc: Global, ports: &'a [VPort]) -> Read<TextNames<'a>>
+    ensures same { IfOk result (λ names. HaveSame names (spec.port_names ports.now)) }
+    ensures memory { IfErr result (λ stop. stop ≡ Stop.Memory) }
+{
+    let mut names = TextNames::new(alloc);
+    for port in ports {
+        names = with_name(names, port.name.as_slice())?;
+    }
+    Ok(names)
+}
+
+/// The name of a wire, behind the ports and others, of which these are the names.
+fn new_wire_name(
+    cursor: &mut Cursor,
+    alloc: Global,
+    ports: &[VPort],
+    wires: &[Items<u8>],
+    names: &TextNames<'_>,
+) -> Read<Items<u8>>
+    requires { HaveSame names.now (spec.port_names ports.now ++ wires.now) }
+    ensures reads { Reads (read (new_name (spec.port_names ports.now ++ wires.now)) cursor.old) result cursor.new }
+    ensures named { IfOk result (λ name. name ≡ next_bytes cursor.old) }
+    ensures fresh { IfOk result (λ _. is_among names.now (next_bytes cursor.old) ≡ false) }
+{
+    let taken = names.has(cursor.bytes());
+    cursor.fresh_name(alloc, taken)
+}
+
+/// One more declared wire, behind its word, of which this is the next token.
+#[tactic(auto, unfolding(specify_blocks::specs::VerilogModules::declared_wire))]
+fn module_wire<'a>(
+    cursor: &mut Cursor,
+    alloc: Global,
+    ports: &[VPort],
+    token: &'a [u8],
+    before: DeclaredWires<'a>,
+) -> Read<DeclaredWires<'a>>
+    requires next { token.now ≡ next_bytes cursor.old }
+    requires same { HaveSame before.names (spec.port_names ports.now ++ before.wires) }
+    ensures reads { ReadsAs wires_of (read (spec.declared_wire ports.now before.entry.wires) cursor.old) result cursor.new }
+    ensures named { IfOk result (λ more. HaveSame more.names (spec.port_names ports.now ++ more.wires)) }
+{
+    let DeclaredWires { mut wires, names } = before;
+    let name = new_wire_name(cursor, alloc, ports, wires.as_slice(), &names)?;
+    cursor.expect(b";")?;
+    wires.push(name)?;
+    let names = names.with(token)?;
+    Ok(DeclaredWires { wires, names })
+}
+
+/// The declared wires, of which there are some as a rule.
+#[tactic(auto, unfolding(specify_blocks::specs::VerilogModules::declared_wires), using(rule_readers::proofs::Repeats::turns))]
+fn some_wires(cursor: &mut Cursor, alloc: Global, ports: &[VPort]) -> Read<Items<Items<u8>>>
+    ensures { Reads (read (spec.declared_wires ports.now) cursor.old) result cursor.new }
+{
+    let mut found = DeclaredWires {
+        wires: Items::new(alloc),
+        names: names_of_ports(alloc, ports)?,
+    };
+    for _turn in 0..cursor.left() {
+        if !cursor.is_next(b"wire") {
+            break;
+        }
+        cursor.skip();
+        let token = cursor.bytes();
+        found = module_wire(cursor, alloc, ports, token, found)?;
+    }
+    let DeclaredWires { wires, .. } = found;
+    Ok(wires)
+}
+
+/// All declared wires. Where none is next, the names of the ports are not looked at.
+#[tactic(auto, using(crate::proofs::NoWires::no_wires))]
+pub fn module_wires(cursor: &mut Cursor, alloc: Global, ports: &[VPort]) -> Read<Items<Items<u8>>>
+    ensures { Reads (read (spec.declared_wires ports.now) cursor.old) result cursor.new }
+{
+    if !cursor.is_next(b"wire") {
+        return Ok(Items::new(alloc));
+    }
+    some_wires(cursor, alloc, ports)
+}
+
+/// The register of the checks, if there is one.
+#[tactic(auto, unfolding(specify_blocks::specs::VerilogModules::notifier, specify_blocks::specs::VerilogModules::declared_notifier), using(rule_readers::proofs::Repeats::choose_begun, rule_readers::proofs::Repeats::choose_other))]
+pub fn module_notifier(
+    cursor: &mut Cursor,
+    alloc: Global,
+    ports: &[VPort],
+    wires: &[Items<u8>],
+) -> Read<Option<Items<u8>>>
+    ensures { Reads (read (spec.notifier ports.now wires.now) cursor.old) result cursor.new }
+{
+    if !cursor.is_next(b"reg") {
+        return Ok(None);
+    }
+    cursor.skip();
+    let name = new_net_name(cursor, alloc, ports, wires)?;
+    cursor.expect(b";")?;
+    Ok(Some(name))
+}

@@ -1,7 +1,0 @@
-use Rattle.std.proofs.Common.{◌≡◌, drop}
-use Rattle.specify_blocks.specs.Nets.{is_value}
-use Rattle.netlist_reader.proofs.nets.is_value.Given as goal
-
-abbrev pub invariant-loop-instance : goal.invariant-loop-instance
-invariant-loop-instance l =
-    is_value l.model (drop l.instance-index l.model.instances) l.wire ≡ is_value l.model l.model.instances l.wire

@@ -38,6 +38,14 @@ place_turn f p i n places whole h e =
     ∙ ap (λ xs. places ++ filter p (map f xs)) (sym (range_turn i n h))
     ∙ e
 
+-- the same of what the places become
+pub place_more :
+    (f : ℕ → Source) (p : Source → Bool) (i n : ℕ) (places whole : List Source) {next : List Source}
+    → i < n → next ≡ places ++ filter p (f i ∷ []) → places ++ filter p (map f (range_with_len i (n - i))) ≡ whole
+    → next ++ filter p (map f (range_with_len (i + 1) (n - (i + 1)))) ≡ whole
+place_more f p i n places whole h is e =
+    ap (λ xs. xs ++ filter p (map f (range_with_len (i + 1) (n - (i + 1))))) is ∙ place_turn f p i n places whole h e
+
 pub front_few : (front rest whole : List Source) → front ++ rest ≡ whole → length front ≤ length whole
 front_few front rest whole e = subst (λ n. length front ≤ n) (sym (length-append front rest) ∙ ap length e) (omega arith)
 

@@ -17,15 +17,8 @@ use Rattle.scan_cells.specs.Views.{ViewData, is_among, numbers_of, same_outline}
 -- the cell that a group describes, without a time unit
 abbrev pub cell_of : ℕ → Group → CellData
 cell_of number group =
-    record {
-      name = cell_name group;
-      number = number;
-      pins = pins_of group;
-      groups = groups_of group;
-      outputs = outputs_of group;
-      checks = checks_of (subject_of None group) group;
-      arcs = arcs_of (subject_of None group) group;
-    }
+    let subject = subject_of None group in
+    record { name = cell_name group; number = number; pins = pins_of group; groups = groups_of group; outputs = outputs_of group; checks = checks_of subject group; arcs = arcs_of subject group }
 
 -- The cell with this number that a group describes, where no reason refuses it. No cells stand before it.
 abbrev pub read_group : ℕ → Group → Option CellData

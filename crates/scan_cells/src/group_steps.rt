@@ -3,7 +3,8 @@ ghost use Rattle.std.specs.Prelude.{◌≡◌, ◌<◌, ◌≤◌, length};
 ghost use Rattle.cell_machine.specs.CellData.{data_of};
 ghost use Rattle.scan_cells.specs.Views.{view_data, StandsBeside};
 ghost use Rattle.std.specs.List.{range_with_len};
-ghost use Rattle.scan_cells.specs.Places.{changed_at as changed_at_place};
+ghost use Rattle.cell_machine.specs.CellTrace.{support_at, step_at};
+ghost use Rattle.scan_cells.specs.Places.{values_at, changed_at as changed_at_place};
 ghost use Rattle.scan_cells.specs.Comparison.{first_some, cell_support, view_support, step_places, cell_step, view_step, step_difference, state_difference, change_difference, after_difference, group_difference as group_difference_of};
 
 use crate::answers::Difference;
@@ -11,7 +12,7 @@ use crate::places::places_of;
 use crate::points::{SupportPoint, changed_at, is_inactive, point_count};
 use crate::sources::{Sources, in_cell, pin_sources};
 use crate::views::View;
-use cell_machine::{Cell, boolean_step};
+use cell_machine::{Cell, Source, boolean_step};
 use trit_cubes::Trit;
 
 /// A state group of a cell and that of its view with the same number, over the places of both supports.
@@ -23,8 +24,7 @@ pub struct GroupPair<'a> {
     of_cell: Sources,
     of_view: Sources,
     places: Sources,
-    ghost in_cell: { group < length cell.now.groups },
-    ghost in_view: { group < length view.now.cell.groups },
+    ghost inside: { (group < length cell.now.groups) × (group < length view.now.cell.groups) },
     ghost is_of_cell: { of_cell ≡ cell_support (data_of cell.now) group },
     ghost is_of_view: { of_view ≡ view_support (view_data view.now) group },
     ghost are_places: { places ≡ step_places (data_of cell.now) (view_data view.now) group },
@@ -56,22 +56,25 @@ impl<'a> GroupPair<'a> {
         }
     }
 
+    /// The step of the group in one of the two cells, where it has this support.
+    fn stepped(&self, cell: &Cell, support: &[Source], before: u32, after: u32, s: bool) -> Trit
+        requires group { self.now.group < length cell.now.groups }
+        requires support { length support.now ≡ length (support_at (data_of cell.now) self.now.group) }
+        requires few { length support.now ≤ 10 }
+        ensures { result ≡ step_at (data_of cell.now) self.now.group (values_at self.now.places support.now before) (values_at self.now.places support.now after) s }
+    {
+        let places = self.places.as_slice();
+        let before = SupportPoint::of(places, support, before);
+        let after = SupportPoint::of(places, support, after);
+        boolean_step(cell, self.group, before.as_slice(), after.as_slice(), s)
+    }
+
     /// The step of the cell's group.
     #[tactic(auto, unfolding(crate::specs::Comparison::cell_step))]
     fn cell_step(&self, before: u32, after: u32, s: bool) -> Trit
         ensures { result ≡ cell_step (data_of self.now.cell.now) (view_data self.now.view.now) self.now.group before after s }
     {
-        let places = self.places.as_slice();
-        let support = self.of_cell.as_slice();
-        let before = SupportPoint::of(places, support, before);
-        let after = SupportPoint::of(places, support, after);
-        boolean_step(
-            self.cell,
-            self.group,
-            before.as_slice(),
-            after.as_slice(),
-            s,
-        )
+        self.stepped(self.cell, self.of_cell.as_slice(), before, after, s)
     }
 
     /// The step of the view's group.
@@ -79,17 +82,7 @@ impl<'a> GroupPair<'a> {
     fn view_step(&self, before: u32, after: u32, s: bool) -> Trit
         ensures { result ≡ view_step (data_of self.now.cell.now) (view_data self.now.view.now) self.now.group before after s }
     {
-        let places = self.places.as_slice();
-        let support = self.of_view.as_slice();
-        let before = SupportPoint::of(places, support, before);
-        let after = SupportPoint::of(places, support, after);
-        boolean_step(
-            &self.view.cell,
-            self.group,
-            before.as_slice(),
-            after.as_slice(),
-            s,
-        )
+        self.stepped(&self.view.cell, self.of_view.as_slice(), before, after, s)
     }
 
     /// The difference of the steps at a change, from one state.

@@ -1,8 +1,8 @@
-use Rattle.std.proofs.Common.{◌∙◌, ap, ◌++◌, ◌+◌, ◌-◌, length, filter, arith}
+use Rattle.std.proofs.Common.{length, filter, arith}
 use Rattle.std.specs.List.{range_with_len}
 use Rattle.cell_machine.specs.declared.outputs.Source.TheVariants as source
 use Rattle.scan_cells.specs.Places.{in_either, pin_sources}
-use Rattle.scan_cells.proofs.Ranges.{place_turn, place_room, place_end}
+use Rattle.scan_cells.proofs.Ranges.{place_more, place_room, place_end}
 use Rattle.scan_cells.proofs.Counting.{few_pins}
 use Rattle.scan_cells.proofs.places.pin_places.Goals as goal
 
@@ -17,11 +17,8 @@ add_place-requires c =
 
 pub loop-pin-preserved : goal.loop-pin-preserved
 loop-pin-preserved c =
-    let pins = length c.args.cell.now.pins in
-    let p = in_either c.args.first.now c.args.second.now in
-    ap (λ xs. xs ++ filter p (pin_sources (range_with_len (c.loop-pin.pin + 1) (pins - (c.loop-pin.pin + 1))))) c.add_place.ensures
-    ∙ place_turn (λ j. source.Pin j) p c.loop-pin.pin pins c.loop-pin.places (filter p (pin_sources (range_with_len 0 pins)))
-    (omega (arith, c.loop-pin-test.true)) c.loop-pin.invariant
+    place_more (λ j. source.Pin j) (in_either c.args.first.now c.args.second.now) c.loop-pin.pin (length c.args.cell.now.pins) c.loop-pin.places _
+    (omega (arith, c.loop-pin-test.true)) c.add_place.ensures c.loop-pin.invariant
 
 pub returns : goal.returns
 returns c =

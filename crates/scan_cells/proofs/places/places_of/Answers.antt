@@ -1,9 +1,8 @@
-use Rattle.std.proofs.Common.{◌∙◌, ap, ◌++◌, ◌+◌, ◌-◌, length, filter, arith}
-use Rattle.std.specs.List.{range_with_len}
+use Rattle.std.proofs.Common.{length, arith}
 use Rattle.cell_machine.specs.declared.outputs.Source.TheVariants as source
 use Rattle.cell_machine.specs.CellData.{data_of}
-use Rattle.scan_cells.specs.Places.{in_either, state_sources, places_of}
-use Rattle.scan_cells.proofs.Ranges.{place_turn, place_room, place_end, front_few}
+use Rattle.scan_cells.specs.Places.{in_either, places_of}
+use Rattle.scan_cells.proofs.Ranges.{place_more, place_room, place_end, front_few}
 use Rattle.scan_cells.proofs.Counting.{few_places}
 use Rattle.scan_cells.proofs.places.places_of.Goals as goal
 
@@ -18,11 +17,8 @@ add_place-requires c =
 
 pub loop-group-preserved : goal.loop-group-preserved
 loop-group-preserved c =
-    let groups = length c.args.cell.now.groups in
-    let p = in_either c.args.first.now c.args.second.now in
-    ap (λ xs. xs ++ filter p (state_sources (range_with_len (c.loop-group.group + 1) (groups - (c.loop-group.group + 1))))) c.add_place.ensures
-    ∙ place_turn (λ j. source.State j) p c.loop-group.group groups c.loop-group.places
-    (places_of (data_of c.args.cell.now) c.args.first.now c.args.second.now) (omega (arith, c.loop-group-test.true)) c.loop-group.invariant
+    place_more (λ j. source.State j) (in_either c.args.first.now c.args.second.now) c.loop-group.group (length c.args.cell.now.groups) c.loop-group.places _
+    (omega (arith, c.loop-group-test.true)) c.add_place.ensures c.loop-group.invariant
 
 pub returns-clause-is : goal.returns-clause-is
 returns-clause-is c =

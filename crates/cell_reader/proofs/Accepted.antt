@@ -7,18 +7,18 @@ use Rattle.cell_machine.proofs.RuleLemmas.{cell_of_rules}
 use Rattle.timing_arcs.specs.declared.subject.Subject.{Subject}
 use Rattle.cell_parts.specs.Groups.{cell_name, state_groups}
 use Rattle.cell_parts.specs.Pins.{pins_of, owners_of}
-use Rattle.cell_parts.specs.Declarations.{declared_of, known_cell, clashes_after, bad_names, bad_cell_name, bad_name_in}
+use Rattle.cell_parts.specs.Declarations.{declared_of, known_cell, clashes_after, bad_cell_name, bad_name_in}
 use Rattle.cell_parts.specs.Vocabulary.{vocabulary}
 use Rattle.cell_parts.specs.StateReadings.{state_reading}
 use Rattle.cell_parts.specs.Texts.{malformed_at, unknown_at}
 use Rattle.cell_parts.specs.TextFaults.{malformed_in, unknown_in}
 use Rattle.cell_parts.specs.CellLaws.{readings_of, texts_of, numbers_of, groups_of, outputs_of, CellMeetsNone}
-use Rattle.cell_parts.specs.Limits.{first_past, place_of_group, state_at, wide_output}
+use Rattle.cell_parts.specs.Limits.{first_past, state_at, wide_output}
 use Rattle.cell_reader.specs.Written.{wide_support_of}
-use Rattle.timing_arcs.specs.Timing.{least, check_at_of}
-use Rattle.cell_reader.specs.PinTimings.{arc_at_of, check_at_in, arc_at_in, wide_in}
+use Rattle.timing_arcs.specs.Timing.{least}
+use Rattle.cell_reader.specs.PinTimings.{check_at_in, arc_at_in, wide_in}
 use Rattle.cell_reader.specs.CellTexts.{subject_of}
-use Rattle.cell_reader.specs.Refusals.{reasons_of, refusal_of, timing_answers, timing_places, checks_of, arcs_of}
+use Rattle.cell_reader.specs.Refusals.{reasons_of, refusal_of, timing_answers, checks_of, arcs_of}
 use Rattle.cell_reader.specs.Laws.{AcceptedMeetsNone, AcceptedPinsAreSound, AcceptedStatesAreFew, AcceptedCellsAreSound}
 use Rattle.cell_parts.proofs.Distinct.{nil_parts}
 use Rattle.cell_parts.proofs.PinRules.{within_limit, pins_are_sound}
@@ -26,6 +26,7 @@ use Rattle.cell_parts.proofs.GroupCount.{group_count}
 use Rattle.cell_reader.proofs.Refused.{all_unmet, least_none}
 use Rattle.cell_reader.proofs.AllPlaces.{check_at_all, arc_at_all, wide_all}
 use Rattle.cell_reader.proofs.Decides.{all_read, coupled_told_is, supports_told_are, wide_supports_told_are}
+use Rattle.cell_reader.proofs.PartCounts.{IsWithinLimits, within_limits}
 use Rattle.cell_reader.proofs.TimingRules.{checks_rules, arcs_rules, arcs_apart}
 use Rattle.cell_parts.proofs.CellGroups.{groups_keep_rules}
 use Rattle.cell_parts.proofs.CellOutputs.{outputs_keep_rules}
@@ -37,25 +38,20 @@ named : (b : Bool) (at : ℕ) → (if b then [] else at ∷ []) ≡ [] → IsTru
 named true at h = refl
 named false at h = absurd cc
 
+accepted_limits : (pins : Subject) (earlier : List (List ℕ)) (cell : Group) → refusal_of pins earlier cell ≡ None → IsWithinLimits pins cell
+accepted_limits pins earlier cell h = within_limits pins cell (accepted_meets_none pins earlier cell h).1.1.1.1.1.1.1.1.1.1.1.1.0
+
 pub accepted_pins_are_sound : AcceptedPinsAreSound
 accepted_pins_are_sound pins earlier cell h =
-    let m = accepted_meets_none pins earlier cell h in
-    let m5 = m.1.1.1.1.1 in
-    let m12 = m5.1.1.1.1.1.1.1 in
-    let names = nil_parts (bad_names cell) _ m12.0 in
-    let counts = nil_parts (first_past 64 (map place_of_group (owners_of cell))) _ names.1 in
-    let cell_is_named = nil_parts (bad_cell_name cell) (flat_map bad_name_in (declared_of cell)) names.0 in
-    (named (is_name (cell_name cell)) cell.at cell_is_named.0, pins_are_sound earlier cell m5.0 names.0 counts.0)
+    let twice = (accepted_meets_none pins earlier cell h).1.1.1.1.1.0 in
+    let within = accepted_limits pins earlier cell h in
+    let cell_is_named = nil_parts (bad_cell_name cell) (flat_map bad_name_in (declared_of cell)) within.of_names in
+    (named (is_name (cell_name cell)) cell.at cell_is_named.0, pins_are_sound earlier cell twice within.of_names within.of_pins)
 
 pub accepted_states_are_few : AcceptedStatesAreFew
 accepted_states_are_few pins earlier cell h =
-    let m = accepted_meets_none pins earlier cell h in
-    let m5 = m.1.1.1.1.1 in
-    let m12 = m5.1.1.1.1.1.1.1 in
-    let names = nil_parts (bad_names cell) _ m12.0 in
-    let counts = nil_parts (first_past 64 (map place_of_group (owners_of cell))) _ names.1 in
-    let states = nil_parts (first_past 16 (flat_map state_at (state_groups cell))) _ counts.1 in
-    let few : length (flat_map state_at (state_groups cell)) ≤ 16 = within_limit 16 (flat_map state_at (state_groups cell)) states.0 in
+    let few : length (flat_map state_at (state_groups cell)) ≤ 16 =
+    within_limit 16 (flat_map state_at (state_groups cell)) (accepted_limits pins earlier cell h).of_states in
     let same : length (groups_of cell) ≡ length (flat_map state_at (state_groups cell)) =
     group_count (numbers_of cell) (state_reading (vocabulary cell) (length (pins_of cell))) (state_groups cell) in
     omega arith
@@ -72,11 +68,7 @@ accepted_meets_none_here pins earlier cell h =
     let bad_texts = nil_parts (flat_map malformed_at (texts_of cell)) _ bad_states.1 in
     let lost_states = nil_parts (flat_map unknown_in (readings_of cell)) _ m6.1.0 in
     let lost_texts = nil_parts (flat_map unknown_at (texts_of cell)) _ lost_states.1 in
-    let names = nil_parts (bad_names cell) _ m12.0 in
-    let counts = nil_parts (first_past 64 (map place_of_group (owners_of cell))) _ names.1 in
-    let states = nil_parts (first_past 16 (flat_map state_at (state_groups cell))) _ counts.1 in
-    let checks = nil_parts (first_past 256 (timing_places check_at_of pins cell)) _ states.1 in
-    let arcs = nil_parts (first_past 1024 (timing_places arc_at_of pins cell)) _ checks.1 in
+    let within = accepted_limits pins earlier cell h in
     let wide = nil_parts (flat_map (wide_support_of (vocabulary cell) (length (pins_of cell))) (state_groups cell)) _ m12.1.0 in
     let wide_texts =
     nil_parts (flat_map (wide_output (vocabulary cell) (length (pins_of cell)) (groups_of cell) (numbers_of cell)) (owners_of cell)) _ wide.1 in
@@ -88,8 +80,8 @@ accepted_meets_none_here pins earlier cell h =
       texts_read = bad_texts.0;
       texts_known = lost_texts.0;
       driven = m6.1.1.1.0;
-      few_states = states.0;
-      some_support = supports_told_are pins cell m6.1.0 m6.1.1.0 ∙ arcs.1;
+      few_states = within.of_states;
+      some_support = supports_told_are pins cell m6.1.0 m6.1.1.0 ∙ within.of_supports;
       narrow_support = wide_supports_told_are pins cell m6.1.0 m6.1.1.0 ∙ wide.0;
       narrow_outputs = wide_texts.0;
     }
@@ -106,16 +98,12 @@ timing_limits pins earlier cell h =
     let m6 = m.1.1.1.1.1.1 in
     let m12 = m6.1.1.1.1.1.1 in
     let read = all_read pins cell m6.0 m6.1.0 m6.1.1.1.1.0 m6.1.1.1.1.1.0 in
-    let names = nil_parts (bad_names cell) _ m12.0 in
-    let counts = nil_parts (first_past 64 (map place_of_group (owners_of cell))) _ names.1 in
-    let states = nil_parts (first_past 16 (flat_map state_at (state_groups cell))) _ counts.1 in
-    let checks = nil_parts (first_past 256 (timing_places check_at_of pins cell)) _ states.1 in
-    let arcs = nil_parts (first_past 1024 (timing_places arc_at_of pins cell)) _ checks.1 in
+    let within = accepted_limits pins earlier cell h in
     let wide = nil_parts (flat_map (wide_support_of (vocabulary cell) (length (pins_of cell))) (state_groups cell)) _ m12.1.0 in
     let wide_texts =
     nil_parts (flat_map (wide_output (vocabulary cell) (length (pins_of cell)) (groups_of cell) (numbers_of cell)) (owners_of cell)) _ wide.1 in (
-      ap (first_past 256) (check_at_all pins (owners_of cell) read) ∙ checks.0,
-      ap (first_past 1024) (arc_at_all pins (owners_of cell) read) ∙ arcs.0,
+      ap (first_past 256) (check_at_all pins (owners_of cell) read) ∙ within.of_checks,
+      ap (first_past 1024) (arc_at_all pins (owners_of cell) read) ∙ within.of_arcs,
       least_none (flat_map wide_in (timing_answers pins cell)) (wide_all pins (owners_of cell) read ∙ ap least wide_texts.1),
     )
 

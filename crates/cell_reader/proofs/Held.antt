@@ -7,6 +7,8 @@ use Rattle.std.proofs.lemmas.List.{length-take, take_all}
 use Rattle.liberty_groups.specs.declared.tree.Group.{Group}
 use Rattle.timing_arcs.specs.declared.subject.Subject.{Subject}
 use Rattle.timing_arcs.specs.declared.subject.Room.{Room}
+use Rattle.timing_arcs.specs.declared.subject.PinTiming.{PinTiming}
+use Rattle.timing_arcs.specs.declared.fault.TimingFault.{TimingFault}
 use Rattle.timing_arcs.specs.Timing.{reading_answer, held_answer}
 use Rattle.cell_parts.specs.Limits.{first_past}
 use Rattle.cell_parts.proofs.PinRules.{within_limit}
@@ -14,33 +16,17 @@ use Rattle.cell_reader.specs.PinTimings.{Answer, subject_at, answers_from, malfo
 use Rattle.cell_reader.specs.Held.{cell_room, left_room, held_from, AreHeld}
 use Rattle.cell_reader.proofs.TimingRules.{check_count, arc_count, check_counts, arc_counts}
 
--- what no room changes
-same_of : {A : Type 0} (f : Answer → List A) → ((room : Room) (answer : Answer) → f (held_answer room answer) ≡ f answer) → (room : Room) (subject : Subject) (pin : ℕ) (owners : List Group) → flat_map f (held_from room subject pin owners) ≡ flat_map f (answers_from subject pin owners)
+-- what no room changes of a timing
+same_of : {A : Type 0} (f : Answer → List A) → ((room : Room) (timing : PinTiming) → f (held_answer room (Ok timing)) ≡ f (Ok timing)) → (room : Room) (subject : Subject) (pin : ℕ) (owners : List Group) → flat_map f (held_from room subject pin owners) ≡ flat_map f (answers_from subject pin owners)
 same_of f h room subject pin [] = refl
 same_of f h room subject pin (owner ∷ owners) =
     let answer : Answer = reading_answer (subject_at subject pin) owner in
-    ap (λ xs. xs ++ flat_map f (held_from (left_room room (held_answer room answer)) subject (pin + 1) owners)) (h room answer)
+    ap (λ xs. xs ++ flat_map f (held_from (left_room room (held_answer room answer)) subject (pin + 1) owners)) (here answer)
     ∙ ap (λ xs. f answer ++ xs) (same_of f h (left_room room (held_answer room answer)) subject (pin + 1) owners)
-
-malformed_same : (room : Room) (answer : Answer) → malformed_timing (held_answer room answer) ≡ malformed_timing answer
-malformed_same room (Ok timing) = refl
-malformed_same room (Err e) = refl
-
-unknown_same : (room : Room) (answer : Answer) → unknown_timing (held_answer room answer) ≡ unknown_timing answer
-unknown_same room (Ok timing) = refl
-unknown_same room (Err e) = refl
-
-own_same : (room : Room) (answer : Answer) → own_timing (held_answer room answer) ≡ own_timing answer
-own_same room (Ok timing) = refl
-own_same room (Err e) = refl
-
-number_same : (room : Room) (answer : Answer) → number_timing (held_answer room answer) ≡ number_timing answer
-number_same room (Ok timing) = refl
-number_same room (Err e) = refl
-
-wide_same : (room : Room) (answer : Answer) → wide_in (held_answer room answer) ≡ wide_in answer
-wide_same room (Ok timing) = refl
-wide_same room (Err e) = refl
+  where
+    here : (answer : Answer) → f (held_answer room answer) ≡ f answer
+    here (Ok timing) = h room timing
+    here (Err e) = refl
 
 count_same : (room : Room) (subject : Subject) (pin : ℕ) (owners : List Group) → length (held_from room subject pin owners) ≡ length owners
 count_same room subject pin [] = refl
@@ -66,21 +52,22 @@ less : (n k : ℕ) → n - min n k ≡ n - k
 less n k = omega arith
 
 -- lists that are cut to the room for checks, or to that for arcs
+cut_at : {A : Type 0} (f : Answer → List A) (size : Room → ℕ) → ((room : Room) (timing : PinTiming) → f (held_answer room (Ok timing)) ≡ take (size room) (f (Ok timing)))
+    → ((e : TimingFault) → f (Err e) ≡ []) → (room : Room) (answer : Answer) → f (held_answer room answer) ≡ take (size room) (f answer)
+cut_at f size cut none room (Ok timing) = cut room timing
+cut_at f size cut none room (Err e) = none e ∙ sym (ap (take (size room)) (none e) ∙ take-nil (size room))
+
 checks_cut : (room : Room) (answer : Answer) → checks_in (held_answer room answer) ≡ take room.checks (checks_in answer)
-checks_cut room (Ok timing) = refl
-checks_cut room (Err e) = sym (take-nil room.checks)
+checks_cut = cut_at checks_in (λ (room : Room). room.checks) (λ r t. refl) (λ e. refl)
 
 arcs_cut : (room : Room) (answer : Answer) → arcs_in (held_answer room answer) ≡ take room.arcs (arcs_in answer)
-arcs_cut room (Ok timing) = refl
-arcs_cut room (Err e) = sym (take-nil room.arcs)
+arcs_cut = cut_at arcs_in (λ (room : Room). room.arcs) (λ r t. refl) (λ e. refl)
 
 check_at_cut : (room : Room) (answer : Answer) → check_at_in (held_answer room answer) ≡ take room.checks (check_at_in answer)
-check_at_cut room (Ok timing) = refl
-check_at_cut room (Err e) = sym (take-nil room.checks)
+check_at_cut = cut_at check_at_in (λ (room : Room). room.checks) (λ r t. refl) (λ e. refl)
 
 arc_at_cut : (room : Room) (answer : Answer) → arc_at_in (held_answer room answer) ≡ take room.arcs (arc_at_in answer)
-arc_at_cut room (Ok timing) = refl
-arc_at_cut room (Err e) = sym (take-nil room.arcs)
+arc_at_cut = cut_at arc_at_in (λ (room : Room). room.arcs) (λ r t. refl) (λ e. refl)
 
 cut_of :
     {A B : Type 0} (f : Answer → List A) (g : Answer → List B) (size : Room → ℕ)
@@ -148,11 +135,11 @@ are_held subject owners =
     cut_of arcs_in arcs_in (λ (r : Room). r.arcs) arcs_cut arcs_cut (λ r a. refl) (λ s o. refl) room subject 0 owners in
     record {
       count = count_same room subject 0 owners;
-      malformed = same_of malformed_timing malformed_same room subject 0 owners;
-      unknown = same_of unknown_timing unknown_same room subject 0 owners;
-      own = same_of own_timing own_same room subject 0 owners;
-      number = same_of number_timing number_same room subject 0 owners;
-      wide = same_of wide_in wide_same room subject 0 owners;
+      malformed = same_of malformed_timing (λ r t. refl) room subject 0 owners;
+      unknown = same_of unknown_timing (λ r t. refl) room subject 0 owners;
+      own = same_of own_timing (λ r t. refl) room subject 0 owners;
+      number = same_of number_timing (λ r t. refl) room subject 0 owners;
+      wide = same_of wide_in (λ r t. refl) room subject 0 owners;
       check_at = ap (first_past 256) check_at ∙ past_same 256 (flat_map check_at_in answers);
       arc_at = ap (first_past 1024) arc_at ∙ past_same 1024 (flat_map arc_at_in answers);
       checks = λ none.

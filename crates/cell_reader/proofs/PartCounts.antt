@@ -5,6 +5,7 @@ use Rattle.std.specs.List.{AllByRecursion}
 use Rattle.std.proofs.lemmas.List.{length-map}
 use Rattle.liberty_groups.specs.declared.tree.Group.{Group}
 use Rattle.timing_arcs.specs.declared.subject.Subject.{Subject}
+use Rattle.timing_arcs.specs.Timing.{check_at_of}
 use Rattle.cell_parts.specs.declared.vocabulary.Class.{Class}
 use Rattle.cell_parts.specs.Groups.{pin_groups, state_groups}
 use Rattle.cell_parts.specs.Pins.{pins_of, owners_of}
@@ -20,24 +21,35 @@ use Rattle.cell_parts.proofs.PinRules.{within_limit, owners_count}
 use Rattle.cell_parts.proofs.Fits.{readings_fit}
 use Rattle.cell_parts.proofs.GroupCount.{group_count}
 use Rattle.cell_parts.proofs.Turns.{count_shown}
-use Rattle.cell_reader.specs.Refusals.{middle_reasons, first_refusal}
+use Rattle.cell_reader.specs.PinTimings.{arc_at_of}
+use Rattle.cell_reader.specs.Written.{no_support_of}
+use Rattle.cell_reader.specs.Refusals.{limits, timing_places, middle_reasons, first_refusal}
 use Rattle.cell_reader.proofs.Refused.{all_unmet}
 
--- the limits on pins and states
-counts :
-    (subject : Subject) (cell : Group)
-    → first_refusal (middle_reasons subject cell) ≡ None
-    → (first_past 64 (map place_of_group (owners_of cell)) ≡ []) × (first_past 16 (flat_map state_at (state_groups cell)) ≡ [])
-counts subject cell h =
-    let m = all_unmet (middle_reasons subject cell) h in
-    let names = nil_parts (bad_names cell) _ m.1.1.1.1.1.1.0 in
-    let pins = nil_parts (first_past 64 (map place_of_group (owners_of cell))) _ names.1 in
-    let states = nil_parts (first_past 16 (flat_map state_at (state_groups cell))) _ pins.1 in
-    (pins.0, states.0)
+-- No limit of a cell is passed, whose timing is read for these pins.
+pub record IsWithinLimits (pins : Subject) (cell : Group) : Type 0 where
+  pub of_names : bad_names cell ≡ []
+  pub of_pins : first_past 64 (map place_of_group (owners_of cell)) ≡ []
+  pub of_states : first_past 16 (flat_map state_at (state_groups cell)) ≡ []
+  pub of_checks : first_past 256 (timing_places check_at_of pins cell) ≡ []
+  pub of_arcs : first_past 1024 (timing_places arc_at_of pins cell) ≡ []
+  pub of_supports : flat_map (no_support_of (vocabulary cell) (length (pins_of cell))) (state_groups cell) ≡ []
+
+pub within_limits : (pins : Subject) (cell : Group) → limits pins cell ≡ [] → IsWithinLimits pins cell
+within_limits pins cell h =
+    let names = nil_parts (bad_names cell) _ h in
+    let counts = nil_parts (first_past 64 (map place_of_group (owners_of cell))) _ names.1 in
+    let states = nil_parts (first_past 16 (flat_map state_at (state_groups cell))) _ counts.1 in
+    let checks = nil_parts (first_past 256 (timing_places check_at_of pins cell)) _ states.1 in
+    let arcs = nil_parts (first_past 1024 (timing_places arc_at_of pins cell)) _ checks.1 in
+    record { of_names = names.0; of_pins = counts.0; of_states = states.0; of_checks = checks.0; of_arcs = arcs.0; of_supports = arcs.1 }
+
+met_within : (subject : Subject) (cell : Group) → first_refusal (middle_reasons subject cell) ≡ None → IsWithinLimits subject cell
+met_within subject cell h = within_limits subject cell (all_unmet (middle_reasons subject cell) h).1.1.1.1.1.1.0
 
 pub few_pins : (subject : Subject) (cell : Group) → first_refusal (middle_reasons subject cell) ≡ None → length (pins_of cell) ≤ 64
 few_pins subject cell h =
-    let offsets : length (map place_of_group (owners_of cell)) ≤ 64 = within_limit 64 (map place_of_group (owners_of cell)) (counts subject cell h).0 in
+    let offsets : length (map place_of_group (owners_of cell)) ≤ 64 = within_limit 64 (map place_of_group (owners_of cell)) (met_within subject cell h).of_pins in
     let count : length (owners_of cell) ≤ 64 = simp length-map at offsets in
     let owners : length (owners_of cell) ≡ length (pins_of cell) = owners_count (pin_groups cell) in
     omega arith
@@ -53,7 +65,7 @@ state_count (group ∷ groups) =
 states_within :
     (subject : Subject) (cell : Group)
     → first_refusal (middle_reasons subject cell) ≡ None → length (flat_map state_at (state_groups cell)) ≤ 16
-states_within subject cell h = within_limit 16 (flat_map state_at (state_groups cell)) (counts subject cell h).1
+states_within subject cell h = within_limit 16 (flat_map state_at (state_groups cell)) (met_within subject cell h).of_states
 
 pub few_states : (subject : Subject) (cell : Group) → first_refusal (middle_reasons subject cell) ≡ None → length (states_of cell) ≤ 16
 few_states subject cell h = subst (λ n. n ≤ 16) (sym (state_count (state_groups cell))) (states_within subject cell h)

@@ -1,9 +1,8 @@
 -- The names of the pins of a cell, added one by one.
-use Rattle.std.proofs.Common.{◌≡◌, ℕ, ◌+◌, ◌<◌, Bool, true, false, not, ◌||◌, List, [], ◌∷◌, ◌++◌, length, take, drop, get_or, refl, sym, ◌∙◌, ap, subst, IsTrue, Option, Some, None, inl, inr}
+use Rattle.std.proofs.Common.{◌≡◌, ℕ, ◌+◌, ◌<◌, Bool, true, false, not, ◌||◌, List, [], ◌∷◌, ◌++◌, length, take, drop, get_or, refl, sym, ◌∙◌, ap, subst, IsTrue, Option, Some, None}
 use Rattle.std.specs.Prelude.{bytes_eq}
 use Rattle.std.specs.List.{list_any}
-use Rattle.std.proofs.lemmas.Bool.{cases_Bool, and_parts}
-use Rattle.std.proofs.lemmas.Slice.Eq.{bytes_eq-Decides}
+use Rattle.std.proofs.lemmas.Bool.{and_parts}
 use Rattle.std.proofs.lemmas.List.Folds.{list_any-append}
 use Rattle.std.proofs.lemmas.List.{map-append, take_more, drop_more, take-append-drop}
 use Rattle.bool_functions.specs.NameList.{number_of, Adds}
@@ -11,22 +10,12 @@ use Rattle.bool_functions.proofs.NameLists.{position-none}
 use Rattle.cell_machine.specs.declared.pins.Pin.{Pin}
 use Rattle.cell_machine.specs.CellRules.{are_distinct}
 use Rattle.cell_parts.specs.Pins.{pin_names}
+use Rattle.cell_parts.proofs.Distinct.{bytes_unlike}
 
 last_of_or : (a b c : Bool) → IsTrue (not (a || (b || c))) → b ≡ false
 last_of_or true b c h = absurd cc
 last_of_or false true c h = absurd cc
 last_of_or false false c h = refl
-
--- names that differ do so in both orders
-differ_back : (x y : List ℕ) → bytes_eq x y ≡ false → bytes_eq y x ≡ false
-differ_back x y h =
-    elim (cases_Bool (bytes_eq y x)) [
-      | inl e ↦
-          let p : y ≡ x = (bytes_eq-Decides y x).0 e in
-          let k : bytes_eq x y ≡ true = subst (λ z. bytes_eq z y ≡ true) p (subst (λ z. bytes_eq y z ≡ true) (sym p) e) in
-          absurd cc
-      | inr e ↦ e
-    ]
 
 or_false : (a b : Bool) → a ≡ false → b ≡ false → (a || b) ≡ false
 or_false a b h k = rw h k
@@ -40,7 +29,7 @@ not_before (w ∷ xs) x ys h =
     let apart : IsTrue (not (list_any (bytes_eq w) xs || (bytes_eq w x || list_any (bytes_eq w) ys))) =
     subst (λ b. IsTrue (not b)) (list_any-append (bytes_eq w) xs (x ∷ ys)) parts.0 in
     or_false (bytes_eq x w) (list_any (bytes_eq x) xs)
-    (differ_back w x (last_of_or (list_any (bytes_eq w) xs) (bytes_eq w x) (list_any (bytes_eq w) ys) apart)) (not_before xs x ys parts.1)
+    (bytes_unlike x w (last_of_or (list_any (bytes_eq w) xs) (bytes_eq w x) (list_any (bytes_eq w) ys) apart)) (not_before xs x ys parts.1)
 
 added_last : (old new : List (List ℕ)) (name : List ℕ) (number : Option ℕ) → number_of old name ≡ None → Adds old name number new → new ≡ old ++ name ∷ []
 added_last old new name (Some i) fresh added = added.2

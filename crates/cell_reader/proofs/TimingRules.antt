@@ -7,6 +7,7 @@ use Rattle.std.proofs.lemmas.Bool.{and_parts, and_from, le-leb, leb-true, eqb-tr
 use Rattle.std.proofs.lemmas.List.Folds.{list_all-append}
 use Rattle.liberty_groups.specs.declared.tree.Group.{Group}
 use Rattle.cell_machine.specs.declared.arcs.Arc.{Arc}
+use Rattle.cell_machine.specs.declared.pins.Pin.{Pin}
 use Rattle.cell_machine.specs.CellRules.{is_check, is_arc, is_in_order, are_checks, are_arcs, AreApart}
 use Rattle.timing_arcs.specs.declared.subject.Subject.{Subject}
 use Rattle.timing_arcs.specs.Timing.{reading_answer}
@@ -62,57 +63,47 @@ apart_here subject owner (Err e) is = none_apart
 
 -- All pins, where the first has this number.
 
-all_checks :
-    (subject : Subject) (pin : ℕ) (owners : List Group)
-    → flat_map wide_in (answers_from subject pin owners) ≡ []
-    → IsTrue (list_all (is_check subject.pins) (flat_map checks_in (answers_from subject pin owners)))
-all_checks subject pin [] narrow = refl
-all_checks subject pin (owner ∷ owners) narrow =
+-- what is made of a pin whose conditions are narrow enough keeps a rule, so all that is made does
+all_kept :
+    {A : Type 0} (made : Answer → List A) (keeps : List Pin → A → Bool)
+    → ((subject : Subject) (owner : Group) (answer : Answer) → reading_answer subject owner ≡ answer → wide_in answer ≡ []
+    → IsTrue (list_all (keeps subject.pins) (made answer)))
+    → (subject : Subject) (pin : ℕ) (owners : List Group) → flat_map wide_in (answers_from subject pin owners) ≡ []
+    → IsTrue (list_all (keeps subject.pins) (flat_map made (answers_from subject pin owners)))
+all_kept made keeps kept subject pin [] narrow = refl
+all_kept made keeps kept subject pin (owner ∷ owners) narrow =
     let answer : Answer = reading_answer (subject_at subject pin) owner in
     let later : List Answer = answers_from subject (pin + 1) owners in
     let parts = nil_parts (wide_in answer) (flat_map wide_in later) narrow in
-    rw (list_all-append (is_check subject.pins) (checks_in answer) (flat_map checks_in later))
-    (and_from (list_all (is_check subject.pins) (checks_in answer)) (list_all (is_check subject.pins) (flat_map checks_in later))
-    (checks_kept (subject_at subject pin) owner answer refl parts.0) (all_checks subject (pin + 1) owners parts.1))
+    rw (list_all-append (keeps subject.pins) (made answer) (flat_map made later))
+    (and_from (list_all (keeps subject.pins) (made answer)) (list_all (keeps subject.pins) (flat_map made later))
+    (kept (subject_at subject pin) owner answer refl parts.0) (all_kept made keeps kept subject (pin + 1) owners parts.1))
 
-all_arcs :
-    (subject : Subject) (pin : ℕ) (owners : List Group)
-    → flat_map wide_in (answers_from subject pin owners) ≡ []
-    → IsTrue (list_all (is_arc subject.pins) (flat_map arcs_in (answers_from subject pin owners)))
-all_arcs subject pin [] narrow = refl
-all_arcs subject pin (owner ∷ owners) narrow =
+-- there are as many of the one as of the other
+all_counts :
+    {A B : Type 0} (one : Answer → List A) (other : Answer → List B)
+    → ((subject : Subject) (owner : Group) (answer : Answer) → reading_answer subject owner ≡ answer → length (one answer) ≡ length (other answer))
+    → (subject : Subject) (pin : ℕ) (owners : List Group)
+    → length (flat_map one (answers_from subject pin owners)) ≡ length (flat_map other (answers_from subject pin owners))
+all_counts one other counts subject pin [] = refl
+all_counts one other counts subject pin (owner ∷ owners) =
     let answer : Answer = reading_answer (subject_at subject pin) owner in
     let later : List Answer = answers_from subject (pin + 1) owners in
-    let parts = nil_parts (wide_in answer) (flat_map wide_in later) narrow in
-    rw (list_all-append (is_arc subject.pins) (arcs_in answer) (flat_map arcs_in later))
-    (and_from (list_all (is_arc subject.pins) (arcs_in answer)) (list_all (is_arc subject.pins) (flat_map arcs_in later))
-    (arcs_kept (subject_at subject pin) owner answer refl parts.0) (all_arcs subject (pin + 1) owners parts.1))
+    let here : length (one answer) ≡ length (other answer) = counts (subject_at subject pin) owner answer refl in
+    let there : length (flat_map one later) ≡ length (flat_map other later) = all_counts one other counts subject (pin + 1) owners in
+    length-append (one answer) (flat_map one later)
+    ∙ (ap (λ n. n + length (flat_map one later)) here
+    ∙ (ap (λ n. length (other answer) + n) there ∙ sym (length-append (other answer) (flat_map other later))))
 
 pub check_counts :
     (subject : Subject) (pin : ℕ) (owners : List Group)
     → length (flat_map check_at_in (answers_from subject pin owners)) ≡ length (flat_map checks_in (answers_from subject pin owners))
-check_counts subject pin [] = refl
-check_counts subject pin (owner ∷ owners) =
-    let answer : Answer = reading_answer (subject_at subject pin) owner in
-    let later : List Answer = answers_from subject (pin + 1) owners in
-    let here : length (check_at_in answer) ≡ length (checks_in answer) = check_count (subject_at subject pin) owner answer refl in
-    let there : length (flat_map check_at_in later) ≡ length (flat_map checks_in later) = check_counts subject (pin + 1) owners in
-    length-append (check_at_in answer) (flat_map check_at_in later)
-    ∙ (ap (λ n. n + length (flat_map check_at_in later)) here
-    ∙ (ap (λ n. length (checks_in answer) + n) there ∙ sym (length-append (checks_in answer) (flat_map checks_in later))))
+check_counts = all_counts check_at_in checks_in check_count
 
 pub arc_counts :
     (subject : Subject) (pin : ℕ) (owners : List Group)
     → length (flat_map arc_at_in (answers_from subject pin owners)) ≡ length (flat_map arcs_in (answers_from subject pin owners))
-arc_counts subject pin [] = refl
-arc_counts subject pin (owner ∷ owners) =
-    let answer : Answer = reading_answer (subject_at subject pin) owner in
-    let later : List Answer = answers_from subject (pin + 1) owners in
-    let here : length (arc_at_in answer) ≡ length (arcs_in answer) = arc_count (subject_at subject pin) owner answer refl in
-    let there : length (flat_map arc_at_in later) ≡ length (flat_map arcs_in later) = arc_counts subject (pin + 1) owners in
-    length-append (arc_at_in answer) (flat_map arc_at_in later)
-    ∙ (ap (λ n. n + length (flat_map arc_at_in later)) here
-    ∙ (ap (λ n. length (arcs_in answer) + n) there ∙ sym (length-append (arcs_in answer) (flat_map arcs_in later))))
+arc_counts = all_counts arc_at_in arcs_in arc_count
 
 -- The order of the arcs.
 
@@ -239,30 +230,29 @@ all_apart subject pin (owner ∷ owners) =
 
 -- The rules of checks and arcs.
 
-pub checks_rules :
-    (subject : Subject) (owners : List Group)
+-- there are no more than a limit that none of their offsets passes
+few_made :
+    {A : Type 0} (at : Answer → List ℕ) (made : Answer → List A) (n : ℕ) (answers : List Answer)
+    → length (flat_map at answers) ≡ length (flat_map made answers) → first_past n (flat_map at answers) ≡ []
+    → IsTrue (nat_le (length (flat_map made answers)) n)
+few_made at made n answers count few =
+    let bound : length (flat_map at answers) ≤ n = within_limit n (flat_map at answers) few in
+    let less : length (flat_map made answers) ≤ n = omega arith in
+    le-leb (length (flat_map made answers)) n less
+
+pub checks_rules : (subject : Subject) (owners : List Group)
     → first_past 256 (flat_map check_at_in (answers_from subject 0 owners)) ≡ [] → flat_map wide_in (answers_from subject 0 owners) ≡ []
     → IsTrue (are_checks subject.pins (flat_map checks_in (answers_from subject 0 owners)))
 checks_rules subject owners few narrow =
-    let answers : List Answer = answers_from subject 0 owners in
-    let bound : length (flat_map check_at_in answers) ≤ 256 = within_limit 256 (flat_map check_at_in answers) few in
-    let count : length (flat_map check_at_in answers) ≡ length (flat_map checks_in answers) = check_counts subject 0 owners in
-    let less : length (flat_map checks_in answers) ≤ 256 = omega arith in
-    and_from (nat_le (length (flat_map checks_in answers)) 256) (list_all (is_check subject.pins) (flat_map checks_in answers))
-    (le-leb (length (flat_map checks_in answers)) 256 less) (all_checks subject 0 owners narrow)
+    and_from _ _ (few_made check_at_in checks_in 256 (answers_from subject 0 owners) (check_counts subject 0 owners) few)
+    (all_kept checks_in is_check checks_kept subject 0 owners narrow)
 
-pub arcs_rules :
-    (subject : Subject) (owners : List Group)
+pub arcs_rules : (subject : Subject) (owners : List Group)
     → first_past 1024 (flat_map arc_at_in (answers_from subject 0 owners)) ≡ [] → flat_map wide_in (answers_from subject 0 owners) ≡ []
     → IsTrue (are_arcs subject.pins (flat_map arcs_in (answers_from subject 0 owners)))
 arcs_rules subject owners few narrow =
-    let answers : List Answer = answers_from subject 0 owners in
-    let bound : length (flat_map arc_at_in answers) ≤ 1024 = within_limit 1024 (flat_map arc_at_in answers) few in
-    let count : length (flat_map arc_at_in answers) ≡ length (flat_map arcs_in answers) = arc_counts subject 0 owners in
-    let less : length (flat_map arcs_in answers) ≤ 1024 = omega arith in
-    and_from (nat_le (length (flat_map arcs_in answers)) 1024) _ (le-leb (length (flat_map arcs_in answers)) 1024 less)
-    (and_from (list_all (is_arc subject.pins) (flat_map arcs_in answers)) (is_in_order (ends (flat_map arcs_in answers)))
-    (all_arcs subject 0 owners narrow) (arcs_in_order subject 0 owners))
+    and_from _ _ (few_made arc_at_in arcs_in 1024 (answers_from subject 0 owners) (arc_counts subject 0 owners) few)
+    (and_from _ _ (all_kept arcs_in is_arc arcs_kept subject 0 owners narrow) (arcs_in_order subject 0 owners))
 
 pub arcs_apart : (subject : Subject) (owners : List Group) → AreApart (flat_map arcs_in (answers_from subject 0 owners))
 arcs_apart subject owners = all_apart subject 0 owners

@@ -13,6 +13,8 @@ use Rattle.timing_arcs.specs.Attributes.{Attribute, attribute_of, group_named}
 use Rattle.timing_arcs.specs.Timing.{reading_answer, placed_arcs}
 use Rattle.timing_arcs.specs.Merging.{merged_at}
 use Rattle.cell_reader.specs.declared.left_out.LeftOut.{LeftOut}
+use Rattle.cell_reader.specs.declared.timing_faults.WrongTiming.{WrongTiming}
+use Rattle.cell_reader.specs.declared.timing_faults.WrongTiming.TheVariants as wrong
 
 -- the pin with this number, in the same cell
 abbrev pub subject_at : Subject → ℕ → Subject
@@ -37,58 +39,45 @@ places_from places cell pin (owner ∷ owners) = places (subject_at cell pin) ow
 abbrev pub arc_at_of : Subject → Group → List ℕ
 arc_at_of subject pin = merged_at (placed_arcs subject pin)
 
--- What an answer tells of what is wrong in a pin's timing: the kind that is wrong first, at its least offset.
+-- What an answer tells of what is wrong in a pin's timing in one way: of the kind that is wrong first, its least offset.
+abbrev pub told_timing : WrongTiming → Answer → List ℕ
+told_timing wrong.Malformed (Err (fault.Malformed at)) = at ∷ []
+told_timing wrong.UnknownName (Err (fault.UnknownName at)) = at ∷ []
+told_timing wrong.OwnCondition (Err (fault.OwnCondition at)) = at ∷ []
+told_timing wrong.Number (Err (fault.Number at)) = at ∷ []
+told_timing _ _ = []
+
 abbrev pub malformed_timing : Answer → List ℕ
-malformed_timing (Ok timing) = []
-malformed_timing (Err (fault.Malformed at)) = at ∷ []
-malformed_timing (Err (fault.UnknownName at)) = []
-malformed_timing (Err (fault.OwnCondition at)) = []
-malformed_timing (Err (fault.Number at)) = []
-malformed_timing (Err fault.Memory) = []
+malformed_timing answer = told_timing wrong.Malformed answer
 
 abbrev pub unknown_timing : Answer → List ℕ
-unknown_timing (Ok timing) = []
-unknown_timing (Err (fault.Malformed at)) = []
-unknown_timing (Err (fault.UnknownName at)) = at ∷ []
-unknown_timing (Err (fault.OwnCondition at)) = []
-unknown_timing (Err (fault.Number at)) = []
-unknown_timing (Err fault.Memory) = []
+unknown_timing answer = told_timing wrong.UnknownName answer
 
 abbrev pub own_timing : Answer → List ℕ
-own_timing (Ok timing) = []
-own_timing (Err (fault.Malformed at)) = []
-own_timing (Err (fault.UnknownName at)) = []
-own_timing (Err (fault.OwnCondition at)) = at ∷ []
-own_timing (Err (fault.Number at)) = []
-own_timing (Err fault.Memory) = []
+own_timing answer = told_timing wrong.OwnCondition answer
 
 abbrev pub number_timing : Answer → List ℕ
-number_timing (Ok timing) = []
-number_timing (Err (fault.Malformed at)) = []
-number_timing (Err (fault.UnknownName at)) = []
-number_timing (Err (fault.OwnCondition at)) = []
-number_timing (Err (fault.Number at)) = at ∷ []
-number_timing (Err fault.Memory) = []
+number_timing answer = told_timing wrong.Number answer
+
+-- what the timing of a pin has of one kind, where it is answered
+abbrev pub in_timing : {A : Type 0} → (PinTiming → List A) → Answer → List A
+in_timing part (Ok timing) = part timing
+in_timing part (Err e) = []
 
 abbrev pub checks_in : Answer → List Check
-checks_in (Ok timing) = timing.checks
-checks_in (Err e) = []
+checks_in answer = in_timing (λ (timing : PinTiming). timing.checks) answer
 
 abbrev pub arcs_in : Answer → List Arc
-arcs_in (Ok timing) = timing.arcs
-arcs_in (Err e) = []
+arcs_in answer = in_timing (λ (timing : PinTiming). timing.arcs) answer
 
 abbrev pub check_at_in : Answer → List ℕ
-check_at_in (Ok timing) = timing.check_at
-check_at_in (Err e) = []
+check_at_in answer = in_timing (λ (timing : PinTiming). timing.check_at) answer
 
 abbrev pub arc_at_in : Answer → List ℕ
-arc_at_in (Ok timing) = timing.arc_at
-arc_at_in (Err e) = []
+arc_at_in answer = in_timing (λ (timing : PinTiming). timing.arc_at) answer
 
 abbrev pub wide_in : Answer → List ℕ
-wide_in (Ok timing) = option_map_or (λ at. at ∷ []) timing.wide []
-wide_in (Err e) = []
+wide_in answer = in_timing (λ (timing : PinTiming). option_map_or (λ at. at ∷ []) timing.wide []) answer
 
 -- The type of the timing group that a statement is; one without `timing_type` is combinational.
 abbrev pub type_text : Option Group → List ℕ

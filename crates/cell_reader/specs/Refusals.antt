@@ -9,6 +9,8 @@ use Rattle.cell_reader.specs.declared.refusal.Reason.{Reason}
 use Rattle.cell_reader.specs.declared.refusal.Reason.TheVariants as reason
 use Rattle.cell_reader.specs.declared.refusal.Refusal.{Refusal}
 use Rattle.cell_reader.specs.declared.left_out.LeftOut.{LeftOut}
+use Rattle.cell_parts.specs.declared.texts.Text.{Text}
+use Rattle.cell_parts.specs.declared.state_readings.StateReading.{StateReading}
 use Rattle.cell_parts.specs.Groups.{state_groups}
 use Rattle.cell_parts.specs.Pins.{pins_of, owners_of}
 use Rattle.cell_parts.specs.Scans.{directions, three_states, banks, left_out_states, clear_presets, no_functions}
@@ -42,18 +44,18 @@ timing_places places pins cell = places_from places pins 0 (owners_of cell)
 -- The list of a reason holds each offset at which it is met, also where a reason before it is met at the same pin, group
 -- or text.
 
+-- the offsets of what is wrong in one way with the texts of states, with those of pins, and in the timing
+abbrev pub wrong_texts : (StateReading → List ℕ) → (Text → List ℕ) → List ℕ → Group → List ℕ
+wrong_texts in_states in_pins timing cell = flat_map in_states (readings_of cell) ++ (flat_map in_pins (texts_of cell) ++ timing)
+
 -- A function text does not read or has more than 4,096 bytes, a table does not read, a needed attribute is absent, or
 -- a group's arguments are not two names.
 abbrev pub malformed : Subject → Group → List ℕ
-malformed pins cell =
-    flat_map malformed_in (readings_of cell)
-    ++ (flat_map malformed_at (texts_of cell) ++ timing_places malformed_timing pins cell)
+malformed pins cell = wrong_texts malformed_in malformed_at (timing_places malformed_timing pins cell) cell
 
 -- A text names nothing of the allowed kind.
 abbrev pub unknown_names : Subject → Group → List ℕ
-unknown_names pins cell =
-    flat_map unknown_in (readings_of cell)
-    ++ (flat_map unknown_at (texts_of cell) ++ timing_places unknown_timing pins cell)
+unknown_names pins cell = wrong_texts unknown_in unknown_at (timing_places unknown_timing pins cell) cell
 
 -- A state text makes one state hang on another.
 abbrev pub coupled : Group → List ℕ
@@ -67,16 +69,19 @@ own_conditions pins cell = timing_places own_conditions_of pins cell
 abbrev pub numbers : Subject → Group → List ℕ
 numbers pins cell = timing_places number_timing pins cell
 
+-- the offsets of what is over its limit, where these are those of the checks, of the arcs and of empty supports
+abbrev pub limits_by : List ℕ → List ℕ → List ℕ → Group → List ℕ
+limits_by checks arcs supports cell =
+    bad_names cell
+    ++ (first_past 64 (map place_of_group (owners_of cell))
+    ++ (first_past 16 (flat_map state_at (state_groups cell)) ++ (first_past 256 checks ++ (first_past 1024 arcs ++ supports))))
+
 -- A count or a name is over its limit, a name is empty or has a byte that may not stand in it, or the support of a state
 -- group is empty. The limits are 64 pins, 16 states, 256 checks and 1,024 arcs.
 abbrev pub limits : Subject → Group → List ℕ
 limits pins cell =
-    bad_names cell
-    ++ (first_past 64 (map place_of_group (owners_of cell))
-    ++ (first_past 16 (flat_map state_at (state_groups cell))
-    ++ (first_past 256 (timing_places check_at_of pins cell)
-    ++ (first_past 1024 (timing_places arc_at_of pins cell)
-    ++ flat_map (no_support_of (vocabulary cell) (length (pins_of cell))) (state_groups cell)))))
+    limits_by (timing_places check_at_of pins cell) (timing_places arc_at_of pins cell)
+    (flat_map (no_support_of (vocabulary cell) (length (pins_of cell))) (state_groups cell)) cell
 
 -- A state group has more than 8 pins in its support, or a condition or the function of an output more than 10 names. A text
 -- that names nothing of the allowed kind is no function of an output.
@@ -105,17 +110,22 @@ early_reasons earlier cell =
     ∷ met reason.Duplicate (duplicates earlier cell)
     ∷ []
 
--- the reasons that are tried after them, but for the last
+-- the reasons that are tried after them, but for the last, where these are the offsets at which each is met
+abbrev pub middle_by : List ℕ → List ℕ → List ℕ → List ℕ → List ℕ → List ℕ → List ℕ → List Met
+middle_by malformed unknown coupled without own numbers limits =
+    met reason.Malformed malformed
+    ∷ met reason.UnknownName unknown
+    ∷ met reason.Coupled coupled
+    ∷ met reason.NoFunction without
+    ∷ met reason.OwnCondition own
+    ∷ met reason.Number numbers
+    ∷ met reason.Limit limits
+    ∷ []
+
 abbrev pub middle_reasons : Subject → Group → List Met
 middle_reasons pins cell =
-    met reason.Malformed (malformed pins cell)
-    ∷ met reason.UnknownName (unknown_names pins cell)
-    ∷ met reason.Coupled (coupled cell)
-    ∷ met reason.NoFunction (no_functions cell)
-    ∷ met reason.OwnCondition (own_conditions pins cell)
-    ∷ met reason.Number (numbers pins cell)
-    ∷ met reason.Limit (limits pins cell)
-    ∷ []
+    middle_by (malformed pins cell) (unknown_names pins cell) (coupled cell) (no_functions cell) (own_conditions pins cell)
+    (numbers pins cell) (limits pins cell)
 
 -- the reasons that are tried after the texts are read
 abbrev pub later_reasons : Subject → Group → List Met

@@ -3,17 +3,48 @@
 use Rattle.std.specs.Prelude.{ℕ, List, [], ◌∷◌, ◌++◌, map, flat_map}
 use Rattle.timing_arcs.specs.declared.subject.Subject.{Subject}
 use Rattle.liberty_groups.specs.declared.tree.Group.{Group}
-use Rattle.cell_reader.specs.declared.refusal.Reason.TheVariants as reason
+use Rattle.cell_reader.specs.declared.limits.WrongSupport.{WrongSupport}
+use Rattle.cell_reader.specs.declared.limits.WrongSupport.TheVariants as support
+use Rattle.cell_reader.specs.declared.text_faults.WrongText.{WrongText}
+use Rattle.cell_reader.specs.declared.text_faults.WrongText.TheVariants as wrong
+use Rattle.cell_parts.specs.declared.texts.Text.{Text}
+use Rattle.cell_parts.specs.declared.state_readings.StateReading.{StateReading}
 use Rattle.cell_parts.specs.Groups.{state_groups}
 use Rattle.cell_parts.specs.Pins.{owners_of}
 use Rattle.cell_parts.specs.Scans.{no_functions}
 use Rattle.cell_parts.specs.Declarations.{bad_names}
-use Rattle.cell_parts.specs.Texts.{malformed_at, unknown_at}
+use Rattle.cell_parts.specs.Texts.{malformed_at, unknown_at, coupled_at}
 use Rattle.cell_parts.specs.TextFaults.{malformed_in, unknown_in, coupled_in}
 use Rattle.cell_parts.specs.CellLaws.{readings_of, texts_of}
-use Rattle.cell_parts.specs.Limits.{first_past, place_of_group, state_at, no_support_in}
-use Rattle.cell_reader.specs.PinTimings.{malformed_timing, unknown_timing, own_timing, number_timing, check_at_in, arc_at_in}
+use Rattle.cell_parts.specs.Limits.{first_past, place_of_group, state_at, no_support_in, wide_support_in}
+use Rattle.cell_reader.specs.declared.refusal.Reason.TheVariants as reason
+use Rattle.cell_reader.specs.declared.timing_faults.WrongTiming.{WrongTiming}
+use Rattle.cell_reader.specs.declared.timing_faults.WrongTiming.TheVariants as timing
+use Rattle.cell_reader.specs.PinTimings.{Answer, malformed_timing, unknown_timing, own_timing, number_timing, check_at_in, arc_at_in}
 use Rattle.cell_reader.specs.Refusals.{Met, met, timing_answers}
+
+-- what is wrong in this way with the texts of a state group, and with a text
+abbrev pub wrong_in : WrongText → StateReading → List ℕ
+wrong_in wrong.Malformed = malformed_in
+wrong_in wrong.Unknown = unknown_in
+wrong_in wrong.Coupled = coupled_in
+
+abbrev pub wrong_at : WrongText → Text → List ℕ
+wrong_at wrong.Malformed = malformed_at
+wrong_at wrong.Unknown = unknown_at
+wrong_at wrong.Coupled = coupled_at
+
+-- what an answer tells of what is wrong in this way in the timing of a pin
+abbrev pub wrong_timing : WrongTiming → Answer → List ℕ
+wrong_timing timing.Malformed = malformed_timing
+wrong_timing timing.UnknownName = unknown_timing
+wrong_timing timing.OwnCondition = own_timing
+wrong_timing timing.Number = number_timing
+
+-- where the support of a state group is of this size
+abbrev pub wrong_support_in : WrongSupport → StateReading → List ℕ
+wrong_support_in support.Empty = no_support_in
+wrong_support_in support.Wide = wide_support_in
 
 abbrev pub malformed_told : Subject → Group → List ℕ
 malformed_told pins cell =

@@ -26,10 +26,8 @@ use Rattle.cell_parts.specs.StateReadings.{data_name, control_name, holds_state,
 -- of the names that have one. A text that does not read as a function text, or is too long, has no names.
 abbrev pub numbers_read : List (List ℕ) → List ℕ → Result Node FunctionFault → List ℕ
 numbers_read names text (Ok f) = support_of f
-numbers_read names text (Err fault.TooLong) = []
-numbers_read names text (Err (fault.Malformed at)) = []
 numbers_read names text (Err (fault.UnknownName at)) = filter_map (number_of names) (free_names text)
-numbers_read names text (Err fault.Memory) = []
+numbers_read names text (Err _) = []
 
 abbrev pub numbers_written : List (List ℕ) → List ℕ → List ℕ
 numbers_written names text = numbers_read names text (reading_of names text)
@@ -37,10 +35,8 @@ numbers_written names text = numbers_read names text (reading_of names text)
 -- How many names it has, of each the first alone.
 abbrev pub count_read : List ℕ → Result Node FunctionFault → ℕ
 count_read text (Ok f) = length (support_of f)
-count_read text (Err fault.TooLong) = 0
-count_read text (Err (fault.Malformed at)) = 0
 count_read text (Err (fault.UnknownName at)) = length (free_names text)
-count_read text (Err fault.Memory) = 0
+count_read text (Err _) = 0
 
 -- The conditions of a pin's timing groups that are read and name a pin of the check or arc.
 abbrev pub own_written : Subject → Group → Option Attribute → List ℕ

@@ -1,6 +1,6 @@
 //! The timing of the pins of a cell.
 ghost use Rattle.std.specs.Prelude.{◌≡◌, [], ◌∷◌, ◌++◌, IfOk, OnOk, length, map, flat_map};
-ghost use Rattle.timing_arcs.specs.Timing.{reading_answer, held_answer, Gives};
+ghost use Rattle.timing_arcs.specs.Timing.{reading_answer, held_answer};
 ghost use Rattle.cell_parts.specs.Pins.{owners_in};
 ghost use Rattle.cell_reader.specs.Held.{cell_room, left_room, next_answer, room_after, held_from, AreSharedTexts};
 
@@ -26,24 +26,7 @@ fn shared_texts<'a>(
     }
 }
 
-/// The timing of a pin, from what its group says where that is read.
-fn shared_timing(
-    alloc: Global,
-    subject: &Subject,
-    owner: &Group,
-    texts: &Option<TimingTexts<'_>>,
-    room: Room,
-) -> Result<PinTiming, TimingFault>
-    requires { AreSharedTexts subject.now owner.now texts.now }
-    ensures { Gives result (held_answer room (reading_answer subject.now owner.now)) }
-{
-    match texts {
-        Some(texts) => texts.timing(alloc, subject, room),
-        None => read_timing(alloc, owner, subject, room),
-    }
-}
-
-/// What reading the timing of a pin answers, as far as there is room, want of memory aside.
+/// What reading the timing of a pin answers, as far as there is room, from what its group says where that is read.
 fn timing_answer(
     alloc: Global,
     subject: &Subject,
@@ -54,13 +37,9 @@ fn timing_answer(
     requires { AreSharedTexts subject.now owner.now texts.now }
     ensures { IfOk result (λ answer. answer ≡ held_answer room (reading_answer subject.now owner.now)) }
 {
-    match shared_timing(alloc, subject, owner, texts, room) {
-        Ok(timing) => Ok(Ok(timing)),
-        Err(TimingFault::Malformed(at)) => Ok(Err(TimingFault::Malformed(at))),
-        Err(TimingFault::UnknownName(at)) => Ok(Err(TimingFault::UnknownName(at))),
-        Err(TimingFault::OwnCondition(at)) => Ok(Err(TimingFault::OwnCondition(at))),
-        Err(TimingFault::Number(at)) => Ok(Err(TimingFault::Number(at))),
-        Err(TimingFault::Memory) => Err(AllocError),
+    match texts {
+        Some(texts) => texts.timing(alloc, subject, room),
+        None => read_timing(alloc, owner, subject, room),
     }
 }
 

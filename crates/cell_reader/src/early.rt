@@ -8,7 +8,8 @@ ghost use Rattle.cell_reader.specs.Refusals.{first_refusal, early_reasons, refus
 
 use crate::limits::known_cell;
 use crate::refusal::{Reason, Refusal};
-use crate::scans::{banks, clear_presets, directions, left_out_states, three_states};
+use crate::scan::least_among_held;
+use crate::scans::{BadDirections, BankGroups, ClearPresets, LeftOutStates, ThreeStates};
 use bool_functions::Names;
 use cell_parts::declarations::{declared_of, first_clash};
 use cell_parts::least::lesser;
@@ -39,7 +40,8 @@ fn left_out(cell: &Group, pins: &[&Group], states: &[&Group]) -> Option<usize>
     ensures { result ≡ least (left_out_states_of cell.now) }
 {
     let _at = cell.at;
-    lesser(left_out_states(pins), left_out_states(states))
+    let of_pins = least_among_held(&LeftOutStates, pins);
+    lesser(of_pins, least_among_held(&LeftOutStates, states))
 }
 
 /// This reason where it is met, else what comes later.
@@ -72,9 +74,13 @@ pub(crate) fn early_refusal(
 {
     let duplicate = duplicates(alloc, earlier, cell, groups)?;
     let later = refused_or(Reason::Duplicate, duplicate, None);
-    let later = refused_or(Reason::ClearPreset, clear_presets(states), later);
+    let clear_preset = least_among_held(&ClearPresets, states);
+    let later = refused_or(Reason::ClearPreset, clear_preset, later);
     let later = refused_or(Reason::LeftOutState, left_out(cell, pins, states), later);
-    let later = refused_or(Reason::Bank, banks(groups), later);
-    let later = refused_or(Reason::ThreeState, three_states(pins), later);
-    Ok(refused_or(Reason::Direction, directions(pins), later))
+    let bank = least_among_held(&BankGroups, groups);
+    let later = refused_or(Reason::Bank, bank, later);
+    let three_state = least_among_held(&ThreeStates, pins);
+    let later = refused_or(Reason::ThreeState, three_state, later);
+    let direction = least_among_held(&BadDirections, pins);
+    Ok(refused_or(Reason::Direction, direction, later))
 }

@@ -1,5 +1,5 @@
 //! The refusals that are tried after the texts are read.
-ghost use Rattle.std.specs.Prelude.{◌≡◌, IfOk, map, flat_map, None, Option};
+ghost use Rattle.std.specs.Prelude.{◌≡◌, IfOk};
 ghost use Rattle.timing_arcs.specs.Timing.{least};
 ghost use Rattle.cell_parts.specs.Declarations.{bad_names as bad_names_of};
 ghost use Rattle.cell_reader.specs.Refusals.{middle_reasons, first_refusal};
@@ -7,18 +7,26 @@ ghost use Rattle.cell_reader.specs.Told.{malformed_told, unknown_told, limits_to
 ghost use Rattle.cell_reader.specs.Parts.{subject_in, AreParts};
 
 use crate::early::refused_or;
-use crate::limits::{bad_cell_name, first_group_past, first_past, no_supports, state_offsets};
-use crate::offsets::{arc_offsets, check_offsets};
+use crate::limits::{WrongSupport, bad_cell_name, first_group_past, first_past, state_offsets};
+use crate::offsets::made_offsets;
 use crate::parts::Parts;
 use crate::refusal::{Reason, Refusal};
-use crate::scans::no_functions;
-use crate::text_faults::{
-    coupled_states, malformed_pins, malformed_states, unknown_pins, unknown_states,
-};
-use crate::timing_faults::{malformed_timings, number_timings, own_timings, unknown_timings};
+use crate::scan::{least_among, least_among_held};
+use crate::scans::NoFunctions;
+use crate::text_faults::WrongText;
+use crate::timing_faults::WrongTiming;
 use cell_parts::declarations::{declared_of, first_bad_name};
 use cell_parts::least::lesser;
 use std::alloc::{AllocError, Global};
+
+/// Where the texts of a cell, or the timing of its pins, are wrong in these ways.
+macro_rules! least_wrong {
+    ($parts:expr, $text:expr, $timing:expr) => {{
+        let states = least_among(&$text, $parts.readings.as_slice());
+        let pins = least_among(&$text, $parts.texts.as_slice());
+        lesser(states, lesser(pins, least_among(&$timing, &$parts.answers)))
+    }};
+}
 
 /// Where a text or a table of the cell does not read.
 #[tactic(auto, using(cell_parts::proofs::LeastLemmas::least_append))]
@@ -26,9 +34,7 @@ fn malformed(parts: &Parts<'_>) -> Option<usize>
     requires { AreParts parts.now }
     ensures { result ≡ least (malformed_told (subject_in parts.now) parts.now.cell.now) }
 {
-    let states = malformed_states(parts.readings.as_slice());
-    let pins = malformed_pins(parts.texts.as_slice());
-    lesser(states, lesser(pins, malformed_timings(&parts.answers)))
+    least_wrong!(parts, WrongText::Malformed, WrongTiming::Malformed)
 }
 
 /// Where a text of the cell names nothing of the kind that it may name.
@@ -37,9 +43,7 @@ fn unknown_names(parts: &Parts<'_>) -> Option<usize>
     requires { AreParts parts.now }
     ensures { result ≡ least (unknown_told (subject_in parts.now) parts.now.cell.now) }
 {
-    let states = unknown_states(parts.readings.as_slice());
-    let pins = unknown_pins(parts.texts.as_slice());
-    lesser(states, lesser(pins, unknown_timings(&parts.answers)))
+    least_wrong!(parts, WrongText::Unknown, WrongTiming::UnknownName)
 }
 
 /// Where a name of the cell is none.
@@ -61,12 +65,11 @@ fn limits(alloc: Global, parts: &Parts<'_>) -> Result<Option<usize>, AllocError>
     let names = bad_names(alloc, parts)?;
     let pins = first_group_past(64, &parts.owners);
     let states = state_offsets(alloc, &parts.state_groups)?;
-    let checks = check_offsets(alloc, &parts.answers)?;
-    let arcs = arc_offsets(alloc, &parts.answers)?;
-    let supports = no_supports(parts.readings.as_slice());
+    let made = made_offsets(alloc, &parts.answers)?;
+    let supports = least_among(&WrongSupport::Empty, parts.readings.as_slice());
     let timing = lesser(
-        first_past(256, &checks),
-        lesser(first_past(1024, &arcs), supports),
+        first_past(256, &made.checks),
+        lesser(first_past(1024, &made.arcs), supports),
     );
     let counts = lesser(pins, lesser(first_past(16, &states), timing));
     Ok(lesser(names, counts))
@@ -80,10 +83,13 @@ fn told_refusal(alloc: Global, parts: &Parts<'_>) -> Result<Option<Refusal>, All
 {
     let over = limits(alloc, parts)?;
     let later = refused_or(Reason::Limit, over, None);
-    let later = refused_or(Reason::Number, number_timings(&parts.answers), later);
-    let later = refused_or(Reason::OwnCondition, own_timings(&parts.answers), later);
-    let later = refused_or(Reason::NoFunction, no_functions(&parts.pin_groups), later);
-    let coupled = coupled_states(parts.readings.as_slice());
+    let number = least_among(&WrongTiming::Number, &parts.answers);
+    let later = refused_or(Reason::Number, number, later);
+    let own = least_among(&WrongTiming::OwnCondition, &parts.answers);
+    let later = refused_or(Reason::OwnCondition, own, later);
+    let no_function = least_among_held(&NoFunctions, &parts.pin_groups);
+    let later = refused_or(Reason::NoFunction, no_function, later);
+    let coupled = least_among(&WrongText::Coupled, parts.readings.as_slice());
     let later = refused_or(Reason::Coupled, coupled, later);
     let later = refused_or(Reason::UnknownName, unknown_names(parts), later);
     Ok(refused_or(Reason::Malformed, malformed(parts), later))

@@ -2,10 +2,11 @@
 ghost use Rattle.std.specs.Prelude.{◌≡◌, ◌++◌, OnOk, IfOk, map, flat_map};
 ghost use Rattle.timing_arcs.specs.Timing.{least};
 ghost use Rattle.cell_parts.specs.Declarations.{bad_cell_name as bad_cell_name_of, known_cell as known_cell_of};
-ghost use Rattle.cell_parts.specs.Limits.{first_past as first_past_of, place_of_group, place_of_state as place_of_state_in, state_at, no_support_in as no_support_in_of, wide_support_in as wide_support_in_of};
+ghost use Rattle.cell_parts.specs.Limits.{first_past as first_past_of, place_of_group, place_of_state as place_of_state_in, state_at};
 ghost use Rattle.cell_parts.specs.Shown.{shown_state};
+ghost use Rattle.cell_reader.specs.Told.{wrong_support_in};
 
-use crate::scan::{Scan, least_among};
+use crate::scan::Scan;
 use bool_functions::Names;
 use cell_parts::declarations::is_name;
 use cell_parts::groups::cell_name;
@@ -84,48 +85,29 @@ pub(crate) fn state_offsets(alloc: Global, groups: &[&Group]) -> Result<Vec<usiz
     Ok(offsets)
 }
 
-/// Where a group holds a state and names no input pin.
-struct NoSupports;
+/// How many input pins a group that holds a state may not name.
+#[derive(Clone, Copy)]
+pub(crate) enum WrongSupport {
+    /// None.
+    Empty,
+    /// More than 8.
+    Wide,
+}
 
-impl Scan<StateReading> for NoSupports {
-    ghost places = { no_support_in_of };
+impl Scan<StateReading> for WrongSupport {
+    ghost places = { wrong_support_in };
 
-    #[tactic(auto, unfolding(cell_parts::specs::Limits::no_support_in))]
+    #[tactic(auto, unfolding(cell_parts::specs::Limits::no_support_in, cell_parts::specs::Limits::wide_support_in))]
     fn least_in(&self, reading: &StateReading) -> Option<usize> {
-        if reading.holds && reading.support.len() == 0 {
+        let pins = reading.support.len();
+        let is_wrong = match self {
+            WrongSupport::Empty => pins == 0,
+            WrongSupport::Wide => 8 < pins,
+        };
+        if reading.holds && is_wrong {
             Some(reading.at)
         } else {
             None
         }
     }
-}
-
-/// Where a state names no input pin.
-pub(crate) fn no_supports(readings: &[StateReading]) -> Option<usize>
-    ensures { result ≡ least (flat_map no_support_in_of readings.now) }
-{
-    least_among(&NoSupports, readings)
-}
-
-/// Where a group holds a state and names more than 8 input pins.
-struct WideSupports;
-
-impl Scan<StateReading> for WideSupports {
-    ghost places = { wide_support_in_of };
-
-    #[tactic(auto, unfolding(cell_parts::specs::Limits::wide_support_in))]
-    fn least_in(&self, reading: &StateReading) -> Option<usize> {
-        if reading.holds && 8 < reading.support.len() {
-            Some(reading.at)
-        } else {
-            None
-        }
-    }
-}
-
-/// Where a state names more than 8 input pins.
-pub(crate) fn wide_supports(readings: &[StateReading]) -> Option<usize>
-    ensures { result ≡ least (flat_map wide_support_in_of readings.now) }
-{
-    least_among(&WideSupports, readings)
 }

@@ -1,18 +1,21 @@
 //! The names of a cell by their numbers in it, and its states over them.
-ghost use Rattle.std.specs.Prelude.{◌≡◌, IfOk, None, Option, flat_map, length};
+ghost use Rattle.std.specs.Prelude.{◌≡◌, ◌≤◌, IfOk, None, Option, flat_map, length};
 ghost use Rattle.timing_arcs.specs.Timing.{least};
 ghost use Rattle.cell_parts.specs.Groups.{state_groups as state_groups_of};
 ghost use Rattle.cell_parts.specs.Pins.{pins_of};
 ghost use Rattle.cell_parts.specs.Vocabulary.{vocabulary};
 ghost use Rattle.cell_reader.specs.Written.{wide_conditions_of, wide_support_of};
 ghost use Rattle.cell_reader.specs.Refusals.{timing_places, middle_reasons, first_refusal, udp_inputs as udp_inputs_of};
-ghost use Rattle.cell_reader.specs.Parts.{subject_in, AreParts, AreNumbered};
+ghost use Rattle.cell_parts.specs.CellLaws.{numbers_of, groups_of};
+ghost use Rattle.cell_parts.specs.Shown.{shown_vocabulary};
+ghost use Rattle.cell_reader.specs.Parts.{subject_in, AreParts, AreNumbered, IsWithin};
 
 use crate::cell_numbers::cell_numbers;
-use crate::limits::wide_supports;
-use crate::offsets::wide_timings;
-use crate::output_pins::wide_outputs;
+use crate::limits::WrongSupport;
+use crate::offsets::WideTimings;
+use crate::output_pins::OutputReader;
 use crate::parts::Parts;
+use crate::scan::least_among;
 use crate::state_groups::state_groups;
 use cell_machine::StateGroup;
 use cell_parts::least::lesser;
@@ -24,6 +27,33 @@ use std::alloc::{AllocError, Global};
 pub struct Numbered {
     pub numbers: Vec<usize>,
     pub groups: Items<StateGroup>,
+}
+
+impl Numbered {
+    /// What the outputs of the cell of these parts are read with.
+    pub(crate) fn reader<'a, 'b>(
+        &'a self,
+        alloc: Global,
+        parts: &'a Parts<'b>,
+    ) -> OutputReader<'a, 'b>
+        requires parts { AreParts parts.now }
+        requires numbered { AreNumbered parts.now.cell.now self.now }
+        requires pins { length (pins_of parts.now.cell.now) ≤ 64 }
+        requires groups { length (groups_of parts.now.cell.now) ≤ 16 }
+        ensures within { IsWithin result }
+        ensures vocabulary { shown_vocabulary result.vocabulary.now ≡ vocabulary parts.now.cell.now }
+        ensures pins { result.pins ≡ length (pins_of parts.now.cell.now) }
+        ensures groups { result.groups.now ≡ groups_of parts.now.cell.now }
+        ensures numbers { result.to.now ≡ numbers_of parts.now.cell.now }
+    {
+        OutputReader {
+            alloc,
+            vocabulary: &parts.vocabulary,
+            groups: self.groups.as_slice(),
+            to: &self.numbers,
+            pins: parts.pins.len(),
+        }
+    }
 }
 
 /// The numbers of the names of a cell, and its state groups.
@@ -49,7 +79,7 @@ fn wide_conditions(parts: &Parts<'_>) -> Option<usize>
     requires unmet { first_refusal (middle_reasons (subject_in parts.now) parts.now.cell.now) ≡ None }
     ensures { result ≡ least (timing_places wide_conditions_of (subject_in parts.now) parts.now.cell.now) }
 {
-    wide_timings(&parts.answers)
+    least_among(&WideTimings, &parts.answers)
 }
 
 /// Where a state group names more than 8 pins.
@@ -58,7 +88,7 @@ fn wide_states(parts: &Parts<'_>) -> Option<usize>
     requires unmet { first_refusal (middle_reasons (subject_in parts.now) parts.now.cell.now) ≡ None }
     ensures { result ≡ least (flat_map (wide_support_of (vocabulary parts.now.cell.now) (length (pins_of parts.now.cell.now))) (state_groups_of parts.now.cell.now)) }
 {
-    wide_supports(parts.readings.as_slice())
+    least_among(&WrongSupport::Wide, parts.readings.as_slice())
 }
 
 /// Where a state group names more than 8 pins, or an output function or a condition more than 10 names.
@@ -73,14 +103,8 @@ pub(crate) fn udp_inputs(
     requires unmet { first_refusal (middle_reasons (subject_in parts.now) parts.now.cell.now) ≡ None }
     ensures { IfOk result (λ at. at ≡ least (udp_inputs_of (subject_in parts.now) parts.now.cell.now)) }
 {
-    let outputs = wide_outputs(
-        alloc,
-        &parts.vocabulary,
-        numbered.groups.as_slice(),
-        &numbered.numbers,
-        parts.pins.len(),
-        &parts.owners,
-    )?;
+    let reader = numbered.reader(alloc, parts);
+    let outputs = reader.wide_outputs(&parts.owners)?;
     let states = wide_states(parts);
     Ok(lesser(states, lesser(outputs, wide_conditions(parts))))
 }

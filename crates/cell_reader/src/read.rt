@@ -1,5 +1,7 @@
 //! A cell's group to the cell.
 ghost use Rattle.std.specs.Prelude.{◌≡◌, IfOk, IfErr, None, Option, List};
+ghost use Rattle.cell_parts.specs.Groups.{cell_name as cell_name_of};
+ghost use Rattle.cell_parts.specs.CellLaws.{outputs_of};
 ghost use Rattle.cell_reader.specs.CellTexts.{subject_of, IsCellOf, IsEarlyUnmet, IsUnmet, Tells};
 ghost use Rattle.cell_reader.specs.Refusals.{first_refusal, later_reasons, refusal_of, left_out_of as left_out_of_cell};
 ghost use Rattle.cell_reader.specs.Parts.{subject_in, AreParts, AreNumbered};
@@ -9,12 +11,11 @@ use crate::fault::CellFault;
 use crate::later::middle_refusal;
 use crate::left_out::{LeftOut, left_out_of};
 use crate::numbered::{Numbered, number_names, udp_inputs};
-use crate::output_pins::outputs_of;
 use crate::parts::{Parts, read_parts};
 use crate::refusal::{Reason, Refusal};
 use crate::timings::cell_timing;
 use bool_functions::Names;
-use cell_machine::Cell;
+use cell_machine::{Cell, OutputPin};
 use cell_parts::groups::{cell_name, inner_groups, pins_among, states_among};
 use liberty_groups::Group;
 use liberty_text::Unit;
@@ -27,6 +28,52 @@ pub struct ReadCell {
     pub cell: Cell,
     /// The timing groups that make no check and no arc of their types, in the order of the pins and their statements.
     pub left_out: Items<LeftOut>,
+}
+
+/// The outputs of a cell.
+type Outputs = Items<OutputPin>;
+
+/// The outputs of the cell that the parts make, where nothing refuses it.
+fn outputs_in(alloc: Global, parts: &Parts<'_>, numbered: &Numbered) -> Result<Outputs, AllocError>
+    requires parts { AreParts parts.now }
+    requires numbered { AreNumbered parts.now.cell.now numbered.now }
+    requires unmet { IsUnmet (subject_in parts.now) parts.now.cell.now }
+    ensures { IfOk result (λ outputs. outputs ≡ outputs_of parts.now.cell.now) }
+{
+    numbered.reader(alloc, parts).all(&parts.owners)
+}
+
+/// What of its group the cell leaves out that the parts make, where nothing refuses it.
+fn left_out_in(alloc: Global, parts: &Parts<'_>) -> Result<Items<LeftOut>, AllocError>
+    requires parts { AreParts parts.now }
+    requires unmet { IsUnmet (subject_in parts.now) parts.now.cell.now }
+    ensures { IfOk result (λ left_out. left_out ≡ left_out_of_cell (subject_in parts.now) parts.now.cell.now) }
+{
+    left_out_of(alloc, &parts.owners, &parts.answers)
+}
+
+/// What of a cell is made anew from its parts.
+#[derive(Drop)]
+struct Made {
+    name: Items<u8>,
+    outputs: Outputs,
+    left_out: Items<LeftOut>,
+}
+
+/// What of the cell that the parts make is made anew, where nothing refuses it.
+fn made_anew(alloc: Global, parts: &Parts<'_>, numbered: &Numbered) -> Result<Made, AllocError>
+    requires parts { AreParts parts.now }
+    requires numbered { AreNumbered parts.now.cell.now numbered.now }
+    requires unmet { IsUnmet (subject_in parts.now) parts.now.cell.now }
+    ensures name { IfOk result (λ made. made.name ≡ cell_name_of parts.now.cell.now) }
+    ensures outputs { IfOk result (λ made. made.outputs ≡ outputs_of parts.now.cell.now) }
+    ensures left_out { IfOk result (λ made. made.left_out ≡ left_out_of_cell (subject_in parts.now) parts.now.cell.now) }
+{
+    Ok(Made {
+        name: Items::from_slice(alloc, cell_name(parts.cell))?,
+        outputs: outputs_in(alloc, parts, numbered)?,
+        left_out: left_out_in(alloc, parts)?,
+    })
 }
 
 /// The cell that the parts make, where nothing refuses it.
@@ -42,27 +89,21 @@ fn make_cell(
     ensures cell { IfOk result (λ read. IsCellOf (subject_in parts.entry) number parts.entry.cell.now read.cell) }
     ensures left_out { IfOk result (λ read. read.left_out ≡ left_out_of_cell (subject_in parts.entry) parts.entry.cell.now) }
 {
-    let outputs = outputs_of(
-        alloc,
-        &parts.vocabulary,
-        numbered.groups.as_slice(),
-        &numbered.numbers,
-        parts.pins.len(),
-        &parts.owners,
-    )?;
-    let left_out = left_out_of(alloc, &parts.owners, &parts.answers)?;
-    let name = Items::from_slice(alloc, cell_name(parts.cell))?;
+    let made = made_anew(alloc, &parts, &numbered)?;
     let timing = cell_timing(alloc, parts.answers)?;
     let cell = Cell {
-        name,
+        name: made.name,
         number,
         pins: parts.pins,
         groups: numbered.groups,
-        outputs,
+        outputs: made.outputs,
         checks: timing.checks,
         arcs: timing.arcs,
     };
-    Ok(ReadCell { cell, left_out })
+    Ok(ReadCell {
+        cell,
+        left_out: made.left_out,
+    })
 }
 
 /// The numbers and the groups of a cell, or the first of the reasons that are tried after the texts are read.

@@ -6,16 +6,16 @@ use cell_parts::least::lesser;
 
 /// Something that is sought in a thing of this type.
 pub(crate) trait Scan<T> {
-    ghost places: { T → List ℕ };
+    ghost places: { Self → T → List ℕ };
 
     /// The least offset at which it is met in one thing.
     fn least_in(&self, item: &T) -> Option<usize>
-        ensures { result ≡ least (places item.now) };
+        ensures { result ≡ least (places self.now item.now) };
 }
 
 /// The least offset at which it is met in some things.
 pub(crate) fn least_among<T, S: Scan<T>>(scan: &S, items: &[T]) -> Option<usize>
-    ensures { result ≡ least (flat_map S.places items.now) }
+    ensures { result ≡ least (flat_map (S.places scan.now) items.now) }
 {
     let mut found = None;
     for item in items {
@@ -26,7 +26,7 @@ pub(crate) fn least_among<T, S: Scan<T>>(scan: &S, items: &[T]) -> Option<usize>
 
 /// The same in things that are held elsewhere.
 pub(crate) fn least_among_held<T, S: Scan<T>>(scan: &S, items: &[&T]) -> Option<usize>
-    ensures { result ≡ least (flat_map S.places (map (λ item. item.now) items.now)) }
+    ensures { result ≡ least (flat_map (S.places scan.now) (map (λ item. item.now) items.now)) }
 {
     let mut found = None;
     for item in items {

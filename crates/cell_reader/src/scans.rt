@@ -1,10 +1,10 @@
-//! The refusals that are seen without the names of a cell. Each answers the least offset at which it is met.
-ghost use Rattle.std.specs.Prelude.{◌≡◌, ◌++◌, map, flat_map};
+//! The refusals that are seen without the names of a cell, in each of its groups.
+ghost use Rattle.std.specs.Prelude.{◌≡◌, ◌++◌};
 ghost use Rattle.timing_arcs.specs.Timing.{least};
 ghost use Rattle.cell_parts.specs.Groups.{offsets_of};
 ghost use Rattle.cell_parts.specs.Scans.{direction_in as direction_in_of, three_state_in as three_state_in_of, bank_in as bank_in_of, left_out_in as left_out_in_of, first_both_in as first_both_in_of, second_both_in as second_both_in_of, clear_preset_in as clear_preset_in_of, no_function_in as no_function_in_of};
 
-use crate::scan::{Scan, least_among_held};
+use crate::scan::Scan;
 use cell_machine::{Both, Direction};
 use cell_parts::groups::{is_bank, is_called, is_missing};
 use cell_parts::least::lesser;
@@ -28,10 +28,10 @@ fn first_offset(group: &Group, name: &[u8]) -> Option<usize>
 }
 
 /// Where the direction of a pin group is absent or none of the three.
-struct BadDirections;
+pub(crate) struct BadDirections;
 
 impl Scan<Group> for BadDirections {
-    ghost places = { direction_in_of };
+    ghost places = { λ _. direction_in_of };
 
     #[tactic(auto, unfolding(cell_parts::specs::Scans::direction_in))]
     fn least_in(&self, pin: &Group) -> Option<usize> {
@@ -45,18 +45,11 @@ impl Scan<Group> for BadDirections {
     }
 }
 
-/// Where a pin's direction is absent or none of the three.
-pub(crate) fn directions(pins: &[&Group]) -> Option<usize>
-    ensures { result ≡ least (flat_map direction_in_of (map (λ group. group.now) pins.now)) }
-{
-    least_among_held(&BadDirections, pins)
-}
-
 /// Where the pins of a group have `three_state`.
-struct ThreeStates;
+pub(crate) struct ThreeStates;
 
 impl Scan<Group> for ThreeStates {
-    ghost places = { three_state_in_of };
+    ghost places = { λ _. three_state_in_of };
 
     #[tactic(auto, unfolding(cell_parts::specs::Scans::three_state_in))]
     fn least_in(&self, pin: &Group) -> Option<usize> {
@@ -64,18 +57,11 @@ impl Scan<Group> for ThreeStates {
     }
 }
 
-/// Where a pin has `three_state`.
-pub(crate) fn three_states(pins: &[&Group]) -> Option<usize>
-    ensures { result ≡ least (flat_map three_state_in_of (map (λ group. group.now) pins.now)) }
-{
-    least_among_held(&ThreeStates, pins)
-}
-
 /// Where a group stands for several pins or states at once.
-struct BankGroups;
+pub(crate) struct BankGroups;
 
 impl Scan<Group> for BankGroups {
-    ghost places = { bank_in_of };
+    ghost places = { λ _. bank_in_of };
 
     #[tactic(auto, unfolding(cell_parts::specs::Scans::bank_in))]
     fn least_in(&self, group: &Group) -> Option<usize> {
@@ -83,18 +69,11 @@ impl Scan<Group> for BankGroups {
     }
 }
 
-/// Where a group of the cell stands for several pins or states at once.
-pub(crate) fn banks(groups: &[&Group]) -> Option<usize>
-    ensures { result ≡ least (flat_map bank_in_of (map (λ group. group.now) groups.now)) }
-{
-    least_among_held(&BankGroups, groups)
-}
-
 /// Where a group has an attribute whose states are left out.
-struct LeftOutStates;
+pub(crate) struct LeftOutStates;
 
 impl Scan<Group> for LeftOutStates {
-    ghost places = { left_out_in_of };
+    ghost places = { λ _. left_out_in_of };
 
     #[tactic(auto, unfolding(cell_parts::specs::Scans::left_out_in), using(cell_parts::proofs::LeastLemmas::least_append))]
     fn least_in(&self, group: &Group) -> Option<usize> {
@@ -104,11 +83,17 @@ impl Scan<Group> for LeftOutStates {
     }
 }
 
-/// Where a state group or pin has an attribute whose states are left out.
-pub(crate) fn left_out_states(groups: &[&Group]) -> Option<usize>
-    ensures { result ≡ least (flat_map left_out_in_of (map (λ group. group.now) groups.now)) }
-{
-    least_among_held(&LeftOutStates, groups)
+/// Where the attribute of this name has a value of these, which it may not have.
+macro_rules! bad_both {
+    ($group:expr, $name:literal, $bad:pat) => {
+        match last_attribute($group, $name) {
+            None => None,
+            Some(attribute) => match both_named(attribute.text) {
+                $bad => Some(attribute.at),
+                Some(_) => None,
+            },
+        }
+    };
 }
 
 /// Where `clear_preset_var1` has a value that it may not have.
@@ -116,13 +101,7 @@ pub(crate) fn left_out_states(groups: &[&Group]) -> Option<usize>
 fn first_both_in(group: &Group) -> Option<usize>
     ensures { result ≡ least (first_both_in_of group.now) }
 {
-    match last_attribute(group, b"clear_preset_var1") {
-        None => None,
-        Some(attribute) => match both_named(attribute.text) {
-            None => Some(attribute.at),
-            Some(_) => None,
-        },
-    }
+    bad_both!(group, b"clear_preset_var1", None)
 }
 
 /// Where `clear_preset_var2` has a value that it may not have.
@@ -130,20 +109,14 @@ fn first_both_in(group: &Group) -> Option<usize>
 fn second_both_in(group: &Group) -> Option<usize>
     ensures { result ≡ least (second_both_in_of group.now) }
 {
-    match last_attribute(group, b"clear_preset_var2") {
-        None => None,
-        Some(attribute) => match both_named(attribute.text) {
-            None | Some(Both::Keep) => Some(attribute.at),
-            Some(_) => None,
-        },
-    }
+    bad_both!(group, b"clear_preset_var2", None | Some(Both::Keep))
 }
 
 /// Where a `clear_preset` attribute has a value that it may not have.
-struct ClearPresets;
+pub(crate) struct ClearPresets;
 
 impl Scan<Group> for ClearPresets {
-    ghost places = { clear_preset_in_of };
+    ghost places = { λ _. clear_preset_in_of };
 
     #[tactic(auto, unfolding(cell_parts::specs::Scans::clear_preset_in), using(cell_parts::proofs::LeastLemmas::least_append))]
     fn least_in(&self, group: &Group) -> Option<usize> {
@@ -154,18 +127,11 @@ impl Scan<Group> for ClearPresets {
     }
 }
 
-/// Where a `clear_preset` attribute of a state group has a value that it may not have.
-pub(crate) fn clear_presets(states: &[&Group]) -> Option<usize>
-    ensures { result ≡ least (flat_map clear_preset_in_of (map (λ group. group.now) states.now)) }
-{
-    least_among_held(&ClearPresets, states)
-}
-
 /// Where the pins of a group are outputs without function.
-struct NoFunctions;
+pub(crate) struct NoFunctions;
 
 impl Scan<Group> for NoFunctions {
-    ghost places = { no_function_in_of };
+    ghost places = { λ _. no_function_in_of };
 
     #[tactic(auto, unfolding(cell_parts::specs::Scans::no_function_in))]
     fn least_in(&self, pin: &Group) -> Option<usize> {
@@ -179,11 +145,4 @@ impl Scan<Group> for NoFunctions {
             None
         }
     }
-}
-
-/// Where an output pin has no function.
-pub(crate) fn no_functions(pins: &[&Group]) -> Option<usize>
-    ensures { result ≡ least (flat_map no_function_in_of (map (λ group. group.now) pins.now)) }
-{
-    least_among_held(&NoFunctions, pins)
 }

@@ -1,13 +1,11 @@
 //! The state groups of a cell.
 ghost use Rattle.std.specs.Prelude.{◌≡◌, IfOk, length, map, codes, All};
-ghost use Rattle.std.specs.Option.{option_map};
 ghost use Rattle.timing_arcs.specs.Attributes.{attribute_of};
-ghost use Rattle.timing_arcs.specs.Shown.{shown};
-ghost use Rattle.cell_parts.specs.Building.{kind_of_texts as kind_of_texts_of, table_in as table_in_of, table_groups as table_groups_of, groups_in as groups_in_of, node_groups, groups_from as groups_from_of, FitsReading};
+ghost use Rattle.cell_parts.specs.Building.{table_in as table_in_of, table_groups as table_groups_of, groups_in as groups_in_of, node_groups, groups_from as groups_from_of, FitsReading};
 ghost use Rattle.cell_machine.specs.declared.groups.GroupKind.TheVariants as kind_of;
 ghost use Rattle.cell_parts.specs.Shown.{shown_arguments};
 
-use crate::text_kinds::text_kind;
+use crate::text_kinds::Numbering;
 use cell_machine::{GroupKind, StateGroup};
 use cell_parts::state_readings::StateReading;
 use cell_parts::states::{Arguments, arguments_of, is_table, names_in};
@@ -15,31 +13,16 @@ use liberty_groups::Group;
 use sqlite_items::Items;
 use statetables::{StateTable, TableFault, read_table};
 use std::alloc::{AllocError, Global};
-use timing_arcs::{Attribute, last_attribute};
+use timing_arcs::last_attribute;
 
-/// The state of an `ff` or `latch`.
-fn text_group(
-    alloc: Global,
-    to: &[usize],
-    group: &Group,
-    reading: &StateReading,
-) -> Result<StateGroup, AllocError>
-    requires { FitsReading (length to.now) reading.now }
-    ensures { IfOk result (λ g. g ≡ record { kind = kind_of_texts_of to.now group.now reading.now; support = reading.now.support }) }
-{
-    let support = Items::from_slice(alloc, reading.support.as_slice())?;
-    let kind = text_kind(alloc, to, group, reading)?;
-    Ok(StateGroup { kind, support })
-}
-
-/// The table of a text over so many inputs and nodes.
+/// The table of a group over so many inputs and nodes.
 fn table_in(
     alloc: Global,
     inputs: usize,
     nodes: usize,
-    attribute: Option<Attribute<'_>>,
+    group: &Group,
 ) -> Result<StateTable, AllocError>
-    ensures { IfOk result (λ table. table ≡ table_in_of inputs nodes (option_map shown attribute.entry)) }
+    ensures { IfOk result (λ table. table ≡ table_in_of inputs nodes (attribute_of group.now (codes "table"))) }
 {
     let rows = Items::new(alloc);
     let none = StateTable {
@@ -47,7 +30,7 @@ fn table_in(
         nodes,
         rows,
     };
-    let Some(attribute) = attribute else {
+    let Some(attribute) = last_attribute(group, b"table") else {
         return Ok(none);
     };
     match read_table(alloc, attribute.text, inputs, nodes) {
@@ -89,7 +72,7 @@ fn node_groups_of(
 {
     let mut groups = Items::new(alloc);
     for (node, _name) in nodes.iter().enumerate() {
-        let table = table_in(alloc, inputs, nodes.len(), last_attribute(group, b"table"))?;
+        let table = table_in(alloc, inputs, nodes.len(), group)?;
         groups.push(node_group(alloc, table, node, reading)?)?;
     }
     Ok(groups)
@@ -127,7 +110,7 @@ fn groups_in(
     if is_table(group) {
         return table_groups(alloc, group, reading, arguments);
     }
-    groups.push(text_group(alloc, to, group, reading)?)?;
+    groups.push(Numbering { alloc, to }.group(group, reading)?)?;
     Ok(groups)
 }
 

@@ -5,35 +5,14 @@ ghost use Rattle.cell_parts.specs.Building.{function_in as function_in_of, funct
 ghost use Rattle.cell_machine.specs.declared.groups.Both.TheVariants as both;
 
 use bool_functions::Function;
-use cell_machine::{Both, Clocked, Gated, GroupKind};
+use cell_machine::{Both, Clocked, Gated, GroupKind, StateGroup};
 use cell_parts::state_readings::{StateReading, is_ff};
 use cell_parts::states::both_named;
 use cell_parts::texts::Text;
 use liberty_groups::Group;
+use sqlite_items::Items;
 use std::alloc::{AllocError, Global};
 use timing_arcs::last_attribute;
-
-/// The function of a text, where `to` has the number in the cell for each of its names.
-fn function_in(alloc: Global, to: &[usize], text: &Text) -> Result<Option<Function>, AllocError>
-    requires { FitsText (length to.now) text.now }
-    ensures { IfOk result (λ f. f ≡ function_in_of to.now text.now) }
-{
-    match text {
-        Text::Reads { function, .. } => Ok(Some(function.renamed(alloc, to)?)),
-        Text::Absent | Text::Malformed(_) | Text::Unknown(_) | Text::Coupled(_) => Ok(None),
-    }
-}
-
-/// The same of a text that is there.
-pub(crate) fn function_of(alloc: Global, to: &[usize], text: &Text) -> Result<Function, AllocError>
-    requires { FitsText (length to.now) text.now }
-    ensures { IfOk result (λ f. f ≡ function_of_text to.now text.now) }
-{
-    match function_in(alloc, to, text)? {
-        Some(function) => Ok(function),
-        None => Ok(Function::of_name(0)),
-    }
-}
 
 /// What the first variable becomes where both `clear` and `preset` are 1.
 fn first_both(group: &Group) -> Both
@@ -65,23 +44,6 @@ struct WrittenPair {
     second: Option<Function>,
 }
 
-/// Two texts as functions that may not be written.
-fn written_pair(
-    alloc: Global,
-    to: &[usize],
-    first: &Text,
-    second: &Text,
-) -> Result<WrittenPair, AllocError>
-    requires first { FitsText (length to.now) first.now }
-    requires second { FitsText (length to.now) second.now }
-    ensures first { IfOk result (λ pair. pair.first ≡ function_in_of to.now first.now) }
-    ensures second { IfOk result (λ pair. pair.second ≡ function_in_of to.now second.now) }
-{
-    let first = function_in(alloc, to, first)?;
-    let second = function_in(alloc, to, second)?;
-    Ok(WrittenPair { first, second })
-}
-
 /// Two functions.
 #[derive(Drop)]
 struct NeededPair {
@@ -89,80 +51,119 @@ struct NeededPair {
     second: Function,
 }
 
-/// Two texts as functions.
-fn needed_pair(
-    alloc: Global,
-    to: &[usize],
-    first: &Text,
-    second: &Text,
-) -> Result<NeededPair, AllocError>
-    requires first { FitsText (length to.now) first.now }
-    requires second { FitsText (length to.now) second.now }
-    ensures first { IfOk result (λ pair. pair.first ≡ function_of_text to.now first.now) }
-    ensures second { IfOk result (λ pair. pair.second ≡ function_of_text to.now second.now) }
-{
-    let first = function_of(alloc, to, first)?;
-    let second = function_of(alloc, to, second)?;
-    Ok(NeededPair { first, second })
+/// What the texts of a cell are made functions with.
+#[derive(Clone, Copy)]
+pub(crate) struct Numbering<'a> {
+    pub alloc: Global,
+    /// For each name of the texts its number in the cell.
+    pub to: &'a [usize],
 }
 
-/// The texts of a flip-flop as functions.
-fn clocked(
-    alloc: Global,
-    to: &[usize],
-    group: &Group,
-    reading: &StateReading,
-) -> Result<Clocked, AllocError>
-    requires { FitsReading (length to.now) reading.now }
-    ensures { IfOk result (λ k. k ≡ clocked_of to.now group.now reading.now) }
-{
-    let driving = needed_pair(alloc, to, &reading.data_text, &reading.control)?;
-    let forcing = written_pair(alloc, to, &reading.clear, &reading.preset)?;
-    Ok(Clocked {
-        next_state: driving.first,
-        clocked_on: driving.second,
-        clear: forcing.first,
-        preset: forcing.second,
-        both1: first_both(group),
-        both2: second_both(group),
-    })
-}
+impl Numbering<'_> {
+    /// The function of a text.
+    fn function_in(&self, text: &Text) -> Result<Option<Function>, AllocError>
+        requires { FitsText (length self.now.to.now) text.now }
+        ensures { IfOk result (λ f. f ≡ function_in_of self.now.to.now text.now) }
+    {
+        match text {
+            Text::Reads { function, .. } => Ok(Some(function.renamed(self.alloc, self.to)?)),
+            Text::Absent | Text::Malformed(_) | Text::Unknown(_) | Text::Coupled(_) => Ok(None),
+        }
+    }
 
-/// The texts of a latch as functions.
-fn gated(
-    alloc: Global,
-    to: &[usize],
-    group: &Group,
-    reading: &StateReading,
-) -> Result<Gated, AllocError>
-    requires { FitsReading (length to.now) reading.now }
-    ensures { IfOk result (λ k. k ≡ gated_of to.now group.now reading.now) }
-{
-    let driving = written_pair(alloc, to, &reading.data_text, &reading.control)?;
-    let forcing = written_pair(alloc, to, &reading.clear, &reading.preset)?;
-    Ok(Gated {
-        data_in: driving.first,
-        enable: driving.second,
-        clear: forcing.first,
-        preset: forcing.second,
-        both1: first_both(group),
-        both2: second_both(group),
-    })
-}
+    /// The same of a text that is there.
+    pub(crate) fn function_of(&self, text: &Text) -> Result<Function, AllocError>
+        requires { FitsText (length self.now.to.now) text.now }
+        ensures { IfOk result (λ f. f ≡ function_of_text self.now.to.now text.now) }
+    {
+        match self.function_in(text)? {
+            Some(function) => Ok(function),
+            None => Ok(Function::of_name(0)),
+        }
+    }
 
-/// The kind of an `ff` or `latch`.
-pub(crate) fn text_kind(
-    alloc: Global,
-    to: &[usize],
-    group: &Group,
-    reading: &StateReading,
-) -> Result<GroupKind, AllocError>
-    requires { FitsReading (length to.now) reading.now }
-    ensures { IfOk result (λ kind. kind ≡ kind_of_texts_of to.now group.now reading.now) }
-{
-    if is_ff(group) {
-        Ok(GroupKind::Ff(clocked(alloc, to, group, reading)?))
-    } else {
-        Ok(GroupKind::Latch(gated(alloc, to, group, reading)?))
+    /// Two texts as functions that may not be written.
+    fn written(&self, first: &Text, second: &Text) -> Result<WrittenPair, AllocError>
+        requires first { FitsText (length self.now.to.now) first.now }
+        requires second { FitsText (length self.now.to.now) second.now }
+        ensures first { IfOk result (λ pair. pair.first ≡ function_in_of self.now.to.now first.now) }
+        ensures second { IfOk result (λ pair. pair.second ≡ function_in_of self.now.to.now second.now) }
+    {
+        let first = self.function_in(first)?;
+        let second = self.function_in(second)?;
+        Ok(WrittenPair { first, second })
+    }
+
+    /// Two texts as functions.
+    fn needed(&self, first: &Text, second: &Text) -> Result<NeededPair, AllocError>
+        requires first { FitsText (length self.now.to.now) first.now }
+        requires second { FitsText (length self.now.to.now) second.now }
+        ensures first { IfOk result (λ pair. pair.first ≡ function_of_text self.now.to.now first.now) }
+        ensures second { IfOk result (λ pair. pair.second ≡ function_of_text self.now.to.now second.now) }
+    {
+        Ok(NeededPair {
+            first: self.function_of(first)?,
+            second: self.function_of(second)?,
+        })
+    }
+
+    /// The texts of a flip-flop as functions.
+    fn clocked(&self, group: &Group, reading: &StateReading) -> Result<Clocked, AllocError>
+        requires { FitsReading (length self.now.to.now) reading.now }
+        ensures { IfOk result (λ k. k ≡ clocked_of self.now.to.now group.now reading.now) }
+    {
+        let driving = self.needed(&reading.data_text, &reading.control)?;
+        let forcing = self.written(&reading.clear, &reading.preset)?;
+        Ok(Clocked {
+            next_state: driving.first,
+            clocked_on: driving.second,
+            clear: forcing.first,
+            preset: forcing.second,
+            both1: first_both(group),
+            both2: second_both(group),
+        })
+    }
+
+    /// The texts of a latch as functions.
+    fn gated(&self, group: &Group, reading: &StateReading) -> Result<Gated, AllocError>
+        requires { FitsReading (length self.now.to.now) reading.now }
+        ensures { IfOk result (λ k. k ≡ gated_of self.now.to.now group.now reading.now) }
+    {
+        let driving = self.written(&reading.data_text, &reading.control)?;
+        let forcing = self.written(&reading.clear, &reading.preset)?;
+        Ok(Gated {
+            data_in: driving.first,
+            enable: driving.second,
+            clear: forcing.first,
+            preset: forcing.second,
+            both1: first_both(group),
+            both2: second_both(group),
+        })
+    }
+
+    /// The kind of an `ff` or `latch`.
+    fn kind(&self, group: &Group, reading: &StateReading) -> Result<GroupKind, AllocError>
+        requires { FitsReading (length self.now.to.now) reading.now }
+        ensures { IfOk result (λ kind. kind ≡ kind_of_texts_of self.now.to.now group.now reading.now) }
+    {
+        if is_ff(group) {
+            Ok(GroupKind::Ff(self.clocked(group, reading)?))
+        } else {
+            Ok(GroupKind::Latch(self.gated(group, reading)?))
+        }
+    }
+
+    /// The state of an `ff` or `latch`.
+    pub(crate) fn group(
+        &self,
+        group: &Group,
+        reading: &StateReading,
+    ) -> Result<StateGroup, AllocError>
+        requires { FitsReading (length self.now.to.now) reading.now }
+        ensures { IfOk result (λ g. g ≡ record { kind = kind_of_texts_of self.now.to.now group.now reading.now; support = reading.now.support }) }
+    {
+        let support = Items::from_slice(self.alloc, reading.support.as_slice())?;
+        let kind = self.kind(group, reading)?;
+        Ok(StateGroup { kind, support })
     }
 }

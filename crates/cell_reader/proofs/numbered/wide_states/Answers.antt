@@ -10,6 +10,6 @@ use Rattle.cell_reader.proofs.numbered.wide_states.Goals as goal
 -- where no other reason is met each state group tells its support
 pub returns : goal.returns
 returns c =
-    c.wide_supports.ensures
+    c.least_among.ensures
     ∙ ap (λ (readings : List StateReading). least (flat_map wide_support_in readings)) (c.as_slice.ensures ∙ c.requires.parts.of_readings)
     ∙ ap least (wide_supports_told (subject_in c.args.parts.now) c.args.parts.now.cell.now c.requires.unmet)

@@ -1,4 +1,6 @@
-use Rattle.std.proofs.Common.{◌≡◌, ◌∙◌, sym, subst, ap, None, rules}
+use Rattle.std.proofs.Common.{◌≡◌, ◌∙◌, ℕ, List, Option, sym, subst, ap, None, rules}
+use Rattle.liberty_text.specs.declared.time.Unit.{Unit}
+use Rattle.liberty_groups.specs.declared.tree.Group.{Group}
 use Rattle.cell_reader.specs.CellTexts.{subject_of, Tells}
 use Rattle.cell_reader.specs.Refusals.{first_refusal, early_reasons, later_reasons, refusal_of}
 use Rattle.cell_reader.proofs.Reading.{names_are_distinct, later_decide, lift_ok, lift_err}
@@ -9,26 +11,24 @@ read_parts-requires-clause-distinct c =
     let early : first_refusal (early_reasons c.args.earlier.now c.args.cell.now) ≡ None = search rules in
     names_are_distinct c.args.earlier.now c.args.cell.now early
 
+-- the reasons that are tried later decide of what is held of a cell as all do of the cell
+later_of_parts :
+    (unit held_unit : Option Unit) (earlier : List (List ℕ)) (cell held : Group) → held_unit ≡ unit → held ≡ cell → first_refusal (early_reasons earlier cell) ≡ None
+    → first_refusal (later_reasons (subject_of held_unit held) held) ≡ refusal_of (subject_of unit cell) earlier cell
+later_of_parts unit held_unit earlier cell held same_unit same_cell early =
+    ap (λ u. first_refusal (later_reasons (subject_of u held) held)) same_unit
+    ∙ (ap (λ g. first_refusal (later_reasons (subject_of unit g) g)) same_cell ∙ sym (later_decide (subject_of unit cell) earlier cell early))
+
 pub returns-clause-accepted : goal.returns-clause-accepted
 returns-clause-accepted c =
-    let cell = c.args.cell.now in
-    let unit = c.args.unit in
     let parts = c.in_ok-parts.parts in
-    let early : first_refusal (early_reasons c.args.earlier.now cell) ≡ None = search rules in
-    let told : first_refusal (later_reasons (subject_of parts.unit parts.cell.now) parts.cell.now) ≡ refusal_of (subject_of unit cell) c.args.earlier.now cell =
-    ap (λ u. first_refusal (later_reasons (subject_of u parts.cell.now) parts.cell.now)) c.in_ok-parts.ensures.unit
-    ∙ (ap (λ g. first_refusal (later_reasons (subject_of unit g) g)) c.in_ok-parts.ensures.cell
-    ∙ sym (later_decide (subject_of unit cell) c.args.earlier.now cell early)) in
+    let early : first_refusal (early_reasons c.args.earlier.now c.args.cell.now) ≡ None = search rules in
+    let told = later_of_parts c.args.unit parts.unit c.args.earlier.now c.args.cell.now parts.cell.now c.in_ok-parts.ensures.unit c.in_ok-parts.ensures.cell early in
     lift_ok c.read_later.result _ _ (λ x h. sym told ∙ h) c.read_later.ensures.unmet
 
 pub returns-clause-refused : goal.returns-clause-refused
 returns-clause-refused c =
-    let cell = c.args.cell.now in
-    let unit = c.args.unit in
     let parts = c.in_ok-parts.parts in
-    let early : first_refusal (early_reasons c.args.earlier.now cell) ≡ None = search rules in
-    let told : first_refusal (later_reasons (subject_of parts.unit parts.cell.now) parts.cell.now) ≡ refusal_of (subject_of unit cell) c.args.earlier.now cell =
-    ap (λ u. first_refusal (later_reasons (subject_of u parts.cell.now) parts.cell.now)) c.in_ok-parts.ensures.unit
-    ∙ (ap (λ g. first_refusal (later_reasons (subject_of unit g) g)) c.in_ok-parts.ensures.cell
-    ∙ sym (later_decide (subject_of unit cell) c.args.earlier.now cell early)) in
+    let early : first_refusal (early_reasons c.args.earlier.now c.args.cell.now) ≡ None = search rules in
+    let told = later_of_parts c.args.unit parts.unit c.args.earlier.now c.args.cell.now parts.cell.now c.in_ok-parts.ensures.unit c.in_ok-parts.ensures.cell early in
     lift_err c.read_later.result _ _ (λ e h. subst (λ o. Tells o e) told h) c.read_later.ensures.refused

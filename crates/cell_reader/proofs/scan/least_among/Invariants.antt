@@ -5,4 +5,4 @@ use Rattle.cell_reader.proofs.scan.least_among.Given as goal
 
 -- the least so far, with that of the others, is the least of all
 abbrev pub invariant-loop-item : goal.invariant-loop-item
-invariant-loop-item g l = lesser l.found (least (flat_map g.S.Scan.places (drop l.item-index l.items))) ≡ least (flat_map g.S.Scan.places l.items)
+invariant-loop-item g l = lesser l.found (least (flat_map (g.S.Scan.places l.scan) (drop l.item-index l.items))) ≡ least (flat_map (g.S.Scan.places l.scan) l.items)

@@ -5,4 +5,4 @@ use Rattle.cell_reader.proofs.scan.least_among_held.Given as goal
 
 -- the least so far, with that of the others, is the least of all
 abbrev pub invariant-loop-item : goal.invariant-loop-item
-invariant-loop-item g l = lesser l.found (least (flat_map g.S.Scan.places (map (λ item. item.now) (drop l.item-index l.items)))) ≡ least (flat_map g.S.Scan.places (map (λ item. item.now) l.items))
+invariant-loop-item g l = lesser l.found (least (flat_map (g.S.Scan.places l.scan) (map (λ item. item.now) (drop l.item-index l.items)))) ≡ least (flat_map (g.S.Scan.places l.scan) (map (λ item. item.now) l.items))

@@ -14,5 +14,5 @@ loop-node-preserved c =
     ∙ ap (λ g. c.loop-node.groups ++ g ∷ [])
     (c.in_ok-node_group.ensures
     ∙ ap (node_state c.args.reading.now c.loop-node.node)
-    (c.in_ok-table.ensures ∙ ap (table_in c.args.inputs (length c.args.nodes.now)) c.last_attribute.ensures)))
+    c.in_ok-table.ensures))
     ∙ c.loop-node.invariant

@@ -1,7 +1,8 @@
 -- The kinds of constants, at the next token.
-use Rattle.std.proofs.Common.{◌≡◌, ℕ, ◌&&◌, true, false, nat_eq, length, List, [], ◌∷◌, Some, None, Ok, Err, refl, sym, codes}
+use Rattle.std.proofs.Common.{◌≡◌, ℕ, Bool, ◌&&◌, if◌then◌else◌, true, false, nat_eq, length, List, [], ◌∷◌, Option, Some, None, Ok, Err, refl, sym, ap, codes}
 use Rattle.std.specs.Option.{option_map}
-use Rattle.grammar_rules.specs.Reading.{Outcome, choose, read}
+use Rattle.grammar_rules.specs.Rule.{Verdict, Fits}
+use Rattle.grammar_rules.specs.Reading.{Outcome, choose, judge_first, read}
 use Rattle.rule_readers.specs.declared.refusal.Refusal.{Refusal}
 use Rattle.rule_readers.specs.declared.refusal.Refusal.TheVariants.{Undefined}
 use Rattle.rule_readers.specs.Next.{is_next, next_bytes, rest}
@@ -32,17 +33,18 @@ module _ {B : Type 0} (tables : Tables) (s : List (List ℕ)) (go : Unit {0} →
       by [] g = absurd cc
       by (x ∷ m) g = rw (e, g) refl
 
-  pub state_too_late : (is_before_outputs tables && nat_eq (length tables.conditions) 0) ≡ false → choose (begins_state_table tables) s go other ≡ other
-  state_too_late e = by s
-    where
-      by : (m : List (List ℕ)) → choose (begins_state_table tables) m go other ≡ other
-      by [] = refl
-      by (x ∷ m) = rw e refl
-
-  pub no_state : (is_before_outputs tables && nat_eq (length tables.conditions) 0) ≡ true → is_next is_same (codes "VitalStateTableType") s ≡ false →
+  -- no such table begins
+  pub no_state : ((is_before_outputs tables && nat_eq (length tables.conditions) 0) && is_next is_same (codes "VitalStateTableType") s) ≡ false →
       choose (begins_state_table tables) s go other ≡ other
-  no_state e f = by s f
+  no_state e = by s e
     where
-      by : (m : List (List ℕ)) → is_next is_same (codes "VitalStateTableType") m ≡ false → choose (begins_state_table tables) m go other ≡ other
-      by [] g = refl
-      by (x ∷ m) g = rw (e, g) refl
+      neither : (b c : Bool) (v : Option (Verdict (Unit {0}) Refusal)) → (b && c) ≡ false → (if b then (if c then v else None) else None) ≡ None
+      neither true c v f = rw f refl
+      neither false c v f = refl
+
+      by : (m : List (List ℕ)) → ((is_before_outputs tables && nat_eq (length tables.conditions) 0) && is_next is_same (codes "VitalStateTableType") m) ≡ false →
+          choose (begins_state_table tables) m go other ≡ other
+      by [] f = refl
+      by (x ∷ m) f =
+          ap (λ (o : Option (Verdict (Unit {0}) Refusal)). judge_first o (λ a. go a m) (λ k. Err (k, x ∷ m)) other)
+          (neither (is_before_outputs tables && nat_eq (length tables.conditions) 0) (is_same x (codes "VitalStateTableType")) (Some (Fits tt)) f)

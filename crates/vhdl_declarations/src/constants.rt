@@ -2,20 +2,20 @@
 
 ghost use Rattle.std.specs.Prelude.{◌≡◌, ◌&&◌, nat_eq, length, IfOk, codes};
 ghost use Rattle.std.specs.Option.{option_map};
-ghost use Rattle.grammar_rules.specs.Reading.{read};
-ghost use Rattle.rule_readers.specs.Reading.{Reads, ReadsAs};
-ghost use Rattle.vhdl_text.specs.VhdlRules.{known};
+ghost use Rattle.grammar_rules.specs.Rule.{Then};
+ghost use Rattle.rule_readers.specs.Reading.{read, Reads, ReadsAs};
+ghost use Rattle.vhdl_text.specs.VhdlRules.{known, expect};
 ghost use Rattle.vhdl_text.specs.VhdlTables as spec;
 ghost use Rattle.vhdl_declarations.specs.Kinds.{constant_kind};
 
 use crate::state_rows::state_table;
 use crate::truth_rows::truth_table;
-use rule_readers::{Cursor, Refusal, Stop};
+use rule_readers::{Read, Refusal, Stop};
 use sqlite_items::Items;
 use std::alloc::{AllocError, Global};
 use vhdl_text::Tables;
 use vhdl_tokens::is_name;
-use vhdl_words::{Vhdl, is_numbered};
+use vhdl_words::{Cursor, is_numbered};
 use vital_models::TruthTable;
 
 /// What the next constant is a table of.
@@ -50,11 +50,7 @@ fn constant_of(
 
 /// The name of the next constant.
 #[tactic(auto, using(crate::proofs::NextConstant::constant_some, crate::proofs::NextConstant::constant_none, rule_readers::proofs::Values::known_other))]
-fn constant_name(
-    cursor: &mut Cursor<'_, Vhdl>,
-    alloc: Global,
-    tables: &Tables,
-) -> Result<ConstantOf, Stop>
+fn constant_name(cursor: &mut Cursor<'_>, alloc: Global, tables: &Tables) -> Read<ConstantOf>
     ensures { ReadsAs constant_kind (read (known (spec.constant_of tables.now)) cursor.old) result cursor.new }
 {
     if !is_name(cursor.bytes()) {
@@ -67,54 +63,21 @@ fn constant_name(
     Ok(of)
 }
 
-/// A truth table, behind the type of its constant.
+/// A truth table, behind the `:` of its constant.
 #[tactic(auto, unfolding(vhdl_text::specs::VhdlTables::assigned_truth_table))]
-fn assigned_truth_table(cursor: &mut Cursor<'_, Vhdl>, alloc: Global) -> Result<TruthTable, Stop>
-    ensures { Reads (read spec.assigned_truth_table cursor.old) result cursor.new }
+fn truth_constant(cursor: &mut Cursor<'_>, alloc: Global) -> Read<TruthTable>
+    ensures { Reads (read (Then (expect (codes "VitalTruthTableType")) (λ _. spec.assigned_truth_table)) cursor.old) result cursor.new }
 {
+    cursor.expect(b"VitalTruthTableType")?;
     cursor.expect(b":=")?;
     let table = truth_table(cursor, alloc)?;
     cursor.expect(b";")?;
     Ok(table)
 }
 
-/// The table of a condition, behind the `:` of its constant.
-#[tactic(auto, unfolding(vhdl_text::specs::VhdlTables::condition_constant))]
-fn condition_constant(
-    cursor: &mut Cursor<'_, Vhdl>,
-    alloc: Global,
-    mut tables: Tables,
-) -> Result<Tables, Stop>
-    ensures { Reads (read (spec.condition_constant tables) cursor.old) result cursor.new }
-{
-    cursor.expect(b"VitalTruthTableType")?;
-    let table = assigned_truth_table(cursor, alloc)?;
-    tables.conditions.push(table)?;
-    Ok(tables)
-}
-
-/// The table of an output, behind the `:` of its constant.
-#[tactic(auto, unfolding(vhdl_text::specs::VhdlTables::output_constant))]
-fn output_constant(
-    cursor: &mut Cursor<'_, Vhdl>,
-    alloc: Global,
-    mut tables: Tables,
-) -> Result<Tables, Stop>
-    ensures { Reads (read (spec.output_constant tables) cursor.old) result cursor.new }
-{
-    cursor.expect(b"VitalTruthTableType")?;
-    let table = assigned_truth_table(cursor, alloc)?;
-    tables.outputs.push(table)?;
-    Ok(tables)
-}
-
 /// The table of a state, behind the type of its constant.
 #[tactic(auto, unfolding(vhdl_text::specs::VhdlTables::state_constant))]
-fn state_constant(
-    cursor: &mut Cursor<'_, Vhdl>,
-    alloc: Global,
-    mut tables: Tables,
-) -> Result<Tables, Stop>
+fn state_constant(cursor: &mut Cursor<'_>, alloc: Global, mut tables: Tables) -> Read<Tables>
     ensures { Reads (read (spec.state_constant tables) cursor.old) result cursor.new }
 {
     cursor.expect(b":=")?;
@@ -132,40 +95,39 @@ fn is_before_truth_tables(tables: &Tables) -> bool
 }
 
 /// The table of a state or of an output, behind the `:` of its constant.
-#[tactic(auto, using(crate::proofs::NextConstant::state_begun, crate::proofs::NextConstant::state_too_late, crate::proofs::NextConstant::no_state))]
-fn state_or_output(
-    cursor: &mut Cursor<'_, Vhdl>,
-    alloc: Global,
-    tables: Tables,
-) -> Result<Tables, Stop>
+#[tactic(auto, unfolding(vhdl_text::specs::VhdlTables::output_constant), using(crate::proofs::NextConstant::state_begun, crate::proofs::NextConstant::no_state))]
+fn state_or_output(cursor: &mut Cursor<'_>, alloc: Global, mut tables: Tables) -> Read<Tables>
     ensures { Reads (read (spec.constant_by tables spec.StateOrOutput) cursor.old) result cursor.new }
 {
-    if !is_before_truth_tables(&tables) {
-        return output_constant(cursor, alloc, tables);
+    if is_before_truth_tables(&tables) && cursor.is_next(b"VitalStateTableType") {
+        cursor.skip();
+        return state_constant(cursor, alloc, tables);
     }
-    if !cursor.is_next(b"VitalStateTableType") {
-        return output_constant(cursor, alloc, tables);
-    }
-    cursor.skip();
-    state_constant(cursor, alloc, tables)
+    let table = truth_constant(cursor, alloc)?;
+    tables.outputs.push(table)?;
+    Ok(tables)
 }
 
 /// One more constant, behind its word.
-#[tactic(auto, unfolding(vhdl_text::specs::VhdlTables::constant))]
-fn constant(cursor: &mut Cursor<'_, Vhdl>, alloc: Global, tables: Tables) -> Result<Tables, Stop>
+#[tactic(auto, unfolding(vhdl_text::specs::VhdlTables::constant, vhdl_text::specs::VhdlTables::condition_constant))]
+fn constant(cursor: &mut Cursor<'_>, alloc: Global, mut tables: Tables) -> Read<Tables>
     ensures { Reads (read (spec.constant tables) cursor.old) result cursor.new }
 {
     let of = constant_name(cursor, alloc, &tables)?;
     cursor.expect(b":")?;
     match of {
         ConstantOf::StateOrOutput => state_or_output(cursor, alloc, tables),
-        ConstantOf::Condition => condition_constant(cursor, alloc, tables),
+        ConstantOf::Condition => {
+            let table = truth_constant(cursor, alloc)?;
+            tables.conditions.push(table)?;
+            Ok(tables)
+        }
     }
 }
 
 /// All constants.
-#[tactic(auto, unfolding(vhdl_text::specs::VhdlTables::constants), using(rule_readers::proofs::Repeats::turn, vhdl_words::proofs::NextWords::choose_begun, vhdl_words::proofs::NextWords::choose_other))]
-pub fn constants(cursor: &mut Cursor<'_, Vhdl>, alloc: Global) -> Result<Tables, Stop>
+#[tactic(auto, unfolding(vhdl_text::specs::VhdlTables::constants), using(rule_readers::proofs::Repeats::turns))]
+pub fn constants(cursor: &mut Cursor<'_>, alloc: Global) -> Read<Tables>
     ensures { Reads (read spec.constants cursor.old) result cursor.new }
 {
     let mut tables = Tables {

@@ -1,24 +1,22 @@
 //! The header of an entity: its packages, name and ports. (IEEE 1076-1993, 1.1, 1.2 and 10.4.)
 
 ghost use Rattle.std.specs.Prelude.{◌≡◌, [], true, false, IfOk, codes};
-ghost use Rattle.grammar_rules.specs.Rule.{Many};
-ghost use Rattle.grammar_rules.specs.Reading.{read};
-ghost use Rattle.rule_readers.specs.Reading.{Reads};
+ghost use Rattle.rule_readers.specs.Reading.{read, Many, Reads};
 ghost use Rattle.rule_readers.specs.Words.{valued};
 ghost use Rattle.vhdl_tokens.specs.Tokens.{is_name};
 ghost use Rattle.vhdl_text.specs.VhdlRules as rules;
 ghost use Rattle.vhdl_text.specs.VhdlDeclarations as spec;
 
-use rule_readers::{Cursor, Refusal, Stop};
+use rule_readers::{Read, Refusal, Stop};
 use sqlite_items::Items;
 use std::alloc::Global;
 use udp_tables::VPort;
 use vhdl_tokens::{is_name, is_same};
-use vhdl_words::{Ports, Vhdl, either_word, expect_all};
+use vhdl_words::{Cursor, Ports, either_word, expect_all};
 
 /// The packages that an entity uses, behind its first word.
 #[tactic(auto, unfolding(vhdl_text::specs::VhdlDeclarations::packages))]
-pub fn packages(cursor: &mut Cursor<'_, Vhdl>) -> Result<(), Stop>
+pub fn packages(cursor: &mut Cursor<'_>) -> Read<()>
     ensures { Reads (read spec.packages cursor.old) result cursor.new }
 {
     expect_all(cursor, &[b"IEEE", b";"])?;
@@ -59,11 +57,11 @@ fn has_underscore(name: &[u8]) -> bool
 /// The name of a port of this entity, behind these ports.
 #[tactic(auto, using(vhdl_words::proofs::NextWords::named_fits, vhdl_words::proofs::NextWords::named_foul, vhdl_words::proofs::NextWords::named_misfit, vhdl_words::proofs::NextWords::named_other))]
 fn port_name(
-    cursor: &mut Cursor<'_, Vhdl>,
+    cursor: &mut Cursor<'_>,
     alloc: Global,
     entity: &[u8],
     ports: &Ports,
-) -> Result<Items<u8>, Stop>
+) -> Read<Items<u8>>
     ensures reads { Reads (read (rules.named (spec.port_by entity.now ports.now)) cursor.old) result cursor.new }
     ensures named { IfOk result (λ name. is_name name ≡ true) }
     ensures fresh { IfOk result (λ name. rules.is_among (spec.port_names ports.now) name ≡ false) }
@@ -84,7 +82,7 @@ fn port_name(
 }
 
 /// The direction of a port: whether it is an input.
-fn direction(cursor: &mut Cursor<'_, Vhdl>) -> Result<bool, Stop>
+fn direction(cursor: &mut Cursor<'_>) -> Read<bool>
     ensures { Reads (read (valued spec.is_input_word) cursor.old) result cursor.new }
 {
     either_word(cursor, b"in", true, b"out", false)
@@ -92,12 +90,7 @@ fn direction(cursor: &mut Cursor<'_, Vhdl>) -> Result<bool, Stop>
 
 /// One more port of this entity.
 #[tactic(auto, unfolding(vhdl_text::specs::VhdlDeclarations::next_port))]
-fn next_port(
-    cursor: &mut Cursor<'_, Vhdl>,
-    alloc: Global,
-    entity: &[u8],
-    ports: Ports,
-) -> Result<Ports, Stop>
+fn next_port(cursor: &mut Cursor<'_>, alloc: Global, entity: &[u8], ports: Ports) -> Read<Ports>
     ensures { Reads (read (spec.next_port entity.now ports) cursor.old) result cursor.new }
 {
     let name = port_name(cursor, alloc, entity, &ports)?;
@@ -110,11 +103,11 @@ fn next_port(
 /// The ports of this entity behind these.
 #[tactic(auto, using(rule_readers::proofs::Repeats::turn, vhdl_words::proofs::NextWords::choose_begun, vhdl_words::proofs::NextWords::choose_other))]
 fn more_ports(
-    cursor: &mut Cursor<'_, Vhdl>,
+    cursor: &mut Cursor<'_>,
     alloc: Global,
     entity: &[u8],
     mut ports: Ports,
-) -> Result<Ports, Stop>
+) -> Read<Ports>
     ensures { Reads (read (Many (λ _. rules.begins (codes ";")) (λ found _. spec.next_port entity.now found) ports) cursor.old) result cursor.new }
 {
     for _turn in 0..cursor.left() {
@@ -129,7 +122,7 @@ fn more_ports(
 
 /// The ports of this entity, behind their word.
 #[tactic(auto, unfolding(vhdl_text::specs::VhdlDeclarations::port_list))]
-fn port_list(cursor: &mut Cursor<'_, Vhdl>, alloc: Global, entity: &[u8]) -> Result<Ports, Stop>
+fn port_list(cursor: &mut Cursor<'_>, alloc: Global, entity: &[u8]) -> Read<Ports>
     ensures { Reads (read (spec.port_list entity.now) cursor.old) result cursor.new }
 {
     cursor.expect(b"(")?;
@@ -141,7 +134,7 @@ fn port_list(cursor: &mut Cursor<'_, Vhdl>, alloc: Global, entity: &[u8]) -> Res
 
 /// The ports of this entity, if there are any.
 #[tactic(auto, unfolding(vhdl_text::specs::VhdlDeclarations::ports_of), using(vhdl_words::proofs::NextWords::choose_begun, vhdl_words::proofs::NextWords::choose_other))]
-fn ports_of(cursor: &mut Cursor<'_, Vhdl>, alloc: Global, entity: &[u8]) -> Result<Ports, Stop>
+fn ports_of(cursor: &mut Cursor<'_>, alloc: Global, entity: &[u8]) -> Read<Ports>
     ensures { Reads (read (spec.ports_of entity.now) cursor.old) result cursor.new }
 {
     if !cursor.is_next(b"port") {
@@ -153,11 +146,7 @@ fn ports_of(cursor: &mut Cursor<'_, Vhdl>, alloc: Global, entity: &[u8]) -> Resu
 
 /// The header of this entity, behind its name.
 #[tactic(auto, unfolding(vhdl_text::specs::VhdlDeclarations::entity_header))]
-pub fn entity_header(
-    cursor: &mut Cursor<'_, Vhdl>,
-    alloc: Global,
-    entity: &[u8],
-) -> Result<Ports, Stop>
+pub fn entity_header(cursor: &mut Cursor<'_>, alloc: Global, entity: &[u8]) -> Read<Ports>
     ensures { Reads (read (spec.entity_header entity.now) cursor.old) result cursor.new }
 {
     cursor.expect(b"is")?;
@@ -170,7 +159,7 @@ pub fn entity_header(
 
 /// The header of the architecture of this entity.
 #[tactic(auto, unfolding(vhdl_text::specs::VhdlDeclarations::architecture_header))]
-pub fn architecture_header(cursor: &mut Cursor<'_, Vhdl>, entity: &[u8]) -> Result<(), Stop>
+pub fn architecture_header(cursor: &mut Cursor<'_>, entity: &[u8]) -> Read<()>
     ensures { Reads (read (spec.architecture_header entity.now) cursor.old) result cursor.new }
 {
     expect_all(cursor, &[b"architecture", b"vital", b"of"])?;

@@ -1,17 +1,15 @@
 //! The process of an architecture up to its statements: its sensitivity list. (IEEE 1076-1993, 9.2.)
 
 ghost use Rattle.std.specs.Prelude.{◌≡◌, IfOk, codes};
-ghost use Rattle.grammar_rules.specs.Rule.{Many};
-ghost use Rattle.grammar_rules.specs.Reading.{read};
-ghost use Rattle.rule_readers.specs.Reading.{Reads};
+ghost use Rattle.rule_readers.specs.Reading.{read, Many, Reads};
 ghost use Rattle.vhdl_text.specs.VhdlRules as rules;
 ghost use Rattle.vhdl_text.specs.VhdlDeclarations as spec;
 
-use rule_readers::{Cursor, Stop};
+use rule_readers::{Read, Stop};
 use sqlite_items::Items;
 use std::alloc::{AllocError, Global};
 use udp_tables::VPort;
-use vhdl_words::Vhdl;
+use vhdl_words::Cursor;
 
 /// The names of the inputs, in order. An `Err` comes only where memory is wanting.
 pub fn input_names(alloc: Global, ports: &[VPort]) -> Result<Items<Items<u8>>, AllocError>
@@ -28,11 +26,7 @@ pub fn input_names(alloc: Global, ports: &[VPort]) -> Result<Items<Items<u8>>, A
 
 /// The next of these names, where so many stand before it.
 #[tactic(auto, unfolding(vhdl_text::specs::VhdlDeclarations::listed_name))]
-fn listed_name(
-    cursor: &mut Cursor<'_, Vhdl>,
-    names: &[Items<u8>],
-    count: usize,
-) -> Result<usize, Stop>
+fn listed_name(cursor: &mut Cursor<'_>, names: &[Items<u8>], count: usize) -> Read<usize>
     ensures { Reads (read (spec.listed_name names.now count) cursor.old) result cursor.new }
 {
     let Some(name) = names.get(count) else {
@@ -44,11 +38,7 @@ fn listed_name(
 
 /// How many of these names stand behind so many.
 #[tactic(auto, using(rule_readers::proofs::Repeats::turn, vhdl_words::proofs::NextWords::choose_begun, vhdl_words::proofs::NextWords::choose_other))]
-fn more_listed_names(
-    cursor: &mut Cursor<'_, Vhdl>,
-    names: &[Items<u8>],
-    mut count: usize,
-) -> Result<usize, Stop>
+fn more_listed_names(cursor: &mut Cursor<'_>, names: &[Items<u8>], mut count: usize) -> Read<usize>
     ensures { Reads (read (Many (λ _. rules.begins (codes ",")) (λ n _. spec.listed_name names.now n) count) cursor.old) result cursor.new }
 {
     for _turn in 0..cursor.left() {
@@ -63,7 +53,7 @@ fn more_listed_names(
 
 /// All these names in order.
 #[tactic(auto, unfolding(vhdl_text::specs::VhdlDeclarations::listed_names))]
-fn listed_names(cursor: &mut Cursor<'_, Vhdl>, names: &[Items<u8>]) -> Result<(), Stop>
+fn listed_names(cursor: &mut Cursor<'_>, names: &[Items<u8>]) -> Read<()>
     ensures { Reads (read (spec.listed_names names.now) cursor.old) result cursor.new }
 {
     cursor.expect(b"(")?;
@@ -74,7 +64,7 @@ fn listed_names(cursor: &mut Cursor<'_, Vhdl>, names: &[Items<u8>]) -> Result<()
 }
 
 /// The sensitivity list of the inputs with these names, if there are any.
-fn sensitivity_of(cursor: &mut Cursor<'_, Vhdl>, names: &[Items<u8>]) -> Result<(), Stop>
+fn sensitivity_of(cursor: &mut Cursor<'_>, names: &[Items<u8>]) -> Read<()>
     ensures { Reads (read (spec.sensitivity names.now) cursor.old) result cursor.new }
 {
     match names {
@@ -84,11 +74,7 @@ fn sensitivity_of(cursor: &mut Cursor<'_, Vhdl>, names: &[Items<u8>]) -> Result<
 }
 
 /// The sensitivity list of the inputs among these ports, if there are any.
-pub fn sensitivity(
-    cursor: &mut Cursor<'_, Vhdl>,
-    alloc: Global,
-    ports: &[VPort],
-) -> Result<(), Stop>
+pub fn sensitivity(cursor: &mut Cursor<'_>, alloc: Global, ports: &[VPort]) -> Read<()>
     ensures { Reads (read (spec.sensitivity (spec.input_names ports.now)) cursor.old) result cursor.new }
 {
     let names = input_names(alloc, ports)?;

@@ -1,7 +1,6 @@
 //! The declarations of an entity and of its architecture. (IEEE 1076-1993, 1.1 and 1.2.)
 
-ghost use Rattle.grammar_rules.specs.Reading.{read};
-ghost use Rattle.rule_readers.specs.Reading.{Reads};
+ghost use Rattle.rule_readers.specs.Reading.{read, Reads};
 ghost use Rattle.vhdl_text.specs.VhdlDeclarations as spec;
 ghost use Rattle.vhdl_declarations.specs.Tails as tails;
 
@@ -9,21 +8,21 @@ use crate::constants::constants;
 use crate::header::{architecture_header, entity_header};
 use crate::process::sensitivity;
 use crate::variables::variables;
-use rule_readers::{Cursor, Stop};
+use rule_readers::Read;
 use sqlite_items::Items;
 use std::alloc::Global;
 use vhdl_text::Tables;
-use vhdl_words::{Declarations, Ports, Vhdl, expect_all};
+use vhdl_words::{Cursor, Declarations, Ports, expect_all};
 
 /// The declarations behind the sensitivity list.
 #[tactic(auto, unfolding(crate::specs::Tails::behind_sensitivity))]
 fn behind_sensitivity(
-    cursor: &mut Cursor<'_, Vhdl>,
+    cursor: &mut Cursor<'_>,
     alloc: Global,
     name: Items<u8>,
     ports: Ports,
     tables: Tables,
-) -> Result<Declarations, Stop>
+) -> Read<Declarations>
     ensures { Reads (read (tails.behind_sensitivity name ports tables) cursor.old) result cursor.new }
 {
     let variables = variables(cursor, alloc, &ports, &tables)?;
@@ -34,11 +33,11 @@ fn behind_sensitivity(
 /// The declarations behind both headers.
 #[tactic(auto, unfolding(crate::specs::Tails::behind_headers))]
 fn behind_headers(
-    cursor: &mut Cursor<'_, Vhdl>,
+    cursor: &mut Cursor<'_>,
     alloc: Global,
     name: Items<u8>,
     ports: Ports,
-) -> Result<Declarations, Stop>
+) -> Read<Declarations>
     ensures { Reads (read (tails.behind_headers name ports) cursor.old) result cursor.new }
 {
     let tables = constants(cursor, alloc)?;
@@ -49,11 +48,7 @@ fn behind_headers(
 
 /// The declarations behind the name of an entity, up to the `begin` before the statements.
 #[tactic(auto, unfolding(vhdl_text::specs::VhdlDeclarations::scope_of, crate::specs::Tails::behind_headers, crate::specs::Tails::behind_sensitivity))]
-pub fn scope_of(
-    cursor: &mut Cursor<'_, Vhdl>,
-    alloc: Global,
-    name: Items<u8>,
-) -> Result<Declarations, Stop>
+pub fn scope_of(cursor: &mut Cursor<'_>, alloc: Global, name: Items<u8>) -> Read<Declarations>
     ensures { Reads (read (spec.scope_of name) cursor.old) result cursor.new }
 {
     let ports = entity_header(cursor, alloc, name.as_slice())?;

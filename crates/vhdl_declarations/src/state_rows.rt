@@ -1,22 +1,20 @@
 //! The tables of states. (IEEE 1076.4-2000, VitalStateTableType.)
 
 ghost use Rattle.std.specs.Prelude.{◌≡◌, [], codes};
-ghost use Rattle.grammar_rules.specs.Rule.{Many, Token};
-ghost use Rattle.grammar_rules.specs.Reading.{read};
 ghost use Rattle.rule_readers.specs.declared.refusal.Refusal.TheVariants.{Syntax};
-ghost use Rattle.rule_readers.specs.Reading.{Reads};
+ghost use Rattle.rule_readers.specs.Reading.{read, Many, Token, Reads};
 ghost use Rattle.vhdl_text.specs.VhdlRules as rules;
 ghost use Rattle.vhdl_text.specs.VhdlTables as spec;
 
 use crate::symbols::{has_edge, is_as_long_as_state_rows, is_edge, state_row_of, symbol_of};
-use rule_readers::{Cursor, Refusal, Stop};
+use rule_readers::{Read, Refusal, Stop};
 use sqlite_items::Items;
 use std::alloc::Global;
-use vhdl_words::{Vhdl, is_number_token};
+use vhdl_words::{Cursor, is_number_token};
 use vital_models::{VStateRow, VStateTable, VSymbol};
 
 /// A symbol of a row, behind these.
-fn a_symbol(cursor: &mut Cursor<'_, Vhdl>, symbols: &[VSymbol]) -> Result<VSymbol, Stop>
+fn a_symbol(cursor: &mut Cursor<'_>, symbols: &[VSymbol]) -> Read<VSymbol>
     ensures { Reads (read (Token (λ x. spec.next_by symbols.now (spec.symbol_of x)) Syntax) cursor.old) result cursor.new }
 {
     let Some(symbol) = symbol_of(cursor.bytes()) else {
@@ -31,10 +29,7 @@ fn a_symbol(cursor: &mut Cursor<'_, Vhdl>, symbols: &[VSymbol]) -> Result<VSymbo
 
 /// One more symbol of a row.
 #[tactic(auto, unfolding(vhdl_text::specs::VhdlTables::next_symbol))]
-fn next_symbol(
-    cursor: &mut Cursor<'_, Vhdl>,
-    mut symbols: Items<VSymbol>,
-) -> Result<Items<VSymbol>, Stop>
+fn next_symbol(cursor: &mut Cursor<'_>, mut symbols: Items<VSymbol>) -> Read<Items<VSymbol>>
     ensures { Reads (read (spec.next_symbol symbols) cursor.old) result cursor.new }
 {
     let symbol = a_symbol(cursor, symbols.as_slice())?;
@@ -44,10 +39,7 @@ fn next_symbol(
 
 /// The symbols of a row behind these.
 #[tactic(auto, using(rule_readers::proofs::Repeats::turn, vhdl_words::proofs::NextWords::choose_begun, vhdl_words::proofs::NextWords::choose_other))]
-fn more_symbols(
-    cursor: &mut Cursor<'_, Vhdl>,
-    mut symbols: Items<VSymbol>,
-) -> Result<Items<VSymbol>, Stop>
+fn more_symbols(cursor: &mut Cursor<'_>, mut symbols: Items<VSymbol>) -> Read<Items<VSymbol>>
     ensures { Reads (read (Many (λ _. rules.begins (codes ",")) (λ found _. spec.next_symbol found) symbols) cursor.old) result cursor.new }
 {
     for _turn in 0..cursor.left() {
@@ -62,7 +54,7 @@ fn more_symbols(
 
 /// The symbols of a row.
 #[tactic(auto, unfolding(vhdl_text::specs::VhdlTables::symbols))]
-fn symbols(cursor: &mut Cursor<'_, Vhdl>, alloc: Global) -> Result<Items<VSymbol>, Stop>
+fn symbols(cursor: &mut Cursor<'_>, alloc: Global) -> Read<Items<VSymbol>>
     ensures { Reads (read spec.symbols cursor.old) result cursor.new }
 {
     let first = next_symbol(cursor, Items::new(alloc))?;
@@ -71,10 +63,10 @@ fn symbols(cursor: &mut Cursor<'_, Vhdl>, alloc: Global) -> Result<Items<VSymbol
 
 /// The end of a row, where its symbols are this row, behind these rows.
 fn state_row_end(
-    cursor: &mut Cursor<'_, Vhdl>,
+    cursor: &mut Cursor<'_>,
     rows: &[VStateRow],
     row: Option<VStateRow>,
-) -> Result<VStateRow, Stop>
+) -> Read<VStateRow>
     ensures { Reads (read (Token (spec.row_end (spec.is_as_long_as_state_rows rows.now) row) Syntax) cursor.old) result cursor.new }
 {
     let Some(row) = row else {
@@ -93,10 +85,10 @@ fn state_row_end(
 /// One more row.
 #[tactic(auto, unfolding(vhdl_text::specs::VhdlTables::state_row))]
 fn state_row(
-    cursor: &mut Cursor<'_, Vhdl>,
+    cursor: &mut Cursor<'_>,
     alloc: Global,
     mut rows: Items<VStateRow>,
-) -> Result<Items<VStateRow>, Stop>
+) -> Read<Items<VStateRow>>
     ensures { Reads (read (spec.state_row rows) cursor.old) result cursor.new }
 {
     cursor.expect(b"(")?;
@@ -110,10 +102,10 @@ fn state_row(
 /// The rows of a table behind these.
 #[tactic(auto, using(rule_readers::proofs::Repeats::turn, vhdl_words::proofs::NextWords::choose_begun, vhdl_words::proofs::NextWords::choose_other))]
 fn more_state_rows(
-    cursor: &mut Cursor<'_, Vhdl>,
+    cursor: &mut Cursor<'_>,
     alloc: Global,
     mut rows: Items<VStateRow>,
-) -> Result<Items<VStateRow>, Stop>
+) -> Read<Items<VStateRow>>
     ensures { Reads (read (Many (λ _. rules.begins (codes ",")) (λ found _. spec.state_row found) rows) cursor.old) result cursor.new }
 {
     for _turn in 0..cursor.left() {
@@ -128,10 +120,7 @@ fn more_state_rows(
 
 /// Two rows or more.
 #[tactic(auto, unfolding(vhdl_text::specs::VhdlRules::several_elements, vhdl_text::specs::VhdlRules::more_elements))]
-fn several_state_rows(
-    cursor: &mut Cursor<'_, Vhdl>,
-    alloc: Global,
-) -> Result<Items<VStateRow>, Stop>
+fn several_state_rows(cursor: &mut Cursor<'_>, alloc: Global) -> Read<Items<VStateRow>>
     ensures { Reads (read (rules.several_elements spec.state_row []) cursor.old) result cursor.new }
 {
     let first = state_row(cursor, alloc, Items::new(alloc))?;
@@ -142,7 +131,7 @@ fn several_state_rows(
 
 /// The rows of a table.
 #[tactic(auto, unfolding(vhdl_text::specs::VhdlRules::elements, vhdl_text::specs::VhdlRules::only_element), using(rule_readers::proofs::Choices::choose_by, rule_readers::proofs::Choices::choose_not_by))]
-fn state_rows(cursor: &mut Cursor<'_, Vhdl>, alloc: Global) -> Result<Items<VStateRow>, Stop>
+fn state_rows(cursor: &mut Cursor<'_>, alloc: Global) -> Read<Items<VStateRow>>
     ensures { Reads (read (rules.elements spec.state_row []) cursor.old) result cursor.new }
 {
     if !is_number_token(0, cursor.bytes()) {
@@ -155,7 +144,7 @@ fn state_rows(cursor: &mut Cursor<'_, Vhdl>, alloc: Global) -> Result<Items<VSta
 
 /// The table of a state.
 #[tactic(auto, unfolding(vhdl_text::specs::VhdlTables::state_table))]
-pub fn state_table(cursor: &mut Cursor<'_, Vhdl>, alloc: Global) -> Result<VStateTable, Stop>
+pub fn state_table(cursor: &mut Cursor<'_>, alloc: Global) -> Read<VStateTable>
     ensures { Reads (read spec.state_table cursor.old) result cursor.new }
 {
     cursor.expect(b"(")?;

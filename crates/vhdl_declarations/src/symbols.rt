@@ -14,18 +14,13 @@ use vital_models::{Trits, TruthRow, VNext, VStateRow, VSymbol};
 pub fn level_of(token: &[u8]) -> Option<Trits>
     ensures { result ≡ spec.level_of token.now }
 {
-    if token == b"'0'".as_slice() {
-        Some(Trits::Zero)
-    } else if token == b"'1'".as_slice() {
-        Some(Trits::One)
-    } else if token == b"'X'".as_slice() {
-        Some(Trits::Unknown)
-    } else if token == b"'-'".as_slice() {
-        Some(Trits::Any)
-    } else if token == b"'B'".as_slice() {
-        Some(Trits::Binary)
-    } else {
-        None
+    match token {
+        b"'0'" => Some(Trits::Zero),
+        b"'1'" => Some(Trits::One),
+        b"'X'" => Some(Trits::Unknown),
+        b"'-'" => Some(Trits::Any),
+        b"'B'" => Some(Trits::Binary),
+        _ => None,
     }
 }
 
@@ -33,24 +28,16 @@ pub fn level_of(token: &[u8]) -> Option<Trits>
 fn change_of(token: &[u8]) -> Option<VSymbol>
     ensures { result ≡ spec.change_of token.now }
 {
-    if token == b"'S'".as_slice() {
-        Some(VSymbol::Steady)
-    } else if token == b"'/'".as_slice() {
-        Some(VSymbol::Rise)
-    } else if token == b"'\\'".as_slice() {
-        Some(VSymbol::Fall)
-    } else if token == b"'P'".as_slice() {
-        Some(VSymbol::To1)
-    } else if token == b"'N'".as_slice() {
-        Some(VSymbol::To0)
-    } else if token == b"'p'".as_slice() {
-        Some(VSymbol::From0)
-    } else if token == b"'n'".as_slice() {
-        Some(VSymbol::From1)
-    } else if token == b"'*'".as_slice() {
-        Some(VSymbol::Change)
-    } else {
-        None
+    match token {
+        b"'S'" => Some(VSymbol::Steady),
+        b"'/'" => Some(VSymbol::Rise),
+        b"'\\'" => Some(VSymbol::Fall),
+        b"'P'" => Some(VSymbol::To1),
+        b"'N'" => Some(VSymbol::To0),
+        b"'p'" => Some(VSymbol::From0),
+        b"'n'" => Some(VSymbol::From1),
+        b"'*'" => Some(VSymbol::Change),
+        _ => None,
     }
 }
 
@@ -93,24 +80,14 @@ fn state_in(symbol: VSymbol) -> Option<Trits>
     }
 }
 
-/// The level that a row of a state's table gives.
-fn next_at(level: Trits) -> Option<VNext>
-    ensures { result ≡ spec.next_at level }
-{
-    match level {
-        Trits::Zero => Some(VNext::Zero),
-        Trits::One => Some(VNext::One),
-        Trits::Unknown => Some(VNext::Unknown),
-        Trits::Any | Trits::Binary => None,
-    }
-}
-
 /// What a row of a state's table gives, by its last symbol.
 fn next_in(symbol: VSymbol) -> Option<VNext>
     ensures { result ≡ spec.next_in symbol }
 {
     match symbol {
-        VSymbol::Level(level) => next_at(level),
+        VSymbol::Level(Trits::Zero) => Some(VNext::Zero),
+        VSymbol::Level(Trits::One) => Some(VNext::One),
+        VSymbol::Level(Trits::Unknown) => Some(VNext::Unknown),
         VSymbol::Steady => Some(VNext::Keep),
         _ => None,
     }
@@ -169,16 +146,6 @@ fn value_of(level: Trits) -> Option<Trit>
     }
 }
 
-/// What a row gives, by its level at a place.
-fn value_at(levels: &[Trits], at: usize) -> Option<Trit>
-    ensures { result ≡ option_and_then spec.value_of (slice_get levels.now at) }
-{
-    match levels.get(at) {
-        Some(level) => value_of(*level),
-        None => None,
-    }
-}
-
 /// The row of a truth table that these levels are. An `Err` comes only where memory is wanting.
 pub fn truth_row_of(alloc: Global, levels: &[Trits]) -> Result<Option<TruthRow>, AllocError>
     ensures { IfOk result (λ row. row ≡ spec.truth_row_of levels.now) }
@@ -187,7 +154,7 @@ pub fn truth_row_of(alloc: Global, levels: &[Trits]) -> Result<Option<TruthRow>,
         return Ok(None);
     }
     let columns = levels.len() - 1;
-    let Some(result) = value_at(levels, columns) else {
+    let Some(result) = levels.get(columns).and_then(|level| value_of(*level)) else {
         return Ok(None);
     };
     Ok(Some(TruthRow {

@@ -1,24 +1,22 @@
 //! Truth tables. (IEEE 1076.4-2000, VitalTruthTableType.)
 
 ghost use Rattle.std.specs.Prelude.{◌≡◌, [], codes};
-ghost use Rattle.grammar_rules.specs.Rule.{Many, Token};
-ghost use Rattle.grammar_rules.specs.Reading.{read};
 ghost use Rattle.rule_readers.specs.declared.refusal.Refusal.TheVariants.{Syntax};
-ghost use Rattle.rule_readers.specs.Reading.{Reads};
+ghost use Rattle.rule_readers.specs.Reading.{read, Many, Token, Reads};
 ghost use Rattle.rule_readers.specs.Words.{valued};
 ghost use Rattle.vhdl_text.specs.VhdlRules as rules;
 ghost use Rattle.vhdl_text.specs.VhdlTables as spec;
 
 use crate::symbols::{is_as_long_as_truth_rows, level_of, truth_row_of};
-use rule_readers::{Cursor, Refusal, Stop};
+use rule_readers::{Read, Refusal, Stop};
 use sqlite_items::Items;
 use std::alloc::Global;
-use vhdl_words::{Vhdl, is_number_token};
+use vhdl_words::{Cursor, is_number_token};
 use vital_models::{Trits, TruthRow, TruthTable};
 
 /// A level of a row.
 #[tactic(auto, using(rule_readers::proofs::Values::valued_found))]
-fn a_level(cursor: &mut Cursor<'_, Vhdl>) -> Result<Trits, Stop>
+fn a_level(cursor: &mut Cursor<'_>) -> Read<Trits>
     ensures { Reads (read (valued spec.level_of) cursor.old) result cursor.new }
 {
     let found = level_of(cursor.bytes());
@@ -27,7 +25,7 @@ fn a_level(cursor: &mut Cursor<'_, Vhdl>) -> Result<Trits, Stop>
 
 /// One more level of a row.
 #[tactic(auto, unfolding(vhdl_text::specs::VhdlTables::next_level))]
-fn next_level(cursor: &mut Cursor<'_, Vhdl>, mut levels: Items<Trits>) -> Result<Items<Trits>, Stop>
+fn next_level(cursor: &mut Cursor<'_>, mut levels: Items<Trits>) -> Read<Items<Trits>>
     ensures { Reads (read (spec.next_level levels) cursor.old) result cursor.new }
 {
     let level = a_level(cursor)?;
@@ -37,10 +35,7 @@ fn next_level(cursor: &mut Cursor<'_, Vhdl>, mut levels: Items<Trits>) -> Result
 
 /// The levels of a row behind these.
 #[tactic(auto, using(rule_readers::proofs::Repeats::turn, vhdl_words::proofs::NextWords::choose_begun, vhdl_words::proofs::NextWords::choose_other))]
-fn more_levels(
-    cursor: &mut Cursor<'_, Vhdl>,
-    mut levels: Items<Trits>,
-) -> Result<Items<Trits>, Stop>
+fn more_levels(cursor: &mut Cursor<'_>, mut levels: Items<Trits>) -> Read<Items<Trits>>
     ensures { Reads (read (Many (λ _. rules.begins (codes ",")) (λ found _. spec.next_level found) levels) cursor.old) result cursor.new }
 {
     for _turn in 0..cursor.left() {
@@ -55,7 +50,7 @@ fn more_levels(
 
 /// The levels of a row.
 #[tactic(auto, unfolding(vhdl_text::specs::VhdlTables::levels))]
-fn levels(cursor: &mut Cursor<'_, Vhdl>, alloc: Global) -> Result<Items<Trits>, Stop>
+fn levels(cursor: &mut Cursor<'_>, alloc: Global) -> Read<Items<Trits>>
     ensures { Reads (read spec.levels cursor.old) result cursor.new }
 {
     let first = next_level(cursor, Items::new(alloc))?;
@@ -64,10 +59,10 @@ fn levels(cursor: &mut Cursor<'_, Vhdl>, alloc: Global) -> Result<Items<Trits>, 
 
 /// The end of a row, where its levels are this row, behind these rows.
 fn truth_row_end(
-    cursor: &mut Cursor<'_, Vhdl>,
+    cursor: &mut Cursor<'_>,
     rows: &[TruthRow],
     row: Option<TruthRow>,
-) -> Result<TruthRow, Stop>
+) -> Read<TruthRow>
     ensures { Reads (read (Token (spec.row_end (spec.is_as_long_as_truth_rows rows.now) row) Syntax) cursor.old) result cursor.new }
 {
     let Some(row) = row else {
@@ -86,10 +81,10 @@ fn truth_row_end(
 /// One more row.
 #[tactic(auto, unfolding(vhdl_text::specs::VhdlTables::truth_row))]
 fn truth_row(
-    cursor: &mut Cursor<'_, Vhdl>,
+    cursor: &mut Cursor<'_>,
     alloc: Global,
     mut rows: Items<TruthRow>,
-) -> Result<Items<TruthRow>, Stop>
+) -> Read<Items<TruthRow>>
     ensures { Reads (read (spec.truth_row rows) cursor.old) result cursor.new }
 {
     cursor.expect(b"(")?;
@@ -103,10 +98,10 @@ fn truth_row(
 /// The rows of a table behind these.
 #[tactic(auto, using(rule_readers::proofs::Repeats::turn, vhdl_words::proofs::NextWords::choose_begun, vhdl_words::proofs::NextWords::choose_other))]
 fn more_truth_rows(
-    cursor: &mut Cursor<'_, Vhdl>,
+    cursor: &mut Cursor<'_>,
     alloc: Global,
     mut rows: Items<TruthRow>,
-) -> Result<Items<TruthRow>, Stop>
+) -> Read<Items<TruthRow>>
     ensures { Reads (read (Many (λ _. rules.begins (codes ",")) (λ found _. spec.truth_row found) rows) cursor.old) result cursor.new }
 {
     for _turn in 0..cursor.left() {
@@ -121,7 +116,7 @@ fn more_truth_rows(
 
 /// Two rows or more.
 #[tactic(auto, unfolding(vhdl_text::specs::VhdlRules::several_elements, vhdl_text::specs::VhdlRules::more_elements))]
-fn several_truth_rows(cursor: &mut Cursor<'_, Vhdl>, alloc: Global) -> Result<Items<TruthRow>, Stop>
+fn several_truth_rows(cursor: &mut Cursor<'_>, alloc: Global) -> Read<Items<TruthRow>>
     ensures { Reads (read (rules.several_elements spec.truth_row []) cursor.old) result cursor.new }
 {
     let first = truth_row(cursor, alloc, Items::new(alloc))?;
@@ -132,7 +127,7 @@ fn several_truth_rows(cursor: &mut Cursor<'_, Vhdl>, alloc: Global) -> Result<It
 
 /// The rows of a table.
 #[tactic(auto, unfolding(vhdl_text::specs::VhdlRules::elements, vhdl_text::specs::VhdlRules::only_element), using(rule_readers::proofs::Choices::choose_by, rule_readers::proofs::Choices::choose_not_by))]
-fn truth_rows(cursor: &mut Cursor<'_, Vhdl>, alloc: Global) -> Result<Items<TruthRow>, Stop>
+fn truth_rows(cursor: &mut Cursor<'_>, alloc: Global) -> Read<Items<TruthRow>>
     ensures { Reads (read (rules.elements spec.truth_row []) cursor.old) result cursor.new }
 {
     if !is_number_token(0, cursor.bytes()) {
@@ -145,7 +140,7 @@ fn truth_rows(cursor: &mut Cursor<'_, Vhdl>, alloc: Global) -> Result<Items<Trut
 
 /// A truth table.
 #[tactic(auto, unfolding(vhdl_text::specs::VhdlTables::truth_table))]
-pub fn truth_table(cursor: &mut Cursor<'_, Vhdl>, alloc: Global) -> Result<TruthTable, Stop>
+pub fn truth_table(cursor: &mut Cursor<'_>, alloc: Global) -> Read<TruthTable>
     ensures { Reads (read spec.truth_table cursor.old) result cursor.new }
 {
     cursor.expect(b"(")?;

@@ -3,19 +3,17 @@
 
 ghost use Rattle.std.specs.Prelude.{◌≡◌, ◌<◌, length, IfOk, Some};
 ghost use Rattle.std.specs.Option.{option_map};
-ghost use Rattle.grammar_rules.specs.Rule.{Token};
-ghost use Rattle.grammar_rules.specs.Reading.{read};
 ghost use Rattle.rule_readers.specs.declared.refusal.Refusal.TheVariants.{Syntax};
-ghost use Rattle.rule_readers.specs.Reading.{ReadsAs};
+ghost use Rattle.rule_readers.specs.Reading.{read, Token, ReadsAs};
 ghost use Rattle.vhdl_text.specs.VhdlDeclarations as spec;
 ghost use Rattle.vhdl_declarations.specs.Kinds.{variable_kind};
 ghost use Rattle.vhdl_declarations.specs.declared.variable_names.VariableOf.TheVariants as kind;
 
-use rule_readers::{Cursor, Refusal, Stop};
+use rule_readers::{Read, Refusal, Stop};
 use std::alloc::{AllocError, Global};
 use vhdl_text::{Tables, Variables};
 use vhdl_tokens::is_name;
-use vhdl_words::{Ports, Vhdl, is_numbered};
+use vhdl_words::{Cursor, Ports, is_numbered};
 
 /// What a variable is of.
 #[derive(Clone, Copy, Debug, PartialEq, Eq)]
@@ -56,33 +54,6 @@ fn is_last_false(flags: &[bool]) -> bool
     }
 }
 
-/// The variable of a state or of an output that a name declares behind these. An `Err` comes only where memory is wanting.
-fn state_or_output(
-    alloc: Global,
-    ports: &Ports,
-    tables: &Tables,
-    variables: &Variables,
-    token: &[u8],
-) -> Result<Option<VariableOf>, AllocError>
-    ensures value { IfOk result (λ found. option_map variable_kind found ≡ spec.state_or_output ports.now tables.now variables.now token.now) }
-    ensures within { IfOk result (λ found. found ≡ Some kind.State → variables.now.states < length tables.now.states) }
-{
-    if variables.states < tables.states.as_slice().len() {
-        if is_numbered(alloc, token, b"s_", variables.states + 1)? {
-            return Ok(Some(VariableOf::State));
-        }
-        return Ok(None);
-    }
-    let outputs = variables.glitches.as_slice().len();
-    if outputs < ports.outputs().len() && is_numbered(alloc, token, b"z_", outputs + 1)? {
-        return Ok(Some(VariableOf::Output));
-    }
-    if is_last_false(variables.glitches.as_slice()) && is_numbered(alloc, token, b"g_", outputs)? {
-        return Ok(Some(VariableOf::Glitch));
-    }
-    Ok(None)
-}
-
 /// The variable that a name declares behind these. An `Err` comes only where memory is wanting.
 fn variable_of(
     alloc: Global,
@@ -103,18 +74,31 @@ fn variable_of(
     if awaits_violation(variables) {
         return Ok(None);
     }
-    state_or_output(alloc, ports, tables, variables, token)
+    if variables.states < tables.states.as_slice().len() {
+        if is_numbered(alloc, token, b"s_", variables.states + 1)? {
+            return Ok(Some(VariableOf::State));
+        }
+        return Ok(None);
+    }
+    let outputs = variables.glitches.as_slice().len();
+    if outputs < ports.outputs().len() && is_numbered(alloc, token, b"z_", outputs + 1)? {
+        return Ok(Some(VariableOf::Output));
+    }
+    if is_last_false(variables.glitches.as_slice()) && is_numbered(alloc, token, b"g_", outputs)? {
+        return Ok(Some(VariableOf::Glitch));
+    }
+    Ok(None)
 }
 
 /// The name of the next variable.
 #[tactic(auto, using(crate::proofs::NextVariable::violation, crate::proofs::NextVariable::other, crate::proofs::NextVariable::some, crate::proofs::NextVariable::none))]
 pub fn variable_name(
-    cursor: &mut Cursor<'_, Vhdl>,
+    cursor: &mut Cursor<'_>,
     alloc: Global,
     ports: &Ports,
     tables: &Tables,
     variables: &Variables,
-) -> Result<VariableOf, Stop>
+) -> Read<VariableOf>
     ensures value { ReadsAs variable_kind (read (Token (spec.variable_by ports.now tables.now variables.now) Syntax) cursor.old) result cursor.new }
     ensures within { IfOk result (λ of. of ≡ kind.State → variables.now.states < length tables.now.states) }
 {

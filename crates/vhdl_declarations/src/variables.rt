@@ -1,22 +1,20 @@
 //! The variables of a process. (IEEE 1076-1993, 4.3.1.3; IEEE 1076.4-2000, the types of the data of checks and of delays.)
 
-ghost use Rattle.std.specs.Prelude.{◌≡◌, ◌+◌, ◌<◌, length, IfOk, Some, [], ◌∷◌, codes};
-ghost use Rattle.grammar_rules.specs.Rule.{Gives, Many, Then};
-ghost use Rattle.grammar_rules.specs.Reading.{read};
-ghost use Rattle.rule_readers.specs.Reading.{Reads};
+ghost use Rattle.std.specs.Prelude.{◌≡◌, ◌+◌, ◌<◌, length, IfOk, Some, codes};
+ghost use Rattle.rule_readers.specs.Reading.{read, Many, Reads, ReadsAs};
 ghost use Rattle.rule_readers.specs.Words.{valued};
 ghost use Rattle.vhdl_text.specs.VhdlRules as rules;
 ghost use Rattle.vhdl_text.specs.VhdlDeclarations as spec;
 
 use crate::variable_names::{VariableOf, awaits_violation, variable_name};
-use rule_readers::{Cursor, Stop};
+use rule_readers::Read;
 use sqlite_items::Items;
 use std::alloc::{AllocError, Global};
 use vhdl_text::{Tables, Variables};
-use vhdl_words::{Ports, Vhdl, either_word, expect_all, numbered, this_number, width_at};
+use vhdl_words::{Cursor, Ports, either_word, expect_all, numbered, this_number, width_at};
 
 /// The type of the data of a check.
-fn period_type(cursor: &mut Cursor<'_, Vhdl>) -> Result<bool, Stop>
+fn period_type(cursor: &mut Cursor<'_>) -> Read<bool>
     ensures { Reads (read (valued spec.is_period_type) cursor.old) result cursor.new }
 {
     either_word(
@@ -28,75 +26,48 @@ fn period_type(cursor: &mut Cursor<'_, Vhdl>) -> Result<bool, Stop>
     )
 }
 
-/// The first data of a check of this type, and the end of its declaration.
-fn initialised(
-    cursor: &mut Cursor<'_, Vhdl>,
-    mut variables: Variables,
-    is_period: bool,
-) -> Result<Variables, Stop>
-    ensures { Reads (read (Then (rules.expect_all (codes ":=" ∷ spec.first_data is_period ∷ codes ";" ∷ [])) (λ _. Gives (spec.with_check variables is_period))) cursor.old) result cursor.new }
+/// The first data of a check of this type.
+fn first_data(is_period: bool) -> &'static [u8]
+    ensures { result.now ≡ spec.first_data is_period }
 {
     if is_period {
-        expect_all(cursor, &[b":=", b"VitalPeriodDataInit", b";"])?;
-        variables.periods.push(true)?;
-        return Ok(variables);
+        b"VitalPeriodDataInit"
+    } else {
+        b"VitalTimingDataInit"
     }
-    expect_all(cursor, &[b":=", b"VitalTimingDataInit", b";"])?;
-    variables.periods.push(false)?;
-    Ok(variables)
 }
 
 /// The name of the data of the next check.
-fn data_name(
-    cursor: &mut Cursor<'_, Vhdl>,
-    alloc: Global,
-    variables: &Variables,
-) -> Result<(), Stop>
+fn data_name(cursor: &mut Cursor<'_>, alloc: Global, variables: &Variables) -> Read<()>
     ensures { Reads (read (rules.this_name (Some (rules.numbered (codes "d_") (length variables.now.periods + 1)))) cursor.old) result cursor.new }
 {
     let number = variables.periods.as_slice().len() + 1;
     numbered(cursor, alloc, true, b"d_", number)
 }
 
-/// The variables of a check, behind the name of the first of them.
+/// The variables of a check, behind the name of the first of them: whether its data are those of a pulse or of a period.
 #[tactic(auto, unfolding(vhdl_text::specs::VhdlDeclarations::check_variables))]
-fn check_variables(
-    cursor: &mut Cursor<'_, Vhdl>,
-    alloc: Global,
-    variables: Variables,
-) -> Result<Variables, Stop>
-    ensures { Reads (read (spec.check_variables variables) cursor.old) result cursor.new }
+fn check_variables(cursor: &mut Cursor<'_>, alloc: Global, variables: &Variables) -> Read<bool>
+    ensures { ReadsAs (spec.with_check variables.now) (read (spec.check_variables variables.now) cursor.old) result cursor.new }
 {
     expect_all(cursor, &[b":", b"X01", b":=", b"'0'", b";", b"variable"])?;
-    data_name(cursor, alloc, &variables)?;
+    data_name(cursor, alloc, variables)?;
     cursor.expect(b":")?;
     let is_period = period_type(cursor)?;
-    initialised(cursor, variables, is_period)
+    expect_all(cursor, &[b":=", first_data(is_period), b";"])?;
+    Ok(is_period)
 }
 
-/// The variable of the violation, behind its name.
-#[tactic(auto, unfolding(vhdl_text::specs::VhdlDeclarations::violation_variable))]
-fn violation_variable(
-    cursor: &mut Cursor<'_, Vhdl>,
-    mut variables: Variables,
-) -> Result<Variables, Stop>
-    ensures { Reads (read (spec.violation_variable variables) cursor.old) result cursor.new }
-{
-    expect_all(cursor, &[b":", b"X01", b":=", b"'0'", b";"])?;
-    variables.violation = true;
-    Ok(variables)
-}
-
-/// The variables of a state, behind the name of the first of them.
+/// The variables of the next state, behind the name of the first of them.
 #[tactic(auto, unfolding(vhdl_text::specs::VhdlDeclarations::state_variables))]
 fn state_variables(
-    cursor: &mut Cursor<'_, Vhdl>,
+    cursor: &mut Cursor<'_>,
     alloc: Global,
     tables: &Tables,
-    mut variables: Variables,
-) -> Result<Variables, Stop>
-    requires { variables.states < length tables.now.states }
-    ensures { Reads (read (spec.state_variables tables.now variables) cursor.old) result cursor.new }
+    variables: &Variables,
+) -> Read<()>
+    requires { variables.now.states < length tables.now.states }
+    ensures { ReadsAs (λ _. spec.with_state variables.now) (read (spec.state_variables tables.now variables.now) cursor.old) result cursor.new }
 {
     let _bound = tables.states.as_slice().len();
     expect_all(
@@ -112,74 +83,61 @@ fn state_variables(
         cursor,
         &[b")", b":=", b"(", b"others", b"=>", b"'X'", b")", b";"],
     )?;
-    variables.states += 1;
-    Ok(variables)
+    Ok(())
 }
 
-/// The variable of an output, behind its name.
-#[tactic(auto, unfolding(vhdl_text::specs::VhdlDeclarations::output_variable))]
-fn output_variable(
-    cursor: &mut Cursor<'_, Vhdl>,
-    mut variables: Variables,
-) -> Result<Variables, Stop>
-    ensures { Reads (read (spec.output_variable variables) cursor.old) result cursor.new }
-{
-    expect_all(cursor, &[b":", b"std_logic", b":=", b"'X'", b";"])?;
-    variables.glitches.push(false)?;
-    Ok(variables)
-}
-
-/// These with true as the last.
+/// The last of these becomes true.
 #[tactic(auto, using(crate::proofs::NextVariable::last_true_append))]
-fn last_true(mut flags: Items<bool>) -> Result<Items<bool>, AllocError>
-    ensures { IfOk result (λ changed. changed ≡ spec.last_true flags) }
+fn set_last(flags: &mut Items<bool>) -> Result<(), AllocError>
+    ensures { IfOk result (λ _. flags.new ≡ spec.last_true flags.old) }
 {
     match flags.pop() {
         Some(_) => {
             flags.push(true)?;
-            Ok(flags)
+            Ok(())
         }
-        None => Ok(flags),
+        None => Ok(()),
     }
 }
 
-/// The variable of the delays of an output, behind its name.
-#[tactic(auto, unfolding(vhdl_text::specs::VhdlDeclarations::glitch_variable))]
-fn glitch_variable(cursor: &mut Cursor<'_, Vhdl>, variables: Variables) -> Result<Variables, Stop>
-    ensures { Reads (read (spec.glitch_variable variables) cursor.old) result cursor.new }
-{
-    expect_all(cursor, &[b":", b"VitalGlitchDataType", b";"])?;
-    let Variables {
-        periods,
-        violation,
-        states,
-        glitches,
-    } = variables;
-    Ok(Variables {
-        periods,
-        violation,
-        states,
-        glitches: last_true(glitches)?,
-    })
-}
-
 /// One more variable, behind its word.
-#[tactic(auto, unfolding(vhdl_text::specs::VhdlDeclarations::variable))]
+#[tactic(auto, unfolding(vhdl_text::specs::VhdlDeclarations::variable, vhdl_text::specs::VhdlDeclarations::violation_variable, vhdl_text::specs::VhdlDeclarations::output_variable, vhdl_text::specs::VhdlDeclarations::glitch_variable))]
 fn variable(
-    cursor: &mut Cursor<'_, Vhdl>,
+    cursor: &mut Cursor<'_>,
     alloc: Global,
     ports: &Ports,
     tables: &Tables,
-    variables: Variables,
-) -> Result<Variables, Stop>
+    mut variables: Variables,
+) -> Read<Variables>
     ensures { Reads (read (spec.variable ports.now tables.now variables) cursor.old) result cursor.new }
 {
     match variable_name(cursor, alloc, ports, tables, &variables)? {
-        VariableOf::Check => check_variables(cursor, alloc, variables),
-        VariableOf::Violation => violation_variable(cursor, variables),
-        VariableOf::State => state_variables(cursor, alloc, tables, variables),
-        VariableOf::Output => output_variable(cursor, variables),
-        VariableOf::Glitch => glitch_variable(cursor, variables),
+        VariableOf::Check => {
+            let is_period = check_variables(cursor, alloc, &variables)?;
+            variables.periods.push(is_period)?;
+            Ok(variables)
+        }
+        VariableOf::Violation => {
+            expect_all(cursor, &[b":", b"X01", b":=", b"'0'", b";"])?;
+            variables.violation = true;
+            Ok(variables)
+        }
+        VariableOf::State => {
+            let _bound = tables.states.as_slice().len();
+            state_variables(cursor, alloc, tables, &variables)?;
+            variables.states += 1;
+            Ok(variables)
+        }
+        VariableOf::Output => {
+            expect_all(cursor, &[b":", b"std_logic", b":=", b"'X'", b";"])?;
+            variables.glitches.push(false)?;
+            Ok(variables)
+        }
+        VariableOf::Glitch => {
+            expect_all(cursor, &[b":", b"VitalGlitchDataType", b";"])?;
+            set_last(&mut variables.glitches)?;
+            Ok(variables)
+        }
     }
 }
 
@@ -195,12 +153,12 @@ fn are_declared(ports: &Ports, tables: &Tables, variables: &Variables) -> bool
 /// The variables behind these.
 #[tactic(auto, using(rule_readers::proofs::Repeats::turn, vhdl_words::proofs::NextWords::choose_begun, vhdl_words::proofs::NextWords::choose_other))]
 fn more_variables(
-    cursor: &mut Cursor<'_, Vhdl>,
+    cursor: &mut Cursor<'_>,
     alloc: Global,
     ports: &Ports,
     tables: &Tables,
     mut variables: Variables,
-) -> Result<Variables, Stop>
+) -> Read<Variables>
     ensures { Reads (read (Many (λ _. rules.begins (codes "variable")) (λ v _. spec.variable ports.now tables.now v) variables) cursor.old) result cursor.new }
 {
     for _turn in 0..cursor.left() {
@@ -216,11 +174,11 @@ fn more_variables(
 /// All variables.
 #[tactic(auto, unfolding(vhdl_text::specs::VhdlDeclarations::variables))]
 pub fn variables(
-    cursor: &mut Cursor<'_, Vhdl>,
+    cursor: &mut Cursor<'_>,
     alloc: Global,
     ports: &Ports,
     tables: &Tables,
-) -> Result<Variables, Stop>
+) -> Read<Variables>
     ensures { Reads (read (spec.variables ports.now tables.now) cursor.old) result cursor.new }
 {
     let none = Variables {

@@ -93,8 +93,8 @@ fn behind_checks(
 ) -> Result<VEntity, Stop>
     ensures { Reads (read (tails.behind_checks scope (checks_of checked)) cursor.old) result cursor.new }
 {
-    violation(cursor, alloc, &scope)?;
-    let columns = state_calls(cursor, alloc, &scope)?;
+    violation(cursor, &scope)?;
+    let columns = state_calls(cursor, &scope)?;
     let values = values_of(cursor, alloc, &scope)?;
     behind_values(cursor, alloc, scope, checked, columns, values)
 }
@@ -108,7 +108,7 @@ fn statements(
 ) -> Result<VEntity, Stop>
     ensures { Reads (read (spec.statements scope) cursor.old) result cursor.new }
 {
-    let checked = all_checks(cursor, alloc, &scope)?;
+    let checked = all_checks(cursor, &scope)?;
     behind_checks(cursor, alloc, scope, checked)
 }
 

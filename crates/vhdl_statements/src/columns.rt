@@ -1,18 +1,16 @@
 //! The columns of the tables of states, as their calls list them. (IEEE 1076.4-2000, VitalStateTable.)
 
 ghost use Rattle.std.specs.Prelude.{◌≡◌, codes};
-ghost use Rattle.grammar_rules.specs.Rule.{Many};
-ghost use Rattle.grammar_rules.specs.Reading.{read};
-ghost use Rattle.rule_readers.specs.Reading.{Reads};
+ghost use Rattle.rule_readers.specs.Reading.{read, Reads, Many};
 ghost use Rattle.vhdl_text.specs.VhdlRules as rules;
 ghost use Rattle.vhdl_text.specs.VhdlNames as spec;
 
-use rule_readers::{Cursor, Refusal, Stop};
-use std::alloc::Global;
+use rule_readers::Read;
 use std::marker::Model;
 use vhdl_text::Columns;
-use vhdl_tokens::is_name;
-use vhdl_words::{Declarations, Listed, Vhdl, input_of, is_number_token, list_end, width_at};
+use vhdl_words::{
+    Cursor, Declarations, Listed, input_of, is_number_token, list_end, unlisted, width_at,
+};
 
 /// The columns of a table, with inputs of which each is found at once. Contracts see them as `Columns`.
 #[derive(Drop)]
@@ -50,31 +48,25 @@ fn takes_violation(scope: &Declarations, columns: &ListedColumns) -> bool
 /// One more column.
 #[tactic(auto, unfolding(vhdl_text::specs::VhdlNames::next_column), using(crate::proofs::NextColumn::violation, crate::proofs::NextColumn::other, crate::proofs::NextColumn::undefined, crate::proofs::NextColumn::twice, crate::proofs::NextColumn::fits))]
 fn next_column(
-    cursor: &mut Cursor<'_, Vhdl>,
-    alloc: Global,
+    cursor: &mut Cursor,
     scope: &Declarations,
     columns: ListedColumns,
-) -> Result<ListedColumns, Stop>
+) -> Read<ListedColumns>
     ensures { Reads (read (spec.next_column scope.now columns) cursor.old) result cursor.new }
 {
     if takes_violation(scope, &columns) && cursor.is_next(b"viol") {
         cursor.skip();
         return Ok(ListedColumns {
             violation: true,
-            inputs: Listed::new(alloc),
+            inputs: Listed::new(scope.alloc()),
         });
     }
-    let token = cursor.bytes();
-    if !is_name(token) {
-        return Err(Stop::Refused(Refusal::Syntax));
-    }
-    let Some(port) = input_of(scope.ports(), token)? else {
-        return Err(Stop::Refused(Refusal::Undefined));
-    };
-    if columns.inputs.has(port) {
-        return Err(Stop::Refused(Refusal::Twice));
-    }
-    cursor.skip();
+    unlisted!(
+        cursor,
+        token,
+        port = input_of(scope.ports(), token)?,
+        columns.inputs.has(port)
+    );
     let ListedColumns { violation, inputs } = columns;
     Ok(ListedColumns {
         violation,
@@ -83,13 +75,12 @@ fn next_column(
 }
 
 /// The columns behind these.
-#[tactic(auto, using(rule_readers::proofs::Repeats::turn, vhdl_words::proofs::NextWords::choose_begun, vhdl_words::proofs::NextWords::choose_other))]
+#[tactic(auto, using(rule_readers::proofs::Repeats::turns))]
 fn more_columns(
-    cursor: &mut Cursor<'_, Vhdl>,
-    alloc: Global,
+    cursor: &mut Cursor,
     scope: &Declarations,
     mut columns: ListedColumns,
-) -> Result<ListedColumns, Stop>
+) -> Read<ListedColumns>
     ensures { Reads (read (Many (λ _. rules.begins (codes ",")) (λ found _. spec.next_column scope.now found) columns) cursor.old) result cursor.new }
 {
     for _turn in 0..cursor.left() {
@@ -97,7 +88,7 @@ fn more_columns(
             break;
         }
         cursor.skip();
-        columns = next_column(cursor, alloc, scope, columns)?;
+        columns = next_column(cursor, scope, columns)?;
     }
     Ok(columns)
 }
@@ -105,52 +96,45 @@ fn more_columns(
 /// Two columns or more.
 #[tactic(auto, unfolding(vhdl_text::specs::VhdlRules::several_elements, vhdl_text::specs::VhdlRules::more_elements))]
 fn several_columns(
-    cursor: &mut Cursor<'_, Vhdl>,
-    alloc: Global,
+    cursor: &mut Cursor,
     scope: &Declarations,
     none: ListedColumns,
-) -> Result<ListedColumns, Stop>
+) -> Read<ListedColumns>
     ensures { Reads (read (rules.several_elements (spec.next_column scope.now) none) cursor.old) result cursor.new }
 {
-    let first = next_column(cursor, alloc, scope, none)?;
+    let first = next_column(cursor, scope, none)?;
     cursor.expect(b",")?;
-    let second = next_column(cursor, alloc, scope, first)?;
-    more_columns(cursor, alloc, scope, second)
+    let second = next_column(cursor, scope, first)?;
+    more_columns(cursor, scope, second)
 }
 
 /// All columns of a list.
 #[tactic(auto, unfolding(vhdl_text::specs::VhdlRules::elements, vhdl_text::specs::VhdlRules::only_element), using(rule_readers::proofs::Choices::choose_by, rule_readers::proofs::Choices::choose_not_by))]
 fn listed_columns(
-    cursor: &mut Cursor<'_, Vhdl>,
-    alloc: Global,
+    cursor: &mut Cursor,
     scope: &Declarations,
     none: ListedColumns,
-) -> Result<ListedColumns, Stop>
+) -> Read<ListedColumns>
     ensures { Reads (read (rules.elements (spec.next_column scope.now) none) cursor.old) result cursor.new }
 {
     if !is_number_token(0, cursor.bytes()) {
-        return several_columns(cursor, alloc, scope, none);
+        return several_columns(cursor, scope, none);
     }
     cursor.skip();
     cursor.expect(b"=>")?;
-    next_column(cursor, alloc, scope, none)
+    next_column(cursor, scope, none)
 }
 
 /// The columns of the state with this number, and the end of their list.
 #[tactic(auto, unfolding(vhdl_text::specs::VhdlNames::columns_of))]
-pub fn columns_of(
-    cursor: &mut Cursor<'_, Vhdl>,
-    alloc: Global,
-    scope: &Declarations,
-    state: usize,
-) -> Result<Columns, Stop>
+pub fn columns_of(cursor: &mut Cursor, scope: &Declarations, state: usize) -> Read<Columns>
     ensures { Reads (read (spec.columns_of scope.now state) cursor.old) result cursor.new }
 {
     let none = ListedColumns {
         violation: false,
-        inputs: Listed::new(alloc),
+        inputs: Listed::new(scope.alloc()),
     };
-    let columns = listed_columns(cursor, alloc, scope, none)?;
+    let columns = listed_columns(cursor, scope, none)?;
     list_end(
         cursor,
         width_at(scope.tables(), state),

@@ -2,19 +2,17 @@
 //! VitalRecoveryRemovalCheck and VitalPeriodPulseCheck.)
 
 ghost use Rattle.std.specs.Prelude.{◌≡◌, ◌+◌, ◌<◌, ◌^◌, nat_lt, length, [], ◌∷◌, codes};
-ghost use Rattle.grammar_rules.specs.Reading.{read};
-ghost use Rattle.rule_readers.specs.Reading.{Reads};
+ghost use Rattle.rule_readers.specs.Reading.{read, Reads};
 ghost use Rattle.rule_readers.specs.Words.{valued};
 ghost use Rattle.vhdl_text.specs.VhdlRules as rules;
 ghost use Rattle.vhdl_text.specs.VhdlChecks as spec;
 
 use cell_machine::{CheckKind, Edge};
-use rule_readers::{Cursor, Stop};
-use sqlite_items::Items;
+use rule_readers::Read;
 use std::alloc::Global;
 use vhdl_tokens::number_of;
 use vhdl_words::{
-    Declarations, Vhdl, an_input, condition, either_word, expect_all, numbered, time,
+    Cursor, Declarations, Uses, an_input, condition, either_word, expect_all, numbered, time,
 };
 
 /// Whether the data of the check with this number, from 0, are of this type.
@@ -27,57 +25,48 @@ fn has_data(scope: &Declarations, is_period: bool, check: usize) -> bool
     }
 }
 
-/// The variable that tells of the check with this number, from 0.
-fn report(
-    cursor: &mut Cursor<'_, Vhdl>,
-    alloc: Global,
-    scope: &Declarations,
-    check: usize,
-) -> Result<(), Stop>
+/// The variable that tells of the check with this number, from 0, of so many.
+pub fn report(cursor: &mut Cursor, alloc: Global, checks: usize, check: usize) -> Read<()>
+    requires { check < 2 ^ 63 }
+    ensures { Reads (read (rules.this_name (rules.numbered_where (nat_lt check checks) (codes "x_") (check + 1))) cursor.old) result cursor.new }
+{
+    numbered(cursor, alloc, check < checks, b"x_", check + 1)
+}
+
+/// The variable that tells of the check with this number, from 0, of those that are declared.
+fn declared_report(cursor: &mut Cursor, scope: &Declarations, check: usize) -> Read<()>
     requires { check < 2 ^ 63 }
     ensures { Reads (read (rules.this_name (rules.numbered_where (nat_lt check (length scope.now.variables.periods)) (codes "x_") (check + 1))) cursor.old) result cursor.new }
 {
-    let is_there = check < scope.variables().periods.len();
-    numbered(cursor, alloc, is_there, b"x_", check + 1)
+    let checks = scope.variables().periods.len();
+    report(cursor, scope.alloc(), checks, check)
 }
 
 /// The data of the check with this number, from 0, which are of this type.
-fn data(
-    cursor: &mut Cursor<'_, Vhdl>,
-    alloc: Global,
-    scope: &Declarations,
-    is_period: bool,
-    check: usize,
-) -> Result<(), Stop>
+fn data(cursor: &mut Cursor, scope: &Declarations, is_period: bool, check: usize) -> Read<()>
     requires { check < 2 ^ 63 }
     ensures { Reads (read (rules.this_name (rules.numbered_where (spec.has_data scope.now is_period check) (codes "d_") (check + 1))) cursor.old) result cursor.new }
 {
-    numbered(
-        cursor,
-        alloc,
-        has_data(scope, is_period, check),
-        b"d_",
-        check + 1,
-    )
+    let is_there = has_data(scope, is_period, check);
+    numbered(cursor, scope.alloc(), is_there, b"d_", check + 1)
 }
 
 /// The variables of the check with this number, from 0, and the input that is tested.
 #[tactic(auto, unfolding(vhdl_text::specs::VhdlChecks::tested))]
 pub fn tested(
-    cursor: &mut Cursor<'_, Vhdl>,
-    alloc: Global,
+    cursor: &mut Cursor,
     scope: &Declarations,
     is_period: bool,
     word: &[u8],
     check: usize,
-) -> Result<usize, Stop>
+) -> Read<usize>
     requires { check < 2 ^ 63 }
     ensures { Reads (read (spec.tested scope.now is_period word.now check) cursor.old) result cursor.new }
 {
     expect_all(cursor, &[b"(", b"Violation", b"=>"])?;
-    report(cursor, alloc, scope, check)?;
+    declared_report(cursor, scope, check)?;
     expect_all(cursor, &[b",", word, b"=>"])?;
-    data(cursor, alloc, scope, is_period, check)?;
+    data(cursor, scope, is_period, check)?;
     expect_all(cursor, &[b",", b"TestSignal", b"=>"])?;
     let pin = an_input(cursor, scope.ports())?;
     cursor.expect(b",")?;
@@ -86,7 +75,7 @@ pub fn tested(
 
 /// The input to which a check refers.
 #[tactic(auto, unfolding(vhdl_text::specs::VhdlChecks::referred))]
-pub fn referred(cursor: &mut Cursor<'_, Vhdl>, scope: &Declarations) -> Result<usize, Stop>
+pub fn referred(cursor: &mut Cursor, scope: &Declarations) -> Read<usize>
     ensures { Reads (read (spec.referred scope.now) cursor.old) result cursor.new }
 {
     expect_all(cursor, &[b"RefSignal", b"=>"])?;
@@ -97,40 +86,30 @@ pub fn referred(cursor: &mut Cursor<'_, Vhdl>, scope: &Declarations) -> Result<u
 
 /// The condition that has to be 1, behind the word of its look-up, and the lists.
 #[tactic(auto, unfolding(vhdl_text::specs::VhdlChecks::enabling_condition))]
-fn enabling_condition(
-    cursor: &mut Cursor<'_, Vhdl>,
-    alloc: Global,
-    scope: &Declarations,
-    uses: Items<Items<usize>>,
-) -> Result<(Option<usize>, Items<Items<usize>>), Stop>
+fn enabling(cursor: &mut Cursor, scope: &Declarations, uses: Uses) -> Read<(Option<usize>, Uses)>
     ensures { Reads (read (spec.enabling_condition scope.now uses) cursor.old) result cursor.new }
 {
-    let (number, more) = condition(cursor, alloc, scope, uses)?;
+    let (number, more) = condition(cursor, scope.alloc(), scope, uses)?;
     expect_all(cursor, &[b"=", b"'1'"])?;
     Ok((Some(number), more))
 }
 
 /// When a check counts, and the lists.
-#[tactic(auto, unfolding(vhdl_text::specs::VhdlChecks::enabled, vhdl_text::specs::VhdlChecks::always_enabled), using(vhdl_words::proofs::NextWords::choose_begun, vhdl_words::proofs::NextWords::choose_other))]
-pub fn enabled(
-    cursor: &mut Cursor<'_, Vhdl>,
-    alloc: Global,
-    scope: &Declarations,
-    uses: Items<Items<usize>>,
-) -> Result<(Option<usize>, Items<Items<usize>>), Stop>
+#[tactic(auto, unfolding(vhdl_text::specs::VhdlChecks::enabled, vhdl_text::specs::VhdlChecks::always_enabled), using(rule_readers::proofs::Repeats::choose_begun, rule_readers::proofs::Repeats::choose_other))]
+pub fn enabled(cursor: &mut Cursor, scope: &Declarations, uses: Uses) -> Read<(Option<usize>, Uses)>
     ensures { Reads (read (spec.enabled scope.now uses) cursor.old) result cursor.new }
 {
     expect_all(cursor, &[b"CheckEnabled", b"=>"])?;
     if cursor.is_next(b"VitalTruthTable") {
         cursor.skip();
-        return enabling_condition(cursor, alloc, scope, uses);
+        return enabling(cursor, scope, uses);
     }
     cursor.expect(b"true")?;
     Ok((None, uses))
 }
 
 /// The edge of the reference that stands next.
-fn an_edge(cursor: &mut Cursor<'_, Vhdl>) -> Result<Edge, Stop>
+fn an_edge(cursor: &mut Cursor) -> Read<Edge>
     ensures { Reads (read (valued spec.reference_edge) cursor.old) result cursor.new }
 {
     either_word(cursor, b"'R'", Edge::Rise, b"'F'", Edge::Fall)
@@ -138,7 +117,7 @@ fn an_edge(cursor: &mut Cursor<'_, Vhdl>) -> Result<Edge, Stop>
 
 /// The transition of the reference, and the end of the call.
 #[tactic(auto, unfolding(vhdl_text::specs::VhdlChecks::transition))]
-pub fn transition(cursor: &mut Cursor<'_, Vhdl>) -> Result<Edge, Stop>
+pub fn transition(cursor: &mut Cursor) -> Read<Edge>
     ensures { Reads (read spec.transition cursor.old) result cursor.new }
 {
     expect_all(cursor, &[b",", b"RefTransition", b"=>"])?;
@@ -149,7 +128,7 @@ pub fn transition(cursor: &mut Cursor<'_, Vhdl>) -> Result<Edge, Stop>
 
 /// The second limit, which has to be this one.
 #[tactic(auto, using(crate::proofs::NextLimits::number_found))]
-fn same_number(cursor: &mut Cursor<'_, Vhdl>, limit: u64) -> Result<(), Stop>
+fn same_number(cursor: &mut Cursor, limit: u64) -> Read<()>
     ensures { Reads (read (spec.same_number limit) cursor.old) result cursor.new }
 {
     let found = number_of(cursor.bytes());
@@ -162,16 +141,16 @@ fn low_word(kind: CheckKind) -> &'static [u8]
 {
     match kind {
         CheckKind::Hold => b"HoldLow",
-        CheckKind::Setup => b"SetupLow",
-        CheckKind::Recovery => b"SetupLow",
-        CheckKind::Removal => b"SetupLow",
-        CheckKind::Width => b"SetupLow",
-        CheckKind::Period => b"SetupLow",
+        CheckKind::Setup
+        | CheckKind::Recovery
+        | CheckKind::Removal
+        | CheckKind::Width
+        | CheckKind::Period => b"SetupLow",
     }
 }
 
 /// The word of the second limit, between the two.
-fn expect_low_word(cursor: &mut Cursor<'_, Vhdl>, kind: CheckKind) -> Result<(), Stop>
+fn expect_low_word(cursor: &mut Cursor, kind: CheckKind) -> Read<()>
     ensures { Reads (read (rules.expect_all (codes "," ∷ spec.low_word kind ∷ codes "=>" ∷ [])) cursor.old) result cursor.new }
 {
     let word = low_word(kind);
@@ -180,7 +159,7 @@ fn expect_low_word(cursor: &mut Cursor<'_, Vhdl>, kind: CheckKind) -> Result<(),
 
 /// The limit for a high and for a low signal, which are one.
 #[tactic(auto, unfolding(vhdl_text::specs::VhdlChecks::both_limits))]
-pub fn both_limits(cursor: &mut Cursor<'_, Vhdl>, kind: CheckKind) -> Result<u64, Stop>
+pub fn both_limits(cursor: &mut Cursor, kind: CheckKind) -> Read<u64>
     ensures { Reads (read (spec.both_limits kind) cursor.old) result cursor.new }
 {
     cursor.expect(b"=>")?;
@@ -193,7 +172,7 @@ pub fn both_limits(cursor: &mut Cursor<'_, Vhdl>, kind: CheckKind) -> Result<u64
 
 /// One limit.
 #[tactic(auto, unfolding(vhdl_text::specs::VhdlChecks::one_limit))]
-pub fn one_limit(cursor: &mut Cursor<'_, Vhdl>) -> Result<u64, Stop>
+pub fn one_limit(cursor: &mut Cursor) -> Read<u64>
     ensures { Reads (read spec.one_limit cursor.old) result cursor.new }
 {
     cursor.expect(b"=>")?;
@@ -202,20 +181,13 @@ pub fn one_limit(cursor: &mut Cursor<'_, Vhdl>) -> Result<u64, Stop>
     Ok(limit)
 }
 
-/// The edge with which a control ends, by the word that stands next.
-fn a_control_edge(cursor: &mut Cursor<'_, Vhdl>) -> Result<Edge, Stop>
-    ensures { Reads (read (valued spec.control_edge) cursor.old) result cursor.new }
-{
-    either_word(cursor, b"true", Edge::Rise, b"false", Edge::Fall)
-}
-
 /// Whether a control is active low, as the edge with which it ends.
 #[tactic(auto, unfolding(vhdl_text::specs::VhdlChecks::active_low))]
-pub fn active_low(cursor: &mut Cursor<'_, Vhdl>) -> Result<Edge, Stop>
+pub fn active_low(cursor: &mut Cursor) -> Read<Edge>
     ensures { Reads (read spec.active_low cursor.old) result cursor.new }
 {
     expect_all(cursor, &[b"ActiveLow", b"=>"])?;
-    let edge = a_control_edge(cursor)?;
+    let edge = either_word(cursor, b"true", Edge::Rise, b"false", Edge::Fall)?;
     cursor.expect(b",")?;
     Ok(edge)
 }

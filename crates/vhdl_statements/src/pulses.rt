@@ -2,17 +2,16 @@
 
 ghost use Rattle.std.specs.Prelude.{◌≡◌};
 ghost use Rattle.std.specs.Option.{option_map};
-ghost use Rattle.grammar_rules.specs.Reading.{read};
-ghost use Rattle.rule_readers.specs.Reading.{ReadsAs};
+ghost use Rattle.rule_readers.specs.Reading.{read, ReadsAs};
 ghost use Rattle.rule_readers.specs.Words.{valued};
 ghost use Rattle.vhdl_text.specs.VhdlChecks as spec;
 ghost use Rattle.vhdl_statements.specs.Checked.{pulse_as};
 
 use cell_machine::{CheckKind, Edge, Event};
-use rule_readers::{Cursor, Refusal, Stop};
+use rule_readers::{Read, Refusal, Stop};
 use udp_tables::TimingCheck;
 use vhdl_tokens::is_same;
-use vhdl_words::Vhdl;
+use vhdl_words::Cursor;
 
 /// What is checked of one signal: the kind, and the edges of the earlier and of the later event.
 #[derive(Clone, Copy, Debug, PartialEq, Eq)]
@@ -29,32 +28,25 @@ pub struct Pulse {
 fn pulse_of(token: &[u8]) -> Option<Pulse>
     ensures { option_map pulse_as result ≡ spec.pulse_of token.now }
 {
-    if is_same(token, b"PulseWidthHigh") {
-        Some(Pulse {
-            kind: CheckKind::Width,
-            first: Edge::Rise,
-            second: Edge::Fall,
-        })
+    let (kind, first, second) = if is_same(token, b"PulseWidthHigh") {
+        (CheckKind::Width, Edge::Rise, Edge::Fall)
     } else if is_same(token, b"PulseWidthLow") {
-        Some(Pulse {
-            kind: CheckKind::Width,
-            first: Edge::Fall,
-            second: Edge::Rise,
-        })
+        (CheckKind::Width, Edge::Fall, Edge::Rise)
     } else if is_same(token, b"Period") {
-        Some(Pulse {
-            kind: CheckKind::Period,
-            first: Edge::Any,
-            second: Edge::Any,
-        })
+        (CheckKind::Period, Edge::Any, Edge::Any)
     } else {
-        None
-    }
+        return None;
+    };
+    Some(Pulse {
+        kind,
+        first,
+        second,
+    })
 }
 
 /// What is checked of one signal, by the word that stands next.
 #[tactic(auto, using(crate::proofs::NextChecks::pulse_some, crate::proofs::NextChecks::pulse_none))]
-pub fn a_pulse(cursor: &mut Cursor<'_, Vhdl>) -> Result<Pulse, Stop>
+pub fn a_pulse(cursor: &mut Cursor) -> Read<Pulse>
     ensures { ReadsAs pulse_as (read (valued spec.pulse_of) cursor.old) result cursor.new }
 {
     let Some(pulse) = pulse_of(cursor.bytes()) else {

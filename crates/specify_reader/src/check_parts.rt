@@ -1,34 +1,26 @@
 //! The parts of timing checks: their events, their conditions and their ends. (IEEE 1364-2005, 15.2 to 15.5.)
 
 ghost use Rattle.std.specs.Prelude.{◌≡◌};
-ghost use Rattle.grammar_rules.specs.Reading.{read};
-ghost use Rattle.rule_readers.specs.Words.{valued};
 ghost use Rattle.udp_tables.specs.VerilogRules.{this_name};
 ghost use Rattle.specify_blocks.specs.VerilogBlocks as spec;
-ghost use Rattle.rule_readers.specs.Reading.{Reads};
+ghost use Rattle.rule_readers.specs.Reading.{read, Reads};
 
 use crate::paths::{condition_name, input_name};
 use cell_machine::{Edge, Event};
 use netlist_reader::Netlist;
-use rule_readers::{Cursor, Language, Stop};
-use udp_reader::Verilog;
+use rule_readers::{Read, Stop, value_of};
+use udp_reader::{Cursor, Verilog};
 
 /// The events that a word before a port allows.
 fn edge_of(token: &[u8]) -> Option<Edge>
     ensures { result ≡ spec.edge_of token.now }
 {
-    if Verilog::is_same(token, b"posedge") {
-        Some(Edge::Rise)
-    } else if Verilog::is_same(token, b"negedge") {
-        Some(Edge::Fall)
-    } else {
-        None
-    }
+    value_of::<Verilog, _>(token, &[(b"posedge", Edge::Rise), (b"negedge", Edge::Fall)])
 }
 
 /// The word before the port of an event, if there is one.
 #[tactic(auto, using(rule_readers::proofs::Choices::choose_as, rule_readers::proofs::Choices::choose_not_as), unfolding(specify_blocks::specs::VerilogBlocks::any_edge))]
-fn any_edge(cursor: &mut Cursor<'_, Verilog>) -> Result<Edge, Stop>
+fn any_edge(cursor: &mut Cursor) -> Read<Edge>
     ensures { Reads (read spec.any_edge cursor.old) result cursor.new }
 {
     match edge_of(cursor.bytes()) {
@@ -40,18 +32,9 @@ fn any_edge(cursor: &mut Cursor<'_, Verilog>) -> Result<Edge, Stop>
     }
 }
 
-/// The word before the port of an event, which has to be there.
-#[tactic(auto, using(rule_readers::proofs::Values::valued_found))]
-fn one_edge(cursor: &mut Cursor<'_, Verilog>) -> Result<Edge, Stop>
-    ensures { Reads (read (valued spec.edge_of) cursor.old) result cursor.new }
-{
-    let found = edge_of(cursor.bytes());
-    cursor.value(found)
-}
-
 /// An event of an input.
 #[tactic(auto, unfolding(specify_blocks::specs::VerilogBlocks::an_event))]
-pub fn an_event(cursor: &mut Cursor<'_, Verilog>, model: &Netlist) -> Result<Event, Stop>
+pub fn an_event(cursor: &mut Cursor, model: &Netlist) -> Read<Event>
     ensures { Reads (read (spec.an_event model.now) cursor.old) result cursor.new }
 {
     let edge = any_edge(cursor)?;
@@ -60,18 +43,19 @@ pub fn an_event(cursor: &mut Cursor<'_, Verilog>, model: &Netlist) -> Result<Eve
 }
 
 /// An event of an input, of one kind of edge.
-#[tactic(auto, unfolding(specify_blocks::specs::VerilogBlocks::an_edge_event))]
-pub fn an_edge_event(cursor: &mut Cursor<'_, Verilog>, model: &Netlist) -> Result<Event, Stop>
+#[tactic(auto, unfolding(specify_blocks::specs::VerilogBlocks::an_edge_event), using(rule_readers::proofs::Values::valued_found))]
+pub fn an_edge_event(cursor: &mut Cursor, model: &Netlist) -> Read<Event>
     ensures { Reads (read (spec.an_edge_event model.now) cursor.old) result cursor.new }
 {
-    let edge = one_edge(cursor)?;
+    let found = edge_of(cursor.bytes());
+    let edge = cursor.value(found)?;
     let pin = input_name(cursor, model)?;
     Ok(Event { pin, edge })
 }
 
 /// The condition of a check, if there is one.
-#[tactic(auto, using(udp_reader::proofs::Words::choose_begun, udp_reader::proofs::Words::choose_other), unfolding(specify_blocks::specs::VerilogBlocks::condition, specify_blocks::specs::VerilogBlocks::condition_name))]
-pub fn condition(cursor: &mut Cursor<'_, Verilog>, model: &Netlist) -> Result<Option<usize>, Stop>
+#[tactic(auto, using(rule_readers::proofs::Repeats::choose_begun, rule_readers::proofs::Repeats::choose_other), unfolding(specify_blocks::specs::VerilogBlocks::condition, specify_blocks::specs::VerilogBlocks::condition_name))]
+pub fn condition(cursor: &mut Cursor, model: &Netlist) -> Read<Option<usize>>
     ensures { Reads (read (spec.condition model.now) cursor.old) result cursor.new }
 {
     if !cursor.is_next(b"&&&") {
@@ -83,7 +67,7 @@ pub fn condition(cursor: &mut Cursor<'_, Verilog>, model: &Netlist) -> Result<Op
 }
 
 /// The name of the register of the checks.
-fn notifier_name(cursor: &mut Cursor<'_, Verilog>, model: &Netlist) -> Result<(), Stop>
+fn notifier_name(cursor: &mut Cursor, model: &Netlist) -> Read<()>
     ensures { Reads (read (this_name model.now.notifier) cursor.old) result cursor.new }
 {
     match &model.module().notifier {
@@ -94,7 +78,7 @@ fn notifier_name(cursor: &mut Cursor<'_, Verilog>, model: &Netlist) -> Result<()
 
 /// The end of a check.
 #[tactic(auto, unfolding(specify_blocks::specs::VerilogBlocks::check_end))]
-pub fn check_end(cursor: &mut Cursor<'_, Verilog>, model: &Netlist) -> Result<(), Stop>
+pub fn check_end(cursor: &mut Cursor, model: &Netlist) -> Read<()>
     ensures { Reads (read (spec.check_end model.now) cursor.old) result cursor.new }
 {
     cursor.expect(b",")?;

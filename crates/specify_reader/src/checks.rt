@@ -1,9 +1,8 @@
 //! Specify blocks, and their timing checks. (IEEE 1364-2005, 14.1, 15.2 and 15.3.)
 
 ghost use Rattle.std.specs.Prelude.{◌≡◌, IfOk};
-ghost use Rattle.grammar_rules.specs.Reading.{read};
 ghost use Rattle.specify_blocks.specs.VerilogBlocks as spec;
-ghost use Rattle.rule_readers.specs.Reading.{Reads};
+ghost use Rattle.rule_readers.specs.Reading.{read, Reads};
 ghost use Rattle.specify_reader.specs.Checks.{limited};
 
 use crate::check_parts::{an_edge_event, an_event, check_end, condition};
@@ -12,10 +11,10 @@ use crate::paths::paths;
 use crate::period_lines::period_check;
 use cell_machine::{CheckKind, Edge, Event};
 use netlist_reader::Netlist;
-use rule_readers::{Cursor, Language, Stop};
+use rule_readers::{Read, value_of};
 use sqlite_items::Items;
 use std::alloc::Global;
-use udp_reader::Verilog;
+use udp_reader::{Cursor, Verilog};
 use udp_tables::TimingCheck;
 
 /// The edge with which a pulse ends that begins with this one.
@@ -33,33 +32,29 @@ fn opposite(edge: Edge) -> Edge
 fn check_of(token: &[u8]) -> Option<CheckKind>
     ensures { result ≡ spec.check_of token.now }
 {
-    if Verilog::is_same(token, b"$setup") {
-        Some(CheckKind::Setup)
-    } else if Verilog::is_same(token, b"$hold") {
-        Some(CheckKind::Hold)
-    } else if Verilog::is_same(token, b"$recovery") {
-        Some(CheckKind::Recovery)
-    } else if Verilog::is_same(token, b"$removal") {
-        Some(CheckKind::Removal)
-    } else if Verilog::is_same(token, b"$width") {
-        Some(CheckKind::Width)
-    } else if Verilog::is_same(token, b"$period") {
-        Some(CheckKind::Period)
-    } else {
-        None
-    }
+    value_of::<Verilog, _>(
+        token,
+        &[
+            (b"$setup", CheckKind::Setup),
+            (b"$hold", CheckKind::Hold),
+            (b"$recovery", CheckKind::Recovery),
+            (b"$removal", CheckKind::Removal),
+            (b"$width", CheckKind::Width),
+            (b"$period", CheckKind::Period),
+        ],
+    )
 }
 
 /// The limit and the end of a check of these events, behind its last event and its condition.
 #[tactic(auto, unfolding(crate::specs::Checks::limited))]
 fn limited(
-    cursor: &mut Cursor<'_, Verilog>,
+    cursor: &mut Cursor,
     model: &Netlist,
     kind: CheckKind,
     first: Event,
     second: Event,
     condition: Option<usize>,
-) -> Result<TimingCheck, Stop>
+) -> Read<TimingCheck>
     ensures { Reads (read (limited model.now kind first second condition) cursor.old) result cursor.new }
 {
     cursor.expect(b",")?;
@@ -76,11 +71,7 @@ fn limited(
 
 /// A check whose first argument is the earlier event.
 #[tactic(auto, unfolding(specify_blocks::specs::VerilogBlocks::ordered_check, crate::specs::Checks::limited))]
-fn ordered_check(
-    cursor: &mut Cursor<'_, Verilog>,
-    kind: CheckKind,
-    model: &Netlist,
-) -> Result<TimingCheck, Stop>
+fn ordered_check(cursor: &mut Cursor, kind: CheckKind, model: &Netlist) -> Read<TimingCheck>
     ensures { Reads (read (spec.ordered_check kind model.now) cursor.old) result cursor.new }
 {
     let first = an_event(cursor, model)?;
@@ -92,11 +83,7 @@ fn ordered_check(
 
 /// A check whose first argument is the later event.
 #[tactic(auto, unfolding(specify_blocks::specs::VerilogBlocks::turned_check, crate::specs::Checks::limited))]
-fn turned_check(
-    cursor: &mut Cursor<'_, Verilog>,
-    kind: CheckKind,
-    model: &Netlist,
-) -> Result<TimingCheck, Stop>
+fn turned_check(cursor: &mut Cursor, kind: CheckKind, model: &Netlist) -> Read<TimingCheck>
     ensures { Reads (read (spec.turned_check kind model.now) cursor.old) result cursor.new }
 {
     let second = an_event(cursor, model)?;
@@ -108,7 +95,7 @@ fn turned_check(
 
 /// The width of a pulse.
 #[tactic(auto, unfolding(specify_blocks::specs::VerilogBlocks::width_check))]
-fn width_check(cursor: &mut Cursor<'_, Verilog>, model: &Netlist) -> Result<TimingCheck, Stop>
+fn width_check(cursor: &mut Cursor, model: &Netlist) -> Read<TimingCheck>
     ensures { Reads (read (spec.width_check model.now) cursor.old) result cursor.new }
 {
     let first = an_edge_event(cursor, model)?;
@@ -133,11 +120,7 @@ fn width_check(cursor: &mut Cursor<'_, Verilog>, model: &Netlist) -> Result<Timi
 
 /// A check of a kind, behind its bracket.
 #[tactic(auto, unfolding(specify_blocks::specs::VerilogBlocks::check_of_kind))]
-fn check_of_kind(
-    cursor: &mut Cursor<'_, Verilog>,
-    model: &Netlist,
-    kind: CheckKind,
-) -> Result<TimingCheck, Stop>
+fn check_of_kind(cursor: &mut Cursor, model: &Netlist, kind: CheckKind) -> Read<TimingCheck>
     ensures { Reads (read (spec.check_of_kind model.now kind) cursor.old) result cursor.new }
 {
     match kind {
@@ -152,11 +135,7 @@ fn check_of_kind(
 
 /// A check, behind its word.
 #[tactic(auto, unfolding(specify_blocks::specs::VerilogBlocks::check))]
-fn check(
-    cursor: &mut Cursor<'_, Verilog>,
-    model: &Netlist,
-    kind: CheckKind,
-) -> Result<TimingCheck, Stop>
+fn check(cursor: &mut Cursor, model: &Netlist, kind: CheckKind) -> Read<TimingCheck>
     ensures { Reads (read (spec.check model.now kind) cursor.old) result cursor.new }
 {
     cursor.expect(b"(")?;
@@ -165,11 +144,7 @@ fn check(
 
 /// The checks of a specify block.
 #[tactic(auto, using(rule_readers::proofs::Repeats::turn, rule_readers::proofs::Choices::choose_as, rule_readers::proofs::Choices::choose_not_as), unfolding(specify_blocks::specs::VerilogBlocks::checks, specify_blocks::specs::VerilogBlocks::next_check))]
-fn checks(
-    cursor: &mut Cursor<'_, Verilog>,
-    alloc: Global,
-    model: &Netlist,
-) -> Result<Items<TimingCheck>, Stop>
+fn checks(cursor: &mut Cursor, alloc: Global, model: &Netlist) -> Read<Items<TimingCheck>>
     ensures { Reads (read (spec.checks model.now) cursor.old) result cursor.new }
 {
     let mut checks = Items::new(alloc);
@@ -184,12 +159,8 @@ fn checks(
 }
 
 /// The specify block of a module, if there is one: the module with its paths and checks.
-#[tactic(auto, using(udp_reader::proofs::Words::choose_begun, udp_reader::proofs::Words::choose_other), unfolding(specify_blocks::specs::VerilogBlocks::specify, specify_blocks::specs::VerilogBlocks::block))]
-pub fn specify(
-    cursor: &mut Cursor<'_, Verilog>,
-    alloc: Global,
-    joined: Netlist,
-) -> Result<Netlist, Stop>
+#[tactic(auto, using(rule_readers::proofs::Repeats::choose_begun, rule_readers::proofs::Repeats::choose_other), unfolding(specify_blocks::specs::VerilogBlocks::specify, specify_blocks::specs::VerilogBlocks::block))]
+pub fn specify(cursor: &mut Cursor, alloc: Global, joined: Netlist) -> Read<Netlist>
     ensures reads { Reads (read (spec.specify joined) cursor.old) result cursor.new }
     ensures named { IfOk result (λ model. model.name ≡ joined.name) }
 {

@@ -1,17 +1,15 @@
 //! Numbers of Verilog text. (IEEE 1364-2005, 3.5.1.)
 
-ghost use Rattle.std.specs.Prelude.{◌≡◌};
-ghost use Rattle.grammar_rules.specs.Reading.{read};
 ghost use Rattle.specify_blocks.specs.VerilogBlocks as spec;
-ghost use Rattle.rule_readers.specs.Reading.{Reads};
+ghost use Rattle.rule_readers.specs.Reading.{read, Reads};
 
-use rule_readers::{Cursor, Stop};
-use udp_reader::Verilog;
+use rule_readers::Read;
+use udp_reader::Cursor;
 use verilog_tokens::number_of;
 
 /// The number that stands next.
 #[tactic(auto, using(rule_readers::proofs::Values::valued_found), unfolding(specify_blocks::specs::VerilogBlocks::a_number))]
-pub fn number(cursor: &mut Cursor<'_, Verilog>) -> Result<u64, Stop>
+pub fn number(cursor: &mut Cursor) -> Read<u64>
     ensures { Reads (read spec.a_number cursor.old) result cursor.new }
 {
     let found = number_of(cursor.bytes());

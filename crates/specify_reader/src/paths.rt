@@ -3,20 +3,19 @@
 ghost use Rattle.std.specs.Prelude.{◌≡◌};
 ghost use Rattle.std.specs.List.{position};
 ghost use Rattle.std.specs.Str.{bytes_eq};
-ghost use Rattle.grammar_rules.specs.Reading.{read};
 ghost use Rattle.udp_tables.specs.Ports.{is_input_port};
 ghost use Rattle.specify_blocks.specs.Nets as nets;
 ghost use Rattle.specify_blocks.specs.VerilogBlocks as spec;
-ghost use Rattle.rule_readers.specs.Reading.{Reads};
+ghost use Rattle.rule_readers.specs.Reading.{read, Reads};
 ghost use Rattle.rule_readers.specs.Next.{next_bytes, rest};
 
 use crate::numbers::number;
 use netlist_reader::{Netlist, is_output_port};
-use rule_readers::{Cursor, Language, Stop};
+use rule_readers::{Language, Read};
 use specify_blocks::{Gate, VPath};
 use sqlite_items::Items;
 use std::alloc::Global;
-use udp_reader::Verilog;
+use udp_reader::{Cursor, Verilog};
 use udp_tables::is_input_port;
 
 /// Whether a path begins with this token.
@@ -60,7 +59,7 @@ fn condition_of(model: &Netlist, name: &[u8]) -> Option<usize>
 
 /// The name of an input.
 #[tactic(auto, unfolding(specify_blocks::specs::VerilogBlocks::an_input))]
-pub fn input_name(cursor: &mut Cursor<'_, Verilog>, model: &Netlist) -> Result<usize, Stop>
+pub fn input_name(cursor: &mut Cursor, model: &Netlist) -> Read<usize>
     ensures { Reads (read (spec.an_input model.now) cursor.old) result cursor.new }
 {
     let found = input_of(model, cursor.bytes());
@@ -69,7 +68,7 @@ pub fn input_name(cursor: &mut Cursor<'_, Verilog>, model: &Netlist) -> Result<u
 
 /// The name of an output.
 #[tactic(auto, unfolding(specify_blocks::specs::VerilogBlocks::an_output))]
-fn output_name(cursor: &mut Cursor<'_, Verilog>, model: &Netlist) -> Result<usize, Stop>
+fn output_name(cursor: &mut Cursor, model: &Netlist) -> Read<usize>
     ensures { Reads (read (spec.an_output model.now) cursor.old) result cursor.new }
 {
     let found = output_of(model, cursor.bytes());
@@ -78,7 +77,7 @@ fn output_name(cursor: &mut Cursor<'_, Verilog>, model: &Netlist) -> Result<usiz
 
 /// The name of a condition.
 #[tactic(auto, unfolding(specify_blocks::specs::VerilogBlocks::a_condition))]
-pub fn condition_name(cursor: &mut Cursor<'_, Verilog>, model: &Netlist) -> Result<usize, Stop>
+pub fn condition_name(cursor: &mut Cursor, model: &Netlist) -> Read<usize>
     ensures { Reads (read (spec.a_condition model.now) cursor.old) result cursor.new }
 {
     let found = condition_of(model, cursor.bytes());
@@ -87,7 +86,7 @@ pub fn condition_name(cursor: &mut Cursor<'_, Verilog>, model: &Netlist) -> Resu
 
 /// What stands behind `if` and before the ports of a path.
 #[tactic(auto, unfolding(specify_blocks::specs::VerilogBlocks::if_gate))]
-fn if_gate(cursor: &mut Cursor<'_, Verilog>, model: &Netlist) -> Result<Gate, Stop>
+fn if_gate(cursor: &mut Cursor, model: &Netlist) -> Read<Gate>
     ensures { Reads (read (spec.if_gate model.now) cursor.old) result cursor.new }
 {
     cursor.expect(b"(")?;
@@ -99,7 +98,7 @@ fn if_gate(cursor: &mut Cursor<'_, Verilog>, model: &Netlist) -> Result<Gate, St
 
 /// What stands behind `ifnone` and before the ports of a path.
 #[tactic(auto, unfolding(specify_blocks::specs::VerilogBlocks::ifnone_gate))]
-fn ifnone_gate(cursor: &mut Cursor<'_, Verilog>) -> Result<Gate, Stop>
+fn ifnone_gate(cursor: &mut Cursor) -> Read<Gate>
     ensures { Reads (read spec.ifnone_gate cursor.old) result cursor.new }
 {
     cursor.expect(b"(")?;
@@ -108,7 +107,7 @@ fn ifnone_gate(cursor: &mut Cursor<'_, Verilog>) -> Result<Gate, Stop>
 
 /// What stands before the ports of a path, of which the first token is next.
 #[tactic(auto, unfolding(specify_blocks::specs::VerilogBlocks::path_gate))]
-fn path_gate(cursor: &mut Cursor<'_, Verilog>, model: &Netlist) -> Result<Gate, Stop>
+fn path_gate(cursor: &mut Cursor, model: &Netlist) -> Read<Gate>
     ensures { Reads (read (spec.path_gate model.now (next_bytes cursor.old)) (rest cursor.old)) result cursor.new }
 {
     let first = cursor.bytes();
@@ -124,7 +123,7 @@ fn path_gate(cursor: &mut Cursor<'_, Verilog>, model: &Netlist) -> Result<Gate, 
 
 /// A path, of which the first token is next.
 #[tactic(auto, unfolding(specify_blocks::specs::VerilogBlocks::path))]
-fn path(cursor: &mut Cursor<'_, Verilog>, model: &Netlist) -> Result<VPath, Stop>
+fn path(cursor: &mut Cursor, model: &Netlist) -> Read<VPath>
     ensures { Reads (read (spec.path model.now (next_bytes cursor.old)) (rest cursor.old)) result cursor.new }
 {
     let gate = path_gate(cursor, model)?;
@@ -150,11 +149,7 @@ fn path(cursor: &mut Cursor<'_, Verilog>, model: &Netlist) -> Result<VPath, Stop
 
 /// The paths of a specify block.
 #[tactic(auto, using(rule_readers::proofs::Repeats::turn, rule_readers::proofs::Choices::choose_by, rule_readers::proofs::Choices::choose_not_by), unfolding(specify_blocks::specs::VerilogBlocks::paths, specify_blocks::specs::VerilogBlocks::next_path))]
-pub fn paths(
-    cursor: &mut Cursor<'_, Verilog>,
-    alloc: Global,
-    model: &Netlist,
-) -> Result<Items<VPath>, Stop>
+pub fn paths(cursor: &mut Cursor, alloc: Global, model: &Netlist) -> Read<Items<VPath>>
     ensures { Reads (read (spec.paths model.now) cursor.old) result cursor.new }
 {
     let mut paths = Items::new(alloc);

@@ -1,25 +1,24 @@
 //! Periods, which have a line for the rises of their port and one for its falls. (IEEE 1364-2005, 15.3.5.)
 
-ghost use Rattle.std.specs.Prelude.{◌≡◌, slice_get};
+ghost use Rattle.std.specs.Prelude.{slice_get};
 ghost use Rattle.std.specs.Option.{option_map};
-ghost use Rattle.grammar_rules.specs.Reading.{read};
 ghost use Rattle.udp_tables.specs.VerilogRules.{this_name};
 ghost use Rattle.specify_blocks.specs.VerilogModules.{port_name};
 ghost use Rattle.specify_blocks.specs.VerilogBlocks as spec;
-ghost use Rattle.rule_readers.specs.Reading.{Reads};
+ghost use Rattle.rule_readers.specs.Reading.{read, Reads};
 
 use crate::check_parts::{check_end, condition};
 use crate::numbers::number;
 use crate::paths::input_name;
 use cell_machine::{CheckKind, Edge, Event};
 use netlist_reader::Netlist;
-use rule_readers::{Cursor, Stop};
-use udp_reader::Verilog;
+use rule_readers::{Read, Stop};
+use udp_reader::Cursor;
 use udp_tables::TimingCheck;
 use verilog_tokens::number_of;
 
 /// The name of this wire.
-fn wire_name(cursor: &mut Cursor<'_, Verilog>, model: &Netlist, wire: usize) -> Result<(), Stop>
+fn wire_name(cursor: &mut Cursor, model: &Netlist, wire: usize) -> Read<()>
     ensures { Reads (read (this_name (slice_get model.now.wires wire)) cursor.old) result cursor.new }
 {
     match model.module().wires.get(wire) {
@@ -29,7 +28,7 @@ fn wire_name(cursor: &mut Cursor<'_, Verilog>, model: &Netlist, wire: usize) -> 
 }
 
 /// The name of this port.
-fn port_name(cursor: &mut Cursor<'_, Verilog>, model: &Netlist, port: usize) -> Result<(), Stop>
+fn port_name(cursor: &mut Cursor, model: &Netlist, port: usize) -> Read<()>
     ensures { Reads (read (this_name (option_map port_name (slice_get model.now.ports port))) cursor.old) result cursor.new }
 {
     match model.module().ports.get(port) {
@@ -40,11 +39,7 @@ fn port_name(cursor: &mut Cursor<'_, Verilog>, model: &Netlist, port: usize) -> 
 
 /// The condition of the line before, if it has one.
 #[tactic(auto, unfolding(specify_blocks::specs::VerilogBlocks::same_condition))]
-fn same_condition(
-    cursor: &mut Cursor<'_, Verilog>,
-    model: &Netlist,
-    condition: Option<usize>,
-) -> Result<(), Stop>
+fn same_condition(cursor: &mut Cursor, model: &Netlist, condition: Option<usize>) -> Read<()>
     ensures { Reads (read (spec.same_condition model.now condition) cursor.old) result cursor.new }
 {
     let Some(wire) = condition else {
@@ -56,7 +51,7 @@ fn same_condition(
 
 /// The number of the line before.
 #[tactic(auto, using(crate::proofs::Periods::number_found))]
-fn same_number(cursor: &mut Cursor<'_, Verilog>, limit: u64) -> Result<(), Stop>
+fn same_number(cursor: &mut Cursor, limit: u64) -> Read<()>
     ensures { Reads (read (spec.same_number limit) cursor.old) result cursor.new }
 {
     let found = number_of(cursor.bytes());
@@ -66,12 +61,12 @@ fn same_number(cursor: &mut Cursor<'_, Verilog>, limit: u64) -> Result<(), Stop>
 /// The line of the falls of a period.
 #[tactic(auto, unfolding(specify_blocks::specs::VerilogBlocks::second_period))]
 fn second_period(
-    cursor: &mut Cursor<'_, Verilog>,
+    cursor: &mut Cursor,
     model: &Netlist,
     port: usize,
     condition: Option<usize>,
     limit: u64,
-) -> Result<(), Stop>
+) -> Read<()>
     ensures { Reads (read (spec.second_period model.now port condition limit) cursor.old) result cursor.new }
 {
     cursor.expect(b"$period")?;
@@ -86,7 +81,7 @@ fn second_period(
 
 /// A period: its two lines.
 #[tactic(auto, unfolding(specify_blocks::specs::VerilogBlocks::period_check))]
-pub fn period_check(cursor: &mut Cursor<'_, Verilog>, model: &Netlist) -> Result<TimingCheck, Stop>
+pub fn period_check(cursor: &mut Cursor, model: &Netlist) -> Read<TimingCheck>
     ensures { Reads (read (spec.period_check model.now) cursor.old) result cursor.new }
 {
     cursor.expect(b"posedge")?;

@@ -1,20 +1,19 @@
 //! The primitives and modules of a text, by recursive descent. (IEEE 1364-2005, A.1 and 19.8.)
 
 ghost use Rattle.std.specs.Prelude.{◌≡◌, [], ◌∷◌, ◌++◌, IfOk};
-ghost use Rattle.grammar_rules.specs.Reading.{read};
 ghost use Rattle.specify_blocks.specs.VerilogText as spec;
 ghost use Rattle.verilog_reader.specs.File.{before_of, modules_of, module_end};
-ghost use Rattle.rule_readers.specs.Reading.{Reads, ReadsAs};
+ghost use Rattle.rule_readers.specs.Reading.{read, Reads, ReadsAs};
 
 use bool_functions::Names;
 use header_reader::module_declarations;
 use netlist_reader::{Netlist, are_all_driven, module_instances};
-use rule_readers::{Cursor, Language, Refusal, Stop};
+use rule_readers::{Language, Read, Refusal, Stop};
 use specify_blocks::VModule;
 use specify_reader::specify;
 use sqlite_items::Items;
 use std::alloc::Global;
-use udp_reader::{Verilog, declare, primitive};
+use udp_reader::{Cursor, Verilog, declare, primitive};
 use udp_tables::Udp;
 
 /// What stands before a place of a text: the modules, the names of all primitives and modules, and the primitives behind the
@@ -35,7 +34,7 @@ fn is_design_start(token: &[u8]) -> bool
 
 /// The first line of a text.
 #[tactic(auto, unfolding(specify_blocks::specs::VerilogText::prelude))]
-fn prelude(cursor: &mut Cursor<'_, Verilog>) -> Result<(), Stop>
+fn prelude(cursor: &mut Cursor) -> Read<()>
     ensures { Reads (read spec.prelude cursor.old) result cursor.new }
 {
     cursor.expect(b"`timescale")?;
@@ -46,11 +45,7 @@ fn prelude(cursor: &mut Cursor<'_, Verilog>) -> Result<(), Stop>
 
 /// One more primitive, behind its word.
 #[tactic(auto, unfolding(specify_blocks::specs::VerilogText::next_primitive))]
-fn next_primitive(
-    cursor: &mut Cursor<'_, Verilog>,
-    alloc: Global,
-    before: Before,
-) -> Result<Before, Stop>
+fn next_primitive(cursor: &mut Cursor, alloc: Global, before: Before) -> Read<Before>
     ensures { ReadsAs before_of (read (spec.next_primitive (before_of before)) cursor.old) result cursor.new }
 {
     let Before {
@@ -68,12 +63,8 @@ fn next_primitive(
 }
 
 /// The primitives behind these.
-#[tactic(auto, unfolding(specify_blocks::specs::VerilogText::more_primitives), using(rule_readers::proofs::Repeats::turn, udp_reader::proofs::Words::choose_begun, udp_reader::proofs::Words::choose_other))]
-fn more_primitives(
-    cursor: &mut Cursor<'_, Verilog>,
-    alloc: Global,
-    mut before: Before,
-) -> Result<Before, Stop>
+#[tactic(auto, unfolding(specify_blocks::specs::VerilogText::more_primitives), using(rule_readers::proofs::Repeats::turns))]
+fn more_primitives(cursor: &mut Cursor, alloc: Global, mut before: Before) -> Read<Before>
     ensures { ReadsAs before_of (read (spec.more_primitives (before_of before)) cursor.old) result cursor.new }
 {
     for _turn in 0..cursor.left() {
@@ -88,7 +79,7 @@ fn more_primitives(
 
 /// The end of this module, all of whose outputs and wires are driven: the module alone.
 #[tactic(auto, unfolding(crate::specs::File::module_end))]
-fn module_end(cursor: &mut Cursor<'_, Verilog>, whole: Netlist) -> Result<VModule, Stop>
+fn module_end(cursor: &mut Cursor, whole: Netlist) -> Read<VModule>
     ensures reads { Reads (read (module_end whole) cursor.old) result cursor.new }
     ensures same { IfOk result (λ model. model ≡ whole) }
 {
@@ -99,11 +90,11 @@ fn module_end(cursor: &mut Cursor<'_, Verilog>, whole: Netlist) -> Result<VModul
 /// A module behind its word. Its own name is then the last of the names.
 #[tactic(auto, unfolding(specify_blocks::specs::VerilogText::one_module, crate::specs::File::module_end))]
 fn one_module(
-    cursor: &mut Cursor<'_, Verilog>,
+    cursor: &mut Cursor,
     alloc: Global,
     names: &mut Names,
     udps: Items<Udp>,
-) -> Result<VModule, Stop>
+) -> Read<VModule>
     ensures reads { Reads (read (spec.one_module names.old udps) cursor.old) result cursor.new }
     ensures added { IfOk result (λ model. names.new ≡ names.old ++ model.name ∷ []) }
 {
@@ -116,11 +107,7 @@ fn one_module(
 
 /// One more module, behind its word.
 #[tactic(auto, unfolding(specify_blocks::specs::VerilogText::next_module))]
-fn next_module(
-    cursor: &mut Cursor<'_, Verilog>,
-    alloc: Global,
-    before: Before,
-) -> Result<Before, Stop>
+fn next_module(cursor: &mut Cursor, alloc: Global, before: Before) -> Read<Before>
     ensures { ReadsAs before_of (read (spec.next_module (before_of before)) cursor.old) result cursor.new }
 {
     let Before {
@@ -139,11 +126,7 @@ fn next_module(
 
 /// Primitives and their module, behind the word `primitive`.
 #[tactic(auto, unfolding(specify_blocks::specs::VerilogText::primitives_and_module))]
-fn primitives_and_module(
-    cursor: &mut Cursor<'_, Verilog>,
-    alloc: Global,
-    before: Before,
-) -> Result<Before, Stop>
+fn primitives_and_module(cursor: &mut Cursor, alloc: Global, before: Before) -> Read<Before>
     ensures { ReadsAs before_of (read (spec.primitives_and_module (before_of before)) cursor.old) result cursor.new }
 {
     let first = next_primitive(cursor, alloc, before)?;
@@ -153,12 +136,7 @@ fn primitives_and_module(
 }
 
 /// Primitives and their module, behind their first token.
-fn design(
-    cursor: &mut Cursor<'_, Verilog>,
-    alloc: Global,
-    before: Before,
-    first: &[u8],
-) -> Result<Before, Stop>
+fn design(cursor: &mut Cursor, alloc: Global, before: Before, first: &[u8]) -> Read<Before>
     ensures { ReadsAs before_of (read (spec.design (before_of before) first.now) cursor.old) result cursor.new }
 {
     if Verilog::is_same(first, b"primitive") {
@@ -170,7 +148,7 @@ fn design(
 
 /// All primitives and modules of a text.
 #[tactic(auto, unfolding(specify_blocks::specs::VerilogText::designs), using(rule_readers::proofs::Repeats::turn, rule_readers::proofs::Choices::choose_by, rule_readers::proofs::Choices::choose_not_by))]
-fn designs(cursor: &mut Cursor<'_, Verilog>, alloc: Global) -> Result<Before, Stop>
+fn designs(cursor: &mut Cursor, alloc: Global) -> Read<Before>
     ensures { ReadsAs before_of (read spec.designs cursor.old) result cursor.new }
 {
     let mut before = Before {
@@ -191,7 +169,7 @@ fn designs(cursor: &mut Cursor<'_, Verilog>, alloc: Global) -> Result<Before, St
 
 /// All primitives and modules of a text, and nothing behind them.
 #[tactic(auto, unfolding(specify_blocks::specs::VerilogText::file))]
-pub fn file(cursor: &mut Cursor<'_, Verilog>, alloc: Global) -> Result<Before, Stop>
+pub fn file(cursor: &mut Cursor, alloc: Global) -> Read<Before>
     ensures { ReadsAs modules_of (read spec.file cursor.old) result cursor.new }
 {
     prelude(cursor)?;

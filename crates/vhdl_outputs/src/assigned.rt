@@ -3,7 +3,7 @@
 ghost use Rattle.std.specs.Prelude.{◌≡◌, ◌+◌, ◌<◌, ◌^◌, if◌then◌else◌};
 ghost use Rattle.vhdl_text.specs.VhdlOutputs.{is_lookup};
 
-use rule_readers::Stop;
+use rule_readers::{Read, Stop};
 use sqlite_items::Items;
 use std::alloc::Global;
 use std::marker::Model;
@@ -70,7 +70,7 @@ impl Values {
 
     /// These values, and one more behind them.
     #[tactic(auto, using(crate::proofs::ValueCounts::lookups_few))]
-    pub fn with(self, value: Assigned) -> Result<Values, Stop>
+    pub fn with(self, value: Assigned) -> Read<Values>
         ensures added { IfOk result (λ more. more ≡ self ++ value ∷ []) }
         ensures memory { IfErr result (λ stop. stop ≡ Stop.Memory) }
     {
@@ -85,7 +85,6 @@ impl Values {
     pub fn into_items(self) -> Items<Assigned>
         ensures { result ≡ self }
     {
-        let Values { values, .. } = self;
-        values
+        self.values
     }
 }

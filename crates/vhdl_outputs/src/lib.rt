@@ -11,6 +11,5 @@ mod sources;
 mod values;
 
 pub use lines::output_lines;
-pub use outputs::output_ports;
-pub use paths::Uses;
+pub use outputs::{Lines, output_ports};
 pub use values::values_of;

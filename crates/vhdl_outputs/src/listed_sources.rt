@@ -1,5 +1,10 @@
 //! Sources in the order in which they were listed, of which each is found at once.
 
+ghost use Rattle.std.specs.Prelude.{◌≡◌, ◌∷◌, [], ◌++◌, false, IfOk};
+ghost use Rattle.std.specs.List.{list_any};
+ghost use Rattle.cell_machine.specs.declared.outputs.Source.TheVariants as source;
+ghost use Rattle.vhdl_text.specs.VhdlNames.{same_source};
+
 use cell_machine::Source;
 use sqlite_items::Items;
 use std::alloc::{AllocError, Global};
@@ -28,11 +33,6 @@ impl Model for ListedSources {
 }
 
 impl ListedSources {
-    ghost use Rattle.std.specs.Prelude.{◌≡◌, ◌∷◌, [], ◌++◌, false, IfOk};
-    ghost use Rattle.std.specs.List.{list_any};
-    ghost use Rattle.cell_machine.specs.declared.outputs.Source.TheVariants as source;
-    ghost use Rattle.vhdl_text.specs.VhdlNames.{same_source};
-
     /// No sources. Takes no memory.
     pub fn new(alloc: Global) -> ListedSources
         ensures { result ≡ [] }
@@ -110,7 +110,6 @@ impl ListedSources {
     pub fn into_items(self) -> Items<Source>
         ensures { result ≡ self }
     {
-        let ListedSources { sources, .. } = self;
-        sources
+        self.sources
     }
 }

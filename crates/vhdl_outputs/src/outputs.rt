@@ -2,23 +2,24 @@
 
 ghost use Rattle.std.specs.Prelude.{◌≡◌, ◌+◌, ◌<◌, ◌^◌, length, Some, IfOk, codes};
 ghost use Rattle.std.specs.Option.{option_map, option_copied};
-ghost use Rattle.grammar_rules.specs.Rule.{Token};
-ghost use Rattle.grammar_rules.specs.Reading.{read};
 ghost use Rattle.rule_readers.specs.declared.refusal.Refusal.TheVariants.{Syntax};
-ghost use Rattle.rule_readers.specs.Reading.{Reads};
+ghost use Rattle.rule_readers.specs.Reading.{read, Reads, Token};
 ghost use Rattle.udp_tables.specs.declared.models.VPort.{VPort};
 ghost use Rattle.vital_models.specs.Sound.{output_ports_from};
 ghost use Rattle.vhdl_text.specs.VhdlRules as rules;
 ghost use Rattle.vhdl_text.specs.VhdlOutputs as spec;
 
-use crate::paths::{Uses, paths};
-use rule_readers::{Cursor, Refusal, Stop};
+use crate::paths::paths;
+use rule_readers::{Read, Refusal, Stop};
 use sqlite_items::Items;
 use std::alloc::{AllocError, Global};
 use udp_tables::VPort;
-use vhdl_tokens::{is_name, is_quoted, is_same, is_string};
-use vhdl_words::{Declarations, Vhdl, expect_all, numbered};
+use vhdl_tokens::{is_quoted, is_same, is_string};
+use vhdl_words::{Cursor, Declarations, Uses, expect_all, numbered};
 use vital_models::HPath;
+
+/// The paths of each output so far, and the lists of the conditions that were looked up.
+pub type Lines = (Items<Items<HPath>>, Uses);
 
 /// The numbers of the outputs, in order. An `Err` comes only where memory is wanting.
 pub fn output_ports(alloc: Global, ports: &[VPort]) -> Result<Items<usize>, AllocError>
@@ -54,11 +55,7 @@ fn port_at<'a>(scope: &'a Declarations, output: usize) -> Option<&'a VPort>
 }
 
 /// The name of the output with this number, from 0.
-fn output_name(
-    cursor: &mut Cursor<'_, Vhdl>,
-    scope: &Declarations,
-    output: usize,
-) -> Result<(), Stop>
+fn output_name(cursor: &mut Cursor, scope: &Declarations, output: usize) -> Read<()>
     ensures { Reads (read (rules.this_name (spec.output_name scope.now output)) cursor.old) result cursor.new }
 {
     match port_at(scope, output) {
@@ -68,11 +65,7 @@ fn output_name(
 }
 
 /// The text of the name of the output with this number, from 0.
-fn output_text(
-    cursor: &mut Cursor<'_, Vhdl>,
-    scope: &Declarations,
-    output: usize,
-) -> Result<(), Stop>
+fn output_text(cursor: &mut Cursor, scope: &Declarations, output: usize) -> Read<()>
     ensures { Reads (read (Token (spec.text_by (spec.output_name scope.now output)) Syntax) cursor.old) result cursor.new }
 {
     if !is_string(cursor.bytes()) {
@@ -89,20 +82,16 @@ fn output_text(
 }
 
 /// The data of the delays of the output with this number, from 0, which has to have them.
-fn glitch_name(
-    cursor: &mut Cursor<'_, Vhdl>,
-    alloc: Global,
-    scope: &Declarations,
-    output: usize,
-) -> Result<(), Stop>
+fn glitch_name(cursor: &mut Cursor, scope: &Declarations, output: usize) -> Read<()>
     requires { output < 2 ^ 63 }
     ensures { Reads (read (rules.this_name (rules.numbered_where (spec.has_glitch scope.now output) (codes "g_") (output + 1))) cursor.old) result cursor.new }
 {
-    numbered(cursor, alloc, has_glitch(scope, output), b"g_", output + 1)
+    let has_paths = has_glitch(scope, output);
+    numbered(cursor, scope.alloc(), has_paths, b"g_", output + 1)
 }
 
 /// The variable of the output with this number, from 0.
-fn value_name(cursor: &mut Cursor<'_, Vhdl>, alloc: Global, output: usize) -> Result<(), Stop>
+fn value_name(cursor: &mut Cursor, alloc: Global, output: usize) -> Read<()>
     requires { output < 2 ^ 63 }
     ensures { Reads (read (rules.this_name (Some (rules.numbered (codes "z_") (output + 1)))) cursor.old) result cursor.new }
 {
@@ -111,44 +100,30 @@ fn value_name(cursor: &mut Cursor<'_, Vhdl>, alloc: Global, output: usize) -> Re
 
 /// The start of the path call of the output with this number, behind its word.
 #[tactic(auto, unfolding(vhdl_text::specs::VhdlOutputs::path_call_start))]
-fn path_call_start(
-    cursor: &mut Cursor<'_, Vhdl>,
-    alloc: Global,
-    scope: &Declarations,
-    output: usize,
-) -> Result<(), Stop>
+fn path_call_start(cursor: &mut Cursor, scope: &Declarations, output: usize) -> Read<()>
     requires { output < 2 ^ 63 }
     ensures { Reads (read (spec.path_call_start scope.now output) cursor.old) result cursor.new }
 {
     expect_all(cursor, &[b"(", b"OutSignal", b"=>"])?;
     output_name(cursor, scope, output)?;
     expect_all(cursor, &[b",", b"GlitchData", b"=>"])?;
-    glitch_name(cursor, alloc, scope, output)?;
+    glitch_name(cursor, scope, output)?;
     expect_all(cursor, &[b",", b"OutSignalName", b"=>"])?;
     output_text(cursor, scope, output)?;
     expect_all(cursor, &[b",", b"OutTemp", b"=>"])?;
-    value_name(cursor, alloc, output)?;
+    value_name(cursor, scope.alloc(), output)?;
     cursor.expect(b",")
 }
 
 /// The start of the path call behind these lines of other outputs, and behind its word.
-fn next_start(
-    cursor: &mut Cursor<'_, Vhdl>,
-    alloc: Global,
-    scope: &Declarations,
-    lines: &[Items<HPath>],
-) -> Result<(), Stop>
+fn next_start(cursor: &mut Cursor, scope: &Declarations, lines: &[Items<HPath>]) -> Read<()>
     ensures { Reads (read (spec.path_call_start scope.now (length lines.now)) cursor.old) result cursor.new }
 {
-    path_call_start(cursor, alloc, scope, lines.len())
+    path_call_start(cursor, scope, lines.len())
 }
 
 /// The variable of the output behind these lines of other outputs.
-fn next_value_name(
-    cursor: &mut Cursor<'_, Vhdl>,
-    alloc: Global,
-    lines: &[Items<HPath>],
-) -> Result<(), Stop>
+fn next_value_name(cursor: &mut Cursor, alloc: Global, lines: &[Items<HPath>]) -> Read<()>
     ensures { Reads (read (rules.this_name (Some (rules.numbered (codes "z_") (length lines.now + 1)))) cursor.old) result cursor.new }
 {
     value_name(cursor, alloc, lines.len())
@@ -156,18 +131,13 @@ fn next_value_name(
 
 /// A path call, behind its word, and behind the lines of other outputs.
 #[tactic(auto, unfolding(vhdl_text::specs::VhdlOutputs::path_call))]
-pub fn path_call(
-    cursor: &mut Cursor<'_, Vhdl>,
-    alloc: Global,
-    scope: &Declarations,
-    before: (Items<Items<HPath>>, Uses),
-) -> Result<(Items<Items<HPath>>, Uses), Stop>
+pub fn path_call(cursor: &mut Cursor, scope: &Declarations, before: Lines) -> Read<Lines>
     ensures { Reads (read (spec.path_call scope.now before) cursor.old) result cursor.new }
 {
     let (mut lines, uses) = before;
-    next_start(cursor, alloc, scope, lines.as_slice())?;
+    next_start(cursor, scope, lines.as_slice())?;
     expect_all(cursor, &[b"Paths", b"=>"])?;
-    let (found, more) = paths(cursor, alloc, scope, uses)?;
+    let (found, more) = paths(cursor, scope, uses)?;
     expect_all(
         cursor,
         &[b",", b"Mode", b"=>", b"VitalTransport", b")", b";"],
@@ -178,11 +148,7 @@ pub fn path_call(
 
 /// An assignment, behind the name of its output, and behind the lines of other outputs.
 #[tactic(auto, unfolding(vhdl_text::specs::VhdlOutputs::assignment))]
-pub fn assignment(
-    cursor: &mut Cursor<'_, Vhdl>,
-    alloc: Global,
-    before: (Items<Items<HPath>>, Uses),
-) -> Result<(Items<Items<HPath>>, Uses), Stop>
+pub fn assignment(cursor: &mut Cursor, alloc: Global, before: Lines) -> Read<Lines>
     ensures { Reads (read (spec.assignment before) cursor.old) result cursor.new }
 {
     let (mut lines, uses) = before;

@@ -2,34 +2,29 @@
 
 ghost use Rattle.std.specs.Prelude.{◌≡◌, [], true, false, IfOk, codes};
 ghost use Rattle.std.specs.List.{list_any};
-ghost use Rattle.grammar_rules.specs.Rule.{Many};
-ghost use Rattle.grammar_rules.specs.Reading.{read};
-ghost use Rattle.rule_readers.specs.Reading.{Reads};
+ghost use Rattle.rule_readers.specs.Reading.{read, Reads, Many};
 ghost use Rattle.vhdl_tokens.specs.Tokens.{is_name};
 ghost use Rattle.vhdl_text.specs.VhdlRules as rules;
 ghost use Rattle.vhdl_text.specs.VhdlNames as names;
 
 use crate::listed_sources::ListedSources;
 use cell_machine::Source;
-use rule_readers::{Cursor, Refusal, Stop};
+use rule_readers::Read;
 use sqlite_items::Items;
-use std::alloc::{AllocError, Global};
-use vhdl_tokens::is_name;
-use vhdl_words::{Declarations, Vhdl, input_of, is_number_token, list_end, place_among};
+use std::alloc::AllocError;
+use vhdl_words::{
+    Cursor, Declarations, input_of, is_number_token, list_end, place_among, unlisted,
+};
 
 /// The source of a name: an input, or a state. An `Err` comes only where memory is wanting.
-fn source_of(
-    alloc: Global,
-    scope: &Declarations,
-    token: &[u8],
-) -> Result<Option<Source>, AllocError>
+fn source_of(scope: &Declarations, token: &[u8]) -> Result<Option<Source>, AllocError>
     requires { is_name token.now ≡ true }
     ensures { IfOk result (λ found. found ≡ names.source_of scope.now token.now) }
 {
     if let Some(port) = input_of(scope.ports(), token)? {
         return Ok(Some(Source::Pin(port)));
     }
-    match place_among(alloc, b"s_", scope.tables().states.len(), token)? {
+    match place_among(scope.alloc(), b"s_", scope.tables().states.len(), token)? {
         Some(state) => Ok(Some(Source::State(state))),
         None => Ok(None),
     }
@@ -37,52 +32,40 @@ fn source_of(
 
 /// The name of a source behind these in a list.
 #[tactic(auto, using(vhdl_words::proofs::NextWords::named_fits, vhdl_words::proofs::NextWords::named_foul, vhdl_words::proofs::NextWords::named_misfit, vhdl_words::proofs::NextWords::named_other))]
-fn source_name(
-    cursor: &mut Cursor<'_, Vhdl>,
-    alloc: Global,
-    scope: &Declarations,
-    sources: &ListedSources,
-) -> Result<Source, Stop>
+fn source_name(cursor: &mut Cursor, scope: &Declarations, sources: &ListedSources) -> Read<Source>
     ensures reads { Reads (read (rules.named (λ x. names.listed_by (λ s. list_any (names.same_source s) sources.now) (names.source_of scope.now x))) cursor.old) result cursor.new }
     ensures fresh { IfOk result (λ source. list_any (names.same_source source) sources.now ≡ false) }
 {
-    let token = cursor.bytes();
-    if !is_name(token) {
-        return Err(Stop::Refused(Refusal::Syntax));
-    }
-    let Some(source) = source_of(alloc, scope, token)? else {
-        return Err(Stop::Refused(Refusal::Undefined));
-    };
-    if sources.has(source) {
-        return Err(Stop::Refused(Refusal::Twice));
-    }
-    cursor.skip();
+    unlisted!(
+        cursor,
+        token,
+        source = source_of(scope, token)?,
+        sources.has(source)
+    );
     Ok(source)
 }
 
 /// One more source of a list.
 #[tactic(auto, unfolding(vhdl_text::specs::VhdlNames::listed_source))]
 fn listed_source(
-    cursor: &mut Cursor<'_, Vhdl>,
-    alloc: Global,
+    cursor: &mut Cursor,
     scope: &Declarations,
     sources: ListedSources,
-) -> Result<ListedSources, Stop>
+) -> Read<ListedSources>
     ensures { Reads (read (names.listed_source scope.now sources) cursor.old) result cursor.new }
 {
-    let source = source_name(cursor, alloc, scope, &sources)?;
+    let source = source_name(cursor, scope, &sources)?;
     let more = sources.with(source)?;
     Ok(more)
 }
 
 /// The sources of a list behind these.
-#[tactic(auto, using(rule_readers::proofs::Repeats::turn, vhdl_words::proofs::NextWords::choose_begun, vhdl_words::proofs::NextWords::choose_other))]
+#[tactic(auto, using(rule_readers::proofs::Repeats::turns))]
 fn more_sources(
-    cursor: &mut Cursor<'_, Vhdl>,
-    alloc: Global,
+    cursor: &mut Cursor,
     scope: &Declarations,
     mut sources: ListedSources,
-) -> Result<ListedSources, Stop>
+) -> Read<ListedSources>
     ensures { Reads (read (Many (λ _. rules.begins (codes ",")) (λ found _. names.listed_source scope.now found) sources) cursor.old) result cursor.new }
 {
     for _turn in 0..cursor.left() {
@@ -90,54 +73,41 @@ fn more_sources(
             break;
         }
         cursor.skip();
-        sources = listed_source(cursor, alloc, scope, sources)?;
+        sources = listed_source(cursor, scope, sources)?;
     }
     Ok(sources)
 }
 
 /// A list of two sources or more.
 #[tactic(auto, unfolding(vhdl_text::specs::VhdlRules::several_elements, vhdl_text::specs::VhdlRules::more_elements))]
-fn several_sources(
-    cursor: &mut Cursor<'_, Vhdl>,
-    alloc: Global,
-    scope: &Declarations,
-) -> Result<ListedSources, Stop>
+fn several_sources(cursor: &mut Cursor, scope: &Declarations) -> Read<ListedSources>
     ensures { Reads (read (rules.several_elements (names.listed_source scope.now) []) cursor.old) result cursor.new }
 {
-    let first = listed_source(cursor, alloc, scope, ListedSources::new(alloc))?;
+    let first = listed_source(cursor, scope, ListedSources::new(scope.alloc()))?;
     cursor.expect(b",")?;
-    let second = listed_source(cursor, alloc, scope, first)?;
-    more_sources(cursor, alloc, scope, second)
+    let second = listed_source(cursor, scope, first)?;
+    more_sources(cursor, scope, second)
 }
 
 /// A list of sources.
 #[tactic(auto, unfolding(vhdl_text::specs::VhdlRules::elements, vhdl_text::specs::VhdlRules::only_element), using(rule_readers::proofs::Choices::choose_by, rule_readers::proofs::Choices::choose_not_by))]
-fn sources(
-    cursor: &mut Cursor<'_, Vhdl>,
-    alloc: Global,
-    scope: &Declarations,
-) -> Result<ListedSources, Stop>
+fn sources(cursor: &mut Cursor, scope: &Declarations) -> Read<ListedSources>
     ensures { Reads (read (rules.elements (names.listed_source scope.now) []) cursor.old) result cursor.new }
 {
     if !is_number_token(0, cursor.bytes()) {
-        return several_sources(cursor, alloc, scope);
+        return several_sources(cursor, scope);
     }
     cursor.skip();
     cursor.expect(b"=>")?;
-    listed_source(cursor, alloc, scope, ListedSources::new(alloc))
+    listed_source(cursor, scope, ListedSources::new(scope.alloc()))
 }
 
 /// A list of so many sources, and its end.
 #[tactic(auto, unfolding(vhdl_text::specs::VhdlNames::sources_of))]
-pub fn sources_of(
-    cursor: &mut Cursor<'_, Vhdl>,
-    alloc: Global,
-    scope: &Declarations,
-    width: usize,
-) -> Result<Items<Source>, Stop>
+pub fn sources_of(cursor: &mut Cursor, scope: &Declarations, width: usize) -> Read<Items<Source>>
     ensures { Reads (read (names.sources_of scope.now width) cursor.old) result cursor.new }
 {
-    let sources = sources(cursor, alloc, scope)?;
+    let sources = sources(cursor, scope)?;
     let all = sources.into_items();
     list_end(cursor, width, all.len())?;
     Ok(all)

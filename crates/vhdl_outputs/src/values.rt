@@ -1,9 +1,7 @@
 //! The assignments of the variables of outputs. (IEEE 1076.4-2000, VitalTruthTable; IEEE 1076-1993, 8.5.)
 
 ghost use Rattle.std.specs.Prelude.{◌≡◌, ◌+◌, nat_lt, nat_eq, length, IfOk, codes};
-ghost use Rattle.grammar_rules.specs.Rule.{Many, Choice};
-ghost use Rattle.grammar_rules.specs.Reading.{read};
-ghost use Rattle.rule_readers.specs.Reading.{Reads};
+ghost use Rattle.rule_readers.specs.Reading.{read, Reads, Many, Choice};
 ghost use Rattle.rule_readers.specs.Words.{valued};
 ghost use Rattle.vhdl_tokens.specs.Spelling.{is_same};
 ghost use Rattle.vhdl_text.specs.VhdlRules as rules;
@@ -12,12 +10,14 @@ ghost use Rattle.vhdl_text.specs.VhdlOutputs as spec;
 
 use crate::assigned::Values;
 use crate::sources::sources_of;
-use rule_readers::{Cursor, Refusal, Stop};
+use rule_readers::{Read, Refusal, Stop};
 use sqlite_items::Items;
 use std::alloc::{AllocError, Global};
 use vhdl_text::Assigned;
 use vhdl_tokens::is_name;
-use vhdl_words::{Declarations, Vhdl, either_word, expect_all, is_numbered, numbered, truth_width};
+use vhdl_words::{
+    Cursor, Declarations, either_word, expect_all, is_numbered, numbered, truth_width,
+};
 
 /// How many inputs the table of an output with this number has.
 fn output_width(scope: &Declarations, table: usize) -> usize
@@ -30,53 +30,38 @@ fn output_width(scope: &Declarations, table: usize) -> usize
 }
 
 /// The name of the table of an output with this number, from 0.
-fn table_name(
-    cursor: &mut Cursor<'_, Vhdl>,
-    alloc: Global,
-    scope: &Declarations,
-    table: usize,
-) -> Result<(), Stop>
+fn table_name(cursor: &mut Cursor, scope: &Declarations, table: usize) -> Read<()>
     ensures { Reads (read (rules.this_name (spec.output_table_name scope.now table)) cursor.old) result cursor.new }
 {
     if table >= scope.tables().outputs.as_slice().len() {
         return Err(Stop::Refused(cursor.no_name()));
     }
     let before = scope.tables().states.as_slice().len() + table;
-    numbered(cursor, alloc, true, b"k_", before + 1)
+    numbered(cursor, scope.alloc(), true, b"k_", before + 1)
 }
 
 /// A look-up of the table of an output, behind its word.
 #[tactic(auto, unfolding(vhdl_text::specs::VhdlOutputs::lookup))]
-fn lookup(
-    cursor: &mut Cursor<'_, Vhdl>,
-    alloc: Global,
-    scope: &Declarations,
-    table: usize,
-) -> Result<Assigned, Stop>
+fn lookup(cursor: &mut Cursor, scope: &Declarations, table: usize) -> Read<Assigned>
     ensures { Reads (read (spec.lookup scope.now table) cursor.old) result cursor.new }
 {
     expect_all(cursor, &[b"(", b"TruthTable", b"=>"])?;
-    table_name(cursor, alloc, scope, table)?;
+    table_name(cursor, scope, table)?;
     expect_all(cursor, &[b",", b"DataIn", b"=>", b"("])?;
-    let sources = sources_of(cursor, alloc, scope, output_width(scope, table))?;
+    let sources = sources_of(cursor, scope, output_width(scope, table))?;
     cursor.expect(b")")?;
     Ok(Assigned::Lookup(sources))
 }
 
 /// A look-up of the next table of the outputs, behind these values and its word.
-fn next_lookup(
-    cursor: &mut Cursor<'_, Vhdl>,
-    alloc: Global,
-    scope: &Declarations,
-    values: &Values,
-) -> Result<Assigned, Stop>
+fn next_lookup(cursor: &mut Cursor, scope: &Declarations, values: &Values) -> Read<Assigned>
     ensures { Reads (read (spec.lookup scope.now (spec.lookups values.now)) cursor.old) result cursor.new }
 {
-    lookup(cursor, alloc, scope, values.lookups())
+    lookup(cursor, scope, values.lookups())
 }
 
 /// The bit that stands next.
-fn a_bit(cursor: &mut Cursor<'_, Vhdl>) -> Result<bool, Stop>
+fn a_bit(cursor: &mut Cursor) -> Read<bool>
     ensures { Reads (read (valued spec.bit) cursor.old) result cursor.new }
 {
     either_word(cursor, b"'0'", false, b"'1'", true)
@@ -84,7 +69,7 @@ fn a_bit(cursor: &mut Cursor<'_, Vhdl>) -> Result<bool, Stop>
 
 /// A constant.
 #[tactic(auto, unfolding(vhdl_text::specs::VhdlOutputs::a_constant))]
-fn a_constant(cursor: &mut Cursor<'_, Vhdl>) -> Result<Assigned, Stop>
+fn a_constant(cursor: &mut Cursor) -> Read<Assigned>
     ensures { Reads (read spec.a_constant cursor.old) result cursor.new }
 {
     let one = a_bit(cursor)?;
@@ -92,34 +77,24 @@ fn a_constant(cursor: &mut Cursor<'_, Vhdl>) -> Result<Assigned, Stop>
 }
 
 /// A value, behind these.
-#[tactic(auto, using(vhdl_words::proofs::NextWords::choose_begun, vhdl_words::proofs::NextWords::choose_other))]
-fn a_value(
-    cursor: &mut Cursor<'_, Vhdl>,
-    alloc: Global,
-    scope: &Declarations,
-    values: &Values,
-) -> Result<Assigned, Stop>
+#[tactic(auto, using(rule_readers::proofs::Repeats::choose_begun, rule_readers::proofs::Repeats::choose_other))]
+fn a_value(cursor: &mut Cursor, scope: &Declarations, values: &Values) -> Read<Assigned>
     ensures { Reads (read (Choice (rules.begins (codes "VitalTruthTable")) (λ _. spec.lookup scope.now (spec.lookups values.now)) spec.a_constant) cursor.old) result cursor.new }
 {
     if !cursor.is_next(b"VitalTruthTable") {
         return a_constant(cursor);
     }
     cursor.skip();
-    next_lookup(cursor, alloc, scope, values)
+    next_lookup(cursor, scope, values)
 }
 
 /// One more value, behind the name of its variable.
 #[tactic(auto, unfolding(vhdl_text::specs::VhdlOutputs::next_value))]
-fn next_value(
-    cursor: &mut Cursor<'_, Vhdl>,
-    alloc: Global,
-    scope: &Declarations,
-    values: Values,
-) -> Result<Values, Stop>
+fn next_value(cursor: &mut Cursor, scope: &Declarations, values: Values) -> Read<Values>
     ensures { Reads (read (spec.next_value scope.now values) cursor.old) result cursor.new }
 {
     cursor.expect(b":=")?;
-    let value = a_value(cursor, alloc, scope, &values)?;
+    let value = a_value(cursor, scope, &values)?;
     cursor.expect(b";")?;
     values.with(value)
 }
@@ -141,12 +116,7 @@ fn is_value_name(alloc: Global, token: &[u8], values: &Values) -> Result<bool, A
 
 /// The values behind these.
 #[tactic(auto, using(rule_readers::proofs::Repeats::turn, crate::proofs::NextValue::no_value, crate::proofs::NextValue::no_name, crate::proofs::NextValue::other_value, crate::proofs::NextValue::this_value))]
-fn more_values(
-    cursor: &mut Cursor<'_, Vhdl>,
-    alloc: Global,
-    scope: &Declarations,
-    mut values: Values,
-) -> Result<Values, Stop>
+fn more_values(cursor: &mut Cursor, scope: &Declarations, mut values: Values) -> Read<Values>
     ensures { Reads (read (Many (spec.begins_value scope.now) (λ found _. spec.next_value scope.now found) values) cursor.old) result cursor.new }
 {
     for _turn in 0..cursor.left() {
@@ -156,11 +126,11 @@ fn more_values(
         if !is_name(cursor.bytes()) {
             break;
         }
-        if !is_value_name(alloc, cursor.bytes(), &values)? {
+        if !is_value_name(scope.alloc(), cursor.bytes(), &values)? {
             return Err(Stop::Refused(Refusal::Undefined));
         }
         cursor.skip();
-        values = next_value(cursor, alloc, scope, values)?;
+        values = next_value(cursor, scope, values)?;
     }
     Ok(values)
 }
@@ -180,7 +150,7 @@ fn are_all_looked_up(scope: &Declarations, values: &Values) -> bool
 }
 
 /// A place that no text gets past unless the condition holds, also not with a name.
-fn go_on_unnamed(cursor: &Cursor<'_, Vhdl>, holds: bool) -> Result<(), Stop>
+fn go_on_unnamed(cursor: &Cursor, holds: bool) -> Read<()>
     ensures { Reads (read (rules.go_on_unnamed holds) cursor.now) result cursor.now }
 {
     if holds {
@@ -191,14 +161,10 @@ fn go_on_unnamed(cursor: &Cursor<'_, Vhdl>, holds: bool) -> Result<(), Stop>
 
 /// The values of all outputs.
 #[tactic(auto, unfolding(vhdl_text::specs::VhdlOutputs::values_of))]
-pub fn values_of(
-    cursor: &mut Cursor<'_, Vhdl>,
-    alloc: Global,
-    scope: &Declarations,
-) -> Result<Items<Assigned>, Stop>
+pub fn values_of(cursor: &mut Cursor, scope: &Declarations) -> Read<Items<Assigned>>
     ensures { Reads (read (spec.values_of scope.now) cursor.old) result cursor.new }
 {
-    let values = more_values(cursor, alloc, scope, Values::new(alloc))?;
+    let values = more_values(cursor, scope, Values::new(scope.alloc()))?;
     cursor.go_on_where(are_all_values(scope, &values))?;
     go_on_unnamed(cursor, are_all_looked_up(scope, &values))?;
     Ok(values.into_items())

@@ -1,7 +1,7 @@
 //! The entities of a text that were read so far, with a list that finds a name at once.
 
 use bool_functions::Names;
-use rule_readers::Stop;
+use rule_readers::{Read, Stop};
 use std::alloc::{AllocError, Global};
 use std::marker::Model;
 use vital_models::VEntity;
@@ -55,7 +55,7 @@ impl Entities {
     }
 
     /// These entities, and one more behind them.
-    pub fn with(self, entity: VEntity) -> Result<Entities, Stop>
+    pub fn with(self, entity: VEntity) -> Read<Entities>
         ensures added { IfOk result (λ more. more ≡ self ++ entity ∷ []) }
         ensures memory { IfErr result (λ stop. stop ≡ Stop.Memory) }
     {
@@ -80,7 +80,6 @@ impl Entities {
     pub fn into_vec(self) -> Vec<VEntity>
         ensures { result.items ≡ self }
     {
-        let Entities { entities, .. } = self;
-        entities
+        self.entities
     }
 }

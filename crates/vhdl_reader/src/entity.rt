@@ -1,9 +1,7 @@
 //! Entities of a text, by recursive descent. (IEEE 1076-1993, 1.1 and 1.2; IEEE 1076.4-2000.)
 
 ghost use Rattle.std.specs.Prelude.{◌≡◌, codes};
-ghost use Rattle.grammar_rules.specs.Rule.{Many};
-ghost use Rattle.grammar_rules.specs.Reading.{read};
-ghost use Rattle.rule_readers.specs.Reading.{Reads, ReadsAs};
+ghost use Rattle.rule_readers.specs.Reading.{read, Reads, ReadsAs, Many};
 ghost use Rattle.vhdl_text.specs.VhdlDeclarations.{input_names};
 ghost use Rattle.vhdl_text.specs.VhdlRules as rules;
 ghost use Rattle.vhdl_text.specs.VhdlText as spec;
@@ -13,7 +11,7 @@ ghost use Rattle.vhdl_reader.specs.Tails as tails;
 
 use crate::entities::Entities;
 use crate::joined::entity_with;
-use rule_readers::{Cursor, Refusal, Stop};
+use rule_readers::{Read, Refusal, Stop};
 use sqlite_items::Items;
 use std::alloc::Global;
 use udp_tables::VPort;
@@ -22,11 +20,11 @@ use vhdl_outputs::{output_lines, values_of};
 use vhdl_statements::{Checks, all_checks, state_calls, violation};
 use vhdl_text::{Assigned, Columns};
 use vhdl_tokens::is_name;
-use vhdl_words::{Declarations, Vhdl, expect_all};
+use vhdl_words::{Cursor, Declarations, expect_all};
 use vital_models::VEntity;
 
 /// The wait at the end of a process in which these names are its sensitivity list, if there are none. (IEEE 1076-1993, 8.1.)
-fn last_wait_of(cursor: &mut Cursor<'_, Vhdl>, names: &[Items<u8>]) -> Result<(), Stop>
+fn last_wait_of(cursor: &mut Cursor, names: &[Items<u8>]) -> Read<()>
     ensures { Reads (read (spec.last_wait names.now) cursor.old) result cursor.new }
 {
     match names {
@@ -36,7 +34,7 @@ fn last_wait_of(cursor: &mut Cursor<'_, Vhdl>, names: &[Items<u8>]) -> Result<()
 }
 
 /// The wait at the end of a process, if none of these ports is an input.
-fn last_wait(cursor: &mut Cursor<'_, Vhdl>, alloc: Global, ports: &[VPort]) -> Result<(), Stop>
+fn last_wait(cursor: &mut Cursor, alloc: Global, ports: &[VPort]) -> Read<()>
     ensures { Reads (read (spec.last_wait (input_names ports.now)) cursor.old) result cursor.new }
 {
     let names = input_names(alloc, ports)?;
@@ -52,15 +50,10 @@ fn are_looked_up(scope: &Declarations, uses: &[Items<usize>]) -> bool
 
 /// The end of an entity, behind all look-ups of conditions.
 #[tactic(auto, unfolding(vhdl_text::specs::VhdlText::entity_end))]
-fn entity_end(
-    cursor: &mut Cursor<'_, Vhdl>,
-    alloc: Global,
-    scope: &Declarations,
-    uses: &[Items<usize>],
-) -> Result<(), Stop>
+fn entity_end(cursor: &mut Cursor, scope: &Declarations, uses: &[Items<usize>]) -> Read<()>
     ensures { Reads (read (spec.entity_end scope.now uses.now) cursor.old) result cursor.new }
 {
-    last_wait(cursor, alloc, scope.ports().as_slice())?;
+    last_wait(cursor, scope.alloc(), scope.ports().as_slice())?;
     cursor.expect_where(are_looked_up(scope, uses), Refusal::Undriven, b"end")?;
     expect_all(cursor, &[b"process", b";", b"end", b"vital", b";"])
 }
@@ -68,57 +61,44 @@ fn entity_end(
 /// The statements behind the values of the outputs.
 #[tactic(auto, unfolding(crate::specs::Tails::behind_values))]
 fn behind_values(
-    cursor: &mut Cursor<'_, Vhdl>,
-    alloc: Global,
+    cursor: &mut Cursor,
     scope: Declarations,
     checked: Checks,
     columns: Items<Columns>,
     values: Items<Assigned>,
-) -> Result<VEntity, Stop>
+) -> Read<VEntity>
     ensures { Reads (read (tails.behind_values scope (checks_of checked) columns values) cursor.old) result cursor.new }
 {
     let Checks { checks, uses } = checked;
-    let lines = output_lines(cursor, alloc, &scope, uses)?;
-    entity_end(cursor, alloc, &scope, lines.1.as_slice())?;
+    let lines = output_lines(cursor, &scope, uses)?;
+    entity_end(cursor, &scope, lines.1.as_slice())?;
+    let alloc = scope.alloc();
     Ok(entity_with(alloc, scope.into_scope(), checks, columns, values, lines)?)
 }
 
 /// The statements behind the checks.
 #[tactic(auto, unfolding(crate::specs::Tails::behind_checks))]
-fn behind_checks(
-    cursor: &mut Cursor<'_, Vhdl>,
-    alloc: Global,
-    scope: Declarations,
-    checked: Checks,
-) -> Result<VEntity, Stop>
+fn behind_checks(cursor: &mut Cursor, scope: Declarations, checked: Checks) -> Read<VEntity>
     ensures { Reads (read (tails.behind_checks scope (checks_of checked)) cursor.old) result cursor.new }
 {
     violation(cursor, &scope)?;
     let columns = state_calls(cursor, &scope)?;
-    let values = values_of(cursor, alloc, &scope)?;
-    behind_values(cursor, alloc, scope, checked, columns, values)
+    let values = values_of(cursor, &scope)?;
+    behind_values(cursor, scope, checked, columns, values)
 }
 
 /// The statements behind these declarations: an entity.
 #[tactic(auto, unfolding(vhdl_text::specs::VhdlText::statements, crate::specs::Tails::behind_checks, crate::specs::Tails::behind_values))]
-fn statements(
-    cursor: &mut Cursor<'_, Vhdl>,
-    alloc: Global,
-    scope: Declarations,
-) -> Result<VEntity, Stop>
+fn statements(cursor: &mut Cursor, scope: Declarations) -> Read<VEntity>
     ensures { Reads (read (spec.statements scope) cursor.old) result cursor.new }
 {
     let checked = all_checks(cursor, &scope)?;
-    behind_checks(cursor, alloc, scope, checked)
+    behind_checks(cursor, scope, checked)
 }
 
 /// The name of an entity, where these entities stand before it.
 #[tactic(auto, using(vhdl_words::proofs::NextWords::named_other))]
-fn entity_name(
-    cursor: &mut Cursor<'_, Vhdl>,
-    alloc: Global,
-    entities: &Entities,
-) -> Result<Items<u8>, Stop>
+fn entity_name(cursor: &mut Cursor, alloc: Global, entities: &Entities) -> Read<Items<u8>>
     ensures { Reads (read (rules.new_name (spec.entity_names entities.now)) cursor.old) result cursor.new }
 {
     let token = cursor.bytes();
@@ -131,27 +111,19 @@ fn entity_name(
 
 /// An entity behind its first word, where these entities stand before it.
 #[tactic(auto, unfolding(vhdl_text::specs::VhdlText::entity))]
-fn entity(
-    cursor: &mut Cursor<'_, Vhdl>,
-    alloc: Global,
-    entities: &Entities,
-) -> Result<VEntity, Stop>
+fn entity(cursor: &mut Cursor, alloc: Global, entities: &Entities) -> Read<VEntity>
     ensures { Reads (read (spec.entity (spec.entity_names entities.now)) cursor.old) result cursor.new }
 {
     packages(cursor)?;
     cursor.expect(b"entity")?;
     let name = entity_name(cursor, alloc, entities)?;
     let scope = scope_of(cursor, alloc, name)?;
-    statements(cursor, alloc, scope)
+    statements(cursor, scope)
 }
 
 /// One more entity, behind its first word.
 #[tactic(auto, unfolding(vhdl_text::specs::VhdlText::next_entity))]
-fn next_entity(
-    cursor: &mut Cursor<'_, Vhdl>,
-    alloc: Global,
-    entities: Entities,
-) -> Result<Entities, Stop>
+fn next_entity(cursor: &mut Cursor, alloc: Global, entities: Entities) -> Read<Entities>
     ensures { Reads (read (spec.next_entity entities) cursor.old) result cursor.new }
 {
     let more = entity(cursor, alloc, &entities)?;
@@ -159,12 +131,8 @@ fn next_entity(
 }
 
 /// The entities behind these.
-#[tactic(auto, using(rule_readers::proofs::Repeats::turn, vhdl_words::proofs::NextWords::choose_begun, vhdl_words::proofs::NextWords::choose_other))]
-fn more_entities(
-    cursor: &mut Cursor<'_, Vhdl>,
-    alloc: Global,
-    mut entities: Entities,
-) -> Result<Entities, Stop>
+#[tactic(auto, using(rule_readers::proofs::Repeats::turns))]
+fn more_entities(cursor: &mut Cursor, alloc: Global, mut entities: Entities) -> Read<Entities>
     ensures { Reads (read (Many (λ _. rules.begins (codes "library")) (λ found _. spec.next_entity found) entities) cursor.old) result cursor.new }
 {
     for _turn in 0..cursor.left() {
@@ -179,7 +147,7 @@ fn more_entities(
 
 /// All entities of a text, and nothing behind them.
 #[tactic(auto, unfolding(vhdl_text::specs::VhdlText::file))]
-pub fn file(cursor: &mut Cursor<'_, Vhdl>, alloc: Global) -> Result<Vec<VEntity>, Stop>
+pub fn file(cursor: &mut Cursor, alloc: Global) -> Read<Vec<VEntity>>
     ensures { ReadsAs entities_of (read spec.file cursor.old) result cursor.new }
 {
     let entities = more_entities(cursor, alloc, Entities::new(alloc))?;

@@ -6,8 +6,9 @@ ghost use Rattle.vhdl_text.specs.VhdlText as spec;
 use sqlite_items::Items;
 use std::alloc::{AllocError, Global};
 use udp_tables::TimingCheck;
-use vhdl_outputs::{Uses, output_ports};
+use vhdl_outputs::{Lines, output_ports};
 use vhdl_text::{Assigned, Columns, Scope, Tables};
+use vhdl_words::Uses;
 use vital_models::{HPath, OutValue, TruthTable, VEntity, VOutput, VState, VStateTable, VTruth};
 
 /// These items, the last one first. An `Err` comes only where memory is wanting.
@@ -127,7 +128,7 @@ pub fn entity_with(
     checks: Items<TimingCheck>,
     columns: Items<Columns>,
     assigned: Items<Assigned>,
-    lines: (Items<Items<HPath>>, Uses),
+    lines: Lines,
 ) -> Result<VEntity, AllocError>
     ensures { IfOk result (λ entity. entity ≡ spec.entity_with scope checks columns assigned lines) }
 {

@@ -3,22 +3,4 @@
 #![tactic(auto)]
 
 #[cfg(test)]
-mod alike;
-#[cfg(test)]
-mod changes;
-#[cfg(test)]
-mod flip_flops;
-#[cfg(test)]
-mod functions;
-#[cfg(test)]
-mod latches;
-#[cfg(test)]
-mod lines;
-#[cfg(test)]
-mod rows;
-#[cfg(test)]
-mod scan_flip_flops;
-#[cfg(test)]
-mod tables;
-#[cfg(test)]
-mod timing_checks;
+mod tests;

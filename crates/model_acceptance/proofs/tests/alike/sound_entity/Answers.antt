@@ -3,7 +3,7 @@ use Rattle.cell_machine.specs.CellData.{data_of}
 use Rattle.cell_machine.proofs.RuleLemmas.{cell_rules}
 use Rattle.vital_models.specs.Sound.{IsSound}
 use Rattle.vital_models.proofs.Soundness.{entity_is_sound}
-use Rattle.model_acceptance.proofs.alike.sound_entity.Goals as goal
+use Rattle.model_acceptance.proofs.tests.alike.sound_entity.Goals as goal
 
 pub returns : goal.returns
 returns c =

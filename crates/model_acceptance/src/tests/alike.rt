@@ -3,8 +3,9 @@ ghost use Rattle.std.specs.Prelude.{[], IfOk};
 ghost use Rattle.specify_blocks.specs.Sound.{IsSound as IsSoundModule};
 ghost use Rattle.vital_models.specs.Sound.{IsSound as IsSoundEntity};
 
-use crate::changes::{are_proper, changes_of};
-use crate::lines::{Row, has_trace};
+use super::changes::{are_proper, changes_of};
+use super::lines::{has_trace, port_names};
+use super::written_traces::{printed, trace_of};
 use bool_functions::Names;
 use cell_machine::{Cell, CellSim, Change, LibertySim};
 use cell_reader::{ReadCell, read_cell};
@@ -65,47 +66,38 @@ fn shows_the_same<A: CellSim + Drop, B: CellSim + Drop>(
     }
 }
 
-/// Wants a cell and its module to show the same at these changes.
-fn module_as_cell(
-    alloc: Global,
-    cell: &Cell,
-    model: &VModule,
-    changes: &[Change],
-) -> Result<(), Fail>
-    requires { IsSoundModule model.now }
-{
-    let liberty = LibertySim::start(alloc, cell)?;
-    let verilog = VerilogSim::start(alloc, model)?;
-    shows_the_same(liberty, verilog, changes)
-}
-
-/// Wants a cell and its entity to show the same at these changes.
-fn entity_as_cell(
-    alloc: Global,
-    cell: &Cell,
-    entity: &VEntity,
-    changes: &[Change],
-) -> Result<(), Fail>
-    requires { IsSoundEntity entity.now }
-{
-    let liberty = LibertySim::start(alloc, cell)?;
-    let vital = VitalSim::start(alloc, entity)?;
-    shows_the_same(liberty, vital, changes)
-}
-
 /// Wants the module and the entity of a cell to show the same as it at these changes.
 fn models_as_cell(alloc: Global, cell: &Cell, changes: &[Change]) -> Result<(), Fail> {
     let model = sound_module(alloc, cell)?;
     let entity = sound_entity(alloc, cell)?;
-    module_as_cell(alloc, cell, &model, changes)?;
-    entity_as_cell(alloc, cell, &entity, changes)
+    shows_the_same(
+        LibertySim::start(alloc, cell)?,
+        VerilogSim::start(alloc, &model)?,
+        changes,
+    )?;
+    shows_the_same(
+        LibertySim::start(alloc, cell)?,
+        VitalSim::start(alloc, &entity)?,
+        changes,
+    )
 }
 
-/// Wants the first cell of a library in picoseconds to show this line before any change and then the lines of these rows, as
-/// they are printed, and its module and its entity to show the same.
-pub fn run_alike(alloc: Global, library: &str, start: &str, rows: &[Row]) -> Result<(), Fail> {
-    let read = first_cell(alloc, library)?;
-    has_trace(alloc, &read.cell, start, rows)?;
-    let changes = changes_of(alloc, rows)?;
+/// Wants a cell of a library in picoseconds to show a trace as it is printed, and its module and its entity to show the same.
+fn run_alike(alloc: Global, cell: &str, trace: &str) -> Result<(), Fail> {
+    let library = format!(in alloc; "library (L) {{ {cell} }}")?;
+    let read = first_cell(alloc, library.as_str())?;
+    let names = port_names(alloc, read.cell.pins.as_slice())?;
+    let text = printed(alloc, trace)?;
+    let trace = trace_of(alloc, &names.inputs, text.as_str())?;
+    has_trace(alloc, &read.cell, trace.start, &trace.rows)?;
+    let changes = changes_of(alloc, &trace.rows)?;
     models_as_cell(alloc, &read.cell, &changes)
+}
+
+/// Wants that of each of these cells and its trace.
+pub fn run_all(alloc: Global, traces: &[(&str, &str)]) -> Result<(), Fail> {
+    for (cell, trace) in traces {
+        run_alike(alloc, cell, trace)?;
+    }
+    Ok(())
 }

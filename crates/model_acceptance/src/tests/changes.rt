@@ -2,12 +2,12 @@
 ghost use Rattle.std.specs.Prelude.{[], IsTrue};
 ghost use Rattle.cell_machine.specs.History.{IsProperFrom};
 
-use crate::lines::Row;
+use super::lines::Row;
 use cell_machine::Change;
 use std::alloc::{AllocError, Global};
 
 /// The changes of these rows.
-pub fn changes_of(alloc: Global, rows: &[Row]) -> Result<Vec<Change>, AllocError> {
+pub fn changes_of(alloc: Global, rows: &[Row<'_>]) -> Result<Vec<Change>, AllocError> {
     let mut changes = Vec::new(alloc);
     for (at, pin, to, _) in rows {
         changes.push(Change {

@@ -2,7 +2,7 @@ use Rattle.std.proofs.Common.{◌≡◌, List, [], drop}
 use Rattle.cell_machine.specs.declared.changes.Change.{Change}
 use Rattle.cell_machine.specs.History.{ComesAfter}
 use Rattle.model_acceptance.specs.TraceRows.{HasTrace}
-use Rattle.model_acceptance.proofs.lines.drive.Given as goal
+use Rattle.model_acceptance.proofs.tests.lines.drive.Given as goal
 
 -- the rest of the rows is a trace from here only where all of them are one from the start
 abbrev pub invariant-loop-at : goal.invariant-loop-at

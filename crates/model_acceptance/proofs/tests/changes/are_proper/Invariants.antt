@@ -1,7 +1,7 @@
 use Rattle.std.proofs.Common.{List, [], drop}
 use Rattle.cell_machine.specs.declared.changes.Change.{Change}
 use Rattle.cell_machine.specs.History.{ComesAfter, IsProperFrom}
-use Rattle.model_acceptance.proofs.changes.are_proper.Given as goal
+use Rattle.model_acceptance.proofs.tests.changes.are_proper.Given as goal
 
 -- behind some history the rest is proper only where all changes are so from the start
 abbrev pub invariant-loop-change : goal.invariant-loop-change

@@ -16,13 +16,13 @@ use trit_cubes::Trit;
 
 /// A row of a trace: the time of a change in picoseconds, the number of the input from 0, its new value, and the line that
 /// follows, as it is printed.
-pub type Row = (u64, usize, Trit, &'static str);
+pub type Row<'a> = (u64, usize, Trit, &'a str);
 
 /// The names of a cell's ports.
 #[derive(Drop)]
-struct PortNames {
-    inputs: Names,
-    outputs: Names,
+pub struct PortNames {
+    pub inputs: Names,
+    pub outputs: Names,
 }
 
 /// Adds a name, which is wanted to be new.
@@ -36,7 +36,7 @@ fn add_new(names: &mut Names, name: &[u8]) -> Result<(), Fail>
 }
 
 /// The names of the inputs and of the outputs among these pins.
-fn port_names(alloc: Global, pins: &[Pin]) -> Result<PortNames, Fail>
+pub fn port_names(alloc: Global, pins: &[Pin]) -> Result<PortNames, Fail>
     ensures inputs { IfOk result (λ names. names.inputs ≡ input_names pins.now) }
     ensures outputs { IfOk result (λ names. names.outputs ≡ output_names pins.now) }
 {
@@ -88,7 +88,7 @@ fn drive<S: CellSim>(
     alloc: Global,
     names: &PortNames,
     sim: &mut S,
-    rows: &[Row],
+    rows: &[Row<'_>],
 ) -> Result<(), Fail>
     requires stands { S.stands sim.old [] }
     requires inputs { length names.now.inputs ≡ (S.machine sim.old).inputs }
@@ -114,7 +114,7 @@ fn drive<S: CellSim>(
 
 /// Wants a cell to show these lines, as they are printed with the tag `L`: the first before any change, and one behind the
 /// change of each row. The times of the changes rise and are below 1,000,000.
-pub fn has_trace(alloc: Global, cell: &Cell, start: &str, rows: &[Row]) -> Result<(), Fail>
+pub fn has_trace(alloc: Global, cell: &Cell, start: &str, rows: &[Row<'_>]) -> Result<(), Fail>
     ensures start { IfOk result (λ _. line_text 76 None (input_names cell.now.pins) (output_names cell.now.pins) ((cell_machine_of (data_of cell.now)).line []) ≡ start.now) }
     ensures rows { IfOk result (λ _. HasTrace (input_names cell.now.pins) (output_names cell.now.pins) (cell_machine_of (data_of cell.now)) [] rows.now) }
 {

@@ -1,6 +1,6 @@
 use Rattle.std.proofs.Common.{◌≡◌, ◌++◌, drop}
 use Rattle.model_acceptance.specs.TraceRows.{input_names, output_names}
-use Rattle.model_acceptance.proofs.lines.port_names.Given as goal
+use Rattle.model_acceptance.proofs.tests.lines.port_names.Given as goal
 
 abbrev pub invariant-loop-pin : goal.invariant-loop-pin
 invariant-loop-pin l = record {

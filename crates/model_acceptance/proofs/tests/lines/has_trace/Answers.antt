@@ -2,7 +2,7 @@ use Rattle.std.proofs.Common.{◌≡◌, ◌∙◌, [], None, IfOk, subst, ap}
 use Rattle.std.proofs.lemmas.Result.{IfOk-weaker}
 use Rattle.stimulus.specs.TraceLine.{line_text}
 use Rattle.model_acceptance.specs.TraceRows.{input_names, output_names, HasTrace}
-use Rattle.model_acceptance.proofs.lines.has_trace.Goals as goal
+use Rattle.model_acceptance.proofs.tests.lines.has_trace.Goals as goal
 
 pub returns-clause-start : goal.returns-clause-start
 returns-clause-start c =

@@ -62,20 +62,30 @@ fn folder_of(alloc: Global, files: Files<'_>) -> Result<Vec<NamedFile>, AllocErr
     Ok(folder)
 }
 
-/// A desk with these words and files and this room in each output, in bytes, at which the calls with these numbers fail and a call
-/// moves at most `piece` bytes.
+/// How many bytes a call may move in the runs that are tried at several such numbers.
+pub(crate) const PIECES: [usize; 3] = [1, 7, 4096];
+
+/// What limits the calls on a desk: those with these numbers fail, an output has this room, in bytes, and a call moves at most
+/// `piece` bytes.
+#[derive(Copy, Clone)]
+pub(crate) struct Limits<'a> {
+    pub failing: &'a [u64],
+    pub room: usize,
+    pub piece: usize,
+}
+
+/// A desk with these words, files and limits.
 pub(crate) fn desk_of(
     alloc: Global,
     words: &[&str],
     files: Files<'_>,
-    failing: &[u64],
-    room: usize,
-    piece: usize,
+    limits: Limits<'_>,
 ) -> Result<MemoryDesk, Fail> {
     let words = words_of(alloc, words)?;
     let folder = folder_of(alloc, files)?;
-    let failing = Vec::from_slice(alloc, failing)?;
-    Ok(MemoryDesk::in_pieces(alloc, words, folder, failing, room, piece.max(1))?)
+    let failing = Vec::from_slice(alloc, limits.failing)?;
+    let piece = limits.piece.max(1);
+    Ok(MemoryDesk::in_pieces(alloc, words, folder, failing, limits.room, piece)?)
 }
 
 /// What a run left: its status, and the desk.
@@ -135,7 +145,12 @@ pub(crate) fn ran(
     failing: &[u64],
     piece: usize,
 ) -> Result<Left, Fail> {
-    let mut desk = desk_of(alloc, words, files, failing, ROOM, piece)?;
+    let limits = Limits {
+        failing,
+        room: ROOM,
+        piece,
+    };
+    let mut desk = desk_of(alloc, words, files, limits)?;
     let status = run(alloc, &mut desk);
     Ok(Left { status, desk })
 }

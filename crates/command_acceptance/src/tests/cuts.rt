@@ -1,5 +1,5 @@
 //! Files that are cut at each of their bytes.
-use crate::desks::{Files, ran};
+use super::desks::{Files, ran};
 use std::alloc::Global;
 use std::test::Fail;
 use translate_cmd::Status;
@@ -13,9 +13,11 @@ pub(crate) enum File {
     Stimulus,
 }
 
-/// What a run comes to where the file is cut to fewer bytes than this number: the status, the report, and how the line of faults
-/// begins.
-pub(crate) type Cut = (usize, Status, &'static str, &'static str);
+/// What a run comes to: the status, the report, and how the line of faults begins.
+pub(crate) type Outcome = (Status, &'static str, &'static str);
+
+/// What a run comes to where the file is cut to fewer bytes than this number.
+pub(crate) type Cut = (usize, Outcome);
 
 /// The bytes of a file.
 fn bytes_of<'a>(files: Files<'a>, file: File) -> &'a [u8] {
@@ -61,7 +63,7 @@ fn is_cut_well(
     let front = bytes_of(files, file).get(..length).ok_or("too long")?;
     let left = ran(alloc, words, with_bytes(files, file, front), &[], 7)?;
     Ok(match cut_at(cuts, length) {
-        Some((_, status, report, faults)) => left.begins(status, report, faults),
+        Some((_, (status, report, faults))) => left.begins(status, report, faults),
         None => false,
     })
 }

@@ -1,14 +1,15 @@
 //! Calls on the desk that fail, each in turn: what was written then is the front of what is written without, and no call is made
 //! behind it.
-use crate::desks::{
-    Files, Left, REPLAY_VERILOG, REPLAY_VITAL, SIMULATE, TRANSLATE, desk_of, library_alone, ran,
+use super::desks::{
+    Files, Left, Limits, PIECES, REPLAY_VERILOG, REPLAY_VITAL, SIMULATE, TRANSLATE, desk_of,
+    library_alone, ran,
 };
-use crate::inverter::{REPORT, VERILOG_REPORT, VITAL_REPORT, four_files};
-use crate::runs_on_test_cells::TWO_CELLS;
-use crate::three_cells::{
+use super::inverter::{REPORT, VERILOG_REPORT, VITAL_REPORT, four_files};
+use super::runs_on_test_cells::TWO_CELLS;
+use super::three_cells::{
     FIRST_ENTITY, FIRST_MODULE, THIRD_ENTITY, THIRD_MODULE, THREE_CELLS, THREE_LINES,
 };
-use crate::words_and_udp::AND;
+use super::words_and_udp::AND;
 use std::alloc::Global;
 use std::test::Fail;
 use text_io::{GatedDesk, OutSlot};
@@ -85,51 +86,48 @@ fn leaves_fronts(
     Ok(false)
 }
 
-/// Whether that holds of a translation of three cells.
-fn translates_fronts(alloc: Global, piece: usize) -> Result<bool, Fail> {
+/// Whether that holds of words, whatever a call moves of bytes.
+fn leaves_fronts_in_pieces(
+    alloc: Global,
+    words: &[&str],
+    files: Files<'_>,
+    whole: &Whole,
+) -> Result<bool, Fail> {
+    for piece in PIECES {
+        if !leaves_fronts(alloc, words, files, whole, piece)? {
+            return Ok(false);
+        }
+    }
+    Ok(true)
+}
+
+/// Whether it holds of a translation of three cells.
+fn translates_fronts(alloc: Global) -> Result<bool, Fail> {
     let files = library_alone(THREE_CELLS.as_bytes());
-    leaves_fronts(alloc, &TRANSLATE, files, &THREE_TRANSLATED, piece)
+    leaves_fronts_in_pieces(alloc, &TRANSLATE, files, &THREE_TRANSLATED)
 }
 
 /// Whether it holds of words that read files of the inverter and have this report.
-fn reads_fronts(
-    alloc: Global,
-    words: &[&str],
-    report: &'static str,
-    piece: usize,
-) -> Result<bool, Fail> {
-    leaves_fronts(alloc, words, four_files(), &done(report), piece)
+fn reads_fronts(alloc: Global, words: &[&str], report: &'static str) -> Result<bool, Fail> {
+    leaves_fronts_in_pieces(alloc, words, four_files(), &done(report))
 }
 
-/// Whether it holds of words that name no file.
+/// Whether each call that fails leaves a front where words name no file.
 fn prints_fronts(alloc: Global, words: &[&str], whole: &Whole) -> Result<bool, Fail> {
     leaves_fronts(alloc, words, library_alone(b""), whole, 7)
 }
 
 #[test]
-fn each_call_of_a_translation_that_fails_leaves_a_front(rt: HostRuntime) -> Result<(), Fail> {
-    assert!(rt; translates_fronts(rt.alloc(), 1)?);
-    assert!(rt; translates_fronts(rt.alloc(), 7)?);
-    assert!(rt; translates_fronts(rt.alloc(), 4096)?);
-    Ok(())
-}
-
-#[test]
-fn each_call_of_a_simulation_that_fails_leaves_a_front(rt: HostRuntime) -> Result<(), Fail> {
-    assert!(rt; reads_fronts(rt.alloc(), &SIMULATE, REPORT, 1)?);
-    assert!(rt; reads_fronts(rt.alloc(), &SIMULATE, REPORT, 7)?);
-    assert!(rt; reads_fronts(rt.alloc(), &SIMULATE, REPORT, 4096)?);
+fn each_call_that_fails_leaves_a_front(rt: HostRuntime) -> Result<(), Fail> {
+    assert!(rt; translates_fronts(rt.alloc())?);
+    assert!(rt; reads_fronts(rt.alloc(), &SIMULATE, REPORT)?);
     Ok(())
 }
 
 #[test]
 fn each_call_of_a_replay_that_fails_leaves_a_front(rt: HostRuntime) -> Result<(), Fail> {
-    assert!(rt; reads_fronts(rt.alloc(), &REPLAY_VERILOG, VERILOG_REPORT, 1)?);
-    assert!(rt; reads_fronts(rt.alloc(), &REPLAY_VERILOG, VERILOG_REPORT, 7)?);
-    assert!(rt; reads_fronts(rt.alloc(), &REPLAY_VERILOG, VERILOG_REPORT, 4096)?);
-    assert!(rt; reads_fronts(rt.alloc(), &REPLAY_VITAL, VITAL_REPORT, 1)?);
-    assert!(rt; reads_fronts(rt.alloc(), &REPLAY_VITAL, VITAL_REPORT, 7)?);
-    assert!(rt; reads_fronts(rt.alloc(), &REPLAY_VITAL, VITAL_REPORT, 4096)?);
+    assert!(rt; reads_fronts(rt.alloc(), &REPLAY_VERILOG, VERILOG_REPORT)?);
+    assert!(rt; reads_fronts(rt.alloc(), &REPLAY_VITAL, VITAL_REPORT)?);
     Ok(())
 }
 
@@ -167,7 +165,12 @@ fn a_file_that_cannot_be_made_or_opened_ends_the_run(rt: HostRuntime) -> Result<
 /// Whether a gate ends with this status and this count where these calls fail.
 fn counts(alloc: Global, failing: &[u64], status: Status, failures: u64) -> Result<bool, Fail> {
     let words = ["udp", "AND2", "A*B"];
-    let mut gate = GatedDesk::new(desk_of(alloc, &words, library_alone(b""), failing, 1000, 7)?);
+    let limits = Limits {
+        failing,
+        room: 1000,
+        piece: 7,
+    };
+    let mut gate = GatedDesk::new(desk_of(alloc, &words, library_alone(b""), limits)?);
     let ended = run_gated(alloc, &mut gate);
     Ok(ended == status && gate.failures() == failures)
 }

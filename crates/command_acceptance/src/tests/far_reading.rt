@@ -1,6 +1,6 @@
 //! A library with much behind its cells: their models are written before all of it is read.
-use crate::desks::{Left, TRANSLATE, library_alone, ran};
-use crate::three_cells::{
+use super::desks::{Left, TRANSLATE, library_alone, ran};
+use super::three_cells::{
     FIRST_ENTITY, FIRST_MODULE, THIRD_ENTITY, THIRD_MODULE, THREE_CELLS, THREE_LINES,
 };
 use std::alloc::{AllocError, Global};

@@ -1,8 +1,8 @@
 //! Sections that are run on a cell, its module and its entity.
-use crate::desks::{Files, simulated, simulated_beside_its_own, translated};
-use crate::inverter::START;
-use crate::libraries::{
-    CLOCK_GATE, FLIP_FLOP, GUARDED_FLIP_FLOP, INVERTER, LATCH, OTHER_FLIP_FLOP, TIMED_FLIP_FLOP,
+use super::desks::{Files, simulated, simulated_beside_its_own, translated};
+use super::inverter::START;
+use super::libraries::{
+    CLOCK_GATE, FLIP_FLOP, GUARDED_FLIP_FLOP, INVERTER, LATCH, TIMED_FLIP_FLOP,
 };
 use std::alloc::Global;
 use std::test::Fail;
@@ -11,14 +11,15 @@ use translate_cmd::Status;
 
 /// A section on which all three agree: the cell, the lines of the stimulus, and what each of the three shows at the start and
 /// behind each of them.
-struct Section {
-    library: &'static str,
-    cell: &'static str,
-    start: &'static str,
-    lines: &'static [(&'static str, &'static str)],
+#[derive(Drop)]
+struct Section<'a> {
+    library: &'a str,
+    cell: &'a str,
+    start: &'a str,
+    lines: &'a [(&'a str, &'a str)],
 }
 
-const SECTIONS: [Section; 7] = [
+const SECTIONS: [Section<'static>; 4] = [
     Section {
         library: INVERTER,
         cell: "MUX2",
@@ -52,36 +53,6 @@ const SECTIONS: [Section; 7] = [
         ],
     },
     Section {
-        library: TIMED_FLIP_FLOP,
-        cell: "DFFT",
-        start: "Q=x",
-        lines: &[
-            ("10 CK 0", "Q=x"),
-            ("100 D 1", "Q=x"),
-            ("149 CK 1", "Q=x !1"),
-        ],
-    },
-    Section {
-        library: TIMED_FLIP_FLOP,
-        cell: "DFFT",
-        start: "Q=x",
-        lines: &[
-            ("10 CK 0", "Q=x"),
-            ("100 D 1", "Q=x"),
-            ("150 CK 1", "Q=1@100"),
-        ],
-    },
-    Section {
-        library: GUARDED_FLIP_FLOP,
-        cell: "DFFT",
-        start: "Q=x",
-        lines: &[
-            ("10 CK 0", "Q=x"),
-            ("100 D 1", "Q=x"),
-            ("149 CK 1", "Q=1@100"),
-        ],
-    },
-    Section {
         library: CLOCK_GATE,
         cell: "GATE",
         start: "GCK=x",
@@ -97,8 +68,15 @@ const SECTIONS: [Section; 7] = [
     },
 ];
 
+/// A rise of the clock behind a change of the data at 100, and what the flip-flop of a library shows then.
+const RISES: [(&str, &str, &str); 3] = [
+    (TIMED_FLIP_FLOP, "149 CK 1", "Q=x !1"),
+    (TIMED_FLIP_FLOP, "150 CK 1", "Q=1@100"),
+    (GUARDED_FLIP_FLOP, "149 CK 1", "Q=1@100"),
+];
+
 /// The stimulus of a section.
-fn stimulus_of(alloc: Global, section: &Section) -> Result<String, Fail> {
+fn stimulus_of(alloc: Global, section: &Section<'_>) -> Result<String, Fail> {
     let mut text = String::from_str(alloc, "cell ")?;
     text.push_str(section.cell)?;
     text.push_str("\n")?;
@@ -127,7 +105,7 @@ fn push_three(text: &mut String, change: &str, shown: &str) -> Result<(), Fail> 
 }
 
 /// The report of a section.
-fn report_of(alloc: Global, section: &Section) -> Result<String, Fail> {
+fn report_of(alloc: Global, section: &Section<'_>) -> Result<String, Fail> {
     let mut text = String::from_str(alloc, "cell ")?;
     text.push_str(section.cell)?;
     text.push_str("\n")?;
@@ -140,7 +118,7 @@ fn report_of(alloc: Global, section: &Section) -> Result<String, Fail> {
 }
 
 /// Whether the cell of a section and its models show what the section says.
-fn shows(alloc: Global, section: &Section) -> Result<bool, Fail> {
+fn shows(alloc: Global, section: &Section<'_>) -> Result<bool, Fail> {
     let stimulus = stimulus_of(alloc, section)?;
     let report = report_of(alloc, section)?;
     let left = simulated_beside_its_own(alloc, section.library, stimulus.as_str())?;
@@ -157,6 +135,22 @@ fn all_show(alloc: Global) -> Result<bool, Fail> {
     Ok(true)
 }
 
+/// Whether the flip-flops show what they have to at each rise.
+fn all_rises_show(alloc: Global) -> Result<bool, Fail> {
+    for (library, rise, shown) in RISES {
+        let section = Section {
+            library,
+            cell: "DFFT",
+            start: "Q=x",
+            lines: &[("10 CK 0", "Q=x"), ("100 D 1", "Q=x"), (rise, shown)],
+        };
+        if !shows(alloc, &section)? {
+            return Ok(false);
+        }
+    }
+    Ok(true)
+}
+
 /// Whether a stimulus of the inverter is done with this report.
 fn reports(alloc: Global, stimulus: &str, report: &str) -> Result<bool, Fail> {
     let left = simulated_beside_its_own(alloc, INVERTER, stimulus)?;
@@ -166,6 +160,7 @@ fn reports(alloc: Global, stimulus: &str, report: &str) -> Result<bool, Fail> {
 #[test]
 fn a_cell_and_its_models_show_the_same(rt: HostRuntime) -> Result<(), Fail> {
     assert!(rt; all_show(rt.alloc())?);
+    assert!(rt; all_rises_show(rt.alloc())?);
     assert!(rt; reports(rt.alloc(), "cell INV", START)?);
     assert!(rt; reports(rt.alloc(), "", "")?);
     Ok(())
@@ -188,12 +183,17 @@ H 30 CK 1 : Q=1@0
 differs at change 3
 ";
 
-/// Whether that is what the flip-flop comes to beside this module and its own entity.
-fn differs(alloc: Global, module: &str, stimulus: &str) -> Result<bool, Fail> {
+/// The row of the flip-flop's module that takes its data where they are 1, and one that gives another value.
+const ROWS: (&str, &str) = ("(01) 1 : ? : 1;", "(01) 1 : ? : 0;");
+
+/// Whether that is what the flip-flop comes to beside its module with the other row and its own entity.
+fn differs(alloc: Global, stimulus: &str) -> Result<bool, Fail> {
     let models = translated(alloc, FLIP_FLOP)?;
+    let module = str::from_utf8(models.desk.written(OutSlot::VerilogText))?;
+    let other = module.replace(alloc, ROWS.0, ROWS.1)?;
     let files = Files {
         library: FLIP_FLOP.as_bytes(),
-        verilog: module.as_bytes(),
+        verilog: other.as_bytes(),
         vital: models.desk.written(OutSlot::VitalText),
         stimulus: stimulus.as_bytes(),
     };
@@ -202,7 +202,6 @@ fn differs(alloc: Global, module: &str, stimulus: &str) -> Result<bool, Fail> {
 
 #[test]
 fn the_first_difference_is_told(rt: HostRuntime) -> Result<(), Fail> {
-    let stimulus = "cell DFF\n10 D 1\n20 CK 0\n30 CK 1\n";
-    assert!(rt; differs(rt.alloc(), OTHER_FLIP_FLOP, stimulus)?);
+    assert!(rt; differs(rt.alloc(), "cell DFF\n10 D 1\n20 CK 0\n30 CK 1\n")?);
     Ok(())
 }

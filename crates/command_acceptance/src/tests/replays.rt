@@ -1,6 +1,6 @@
 //! Runs of `replay-verilog` and `replay-vital`.
-use crate::desks::{Files, Left, REPLAY_VERILOG, REPLAY_VITAL, ran};
-use crate::three_cells::{FIRST_MODULE, THIRD_MODULE};
+use super::desks::{Files, Left, REPLAY_VERILOG, REPLAY_VITAL, ran};
+use super::three_cells::{FIRST_MODULE, THIRD_MODULE};
 use std::alloc::Global;
 use std::test::Fail;
 use translate_cmd::Status;

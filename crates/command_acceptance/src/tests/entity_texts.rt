@@ -1,4 +1,5 @@
 //! What the VHDL file of a library of one cell has to hold.
+use super::texts::{entity_text, tied_entity};
 
 /// A flip-flop with a setup of 50 before the rising clock, and delays of 100 and 120.
 pub(crate) const FLIP_FLOP_ENTITY: &str = "library IEEE;
@@ -43,59 +44,25 @@ end vital;
 ";
 
 /// Four ports, of which VHDL text keeps the name of the first alone.
-pub(crate) const PORTS_ENTITY: &str = "library IEEE;
-use IEEE.std_logic_1164.all;
-use IEEE.VITAL_Timing.all;
-use IEEE.VITAL_Primitives.all;
-entity P is
-  port (a : in std_ulogic; pin2 : in std_ulogic; pin3 : in std_ulogic; pin4 : out std_ulogic);
-end P;
-architecture vital of P is
-begin
-  process (a, pin2, pin3)
-    variable z_1 : std_logic := 'X';
-  begin
-    z_1 := '1';
-    pin4 <= z_1;
-  end process;
-end vital;
-";
+pub(crate) const PORTS_ENTITY: &str = tied_entity!(
+    "P",
+    "a : in std_ulogic; pin2 : in std_ulogic; pin3 : in std_ulogic; pin4 : out std_ulogic",
+    " (a, pin2, pin3)",
+    "    pin4 <= z_1;\n"
+);
 
 /// An output that is tied to 1, beside an input.
-pub(crate) const TIE_ENTITY: &str = "library IEEE;
-use IEEE.std_logic_1164.all;
-use IEEE.VITAL_Timing.all;
-use IEEE.VITAL_Primitives.all;
-entity TIE is
-  port (A : in std_ulogic; Y : out std_ulogic);
-end TIE;
-architecture vital of TIE is
-begin
-  process (A)
-    variable z_1 : std_logic := 'X';
-  begin
-    z_1 := '1';
-    Y <= z_1;
-  end process;
-end vital;
-";
+pub(crate) const TIE_ENTITY: &str = tied_entity!(
+    "TIE",
+    "A : in std_ulogic; Y : out std_ulogic",
+    " (A)",
+    "    Y <= z_1;\n"
+);
 
 /// An output that is tied to 1, alone: the process responds to no signal.
-pub(crate) const LONE_TIE_ENTITY: &str = "library IEEE;
-use IEEE.std_logic_1164.all;
-use IEEE.VITAL_Timing.all;
-use IEEE.VITAL_Primitives.all;
-entity TIE is
-  port (Y : out std_ulogic);
-end TIE;
-architecture vital of TIE is
-begin
-  process
-    variable z_1 : std_logic := 'X';
-  begin
-    z_1 := '1';
-    Y <= z_1;
-    wait;
-  end process;
-end vital;
-";
+pub(crate) const LONE_TIE_ENTITY: &str = tied_entity!(
+    "TIE",
+    "Y : out std_ulogic",
+    "",
+    "    Y <= z_1;\n    wait;\n"
+);

@@ -1,6 +1,6 @@
 //! An inverter, its models and a short stimulus, and what they come to.
-use crate::desks::Files;
-use crate::three_cells::{FIRST_ENTITY, FIRST_MODULE};
+use super::desks::Files;
+use super::three_cells::{FIRST_ENTITY, FIRST_MODULE};
 
 /// A library of one cell.
 pub(crate) const LIBRARY: &str = "library (L) {

@@ -1,6 +1,6 @@
 //! Simulations that end at one of the four files. The first that is refused decides.
-use crate::desks::{Files, simulated, simulated_beside_its_own, translated};
-use crate::libraries::INVERTER;
+use super::desks::{Files, simulated, simulated_beside_its_own, translated};
+use super::libraries::INVERTER;
 use std::alloc::Global;
 use std::test::Fail;
 use text_io::OutSlot;

@@ -1,5 +1,5 @@
 //! A scan flip-flop that is translated, and the line on its test cell.
-use crate::desks::translated;
+use super::desks::translated;
 use std::alloc::Global;
 use std::test::Fail;
 use text_io::OutSlot;

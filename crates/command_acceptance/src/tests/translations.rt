@@ -1,8 +1,9 @@
 //! Libraries that are translated, from bytes to bytes.
-use crate::desks::translated;
-use crate::entity_texts::{FLIP_FLOP_ENTITY, LONE_TIE_ENTITY, PORTS_ENTITY, TIE_ENTITY};
-use crate::libraries::{CLOCK_GATE, TIMED_FLIP_FLOP};
-use crate::three_cells::{
+use super::desks::translated;
+use super::entity_texts::{FLIP_FLOP_ENTITY, LONE_TIE_ENTITY, PORTS_ENTITY, TIE_ENTITY};
+use super::libraries::{CLOCK_GATE, TIMED_FLIP_FLOP};
+use super::texts::tied_module;
+use super::three_cells::{
     FIRST_ENTITY, FIRST_MODULE, NO_MODULE, THIRD_ENTITY, THIRD_MODULE, THREE_CELLS, THREE_LINES,
 };
 use std::alloc::Global;
@@ -58,15 +59,12 @@ pin (a) { direction : input; } pin (A) { direction : input; } pin (end) { direct
 pin (D_1) { direction : output; function : \"1\"; } } }";
 
 /// Its Verilog.
-const PORTS_MODULE: &str = "`timescale 1ps/1ps
-module P (a, A, pin3, D_1);
-  input a;
-  input A;
-  input pin3;
-  output D_1;
-  buf (D_1, 1'b1);
-endmodule
-";
+const PORTS_MODULE: &str = tied_module!(
+    "P",
+    "a, A, pin3, D_1",
+    "  input a;\n  input A;\n  input pin3;\n",
+    "D_1"
+);
 
 /// The module of a clock gate.
 const CLOCK_GATE_MODULE: &str = "module GATE (CK, E, SE, GCK);
@@ -154,25 +152,14 @@ cell (TIE) { pin (A) { direction : input } pin (Y) { function : \"1\" ; directio
 }";
 
 /// Its Verilog.
-const TIE_MODULE: &str = "`timescale 1ps/1ps
-module TIE (A, Y);
-  input A;
-  output Y;
-  buf (Y, 1'b1);
-endmodule
-";
+const TIE_MODULE: &str = tied_module!("TIE", "A, Y", "  input A;\n", "Y");
 
 /// An output alone.
 const LONE_TIE: &str =
     "library (L) { cell (TIE) { pin (Y) { direction : output; function : \"1\"; } } }";
 
 /// Its Verilog.
-const LONE_TIE_MODULE: &str = "`timescale 1ps/1ps
-module TIE (Y);
-  output Y;
-  buf (Y, 1'b1);
-endmodule
-";
+const LONE_TIE_MODULE: &str = tied_module!("TIE", "Y", "", "Y");
 
 /// Whether the library of three cells is translated to the models of two.
 fn translates_three_cells(alloc: Global) -> Result<bool, Fail> {

@@ -1,5 +1,5 @@
 //! Runs of `selftest`.
-use crate::desks::ran_without_files;
+use super::desks::ran_without_files;
 use std::alloc::Global;
 use std::test::Fail;
 use translate_cmd::Status;

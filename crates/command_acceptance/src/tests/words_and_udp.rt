@@ -1,8 +1,8 @@
 //! Runs of `udp` and of words without a reading.
-use crate::desks::{desk_of, library_alone, ran_without_files, words_of};
+use super::desks::{Limits, desk_of, library_alone, ran_without_files, words_of};
 use std::alloc::Global;
 use std::test::Fail;
-use text_io::{OutSlot, SureDesk};
+use text_io::{MemoryDesk, OutSlot, SureDesk};
 use translate_cmd::{Status, run, run_sure};
 
 /// The primitive of a conjunction.
@@ -48,11 +48,21 @@ fn primitives_are_printed(rt: HostRuntime) -> Result<(), Fail> {
     Ok(())
 }
 
+/// Runs words that name no file on a desk with this room in each output, in bytes.
+fn ran_in_room(alloc: Global, words: &[&str], room: usize) -> Result<(Status, MemoryDesk), Fail> {
+    let limits = Limits {
+        failing: &[],
+        room,
+        piece: usize::MAX,
+    };
+    let mut desk = desk_of(alloc, words, library_alone(b""), limits)?;
+    let status = run(alloc, &mut desk);
+    Ok((status, desk))
+}
+
 /// Whether a function of ten names has a row for each of their values, in an output with room for 100,000 bytes.
 fn has_all_rows(alloc: Global, function: &str) -> Result<bool, Fail> {
-    let words = ["udp", "XOR", function];
-    let mut desk = desk_of(alloc, &words, library_alone(b""), &[], 100_000, usize::MAX)?;
-    let status = run(alloc, &mut desk);
+    let (status, desk) = ran_in_room(alloc, &["udp", "XOR", function], 100_000)?;
     let report = desk.written(OutSlot::Report);
     let colons = report.iter().filter(|byte| **byte == b':').count();
     Ok(status == Status::Done && colons == 1024)
@@ -96,9 +106,7 @@ fn words_without_a_reading_are_usage(rt: HostRuntime) -> Result<(), Fail> {
 
 /// Whether a run that fills the room of the report ends with what there was room for.
 fn ends_where_it_is_full(alloc: Global) -> Result<bool, Fail> {
-    let words = ["udp", "AND2", "A*B"];
-    let mut desk = desk_of(alloc, &words, library_alone(b""), &[], 10, usize::MAX)?;
-    let status = run(alloc, &mut desk);
+    let (status, desk) = ran_in_room(alloc, &["udp", "AND2", "A*B"], 10)?;
     let report = desk.written(OutSlot::Report);
     Ok(status.code() == 7 && report == b"primitive ".as_slice())
 }

@@ -82,7 +82,7 @@ fn always(cursor: &mut Cursor, uses: Uses) -> Read<(HGate, Uses)>
 }
 
 /// When a path counts, and the lists.
-#[tactic(auto, unfolding(vhdl_text::specs::VhdlOutputs::gate_of), using(rule_readers::proofs::Repeats::choose_begun, rule_readers::proofs::Repeats::choose_other))]
+#[tactic(auto, using(crate::proofs::NextGate::gated, crate::proofs::NextGate::ungated))]
 fn gate_of(cursor: &mut Cursor, scope: &Declarations, uses: Uses) -> Read<(HGate, Uses)>
     ensures { Reads (read (spec.gate_of scope.now uses) cursor.old) result cursor.new }
 {

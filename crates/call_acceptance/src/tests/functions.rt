@@ -96,7 +96,7 @@ fn finds_other_faults(rt: HostRuntime) -> Result<(), Fail> {
 }
 
 /// Whether a text has one name.
-fn has_one_name(alloc: Global, text: &[u8]) -> Result<bool, FunctionFault> {
+fn has_one_name(alloc: Global, text: &[u8]) -> Result<bool, Fail> {
     let (function, _names) = read_free(alloc, text)?;
     Ok(function.support(alloc)?.len() == 1)
 }
@@ -105,7 +105,7 @@ fn has_one_name(alloc: Global, text: &[u8]) -> Result<bool, FunctionFault> {
 fn reads_inversions(alloc: Global, count: usize) -> Result<bool, Fail> {
     let mut text = vec![in alloc; b'!'; count]?;
     text.push(b'A')?;
-    Ok(has_one_name(alloc, &text)?)
+    has_one_name(alloc, &text)
 }
 
 /// Whether a name within so many brackets is read.

@@ -1,5 +1,5 @@
 -- The text of the section of a cell beside the models that stand for it: how far it was appended, and whether it differs.
-use Rattle.std.proofs.Common.{◌≡◌, ◌<◌, ◌≤◌, ℕ, Bool, List, ◌++◌, length, take, get_or, ◌+◌, ◌||◌, Option, is_some, Result, Ok, Err, IfOk, IsErr, IsErrAnd, sym, ap, subst, ◌∙◌}
+use Rattle.std.proofs.Common.{◌≡◌, ◌<◌, ◌≤◌, ℕ, Bool, List, ◌++◌, length, take, get_or, ◌+◌, ◌||◌, Option, is_some, Result, Ok, Err, IfOk, IsErr, IsErrAnd, Some, sym, ap, subst, ◌∙◌}
 use Rattle.std.specs.List.{list_any}
 use Rattle.std.proofs.lemmas.List.{take_all}
 use Rattle.std.proofs.lemmas.List.Folds.{list_any_more}
@@ -8,6 +8,7 @@ use Rattle.text_io.specs.declared.slots.OutSlot.TheVariants.{Report}
 use Rattle.text_io.specs.Desk.{DeskState, wrote, WritesText, HasCause as HasWriteCause}
 use Rattle.text_io.proofs.Wrote.{wrote_more, IsPrefix-front}
 use Rattle.cell_machine.specs.declared.changes.Change.{Change}
+use Rattle.cell_machine.specs.declared.cells.Cell.{Cell}
 use Rattle.cell_machine.specs.CellData.{data_of}
 use Rattle.cell_machine.specs.CellTrace.{cell_machine_of}
 use Rattle.cell_machine.specs.Lines.{Machine}
@@ -16,6 +17,7 @@ use Rattle.specify_blocks.specs.declared.model.VModule.{VModule}
 use Rattle.vital_models.specs.declared.model.VEntity.{VEntity}
 use Rattle.model_traces.specs.ModuleTrace.{module_machine}
 use Rattle.model_traces.specs.EntityTrace.{entity_machine}
+use Rattle.stimulus.specs.declared.ports.Ports.{Ports}
 use Rattle.stimulus.specs.declared.sections.Section.{Section}
 use Rattle.section_runs.specs.declared.faults.RunFault.{RunFault}
 use Rattle.section_runs.specs.declared.faults.RunFault.TheVariants as fault
@@ -23,9 +25,32 @@ use Rattle.section_runs.specs.TraceText.{heading_text}
 use Rattle.section_runs.specs.Comparison.{HavePorts, three_lines, compared_text, first_unlike, verdict_text}
 use Rattle.section_runs.specs.Writes.{WritesTrace, HasCause}
 use Rattle.section_runs.proofs.Runs.{behind, stops_before, written_part}
-use Rattle.simulation_catalog.specs.Comparisons.{Compared, lines_of, compared_section, section_by, section_text, differs_by, differs, any_differs}
+use Rattle.simulation_catalog.specs.Sections.{CanBeCompared}
+use Rattle.simulation_catalog.specs.Comparisons.{Compared, compared_at, lines_of, compared_section, section_by, section_text, differs_by, differs, any_differs}
 use Rattle.model_simulation.specs.declared.comparisons.Beside.{Beside}
-use Rattle.model_simulation.specs.Besides.{compared_with, compared_of, IsRunOn}
+use Rattle.model_simulation.specs.Besides.{compared_with, compared_of, CanBeGiven, IsRunOn}
+
+-- What stands for the cell of a section, with the cell's models, is what the section can be run on.
+
+pub runs_on : (cells : List CellEntry) (modules : List VModule) (entities : List VEntity) (section : Section) (run : CanBeCompared cells modules entities section)
+    (cell : Cell) (ports : Ports) (verilog : VModule) (vital : VEntity) → data_of cell ≡ run.cell → ports ≡ run.ports → verilog ≡ run.verilog → vital ≡ run.vital
+    → compared_at cells modules entities section.cell ≡ Some (compared_with cell.name ports (cell_machine_of (data_of cell)) (module_machine verilog) (entity_machine vital))
+runs_on cells modules entities section run cell ports verilog vital d p m e =
+    run.is_compared ∙ sym (λ i. Some (compared_with (d i).name (p i) (cell_machine_of (d i)) (module_machine (m i)) (entity_machine (e i))))
+
+pub can_be_given : (cells : List CellEntry) (modules : List VModule) (entities : List VEntity) (section : Section) (beside : Beside) (run : CanBeCompared cells modules entities section)
+    → data_of beside.cell.now ≡ run.cell → beside.ports.now ≡ run.ports → beside.module.now ≡ run.verilog → beside.entity.now ≡ run.vital
+    → CanBeGiven beside section
+can_be_given cells modules entities section beside run d p m e = record {
+  sound_module = rw m run.sound_module;
+  sound_entity = rw e run.sound_entity;
+  have_ports =
+      subst (λ x. HavePorts x (cell_machine_of (data_of beside.cell.now)) (module_machine beside.module.now) (entity_machine beside.entity.now)) (sym p)
+      (subst (λ x. HavePorts run.ports (cell_machine_of x) (module_machine beside.module.now) (entity_machine beside.entity.now)) (sym d)
+      (subst (λ x. HavePorts run.ports (cell_machine_of run.cell) (module_machine x) (entity_machine beside.entity.now)) (sym m)
+      (subst (λ x. HavePorts run.ports (cell_machine_of run.cell) (module_machine run.verilog) (entity_machine x)) (sym e) run.have_ports)));
+  proper = rw p run.proper;
+}
 
 -- What is appended for what the section is run on is the section's text, and it differs so.
 

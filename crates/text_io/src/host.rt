@@ -8,19 +8,29 @@ ghost use Rattle.text_io.specs.Host.{file_state, file_faults, untold};
 use crate::each_slot::{Inputs, Outputs};
 use crate::opened::OpenedFile;
 use crate::outside::{Desk, Failed};
+use crate::size_limit::SizeLimit;
 use crate::slots::{InSlot, OutSlot};
-use std::fs::File;
+use std::fs::{self, File, Metadata};
 use std::io;
 use std::io::{ErrorKind, Read, Write};
 
+/// The files that the standard output and the standard error are, as Linux names them.
+const STANDARD_OUTPUT: &str = "/proc/self/fd/1";
+
+const STANDARD_ERROR: &str = "/proc/self/fd/2";
+
+/// More bytes than a message has beside the name of its file.
+const MESSAGE_BYTES: u64 = 256;
+
 /// A desk over real files. The report is the standard output and the faults are the standard error. It tells no
-/// content, and counts a fault at each error of the system, at each write that takes nothing, and at a regular file
-/// that is to be made empty and is open on the desk already, by whatever path. Of each fault it says one line on the
-/// standard error, `lib2sim: PATH: REASON`, as far as that can be written.
+/// content, and counts a fault at each error of the system, at each write that takes nothing, at one to a file that has the
+/// greatest size that the system allows, and at a regular file that is to be made empty and is open on the desk already, by
+/// whatever path. Of each fault it says one line on the standard error, `lib2sim: PATH: REASON`, as far as that can be written.
 #[derive(Drop)]
 pub struct FileDesk {
     rt: HostRuntime,
     words: Vec<String>,
+    sizes: SizeLimit,
     inputs: Inputs<Option<OpenedFile>>,
     outputs: Outputs<Option<OpenedFile>>,
     faults: u64,
@@ -33,9 +43,11 @@ impl FileDesk {
         ensures state { file_state result ≡ untold (map string_bytes words.items) }
         ensures faults { file_faults result ≡ 0 }
     {
+        let sizes = SizeLimit::of_process(&rt);
         FileDesk {
             rt,
             words,
+            sizes,
             inputs: Inputs {
                 library: None,
                 verilog: None,
@@ -104,17 +116,44 @@ impl FileDesk {
         Ok(opened)
     }
 
+    /// What the system knows of the file that a slot is written to.
+    fn metadata(&self, slot: OutSlot) -> io::Result<Metadata> {
+        match slot {
+            OutSlot::VerilogText | OutSlot::VitalText => metadata_of(self.outputs.get(slot)),
+            OutSlot::Report => fs::metadata(&self.rt, STANDARD_OUTPUT),
+            OutSlot::Faults => fs::metadata(&self.rt, STANDARD_ERROR),
+        }
+    }
+
+    /// How many bytes the file of a slot can still take, as far as the system tells.
+    fn room(&self, slot: OutSlot) -> u64 {
+        if !self.sizes.is_known() {
+            return u64::MAX;
+        }
+        match self.metadata(slot) {
+            Ok(metadata) => self.sizes.room(&metadata),
+            Err(_) => u64::MAX,
+        }
+    }
+
     /// Says why a call failed, as far as that can be written.
     fn say(&self, name: &str, error: &io::Error) {
+        if self.room(OutSlot::Faults) < (name.len() as u64).saturating_add(MESSAGE_BYTES) {
+            return;
+        }
         let _ = self.rt.eprintln(format_args!("lib2sim: {name}: {error}"));
     }
 
-    /// Writes some of the bytes to a slot that is bound, and answers how many.
+    /// Writes some of the bytes, of which there is one, to a slot that is bound, and answers how many.
     #[tactic(auto, unfolding(crate::specs::Host::reads_files))]
     fn write_some(&self, slot: OutSlot, bytes: &[u8]) -> io::Result<usize>
         requires { IsTrue (is_bound (file_state self.now) (Output slot)) }
         ensures { IfOk result (λ count. count ≤ length bytes.now) }
     {
+        let bytes = front(bytes, self.room(slot));
+        if bytes.is_empty() {
+            return Err(io::Error::from(ErrorKind::FileTooLarge));
+        }
         match slot {
             OutSlot::VerilogText => write_file(self.outputs.get(slot), bytes),
             OutSlot::VitalText => write_file(self.outputs.get(slot), bytes),
@@ -156,6 +195,24 @@ fn open_file(opened: &Option<OpenedFile>) -> &File
     match opened {
         Some(opened) => &opened.file,
         None => unreachable!(),
+    }
+}
+
+/// What the system knows of the file that is open.
+fn metadata_of(opened: &Option<OpenedFile>) -> io::Result<Metadata> {
+    match opened {
+        Some(opened) => opened.file.metadata(),
+        None => Err(io::Error::from(ErrorKind::NotFound)),
+    }
+}
+
+/// The bytes that there is room for.
+fn front(bytes: &[u8], room: u64) -> &[u8]
+    ensures { length result.now ≤ length bytes.now }
+{
+    match usize::try_from(room) {
+        Ok(room) if room < bytes.len() => &bytes[..room],
+        _ => bytes,
     }
 }
 

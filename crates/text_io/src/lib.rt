@@ -16,6 +16,7 @@ mod piece;
 mod reading;
 mod sink;
 mod sinks;
+mod size_limit;
 mod slots;
 mod sure;
 mod writing;

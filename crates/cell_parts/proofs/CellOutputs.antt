@@ -14,7 +14,6 @@ use Rattle.bool_functions.specs.Tree.{names_of}
 use Rattle.bool_functions.specs.Support.{support_of}
 use Rattle.bool_functions.specs.NameList.{number_of}
 use Rattle.bool_functions.specs.FunctionText.{reading_of}
-use Rattle.statetables.specs.declared.table.StateTable.{StateTable}
 use Rattle.cell_machine.specs.declared.groups.StateGroup.{StateGroup}
 use Rattle.cell_machine.specs.declared.outputs.OutputPin.{OutputPin}
 use Rattle.cell_machine.specs.declared.pins.Direction.{Direction}
@@ -28,16 +27,16 @@ use Rattle.cell_parts.specs.declared.texts.Scope.TheVariants as scope
 use Rattle.cell_parts.specs.declared.texts.Text.{Text}
 use Rattle.cell_parts.specs.declared.texts.Text.TheVariants as text
 use Rattle.cell_parts.specs.declared.state_readings.StateReading.{StateReading}
-use Rattle.cell_parts.specs.Groups.{names_in, pin_groups, state_groups}
+use Rattle.cell_parts.specs.Groups.{pin_groups, state_groups}
 use Rattle.cell_parts.specs.Pins.{direction_of, pin_as, pins_in, pins_of, owner_as, owners_in, owners_of}
-use Rattle.cell_parts.specs.States.{Arguments, StateName, arguments_of, is_table, node_named, states_with, states_in, states_of}
+use Rattle.cell_parts.specs.States.{StateName, arguments_of, states_in, states_of}
 use Rattle.cell_parts.specs.Scans.{is_output_group, is_missing, no_function_in}
 use Rattle.cell_parts.specs.Vocabulary.{Vocabulary, vocabulary}
 use Rattle.cell_parts.specs.Texts.{is_coupled, class_at, use_at, has_unknown, has_coupled, judged_tree, judged, text_as, is_node_class, node_at, malformed_at, unknown_at, coupled_at}
-use Rattle.cell_parts.specs.StateReadings.{is_ff, state_reading}
+use Rattle.cell_parts.specs.StateReadings.{state_reading}
 use Rattle.cell_parts.specs.Outputs.{output_with, output_text, pin_text_as, pin_text}
 use Rattle.cell_parts.specs.Limits.{wide_text, wide_output}
-use Rattle.cell_parts.specs.Building.{function_of, node_groups, table_in, groups_with, groups_in, groups_from, sources_of, output_pin, output_in, outputs_from}
+use Rattle.cell_parts.specs.Building.{function_of, groups_in, groups_from, sources_of, output_pin, output_in, outputs_from}
 use Rattle.cell_parts.specs.CellLaws.{numbers_of, groups_of, outputs_of, OutputsKeepRules}
 use Rattle.cell_parts.proofs.Distinct.{nil_parts}
 use Rattle.cell_parts.proofs.Members.{all_map}

@@ -20,7 +20,7 @@ use Rattle.cell_machine.specs.declared.outputs.Source.TheVariants as source
 use Rattle.cell_machine.specs.declared.outputs.OutputPin.{OutputPin}
 use Rattle.timing_arcs.specs.Attributes.{Attribute, attribute_of}
 use Rattle.cell_parts.specs.declared.vocabulary.Class.{Class}
-use Rattle.cell_parts.specs.declared.vocabulary.Class.TheVariants.{Input, Driven, Alias, Shared, Node as NodeClass, Variable}
+use Rattle.cell_parts.specs.declared.vocabulary.Class.TheVariants.{Input, Driven}
 use Rattle.cell_parts.specs.declared.texts.Text.{Text}
 use Rattle.cell_parts.specs.declared.texts.Text.TheVariants as text
 use Rattle.cell_parts.specs.declared.state_readings.StateReading.{StateReading}

@@ -83,6 +83,12 @@ judged_tree classes scope at f =
     if has_unknown classes scope f then text.Unknown at
     else (if has_coupled classes scope f then text.Coupled at else text.Reads f at)
 
+-- What a text with this tree is, where the worst of its names is this to it.
+abbrev pub used_as : Use → ℕ → Tree → Text
+used_as use_.Allowed at f = text.Reads f at
+used_as use_.Unknown at f = text.Unknown at
+used_as use_.Coupled at f = text.Coupled at
+
 -- What a text with this reading is, in a statement at this offset.
 abbrev pub judged : List Class → Scope → ℕ → Result Tree FunctionFault → Text
 judged classes scope at (Ok f) = judged_tree classes scope at f

@@ -202,8 +202,21 @@ fn clash_at(known: &Known, one: &Declared<'_>) -> Option<usize>
     }
 }
 
-/// The least offset of a name that clashes with an earlier one.
+/// The least offset of a name that clashes with an earlier one, where none is declared so far. The names become declared.
 #[tactic(auto, using(crate::proofs::LeastLemmas::lesser_none))]
+fn clash_among(known: &mut Known, declared: &[Declared<'_>]) -> Result<Option<usize>, AllocError>
+    requires { IsKnown [] known.old }
+    ensures { IfOk result (λ at. at ≡ least (clashes_after [] (map shown_name declared.now))) }
+{
+    let mut found = None;
+    for later in declared {
+        found = lesser(found, clash_at(known, later));
+        add(known, later)?;
+    }
+    Ok(found)
+}
+
+/// The least offset of a name that clashes with an earlier one.
 pub fn first_clash(alloc: Global, declared: &[Declared<'_>]) -> Result<Option<usize>, AllocError>
     ensures { IfOk result (λ at. at ≡ least (clashes_after [] (map shown_name declared.now))) }
 {
@@ -212,12 +225,7 @@ pub fn first_clash(alloc: Global, declared: &[Declared<'_>]) -> Result<Option<us
         bearers: Names::new(alloc),
         nodes: Names::new(alloc),
     };
-    let mut found = None;
-    for later in declared {
-        found = lesser(found, clash_at(&known, later));
-        add(&mut known, later)?;
-    }
-    Ok(found)
+    clash_among(&mut known, declared)
 }
 
 /// Whether a byte may stand in a name: it is printable and no space.

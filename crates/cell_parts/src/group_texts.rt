@@ -1,5 +1,5 @@
 //! The texts of an `ff` or `latch`.
-ghost use Rattle.std.specs.Prelude.{◌≡◌, IfOk, codes};
+ghost use Rattle.std.specs.Prelude.{◌≡◌, Ok, IfOk, codes};
 ghost use Rattle.std.specs.Option.{option_map};
 ghost use Rattle.timing_arcs.specs.Attributes.{attribute_of};
 ghost use Rattle.cell_parts.specs.declared.texts.Scope.TheVariants as scope_of;
@@ -53,15 +53,36 @@ pub(crate) struct DrivingNames {
     pub(crate) control: &'static [u8],
 }
 
-/// The texts of an `ff` or `latch`.
+/// What is read of the four attributes of an `ff` or `latch` that have a function text.
 #[derive(Drop)]
-pub(crate) struct GroupTexts {
+pub(crate) struct GroupTexts<T> {
     /// `next_state` or `data_in`.
-    pub(crate) data_text: Text,
+    pub(crate) data_text: T,
     /// `clocked_on` or `enable`.
-    pub(crate) control: Text,
-    pub(crate) clear: Text,
-    pub(crate) preset: Text,
+    pub(crate) control: T,
+    pub(crate) clear: T,
+    pub(crate) preset: T,
+}
+
+/// What is read of the four attributes, where each was read. It is a function of any type, so that what the others own is let go at
+/// one place where one was not.
+fn all_read<T: Drop>(
+    data_text: Result<T, AllocError>,
+    control: Result<T, AllocError>,
+    clear: Result<T, AllocError>,
+    preset: Result<T, AllocError>,
+) -> Result<GroupTexts<T>, AllocError>
+    ensures data_text { IfOk result (λ texts. data_text ≡ Ok texts.data_text) }
+    ensures control { IfOk result (λ texts. control ≡ Ok texts.control) }
+    ensures clear { IfOk result (λ texts. clear ≡ Ok texts.clear) }
+    ensures preset { IfOk result (λ texts. preset ≡ Ok texts.preset) }
+{
+    Ok(GroupTexts {
+        data_text: data_text?,
+        control: control?,
+        clear: clear?,
+        preset: preset?,
+    })
 }
 
 /// The texts of a group, where the attributes of these names drive its state.
@@ -70,21 +91,16 @@ pub(crate) fn group_texts(
     vocabulary: &Vocabulary<'_>,
     group: &Group,
     names: DrivingNames,
-) -> Result<GroupTexts, AllocError>
+) -> Result<GroupTexts<Text>, AllocError>
     ensures data_text { IfOk result (λ texts. texts.data_text ≡ text_as_of (shown_vocabulary vocabulary.now) (own_scope_of (shown_vocabulary vocabulary.now) (arguments_of_group group.now)) (attribute_of group.now names.data.now)) }
     ensures control { IfOk result (λ texts. texts.control ≡ text_as_of (shown_vocabulary vocabulary.now) scope_of.Control (attribute_of group.now names.control.now)) }
     ensures clear { IfOk result (λ texts. texts.clear ≡ text_as_of (shown_vocabulary vocabulary.now) scope_of.Control (attribute_of group.now (codes "clear"))) }
     ensures preset { IfOk result (λ texts. texts.preset ≡ text_as_of (shown_vocabulary vocabulary.now) scope_of.Control (attribute_of group.now (codes "preset"))) }
 {
     let own = own_scope(vocabulary, arguments_of(group));
-    let data_text = named_text(alloc, vocabulary, own, group, names.data)?;
-    let control = named_text(alloc, vocabulary, Scope::Control, group, names.control)?;
-    let clear = named_text(alloc, vocabulary, Scope::Control, group, b"clear")?;
-    let preset = named_text(alloc, vocabulary, Scope::Control, group, b"preset")?;
-    Ok(GroupTexts {
-        data_text,
-        control,
-        clear,
-        preset,
-    })
+    let data_text = named_text(alloc, vocabulary, own, group, names.data);
+    let control = named_text(alloc, vocabulary, Scope::Control, group, names.control);
+    let clear = named_text(alloc, vocabulary, Scope::Control, group, b"clear");
+    let preset = named_text(alloc, vocabulary, Scope::Control, group, b"preset");
+    all_read(data_text, control, clear, preset)
 }

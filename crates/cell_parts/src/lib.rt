@@ -4,6 +4,7 @@
 pub mod declarations;
 mod group_texts;
 pub mod groups;
+mod held;
 mod laws;
 pub mod least;
 pub mod outputs;

@@ -5,6 +5,7 @@ ghost use Rattle.cell_parts.specs.Shown.{shown_vocabulary};
 
 use crate::group_texts::{DrivingNames, group_texts};
 use crate::groups::{is_called, is_missing};
+use crate::held::held_with;
 use crate::states::{arguments_of, is_table, states_in};
 use crate::supports::{pins_among, support_of};
 use crate::table_inputs::{has_coupled_word, has_unknown_word, input_words, numbers_of};
@@ -130,7 +131,8 @@ impl Readings<'_, '_> {
             &texts.control,
             &texts.clear,
             &texts.preset,
-        )?;
+        );
+        let (texts, support) = held_with(texts, support)?;
         Ok(StateReading {
             at: group.at,
             holds,

@@ -1,10 +1,10 @@
 //! The function texts of a cell: what each may name, and what is wrong with it.
-ghost use Rattle.std.specs.Prelude.{◌≡◌, IfOk};
+ghost use Rattle.std.specs.Prelude.{◌≡◌, ℕ, IfOk};
 ghost use Rattle.std.specs.List.{list_any};
 ghost use Rattle.std.specs.Option.{option_map};
 ghost use Rattle.timing_arcs.specs.Timing.{least};
 ghost use Rattle.timing_arcs.specs.Shown.{shown};
-ghost use Rattle.cell_parts.specs.Texts.{control_use as control_use_of, own_use as own_use_of, function_use as function_use_of, state_function_use as state_function_use_of, use_of as use_of_name, use_at as use_at_place, is_unknown as is_unknown_use, is_coupled as is_coupled_use, class_at as class_at_place, is_number as is_number_of, judged_tree, text_as as text_of, is_node_class as is_node_class_of, node_text as node_text_of, malformed_at as malformed_at_of, unknown_at as unknown_at_of, coupled_at as coupled_at_of};
+ghost use Rattle.cell_parts.specs.Texts.{control_use as control_use_of, own_use as own_use_of, function_use as function_use_of, state_function_use as state_function_use_of, use_of as use_of_name, use_at as use_at_place, is_unknown as is_unknown_use, is_coupled as is_coupled_use, class_at as class_at_place, is_number as is_number_of, used_as, judged_tree, text_as as text_of, is_node_class as is_node_class_of, node_text as node_text_of, malformed_at as malformed_at_of, unknown_at as unknown_at_of, coupled_at as coupled_at_of};
 ghost use Rattle.cell_parts.specs.Shown.{shown_vocabulary};
 
 use crate::vocabulary::{Class, Vocabulary};
@@ -178,6 +178,25 @@ fn has_coupled(classes: &[Class], scope: Scope, support: &[usize]) -> bool
         .any(|i| use_at(classes, scope, *i).is_coupled())
 }
 
+/// What the worst of a function's names is to a text of this scope: unknown names are worse than coupled ones.
+fn worst_use(
+    alloc: Global,
+    classes: &[Class],
+    scope: Scope,
+    function: &Function,
+) -> Result<Use, AllocError>
+    ensures { IfOk result (λ worst. (at : ℕ) → used_as worst at function.now ≡ judged_tree classes.now scope at function.now) }
+{
+    let support = function.support(alloc)?;
+    if has_unknown(classes, scope, &support) {
+        Ok(Use::Unknown)
+    } else if has_coupled(classes, scope, &support) {
+        Ok(Use::Coupled)
+    } else {
+        Ok(Use::Allowed)
+    }
+}
+
 /// What a text with this tree is.
 fn judge(
     alloc: Global,
@@ -188,13 +207,10 @@ fn judge(
 ) -> Result<Text, AllocError>
     ensures { IfOk result (λ text. text ≡ judged_tree classes.now scope at function) }
 {
-    let support = function.support(alloc)?;
-    if has_unknown(classes, scope, &support) {
-        Ok(Text::Unknown(at))
-    } else if has_coupled(classes, scope, &support) {
-        Ok(Text::Coupled(at))
-    } else {
-        Ok(Text::Reads { function, at })
+    match worst_use(alloc, classes, scope, &function)? {
+        Use::Allowed => Ok(Text::Reads { function, at }),
+        Use::Unknown => Ok(Text::Unknown(at)),
+        Use::Coupled => Ok(Text::Coupled(at)),
     }
 }
 

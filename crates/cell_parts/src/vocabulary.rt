@@ -1,7 +1,7 @@
 //! The names that the function texts of a cell may name, and what each is.
-ghost use Rattle.std.specs.Prelude.{◌≡◌, ◌++◌, OnOk, IfOk, map, flat_map};
+ghost use Rattle.std.specs.Prelude.{◌≡◌, ◌++◌, [], OnOk, IfOk, map, flat_map};
 ghost use Rattle.std.specs.Option.{option_map};
-ghost use Rattle.cell_parts.specs.Vocabulary.{is_node as is_node_of, internal_class as internal_class_of, class_as, is_bound as is_bound_of, target_as as target_as_of, pin_entries, state_entries, entries_of as entries_of_cell, firsts_after, entry_names, entry_classes, entry_targets, vocabulary_of};
+ghost use Rattle.cell_parts.specs.Vocabulary.{is_node as is_node_of, internal_class as internal_class_of, class_as, is_bound as is_bound_of, target_as as target_as_of, pin_entries, state_entries, entries_of as entries_of_cell, firsts_after, entry_names, entry_classes, entry_targets, vocabulary_of as vocabulary_of_cell};
 ghost use Rattle.timing_arcs.specs.Shown.{shown};
 ghost use Rattle.cell_parts.specs.Pins.{direction_of as direction_of_group};
 ghost use Rattle.cell_parts.specs.Shown.{shown_state, shown_entry};
@@ -196,29 +196,46 @@ fn entries_of<'a>(
     Ok(entries)
 }
 
+/// Adds the entries whose names are not there yet, in order.
+fn add_entries<'a>(vocabulary: &mut Vocabulary<'a>, entries: &[Entry<'a>]) -> Result<(), AllocError>
+    ensures names { OnOk result (vocabulary.new.names ≡ vocabulary.old.names ++ entry_names (firsts_after vocabulary.old.names (map shown_entry entries.now))) }
+    ensures classes { OnOk result (vocabulary.new.classes.items ≡ vocabulary.old.classes.items ++ entry_classes (firsts_after vocabulary.old.names (map shown_entry entries.now))) }
+    ensures targets { OnOk result (map (λ name. name.now) vocabulary.new.targets.items ≡ map (λ name. name.now) vocabulary.old.targets.items ++ entry_targets (firsts_after vocabulary.old.names (map shown_entry entries.now))) }
+{
+    for entry in entries {
+        if vocabulary.names.add(entry.name)?.is_some() {
+            vocabulary.classes.push(entry.class)?;
+            vocabulary.targets.push(entry.target)?;
+        }
+    }
+    Ok(())
+}
+
+/// The names of some entries, each with what it is. Of entries of one name the first counts.
+fn vocabulary_of<'a>(alloc: Global, entries: &[Entry<'a>]) -> Result<Vocabulary<'a>, AllocError>
+    ensures names { IfOk result (λ v. v.names ≡ entry_names (firsts_after [] (map shown_entry entries.now))) }
+    ensures classes { IfOk result (λ v. v.classes.items ≡ entry_classes (firsts_after [] (map shown_entry entries.now))) }
+    ensures targets { IfOk result (λ v. map (λ name. name.now) v.targets.items ≡ entry_targets (firsts_after [] (map shown_entry entries.now))) }
+{
+    let mut vocabulary = Vocabulary {
+        names: Names::new(alloc),
+        classes: Vec::new(alloc),
+        targets: Vec::new(alloc),
+    };
+    add_entries(&mut vocabulary, entries)?;
+    Ok(vocabulary)
+}
+
 /// The names that texts may name, each with what it is. Of entries of one name the first counts.
 pub fn read_vocabulary<'a>(
     alloc: Global,
     states: &[StateName<'a>],
     pins: &[&'a Group],
 ) -> Result<Vocabulary<'a>, AllocError>
-    ensures names { IfOk result (λ v. v.names ≡ entry_names (vocabulary_of (map shown_state states.now) (map (λ group. group.now) pins.now))) }
-    ensures classes { IfOk result (λ v. v.classes.items ≡ entry_classes (vocabulary_of (map shown_state states.now) (map (λ group. group.now) pins.now))) }
-    ensures targets { IfOk result (λ v. map (λ name. name.now) v.targets.items ≡ entry_targets (vocabulary_of (map shown_state states.now) (map (λ group. group.now) pins.now))) }
+    ensures names { IfOk result (λ v. v.names ≡ entry_names (vocabulary_of_cell (map shown_state states.now) (map (λ group. group.now) pins.now))) }
+    ensures classes { IfOk result (λ v. v.classes.items ≡ entry_classes (vocabulary_of_cell (map shown_state states.now) (map (λ group. group.now) pins.now))) }
+    ensures targets { IfOk result (λ v. map (λ name. name.now) v.targets.items ≡ entry_targets (vocabulary_of_cell (map shown_state states.now) (map (λ group. group.now) pins.now))) }
 {
     let entries = entries_of(alloc, states, pins)?;
-    let mut names = Names::new(alloc);
-    let mut classes = Vec::new(alloc);
-    let mut targets = Vec::new(alloc);
-    for entry in &entries {
-        if names.add(entry.name)?.is_some() {
-            classes.push(entry.class)?;
-            targets.push(entry.target)?;
-        }
-    }
-    Ok(Vocabulary {
-        names,
-        classes,
-        targets,
-    })
+    vocabulary_of(alloc, &entries)
 }

@@ -2,7 +2,7 @@ use Rattle.std.proofs.Common.{◌∙◌, map, take, sym, subst}
 use Rattle.cell_parts.specs.KnownNames.{IsKnown}
 use Rattle.cell_parts.specs.Shown.{shown_name}
 use Rattle.cell_parts.proofs.Clashes.{clash_turn, clash_end, more_names}
-use Rattle.cell_parts.proofs.declarations.first_clash.Goals as goal
+use Rattle.cell_parts.proofs.declarations.clash_among.Goals as goal
 
 pub loop-later-preserved : goal.loop-later-preserved
 loop-later-preserved c =

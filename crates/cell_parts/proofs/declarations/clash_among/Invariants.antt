@@ -3,7 +3,7 @@ use Rattle.timing_arcs.specs.Timing.{lesser, least}
 use Rattle.cell_parts.specs.Declarations.{clashes_after}
 use Rattle.cell_parts.specs.KnownNames.{IsKnown}
 use Rattle.cell_parts.specs.Shown.{shown_name}
-use Rattle.cell_parts.proofs.declarations.first_clash.Given as goal
+use Rattle.cell_parts.proofs.declarations.clash_among.Given as goal
 
 -- the least so far, with that of the names from here on, is the least of all
 abbrev pub invariant-loop-later : goal.invariant-loop-later

@@ -4,7 +4,7 @@
 pub mod declarations;
 mod group_texts;
 pub mod groups;
-mod held;
+pub mod held;
 mod laws;
 pub mod least;
 pub mod outputs;

@@ -1,5 +1,5 @@
 -- The laws of accepted cells.
-use Rattle.std.proofs.Common.{◌≡◌, ℕ, ◌≤◌, List, None, [], ◌∷◌, length, map, flat_map, arith, refl, ap, ◌∙◌, IsTrue, Bool, true, false}
+use Rattle.std.proofs.Common.{◌≡◌, ℕ, ◌≤◌, List, None, [], ◌∷◌, length, flat_map, arith, refl, ap, ◌∙◌, IsTrue, Bool, true, false}
 use Rattle.std.specs.Prelude.{if◌then◌else◌}
 use Rattle.liberty_groups.specs.declared.tree.Group.{Group}
 use Rattle.cell_machine.specs.CellRules.{is_name}

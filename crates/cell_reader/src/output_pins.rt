@@ -1,5 +1,5 @@
 //! The outputs of a cell.
-ghost use Rattle.std.specs.Prelude.{◌≡◌, ◌++◌, OnOk, IfOk, length, map, flat_map};
+ghost use Rattle.std.specs.Prelude.{◌≡◌, [], ◌∷◌, ◌++◌, OnOk, IfOk, length, map, flat_map, nat_lt, if◌then◌else◌};
 ghost use Rattle.timing_arcs.specs.Timing.{least};
 ghost use Rattle.cell_parts.specs.Building.{FitsText, output_pin as output_pin_of, output_in as output_in_of, outputs_from};
 ghost use Rattle.cell_parts.specs.Limits.{wide_text as wide_text_of, wide_function as wide_function_of, wide_output as wide_output_of};
@@ -10,6 +10,7 @@ ghost use Rattle.cell_reader.specs.Parts.{IsWithin};
 use crate::sources::sources_of;
 use crate::text_kinds::Numbering;
 use cell_machine::{Direction, OutputPin, StateGroup};
+use cell_parts::held::held_with;
 use cell_parts::least::lesser;
 use cell_parts::outputs::pin_text;
 use cell_parts::pins::direction_of;
@@ -33,6 +34,17 @@ pub(crate) struct OutputReader<'a, 'b> {
     pub pins: usize,
 }
 
+/// This offset, where an output has more than 10 names in its support.
+fn wide_output_at(output: &OutputPin, at: usize) -> Option<usize>
+    ensures { result ≡ least (if nat_lt 10 (length output.now.support) then at ∷ [] else []) }
+{
+    if 10 < output.support.len() {
+        Some(at)
+    } else {
+        None
+    }
+}
+
 impl OutputReader<'_, '_> {
     /// An output pin with the function of its text.
     fn pin(&self, pin: usize, text: &Text) -> Result<OutputPin, AllocError>
@@ -42,12 +54,29 @@ impl OutputReader<'_, '_> {
     {
         let (alloc, to) = (self.alloc, self.to);
         let function = Numbering { alloc, to }.function_of(text)?;
-        let support = sources_of(alloc, self.pins, self.groups, &function)?;
+        let support = sources_of(alloc, self.pins, self.groups, &function);
+        let (function, support) = held_with(function, support)?;
         Ok(OutputPin {
             pin,
             function,
             support,
         })
+    }
+
+    /// Adds an output pin with the function of its text.
+    fn add_text(
+        &self,
+        outputs: &mut Items<OutputPin>,
+        pin: usize,
+        text: &Text,
+    ) -> Result<(), AllocError>
+        requires within { IsWithin self.now }
+        requires fits { FitsText (length self.now.to.now) text.now }
+        ensures { OnOk result (outputs.new ≡ outputs.old ++ output_pin_of self.now.pins self.now.groups.now self.now.to.now pin text.now ∷ []) }
+    {
+        let output = self.pin(pin, text)?;
+        outputs.push(output)?;
+        Ok(())
     }
 
     /// Adds a pin, where its group makes outputs.
@@ -60,11 +89,11 @@ impl OutputReader<'_, '_> {
         requires { IsWithin self.now }
         ensures { OnOk result (outputs.new ≡ outputs.old ++ output_in_of (shown_vocabulary self.now.vocabulary.now) self.now.pins self.now.groups.now self.now.to.now pin owner.now) }
     {
-        if direction_of(owner) == Some(Direction::Output) {
-            let text = pin_text(self.alloc, self.vocabulary, owner)?;
-            outputs.push(self.pin(pin, &text)?)?;
+        if direction_of(owner) != Some(Direction::Output) {
+            return Ok(());
         }
-        Ok(())
+        let text = pin_text(self.alloc, self.vocabulary, owner)?;
+        self.add_text(outputs, pin, &text)
     }
 
     /// The outputs, from the groups of the pins.
@@ -86,11 +115,7 @@ impl OutputReader<'_, '_> {
         ensures { IfOk result (λ wide. wide ≡ least (wide_function_of self.now.pins self.now.groups.now self.now.to.now text.now at)) }
     {
         let output = self.pin(0, text)?;
-        if 10 < output.support.len() {
-            Ok(Some(at))
-        } else {
-            Ok(None)
-        }
+        Ok(wide_output_at(&output, at))
     }
 
     /// Where the text of an output has more than 10 names in its support.

@@ -1,8 +1,13 @@
 //! What a cell is made from: its groups, and what their texts and their timing say.
-ghost use Rattle.std.specs.Prelude.{◌≡◌, IfOk, map, flat_map, IsTrue};
+ghost use Rattle.std.specs.Prelude.{◌≡◌, IfOk, length, map, flat_map, IsTrue};
 ghost use Rattle.cell_machine.specs.CellRules.{are_distinct};
 ghost use Rattle.cell_parts.specs.Groups.{inner_groups as inner_groups_of, pin_groups as pin_groups_of, state_groups as state_groups_of};
-ghost use Rattle.cell_parts.specs.Pins.{pin_names, pins_in, owners_in, pins_of as pins_of_cell};
+ghost use Rattle.cell_parts.specs.Pins.{pin_names, pins_in, owners_in, pins_of as pins_of_cell, owners_of as owners_of_cell};
+ghost use Rattle.cell_parts.specs.States.{states_of as states_of_cell};
+ghost use Rattle.cell_parts.specs.Vocabulary.{vocabulary};
+ghost use Rattle.cell_parts.specs.StateReadings.{state_reading};
+ghost use Rattle.cell_parts.specs.Outputs.{pin_text};
+ghost use Rattle.cell_parts.specs.Shown.{shown_state, shown_vocabulary};
 ghost use Rattle.cell_reader.specs.CellTexts.{subject_with};
 ghost use Rattle.cell_reader.specs.Held.{AreHeld};
 ghost use Rattle.cell_reader.specs.Parts.{AreParts};
@@ -10,6 +15,7 @@ ghost use Rattle.cell_reader.specs.Parts.{AreParts};
 use crate::answers::timing_answers;
 use bool_functions::Names;
 use cell_machine::Pin;
+use cell_parts::held::held_with;
 use cell_parts::outputs::pin_texts;
 use cell_parts::pins::{owners_of, pins_of};
 use cell_parts::state_readings::{StateReading, state_readings};
@@ -78,6 +84,73 @@ fn answers_of(
     Ok(answers)
 }
 
+/// The pins and the states of a cell, and the names that its texts may name.
+#[derive(Drop)]
+struct Named<'a> {
+    owners: Vec<&'a Group>,
+    pins: Items<Pin>,
+    states: Vec<StateName<'a>>,
+    vocabulary: Vocabulary<'a>,
+}
+
+/// What is named in a cell, where these are its groups that make pins, and those that hold states.
+fn read_names<'a>(
+    alloc: Global,
+    cell: &'a Group,
+    pin_groups: &[&'a Group],
+    state_groups: &[&'a Group],
+) -> Result<Named<'a>, AllocError>
+    requires pins { map (λ group. group.now) pin_groups.now ≡ pin_groups_of cell.now }
+    requires states { map (λ group. group.now) state_groups.now ≡ state_groups_of cell.now }
+    ensures owners { IfOk result (λ named. map (λ group. group.now) named.owners.items ≡ owners_of_cell cell.now) }
+    ensures pins { IfOk result (λ named. named.pins ≡ pins_of_cell cell.now) }
+    ensures states { IfOk result (λ named. map shown_state named.states.items ≡ states_of_cell cell.now) }
+    ensures vocabulary { IfOk result (λ named. shown_vocabulary named.vocabulary ≡ vocabulary cell.now) }
+{
+    let _at = cell.at;
+    let owners = owners_of(alloc, pin_groups)?;
+    let pins = pins_of(alloc, pin_groups)?;
+    let states = states_of(alloc, state_groups)?;
+    let vocabulary = read_vocabulary(alloc, &states, pin_groups)?;
+    Ok(Named {
+        owners,
+        pins,
+        states,
+        vocabulary,
+    })
+}
+
+/// What the texts and the timing of a cell say.
+#[derive(Drop)]
+struct Said {
+    readings: Items<StateReading>,
+    texts: Items<Text>,
+    answers: Vec<Result<PinTiming, TimingFault>>,
+}
+
+/// What the texts and the timing of these groups say, in a cell in which these are named.
+fn read_said(
+    alloc: Global,
+    unit: Option<Unit>,
+    named: &Named<'_>,
+    pin_groups: &[&Group],
+    state_groups: &[&Group],
+) -> Result<Said, AllocError>
+    requires { IsTrue (are_distinct (pin_names (flat_map pins_in (map (λ group. group.now) pin_groups.now)))) }
+    ensures readings { IfOk result (λ said. said.readings ≡ map (state_reading (shown_vocabulary named.now.vocabulary) (length named.now.pins)) (map (λ group. group.now) state_groups.now)) }
+    ensures texts { IfOk result (λ said. said.texts ≡ map (pin_text (shown_vocabulary named.now.vocabulary)) (map (λ group. group.now) pin_groups.now)) }
+    ensures answers { IfOk result (λ said. AreHeld (subject_with unit (flat_map pins_in (map (λ group. group.now) pin_groups.now))) (flat_map owners_in (map (λ group. group.now) pin_groups.now)) said.answers.items) }
+{
+    let readings = state_readings(alloc, &named.vocabulary, named.pins.len(), state_groups)?;
+    let texts = pin_texts(alloc, &named.vocabulary, pin_groups)?;
+    let answers = answers_of(alloc, unit, pin_groups)?;
+    Ok(Said {
+        readings,
+        texts,
+        answers,
+    })
+}
+
 /// What a cell is made from, where these are its groups, those of them that make pins, and those that hold states.
 pub(crate) fn read_parts<'a>(
     alloc: Global,
@@ -95,25 +168,31 @@ pub(crate) fn read_parts<'a>(
     ensures cell { IfOk result (λ parts. parts.cell.now ≡ cell.now) }
     ensures unit { IfOk result (λ parts. parts.unit ≡ unit) }
 {
-    let owners = owners_of(alloc, &pin_groups)?;
-    let pins = pins_of(alloc, &pin_groups)?;
-    let states = states_of(alloc, &state_groups)?;
-    let vocabulary = read_vocabulary(alloc, &states, &pin_groups)?;
-    let readings = state_readings(alloc, &vocabulary, pins.len(), &state_groups)?;
-    let texts = pin_texts(alloc, &vocabulary, &pin_groups)?;
-    let answers = answers_of(alloc, unit, &pin_groups)?;
+    let named = read_names(alloc, cell, &pin_groups, &state_groups)?;
+    let said = read_said(alloc, unit, &named, &pin_groups, &state_groups);
+    let (named, said) = held_with(named, said)?;
     Ok(Parts {
         cell,
         unit,
         groups,
         pin_groups,
         state_groups,
-        owners,
-        pins,
-        states,
-        vocabulary,
-        readings,
-        texts,
-        answers,
+        owners: named.owners,
+        pins: named.pins,
+        states: named.states,
+        vocabulary: named.vocabulary,
+        readings: said.readings,
+        texts: said.texts,
+        answers: said.answers,
     })
+}
+
+impl Parts<'_> {
+    /// The pins, and what reading the timing of each answers. All else is let go.
+    pub(crate) fn pins_and_answers(self) -> (Items<Pin>, Vec<Result<PinTiming, TimingFault>>)
+        ensures pins { result.0 ≡ self.entry.pins }
+        ensures answers { result.1 ≡ self.entry.answers }
+    {
+        (self.pins, self.answers)
+    }
 }

@@ -90,11 +90,12 @@ fn make_cell(
     ensures left_out { IfOk result (λ read. read.left_out ≡ left_out_of_cell (subject_in parts.entry) parts.entry.cell.now) }
 {
     let made = made_anew(alloc, &parts, &numbered)?;
-    let timing = cell_timing(alloc, parts.answers)?;
+    let (pins, answers) = parts.pins_and_answers();
+    let timing = cell_timing(alloc, answers)?;
     let cell = Cell {
         name: made.name,
         number,
-        pins: parts.pins,
+        pins,
         groups: numbered.groups,
         outputs: made.outputs,
         checks: timing.checks,

@@ -6,6 +6,7 @@ ghost use Rattle.cell_machine.specs.declared.groups.Both.TheVariants as both;
 
 use bool_functions::Function;
 use cell_machine::{Both, Clocked, Gated, GroupKind, StateGroup};
+use cell_parts::held::held_with;
 use cell_parts::state_readings::{StateReading, is_ff};
 use cell_parts::states::both_named;
 use cell_parts::texts::Text;
@@ -38,18 +39,10 @@ fn second_both(group: &Group) -> Both
 }
 
 /// Two functions that may not be written.
-#[derive(Drop)]
-struct WrittenPair {
-    first: Option<Function>,
-    second: Option<Function>,
-}
+type WrittenPair = (Option<Function>, Option<Function>);
 
 /// Two functions.
-#[derive(Drop)]
-struct NeededPair {
-    first: Function,
-    second: Function,
-}
+type NeededPair = (Function, Function);
 
 /// What the texts of a cell are made functions with.
 #[derive(Clone, Copy)]
@@ -86,25 +79,22 @@ impl Numbering<'_> {
     fn written(&self, first: &Text, second: &Text) -> Result<WrittenPair, AllocError>
         requires first { FitsText (length self.now.to.now) first.now }
         requires second { FitsText (length self.now.to.now) second.now }
-        ensures first { IfOk result (λ pair. pair.first ≡ function_in_of self.now.to.now first.now) }
-        ensures second { IfOk result (λ pair. pair.second ≡ function_in_of self.now.to.now second.now) }
+        ensures first { IfOk result (λ pair. pair.0 ≡ function_in_of self.now.to.now first.now) }
+        ensures second { IfOk result (λ pair. pair.1 ≡ function_in_of self.now.to.now second.now) }
     {
         let first = self.function_in(first)?;
-        let second = self.function_in(second)?;
-        Ok(WrittenPair { first, second })
+        held_with(first, self.function_in(second))
     }
 
     /// Two texts as functions.
     fn needed(&self, first: &Text, second: &Text) -> Result<NeededPair, AllocError>
         requires first { FitsText (length self.now.to.now) first.now }
         requires second { FitsText (length self.now.to.now) second.now }
-        ensures first { IfOk result (λ pair. pair.first ≡ function_of_text self.now.to.now first.now) }
-        ensures second { IfOk result (λ pair. pair.second ≡ function_of_text self.now.to.now second.now) }
+        ensures first { IfOk result (λ pair. pair.0 ≡ function_of_text self.now.to.now first.now) }
+        ensures second { IfOk result (λ pair. pair.1 ≡ function_of_text self.now.to.now second.now) }
     {
-        Ok(NeededPair {
-            first: self.function_of(first)?,
-            second: self.function_of(second)?,
-        })
+        let first = self.function_of(first)?;
+        held_with(first, self.function_of(second))
     }
 
     /// The texts of a flip-flop as functions.
@@ -113,12 +103,13 @@ impl Numbering<'_> {
         ensures { IfOk result (λ k. k ≡ clocked_of self.now.to.now group.now reading.now) }
     {
         let driving = self.needed(&reading.data_text, &reading.control)?;
-        let forcing = self.written(&reading.clear, &reading.preset)?;
+        let forcing = self.written(&reading.clear, &reading.preset);
+        let ((next_state, clocked_on), (clear, preset)) = held_with(driving, forcing)?;
         Ok(Clocked {
-            next_state: driving.first,
-            clocked_on: driving.second,
-            clear: forcing.first,
-            preset: forcing.second,
+            next_state,
+            clocked_on,
+            clear,
+            preset,
             both1: first_both(group),
             both2: second_both(group),
         })
@@ -130,12 +121,13 @@ impl Numbering<'_> {
         ensures { IfOk result (λ k. k ≡ gated_of self.now.to.now group.now reading.now) }
     {
         let driving = self.written(&reading.data_text, &reading.control)?;
-        let forcing = self.written(&reading.clear, &reading.preset)?;
+        let forcing = self.written(&reading.clear, &reading.preset);
+        let ((data_in, enable), (clear, preset)) = held_with(driving, forcing)?;
         Ok(Gated {
-            data_in: driving.first,
-            enable: driving.second,
-            clear: forcing.first,
-            preset: forcing.second,
+            data_in,
+            enable,
+            clear,
+            preset,
             both1: first_both(group),
             both2: second_both(group),
         })

@@ -9,7 +9,7 @@ mod progress;
 mod step;
 mod stop;
 
-pub use ending::{Ending, NotWhole};
+pub use ending::{Ending, LIBRARY_LIMIT, NotWhole};
 pub use fold::{CellFold, fold_cells};
 pub use keeping::read_cells;
 pub use next::{NextCell, next_cell};

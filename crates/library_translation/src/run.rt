@@ -16,14 +16,11 @@ ghost use Rattle.library_translation.specs.Runs.{translate_files, RunsTranslatio
 
 use crate::items::handle_items;
 use command_outcomes::Status;
-use library_items::{Ending, Progress, Stop};
+use library_items::{Ending, LIBRARY_LIMIT, Progress, Stop};
 use library_report::{write_library_fault, write_library_too_long, write_totals};
 use std::alloc::Global;
 use text_io::{Desk, Failed, InSlot, OutSlot};
 use verilog_writer::write_prelude;
-
-/// The most bytes that a library may have.
-const LIMIT: usize = 67_108_864;
 
 /// Writes the Verilog and VHDL models of the cells of the library that the words name, and its report.
 ///
@@ -68,7 +65,7 @@ fn translate_bound<D: Desk>(alloc: Global, desk: &mut D) -> Result<Status, Stop>
 {
     write_prelude(desk)?;
     let mut progress = Progress::new(alloc);
-    let ending = handle_items(alloc, desk, &mut progress, LIMIT)?;
+    let ending = handle_items(alloc, desk, &mut progress, LIBRARY_LIMIT)?;
     Ok(finish(desk, &progress, ending)?)
 }
 

@@ -23,7 +23,7 @@ use udp_tables::ModelFault;
 const MODEL_LIMIT: usize = 67_108_864;
 
 /// The most bytes that a stimulus may have.
-const STIMULUS_LIMIT: usize = 16_777_216;
+pub const STIMULUS_LIMIT: usize = 16_777_216;
 
 /// The models of a text of which so much was taken.
 fn models_in<L: ModelLanguage>(alloc: Global, taken: &Taken) -> Result<Vec<L::Model>, Refused>

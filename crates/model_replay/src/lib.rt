@@ -19,7 +19,7 @@ pub use ending::Ending;
 pub use faults::{
     write_model_fault, write_model_too_long, write_stimulus_fault, write_stimulus_too_long,
 };
-pub use files::{read_models, read_sections};
+pub use files::{STIMULUS_LIMIT, read_models, read_sections};
 pub use format::ModelFormat;
 pub use language::ModelLanguage;
 pub use printing::write_sections;

@@ -10,13 +10,10 @@ ghost use Rattle.model_simulation.specs.LibraryAnswers.{library_answer, library_
 
 use cell_reader::LibraryCell;
 use command_outcomes::{Status, ended};
-use library_items::{NotWhole, Stop, read_cells};
+use library_items::{LIBRARY_LIMIT, NotWhole, Stop, read_cells};
 use library_report::{write_library_fault, write_library_too_long};
 use std::alloc::Global;
 use text_io::{Desk, Failed, InSlot};
-
-/// The most bytes that a library may have.
-const LIMIT: usize = 67_108_864;
 
 /// Tells how a library that is not whole ends the run.
 fn tell<D: Desk>(desk: &mut D, why: NotWhole) -> Status
@@ -44,7 +41,7 @@ pub(crate) fn read_library<D: Desk>(
     ensures cause { IfErr result (StopsWithStatus (D.faults desk.old) (D.faults desk.new)) }
 {
     match desk.bind_in(InSlot::Library, place) {
-        Ok(()) => match read_cells(alloc, desk, LIMIT) {
+        Ok(()) => match read_cells(alloc, desk, LIBRARY_LIMIT) {
             Ok(Ok(cells)) => Ok(cells),
             Ok(Err(why)) => Err(tell(desk, why)),
             Err(Stop::Failed) => Err(Status::Outside),

@@ -4,11 +4,9 @@ ghost use Rattle.selftest_runs.specs.OwnCounts.{own_counts};
 
 use crate::counts::Counts;
 use crate::library::count_cells;
+use library_items::LIBRARY_LIMIT;
 use selftest_library::OwnLibrary;
 use std::alloc::{AllocError, Global};
-
-/// The most bytes that are read of a library.
-const LIBRARY_LIMIT: usize = 67_108_864;
 
 /// What is counted of the first so many test cells, of which each is made, read and run in its turn. An `Err` comes only where
 /// memory is wanting.

@@ -13,13 +13,10 @@ ghost use Rattle.simulation_catalog.specs.StimulusFile.{too_long_stop, fault_sto
 use crate::bad_lines::{cause_status, write_cause};
 use cell_reader::LibraryCell;
 use command_outcomes::Status;
-use model_replay::{take_file, write_stimulus_too_long};
+use model_replay::{STIMULUS_LIMIT, take_file, write_stimulus_too_long};
 use std::alloc::Global;
 use stimulus::{Cause, PortCatalog, Section, StimulusFault, read_stimulus};
 use text_io::{Desk, Failed, InSlot, Taken};
-
-/// The most bytes that a stimulus may have.
-const LIMIT: usize = 16_777_216;
 
 /// Tells a stimulus with too many bytes, and answers how the run ends: `Outside` where a write failed, after a prefix of the line.
 fn tell_too_long<D: Desk>(desk: &mut D) -> Status
@@ -84,7 +81,7 @@ pub fn read_sections<D: Desk>(
     ensures kept { OnOk result (D.faults desk.new ≡ D.faults desk.old) }
     ensures cause { IfErr result (StopsWithStatus (D.faults desk.old) (D.faults desk.new)) }
 {
-    match take_file(alloc, desk, InSlot::Stimulus, place, LIMIT) {
+    match take_file(alloc, desk, InSlot::Stimulus, place, STIMULUS_LIMIT) {
         Ok(taken) => sections_in(alloc, desk, cells, catalog, &taken),
         Err(ending) => Err(ending.status()),
     }

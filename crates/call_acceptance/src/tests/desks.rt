@@ -38,24 +38,23 @@ fn bind<D: Desk>(desk: &mut D) -> Result<(), Failed>
     desk.bind_out(OutSlot::VerilogText, 2)
 }
 
-/// Reads the first four bytes of the library, and writes them to an output that has no room. Answers them, whether more
-/// bytes came, and whether the writing failed.
+/// Reads the first four bytes of the library, and writes them to an output that has no room. Answers whether they are these, more
+/// came, and the writing failed.
 #[tactic(auto, unfolding(text_io::specs::Desk::took))]
-fn copy<D: Desk>(alloc: Global, desk: &mut D) -> Result<(Vec<u8>, bool, bool), ReadFault>
+fn copies<D: Desk>(alloc: Global, desk: &mut D, wanted: &[u8]) -> Result<bool, ReadFault>
     requires library { IsTrue (is_bound (D.state desk.old) (Input Library)) }
     requires text { IsTrue (is_bound (D.state desk.old) (Output VerilogText)) }
 {
     let taken = read_all(alloc, desk, InSlot::Library, 4)?;
-    let failed = write_whole(desk, OutSlot::VerilogText, taken.bytes.as_slice()).is_err();
-    Ok((taken.bytes, taken.more, failed))
+    let written = write_whole(desk, OutSlot::VerilogText, taken.bytes.as_slice());
+    Ok(taken.bytes.as_slice() == wanted && taken.more && written.is_err())
 }
 
 /// Whether real files are read and written, without end and without room.
 fn copies_without_end(rt: &HostRuntime) -> Result<bool, Fail> {
     let mut desk = FileDesk::new(rt.clone()?, words(rt.alloc(), "/dev/zero", "/dev/full")?);
     bind(&mut desk)?;
-    let (bytes, more, failed) = copy(rt.alloc(), &mut desk)?;
-    Ok(bytes.as_slice() == [0, 0, 0, 0].as_slice() && more && failed)
+    Ok(copies(rt.alloc(), &mut desk, &[0, 0, 0, 0])?)
 }
 
 /// Whether a desk refuses to empty the file that it reads.
@@ -101,14 +100,8 @@ fn copies_in_pieces(alloc: Global) -> Result<bool, Fail> {
     let words = words(alloc, "/dev/zero", "/dev/full")?;
     let mut desk = MemoryDesk::in_pieces(alloc, words, folder(alloc)?, Vec::new(alloc), 3, 2)?;
     bind(&mut desk)?;
-    let (bytes, more, failed) = copy(alloc, &mut desk)?;
-    Ok(
-        bytes.as_slice() == b"abcd".as_slice()
-            && more
-            && failed
-            && desk.written(OutSlot::VerilogText) == b"abc".as_slice()
-            && desk.faults() == 1,
-    )
+    let is_copied = copies(alloc, &mut desk, b"abcd")?;
+    Ok(is_copied && desk.written(OutSlot::VerilogText) == b"abc".as_slice() && desk.faults() == 1)
 }
 
 #[test]

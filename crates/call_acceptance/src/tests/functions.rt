@@ -6,15 +6,32 @@ use bool_functions::{Function, FunctionFault, MAX_LEN, Names, read_free, read_fu
 use std::alloc::Global;
 use std::test::Fail;
 
-/// Whether two texts are read as one tree.
+/// The function of a text, and its names.
+#[derive(Drop)]
+struct ReadText {
+    function: Function,
+    names: Names,
+}
+
+/// The function of a text, where it reads.
+fn read(alloc: Global, text: &[u8]) -> Option<ReadText> {
+    match read_free(alloc, text) {
+        Ok((function, names)) => Some(ReadText { function, names }),
+        Err(_) => None,
+    }
+}
+
+/// Whether two texts read, as one tree.
+fn have_one_tree(one: &Option<ReadText>, other: &Option<ReadText>) -> bool {
+    match (one, other) {
+        (Some(one), Some(other)) => one.function.same(&other.function),
+        _ => false,
+    }
+}
+
+/// Whether a text is read as another one, with all brackets.
 fn reads_as(alloc: Global, text: &[u8], bracketed: &[u8]) -> bool {
-    let Ok((function, _names)) = read_free(alloc, text) else {
-        return false;
-    };
-    let Ok((wanted, _names)) = read_free(alloc, bracketed) else {
-        return false;
-    };
-    function.same(&wanted)
+    have_one_tree(&read(alloc, text), &read(alloc, bracketed))
 }
 
 #[test]
@@ -97,8 +114,10 @@ fn finds_other_faults(rt: HostRuntime) -> Result<(), Fail> {
 
 /// Whether a text has one name.
 fn has_one_name(alloc: Global, text: &[u8]) -> Result<bool, Fail> {
-    let (function, _names) = read_free(alloc, text)?;
-    Ok(function.support(alloc)?.len() == 1)
+    let Some(read) = read(alloc, text) else {
+        return Ok(false);
+    };
+    Ok(read.function.support(alloc)?.len() == 1)
 }
 
 /// Whether a name behind so many signs of inversion is read.
@@ -126,59 +145,71 @@ fn reads_deep_texts(rt: HostRuntime) -> Result<(), Fail> {
 }
 
 /// The function of a text with two names, and the names.
-fn read_two(alloc: Global, text: &[u8]) -> Result<(Function, Names), Fail>
-    ensures { IfOk result (λ read. name_bound read.0 ≤ 2) }
+fn read_two(alloc: Global, text: &[u8]) -> Result<ReadText, Fail>
+    ensures { IfOk result (λ read. name_bound read.function ≤ 2) }
 {
     let (function, names) = read_free(alloc, text)?;
-    if names.len() != 2 {
-        return Err("not two names".into());
+    let read = ReadText { function, names };
+    if read.names.len() == 2 {
+        Ok(read)
+    } else {
+        Err("not two names".into())
     }
-    Ok((function, names))
 }
 
 /// Whether a function of two names has these values, where the first name's value changes first.
-fn has_table(alloc: Global, text: &[u8], wanted: &[bool]) -> Result<bool, Fail> {
-    let (function, _names) = read_two(alloc, text)?;
+fn has_table(alloc: Global, function: &Function, wanted: &[bool]) -> Result<bool, Fail>
+    requires { name_bound function.now ≤ 2 }
+{
     let table = function.table(alloc, &[0, 1])?;
     Ok(table.as_slice() == wanted)
 }
 
-/// Whether the names of a function of two names have these numbers.
-fn are_numbered(alloc: Global, text: &[u8], first: &[u8], second: &[u8]) -> Result<bool, Fail> {
-    let (function, names) = read_two(alloc, text)?;
-    Ok(
-        names.number(first) == Some(0)
-            && names.number(second) == Some(1)
-            && function.has(1)
-            && !function.has(2),
-    )
-}
-
-/// Whether a name has no number in a function of two names.
-fn has_no_number(alloc: Global, text: &[u8], name: &[u8]) -> Result<bool, Fail> {
-    let (_function, names) = read_two(alloc, text)?;
-    Ok(names.number(name).is_none())
+/// Whether the names of a function of two names have these numbers, and a third name has none.
+fn are_numbered(read: &ReadText, first: &[u8], second: &[u8], third: &[u8]) -> bool {
+    read.names.number(first) == Some(0)
+        && read.names.number(second) == Some(1)
+        && read.names.number(third).is_none()
+        && read.function.has(1)
+        && !read.function.has(2)
 }
 
 /// Whether a function of two names has other names where they are changed.
-fn is_renamed(alloc: Global, text: &[u8]) -> Result<bool, Fail> {
-    let (function, _names) = read_two(alloc, text)?;
+fn is_renamed(alloc: Global, function: &Function) -> Result<bool, Fail>
+    requires { name_bound function.now ≤ 2 }
+{
     let other = function.renamed(alloc, &[5, 3])?;
-    Ok(other.support(alloc)?.as_slice() == [3, 5].as_slice() && !other.same(&function))
+    let support = other.support(alloc)?;
+    Ok(support.as_slice() == [3, 5].as_slice() && !other.same(function))
 }
 
 /// Whether a function of two names is true where the first is, and not where the second is.
-fn has_value_of_first(alloc: Global, text: &[u8]) -> Result<bool, Fail> {
-    let (function, _names) = read_two(alloc, text)?;
-    Ok(function.value(&[true, false]) && !function.value(&[false, true]))
+fn has_value_of_first(function: &Function) -> bool
+    requires { name_bound function.now ≤ 2 }
+{
+    function.value(&[true, false]) && !function.value(&[false, true])
+}
+
+/// Whether the calls on a function of two names answer with ample memory.
+fn answers(alloc: Global, read: &ReadText) -> Result<bool, Fail>
+    requires { name_bound read.now.function ≤ 2 }
+{
+    Ok(
+        are_numbered(read, b"C", b"A", b"B")
+            && has_table(alloc, &read.function, &[false, true, false, true])?
+            && is_renamed(alloc, &read.function)?
+            && has_value_of_first(&read.function),
+    )
+}
+
+/// Whether they answer on the function of this text.
+fn answers_on(alloc: Global, text: &[u8]) -> Result<bool, Fail> {
+    let read = read_two(alloc, text)?;
+    answers(alloc, &read)
 }
 
 #[test]
 fn answers_with_ample_memory(rt: HostRuntime) -> Result<(), Fail> {
-    assert!(rt; are_numbered(rt.alloc(), b"C*A+C", b"C", b"A")?);
-    assert!(rt; has_no_number(rt.alloc(), b"C*A+C", b"B")?);
-    assert!(rt; has_table(rt.alloc(), b"C*A+C", &[false, true, false, true])?);
-    assert!(rt; is_renamed(rt.alloc(), b"C*A+C")?);
-    assert!(rt; has_value_of_first(rt.alloc(), b"C*A+C")?);
+    assert!(rt; answers_on(rt.alloc(), b"C*A+C")?);
     Ok(())
 }

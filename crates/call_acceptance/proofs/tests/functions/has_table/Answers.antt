@@ -9,4 +9,4 @@ place (suc zero) _ = (1, omega arith, refl)
 place (suc (suc i)) h = absurd (omega (arith, h))
 
 pub table-requires-clause-inside : goal.table-requires-clause-inside
-table-requires-clause-inside c = λ i has. place i (let below = has_below c.in_ok-function.function i has in omega (arith, below, c.in_ok-function.ensures))
+table-requires-clause-inside c = λ i has. place i (let below = has_below c.args.function.now i has in omega (arith, below, c.requires))

@@ -1,5 +1,5 @@
 -- What a cell is made from: its groups, and what their texts and their timing say.
-use Rattle.std.specs.Prelude.{◌≡◌, ◌≤◌, length, map}
+use Rattle.std.specs.Prelude.{◌≡◌, map}
 use Rattle.liberty_groups.specs.declared.tree.Group.{Group}
 use Rattle.timing_arcs.specs.declared.subject.Subject.{Subject}
 use Rattle.cell_parts.specs.Groups.{inner_groups, pin_groups, state_groups}
@@ -9,7 +9,6 @@ use Rattle.cell_parts.specs.Vocabulary.{vocabulary}
 use Rattle.cell_parts.specs.Shown.{shown_state, shown_vocabulary}
 use Rattle.cell_reader.specs.declared.parts.Parts.{Parts}
 use Rattle.cell_reader.specs.declared.numbered.Numbered.{Numbered}
-use Rattle.cell_reader.specs.declared.output_pins.OutputReader.{OutputReader}
 use Rattle.cell_reader.specs.CellTexts.{subject_of}
 use Rattle.cell_parts.specs.CellLaws.{readings_of, texts_of, numbers_of, groups_of}
 use Rattle.cell_reader.specs.Held.{AreHeld}
@@ -30,12 +29,6 @@ pub record AreParts (parts : Parts) : Type 0 where
   pub of_readings : parts.readings ≡ readings_of parts.cell.now
   pub of_texts : parts.texts ≡ texts_of parts.cell.now
   pub of_answers : AreHeld (subject_in parts) (owners_of parts.cell.now) parts.answers.items
-
--- The numbers of pins and of states are within their limits, and each name has a number.
-pub record IsWithin (reader : OutputReader) : Type 0 where
-  pub few_pins : reader.pins ≤ 64
-  pub few_groups : length reader.groups.now ≤ 16
-  pub numbered : length reader.to.now ≡ length reader.vocabulary.now.classes.items
 
 -- The numbers and the groups are those of this cell.
 pub record AreNumbered (cell : Group) (numbered : Numbered) : Type 0 where

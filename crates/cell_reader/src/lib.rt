@@ -2,7 +2,6 @@
 #![tactic(auto)]
 
 mod answers;
-mod cell_numbers;
 mod early;
 mod fault;
 mod later;
@@ -12,16 +11,12 @@ mod library_cell;
 mod limits;
 mod numbered;
 mod offsets;
-mod output_pins;
 mod parts;
 mod read;
 mod refusal;
 mod scan;
 mod scans;
-mod sources;
-mod state_groups;
 mod text_faults;
-mod text_kinds;
 mod timing_faults;
 mod timings;
 

@@ -8,15 +8,16 @@ ghost use Rattle.cell_reader.specs.Written.{wide_conditions_of, wide_support_of}
 ghost use Rattle.cell_reader.specs.Refusals.{timing_places, middle_reasons, first_refusal, udp_inputs as udp_inputs_of};
 ghost use Rattle.cell_parts.specs.CellLaws.{numbers_of, groups_of};
 ghost use Rattle.cell_parts.specs.Shown.{shown_vocabulary};
-ghost use Rattle.cell_reader.specs.Parts.{subject_in, AreParts, AreNumbered, IsWithin};
+ghost use Rattle.cell_logic.specs.Within.{IsWithin};
+ghost use Rattle.cell_reader.specs.Parts.{subject_in, AreParts, AreNumbered};
 
-use crate::cell_numbers::cell_numbers;
 use crate::limits::WrongSupport;
 use crate::offsets::WideTimings;
-use crate::output_pins::OutputReader;
 use crate::parts::Parts;
 use crate::scan::least_among;
-use crate::state_groups::state_groups;
+use cell_logic::cell_numbers::cell_numbers;
+use cell_logic::output_pins::OutputReader;
+use cell_logic::state_groups::state_groups;
 use cell_machine::StateGroup;
 use cell_parts::least::lesser;
 use sqlite_items::Items;

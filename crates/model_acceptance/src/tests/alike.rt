@@ -13,7 +13,7 @@ use liberty_groups::read_library;
 use liberty_text::Unit;
 use section_runs::first_difference;
 use specify_blocks::{VModule, verilog_model};
-use std::alloc::Global;
+use std::alloc::{AllocError, Global};
 use std::test::Fail;
 use table_interpreters::{VerilogSim, VitalSim};
 use vital_models::{VEntity, vital_model};
@@ -66,20 +66,30 @@ fn shows_the_same<A: CellSim + Drop, B: CellSim + Drop>(
     }
 }
 
-/// Wants the module and the entity of a cell to show the same as it at these changes.
-fn models_as_cell(alloc: Global, cell: &Cell, changes: &[Change]) -> Result<(), Fail> {
+/// Wants a simulator at its start, where it was started, to show the same as a cell at these changes.
+fn shows_as_cell<S: CellSim + Drop>(
+    alloc: Global,
+    cell: &Cell,
+    started: Result<S, AllocError>,
+    changes: &[Change],
+) -> Result<(), Fail>
+    requires { IfOk started (λ sim. S.stands sim []) }
+{
+    let sim = started?;
+    let own = LibertySim::start(alloc, cell)?;
+    shows_the_same(own, sim, changes)
+}
+
+/// Wants the module of a cell to show the same as it at these changes.
+fn module_as_cell(alloc: Global, cell: &Cell, changes: &[Change]) -> Result<(), Fail> {
     let model = sound_module(alloc, cell)?;
+    shows_as_cell(alloc, cell, VerilogSim::start(alloc, &model), changes)
+}
+
+/// Wants the entity of a cell to show the same as it at these changes.
+fn entity_as_cell(alloc: Global, cell: &Cell, changes: &[Change]) -> Result<(), Fail> {
     let entity = sound_entity(alloc, cell)?;
-    shows_the_same(
-        LibertySim::start(alloc, cell)?,
-        VerilogSim::start(alloc, &model)?,
-        changes,
-    )?;
-    shows_the_same(
-        LibertySim::start(alloc, cell)?,
-        VitalSim::start(alloc, &entity)?,
-        changes,
-    )
+    shows_as_cell(alloc, cell, VitalSim::start(alloc, &entity), changes)
 }
 
 /// Wants a cell of a library in picoseconds to show a trace as it is printed, and its module and its entity to show the same.
@@ -91,7 +101,8 @@ fn run_alike(alloc: Global, cell: &str, trace: &str) -> Result<(), Fail> {
     let trace = trace_of(alloc, &names.inputs, text.as_str())?;
     has_trace(alloc, &read.cell, trace.start, &trace.rows)?;
     let changes = changes_of(alloc, &trace.rows)?;
-    models_as_cell(alloc, &read.cell, &changes)
+    module_as_cell(alloc, &read.cell, &changes)?;
+    entity_as_cell(alloc, &read.cell, &changes)
 }
 
 /// Wants that of each of these cells and its trace.

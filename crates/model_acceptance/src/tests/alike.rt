@@ -4,11 +4,11 @@ ghost use Rattle.specify_blocks.specs.Sound.{IsSound as IsSoundModule};
 ghost use Rattle.vital_models.specs.Sound.{IsSound as IsSoundEntity};
 
 use super::changes::{are_proper, changes_of};
-use super::lines::{has_trace, port_names};
+use super::lines::{Row, has_trace, port_names};
 use super::written_traces::{printed, trace_of};
 use bool_functions::Names;
 use cell_machine::{Cell, CellSim, Change, LibertySim};
-use cell_reader::{ReadCell, read_cell};
+use cell_reader::read_cell;
 use liberty_groups::read_library;
 use liberty_text::Unit;
 use section_runs::first_difference;
@@ -19,10 +19,11 @@ use table_interpreters::{VerilogSim, VitalSim};
 use vital_models::{VEntity, vital_model};
 
 /// The first cell of a library in picoseconds.
-fn first_cell(alloc: Global, text: &str) -> Result<ReadCell, Fail> {
+fn first_cell(alloc: Global, text: &str) -> Result<Cell, Fail> {
     let reading = read_library(alloc, text.as_bytes(), true)?;
     let group = reading.cells.get(0).ok_or("no cell")?;
-    Ok(read_cell(alloc, group, 1, Some(Unit::Ps1), &Names::new(alloc))?)
+    let read = read_cell(alloc, group, 1, Some(Unit::Ps1), &Names::new(alloc))?;
+    Ok(read.cell)
 }
 
 /// The module of a cell, which is sound.
@@ -92,17 +93,27 @@ fn entity_as_cell(alloc: Global, cell: &Cell, changes: &[Change]) -> Result<(), 
     shows_as_cell(alloc, cell, VitalSim::start(alloc, &entity), changes)
 }
 
-/// Wants a cell of a library in picoseconds to show a trace as it is printed, and its module and its entity to show the same.
+/// Wants the module and the entity of a cell to show the same as it at the changes of these rows.
+fn models_as_cell(alloc: Global, cell: &Cell, rows: &[Row<'_>]) -> Result<(), Fail> {
+    let changes = changes_of(alloc, rows)?;
+    module_as_cell(alloc, cell, &changes)?;
+    entity_as_cell(alloc, cell, &changes)
+}
+
+/// Wants a cell to show these printed lines, and its module and its entity to show the same.
+fn shows_lines(alloc: Global, cell: &Cell, printed: &str) -> Result<(), Fail> {
+    let names = port_names(alloc, cell.pins.as_slice())?;
+    let trace = trace_of(alloc, &names.inputs, printed)?;
+    has_trace(alloc, cell, trace.start, &trace.rows)?;
+    models_as_cell(alloc, cell, &trace.rows)
+}
+
+/// Wants a cell of a library in picoseconds to show a trace, and its module and its entity to show the same.
 fn run_alike(alloc: Global, cell: &str, trace: &str) -> Result<(), Fail> {
     let library = format!(in alloc; "library (L) {{ {cell} }}")?;
-    let read = first_cell(alloc, library.as_str())?;
-    let names = port_names(alloc, read.cell.pins.as_slice())?;
-    let text = printed(alloc, trace)?;
-    let trace = trace_of(alloc, &names.inputs, text.as_str())?;
-    has_trace(alloc, &read.cell, trace.start, &trace.rows)?;
-    let changes = changes_of(alloc, &trace.rows)?;
-    module_as_cell(alloc, &read.cell, &changes)?;
-    entity_as_cell(alloc, &read.cell, &changes)
+    let lines = printed(alloc, trace)?;
+    let cell = first_cell(alloc, library.as_str())?;
+    shows_lines(alloc, &cell, lines.as_str())
 }
 
 /// Wants that of each of these cells and its trace.

@@ -190,26 +190,13 @@ fn has_value_of_first(function: &Function) -> bool
     function.value(&[true, false]) && !function.value(&[false, true])
 }
 
-/// Whether the calls on a function of two names answer with ample memory.
-fn answers(alloc: Global, read: &ReadText) -> Result<bool, Fail>
-    requires { name_bound read.now.function ≤ 2 }
-{
-    Ok(
-        are_numbered(read, b"C", b"A", b"B")
-            && has_table(alloc, &read.function, &[false, true, false, true])?
-            && is_renamed(alloc, &read.function)?
-            && has_value_of_first(&read.function),
-    )
-}
-
-/// Whether they answer on the function of this text.
-fn answers_on(alloc: Global, text: &[u8]) -> Result<bool, Fail> {
-    let read = read_two(alloc, text)?;
-    answers(alloc, &read)
-}
-
 #[test]
 fn answers_with_ample_memory(rt: HostRuntime) -> Result<(), Fail> {
-    assert!(rt; answers_on(rt.alloc(), b"C*A+C")?);
+    let alloc = rt.alloc();
+    let read = read_two(alloc, b"C*A+C")?;
+    assert!(rt; are_numbered(&read, b"C", b"A", b"B"));
+    assert!(rt; has_table(alloc, &read.function, &[false, true, false, true])?);
+    assert!(rt; is_renamed(alloc, &read.function)?);
+    assert!(rt; has_value_of_first(&read.function));
     Ok(())
 }

@@ -5,3 +5,4 @@ pub mod TextAnswers
 pub mod Passing
 pub mod Places
 pub mod Tests
+pub mod TextLaws

@@ -3,3 +3,4 @@ pub mod Words
 pub mod WordValues
 pub mod Texts
 pub mod Reading
+pub mod TextLaws

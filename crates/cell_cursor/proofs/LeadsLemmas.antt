@@ -114,10 +114,6 @@ one_token x =
     first_kind (library_name x) x (λ _ m. read (expect mark.Open (Syntax expected.Opening) >>= λ _. arguments >>= λ _. expect mark.Begin (Syntax expected.Opening)) m)
     (λ m. read (rest_inside []) m) (λ a. refl)
 
-no_token : kind_of (read (rest_at place.Start []) []) ≡ NotLibrary
-unfolding header
-no_token = refl
-
 is_syntax : Refusal → Bool
 is_syntax (Syntax e) = true
 is_syntax _ = false

@@ -13,10 +13,6 @@ use Rattle.liberty_groups.specs.Lexeme.{LieInside}
 use Rattle.liberty_groups.proofs.Lexemes.{inside_reads, inside_front}
 use Rattle.cell_cursor.specs.Scanned.{AreScanned, NoneEnds}
 
--- no byte
-pub none_scanned : AreScanned [] [] (Between false)
-none_scanned more = refl
-
 -- some more bytes
 pub more_scanned : (bytes : List ℕ) (tokens : List Token) (mode : Mode) (run : List ℕ) → AreScanned bytes tokens mode →
     AreScanned (bytes ++ run) (tokens ++ tokens_ended mode (length bytes) run) (mode_behind mode (length bytes) run)

@@ -1,6 +1,5 @@
 -- What a call of a cursor has read and has still to do.
-use Rattle.std.proofs.Common.{◌≡◌, ℕ, ◌+◌, ◌-◌, ◌*◌, ◌<◌, ◌≤◌, Bool, true, false, not, ◌&&◌, cond, List, [], ◌∷◌, ◌++◌, length, Option, Some, None, refl, sym, ap, subst, ◌∙◌, arith, length-append}
-use Rattle.std.specs.Option.{option_to_list}
+use Rattle.std.proofs.Common.{◌≡◌, ℕ, ◌+◌, ◌-◌, ◌*◌, ◌<◌, ◌≤◌, Bool, true, false, not, ◌&&◌, cond, List, [], length, Option, Some, None, refl, sym, ap, subst, ◌∙◌, arith}
 use Rattle.text_io.specs.Desk.{Rose}
 use Rattle.liberty_groups.specs.declared.fault.LibraryFault.{LibraryFault}
 use Rattle.liberty_groups.specs.Answer.{fault_of}
@@ -96,15 +95,9 @@ front_goes here n bytes =
 pub never_by : (a : Option Answer) (here : Place) (n : ℕ) (bytes : List ℕ) (w : Bool) → a ≡ Some (answer_at here n bytes w) → is_failed a ≡ false
 never_by a here n bytes w e = ap is_failed e ∙ never_failed here n bytes w
 
-pub never_going : (a : Option Answer) → a ≡ None → is_failed a ≡ false
-never_going a e = ap is_failed e
-
 -- a count that stood still before it rose
 pub rose_since : (a b c : ℕ) → b ≡ a → Rose b c → Rose a c
 rose_since a b c same rose = subst (λ n. Rose n c) same rose
-
-pub none_popped : {T : Type 0} (old new : List T) (x : T) → old ≡ new ++ option_to_list (Some x) → old ≡ [] → ⊥
-none_popped old new x e f = let k = ap length (sym e ∙ f) in absurd (omega (arith, k, length-append new (x ∷ [])))
 
 -- a cursor that had an answer does not go on
 pub not_going : {B : Type 0} (now first : Option Answer) → now ≡ None → is_going first ≡ false → now ≡ first → B

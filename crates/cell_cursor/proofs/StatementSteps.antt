@@ -25,11 +25,6 @@ pub statement_read : (items : List LibraryItem) (name : List ℕ) (at : ℕ) (s 
 unfolding item_statement
 statement_read items name at s one left e = rw e refl
 
-pub statement_fails : (items : List LibraryItem) (name : List ℕ) (at : ℕ) (s : List Lexeme) (k : Refusal) (left : List Lexeme) →
-    read (statement levels_inside name at) s ≡ Err (k, left) → read (item_statement items name at) s ≡ Err ((items, k), left)
-unfolding item_statement
-statement_fails items name at s k left e = rw e refl
-
 ended_on : (name : List ℕ) (at : ℕ) (s : List Lexeme) (one : Item) (left more : List Lexeme) →
     read (statement levels_inside name at) s ≡ Ok (one, left) → has_ended one left ≡ true → read (statement levels_inside name at) (s ++ more) ≡ Ok (one, left ++ more)
 ended_on name at s one [] more e h = closed_statement levels_inside name at s one [] more e h

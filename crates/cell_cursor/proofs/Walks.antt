@@ -3,7 +3,7 @@ use Rattle.std.proofs.Common.{◌≡◌, ℕ, zero, suc, ◌||◌, Bool, false, 
 use Rattle.std.proofs.lemmas.List.{append_assoc}
 use Rattle.grammar_rules.specs.Rule.{Rule, Verdict, Fits, Foul, Misfit}
 use Rattle.grammar_rules.specs.Rule as r
-use Rattle.grammar_rules.specs.Reading.{Outcome, and_then, marked, judge, judge_first, repeat, read}
+use Rattle.grammar_rules.specs.Reading.{Outcome, and_then, judge, judge_first, repeat, read}
 use Rattle.liberty_text.specs.declared.token.TokenKind.{TokenKind}
 use Rattle.liberty_groups.specs.Lexeme.{Lexeme}
 use Rattle.cell_cursor.specs.Braces.{depth_behind, depth_after, shows, lexeme_kinds}
@@ -69,10 +69,6 @@ walk_first is d f c x s (Some (Fits a)) g other h w = let k = h a refl in walk_t
 walk_first is d f c x s (Some (Foul j a)) g other h w = λ nothing. absurd (none_left x s nothing)
 walk_first is d f c x s (Some (Misfit j)) g other h w = λ nothing. absurd (none_left x s nothing)
 
-walk_marked : {J K A : Type 0} (is : Brace) (d e : ℕ) (c : A → Bool) (s : List Lexeme) (h : J → K) (o : Outcome Lexeme J A) → Walk is d e c s o → Walk is d e c s (marked h o)
-walk_marked is d e c s h (Ok p) w = w
-walk_marked is d e c s h (Err z) w = w
-
 -- the rules
 
 pub walks_gives : {A : Type 0} (K : Type 0) (is : Brace) (d : ℕ) (c : A → Bool) (a : A) → c a ≡ false → Walks {K = K} is d d c (r.Gives a)
@@ -117,6 +113,3 @@ walks_many {K} {A} {S} is d f g u h s = turns (length s) u s
               (walk_then is d d d never s (read (g v a) s) (λ w q. repeat f (λ w a m. read (g w a) m) n w q) (k.2 s) (λ w q. turns n w q)),
         ))
         ([], refl, refl, refl)
-
-pub walks_marked : {J K A : Type 0} (is : Brace) (d e : ℕ) (c : A → Bool) (h : J → K) (p : Rule Lexeme J A) → Walks is d e c p → Walks is d e c (r.Marked h p)
-walks_marked is d e c h p w s = walk_marked is d e c s h (read p s) (w s)

@@ -1,5 +1,5 @@
 -- The steps of a cell's groups, by their numbers.
-use Rattle.std.proofs.Common.{None, nat_eq, zero, suc, ◌∷◌, arith, ◌≡◌, ℕ, ◌+◌, ◌*◌, List, length, get_or, ◌<◌, refl, sym, ap, ◌∙◌, subst, Some, slice_get, []}
+use Rattle.std.proofs.Common.{nat_eq, zero, suc, ◌∷◌, arith, ◌≡◌, ℕ, ◌+◌, ◌*◌, List, length, get_or, ◌<◌, refl, sym, ap, ◌∙◌, subst, Some, slice_get, []}
 use Rattle.std.specs.Option.{option_map_or}
 use Rattle.trit_cubes.specs.declared.trits.Trit.{Trit}
 use Rattle.trit_cubes.specs.declared.trits.Trit.TheVariants.{Unknown}
@@ -74,12 +74,6 @@ moved-filled pins name group v a c s place ascends e inside =
     ap (λ o. moved_at o (record { name = name; group = group }) (pin_values pins v group.support) a c.to s) e
     ∙ machine_step-filled group name place a c.to (pin_values pins v group.support) s ascends inside
     (length-map group.support (pin_value pins v))
-
-pub moved-none :
-    (pins : List Pin) (name : ℕ) (group : StateGroup) (v : List Trit) (a : Trit) (c : Change) (s : Trit)
-    → place_in pins group.support c ≡ None → moved pins (record { name = name; group = group }) v a c s ≡ s
-moved-none pins name group v a c s e =
-    ap (λ o. moved_at o (record { name = name; group = group }) (pin_values pins v group.support) a c.to s) e
 
 -- the forced value of a group, filling by filling
 pub violated-filled :

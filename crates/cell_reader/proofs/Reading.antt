@@ -21,7 +21,7 @@ use Rattle.cell_parts.specs.CellLaws.{numbers_of, groups_of, outputs_of}
 use Rattle.cell_parts.proofs.Distinct.{nil_parts, pins_are_distinct}
 use Rattle.cell_reader.specs.declared.refusal.Refusal.{Refusal}
 use Rattle.cell_reader.specs.declared.refusal.Reason.TheVariants as reason
-use Rattle.cell_reader.specs.CellTexts.{subject_of, IsEarlyUnmet, IsUnmet}
+use Rattle.cell_reader.specs.CellTexts.{subject_of, IsUnmet}
 use Rattle.cell_reader.specs.Refusals.{met, refused_or, first_refusal, early_reasons, middle_reasons, later_reasons, refusal_of, udp_inputs, checks_of, arcs_of}
 use Rattle.cell_reader.proofs.Refused.{all_unmet}
 use Rattle.cell_reader.proofs.Chains.{unmet_first, met_first}
@@ -51,21 +51,10 @@ last_decides subject cell at h is =
     unmet_first (middle_reasons subject cell) (met reason.UdpInputs (udp_inputs subject cell) ∷ []) h
     ∙ ap (λ a. refused_or reason.UdpInputs a None) (sym is)
 
--- all reasons
-pub early_decides :
-    (subject : Subject) (earlier : List (List ℕ)) (cell : Group) (told : Refusal)
-    → first_refusal (early_reasons earlier cell) ≡ Some told → refusal_of subject earlier cell ≡ Some told
-early_decides subject earlier cell told h = met_first (early_reasons earlier cell) (later_reasons subject cell) told h
-
 pub later_decide :
     (subject : Subject) (earlier : List (List ℕ)) (cell : Group)
     → first_refusal (early_reasons earlier cell) ≡ None → refusal_of subject earlier cell ≡ first_refusal (later_reasons subject cell)
 later_decide subject earlier cell h = unmet_first (early_reasons earlier cell) (later_reasons subject cell) h
-
-pub none_is_met :
-    (subject : Subject) (cell : Group)
-    → IsEarlyUnmet cell → first_refusal (later_reasons subject cell) ≡ None → IsUnmet subject cell
-none_is_met subject cell early h = (early.0, later_decide subject early.0 cell early.1 ∙ h)
 
 -- the limits of an accepted cell
 pub accepted_few_pins : (subject : Subject) (cell : Group) → IsUnmet subject cell → length (pins_of cell) ≤ 64

@@ -233,10 +233,6 @@ first_stands p r x s e = by_step (step p x.token (is_library_name x)) refl e
     by_step None i h = absurd cc
     by_step (Some q) i h = (q, i)
 
-no_lexemes : (text : List ℕ) (ts : List Token) → lexemes_of text ts ≡ [] → ts ≡ []
-no_lexemes text [] e = refl
-no_lexemes text (t ∷ ts) e = absurd cc
-
 first_or : (x y : Bool) → x ≡ true → (x || y) ≡ true
 first_or x y e = rw e refl
 

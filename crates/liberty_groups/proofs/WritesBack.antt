@@ -7,7 +7,6 @@ use Rattle.liberty_text.specs.declared.token.TokenKind.TheVariants.{Word, Brace,
 use Rattle.liberty_text.specs.declared.token.Stop.TheVariants as stops
 use Rattle.liberty_text.specs.Tokens.{Lexes}
 use Rattle.liberty_text.specs.Tokens as lex
-use Rattle.grammar_rules.specs.Rule.{Rule, Verdict, Fits, Stops}
 use Rattle.grammar_rules.specs.Rule as r
 use Rattle.grammar_rules.specs.Reading.{Outcome, read}
 use Rattle.grammar_rules.proofs.Steps.{and_then_at}
@@ -71,9 +70,6 @@ head_first name values behind =
     ∙ append_assoc name (32 ∷ []) (40 ∷ ((values ++ 41 ∷ []) ++ behind))
     ∙ ap (λ (t : List ℕ). name ++ (32 ∷ 40 ∷ t)) (append_assoc values (41 ∷ []) behind)
     ∙ regroup name (32 ∷ 40 ∷ []) values (41 ∷ behind)
-
-args_length : List Value → ℕ
-args_length arguments = length (40 ∷ (values_text true arguments ++ 41 ∷ []))
 
 spells_complex : (name : List ℕ) (arguments : List Value) (l : Bool) → is_name name ≡ true → list_all is_quotable arguments ≡ true →
     Spells (complex_text name arguments) l true

@@ -1,14 +1,13 @@
 -- What the tokens of a text are when more bytes follow it.
-use Rattle.std.proofs.Common.{◌≡◌, ℕ, ◌+◌, ◌++◌, Bool, false, List, [], ◌∷◌, Some, None, length, ◌||◌, refl, sym, ◌∙◌, ap, arith, append_assoc}
+use Rattle.std.proofs.Common.{◌≡◌, ℕ, ◌+◌, ◌++◌, Bool, false, List, [], ◌∷◌, Some, None, length, refl, sym, ◌∙◌, ap, arith, append_assoc}
 use Rattle.std.proofs.lemmas.List.{append-nil}
 use Rattle.liberty_text.specs.declared.token.TokenKind.TheVariants.{Word, Text}
 use Rattle.liberty_text.specs.declared.token.Token.{Token}
 use Rattle.liberty_text.specs.declared.token.Stop.{Stop}
-use Rattle.liberty_text.specs.declared.token.Stop.TheVariants.{End, BadByte, OpenText, OpenComment, OpenContinuation}
+use Rattle.liberty_text.specs.declared.token.Stop.TheVariants.{End, OpenText, OpenContinuation}
 use Rattle.liberty_text.specs.declared.scanner.Mode.{Mode}
 use Rattle.liberty_text.specs.declared.scanner.Mode.TheVariants.{Between, InWord, InText, InComment, InContinuation, Stopped}
 use Rattle.liberty_text.specs.Scanner.{token, step, closing, after_tokens, run, scan_of}
-use Rattle.liberty_text.proofs.Complete.{past_stop}
 
 -- what stands open after bytes, and the tokens that ended in them
 abbrev pub after : Mode → ℕ → List ℕ → Mode × List Token
@@ -45,23 +44,6 @@ scan_append xs ys = run_append (Between false) 0 xs ys ∙ ap (λ n. after_token
 -- the tokens of bytes with nothing behind them
 pub scan_is : (xs : List ℕ) → scan_of xs ≡ after_tokens (ended_in xs) (closing (open_of xs) (length xs))
 scan_is xs = ap scan_of (sym (append-nil xs)) ∙ scan_append xs []
-
--- behind a byte with which no token begins nothing changes
-pub stays_bad : (xs ys : List ℕ) (at : ℕ) → (scan_of xs).1 ≡ BadByte at → scan_of (xs ++ ys) ≡ scan_of xs
-stays_bad xs ys at e = by_mode (open_of xs) refl (sym (ap (λ r. r.1) (scan_is xs)) ∙ e)
-  where
-    by_mode : (mode : Mode) → open_of xs ≡ mode → (closing mode (length xs)).1 ≡ BadByte at → scan_of (xs ++ ys) ≡ scan_of xs
-    by_mode (Between line) m f = absurd cc
-    by_mode (InWord begun line slash) m f = absurd cc
-    by_mode (InText begun line escaped) m f = absurd cc
-    by_mode (InComment begun line star) m f = absurd cc
-    by_mode (InContinuation begun line) m f = absurd cc
-    by_mode (Stopped begun) m f =
-        scan_append xs ys
-        ∙ ap (λ k. after_tokens (ended_in xs) (run k (length xs) ys)) m
-        ∙ ap (after_tokens (ended_in xs)) (past_stop begun (length xs) ys)
-        ∙ ap (λ k. after_tokens (ended_in xs) (closing k (length xs))) (sym m)
-        ∙ sym (scan_is xs)
 
 -- the tokens of bytes that end outside texts, comments and continuations stand, where a space and more follow
 pub record Spaced (xs : List ℕ) : Type 0 where
@@ -140,19 +122,6 @@ separated xs more line mode m none f =
       goes_on = λ ys. behind_more xs more ys (Between line) [] (ap (λ k. run k (length xs) (more ++ ys)) m ∙ f ys)
           ∙ ap (λ ts. after_tokens ts (run (Between line) (length xs + length more) ys)) (sym same);
     }
-
-pub uncommented : (xs : List ℕ) (at : ℕ) → (scan_of xs).1 ≡ OpenComment at → Separated xs (42 ∷ 47 ∷ [])
-uncommented xs at e = by_mode (open_of xs) refl (sym (ap (λ r. r.1) (scan_is xs)) ∙ e)
-  where
-    by_mode : (mode : Mode) → open_of xs ≡ mode → (closing mode (length xs)).1 ≡ OpenComment at → Separated xs (42 ∷ 47 ∷ [])
-    by_mode (Between line) m f = absurd cc
-    by_mode (InWord begun line slash) m f = absurd cc
-    by_mode (InText begun line escaped) m f = absurd cc
-    by_mode (InComment begun line star) m f =
-        let two : length xs + 1 + 1 ≡ length xs + 2 = omega arith in
-        separated xs (42 ∷ 47 ∷ []) (line || false) (InComment begun line star) m refl (λ ys. ap (λ n. run (Between (line || false)) n ys) two)
-    by_mode (InContinuation begun line) m f = absurd cc
-    by_mode (Stopped begun) m f = absurd cc
 
 pub continued : (xs : List ℕ) (at : ℕ) → (scan_of xs).1 ≡ OpenContinuation at → Separated xs (10 ∷ [])
 continued xs at e = by_mode (open_of xs) refl (sym (ap (λ r. r.1) (scan_is xs)) ∙ e)

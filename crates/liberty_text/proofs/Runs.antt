@@ -48,12 +48,6 @@ pub record NoneEnded (mode : Mode) (at : ℕ) (bytes : List ℕ) (n : ℕ) (now 
   pub mode_is : now ≡ mode_behind mode at (take n bytes)
   pub none : (k : ℕ) → k < n + 1 → tokens_ended mode at (take k bytes) ≡ []
 
-pub none_yet : (mode : Mode) (at : ℕ) (bytes : List ℕ) → NoneEnded mode at bytes 0 mode
-none_yet mode at bytes = record { mode_is = refl; none = λ k less. ap (λ (n : ℕ). tokens_ended mode at (take n bytes)) (none_less k less) }
-  where
-    none_less : (k : ℕ) → k < 0 + 1 → k ≡ 0
-    none_less k less = omega (arith, less)
-
 take_next : (bytes : List ℕ) (n : ℕ) → n < length bytes → take (n + 1) bytes ≡ take n bytes ++ get_or bytes n 0 ∷ []
 take_next bytes n h = rw add-one (take-suc bytes n 0 h)
 

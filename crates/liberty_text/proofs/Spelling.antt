@@ -4,7 +4,7 @@ use Rattle.std.specs.Prelude.{nat_lt}
 use Rattle.std.proofs.lemmas.Bool.Decides.{nat_tests}
 use Rattle.std.proofs.lemmas.List.{take-append-drop, append-nil}
 use Rattle.std.proofs.Math.Seq.{take-length, take-append_seam, drop-append_seam}
-use Rattle.liberty_text.specs.Number.{Written, is_digit, AreDigits, IsSign, IsPoint, IsExponent, IsNumber, digit_run, sign_of, fraction_of, is_run, exponent_of, written_with, written_behind, written_of, IsOneNumber}
+use Rattle.liberty_text.specs.Number.{Written, is_digit, AreDigits, IsSign, IsPoint, IsExponent, IsNumber, digit_run, sign_of, fraction_of, is_run, exponent_of, written_with, written_behind, written_of}
 use Rattle.liberty_text.specs.Number as n
 use Rattle.liberty_text.proofs.Sound.{both}
 
@@ -240,9 +240,6 @@ number_complete text w k =
     ∙ ap (λ l. written_behind w.negative w.whole l) f.found
     ∙ ap (λ o. written_with w.negative w.whole w.fraction o) e.found
     ∙ ap (λ q. cond q (Some (record { negative = w.negative; whole = w.whole; fraction = w.fraction; exponent_negative = w.exponent_negative; exponent = w.exponent })) None) some
-
-pub one_number : (text : List ℕ) → IsOneNumber text
-one_number text w = (number_complete text w, number_sound text w)
 
 -- the digits of an exponent are digits
 pub exponent_digits : {tail digits : List ℕ} {negative : Bool} → IsExponent tail negative digits → AreDigits digits

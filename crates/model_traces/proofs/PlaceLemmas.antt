@@ -103,16 +103,6 @@ get-within [] i x e = absurd cc
 get-within (y ∷ ys) zero x e = omega arith
 get-within (y ∷ ys) (suc i) x e = let rest = get-within ys i x e in omega (arith, rest)
 
-pub get-among : {X : Type 0} (xs : List X) (i : ℕ) (x : X) → slice_get xs i ≡ Some x → Among x xs
-get-among [] i x e = absurd cc
-get-among (y ∷ ys) zero x e = let same_one : y ≡ x = cc in inl same_one
-get-among (y ∷ ys) (suc i) x e = inr (get-among ys i x e)
-
-pub among-get : {X : Type 0} (x : X) (xs : List X) → Among x xs → (i : ℕ) × (slice_get xs i ≡ Some x)
-among-get x [] m = absurd m
-among-get x (y ∷ ys) (inl e) = (0, ap Some e)
-among-get x (y ∷ ys) (inr m) = let rest = among-get x ys m in (suc rest.0, rest.1)
-
 pub set-last : {X : Type 0} (xs : List X) (y z : X) → set (xs ++ y ∷ []) (length xs) z ≡ xs ++ z ∷ []
 set-last [] y z = refl
 set-last (x ∷ xs) y z = ap (λ r. x ∷ r) (set-last xs y z)

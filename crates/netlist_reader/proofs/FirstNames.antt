@@ -1,10 +1,10 @@
 -- Things whose names are added to a list one after another.
-use Rattle.std.proofs.Common.{◌≡◌, ◌<◌, ◌≤◌, ℕ, zero, suc, ◌+◌, Bool, true, false, cond, if◌then◌else◌, List, [], ◌∷◌, ◌++◌, take, get_or, length, position, Option, Some, None, refl, sym, ap, subst, ◌∙◌, arith, length-append}
+use Rattle.std.proofs.Common.{◌≡◌, ◌<◌, ℕ, zero, suc, ◌+◌, Bool, true, false, cond, if◌then◌else◌, List, [], ◌∷◌, ◌++◌, take, get_or, length, position, Option, Some, None, refl, sym, ap, subst, ◌∙◌, arith, length-append}
 use Rattle.std.specs.Prelude.{slice_get}
 use Rattle.std.specs.List.{position_from}
 use Rattle.std.specs.Option.{option_and_then}
 use Rattle.std.specs.Str.{bytes_eq}
-use Rattle.std.proofs.lemmas.List.{take_more, take_all, length-take-le}
+use Rattle.std.proofs.lemmas.List.{take_more, length-take-le}
 use Rattle.std.proofs.lemmas.List.Quantifiers.{position-Some}
 use Rattle.std.proofs.lemmas.Iterator.Adapters.{position_from-zero}
 use Rattle.std.proofs.lemmas.Slice.Eq.{bytes_eq-Decides}
@@ -113,10 +113,6 @@ first_more name_of old new xs i x h e f a =
           ∙ sym (position_last (λ u. bytes_eq name (name_of u)) (take i xs) x)
           ∙ sym (ap (position (λ u. bytes_eq name (name_of u))) longer);
     }
-
--- behind all things
-pub first_all : {X : Type 0} (name_of : X → List ℕ) (found : FirstNames) (xs : List X) (i : ℕ) → length xs ≤ i → FindsFirst name_of found (take i xs) → FindsFirst name_of found xs
-first_all name_of found xs i h f = subst (FindsFirst name_of found) (take_all i xs h) f
 
 -- the number of a name, where the names are kept
 pub may_find : {X : Type 0} (name_of : X → List ℕ) (kept : Option FirstNames) (things : List X) (found : FirstNames) (x : List ℕ) → MayFind name_of kept things → kept ≡ Some found

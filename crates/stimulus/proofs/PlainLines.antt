@@ -97,8 +97,3 @@ word_is text end e some space =
       some = omega (arith, long);
       whole = sym (take-append-drop end text) ∙ ap (λ r. take end text ++ r) (at ∙ ap (λ b. b ∷ drop (end + 1) text) space);
     }
-
-pub byte_is : (text : List ℕ) → 1 < length text → nat_le (get_or text 0 0) 32 ≡ false → get_or text 1 0 ≡ 10 → IsByteAhead text (take 1 text) (drop 2 text)
-byte_is [] h s f = absurd (omega (arith, h))
-byte_is (x ∷ []) h s f = absurd (omega (arith, h))
-byte_is (x ∷ y ∷ rest) h s f = record { byte = x; solid = s; one = refl; whole = ap (λ b. x ∷ b ∷ rest) f }

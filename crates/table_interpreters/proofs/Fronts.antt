@@ -59,11 +59,6 @@ pub front-done :
 front-done f xs ss ts i h k l front =
     sym (take_all i ts l) ∙ front ∙ (λ j. each f (take_all i xs h j) (take_all i ss k j))
 
-pub clear-done :
-    {X : Type 0} (xs : List X) (i n : ℕ) (x : X)
-    → length xs ≤ i → i ≡ n → take i xs ≡ replicate i x → xs ≡ replicate n x
-clear-done xs i n x h e front = sym (take_all i xs h) ∙ front ∙ ap (λ k. replicate k x) e
-
 pub map-done :
     {S : Type 0} (f : S → S) (ss : List S) (i : ℕ) → length ss ≤ i → take i ss ++ map f (drop i ss) ≡ ss
 map-done f [] zero h = refl

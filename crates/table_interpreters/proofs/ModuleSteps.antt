@@ -96,13 +96,3 @@ no-event m r c e = (
   λ j. if sym e j then happened m r c else r,
   λ j. if sym e j then reports_at m r c else replicate (length m.checks) false,
 )
-
--- a change to another value
-pub an-event :
-    (m : VModule) (r : ModuleRun) (c : Change)
-    → is_event r.inputs c ≡ true
-    → (happened m r c ≡ run_step m r c) × (reports_at m r c ≡ step_reports m r c)
-an-event m r c e = (
-  λ j. if sym e j then happened m r c else r,
-  λ j. if sym e j then reports_at m r c else replicate (length m.checks) false,
-)

@@ -1,13 +1,11 @@
 -- What a module that can be run gives for its parts, and that every sound module can be run.
-use Rattle.std.proofs.Common.{◌≡◌, ℕ, suc, zero, ◌≤◌, ◌<◌, Bool, true, false, ◌||◌, List, [], ◌∷◌, ◌++◌, length, get_or, refl, sym, subst, arith, IsTrue, Some, slice_get, nat_eq, nat_le, eqb-true}
+use Rattle.std.proofs.Common.{◌≡◌, ℕ, suc, zero, ◌≤◌, ◌<◌, Bool, true, false, ◌||◌, List, [], ◌∷◌, ◌++◌, length, get_or, refl, sym, subst, arith, IsTrue, Some, slice_get, nat_eq, nat_le}
 use Rattle.std.specs.List.{list_all}
 use Rattle.std.specs.Option.{option_map_or}
-use Rattle.std.proofs.lemmas.Bool.{and_parts, and_from, leb-true, le-leb, eq-eqb}
+use Rattle.std.proofs.lemmas.Bool.{and_parts, and_from, le-leb, eq-eqb}
 use Rattle.udp_tables.specs.declared.table.UdpRow.{UdpRow}
 use Rattle.udp_tables.specs.declared.table.Udp.{Udp}
-use Rattle.udp_tables.specs.Primitive.{is_level, IsCombinational}
-use Rattle.udp_tables.specs.Sequential.{HasEntries}
-use Rattle.specify_blocks.specs.declared.model.VNet.{VNet}
+use Rattle.udp_tables.specs.Primitive.{is_level}
 use Rattle.specify_blocks.specs.declared.model.Instance.{Instance}
 use Rattle.specify_blocks.specs.declared.model.Instance.TheVariants as instance
 use Rattle.specify_blocks.specs.declared.model.VModule.{VModule}
@@ -22,40 +20,11 @@ list_all-get p (y ∷ ys) zero x h e =
     let same : y ≡ x = cc in subst (λ z. IsTrue (p z)) same (and_parts (p y) (list_all p ys) h).0
 list_all-get p (y ∷ ys) (suc i) x h e = list_all-get p ys i x (and_parts (p y) (list_all p ys) h).1 e
 
-pub All-from-list_all :
-    {X : Type 0} (p : X → Bool) (xs : List X) → IsTrue (list_all p xs) → (k : ℕ) (d : X) → k < length xs → IsTrue (p (get_or xs k d))
-All-from-list_all p [] h k d inside = absurd (omega arith)
-All-from-list_all p (x ∷ xs) h zero d inside = (and_parts (p x) (list_all p xs) h).0
-All-from-list_all p (x ∷ xs) h (suc k) d inside =
-    All-from-list_all p xs (and_parts (p x) (list_all p xs) h).1 k d (omega arith)
-
 pub list_all-from-All :
     {X : Type 0} (p : X → Bool) (xs : List X) → ((k : ℕ) (d : X) → k < length xs → IsTrue (p (get_or xs k d))) → IsTrue (list_all p xs)
 list_all-from-All p [] h = refl
 list_all-from-All p (x ∷ xs) h =
     and_from (p x) (list_all p xs) (h zero x (omega arith)) (list_all-from-All p xs (λ k d inside. h (suc k) d (omega arith)))
-
--- a table has an entry for each input in each row
-pub table-entries : (udp : Udp) → IsTrue (is_table udp) → HasEntries udp
-table-entries udp h =
-    λ k d inside.
-    eqb-true _ _
-    (All-from-list_all (λ (row : UdpRow). nat_eq (length row.inputs) (length udp.inputs)) udp.rows
-    (and_parts (has_entries udp) (udp.sequential || has_levels udp) h).0 k d inside)
-
-levels_by : (s : Bool) (udp : Udp) → s ≡ false → IsTrue (s || has_levels udp) → IsTrue (has_levels udp)
-levels_by true udp e h = absurd cc
-levels_by false udp e h = h
-
--- one without a state is combinational
-pub table-levels : (udp : Udp) → IsTrue (is_table udp) → udp.sequential ≡ false → IsCombinational udp
-table-levels udp h e =
-    record {
-      entries = table-entries udp h;
-      levels =
-          All-from-list_all (λ (row : UdpRow). list_all is_level row.inputs) udp.rows
-          (levels_by udp.sequential udp e (and_parts (has_entries udp) (udp.sequential || has_levels udp) h).1);
-    }
 
 pub wired-table :
     (room : ℕ) (m : VModule) (i : ℕ) (udp : Udp) → IsTrue (is_wired room m) → slice_get m.udps i ≡ Some udp → IsTrue (is_table udp)
@@ -68,18 +37,6 @@ pub wired-joined :
 wired-joined room m i x h e =
     list_all-get (is_joined m.udps room) m.instances i x
     (and_parts (list_all is_table m.udps) (list_all (is_joined m.udps room) m.instances) h).1 e
-
-pub joined-room : (udps : List Udp) (room : ℕ) (x : Instance) → IsTrue (is_joined udps room x) → net_count x ≤ room
-joined-room udps room x h = leb-true (net_count x) room (and_parts (nat_le (net_count x) room) (has_nets udps x) h).0
-
-pub joined-nets :
-    (udps : List Udp) (room number : ℕ) (output : VNet) (nets : List VNet) (udp : Udp)
-    → IsTrue (is_joined udps room (instance.Primitive number output nets)) → slice_get udps number ≡ Some udp
-    → length nets ≡ length udp.inputs
-joined-nets udps room number output nets udp h e =
-    eqb-true (length nets) (length udp.inputs)
-    (subst (λ o. IsTrue (option_map_or (λ (u : Udp). nat_eq (length nets) (length u.inputs)) o true)) e
-    (and_parts (nat_le (length nets) room) (has_nets udps (instance.Primitive number output nets)) h).1)
 
 -- Every sound module can be run, with room for as many values as there are nets that feed any instance.
 table-test : (s : Bool) (udp : Udp) → IsTable s udp → IsTrue (has_entries udp) × IsTrue (s || has_levels udp)

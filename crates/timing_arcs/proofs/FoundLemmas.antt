@@ -109,9 +109,6 @@ more_arcs p ps = record p { placed = p.placed ++ ps }
 abbrev placed_at : ℕ → List Arc → List Placed
 placed_at at arcs = map (λ arc. record { arc = arc; at = at }) arcs
 
-more_checks-same : (p : Parts) (ks js : List Check) (ats bts : List ℕ) → p.checks ++ ks ≡ p.checks ++ js → p.check_at ++ ats ≡ p.check_at ++ bts → more_checks p ks ats ≡ more_checks p js bts
-more_checks-same p ks js ats bts k t = λ i. record p { checks = k i; check_at = t i }
-
 -- what is held with one more is what is held of one more
 push-take : {A : Type 0} (n : ℕ) (xs : List A) (x : A) → pushed n (take n xs) x ≡ take n (xs ++ x ∷ [])
 push-take n xs x =

@@ -32,13 +32,6 @@ in_word-and (suc n) a b [] = refl
 in_word-and (suc n) a b (false ∷ p) = ap (λ w. in_word n w p) (and_mod a b (2 ^ n)) ∙ in_word-and n (a % 2 ^ 2 ^ n) (b % 2 ^ 2 ^ n) p
 in_word-and (suc n) a b (true ∷ p) = ap (λ w. in_word n w p) (and_shr a b (2 ^ n)) ∙ in_word-and n (a / 2 ^ 2 ^ n) (b / 2 ^ 2 ^ n) p
 
--- the parts of a word
-zeros-of : (n w : ℕ) → half (in_word (suc n) w) false ≡ in_word n (word_part n Zero w)
-zeros-of n w = refl
-
-ones-of : (n w : ℕ) → half (in_word (suc n) w) true ≡ in_word n (word_part n One w)
-ones-of n w = refl
-
 both-of : (n w : ℕ) → both (in_word (suc n) w) ≡ in_word n (word_part n Unknown w)
 both-of n w = sym (fun_ext (in_word-and n (w % 2 ^ 2 ^ n) (w / 2 ^ 2 ^ n)))
 

@@ -1,6 +1,6 @@
 -- Numbers of bits: shifts by them, words made of two halves, and the words of a cube with one more place at its end.
-use Rattle.std.proofs.Common.{◌≡◌, ℕ, zero, suc, ◌+◌, ◌-◌, ◌*◌, ◌/◌, ◌%◌, ◌^◌, ◌<◌, ◌≤◌, Bool, true, false, List, [], ◌∷◌, ◌++◌, length, map, take, slice_set, slice_index_or, refl, sym, ◌∙◌, ap, arith, pow-suc}
-use Rattle.std.proofs.lemmas.List.{take_more_set, take_more, take-set, take_all, map-append, length-append, length-map}
+use Rattle.std.proofs.Common.{◌≡◌, ℕ, zero, suc, ◌+◌, ◌-◌, ◌*◌, ◌/◌, ◌%◌, ◌^◌, ◌<◌, ◌≤◌, Bool, true, false, List, [], ◌∷◌, ◌++◌, length, map, slice_index_or, refl, sym, ◌∙◌, ap, arith, pow-suc}
+use Rattle.std.proofs.lemmas.List.{length-append, length-map}
 use Rattle.std.proofs.lemmas.Nat.{mod-mul-add, div-mul-add, pow-add, pow_pos, and_le_l}
 use Rattle.std.proofs.Math.Nat.{mod-eq_of_lt, mod-lt, div-lt_iff_lt-mul}
 use Rattle.trit_cubes.specs.declared.trits.Trit.{Trit}
@@ -134,26 +134,6 @@ trits-behind ts t len f v long fixed values =
 
 pub length-behind : (ts : List Trit) (t : Trit) (len : ℕ) → len ≡ length ts → len + 1 ≡ length (ts ++ t ∷ [])
 length-behind ts t len long = ap (λ n. n + 1) long ∙ sym (length-last ts t)
-
--- a function of each element, written one by one at the front of a longer list, and one more behind them
-pub parts-more : (f : ℕ → ℕ) (parts sets : List ℕ) (i v : ℕ) → i < length parts → i < length sets → v ≡ f (slice_index_or sets i 0)
-    → take i parts ≡ map f (take i sets) → take (i + 1) (slice_set parts i v) ≡ map f (take (i + 1) sets)
-parts-more f parts sets i v l m ev e =
-    take_more_set parts i v l ∙ ap (λ q. q ++ v ∷ []) e ∙ ap (λ x. map f (take i sets) ++ x ∷ []) ev
-    ∙ sym (ap (map f) (take_more sets i 0 m) ∙ map-append f (take i sets) (slice_index_or sets i 0 ∷ []))
-
-before-more : (f : ℕ → ℕ) (parts sets : List ℕ) (i : ℕ) → i ≡ length sets → take i parts ≡ map f (take i sets) → take (length sets) parts ≡ map f sets
-before-more f parts sets i ends e =
-    ap (λ n. take n parts) (sym ends) ∙ e ∙ ap (map f) (take_all i sets (omega (arith, ends)))
-
-pub parts-all : (f : ℕ → ℕ) (parts sets : List ℕ) (i more : ℕ) → i ≡ length sets → length sets < length parts
-    → take i parts ≡ map f (take i sets) → take (length sets + 1) (slice_set parts (length sets) more) ≡ map f sets ++ more ∷ []
-parts-all f parts sets i more ends l e =
-    take_more_set parts (length sets) more l ∙ ap (λ q. q ++ more ∷ []) (before-more f parts sets i ends e)
-
-pub parts-front : (f : ℕ → ℕ) (parts sets : List ℕ) (i more : ℕ) → i ≡ length sets
-    → take i parts ≡ map f (take i sets) → take (length sets) (slice_set parts (length sets) more) ≡ map f sets
-parts-front f parts sets i more ends e = take-set parts (length sets) more ∙ before-more f parts sets i ends e
 
 -- the lengths of lists made so
 pub length-longer : {X : Type 0} (xs ys : List X) (x : X) → ys ≡ xs ++ x ∷ [] → length ys ≡ length xs + 1

@@ -1,7 +1,7 @@
 -- What the code that tries each list of trits needs.
 use Rattle.std.proofs.Common.{◌≡◌, ◌≢◌, ℕ, ◌+◌, ◌<◌, Bool, true, false, not, ◌&&◌, ◌||◌, List, [], ◌∷◌, ◌++◌, length, take, slice_index_or, slice_set, slice_get, Some, refl, sym, ◌∙◌, ap, arith}
 use Rattle.std.specs.List.{All, list_all}
-use Rattle.std.proofs.lemmas.Bool.{true≢false, and_left, and_right}
+use Rattle.std.proofs.lemmas.Bool.{true≢false, and_right}
 use Rattle.std.proofs.lemmas.List.{take_more_set, take_more}
 use Rattle.std.proofs.lemmas.List.Elements.{Contains-get_or}
 use Rattle.std.proofs.lemmas.Option.{get_or_from_slice_get}
@@ -60,9 +60,6 @@ is_prime-leaves set c i l h =
     fails : (b : Bool) → (b ≡ true → ⊥) → b ≡ false
     fails true f = absurd (f refl)
     fails false f = refl
-
-pub is_prime-outside : (set : List Bool → Bool) (c : List Trit) → is_inside set c ≡ false → false ≡ is_prime set c
-is_prime-outside set c h = sym (and_left (is_inside set c) (list_all (λ d. not (is_inside set d)) (freed c)) h)
 
 -- one more place written
 pub take-written : (places cube : List Trit) (i : ℕ) (t : Trit) → i < length places → i < length cube → slice_get cube i ≡ Some t

@@ -135,7 +135,3 @@ primitive-combinational name n f =
 
 abbrev pub free_of : List Entry → UdpRow
 free_of ins = record { inputs = ins; state = level.Any; next = next_to Unknown }
-
--- the row of free entries
-pub free_row-is : (n : ℕ) (ins : List Entry) → ins ≡ replicate n (level_entry Unknown) → free_of ins ≡ level_row Unknown (replicate n Unknown)
-free_row-is n ins e = ap free_of (e ∙ sym (map-replicate n))

@@ -1,5 +1,5 @@
 -- A run of `simulate` on a library and its own models.
-use Rattle.std.proofs.Common.{◌≡◌, ℕ, List, [], take, IsTrue, refl, sym, ap, subst, ◌∙◌}
+use Rattle.std.proofs.Common.{◌≡◌, ℕ, List, [], take, IsTrue, inl, inr, refl, sym, ap, subst, ◌∙◌}
 use Rattle.text_io.specs.declared.slots.OutSlot.TheVariants.{Report, Faults}
 use Rattle.text_io.specs.Desk.{DeskState, Folder, wrote}
 use Rattle.text_io.proofs.Wrote.{wrote-nil}
@@ -21,6 +21,8 @@ use Rattle.translate_cmd.specs.Runs.{Runs}
 use Rattle.translate_cmd.specs.Agreement.{Agrees, ReportsAllEqual}
 use Rattle.translate_cmd.specs.AgreementRuns.{NameOwnModels, WritesAllEqual, OwnModelsEndInAgreement}
 use Rattle.translate_cmd.proofs.Agreement.{own_models_agree}
+use Rattle.translate_cmd.proofs.CompleteLemmas.{decided_or}
+use Rattle.translate_cmd.proofs.OwnEnds.{own_words_are_done}
 
 -- what such words come to
 own_outcome : (words : List (List ℕ)) (folder : Folder) → NameOwnModels words folder → Agrees (bytes_at words folder 1) (bytes_at words folder 4) (simulate_of words folder)
@@ -73,5 +75,11 @@ own_models_end_in_agreement old new result run = λ asked folder tells own.
     record {
       not_model = λ e. agrees.not_model (ends_so old new result status.Model folder r tells refl e);
       not_differ = λ e. agrees.not_differ (ends_so old new result status.Differ folder r tells refl e);
+      ended = λ sound h.
+          elim (decided_or result) [
+            | inl outside ↦ absurd (sound outside)
+            | inr (inl memory) ↦ inr memory
+            | inr (inr d) ↦ inl ((r.whole d folder tells).same_status ∙ own_words_are_done old.words folder own h)
+          ];
       done = λ e. is_done _ _ old new result folder r tells e (agrees.done (ends_so old new result status.Done folder r tells refl e));
     }

@@ -27,6 +27,7 @@ use Rattle.library_items.specs.KeptCells.{kept_cells, cells_by}
 use Rattle.library_items.specs.Progress.{no_progress}
 use Rattle.simulation_catalog.specs.Catalog.{cells_named}
 use Rattle.simulation_catalog.specs.Comparisons.{any_differs}
+use Rattle.simulation_catalog.specs.Ends.{sections_outcome}
 use Rattle.model_simulation.specs.LibraryAnswers.{answer_by}
 use Rattle.model_simulation.specs.Simulate.{simulate_files, simulate_outcome}
 use Rattle.model_simulation.proofs.WholeSimulations.{model_whole, stimulus_whole, simulated_whole}
@@ -88,13 +89,25 @@ replay_is_good : {M : Type 0} (l : Language M) (text stimulus : List ℕ) → Ca
 replay_is_good l text stimulus can =
     subst (IsGoodOf (replay_files l.format)) (sym (replayed_whole l text stimulus can)) (record { good = record { status = inl refl; faults = refl }; binds = refl })
 
+-- the sections of a simulation that can be done
+abbrev pub sections_simulated : (library text vhdl stimulus : List ℕ) → CanBeSimulated library text vhdl stimulus → Outcome
+sections_simulated library text vhdl stimulus can =
+    sections_outcome (kept_cells no_progress (items_within library_limit library)) can.modules can.entities can.sections
+
+-- it comes to these
+pub simulation_comes_to : (library text vhdl stimulus : List ℕ) (can : CanBeSimulated library text vhdl stimulus)
+    → simulate_outcome library text vhdl stimulus ≡ sections_simulated library text vhdl stimulus can
+simulation_comes_to library text vhdl stimulus can =
+    let cells = kept_cells no_progress (items_within library_limit library) in
+    simulated_whole library text vhdl stimulus cells can.modules can.entities can.sections
+    (ap (λ end. answer_by (cells_by end cells)) (ends_whole library can.whole))
+    (model_whole verilog text can.modules can.text_within can.verilog) (model_whole vital vhdl can.entities can.vhdl_within can.vital)
+    (stimulus_whole cells (cells_named cells can.modules can.entities) stimulus can.sections can.stimulus_within can.lines)
+
 simulation_is_good : (library text vhdl stimulus : List ℕ) → CanBeSimulated library text vhdl stimulus → IsGoodOf simulate_files (simulate_outcome library text vhdl stimulus)
 simulation_is_good library text vhdl stimulus can =
     let cells = kept_cells no_progress (items_within library_limit library) in
-    subst (IsGoodOf simulate_files) (sym (simulated_whole library text vhdl stimulus cells can.modules can.entities can.sections
-    (ap (λ end. answer_by (cells_by end cells)) (ends_whole library can.whole))
-    (model_whole verilog text can.modules can.text_within can.verilog) (model_whole vital vhdl can.entities can.vhdl_within can.vital)
-    (stimulus_whole cells (cells_named cells can.modules can.entities) stimulus can.sections can.stimulus_within can.lines)))
+    subst (IsGoodOf simulate_files) (sym (simulation_comes_to library text vhdl stimulus can))
     (record { good = record { status = differ_or_done (any_differs cells can.modules can.entities can.sections) _ refl; faults = refl }; binds = refl })
 
 can_is_good : (asked : Command) (words : List (List ℕ)) (folder : Folder) → CanBeDone asked words folder → IsGoodOf (files_of asked) (outcome_of asked words folder)

@@ -10,4 +10,5 @@ pub mod EntityTexts
 pub mod ReadBack
 pub mod KeptModels
 pub mod Agreement
+pub mod OwnEnds
 pub mod AgreementRuns

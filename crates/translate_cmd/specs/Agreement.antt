@@ -1,7 +1,10 @@
 -- A library simulated with the models that translating it writes: what it comes to. This project's promise.
-use Rattle.std.specs.Prelude.{◌≡◌, ◌≢◌, ℕ, List, [], Ok, All}
+use Rattle.std.specs.Prelude.{◌≡◌, ◌≢◌, ◌≤◌, ℕ, List, [], length, Ok, All}
+use Rattle.cell_cursor.specs.Ends.{items_within}
 use Rattle.cell_reader.specs.LibraryCells.{CellEntry}
 use Rattle.stimulus.specs.declared.sections.Section.{Section}
+use Rattle.stimulus.specs.PortEntries.{listed}
+use Rattle.stimulus.specs.Stimulus.{stimulus_of}
 use Rattle.command_outcomes.specs.declared.status.Status.TheVariants as status
 use Rattle.command_outcomes.specs.Written.{in_report}
 use Rattle.command_outcomes.specs.Outcome.{Outcome}
@@ -9,9 +12,14 @@ use Rattle.simulation_catalog.specs.Catalog.{cells_named}
 use Rattle.simulation_catalog.specs.Comparisons.{sections_text}
 use Rattle.simulation_catalog.specs.Generated.{SaysEqual}
 use Rattle.simulation_catalog.specs.StimulusFile.{stimulus_answer}
+use Rattle.library_items.specs.Endings.{library_limit}
+use Rattle.library_items.specs.KeptCells.{kept_cells}
+use Rattle.library_items.specs.Progress.{no_progress}
 use Rattle.library_translation.specs.Library.{translate_outcome}
+use Rattle.model_replay.specs.Outcome.{model_limit, stimulus_limit}
 use Rattle.model_simulation.specs.LibraryAnswers.{library_answer}
 use Rattle.model_simulation.specs.Simulate.{simulate_outcome}
+use Rattle.translate_cmd.specs.Complete.{IsWholeLibrary}
 use Rattle.translate_cmd.specs.TranslatedModels.{modules_in, entities_in}
 
 -- what simulating a library beside its own models comes to: the Verilog and the VHDL that translating it writes
@@ -44,3 +52,15 @@ pub record Agrees (library stimulus : List ℕ) (outcome : Outcome) : Type 0 whe
 -- Whatever the library and the stimulus are, simulating the library beside its own models comes to such a run.
 abbrev pub OwnModelsAgree : Type 0
 OwnModelsAgree = (library stimulus : List ℕ) → Agrees library stimulus (own_simulation library stimulus)
+
+-- The library is whole, no line of the stimulus is bad over its cells beside its own models, and no file is over its limit: the library,
+-- the Verilog and the VHDL that translating it writes, and the stimulus.
+pub record IsWithoutFault (library stimulus : List ℕ) : Type 0 where
+  pub whole : IsWholeLibrary library
+  pub verilog_within : length (translate_outcome library).text.verilog ≤ model_limit
+  pub vital_within : length (translate_outcome library).text.vital ≤ model_limit
+  pub stimulus_within : length stimulus ≤ stimulus_limit
+  pub sections : List Section
+  pub lines :
+      stimulus_of (listed (cells_named (kept_cells no_progress (items_within library_limit library)) (modules_in library) (entities_in library))) stimulus
+      ≡ Ok sections

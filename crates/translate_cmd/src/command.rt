@@ -46,8 +46,9 @@ const USAGE: &[u8] = b"lib2sim: usage\n";
 /// to `Differ`, where some are not, or to `Memory`. Cells that are refused count there only where the stimulus names them.
 ///
 /// Where `simulate` names a library and, as its Verilog and VHDL files, the texts that `translate` writes for this library, it ends
-/// neither with `Model` nor with `Differ`, whatever the library and the stimulus are. With `Done` the report is the sections of the
-/// stimulus, each of which says that the traces of the cell, of its module and of its entity are equal.
+/// neither with `Model` nor with `Differ`, whatever the library and the stimulus are. Where the library is whole, no line of the
+/// stimulus is bad, no file is over its limit and no call failed, it ends with `Done` or `Memory`. With `Done` the report is the
+/// sections of the stimulus, each of which says that the traces of the cell, of its module and of its entity are equal.
 ///
 /// Nothing is bound but what the words name. Of a command that reads files all this is said where the desk tells its folder
 /// and what is left of its files.

@@ -1,4 +1,4 @@
 pub mod Bounds
 pub mod NumeralLemmas
 pub mod AskedLemmas
-pub mod FewCells
+pub mod ReadingLaws

@@ -6,3 +6,4 @@ pub mod NamedFilesLemmas
 pub mod MemoryLemmas
 pub mod HostLemmas
 pub mod LineLaws
+pub mod WordLemmas

@@ -1,5 +1,5 @@
 -- What is known of a desk at a moment, and how a call changes it. This project's rule.
-use Rattle.std.specs.Prelude.{◌≡◌, ℕ, ◌+◌, ◌-◌, ◌^◌, ◌≤◌, min, Bool, true, ◌||◌, List, [], ◌∷◌, ◌++◌, drop, Option, Some, None, Result, IfSome, OnOk, OnErr, slice_get, if◌then◌else◌}
+use Rattle.std.specs.Prelude.{◌≡◌, ℕ, ◌+◌, ◌-◌, ◌^◌, ◌≤◌, min, Bool, true, ◌||◌, List, [], ◌∷◌, ◌++◌, drop, Option, Some, None, Result, Ok, Err, IfSome, OnOk, OnErr, slice_get, if◌then◌else◌}
 use Rattle.std.specs.Option.{option_map, option_and_then}
 use Rattle.std.specs.Str.{bytes_eq}
 use Rattle.text_io.specs.declared.outside.Failed.{Failed}
@@ -8,6 +8,8 @@ use Rattle.text_io.specs.declared.slots.OutSlot.{OutSlot}
 use Rattle.text_io.specs.declared.slots.OutSlot.TheVariants.{Report, Faults}
 use Rattle.text_io.specs.declared.slots.Slot.{Slot}
 use Rattle.text_io.specs.declared.slots.Slot.TheVariants.{Input, Output}
+use Rattle.text_io.specs.declared.stop.Stop.{Stop}
+use Rattle.text_io.specs.declared.stop.Stop.TheVariants as stops
 use Rattle.text_io.specs.Slots.{same_slot, put_in, put_out, put_slot}
 
 -- named files: each name with the file's bytes
@@ -58,11 +60,31 @@ wrote s slot bytes = record s { written = put_out s.written slot (option_map (λ
 abbrev pub Rose : ℕ → ℕ → Type 0
 Rose before now = now ≡ min (before + 1) (2 ^ 64 - 1)
 
--- the count of faults did not fall, a call that went well left it as it was, and one that failed raised it
-pub record HasCause {T : Type 0} (before now : ℕ) (result : Result T Failed) : Type 0 where
+-- The count of faults did not fall, an answer that tells of no failed call left it as it was, and one that tells of a failed call
+-- raised it: what is said of the first answers alone, and of the second alone, is given.
+pub record CountsFaults (if_unfailed if_failed : Type 0 → Type 0) (before now : ℕ) : Type 0 where
   pub later : before ≤ now
-  pub kept : OnOk result (now ≡ before)
-  pub failed : OnErr result (Rose before now)
+  pub kept : if_unfailed (now ≡ before)
+  pub failed : if_failed (Rose before now)
+
+-- how a call on a desk changes the count: one that went well left it as it was, and one that failed raised it
+abbrev pub HasCause : {T : Type 0} → ℕ → ℕ → Result T Failed → Type 0
+HasCause before now result = CountsFaults (OnOk result) (OnErr result) before now
+
+-- P holds, unless a call failed: where all went well, and where there was no memory
+abbrev pub UnlessFailed : {T : Type 0} → Result T Stop → Type 0 → Type 0
+UnlessFailed (Ok x) P = P
+UnlessFailed (Err stop) P = stop ≡ stops.Memory → P
+
+-- P holds where a call failed
+abbrev pub WhereFailed : {T : Type 0} → Result T Stop → Type 0 → Type 0
+WhereFailed (Ok x) P = Unit {0}
+WhereFailed (Err stop) P = stop ≡ stops.Failed → P
+
+-- how a call that may also lack memory changes the count: it rose where the call stopped since another failed, and in every other
+-- case it stayed as it was
+abbrev pub StopsWithCause : {T : Type 0} → ℕ → ℕ → Result T Stop → Type 0
+StopsWithCause before now result = CountsFaults (UnlessFailed result) (WhereFailed result) before now
 
 -- a list begins with this part
 abbrev pub IsPrefix : List ℕ → List ℕ → Type 0

@@ -1,4 +1,5 @@
 pub mod Slots
+pub mod FileCommands
 pub mod Plan
 pub mod Desk
 pub mod Read

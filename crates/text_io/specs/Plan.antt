@@ -1,44 +1,53 @@
--- The plan of a command: which of its words name files, and the slot of each. This project's rule.
-use Rattle.std.specs.Prelude.{ℕ, ◌+◌, Bool, true, ◌&&◌, not, List, [], ◌∷◌, length, codes, nat_eq, if◌then◌else◌}
+-- The plan of words: which of them name files, and the slot of each. This project's rule.
+use Rattle.std.specs.Prelude.{ℕ, ◌+◌, Bool, true, ◌&&◌, not, List, [], ◌∷◌, length, nat_eq, Option, Some, None, if◌then◌else◌}
 use Rattle.std.specs.List.{list_any}
 use Rattle.std.specs.Str.{bytes_eq}
-use Rattle.text_io.specs.declared.slots.InSlot.TheVariants.{Library, Verilog, Vital, Stimulus}
-use Rattle.text_io.specs.declared.slots.OutSlot.TheVariants.{VerilogText, VitalText}
+use Rattle.text_io.specs.declared.file_commands.FileCommand.{FileCommand}
 use Rattle.text_io.specs.declared.slots.Slot.{Slot}
-use Rattle.text_io.specs.declared.slots.Slot.TheVariants.{Input, Output}
-
--- the slots of the files that a command's words name, in the order of the words: of `translate` the library and the
--- two model files that it writes, of `simulate` the four files that it reads, of a replay a model file and the
--- stimulus; any other first word names none
-abbrev pub slots_of : List ℕ → List Slot
-slots_of command =
-    if bytes_eq command (codes "translate") then Input Library ∷ Output VerilogText ∷ Output VitalText ∷ []
-    else if bytes_eq command (codes "simulate") then Input Library ∷ Input Verilog ∷ Input Vital ∷ Input Stimulus ∷ []
-    else if bytes_eq command (codes "replay-verilog") then Input Verilog ∷ Input Stimulus ∷ []
-    else if bytes_eq command (codes "replay-vital") then Input Vital ∷ Input Stimulus ∷ []
-    else []
+use Rattle.text_io.specs.FileCommands.{command_of, slots_of}
 
 -- the text is among these
 abbrev pub is_among : List ℕ → List (List ℕ) → Bool
 is_among word words = list_any (bytes_eq word) words
 
--- words that can name files side by side: none is empty, and no two are equal as texts
+-- a word that can name a file beside those that these words name: it is not empty, and equal to none of them as a text
+abbrev pub is_file_word : List ℕ → List (List ℕ) → Bool
+is_file_word word words = not (bytes_eq word []) && not (is_among word words)
+
+-- words that can name files side by side
 abbrev pub are_file_words : List (List ℕ) → Bool
 are_file_words [] = true
-are_file_words (word ∷ words) = not (bytes_eq word []) && (not (is_among word words) && are_file_words words)
+are_file_words (word ∷ words) = is_file_word word words && are_file_words words
 
--- the slots that these words bind: those of the command, where it has exactly as many file words; none otherwise
-abbrev pub planned_slots : List (List ℕ) → List Slot
-planned_slots [] = []
-planned_slots (command ∷ files) =
-    if nat_eq (length files) (length (slots_of command)) && are_file_words files then slots_of command else []
+-- so many words, which can name files side by side
+abbrev pub are_so_many : List (List ℕ) → ℕ → Bool
+are_so_many words count = nat_eq (length words) count && are_file_words words
+
+-- the command, where there is one and the words name its files
+abbrev pub with_files : Option FileCommand → List (List ℕ) → Option FileCommand
+with_files None files = None
+with_files (Some command) files = if are_so_many files (length (slots_of command)) then Some command else None
+
+-- The command of files that words ask for: the first is its word, and exactly as many follow as it has files, none empty and no
+-- two equal.
+abbrev pub asked_files : List (List ℕ) → Option FileCommand
+asked_files [] = None
+asked_files (word ∷ files) = with_files (command_of word) files
+
+-- the slots of the command's files, none where there is no command
+abbrev pub planned_slots : Option FileCommand → List Slot
+planned_slots None = []
+planned_slots (Some command) = slots_of command
 
 -- slots with their words' places, which count on from this one
 abbrev pub placed : ℕ → List Slot → List (Slot × ℕ)
 placed place [] = []
 placed place (slot ∷ slots) = (slot, place) ∷ placed (place + 1) slots
 
--- the files that these words bind: each slot with the place, from 0, of the word that names its file. Empty where the
--- words are not a command with the exact number of file words, each not empty and no two equal
+-- the files that a command has for these words to name: each slot with the place, from 0, of the word that names its file
+abbrev pub planned_files : Option FileCommand → List (Slot × ℕ)
+planned_files asked = placed 1 (planned_slots asked)
+
+-- the files that these words bind; none where they ask for no command of files
 abbrev pub plan : List (List ℕ) → List (Slot × ℕ)
-plan words = placed 1 (planned_slots words)
+plan words = planned_files (asked_files words)

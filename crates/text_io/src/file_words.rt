@@ -1,34 +1,13 @@
-//! Which of a command's words name files, and for which slots.
+//! Words that name files, as texts in memory.
 
 ghost use Rattle.std.specs.Prelude.{◌≡◌, map, string_bytes};
-ghost use Rattle.text_io.specs.Plan.{slots_of, is_among, are_file_words, planned_slots};
+ghost use Rattle.text_io.specs.Plan.{is_among, are_file_words, asked_files, planned_slots};
 ghost use Rattle.text_io.specs.NamedFiles.{folder_of};
 ghost use Rattle.text_io.specs.Found.{has_file, inputs_found};
 
+use crate::file_commands::CommandFiles;
 use crate::named_files::{NamedFile, file_of_word};
-use crate::slots::{InSlot, OutSlot, Slot};
-
-/// The slots of the files that a command's words name, in the order of the words.
-fn slots_of(command: &str) -> &'static [Slot]
-    ensures { result.now ≡ slots_of command.now }
-{
-    match command {
-        "translate" => &[
-            Slot::Input(InSlot::Library),
-            Slot::Output(OutSlot::VerilogText),
-            Slot::Output(OutSlot::VitalText),
-        ],
-        "simulate" => &[
-            Slot::Input(InSlot::Library),
-            Slot::Input(InSlot::Verilog),
-            Slot::Input(InSlot::Vital),
-            Slot::Input(InSlot::Stimulus),
-        ],
-        "replay-verilog" => &[Slot::Input(InSlot::Verilog), Slot::Input(InSlot::Stimulus)],
-        "replay-vital" => &[Slot::Input(InSlot::Vital), Slot::Input(InSlot::Stimulus)],
-        _ => &[],
-    }
-}
+use crate::slots::Slot;
 
 /// Whether the text is among these.
 fn is_among(word: &str, words: &[String]) -> bool
@@ -57,17 +36,15 @@ fn are_file_words(words: &[String]) -> bool
 }
 
 /// The slots that these words bind, in the order of the words after the first.
-pub(crate) fn planned_slots(words: &[String]) -> &'static [Slot]
-    ensures { result.now ≡ planned_slots (map string_bytes words.now) }
+fn planned_slots(words: &[String]) -> &'static [Slot]
+    ensures { result.now ≡ planned_slots (asked_files (map string_bytes words.now)) }
 {
-    let Some((command, files)) = words.split_first() else {
+    let Some((first, files)) = words.split_first() else {
         return &[];
     };
-    let slots = slots_of(command.as_str());
-    if files.len() == slots.len() && are_file_words(files) {
-        slots
-    } else {
-        &[]
+    match CommandFiles::of_word(first.as_str()) {
+        Some(named) if files.len() == named.slots.len() && are_file_words(files) => named.slots,
+        _ => &[],
     }
 }
 

@@ -24,8 +24,8 @@ const MESSAGE_BYTES: u64 = 256;
 
 /// A desk over real files. The report is the standard output and the faults are the standard error. It tells no
 /// content, and counts a fault at each error of the system, at each write that takes nothing, at one to a file that has the
-/// greatest size that the system allows, and at a regular file that is to be made empty and is open on the desk already, by
-/// whatever path. Of each fault it says one line on the standard error, `lib2sim: PATH: REASON`, as far as that can be written.
+/// greatest size that the system allows, at a regular file that is to be made empty and is open on the desk already, by
+/// whatever path, and at a regular file to which the standard output or the standard error goes. Of each fault it says one line on the standard error, `lib2sim: PATH: REASON`, as far as that can be written.
 #[derive(Drop)]
 pub struct FileDesk {
     rt: HostRuntime,
@@ -103,9 +103,36 @@ impl FileDesk {
             || is_it(self.outputs.get(OutSlot::VitalText), file)
     }
 
-    /// The file that the word at this place names, made empty. What is open on the desk already is not touched.
+    /// Whether the standard output or the standard error goes to this file.
+    fn is_stream(&self, file: &OpenedFile) -> bool {
+        for stream in [STANDARD_OUTPUT, STANDARD_ERROR] {
+            match fs::metadata(&self.rt, stream) {
+                Ok(metadata) if file.is_at(&metadata) => return true,
+                _ => {}
+            }
+        }
+        false
+    }
+
+    /// This file, unless a standard stream goes to it: what is written there would spoil it.
+    fn unless_stream(&self, opened: OpenedFile) -> io::Result<OpenedFile> {
+        if opened.is_regular() && self.is_stream(&opened) {
+            let message = "a standard stream goes to this file";
+            return Err(io::Error::new(ErrorKind::InvalidInput, message));
+        }
+        Ok(opened)
+    }
+
+    /// The file that the word at this place names, to be read.
+    fn open(&self, place: usize) -> io::Result<OpenedFile> {
+        self.unless_stream(OpenedFile::to_read(&self.rt, self.path(place), place)?)
+    }
+
+    /// The file that the word at this place names, made empty. What is open on the desk already is not touched, nor is what a
+    /// standard stream goes to.
     fn create(&self, place: usize) -> io::Result<OpenedFile> {
         let opened = OpenedFile::to_write(&self.rt, self.path(place), place)?;
+        let opened = self.unless_stream(opened)?;
         if opened.is_regular() {
             if self.is_open(&opened) {
                 let message = "the same file as another one of the command";
@@ -254,7 +281,7 @@ impl Desk for FileDesk {
 
     #[tactic(auto, unfolding(crate::specs::Host::reads_files))]
     fn bind_in(&mut self, slot: InSlot, place: usize) -> Result<(), Failed> {
-        let opened = OpenedFile::to_read(&self.rt, self.path(place), place);
+        let opened = self.open(place);
         let opened = self.told(place, opened)?;
         self.inputs.set(slot, Some(opened));
         Ok(())

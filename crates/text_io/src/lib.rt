@@ -3,7 +3,9 @@
 //! failures, and over real files.
 #![tactic(auto)]
 
+mod asked;
 mod each_slot;
+mod file_commands;
 mod file_words;
 mod gate;
 mod host;
@@ -18,16 +20,20 @@ mod sink;
 mod sinks;
 mod size_limit;
 mod slots;
+mod stop;
 mod sure;
 mod writing;
 
+pub use asked::asked_files;
+pub use file_commands::FileCommand;
 pub use gate::GatedDesk;
 pub use host::FileDesk;
 pub use line::Line;
 pub use memory::{Memory, MemoryDesk};
 pub use named_files::NamedFile;
 pub use outside::{Desk, Failed};
-pub use reading::{ReadFault, Taken, read_all};
+pub use reading::{Taken, read_all};
 pub use slots::{InSlot, OutSlot, Slot};
+pub use stop::Stop;
 pub use sure::SureDesk;
 pub use writing::{write_pieces, write_whole};

@@ -46,7 +46,12 @@ impl OpenedFile {
 
     /// Whether this is the same file, whatever paths led to the two.
     pub(crate) fn is_same(&self, other: &OpenedFile) -> bool {
-        self.metadata.dev() == other.metadata.dev() && self.metadata.ino() == other.metadata.ino()
+        self.is_at(&other.metadata)
+    }
+
+    /// Whether this is the file of which the system knows this.
+    pub(crate) fn is_at(&self, other: &Metadata) -> bool {
+        self.metadata.dev() == other.dev() && self.metadata.ino() == other.ino()
     }
 
     /// Whether this is a regular file, whose bytes stay where they were written.

@@ -1,15 +1,14 @@
 //! A whole file, up to a limit, from a desk.
 
-ghost use Rattle.std.specs.Prelude.{◌≡◌, ◌+◌, ◌≤◌, IsTrue, IfOk, IfErr, OnOk, OnErr};
-ghost use Rattle.text_io.specs.declared.reading.ReadFault.TheVariants as fault;
+ghost use Rattle.std.specs.Prelude.{◌≡◌, ◌+◌, IsTrue, IfOk, OnErr};
 ghost use Rattle.text_io.specs.declared.slots.Slot.TheVariants.{Input};
-ghost use Rattle.text_io.specs.Desk.{is_bound, HasCause, Rose};
+ghost use Rattle.text_io.specs.Desk.{is_bound, HasCause, StopsWithCause};
 ghost use Rattle.text_io.specs.Read.{IsRead, ReadsAtMost, ReadsByte};
 
 use crate::outside::{Desk, Failed};
 use crate::slots::InSlot;
-use std::alloc::{AllocError, Global};
-use thiserror::Error;
+use crate::stop::Stop;
+use std::alloc::Global;
 
 /// The first bytes of a file.
 #[derive(Debug, Drop)]
@@ -17,33 +16,6 @@ pub struct Taken {
     pub bytes: Vec<u8>,
     /// Whether at least one more byte came after them.
     pub more: bool,
-}
-
-/// Why a file was not read.
-#[derive(Debug, Drop, Error)]
-pub enum ReadFault {
-    /// A read failed.
-    #[error("a read failed")]
-    Failed,
-    /// There was no memory for the bytes.
-    #[error("out of memory")]
-    Memory,
-}
-
-impl From<Failed> for ReadFault {
-    ghost from_gives = { λ _ made. made ≡ fault.Failed };
-
-    fn from(_failed: Failed) -> ReadFault {
-        ReadFault::Failed
-    }
-}
-
-impl From<AllocError> for ReadFault {
-    ghost from_gives = { λ _ made. made ≡ fault.Memory };
-
-    fn from(_error: AllocError) -> ReadFault {
-        ReadFault::Memory
-    }
 }
 
 /// How many bytes are asked for at once.
@@ -57,14 +29,11 @@ pub fn read_all<D: Desk>(
     desk: &mut D,
     slot: InSlot,
     limit: usize,
-) -> Result<Taken, ReadFault>
+) -> Result<Taken, Stop>
     requires { IsTrue (is_bound (D.state desk.old) (Input slot)) }
     ensures ok { IfOk result (IsRead (D.state desk.old) (D.state desk.new) slot limit) }
     ensures err { OnErr result (ReadsAtMost (D.state desk.old) (D.state desk.new) slot (limit + 1)) }
-    ensures later { D.faults desk.old ≤ D.faults desk.new }
-    ensures kept { OnOk result (D.faults desk.new ≡ D.faults desk.old) }
-    ensures memory { IfErr result (λ made. made ≡ ReadFault.Memory → D.faults desk.new ≡ D.faults desk.old) }
-    ensures failed { IfErr result (λ made. made ≡ ReadFault.Failed → Rose (D.faults desk.old) (D.faults desk.new)) }
+    ensures cause { StopsWithCause (D.faults desk.old) (D.faults desk.new) result }
 {
     let mut bytes = Vec::new(alloc);
     let mut piece = [0; PIECE];

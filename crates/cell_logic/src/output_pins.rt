@@ -1,6 +1,6 @@
 //! The outputs of a cell.
 ghost use Rattle.std.specs.Prelude.{◌≡◌, [], ◌∷◌, ◌++◌, OnOk, IfOk, length, map, flat_map, nat_lt, if◌then◌else◌};
-ghost use Rattle.timing_arcs.specs.Timing.{least};
+ghost use Rattle.cell_machine.specs.Delay.{least};
 ghost use Rattle.cell_parts.specs.Building.{FitsText, output_pin as output_pin_of, output_in as output_in_of, outputs_from};
 ghost use Rattle.cell_parts.specs.Limits.{wide_text as wide_text_of, wide_function as wide_function_of, wide_output as wide_output_of};
 ghost use Rattle.cell_parts.specs.Outputs.{pin_text as pin_text_of};
@@ -12,6 +12,7 @@ use crate::text_kinds::Numbering;
 use cell_machine::{Direction, OutputPin, StateGroup};
 use cell_parts::held::held_with;
 use cell_parts::least::lesser;
+use cell_parts::limits::MOST_OUTPUT_SOURCES;
 use cell_parts::outputs::pin_text;
 use cell_parts::pins::direction_of;
 use cell_parts::texts::Text;
@@ -39,7 +40,7 @@ pub struct OutputReader<'a, 'b> {
 fn wide_output_at(output: &OutputPin, at: usize) -> Option<usize>
     ensures { result ≡ least (if nat_lt 10 (length output.now.support) then at ∷ [] else []) }
 {
-    if 10 < output.support.len() {
+    if MOST_OUTPUT_SOURCES < output.support.len() {
         Some(at)
     } else {
         None

@@ -1,19 +1,19 @@
 //! The state groups of a cell.
 ghost use Rattle.std.specs.Prelude.{◌≡◌, IfOk, length, map, codes, All};
-ghost use Rattle.timing_arcs.specs.Attributes.{attribute_of};
+ghost use Rattle.liberty_groups.specs.Attributes.{attribute_of};
 ghost use Rattle.cell_parts.specs.Building.{table_in as table_in_of, table_groups as table_groups_of, groups_in as groups_in_of, node_groups, groups_from as groups_from_of, FitsReading};
 ghost use Rattle.cell_machine.specs.declared.groups.GroupKind.TheVariants as kind_of;
 ghost use Rattle.cell_parts.specs.Shown.{shown_arguments};
 
+use crate::table_copies::copy_table;
 use crate::text_kinds::Numbering;
 use cell_machine::{GroupKind, StateGroup};
 use cell_parts::state_readings::StateReading;
 use cell_parts::states::{Arguments, arguments_of, is_table, names_in};
-use liberty_groups::Group;
+use liberty_groups::{Group, last_attribute};
 use sqlite_items::Items;
 use statetables::{StateTable, TableFault, read_table};
 use std::alloc::{AllocError, Global};
-use timing_arcs::last_attribute;
 
 /// The table of a group over so many inputs and nodes.
 fn table_in(
@@ -44,12 +44,13 @@ fn table_in(
 /// The state of a node of a table.
 fn node_group(
     alloc: Global,
-    table: StateTable,
+    table: &StateTable,
     node: usize,
     reading: &StateReading,
 ) -> Result<StateGroup, AllocError>
-    ensures { IfOk result (λ g. g ≡ record { kind = kind_of.Table table node reading.now.inputs; support = reading.now.support }) }
+    ensures { IfOk result (λ g. g ≡ record { kind = kind_of.Table table.now node reading.now.inputs; support = reading.now.support }) }
 {
+    let table = copy_table(alloc, table)?;
     let inputs = Items::from_slice(alloc, reading.inputs.as_slice())?;
     let support = Items::from_slice(alloc, reading.support.as_slice())?;
     let kind = GroupKind::Table {
@@ -60,19 +61,17 @@ fn node_group(
     Ok(StateGroup { kind, support })
 }
 
-/// The states of the nodes of a table of so many inputs.
+/// The states of these nodes of a table.
 fn node_groups_of(
     alloc: Global,
-    inputs: usize,
+    table: &StateTable,
     nodes: &[&[u8]],
-    group: &Group,
     reading: &StateReading,
 ) -> Result<Items<StateGroup>, AllocError>
-    ensures { IfOk result (λ groups. groups ≡ node_groups (table_in_of inputs (length nodes.now) (attribute_of group.now (codes "table"))) reading.now 0 (map (λ name. name.now) nodes.now)) }
+    ensures { IfOk result (λ groups. groups ≡ node_groups table.now reading.now 0 (map (λ name. name.now) nodes.now)) }
 {
     let mut groups = Items::new(alloc);
     for (node, _name) in nodes.iter().enumerate() {
-        let table = table_in(alloc, inputs, nodes.len(), group)?;
         groups.push(node_group(alloc, table, node, reading)?)?;
     }
     Ok(groups)
@@ -90,7 +89,8 @@ fn table_groups(
 {
     let inputs = names_in(alloc, arguments.first)?;
     let nodes = names_in(alloc, arguments.second)?;
-    node_groups_of(alloc, inputs.len(), &nodes, group, reading)
+    let table = table_in(alloc, inputs.len(), nodes.len(), group)?;
+    node_groups_of(alloc, &table, &nodes, reading)
 }
 
 /// The states of a group.

@@ -10,10 +10,9 @@ use cell_parts::held::held_with;
 use cell_parts::state_readings::{StateReading, is_ff};
 use cell_parts::states::both_named;
 use cell_parts::texts::Text;
-use liberty_groups::Group;
+use liberty_groups::{Group, last_attribute};
 use sqlite_items::Items;
 use std::alloc::{AllocError, Global};
-use timing_arcs::last_attribute;
 
 /// What the first variable becomes where both `clear` and `preset` are 1.
 fn first_both(group: &Group) -> Both

@@ -20,7 +20,7 @@ use Rattle.cell_machine.specs.declared.pins.Direction.{Direction}
 use Rattle.cell_machine.specs.declared.pins.Direction.TheVariants as direction
 use Rattle.cell_machine.specs.declared.pins.Pin.{Pin}
 use Rattle.cell_machine.specs.CellRules.{is_output, output_pins_from, are_groups_from, is_output_of}
-use Rattle.timing_arcs.specs.Attributes.{Attribute, attribute_of}
+use Rattle.liberty_groups.specs.Attributes.{Attribute, attribute_of}
 use Rattle.cell_parts.specs.declared.vocabulary.Class.{Class}
 use Rattle.cell_parts.specs.declared.texts.Scope.{Scope}
 use Rattle.cell_parts.specs.declared.texts.Scope.TheVariants as scope

@@ -6,7 +6,7 @@ use Rattle.std.proofs.lemmas.Bool.{cases_Bool}
 use Rattle.std.proofs.lemmas.Slice.Eq.{bytes_eq-Decides}
 use Rattle.std.proofs.lemmas.List.Folds.{list_any-append}
 use Rattle.std.proofs.lemmas.List.{map-append, take_more, drop_more, drop_all}
-use Rattle.timing_arcs.specs.Timing.{lesser, least}
+use Rattle.cell_machine.specs.Delay.{lesser, least}
 use Rattle.bool_functions.specs.NameList.{number_of, Adds}
 use Rattle.bool_functions.proofs.NameLists.{position-none, position-some}
 use Rattle.cell_parts.specs.declared.declarations.Role.{Role}

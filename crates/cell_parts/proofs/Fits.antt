@@ -21,7 +21,7 @@ use Rattle.bool_functions.specs.FunctionText.{reading_of}
 use Rattle.statetables.specs.declared.fault.TableFault.{TableFault}
 use Rattle.statetables.specs.declared.table.StateTable.{StateTable}
 use Rattle.statetables.specs.Reading.{table_of}
-use Rattle.timing_arcs.specs.Attributes.{Attribute, attribute_of}
+use Rattle.liberty_groups.specs.Attributes.{Attribute, attribute_of}
 use Rattle.cell_parts.specs.Groups.{names_in}
 use Rattle.cell_parts.specs.States.{Arguments, arguments_of, is_table}
 use Rattle.cell_parts.specs.Vocabulary.{Vocabulary}

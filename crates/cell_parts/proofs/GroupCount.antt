@@ -6,7 +6,7 @@ use Rattle.std.proofs.Common.{inl, inr}
 use Rattle.liberty_groups.specs.declared.tree.Group.{Group}
 use Rattle.cell_machine.specs.declared.groups.StateGroup.{StateGroup}
 use Rattle.statetables.specs.declared.table.StateTable.{StateTable}
-use Rattle.timing_arcs.specs.Attributes.{attribute_of}
+use Rattle.liberty_groups.specs.Attributes.{attribute_of}
 use Rattle.cell_parts.specs.declared.state_readings.StateReading.{StateReading}
 use Rattle.cell_parts.specs.Groups.{names_in}
 use Rattle.cell_parts.specs.States.{StateName, Arguments, states_with, states_in, arguments_of, is_table, node_named}

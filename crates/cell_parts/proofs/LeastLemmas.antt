@@ -2,7 +2,7 @@
 use Rattle.std.proofs.Common.{◌≡◌, ℕ, ◌+◌, ◌<◌, min, List, [], ◌∷◌, ◌++◌, length, map, drop, get_or, refl, sym, ◌∙◌, ap, arith, Option, Some, None}
 use Rattle.std.specs.Prelude.{flat_map, option_to_list}
 use Rattle.std.proofs.lemmas.List.{drop_more}
-use Rattle.timing_arcs.specs.Timing.{lesser, least}
+use Rattle.cell_machine.specs.Delay.{lesser, least}
 
 pub lesser_none : (a : Option ℕ) → lesser a None ≡ a
 lesser_none None = refl

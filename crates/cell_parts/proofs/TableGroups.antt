@@ -18,7 +18,7 @@ use Rattle.cell_machine.specs.declared.groups.StateGroup.{StateGroup}
 use Rattle.cell_machine.specs.declared.pins.Pin.{Pin}
 use Rattle.cell_machine.specs.Names.{has}
 use Rattle.cell_machine.specs.CellRules.{is_input_pin, is_support, names_support, has_widths, is_table as keeps_table_rules, is_kind, is_group, are_groups_from}
-use Rattle.timing_arcs.specs.Attributes.{Attribute, attribute_of}
+use Rattle.liberty_groups.specs.Attributes.{Attribute, attribute_of}
 use Rattle.cell_parts.specs.declared.vocabulary.Class.{Class}
 use Rattle.cell_parts.specs.declared.vocabulary.Class.TheVariants.{Input, Driven, Alias, Shared, Node, Variable}
 use Rattle.cell_parts.specs.declared.texts.Use.TheVariants as use_

@@ -12,7 +12,7 @@ use Rattle.cell_machine.specs.declared.groups.GroupKind.TheVariants as kind
 use Rattle.cell_machine.specs.declared.pins.Pin.{Pin}
 use Rattle.cell_machine.specs.Names.{names_of_optional}
 use Rattle.cell_machine.specs.CellRules.{is_second, both_or_neither, is_group}
-use Rattle.timing_arcs.specs.Attributes.{Attribute, attribute_of}
+use Rattle.liberty_groups.specs.Attributes.{Attribute, attribute_of}
 use Rattle.cell_parts.specs.declared.texts.Scope.TheVariants as scope
 use Rattle.cell_parts.specs.declared.texts.Text.{Text}
 use Rattle.cell_parts.specs.Scans.{is_missing}

@@ -16,7 +16,7 @@ use Rattle.cell_machine.specs.declared.pins.Pin.{Pin}
 use Rattle.cell_machine.specs.Names.{names_of_optional}
 use Rattle.cell_machine.specs.CellRules.{is_input_pin}
 use Rattle.cell_machine.proofs.CellFacts.{list_all-implied}
-use Rattle.timing_arcs.specs.Attributes.{Attribute}
+use Rattle.liberty_groups.specs.Attributes.{Attribute}
 use Rattle.cell_parts.specs.declared.vocabulary.Class.{Class}
 use Rattle.cell_parts.specs.declared.vocabulary.Class.TheVariants.{Input, Driven, Alias, Shared, Node, Variable}
 use Rattle.cell_parts.specs.declared.texts.Use.{Use}

@@ -18,7 +18,7 @@ use Rattle.cell_machine.specs.declared.groups.StateGroup.{StateGroup}
 use Rattle.cell_machine.specs.declared.outputs.Source.{Source}
 use Rattle.cell_machine.specs.declared.outputs.Source.TheVariants as source
 use Rattle.cell_machine.specs.declared.outputs.OutputPin.{OutputPin}
-use Rattle.timing_arcs.specs.Attributes.{Attribute, attribute_of}
+use Rattle.liberty_groups.specs.Attributes.{Attribute, attribute_of}
 use Rattle.cell_parts.specs.declared.vocabulary.Class.{Class}
 use Rattle.cell_parts.specs.declared.vocabulary.Class.TheVariants.{Input, Driven}
 use Rattle.cell_parts.specs.declared.texts.Text.{Text}

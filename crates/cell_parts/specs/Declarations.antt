@@ -8,7 +8,7 @@ use Rattle.bool_functions.specs.NameList.{number_of}
 use Rattle.cell_machine.specs.declared.pins.Direction.{Direction}
 use Rattle.cell_machine.specs.declared.pins.Direction.TheVariants as direction
 use Rattle.cell_machine.specs.CellRules.{is_name}
-use Rattle.timing_arcs.specs.Attributes.{Attribute, attribute_of}
+use Rattle.liberty_groups.specs.Attributes.{Attribute, attribute_of}
 use Rattle.cell_parts.specs.declared.declarations.Role.{Role}
 use Rattle.cell_parts.specs.declared.declarations.Role.TheVariants.{Bearer, Node, Plain}
 use Rattle.cell_parts.specs.Groups.{inner_groups, is_pin, is_state, cell_name}

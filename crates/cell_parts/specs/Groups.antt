@@ -6,7 +6,7 @@ use Rattle.liberty_groups.specs.declared.tree.Item.{Item, out-Item}
 use Rattle.liberty_groups.specs.declared.tree.Item.TheOpen.{Item-F}
 use Rattle.liberty_groups.specs.declared.tree.Item.TheOpen as layer
 use Rattle.liberty_groups.specs.declared.tree.Group.{Group}
-use Rattle.timing_arcs.specs.Attributes.{Attribute, attributes_named, words_between}
+use Rattle.liberty_groups.specs.Attributes.{Attribute, attributes_named, words_between}
 
 -- the group that a statement is, where it is one
 abbrev pub inner_of : Item-F Item Group → Option Group

@@ -5,7 +5,7 @@ use Rattle.liberty_groups.specs.declared.tree.Group.{Group}
 use Rattle.cell_machine.specs.declared.pins.Direction.{Direction}
 use Rattle.cell_machine.specs.declared.pins.Direction.TheVariants.{Input, Output, Internal}
 use Rattle.cell_machine.specs.declared.pins.Pin.{Pin}
-use Rattle.timing_arcs.specs.Attributes.{Attribute, attribute_of}
+use Rattle.liberty_groups.specs.Attributes.{Attribute, attribute_of}
 use Rattle.cell_parts.specs.Groups.{pin_groups}
 
 -- The words of `direction`. (Liberty Reference Manual, `direction`; `inout` is left out.)

@@ -10,7 +10,7 @@ use Rattle.statetables.specs.declared.table.StateTable.{StateTable}
 use Rattle.statetables.specs.declared.table.TableRow.{TableRow}
 use Rattle.statetables.specs.Reading.{table_of}
 use Rattle.cell_machine.specs.CellRules.{is_free}
-use Rattle.timing_arcs.specs.Attributes.{Attribute, attribute_of}
+use Rattle.liberty_groups.specs.Attributes.{Attribute, attribute_of}
 use Rattle.cell_parts.specs.declared.texts.Use.{Use}
 use Rattle.cell_parts.specs.declared.texts.Use.TheVariants as use_
 use Rattle.cell_parts.specs.declared.texts.Scope.{Scope}

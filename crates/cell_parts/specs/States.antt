@@ -4,7 +4,7 @@ use Rattle.liberty_groups.specs.declared.tree.Value.{Value}
 use Rattle.liberty_groups.specs.declared.tree.Group.{Group}
 use Rattle.cell_machine.specs.declared.groups.Both.{Both}
 use Rattle.cell_machine.specs.declared.groups.Both.TheVariants.{Low, High, Keep, Unknown}
-use Rattle.timing_arcs.specs.Attributes.{Attribute, attribute_of}
+use Rattle.liberty_groups.specs.Attributes.{Attribute, attribute_of}
 use Rattle.cell_parts.specs.Groups.{is_called, state_groups, names_in}
 
 -- the two arguments of a group that has two

@@ -10,7 +10,7 @@ use Rattle.bool_functions.specs.declared.faults.FunctionFault.TheVariants as fau
 use Rattle.bool_functions.specs.NameList.{number_of}
 use Rattle.bool_functions.specs.Support.{support_of}
 use Rattle.bool_functions.specs.FunctionText.{reading_of}
-use Rattle.timing_arcs.specs.Attributes.{Attribute}
+use Rattle.liberty_groups.specs.Attributes.{Attribute}
 use Rattle.cell_parts.specs.declared.vocabulary.Class.{Class}
 use Rattle.cell_parts.specs.declared.vocabulary.Class.TheVariants.{Input, Driven, Alias, Shared, Node, Variable}
 use Rattle.cell_parts.specs.declared.texts.Use.{Use}

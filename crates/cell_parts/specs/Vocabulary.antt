@@ -8,7 +8,7 @@ use Rattle.liberty_groups.specs.declared.tree.Group.{Group}
 use Rattle.bool_functions.specs.NameList.{number_of}
 use Rattle.cell_machine.specs.declared.pins.Direction.{Direction}
 use Rattle.cell_machine.specs.declared.pins.Direction.TheVariants as direction
-use Rattle.timing_arcs.specs.Attributes.{Attribute, attribute_of}
+use Rattle.liberty_groups.specs.Attributes.{Attribute, attribute_of}
 use Rattle.cell_parts.specs.declared.vocabulary.Class.{Class}
 use Rattle.cell_parts.specs.declared.vocabulary.Class.TheVariants.{Input, Driven, Alias, Shared, Node, Variable}
 use Rattle.cell_parts.specs.Groups.{pin_groups}

@@ -1,7 +1,7 @@
 //! The names that a cell declares.
 ghost use Rattle.std.specs.Prelude.{◌≡◌, ◌++◌, ◌∷◌, ◌&&◌, [], List, OnOk, IfOk, map, flat_map, nat_lt};
 ghost use Rattle.std.specs.List.{list_all, list_any};
-ghost use Rattle.timing_arcs.specs.Timing.{least};
+ghost use Rattle.cell_machine.specs.Delay.{least};
 ghost use Rattle.cell_machine.specs.CellRules.{is_name as is_name_of};
 ghost use Rattle.cell_parts.specs.Declarations.{Declared as DeclaredName, bears as bears_of, declared_pin, declared_state, declared_in as declared_in_of, may_share as may_share_of, clashes as clashes_of, clashes_after, bad_name_in as bad_name_in_of};
 ghost use Rattle.cell_parts.specs.KnownNames.{clash_in, IsAgainst, IsKnown};
@@ -10,13 +10,13 @@ ghost use Rattle.cell_parts.specs.Shown.{shown_name, shown_state};
 
 use crate::groups::{is_pin, is_state};
 use crate::least::lesser;
+use crate::limits::MOST_NAME_BYTES;
 use crate::pins::direction_of;
 use crate::states::{StateName, states_in};
 use bool_functions::Names;
 use cell_machine::Direction;
-use liberty_groups::Group;
+use liberty_groups::{Group, last_attribute};
 use std::alloc::{AllocError, Global};
-use timing_arcs::last_attribute;
 
 /// What a declared name is.
 #[derive(Clone, Copy, Debug, PartialEq, Eq)]
@@ -246,7 +246,7 @@ fn are_name_bytes(name: &[u8]) -> bool
 pub fn is_name(name: &[u8]) -> bool
     ensures { result ≡ is_name_of name.now }
 {
-    0 < name.len() && name.len() <= 255 && are_name_bytes(name)
+    0 < name.len() && name.len() <= MOST_NAME_BYTES && are_name_bytes(name)
 }
 
 /// The least offset of a declared name that may be none.

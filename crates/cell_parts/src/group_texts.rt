@@ -1,7 +1,7 @@
 //! The texts of an `ff` or `latch`.
 ghost use Rattle.std.specs.Prelude.{◌≡◌, Ok, IfOk, codes};
 ghost use Rattle.std.specs.Option.{option_map};
-ghost use Rattle.timing_arcs.specs.Attributes.{attribute_of};
+ghost use Rattle.liberty_groups.specs.Attributes.{attribute_of};
 ghost use Rattle.cell_parts.specs.declared.texts.Scope.TheVariants as scope_of;
 ghost use Rattle.cell_parts.specs.States.{arguments_of as arguments_of_group};
 ghost use Rattle.cell_parts.specs.StateReadings.{own_scope as own_scope_of};
@@ -11,9 +11,8 @@ ghost use Rattle.cell_parts.specs.Shown.{shown_vocabulary, shown_arguments};
 use crate::states::{Arguments, arguments_of};
 use crate::texts::{Scope, Text, text_as};
 use crate::vocabulary::Vocabulary;
-use liberty_groups::Group;
+use liberty_groups::{Group, last_attribute};
 use std::alloc::{AllocError, Global};
-use timing_arcs::last_attribute;
 
 /// What the texts of a group may name that may name its own variables.
 fn own_scope(vocabulary: &Vocabulary<'_>, arguments: Option<Arguments<'_>>) -> Scope

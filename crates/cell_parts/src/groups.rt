@@ -3,9 +3,8 @@ ghost use Rattle.std.specs.Prelude.{◌≡◌, IfOk, map, filter};
 ghost use Rattle.cell_parts.specs.Groups.{inner_groups as inner_groups_of, is_called as is_called_of, is_pin as is_pin_of, is_state as is_state_of, is_bank as is_bank_of, cell_name as cell_name_of};
 ghost use Rattle.cell_parts.specs.Scans.{is_missing as is_missing_of};
 
-use liberty_groups::{Group, Item};
+use liberty_groups::{Group, Item, last_attribute};
 use std::alloc::{AllocError, Global};
-use timing_arcs::last_attribute;
 
 /// Whether a group has this name.
 pub fn is_called(group: &Group, name: &[u8]) -> bool

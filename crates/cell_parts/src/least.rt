@@ -1,6 +1,6 @@
 //! The least of some offsets.
 ghost use Rattle.std.specs.Prelude.{◌≡◌};
-ghost use Rattle.timing_arcs.specs.Timing.{lesser as lesser_of};
+ghost use Rattle.cell_machine.specs.Delay.{lesser as lesser_of};
 
 /// The lesser of two offsets, of which none, one or both are there.
 pub fn lesser(first: Option<usize>, second: Option<usize>) -> Option<usize>

@@ -7,6 +7,7 @@ pub mod groups;
 pub mod held;
 mod laws;
 pub mod least;
+pub mod limits;
 pub mod outputs;
 pub mod pins;
 pub mod state_readings;

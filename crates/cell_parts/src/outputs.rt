@@ -1,7 +1,7 @@
 //! The texts of the pins of a cell that it drives.
 ghost use Rattle.std.specs.Prelude.{◌≡◌, IfOk, map};
 ghost use Rattle.std.specs.Option.{option_map};
-ghost use Rattle.timing_arcs.specs.Shown.{shown};
+ghost use Rattle.liberty_groups.specs.Attributes.{shown};
 ghost use Rattle.cell_parts.specs.Outputs.{node_as as node_as_of, function_or as function_or_of, output_text as output_text_of, pin_text as pin_text_of};
 ghost use Rattle.cell_parts.specs.Shown.{shown_vocabulary};
 
@@ -9,10 +9,9 @@ use crate::pins::direction_of;
 use crate::texts::{Scope, Text, node_text, text_as};
 use crate::vocabulary::Vocabulary;
 use cell_machine::Direction;
-use liberty_groups::Group;
+use liberty_groups::{Attribute, Group, last_attribute};
 use sqlite_items::Items;
 use std::alloc::{AllocError, Global};
-use timing_arcs::{Attribute, last_attribute};
 
 /// The node that an internal pin names, if it names one.
 fn node_as(vocabulary: &Vocabulary<'_>, attribute: Option<Attribute<'_>>) -> Text

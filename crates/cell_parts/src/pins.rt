@@ -3,10 +3,9 @@ ghost use Rattle.std.specs.Prelude.{◌≡◌, ◌++◌, OnOk, IfOk, map, flat_m
 ghost use Rattle.cell_parts.specs.Pins.{direction_named as direction_named_of, direction_of as direction_of_group, pins_in, owners_in};
 
 use cell_machine::{Direction, Pin};
-use liberty_groups::Group;
+use liberty_groups::{Group, last_attribute};
 use sqlite_items::Items;
 use std::alloc::{AllocError, Global};
-use timing_arcs::last_attribute;
 
 /// The direction that a word of `direction` stands for.
 pub fn direction_named(text: &[u8]) -> Option<Direction>

@@ -12,10 +12,9 @@ use crate::table_inputs::{has_coupled_word, has_unknown_word, input_words, numbe
 use crate::table_texts::table_with;
 use crate::texts::Text;
 use crate::vocabulary::Vocabulary;
-use liberty_groups::Group;
+use liberty_groups::{Group, last_attribute};
 use sqlite_items::Items;
 use std::alloc::{AllocError, Global};
-use timing_arcs::last_attribute;
 
 /// What a group that holds states says.
 #[derive(Debug, Drop)]

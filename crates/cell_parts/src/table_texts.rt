@@ -3,15 +3,15 @@ ghost use Rattle.std.specs.Prelude.{◌≡◌, IfOk};
 ghost use Rattle.std.specs.List.{list_all};
 ghost use Rattle.std.specs.Option.{option_map};
 ghost use Rattle.cell_machine.specs.CellRules.{is_free as is_free_symbol};
-ghost use Rattle.timing_arcs.specs.Shown.{shown};
+ghost use Rattle.liberty_groups.specs.Attributes.{shown};
 ghost use Rattle.cell_parts.specs.StateReadings.{is_uncoupled as is_uncoupled_of, table_text as table_text_of, table_with as table_with_of};
 ghost use Rattle.cell_parts.specs.Shown.{shown_arguments};
 
 use crate::states::{Arguments, names_in};
 use crate::texts::Text;
+use liberty_groups::Attribute;
 use statetables::{CurrentSymbol, StateTable, TableFault, TableRow, read_table};
 use std::alloc::{AllocError, Global};
-use timing_arcs::Attribute;
 
 /// Whether a current symbol is `-`.
 fn is_free(symbol: CurrentSymbol) -> bool

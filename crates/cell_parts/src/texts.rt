@@ -2,15 +2,15 @@
 ghost use Rattle.std.specs.Prelude.{◌≡◌, ℕ, IfOk};
 ghost use Rattle.std.specs.List.{list_any};
 ghost use Rattle.std.specs.Option.{option_map};
-ghost use Rattle.timing_arcs.specs.Timing.{least};
-ghost use Rattle.timing_arcs.specs.Shown.{shown};
+ghost use Rattle.cell_machine.specs.Delay.{least};
+ghost use Rattle.liberty_groups.specs.Attributes.{shown};
 ghost use Rattle.cell_parts.specs.Texts.{control_use as control_use_of, own_use as own_use_of, function_use as function_use_of, state_function_use as state_function_use_of, use_of as use_of_name, use_at as use_at_place, is_unknown as is_unknown_use, is_coupled as is_coupled_use, class_at as class_at_place, is_number as is_number_of, used_as, judged_tree, text_as as text_of, is_node_class as is_node_class_of, node_text as node_text_of, malformed_at as malformed_at_of, unknown_at as unknown_at_of, coupled_at as coupled_at_of};
 ghost use Rattle.cell_parts.specs.Shown.{shown_vocabulary};
 
 use crate::vocabulary::{Class, Vocabulary};
 use bool_functions::{Function, FunctionFault, read_function};
+use liberty_groups::Attribute;
 use std::alloc::{AllocError, Global};
-use timing_arcs::Attribute;
 
 /// What a name is to a text that has it.
 #[derive(Clone, Copy, Debug, PartialEq, Eq)]

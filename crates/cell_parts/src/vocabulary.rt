@@ -2,7 +2,7 @@
 ghost use Rattle.std.specs.Prelude.{◌≡◌, ◌++◌, [], OnOk, IfOk, map, flat_map};
 ghost use Rattle.std.specs.Option.{option_map};
 ghost use Rattle.cell_parts.specs.Vocabulary.{is_node as is_node_of, internal_class as internal_class_of, class_as, is_bound as is_bound_of, target_as as target_as_of, pin_entries, state_entries, entries_of as entries_of_cell, firsts_after, entry_names, entry_classes, entry_targets, vocabulary_of as vocabulary_of_cell};
-ghost use Rattle.timing_arcs.specs.Shown.{shown};
+ghost use Rattle.liberty_groups.specs.Attributes.{shown};
 ghost use Rattle.cell_parts.specs.Pins.{direction_of as direction_of_group};
 ghost use Rattle.cell_parts.specs.Shown.{shown_state, shown_entry};
 
@@ -10,9 +10,8 @@ use crate::pins::direction_of;
 use crate::states::StateName;
 use bool_functions::Names;
 use cell_machine::Direction;
-use liberty_groups::Group;
+use liberty_groups::{Attribute, Group, last_attribute};
 use std::alloc::{AllocError, Global};
-use timing_arcs::{Attribute, last_attribute};
 
 /// What a name is, to the function texts of its cell.
 #[derive(Clone, Copy, Debug, PartialEq, Eq)]

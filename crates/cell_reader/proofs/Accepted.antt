@@ -15,7 +15,7 @@ use Rattle.cell_parts.specs.TextFaults.{malformed_in, unknown_in}
 use Rattle.cell_parts.specs.CellLaws.{readings_of, texts_of, numbers_of, groups_of, outputs_of, CellMeetsNone}
 use Rattle.cell_parts.specs.Limits.{first_past, state_at, wide_output}
 use Rattle.cell_reader.specs.Written.{wide_support_of}
-use Rattle.timing_arcs.specs.Timing.{least}
+use Rattle.cell_machine.specs.Delay.{least}
 use Rattle.cell_reader.specs.PinTimings.{check_at_in, arc_at_in, wide_in}
 use Rattle.cell_reader.specs.CellTexts.{subject_of}
 use Rattle.cell_reader.specs.Refusals.{reasons_of, refusal_of, timing_answers, checks_of, arcs_of}

@@ -16,7 +16,7 @@ use Rattle.cell_machine.specs.CellRules.{is_input_pin}
 use Rattle.timing_arcs.specs.declared.subject.Subject.{Subject}
 use Rattle.timing_arcs.specs.declared.condition.Condition.{Condition}
 use Rattle.timing_arcs.specs.declared.condition.Condition.TheVariants.{Always, Never, Where, Unknown}
-use Rattle.timing_arcs.specs.Attributes.{Attribute, attribute_of, place_of}
+use Rattle.liberty_groups.specs.Attributes.{Attribute, attribute_of, place_of}
 use Rattle.timing_arcs.specs.RelatedPins.{inputs_of, is_read}
 use Rattle.timing_arcs.specs.Conditions.{constant_or, condition_as, condition_in, condition_of, has_unknown as has_unknown_name, named_pins, names_one, is_wide}
 use Rattle.timing_arcs.specs.Timing.{timing_groups, unknown_related_in, unknown_condition_in, unknown_in as unknown_timing_in, own_in as own_told, wide_in as wide_told, unknown_names_at, own_conditions_at, wide_at}

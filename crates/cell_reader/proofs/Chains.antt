@@ -1,6 +1,6 @@
 -- The first refusal of joined lists of reasons.
 use Rattle.std.proofs.Common.{◌≡◌, ℕ, List, [], ◌∷◌, ◌++◌, refl, Option, Some, None}
-use Rattle.timing_arcs.specs.Timing.{least}
+use Rattle.cell_machine.specs.Delay.{least}
 use Rattle.cell_reader.specs.declared.refusal.Reason.{Reason}
 use Rattle.cell_reader.specs.declared.refusal.Refusal.{Refusal}
 use Rattle.cell_reader.specs.Refusals.{Met, refused_or, first_refusal}

@@ -3,7 +3,8 @@ use Rattle.std.proofs.Common.{◌≡◌, ℕ, List, [], ◌∷◌, ◌++◌, len
 use Rattle.std.specs.Prelude.{flat_map}
 use Rattle.liberty_groups.specs.declared.tree.Group.{Group}
 use Rattle.timing_arcs.specs.declared.subject.Subject.{Subject}
-use Rattle.timing_arcs.specs.Timing.{lesser, least, malformed_at as malformed_timing_at, unknown_names_at, check_at_of}
+use Rattle.cell_machine.specs.Delay.{lesser, least}
+use Rattle.timing_arcs.specs.Timing.{malformed_at as malformed_timing_at, unknown_names_at, check_at_of}
 use Rattle.cell_parts.specs.Groups.{state_groups}
 use Rattle.cell_parts.specs.Pins.{pins_of, owners_of}
 use Rattle.cell_parts.specs.Vocabulary.{vocabulary}

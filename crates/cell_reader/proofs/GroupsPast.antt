@@ -2,7 +2,7 @@
 use Rattle.std.proofs.Common.{◌≡◌, ℕ, zero, suc, ◌<◌, List, [], ◌∷◌, length, map, get_or, refl, sym, ◌∙◌, ap, arith, Some}
 use Rattle.std.specs.Prelude.{slice_get, option_map}
 use Rattle.std.proofs.lemmas.Option.{slice_get-map}
-use Rattle.timing_arcs.specs.Timing.{least}
+use Rattle.cell_machine.specs.Delay.{least}
 use Rattle.liberty_groups.specs.declared.tree.Group.{Group}
 use Rattle.cell_parts.specs.Limits.{first_past, place_of_group}
 

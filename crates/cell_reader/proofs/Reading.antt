@@ -11,7 +11,7 @@ use Rattle.cell_machine.specs.declared.checks.Check.{Check}
 use Rattle.cell_machine.specs.declared.arcs.Arc.{Arc}
 use Rattle.cell_machine.specs.CellRules.{are_distinct, is_cell, AreApart}
 use Rattle.timing_arcs.specs.declared.subject.Subject.{Subject}
-use Rattle.timing_arcs.specs.Timing.{least}
+use Rattle.cell_machine.specs.Delay.{least}
 use Rattle.cell_parts.specs.Groups.{inner_groups, cell_name}
 use Rattle.cell_parts.specs.Pins.{pin_names, pins_of, owners_of}
 use Rattle.cell_parts.specs.Declarations.{declared_of, clashes_after, known_cell}
@@ -35,6 +35,12 @@ names_are_distinct earlier cell h =
     let m = all_unmet (early_reasons earlier cell) h in
     let twice = nil_parts (known_cell earlier cell) (clashes_after [] (declared_of cell)) m.1.1.1.1.1.0 in
     pins_are_distinct (inner_groups cell.items) twice.1
+
+-- the reasons before the texts are read
+pub early_decides :
+    (subject : Subject) (earlier : List (List ℕ)) (cell : Group) (told : Refusal)
+    → first_refusal (early_reasons earlier cell) ≡ Some told → refusal_of subject earlier cell ≡ Some told
+early_decides subject earlier cell told h = met_first (early_reasons earlier cell) (later_reasons subject cell) told h
 
 -- the reasons after the texts are read
 pub middle_decides :

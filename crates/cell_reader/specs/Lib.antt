@@ -7,4 +7,3 @@ pub mod CellTexts
 pub mod Parts
 pub mod ReasonWords
 pub mod Laws
-pub mod LibraryCells

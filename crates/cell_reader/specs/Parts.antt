@@ -2,11 +2,12 @@
 use Rattle.std.specs.Prelude.{◌≡◌, map}
 use Rattle.liberty_groups.specs.declared.tree.Group.{Group}
 use Rattle.timing_arcs.specs.declared.subject.Subject.{Subject}
-use Rattle.cell_parts.specs.Groups.{inner_groups, pin_groups, state_groups}
+use Rattle.cell_parts.specs.Groups.{pin_groups, state_groups}
+use Rattle.cell_parts.specs.Declarations.{declared_of}
 use Rattle.cell_parts.specs.Pins.{pins_of, owners_of}
 use Rattle.cell_parts.specs.States.{states_of}
 use Rattle.cell_parts.specs.Vocabulary.{vocabulary}
-use Rattle.cell_parts.specs.Shown.{shown_state, shown_vocabulary}
+use Rattle.cell_parts.specs.Shown.{shown_name, shown_state, shown_vocabulary}
 use Rattle.cell_reader.specs.declared.parts.Parts.{Parts}
 use Rattle.cell_reader.specs.declared.numbered.Numbered.{Numbered}
 use Rattle.cell_reader.specs.CellTexts.{subject_of}
@@ -19,7 +20,7 @@ subject_in parts = subject_of parts.unit parts.cell.now
 
 -- The parts are those of their cell.
 pub record AreParts (parts : Parts) : Type 0 where
-  pub all_groups : map (λ group. group.now) parts.groups.items ≡ inner_groups parts.cell.now.items
+  pub of_declared : map shown_name parts.declared.items ≡ declared_of parts.cell.now
   pub of_pins : map (λ group. group.now) parts.pin_groups.items ≡ pin_groups parts.cell.now
   pub of_states : map (λ group. group.now) parts.state_groups.items ≡ state_groups parts.cell.now
   pub of_owners : map (λ group. group.now) parts.owners.items ≡ owners_of parts.cell.now

@@ -9,7 +9,7 @@ use Rattle.timing_arcs.specs.declared.fault.TimingFault.{TimingFault}
 use Rattle.timing_arcs.specs.declared.fault.TimingFault.TheVariants as fault
 use Rattle.timing_arcs.specs.declared.subject.Subject.{Subject}
 use Rattle.timing_arcs.specs.declared.subject.PinTiming.{PinTiming}
-use Rattle.timing_arcs.specs.Attributes.{Attribute, attribute_of, group_named}
+use Rattle.liberty_groups.specs.Attributes.{Attribute, attribute_of, group_named}
 use Rattle.timing_arcs.specs.Timing.{reading_answer, placed_arcs}
 use Rattle.timing_arcs.specs.Merging.{merged_at}
 use Rattle.cell_reader.specs.declared.left_out.LeftOut.{LeftOut}

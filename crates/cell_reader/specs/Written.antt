@@ -11,7 +11,7 @@ use Rattle.bool_functions.specs.Support.{support_of}
 use Rattle.bool_functions.specs.FunctionText.{free_names, reading_of}
 use Rattle.cell_machine.specs.Names.{has}
 use Rattle.timing_arcs.specs.declared.subject.Subject.{Subject}
-use Rattle.timing_arcs.specs.Attributes.{Attribute, attribute_of}
+use Rattle.liberty_groups.specs.Attributes.{Attribute, attribute_of}
 use Rattle.timing_arcs.specs.RelatedPins.{inputs_of, is_read}
 use Rattle.timing_arcs.specs.Timing.{timing_groups}
 use Rattle.cell_parts.specs.declared.texts.Scope.{Scope}

@@ -4,6 +4,7 @@ ghost use Rattle.timing_arcs.specs.Timing.{reading_answer, held_answer};
 ghost use Rattle.cell_parts.specs.Pins.{owners_in};
 ghost use Rattle.cell_reader.specs.Held.{cell_room, left_room, next_answer, room_after, held_from, AreSharedTexts};
 
+use cell_parts::limits::{MOST_ARCS, MOST_CHECKS, MOST_PINS};
 use liberty_groups::Group;
 use std::alloc::{AllocError, Global};
 use timing_arcs::{PinTiming, Room, Subject, TimingFault, TimingTexts, read_timing};
@@ -43,14 +44,14 @@ fn timing_answer(
     }
 }
 
-/// The room for the timing of a cell with so many pins.
+/// The room for the timing of a cell with so many pins: one more than the limits.
 fn cell_room(pins: usize) -> Room
     ensures { result ≡ cell_room pins }
 {
     Room {
-        checks: 257,
-        arcs: 1025,
-        left_out: pins <= 64,
+        checks: MOST_CHECKS + 1,
+        arcs: MOST_ARCS + 1,
+        left_out: pins <= MOST_PINS,
     }
 }
 
@@ -127,7 +128,8 @@ pub(crate) fn timing_answers(
     subject: &mut Subject,
     groups: &[&Group],
 ) -> Result<Vec<Result<PinTiming, TimingFault>>, AllocError>
-    ensures { IfOk result (λ answers. answers.items ≡ held_from (cell_room (length subject.old.pins)) subject.old 0 (flat_map owners_in (map (λ group. group.now) groups.now))) }
+    ensures pins { OnOk result (subject.new.pins ≡ subject.old.pins) }
+    ensures answers { IfOk result (λ answers. answers.items ≡ held_from (cell_room (length subject.old.pins)) subject.old 0 (flat_map owners_in (map (λ group. group.now) groups.now))) }
 {
     let mut held = HeldAnswers {
         answers: Vec::new(alloc),

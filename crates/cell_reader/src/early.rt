@@ -1,9 +1,10 @@
 //! The refusals that are tried before any text is read.
 ghost use Rattle.std.specs.Prelude.{◌≡◌, IfOk, map};
-ghost use Rattle.timing_arcs.specs.Timing.{least};
+ghost use Rattle.cell_machine.specs.Delay.{least};
 ghost use Rattle.cell_parts.specs.Groups.{inner_groups, pin_groups, state_groups};
 ghost use Rattle.cell_parts.specs.Scans.{left_out_states as left_out_states_of};
-ghost use Rattle.cell_parts.specs.Declarations.{duplicates as duplicates_of};
+ghost use Rattle.cell_parts.specs.Declarations.{declared_of, duplicates as duplicates_of};
+ghost use Rattle.cell_parts.specs.Shown.{shown_name};
 ghost use Rattle.cell_reader.specs.Refusals.{first_refusal, early_reasons, refused_or as refused_or_of};
 
 use crate::limits::known_cell;
@@ -11,7 +12,7 @@ use crate::refusal::{Reason, Refusal};
 use crate::scan::least_among_held;
 use crate::scans::{BadDirections, BankGroups, ClearPresets, LeftOutStates, ThreeStates};
 use bool_functions::Names;
-use cell_parts::declarations::{declared_of, first_clash};
+use cell_parts::declarations::{Declared, first_clash};
 use cell_parts::least::lesser;
 use liberty_groups::Group;
 use std::alloc::{AllocError, Global};
@@ -22,13 +23,12 @@ fn duplicates(
     alloc: Global,
     earlier: &Names,
     cell: &Group,
-    groups: &[&Group],
+    declared: &[Declared<'_>],
 ) -> Result<Option<usize>, AllocError>
-    requires { map (λ group. group.now) groups.now ≡ inner_groups cell.now.items }
+    requires { map shown_name declared.now ≡ declared_of cell.now }
     ensures { IfOk result (λ at. at ≡ least (duplicates_of earlier.now cell.now)) }
 {
-    let declared = declared_of(alloc, groups)?;
-    let clash = first_clash(alloc, &declared)?;
+    let clash = first_clash(alloc, declared)?;
     Ok(lesser(known_cell(earlier, cell), clash))
 }
 
@@ -58,21 +58,23 @@ pub(crate) fn refused_or(
     }
 }
 
-/// The first of the reasons that are tried before any text is read.
+/// The first of the reasons that are tried before any text is read, of a cell with these groups, which declare these names.
 pub(crate) fn early_refusal(
     alloc: Global,
     earlier: &Names,
     cell: &Group,
+    declared: &[Declared<'_>],
     groups: &[&Group],
     pins: &[&Group],
     states: &[&Group],
 ) -> Result<Option<Refusal>, AllocError>
+    requires declared { map shown_name declared.now ≡ declared_of cell.now }
     requires groups { map (λ group. group.now) groups.now ≡ inner_groups cell.now.items }
     requires pins { map (λ group. group.now) pins.now ≡ pin_groups cell.now }
     requires states { map (λ group. group.now) states.now ≡ state_groups cell.now }
     ensures { IfOk result (λ refusal. refusal ≡ first_refusal (early_reasons earlier.now cell.now)) }
 {
-    let duplicate = duplicates(alloc, earlier, cell, groups)?;
+    let duplicate = duplicates(alloc, earlier, cell, declared)?;
     let later = refused_or(Reason::Duplicate, duplicate, None);
     let clear_preset = least_among_held(&ClearPresets, states);
     let later = refused_or(Reason::ClearPreset, clear_preset, later);

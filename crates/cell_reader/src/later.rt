@@ -1,6 +1,6 @@
 //! The refusals that are tried after the texts are read.
 ghost use Rattle.std.specs.Prelude.{◌≡◌, IfOk};
-ghost use Rattle.timing_arcs.specs.Timing.{least};
+ghost use Rattle.cell_machine.specs.Delay.{least};
 ghost use Rattle.cell_parts.specs.Declarations.{bad_names as bad_names_of};
 ghost use Rattle.cell_reader.specs.Refusals.{middle_reasons, first_refusal};
 ghost use Rattle.cell_reader.specs.Told.{malformed_told, unknown_told, limits_told, told_reasons};
@@ -15,8 +15,9 @@ use crate::scan::{least_among, least_among_held};
 use crate::scans::NoFunctions;
 use crate::text_faults::WrongText;
 use crate::timing_faults::WrongTiming;
-use cell_parts::declarations::{declared_of, first_bad_name};
+use cell_parts::declarations::first_bad_name;
 use cell_parts::least::lesser;
+use cell_parts::limits::{MOST_ARCS, MOST_CHECKS, MOST_PINS, MOST_STATES};
 use std::alloc::{AllocError, Global};
 
 /// Where the texts of a cell, or the timing of its pins, are wrong in these ways.
@@ -48,12 +49,11 @@ fn unknown_names(parts: &Parts<'_>) -> Option<usize>
 
 /// Where a name of the cell is none.
 #[tactic(auto, using(cell_parts::proofs::LeastLemmas::least_append))]
-fn bad_names(alloc: Global, parts: &Parts<'_>) -> Result<Option<usize>, AllocError>
+fn bad_names(parts: &Parts<'_>) -> Option<usize>
     requires { AreParts parts.now }
-    ensures { IfOk result (λ at. at ≡ least (bad_names_of parts.now.cell.now)) }
+    ensures { result ≡ least (bad_names_of parts.now.cell.now) }
 {
-    let declared = declared_of(alloc, &parts.groups)?;
-    Ok(lesser(bad_cell_name(parts.cell), first_bad_name(&declared)))
+    lesser(bad_cell_name(parts.cell), first_bad_name(&parts.declared))
 }
 
 /// Where a limit of the cell is passed.
@@ -62,16 +62,16 @@ fn limits(alloc: Global, parts: &Parts<'_>) -> Result<Option<usize>, AllocError>
     requires { AreParts parts.now }
     ensures { IfOk result (λ at. at ≡ least (limits_told (subject_in parts.now) parts.now.cell.now)) }
 {
-    let names = bad_names(alloc, parts)?;
-    let pins = first_group_past(64, &parts.owners);
+    let names = bad_names(parts);
+    let pins = first_group_past(MOST_PINS, &parts.owners);
     let states = state_offsets(alloc, &parts.state_groups)?;
     let made = made_offsets(alloc, &parts.answers)?;
     let supports = least_among(&WrongSupport::Empty, parts.readings.as_slice());
     let timing = lesser(
-        first_past(256, &made.checks),
-        lesser(first_past(1024, &made.arcs), supports),
+        first_past(MOST_CHECKS, &made.checks),
+        lesser(first_past(MOST_ARCS, &made.arcs), supports),
     );
-    let counts = lesser(pins, lesser(first_past(16, &states), timing));
+    let counts = lesser(pins, lesser(first_past(MOST_STATES, &states), timing));
     Ok(lesser(names, counts))
 }
 

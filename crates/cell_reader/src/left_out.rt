@@ -3,10 +3,10 @@ ghost use Rattle.std.specs.Prelude.{◌≡◌, ◌++◌, ◌<◌, OnOk, IfOk, le
 ghost use Rattle.std.specs.Option.{option_copied};
 ghost use Rattle.cell_reader.specs.PinTimings.{type_text as type_text_of, type_at as type_at_of, left_out_as, left_out_in, left_out_from};
 
-use liberty_groups::{Group, Item};
+use liberty_groups::{Group, Item, inner_group, last_attribute};
 use sqlite_items::Items;
 use std::alloc::{AllocError, Global};
-use timing_arcs::{PinTiming, TimingFault, inner_group, last_attribute};
+use timing_arcs::{PinTiming, TimingFault};
 
 /// A timing group that makes no check and no arc of its type.
 #[derive(Debug, Drop)]

@@ -7,7 +7,6 @@ mod fault;
 mod later;
 mod laws;
 mod left_out;
-mod library_cell;
 mod limits;
 mod numbered;
 mod offsets;
@@ -25,6 +24,5 @@ pub use laws::{
     accepted_cells_are_sound, accepted_meets_none, accepted_pins_are_sound, accepted_states_are_few,
 };
 pub use left_out::LeftOut;
-pub use library_cell::LibraryCell;
 pub use read::{ReadCell, read_cell};
 pub use refusal::{Reason, Refusal};

@@ -1,6 +1,6 @@
 //! The limits of a cell. Each answers the least offset at which one is passed.
 ghost use Rattle.std.specs.Prelude.{◌≡◌, ◌++◌, OnOk, IfOk, map, flat_map};
-ghost use Rattle.timing_arcs.specs.Timing.{least};
+ghost use Rattle.cell_machine.specs.Delay.{least};
 ghost use Rattle.cell_parts.specs.Declarations.{bad_cell_name as bad_cell_name_of, known_cell as known_cell_of};
 ghost use Rattle.cell_parts.specs.Limits.{first_past as first_past_of, place_of_group, place_of_state as place_of_state_in, state_at};
 ghost use Rattle.cell_parts.specs.Shown.{shown_state};
@@ -10,6 +10,7 @@ use crate::scan::Scan;
 use bool_functions::Names;
 use cell_parts::declarations::is_name;
 use cell_parts::groups::cell_name;
+use cell_parts::limits::MOST_STATE_PINS;
 use cell_parts::state_readings::StateReading;
 use cell_parts::states::{StateName, states_in};
 use liberty_groups::Group;
@@ -102,7 +103,7 @@ impl Scan<StateReading> for WrongSupport {
         let pins = reading.support.len();
         let is_wrong = match self {
             WrongSupport::Empty => pins == 0,
-            WrongSupport::Wide => 8 < pins,
+            WrongSupport::Wide => MOST_STATE_PINS < pins,
         };
         if reading.holds && is_wrong {
             Some(reading.at)

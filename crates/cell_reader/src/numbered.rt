@@ -1,6 +1,6 @@
 //! The names of a cell by their numbers in it, and its states over them.
 ghost use Rattle.std.specs.Prelude.{◌≡◌, ◌≤◌, IfOk, None, Option, flat_map, length};
-ghost use Rattle.timing_arcs.specs.Timing.{least};
+ghost use Rattle.cell_machine.specs.Delay.{least};
 ghost use Rattle.cell_parts.specs.Groups.{state_groups as state_groups_of};
 ghost use Rattle.cell_parts.specs.Pins.{pins_of};
 ghost use Rattle.cell_parts.specs.Vocabulary.{vocabulary};

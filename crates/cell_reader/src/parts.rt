@@ -1,13 +1,14 @@
 //! What a cell is made from: its groups, and what their texts and their timing say.
 ghost use Rattle.std.specs.Prelude.{◌≡◌, IfOk, length, map, flat_map, IsTrue};
 ghost use Rattle.cell_machine.specs.CellRules.{are_distinct};
-ghost use Rattle.cell_parts.specs.Groups.{inner_groups as inner_groups_of, pin_groups as pin_groups_of, state_groups as state_groups_of};
+ghost use Rattle.cell_parts.specs.Declarations.{declared_of};
+ghost use Rattle.cell_parts.specs.Groups.{pin_groups as pin_groups_of, state_groups as state_groups_of};
 ghost use Rattle.cell_parts.specs.Pins.{pin_names, pins_in, owners_in, pins_of as pins_of_cell, owners_of as owners_of_cell};
 ghost use Rattle.cell_parts.specs.States.{states_of as states_of_cell};
 ghost use Rattle.cell_parts.specs.Vocabulary.{vocabulary};
 ghost use Rattle.cell_parts.specs.StateReadings.{state_reading};
 ghost use Rattle.cell_parts.specs.Outputs.{pin_text};
-ghost use Rattle.cell_parts.specs.Shown.{shown_state, shown_vocabulary};
+ghost use Rattle.cell_parts.specs.Shown.{shown_name, shown_state, shown_vocabulary};
 ghost use Rattle.cell_reader.specs.CellTexts.{subject_with};
 ghost use Rattle.cell_reader.specs.Held.{AreHeld};
 ghost use Rattle.cell_reader.specs.Parts.{AreParts};
@@ -15,6 +16,7 @@ ghost use Rattle.cell_reader.specs.Parts.{AreParts};
 use crate::answers::timing_answers;
 use bool_functions::Names;
 use cell_machine::Pin;
+use cell_parts::declarations::Declared;
 use cell_parts::held::held_with;
 use cell_parts::outputs::pin_texts;
 use cell_parts::pins::{owners_of, pins_of};
@@ -34,8 +36,8 @@ pub struct Parts<'a> {
     pub cell: &'a Group,
     /// The time unit of the library.
     pub unit: Option<Unit>,
-    /// The groups among the statements of the cell.
-    pub groups: Vec<&'a Group>,
+    /// The names that the cell declares.
+    pub declared: Vec<Declared<'a>>,
     pub pin_groups: Vec<&'a Group>,
     pub state_groups: Vec<&'a Group>,
     /// For each pin the group that makes it.
@@ -63,16 +65,25 @@ fn names_of(alloc: Global, pins: &[Pin]) -> Result<Names, AllocError>
     Ok(names)
 }
 
-/// What reading the timing of each pin answers, where these are the groups that make pins.
-fn answers_of(
+/// The pins of a cell, and what reading the timing of each answers.
+#[derive(Drop)]
+struct TimedPins {
+    pins: Items<Pin>,
+    answers: Vec<Result<PinTiming, TimingFault>>,
+}
+
+/// These pins, and what reading the timing of each answers, where these are the groups that make them.
+fn read_timings(
     alloc: Global,
     unit: Option<Unit>,
+    pins: Items<Pin>,
     groups: &[&Group],
-) -> Result<Vec<Result<PinTiming, TimingFault>>, AllocError>
-    requires { IsTrue (are_distinct (pin_names (flat_map pins_in (map (λ group. group.now) groups.now)))) }
-    ensures { IfOk result (λ answers. AreHeld (subject_with unit (flat_map pins_in (map (λ group. group.now) groups.now))) (flat_map owners_in (map (λ group. group.now) groups.now)) answers.items) }
+) -> Result<TimedPins, AllocError>
+    requires pins { pins ≡ flat_map pins_in (map (λ group. group.now) groups.now) }
+    requires distinct { IsTrue (are_distinct (pin_names (flat_map pins_in (map (λ group. group.now) groups.now)))) }
+    ensures pins { IfOk result (λ timed. timed.pins ≡ flat_map pins_in (map (λ group. group.now) groups.now)) }
+    ensures answers { IfOk result (λ timed. AreHeld (subject_with unit (flat_map pins_in (map (λ group. group.now) groups.now))) (flat_map owners_in (map (λ group. group.now) groups.now)) timed.answers.items) }
 {
-    let pins = pins_of(alloc, groups)?;
     let names = names_of(alloc, pins.as_slice())?;
     let mut subject = Subject {
         names,
@@ -81,14 +92,16 @@ fn answers_of(
         unit,
     };
     let answers = timing_answers(alloc, &mut subject, groups)?;
-    Ok(answers)
+    Ok(TimedPins {
+        pins: subject.pins,
+        answers,
+    })
 }
 
-/// The pins and the states of a cell, and the names that its texts may name.
+/// The groups that make the pins of a cell, its states, and the names that its texts may name.
 #[derive(Drop)]
 struct Named<'a> {
     owners: Vec<&'a Group>,
-    pins: Items<Pin>,
     states: Vec<StateName<'a>>,
     vocabulary: Vocabulary<'a>,
 }
@@ -103,64 +116,65 @@ fn read_names<'a>(
     requires pins { map (λ group. group.now) pin_groups.now ≡ pin_groups_of cell.now }
     requires states { map (λ group. group.now) state_groups.now ≡ state_groups_of cell.now }
     ensures owners { IfOk result (λ named. map (λ group. group.now) named.owners.items ≡ owners_of_cell cell.now) }
-    ensures pins { IfOk result (λ named. named.pins ≡ pins_of_cell cell.now) }
     ensures states { IfOk result (λ named. map shown_state named.states.items ≡ states_of_cell cell.now) }
     ensures vocabulary { IfOk result (λ named. shown_vocabulary named.vocabulary ≡ vocabulary cell.now) }
 {
     let _at = cell.at;
     let owners = owners_of(alloc, pin_groups)?;
-    let pins = pins_of(alloc, pin_groups)?;
     let states = states_of(alloc, state_groups)?;
     let vocabulary = read_vocabulary(alloc, &states, pin_groups)?;
     Ok(Named {
         owners,
-        pins,
         states,
         vocabulary,
     })
 }
 
-/// What the texts and the timing of a cell say.
+/// The pins of a cell, and what its texts and its timing say.
 #[derive(Drop)]
 struct Said {
+    pins: Items<Pin>,
     readings: Items<StateReading>,
     texts: Items<Text>,
     answers: Vec<Result<PinTiming, TimingFault>>,
 }
 
-/// What the texts and the timing of these groups say, in a cell in which these are named.
+/// The pins that these groups make, and what the texts and the timing of these groups say, in a cell whose texts may name these.
 fn read_said(
     alloc: Global,
     unit: Option<Unit>,
-    named: &Named<'_>,
+    vocabulary: &Vocabulary<'_>,
     pin_groups: &[&Group],
     state_groups: &[&Group],
 ) -> Result<Said, AllocError>
     requires { IsTrue (are_distinct (pin_names (flat_map pins_in (map (λ group. group.now) pin_groups.now)))) }
-    ensures readings { IfOk result (λ said. said.readings ≡ map (state_reading (shown_vocabulary named.now.vocabulary) (length named.now.pins)) (map (λ group. group.now) state_groups.now)) }
-    ensures texts { IfOk result (λ said. said.texts ≡ map (pin_text (shown_vocabulary named.now.vocabulary)) (map (λ group. group.now) pin_groups.now)) }
+    ensures pins { IfOk result (λ said. said.pins ≡ flat_map pins_in (map (λ group. group.now) pin_groups.now)) }
+    ensures readings { IfOk result (λ said. said.readings ≡ map (state_reading (shown_vocabulary vocabulary.now) (length (flat_map pins_in (map (λ group. group.now) pin_groups.now)))) (map (λ group. group.now) state_groups.now)) }
+    ensures texts { IfOk result (λ said. said.texts ≡ map (pin_text (shown_vocabulary vocabulary.now)) (map (λ group. group.now) pin_groups.now)) }
     ensures answers { IfOk result (λ said. AreHeld (subject_with unit (flat_map pins_in (map (λ group. group.now) pin_groups.now))) (flat_map owners_in (map (λ group. group.now) pin_groups.now)) said.answers.items) }
 {
-    let readings = state_readings(alloc, &named.vocabulary, named.pins.len(), state_groups)?;
-    let texts = pin_texts(alloc, &named.vocabulary, pin_groups)?;
-    let answers = answers_of(alloc, unit, pin_groups)?;
+    let pins = pins_of(alloc, pin_groups)?;
+    let readings = state_readings(alloc, vocabulary, pins.len(), state_groups)?;
+    let texts = pin_texts(alloc, vocabulary, pin_groups)?;
+    let timed = read_timings(alloc, unit, pins, pin_groups)?;
     Ok(Said {
+        pins: timed.pins,
         readings,
         texts,
-        answers,
+        answers: timed.answers,
     })
 }
 
-/// What a cell is made from, where these are its groups, those of them that make pins, and those that hold states.
+/// What a cell is made from, where it declares these names, and these are its groups that make pins and those that hold states.
 pub(crate) fn read_parts<'a>(
     alloc: Global,
     cell: &'a Group,
     unit: Option<Unit>,
-    groups: Vec<&'a Group>,
+    declared: Vec<Declared<'a>>,
     pin_groups: Vec<&'a Group>,
     state_groups: Vec<&'a Group>,
 ) -> Result<Parts<'a>, AllocError>
-    requires groups { map (λ group. group.now) groups.items ≡ inner_groups_of cell.now.items }
+    requires declared { map shown_name declared.items ≡ declared_of cell.now }
     requires pins { map (λ group. group.now) pin_groups.items ≡ pin_groups_of cell.now }
     requires states { map (λ group. group.now) state_groups.items ≡ state_groups_of cell.now }
     requires distinct { IsTrue (are_distinct (pin_names (pins_of_cell cell.now))) }
@@ -169,16 +183,16 @@ pub(crate) fn read_parts<'a>(
     ensures unit { IfOk result (λ parts. parts.unit ≡ unit) }
 {
     let named = read_names(alloc, cell, &pin_groups, &state_groups)?;
-    let said = read_said(alloc, unit, &named, &pin_groups, &state_groups);
+    let said = read_said(alloc, unit, &named.vocabulary, &pin_groups, &state_groups);
     let (named, said) = held_with(named, said)?;
     Ok(Parts {
         cell,
         unit,
-        groups,
+        declared,
         pin_groups,
         state_groups,
         owners: named.owners,
-        pins: named.pins,
+        pins: said.pins,
         states: named.states,
         vocabulary: named.vocabulary,
         readings: said.readings,

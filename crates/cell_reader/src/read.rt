@@ -16,6 +16,7 @@ use crate::refusal::{Reason, Refusal};
 use crate::timings::cell_timing;
 use bool_functions::Names;
 use cell_machine::{Cell, OutputPin};
+use cell_parts::declarations::declared_of;
 use cell_parts::groups::{cell_name, inner_groups, pins_among, states_among};
 use liberty_groups::Group;
 use liberty_text::Unit;
@@ -156,9 +157,12 @@ pub fn read_cell(
     let groups = inner_groups(alloc, cell)?;
     let pins = pins_among(alloc, &groups)?;
     let states = states_among(alloc, &groups)?;
-    if let Some(refusal) = early_refusal(alloc, earlier, cell, &groups, &pins, &states)? {
+    let declared = declared_of(alloc, &groups)?;
+    if let Some(refusal) = early_refusal(
+        alloc, earlier, cell, &declared, &groups, &pins, &states,
+    )? {
         return Err(CellFault::Refused(refusal));
     }
-    let parts = read_parts(alloc, cell, unit, groups, pins, states)?;
+    let parts = read_parts(alloc, cell, unit, declared, pins, states)?;
     read_later(alloc, parts, number)
 }

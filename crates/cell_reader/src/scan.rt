@@ -1,6 +1,6 @@
 //! What is sought in each of some things, and the least offset at which it is met.
 ghost use Rattle.std.specs.Prelude.{◌≡◌, ℕ, List, map, flat_map};
-ghost use Rattle.timing_arcs.specs.Timing.{least};
+ghost use Rattle.cell_machine.specs.Delay.{least};
 
 use cell_parts::least::lesser;
 

@@ -1,4 +1,5 @@
 pub mod Answer
+pub mod Attributes
 pub mod Cursor
 pub mod Fault
 pub mod FirstMisfit

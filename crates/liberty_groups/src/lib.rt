@@ -1,6 +1,7 @@
 //! Liberty text to trees of groups, and back.
 #![tactic(auto)]
 
+mod attributes;
 mod contents;
 mod cursor;
 mod fault;
@@ -13,6 +14,7 @@ mod skip;
 mod tree;
 mod write;
 
+pub use attributes::{Attribute, inner_group, last_attribute, simple_attribute};
 pub use contents::{UnitLine, one_text};
 pub use cursor::Cursor;
 pub use fault::{Expected, LibraryFault, Refusal, Stop, fault_at, lexical_fault};

@@ -2,7 +2,7 @@
 use Rattle.std.specs.Prelude.{ℕ, Bool, true, false, List, [], ◌∷◌, codes, bytes_eq, Option, Some, None, if◌then◌else◌}
 use Rattle.std.specs.Option.{option_map_or}
 use Rattle.liberty_groups.specs.declared.tree.Group.{Group}
-use Rattle.timing_arcs.specs.Attributes.{Attribute, attribute_of}
+use Rattle.liberty_groups.specs.Attributes.{Attribute, attribute_of}
 use Rattle.scan_cells.specs.declared.enables.Enable.{Enable}
 
 -- The value at which a pin with this `signal_type` lets the cell scan, where it is a scan enable: 1 for

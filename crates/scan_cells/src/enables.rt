@@ -2,8 +2,7 @@
 ghost use Rattle.std.specs.Prelude.{◌≡◌, map};
 ghost use Rattle.scan_cells.specs.Enables.{active_named as active_named_of, active_of as active_of_group, first_enable as first_enable_of};
 
-use liberty_groups::Group;
-use timing_arcs::last_attribute;
+use liberty_groups::{Group, last_attribute};
 
 /// A pin that lets a cell scan. (Liberty Reference Manual, `signal_type`.)
 #[derive(Clone, Copy, Debug)]

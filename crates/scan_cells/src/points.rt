@@ -6,6 +6,7 @@ ghost use Rattle.scan_cells.specs.Places.{is_set as is_set_at, value_at as value
 use crate::places::place_of;
 use crate::views::View;
 use cell_machine::Source;
+use cell_parts::limits::MOST_OUTPUT_SOURCES;
 use std::marker::Model;
 
 /// The number that place k weighs.
@@ -82,7 +83,7 @@ pub fn is_inactive(view: &View, places: &[Source], point: u32) -> bool
 #[derive(Drop)]
 pub struct SupportPoint {
     len: usize,
-    bits: [bool; SupportPoint::MOST],
+    bits: [bool; MOST_OUTPUT_SOURCES],
 }
 
 impl Model for SupportPoint {
@@ -96,16 +97,13 @@ impl Model for SupportPoint {
 }
 
 impl SupportPoint {
-    /// The most sources of a support.
-    const MOST: usize = 10;
-
     /// The values of a support at a point over these places.
     pub fn of(places: &[Source], support: &[Source], point: u32) -> SupportPoint
         requires places { length places.now ≤ 20 }
         requires support { length support.now ≤ 10 }
         ensures { result ≡ values_at places.now support.now point }
     {
-        let mut bits = [false; SupportPoint::MOST];
+        let mut bits = [false; MOST_OUTPUT_SOURCES];
         for i in 0..support.len() {
             bits[i] = value_at(places, point, support[i]);
         }

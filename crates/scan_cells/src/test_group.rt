@@ -6,10 +6,9 @@ ghost use Rattle.scan_cells.specs.TestGroup.{test_of as test_of_cell, is_time as
 ghost use Rattle.cell_parts.specs.Groups.{inner_groups as inner_groups_of};
 
 use cell_parts::groups::inner_groups;
-use liberty_groups::{Group, Item, Value};
+use liberty_groups::{Group, Item, Value, inner_group};
 use sqlite_items::Items;
 use std::alloc::{AllocError, Global};
-use timing_arcs::inner_group;
 
 /// The test cell of a cell: of several the first. (Liberty Reference Manual, `test_cell` group.)
 pub fn test_of(cell: &Group) -> Option<&Group>

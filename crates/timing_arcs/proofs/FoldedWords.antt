@@ -2,7 +2,7 @@
 use Rattle.std.proofs.Common.{◌≡◌, ℕ, Option, suc, Bool, true, false, not, List, [], ◌∷◌, length, take, drop, ◌==◌, refl, sym, ◌∙◌, ap, cond}
 use Rattle.std.specs.Prelude.{fold, filter}
 use Rattle.std.specs.List.{slice_split, onto_first}
-use Rattle.timing_arcs.specs.Attributes.{words_between}
+use Rattle.liberty_groups.specs.Attributes.{words_between}
 use Rattle.liberty_text.specs.declared.time.Unit.{Unit as TimeUnit}
 use Rattle.timing_arcs.specs.declared.tables.Sum.{Sum}
 use Rattle.timing_arcs.specs.Tables.{is_separator}

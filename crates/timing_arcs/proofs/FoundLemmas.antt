@@ -21,8 +21,8 @@ use Rattle.timing_arcs.specs.declared.subject.PinTiming.{PinTiming}
 use Rattle.timing_arcs.specs.declared.subject.Room.{Room}
 use Rattle.timing_arcs.specs.declared.fault.TimingFault.{TimingFault}
 use Rattle.timing_arcs.specs.declared.fault.TimingFault.TheVariants as fault
-use Rattle.timing_arcs.specs.Attributes.{Attribute, group_named, groups_named}
-use Rattle.timing_arcs.specs.Offsets.{least}
+use Rattle.liberty_groups.specs.Attributes.{Attribute, group_named, groups_named}
+use Rattle.cell_machine.specs.Delay.{least}
 use Rattle.timing_arcs.specs.Times.{time_of}
 use Rattle.timing_arcs.specs.RelatedPins.{inputs_of, is_left_out}
 use Rattle.timing_arcs.specs.Making.{check, event, has_limit, checks_from, arcs_from, is_made, checks_in}

@@ -22,8 +22,8 @@ use Rattle.timing_arcs.specs.declared.subject.Subject.{Subject}
 use Rattle.timing_arcs.specs.declared.subject.PinTiming.{PinTiming}
 use Rattle.timing_arcs.specs.declared.timing_type.TimingType.{TimingType}
 use Rattle.timing_arcs.specs.declared.timing_type.TimingType.TheVariants.{Delay, Setup, Hold, Recovery, Removal, Width, Period, Other}
-use Rattle.timing_arcs.specs.Attributes.{Attribute, attribute_of, group_named}
-use Rattle.timing_arcs.specs.Offsets.{lesser, least}
+use Rattle.liberty_groups.specs.Attributes.{Attribute, attribute_of, group_named}
+use Rattle.cell_machine.specs.Delay.{lesser, least}
 use Rattle.timing_arcs.specs.Times.{time_of}
 use Rattle.timing_arcs.specs.TimingTypes.{type_of}
 use Rattle.timing_arcs.specs.RelatedPins.{inputs_of, is_left_out}

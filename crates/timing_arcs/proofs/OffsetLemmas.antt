@@ -1,7 +1,7 @@
 -- The least of offsets that are there or not.
 use Rattle.std.proofs.Common.{◌≡◌, ℕ, Bool, true, false, List, [], ◌∷◌, ◌++◌, min, refl, sym, ap, ◌∙◌, arith}
 use Rattle.std.specs.Prelude.{Option, Some, None, if◌then◌else◌}
-use Rattle.timing_arcs.specs.Offsets.{lesser, least}
+use Rattle.cell_machine.specs.Delay.{lesser, least}
 
 pub least_if : (b : Bool) (xs : List ℕ) → least (if b then xs else []) ≡ (if b then least xs else None)
 least_if true xs = refl

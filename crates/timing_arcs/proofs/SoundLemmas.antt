@@ -31,7 +31,7 @@ use Rattle.timing_arcs.specs.declared.related.Related.TheVariants as related
 use Rattle.timing_arcs.specs.declared.subject.Subject.{Subject}
 use Rattle.timing_arcs.specs.declared.timing_type.TimingType.{TimingType}
 use Rattle.timing_arcs.specs.declared.timing_type.TimingType.TheVariants.{Delay, Setup, Hold, Recovery, Removal, Width, Period, Other}
-use Rattle.timing_arcs.specs.Attributes.{Attribute, attribute_of, place_of}
+use Rattle.liberty_groups.specs.Attributes.{Attribute, attribute_of, place_of}
 use Rattle.timing_arcs.specs.Times.{time_as, time_of}
 use Rattle.timing_arcs.specs.TimingTypes.{delay_words, check_words, type_named, type_of, stands_under, rise_table, fall_table, has_table, is_used}
 use Rattle.timing_arcs.specs.RelatedPins.{related_words, related_as, related_by, related_of, is_driven, input_of, inputs_of, is_read}

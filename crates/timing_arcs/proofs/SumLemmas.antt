@@ -13,10 +13,10 @@ use Rattle.liberty_groups.specs.declared.tree.Item.TheOpen as layer
 use Rattle.liberty_groups.specs.declared.tree.Group.{Group}
 use Rattle.liberty_text.specs.declared.time.Unit.{Unit as TimeUnit}
 use Rattle.timing_arcs.specs.declared.tables.Sum.{Sum}
-use Rattle.timing_arcs.specs.Offsets.{lesser, least}
+use Rattle.cell_machine.specs.Delay.{lesser, least}
 use Rattle.timing_arcs.proofs.OffsetLemmas.{lesser-none, lesser-assoc, least-append}
 use Rattle.timing_arcs.specs.Times.{time_of}
-use Rattle.timing_arcs.specs.Attributes.{first_of, words_between, group_named, groups_named}
+use Rattle.liberty_groups.specs.Attributes.{first_of, words_between, group_named, groups_named}
 use Rattle.timing_arcs.specs.Tables.{is_separator, Values, entries_of, values_as, values_of, values_named, greatest, times_of, limit_of, has_entry, bad_values_at, bad_numbers_at, empty_tables_at}
 use Rattle.timing_arcs.specs.Sums.{first_unless, no_sum, with_time, with_entry, with_text, with_arguments, with_item, with_optional, with_tables}
 

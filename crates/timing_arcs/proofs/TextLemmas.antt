@@ -27,8 +27,8 @@ use Rattle.timing_arcs.specs.declared.subject.Room.{Room}
 use Rattle.timing_arcs.specs.declared.timing_texts.TimingTexts.{TimingTexts}
 use Rattle.timing_arcs.specs.declared.timing_type.TimingType.{TimingType}
 use Rattle.timing_arcs.specs.declared.timing_type.TimingType.TheVariants.{Width, Period}
-use Rattle.timing_arcs.specs.Attributes.{Attribute, attribute_of, group_named, place_of}
-use Rattle.timing_arcs.specs.Offsets.{lesser, least}
+use Rattle.liberty_groups.specs.Attributes.{Attribute, attribute_of, group_named, place_of}
+use Rattle.cell_machine.specs.Delay.{lesser, least}
 use Rattle.timing_arcs.specs.TimingTypes.{type_of, rise_table, fall_table, is_used}
 use Rattle.timing_arcs.specs.RelatedPins.{related_by, related_of, inputs_of, is_driven, is_unknown, input_of, is_read, is_left_out}
 use Rattle.timing_arcs.specs.Conditions.{condition_as, condition_in, condition_of, tree_of, may_hold, is_malformed, has_unknown, named_pins, names_one, is_wide}

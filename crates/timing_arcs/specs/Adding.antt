@@ -15,8 +15,8 @@ use Rattle.timing_arcs.specs.declared.found.Found.{Found}
 use Rattle.timing_arcs.specs.declared.subject.Subject.{Subject}
 use Rattle.timing_arcs.specs.declared.subject.PinTiming.{PinTiming}
 use Rattle.timing_arcs.specs.declared.subject.Room.{Room}
-use Rattle.timing_arcs.specs.Attributes.{Attribute, group_named}
-use Rattle.timing_arcs.specs.Offsets.{lesser}
+use Rattle.liberty_groups.specs.Attributes.{Attribute, group_named}
+use Rattle.cell_machine.specs.Delay.{lesser}
 use Rattle.timing_arcs.specs.Times.{time_of}
 use Rattle.timing_arcs.specs.RelatedPins.{inputs_of, is_left_out}
 use Rattle.timing_arcs.specs.Making.{check, event, checks_from, arcs_from, is_made}

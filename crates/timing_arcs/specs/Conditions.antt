@@ -14,7 +14,7 @@ use Rattle.cell_machine.specs.Names.{has}
 use Rattle.timing_arcs.specs.declared.condition.Condition.{Condition}
 use Rattle.timing_arcs.specs.declared.condition.Condition.TheVariants.{Always, Never, Where, Malformed, Unknown}
 use Rattle.timing_arcs.specs.declared.subject.Subject.{Subject}
-use Rattle.timing_arcs.specs.Attributes.{Attribute, attribute_of}
+use Rattle.liberty_groups.specs.Attributes.{Attribute, attribute_of}
 
 -- A condition without names is a constant: it holds always where its value is 1, and never where it is 0.
 -- (This project's rule.)

@@ -17,8 +17,8 @@ use Rattle.timing_arcs.specs.declared.related.RelatedText.{RelatedText}
 use Rattle.timing_arcs.specs.declared.when_text.WhenText.{WhenText}
 use Rattle.timing_arcs.specs.declared.group_text.GroupText.{GroupText}
 use Rattle.timing_arcs.specs.declared.subject.Subject.{Subject}
-use Rattle.timing_arcs.specs.Attributes.{Attribute, attribute_of, group_named, place_of}
-use Rattle.timing_arcs.specs.Offsets.{lesser, least}
+use Rattle.liberty_groups.specs.Attributes.{Attribute, attribute_of, group_named, place_of}
+use Rattle.cell_machine.specs.Delay.{lesser, least}
 use Rattle.timing_arcs.specs.TimingTypes.{type_of, stands_under, rise_table, fall_table, has_table}
 use Rattle.timing_arcs.specs.RelatedPins.{related_as, related_words, is_driven, is_unknown, input_of}
 use Rattle.timing_arcs.specs.Conditions.{condition_in, tree_of, may_hold, is_malformed, has_unknown, named_pins}

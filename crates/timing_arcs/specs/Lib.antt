@@ -1,5 +1,3 @@
-pub mod Attributes
-pub mod Offsets
 pub mod Times
 pub mod TimingTypes
 pub mod RelatedPins

@@ -13,7 +13,7 @@ use Rattle.timing_arcs.specs.declared.found.Found.{Found}
 use Rattle.timing_arcs.specs.declared.pin_limits.PinLimit.{PinLimit}
 use Rattle.timing_arcs.specs.declared.pin_limits.PinLimits.{PinLimits}
 use Rattle.timing_arcs.specs.declared.subject.Subject.{Subject}
-use Rattle.timing_arcs.specs.Attributes.{Attribute, attribute_of}
+use Rattle.liberty_groups.specs.Attributes.{Attribute, attribute_of}
 use Rattle.timing_arcs.specs.Times.{time_of}
 use Rattle.timing_arcs.specs.Adding.{with_limit}
 

@@ -3,7 +3,7 @@ use Rattle.std.specs.Prelude.{ℕ, Bool, Option, None, if◌then◌else◌}
 use Rattle.liberty_groups.specs.declared.tree.Group.{Group}
 use Rattle.timing_arcs.specs.declared.offsets.Offsets.{Offsets}
 use Rattle.timing_arcs.specs.declared.subject.Subject.{Subject}
-use Rattle.timing_arcs.specs.Offsets.{lesser, least}
+use Rattle.cell_machine.specs.Delay.{lesser, least}
 use Rattle.timing_arcs.specs.Timing.{malformed_in, unknown_in, own_in, wide_in, bad_numbers_in}
 
 -- an offset, where something is so

@@ -10,7 +10,7 @@ use Rattle.timing_arcs.specs.declared.timing_type.TimingType.TheVariants.{Delay,
 use Rattle.timing_arcs.specs.declared.related.Related.{Related}
 use Rattle.timing_arcs.specs.declared.related.Related.TheVariants.{Input, Driven, Unknown}
 use Rattle.timing_arcs.specs.declared.subject.Subject.{Subject}
-use Rattle.timing_arcs.specs.Attributes.{Attribute, attribute_of, words_between}
+use Rattle.liberty_groups.specs.Attributes.{Attribute, attribute_of, words_between}
 use Rattle.timing_arcs.specs.TimingTypes.{type_of, is_used}
 
 abbrev pub is_space : ℕ → Bool

@@ -1,12 +1,7 @@
 -- What stands behind the references that the program holds.
-use Rattle.timing_arcs.specs.declared.attributes.Attribute.{Attribute as Held}
-use Rattle.timing_arcs.specs.Attributes.{Attribute}
 use Rattle.timing_arcs.specs.declared.arc_list.Path.{Path}
 use Rattle.cell_machine.specs.declared.arcs.Arc.{Arc}
 use Rattle.std.specs.Option.{option_copied}
-
-abbrev pub shown : Held → Attribute
-shown attribute = record { text = attribute.text.now; at = attribute.at }
 
 -- the arc on a path
 abbrev pub arc_on : Path → Arc

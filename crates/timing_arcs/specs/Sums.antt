@@ -7,9 +7,9 @@ use Rattle.liberty_groups.specs.declared.tree.Item.TheOpen as layer
 use Rattle.liberty_groups.specs.declared.tree.Group.{Group}
 use Rattle.liberty_text.specs.declared.time.Unit.{Unit as TimeUnit}
 use Rattle.timing_arcs.specs.declared.tables.Sum.{Sum}
-use Rattle.timing_arcs.specs.Offsets.{lesser}
+use Rattle.cell_machine.specs.Delay.{lesser}
 use Rattle.timing_arcs.specs.Times.{time_of}
-use Rattle.timing_arcs.specs.Attributes.{group_named, words_between}
+use Rattle.liberty_groups.specs.Attributes.{group_named, words_between}
 use Rattle.timing_arcs.specs.Tables.{is_separator}
 
 -- of no entries

@@ -9,7 +9,7 @@ use Rattle.liberty_groups.specs.declared.tree.Item.TheOpen.{Item-F}
 use Rattle.liberty_groups.specs.declared.tree.Item.TheOpen as layer
 use Rattle.liberty_groups.specs.declared.tree.Group.{Group}
 use Rattle.timing_arcs.specs.Times.{time_of}
-use Rattle.timing_arcs.specs.Attributes.{groups_named, words_between}
+use Rattle.liberty_groups.specs.Attributes.{groups_named, words_between}
 
 -- Entries are separated by commas, blanks and line ends. (Liberty Reference Manual, `values`.)
 abbrev pub is_separator : ℕ → Bool

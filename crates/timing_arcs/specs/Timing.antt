@@ -16,8 +16,8 @@ use Rattle.timing_arcs.specs.declared.fault.TimingFault.TheVariants as fault
 use Rattle.timing_arcs.specs.declared.subject.Subject.{Subject}
 use Rattle.timing_arcs.specs.declared.subject.PinTiming.{PinTiming}
 use Rattle.timing_arcs.specs.declared.subject.Room.{Room}
-use Rattle.timing_arcs.specs.Attributes.{Attribute, attribute_of, group_named, groups_named, place_of}
-pub use Rattle.timing_arcs.specs.Offsets.{lesser, least}
+use Rattle.liberty_groups.specs.Attributes.{Attribute, attribute_of, group_named, groups_named, place_of}
+use Rattle.cell_machine.specs.Delay.{least}
 use Rattle.timing_arcs.specs.Times.{time_of}
 use Rattle.timing_arcs.specs.TimingTypes.{type_of, rise_table, fall_table, is_used}
 use Rattle.timing_arcs.specs.RelatedPins.{related_of, inputs_of, is_unknown, is_read, is_left_out}

@@ -11,7 +11,7 @@ use Rattle.cell_machine.specs.CellRules.{is_input, is_output}
 use Rattle.timing_arcs.specs.declared.timing_type.TimingType.{TimingType}
 use Rattle.timing_arcs.specs.declared.timing_type.TimingType.TheVariants.{Delay, Setup, Hold, Recovery, Removal, Width, Period, Other}
 use Rattle.timing_arcs.specs.declared.subject.Subject.{Subject}
-use Rattle.timing_arcs.specs.Attributes.{Attribute, attribute_of, groups_named}
+use Rattle.liberty_groups.specs.Attributes.{Attribute, attribute_of, groups_named}
 
 -- The words of `timing_type` that a delay has. (Liberty Reference Manual, `timing_type`.)
 abbrev pub delay_words : List (List ℕ)

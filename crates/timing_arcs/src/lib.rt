@@ -2,7 +2,6 @@
 #![tactic(auto)]
 
 mod arc_list;
-mod attributes;
 mod condition;
 mod fault;
 mod found;
@@ -21,7 +20,6 @@ mod under_pin;
 mod when_text;
 mod words;
 
-pub use attributes::{Attribute, inner_group, last_attribute, simple_attribute};
 pub use fault::TimingFault;
 pub use laws::{
     arcs_are_apart, arcs_are_sound, arcs_end_here, checks_are_sound, timings_are_placed,

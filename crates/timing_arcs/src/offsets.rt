@@ -1,6 +1,6 @@
 //! The least offsets of what is noted in timing groups.
 ghost use Rattle.std.specs.Prelude.{◌≡◌};
-ghost use Rattle.timing_arcs.specs.Offsets.{lesser};
+ghost use Rattle.cell_machine.specs.Delay.{lesser};
 ghost use Rattle.timing_arcs.specs.Readings.{joined, no_offsets, where_so};
 
 /// The least offsets of what is wrong, kind by kind, and of what is over a limit.

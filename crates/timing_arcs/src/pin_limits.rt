@@ -1,17 +1,15 @@
 //! The limits that the attributes of a pin group give.
 ghost use Rattle.std.specs.Prelude.{◌≡◌, OnOk};
 ghost use Rattle.std.specs.Option.{option_map};
-ghost use Rattle.timing_arcs.specs.Attributes.{attribute_of};
+ghost use Rattle.liberty_groups.specs.Attributes.{attribute_of, shown};
 ghost use Rattle.timing_arcs.specs.PinLimits.{limit_as, pin_limit, pin_limits, limit_under, with_pin_limit, with_pin_limits};
-ghost use Rattle.timing_arcs.specs.Shown.{shown};
 
-use crate::attributes::{Attribute, last_attribute};
 use crate::found::Found;
 use crate::subject::Subject;
 use crate::tables::time;
 use crate::timing_type::is_input_pin;
 use cell_machine::{Check, CheckKind, Edge, Event};
-use liberty_groups::Group;
+use liberty_groups::{Attribute, Group, last_attribute};
 use liberty_text::Unit;
 use std::alloc::AllocError;
 

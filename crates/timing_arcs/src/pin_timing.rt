@@ -3,13 +3,12 @@ ghost use Rattle.std.specs.Prelude.{◌≡◌, IfOk, OnOk};
 ghost use Rattle.timing_arcs.specs.Adding.{with_group, with_items};
 ghost use Rattle.timing_arcs.specs.Timing.{reading_answer, held_answer};
 
-use crate::attributes::inner_group;
 use crate::fault::TimingFault;
 use crate::found::Found;
 use crate::group_text::GroupText;
 use crate::pin_limits::PinLimits;
 use crate::subject::{PinTiming, Room, Subject};
-use liberty_groups::{Group, Item};
+use liberty_groups::{Group, Item, inner_group};
 use std::alloc::{AllocError, Global};
 
 /// Adds what a timing group at this place among the pin's items gives.

@@ -3,13 +3,13 @@ ghost use Rattle.std.specs.Prelude.{◌≡◌, ◌++◌, ◌==◌, ◌||◌, not
 ghost use Rattle.std.specs.List.{list_any, filter_map};
 ghost use Rattle.timing_arcs.specs.RelatedPins.{related_as, is_driven, is_unknown, input_of, is_space};
 ghost use Rattle.timing_arcs.specs.GroupTexts.{named_related, related_text};
-ghost use Rattle.timing_arcs.specs.Attributes.{words_between};
+ghost use Rattle.liberty_groups.specs.Attributes.{words_between, attribute_of, place_of};
+ghost use Rattle.cell_machine.specs.Delay.{least};
 
-use crate::attributes::{last_attribute, statement_at};
 use crate::subject::Subject;
 use crate::timing_type::is_input_pin;
 use crate::words::pin_names;
-use liberty_groups::Group;
+use liberty_groups::{Group, last_attribute};
 use sqlite_items::Items;
 use std::alloc::{AllocError, Global};
 
@@ -153,6 +153,16 @@ pub(crate) struct RelatedText {
     pub(crate) has_unknown: bool,
     /// The input pins among its names, in order.
     pub(crate) inputs: Items<usize>,
+}
+
+/// The offset of the statement of this simple attribute that counts.
+fn statement_at(group: &Group, name: &[u8]) -> Option<usize>
+    ensures { result ≡ least (place_of (attribute_of group.now name.now)) }
+{
+    match last_attribute(group, name) {
+        Some(attribute) => Some(attribute.at),
+        None => None,
+    }
 }
 
 impl RelatedText {

@@ -2,17 +2,16 @@
 ghost use Rattle.std.specs.Prelude.{◌≡◌};
 ghost use Rattle.std.specs.Option.{option_copied};
 ghost use Rattle.liberty_groups.specs.declared.tree.Item.{out-Item};
-ghost use Rattle.timing_arcs.specs.Attributes.{groups_named, first_of};
-ghost use Rattle.timing_arcs.specs.Offsets.{least};
+ghost use Rattle.liberty_groups.specs.Attributes.{groups_named, first_of};
+ghost use Rattle.cell_machine.specs.Delay.{least};
 ghost use Rattle.timing_arcs.specs.Times.{time_of};
 ghost use Rattle.timing_arcs.specs.Tables.{limit_of, bad_numbers_at};
 ghost use Rattle.timing_arcs.specs.Sums.{first_unless, no_sum, with_entry, with_text, with_arguments, with_item, with_table, with_tables};
 ghost use Rattle.timing_arcs.specs.Words.{with_word};
 
-use crate::attributes::inner_group;
 use crate::offsets::lesser;
 use crate::words::{behind_first, entry_length};
-use liberty_groups::{Group, Item, Value};
+use liberty_groups::{Group, Item, Value, inner_group};
 use liberty_text::{Unit, fixed, picoseconds};
 
 /// What some entries of tables give.

@@ -4,13 +4,12 @@ ghost use Rattle.timing_arcs.specs.GroupTexts.{texts_from, pin_texts, with_texts
 ghost use Rattle.timing_arcs.specs.TimingTexts.{AreTexts};
 ghost use Rattle.timing_arcs.specs.Timing.{reading_answer, held_answer};
 
-use crate::attributes::inner_group;
 use crate::fault::TimingFault;
 use crate::found::Found;
 use crate::group_text::GroupText;
 use crate::pin_limits::PinLimits;
 use crate::subject::{PinTiming, Room, Subject};
-use liberty_groups::{Group, Item};
+use liberty_groups::{Group, Item, inner_group};
 use sqlite_items::Items;
 use std::alloc::{AllocError, Global};
 

@@ -2,10 +2,9 @@
 ghost use Rattle.std.specs.Prelude.{◌≡◌, IfOk};
 ghost use Rattle.timing_arcs.specs.GroupTexts.{when_text};
 
-use crate::attributes::last_attribute;
 use crate::condition::Condition;
 use crate::subject::Subject;
-use liberty_groups::Group;
+use liberty_groups::{Group, last_attribute};
 use sqlite_items::Items;
 use std::alloc::{AllocError, Global};
 

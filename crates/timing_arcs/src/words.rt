@@ -1,6 +1,6 @@
 //! Texts cut into words.
 ghost use Rattle.std.specs.Prelude.{◌≡◌, ◌==◌, ◌≤◌, length, drop, map, IfOk};
-ghost use Rattle.timing_arcs.specs.Attributes.{words_between};
+ghost use Rattle.liberty_groups.specs.Attributes.{words_between};
 ghost use Rattle.timing_arcs.specs.RelatedPins.{is_space};
 ghost use Rattle.timing_arcs.specs.Tables.{is_separator};
 ghost use Rattle.timing_arcs.specs.Words.{word_length};

@@ -1,5 +1,5 @@
 use Rattle.std.proofs.Common.{◌≡◌, [], map, take, drop}
-use Rattle.timing_arcs.specs.Timing.{lesser, least}
+use Rattle.cell_machine.specs.Delay.{lesser, least}
 use Rattle.cell_parts.specs.Declarations.{clashes_after}
 use Rattle.cell_parts.specs.KnownNames.{IsKnown}
 use Rattle.cell_parts.specs.Shown.{shown_name}

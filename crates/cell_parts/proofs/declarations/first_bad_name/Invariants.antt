@@ -1,6 +1,6 @@
 use Rattle.std.proofs.Common.{◌≡◌, map, drop}
 use Rattle.std.specs.Prelude.{flat_map}
-use Rattle.timing_arcs.specs.Timing.{lesser, least}
+use Rattle.cell_machine.specs.Delay.{lesser, least}
 use Rattle.cell_parts.specs.Declarations.{bad_name_in}
 use Rattle.cell_parts.specs.Shown.{shown_name}
 use Rattle.cell_parts.proofs.declarations.first_bad_name.Given as goal

@@ -1,6 +1,6 @@
 use Rattle.std.proofs.Common.{◌∙◌, List, ap}
 use Rattle.std.specs.Prelude.{flat_map}
-use Rattle.timing_arcs.specs.Timing.{least}
+use Rattle.cell_machine.specs.Delay.{least}
 use Rattle.cell_parts.specs.declared.state_readings.StateReading.{StateReading}
 use Rattle.cell_parts.specs.Limits.{wide_support_in}
 use Rattle.cell_reader.specs.Parts.{subject_in}

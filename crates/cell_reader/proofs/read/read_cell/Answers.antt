@@ -3,7 +3,7 @@ use Rattle.liberty_text.specs.declared.time.Unit.{Unit}
 use Rattle.liberty_groups.specs.declared.tree.Group.{Group}
 use Rattle.cell_reader.specs.CellTexts.{subject_of, Tells}
 use Rattle.cell_reader.specs.Refusals.{first_refusal, early_reasons, later_reasons, refusal_of}
-use Rattle.cell_reader.proofs.Reading.{names_are_distinct, later_decide, lift_ok, lift_err}
+use Rattle.cell_reader.proofs.Reading.{names_are_distinct, early_decides, later_decide, lift_ok, lift_err}
 use Rattle.cell_reader.proofs.read.read_cell.Goals as goal
 
 pub read_parts-requires-clause-distinct : goal.read_parts-requires-clause-distinct
@@ -18,6 +18,10 @@ later_of_parts :
 later_of_parts unit held_unit earlier cell held same_unit same_cell early =
     ap (λ u. first_refusal (later_reasons (subject_of u held) held)) same_unit
     ∙ (ap (λ g. first_refusal (later_reasons (subject_of unit g) g)) same_cell ∙ sym (later_decide (subject_of unit cell) earlier cell early))
+
+pub returns-in-Some-clause-refused : goal.returns-in-Some-clause-refused
+returns-in-Some-clause-refused c =
+    early_decides (subject_of c.args.unit c.args.cell.now) c.args.earlier.now c.args.cell.now c.in-Some.refusal (sym c.in_ok-refusal.ensures ∙ c.in-Some.is)
 
 pub returns-clause-accepted : goal.returns-clause-accepted
 returns-clause-accepted c =

@@ -1,5 +1,5 @@
 use Rattle.std.proofs.Common.{◌∙◌, ap}
-use Rattle.timing_arcs.specs.Timing.{lesser}
+use Rattle.cell_machine.specs.Delay.{lesser}
 use Rattle.cell_parts.proofs.LeastLemmas.{least_turn}
 use Rattle.cell_reader.proofs.scan.least_among_held.Goals as goal
 

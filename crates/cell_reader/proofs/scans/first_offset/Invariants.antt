@@ -1,6 +1,6 @@
 use Rattle.std.proofs.Common.{◌≡◌, map, drop}
-use Rattle.timing_arcs.specs.Timing.{lesser, least}
-use Rattle.timing_arcs.specs.Attributes.{Attribute, attributes_named}
+use Rattle.cell_machine.specs.Delay.{lesser, least}
+use Rattle.liberty_groups.specs.Attributes.{Attribute, attributes_named}
 use Rattle.cell_parts.specs.Groups.{offsets_of}
 use Rattle.cell_reader.proofs.scans.first_offset.Given as goal
 

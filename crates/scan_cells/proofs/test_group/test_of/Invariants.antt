@@ -1,5 +1,5 @@
 use Rattle.std.proofs.Common.{◌≡◌, drop, codes}
-use Rattle.timing_arcs.specs.Attributes.{groups_named, first_of}
+use Rattle.liberty_groups.specs.Attributes.{groups_named, first_of}
 use Rattle.scan_cells.specs.TestGroup.{test_of}
 use Rattle.scan_cells.proofs.test_group.test_of.Given as goal
 

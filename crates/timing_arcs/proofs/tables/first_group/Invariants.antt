@@ -1,5 +1,5 @@
 use Rattle.std.proofs.Common.{◌≡◌, drop}
-use Rattle.timing_arcs.specs.Attributes.{groups_named}
+use Rattle.liberty_groups.specs.Attributes.{groups_named}
 use Rattle.timing_arcs.proofs.tables.first_group.Given as goal
 
 -- no statement so far is such a group

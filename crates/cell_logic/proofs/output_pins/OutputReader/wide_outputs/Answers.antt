@@ -1,5 +1,5 @@
 use Rattle.std.proofs.Common.{◌∙◌, ap}
-use Rattle.timing_arcs.specs.Timing.{lesser}
+use Rattle.cell_machine.specs.Delay.{lesser}
 use Rattle.cell_parts.specs.Limits.{wide_output}
 use Rattle.cell_parts.specs.Shown.{shown_vocabulary}
 use Rattle.cell_parts.proofs.LeastLemmas.{least_turn}

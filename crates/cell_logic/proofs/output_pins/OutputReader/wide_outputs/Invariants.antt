@@ -1,6 +1,6 @@
 use Rattle.std.proofs.Common.{◌≡◌, map, drop}
 use Rattle.std.specs.Prelude.{flat_map}
-use Rattle.timing_arcs.specs.Timing.{lesser, least}
+use Rattle.cell_machine.specs.Delay.{lesser, least}
 use Rattle.cell_parts.specs.Limits.{wide_output}
 use Rattle.cell_parts.specs.Shown.{shown_vocabulary}
 use Rattle.cell_logic.proofs.output_pins.OutputReader.wide_outputs.Given as goal

@@ -1,5 +1,5 @@
 use Rattle.std.proofs.Common.{◌≡◌, IfOk, length, subst}
-use Rattle.timing_arcs.specs.Timing.{least}
+use Rattle.cell_machine.specs.Delay.{least}
 use Rattle.cell_parts.specs.Limits.{wide_text}
 use Rattle.cell_parts.specs.Shown.{shown_vocabulary}
 use Rattle.cell_parts.proofs.Fits.{read_text_fits}

@@ -7,11 +7,16 @@ use Rattle.liberty_groups.specs.declared.tree.Item.{Item, out-Item}
 use Rattle.liberty_groups.specs.declared.tree.Item.TheOpen.{Item-F}
 use Rattle.liberty_groups.specs.declared.tree.Item.TheOpen as layer
 use Rattle.liberty_groups.specs.declared.tree.Group.{Group}
+use Rattle.liberty_groups.specs.declared.attributes.Attribute.{Attribute as Held}
 
 -- The text of an attribute, and the offset of its statement.
 pub record Attribute : Type 0 where
   pub text : List ℕ
   pub at : ℕ
+
+-- What stands behind the reference that the program holds.
+abbrev pub shown : Held → Attribute
+shown attribute = record { text = attribute.text.now; at = attribute.at }
 
 -- The text of a simple attribute is that of its one value. With no value or with several it is empty.
 -- (This project's rule.)

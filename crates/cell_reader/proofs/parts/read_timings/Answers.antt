@@ -9,24 +9,24 @@ use Rattle.cell_reader.specs.CellTexts.{subject_with}
 use Rattle.cell_reader.specs.PinTimings.{Answer}
 use Rattle.cell_reader.specs.Held.{cell_room, held_from, AreHeld}
 use Rattle.cell_reader.proofs.Held.{are_held}
-use Rattle.cell_reader.proofs.parts.answers_of.Goals as goal
+use Rattle.cell_reader.proofs.parts.read_timings.Goals as goal
 
-pub returns : goal.returns
-returns c =
+pub returns-clause-answers : goal.returns-clause-answers
+returns-clause-answers c =
     let groups : List Group = map (λ group. group.now) c.args.groups.now in
     let owners : List Group = flat_map owners_in groups in
     let pins : List Pin = flat_map pins_in groups in
     let subject : Subject = subject_with c.args.unit pins in
-    let here : Subject = record { names = c.in_ok-names.names; pins = c.in_ok-pins.pins; place = 0; unit = c.args.unit } in
+    let here : Subject = record { names = c.in_ok-names.names; pins = c.args.pins; place = 0; unit = c.args.unit } in
     let same : here ≡ subject = λ i. record {
-      names = (c.in_ok-names.ensures ∙ ap pin_names (c.as_slice.ensures ∙ c.in_ok-pins.ensures)) i;
-      pins = c.in_ok-pins.ensures i;
+      names = (c.in_ok-names.ensures ∙ ap pin_names (c.as_slice.ensures ∙ c.requires.pins)) i;
+      pins = c.requires.pins i;
       place = 0;
       unit = c.args.unit;
     } in
-    let count : length c.in_ok-pins.pins ≡ length owners = ap length c.in_ok-pins.ensures ∙ sym (owners_count groups) in
+    let count : length c.args.pins ≡ length owners = ap length c.requires.pins ∙ sym (owners_count groups) in
     let held : c.in_ok-answers.answers.items ≡ held_from (cell_room (length owners)) subject 0 owners =
-    c.in_ok-answers.ensures
+    c.in_ok-answers.ensures.answers
     ∙ ap (λ n. held_from (cell_room n) here 0 owners) count
     ∙ ap (λ (s : Subject). held_from (cell_room (length owners)) s 0 owners) same in
     subst (λ (answers : List Answer). AreHeld subject owners answers) (sym held) (are_held subject owners)

@@ -1,9 +1,8 @@
 use Rattle.std.proofs.Common.{◌≡◌, drop}
 use Rattle.std.specs.Prelude.{None}
 use Rattle.std.specs.Option.{option_map}
-use Rattle.timing_arcs.specs.Attributes.{attributes_named, last_or}
-use Rattle.timing_arcs.specs.Shown.{shown}
-use Rattle.timing_arcs.proofs.attributes.last_attribute.Given as goal
+use Rattle.liberty_groups.specs.Attributes.{attributes_named, last_or, shown}
+use Rattle.liberty_groups.proofs.attributes.last_attribute.Given as goal
 
 -- the last of the attributes from here on, or else the last so far, is the last of all
 abbrev pub invariant-loop-item : goal.invariant-loop-item

@@ -2,14 +2,12 @@
 ghost use Rattle.std.specs.Prelude.{◌≡◌};
 ghost use Rattle.std.specs.Option.{option_map, option_copied};
 ghost use Rattle.liberty_groups.specs.declared.tree.Item.{out-Item};
-ghost use Rattle.timing_arcs.specs.Attributes.{text_of, simple_named, group_named, attribute_of, place_of};
-ghost use Rattle.timing_arcs.specs.Offsets.{least};
-ghost use Rattle.timing_arcs.specs.Shown.{shown};
+ghost use Rattle.liberty_groups.specs.Attributes.{text_of, simple_named, group_named, attribute_of, shown};
 
-use liberty_groups::{Group, Item, Value};
+use crate::tree::{Group, Item, Value};
 
 /// A simple attribute.
-#[derive(Clone, Copy, Debug)]
+#[derive(Clone, Copy)]
 pub struct Attribute<'a> {
     /// The text of its one value. It is empty where there is no value or several.
     pub text: &'a [u8],
@@ -61,14 +59,4 @@ pub fn last_attribute<'a>(group: &'a Group, name: &[u8]) -> Option<Attribute<'a>
         }
     }
     found
-}
-
-/// The offset of the statement of this simple attribute that counts.
-pub(crate) fn statement_at(group: &Group, name: &[u8]) -> Option<usize>
-    ensures { result ≡ least (place_of (attribute_of group.now name.now)) }
-{
-    match last_attribute(group, name) {
-        Some(attribute) => Some(attribute.at),
-        None => None,
-    }
 }

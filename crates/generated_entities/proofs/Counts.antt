@@ -17,7 +17,7 @@ use Rattle.udp_tables.specs.Conditions.{condition_list, conditions_beside, condi
 use Rattle.udp_tables.specs.declared.models.VPort.{VPort}
 use Rattle.vital_models.specs.Ports.{is_port, port_after, ports_after}
 use Rattle.vital_models.specs.Generated.{state_of, condition_of, path_of, paths_to, check_of, entity_of}
-use Rattle.vhdl_text.specs.WellFormed.{IsNumber, part_count}
+use Rattle.vhdl_text.specs.WellFormed.{IsCount, part_count}
 use Rattle.udp_tables.proofs.CellParts.{Rules}
 use Rattle.library_cells.proofs.CellParts.{few_pins, few_groups}
 
@@ -90,7 +90,7 @@ module _ (cell : CellData) (h : Rules cell) where
   pub few_arcs : length cell.arcs ≤ 1024
   few_arcs = leb-true (length cell.arcs) 1024 (and_parts (nat_le (length cell.arcs) 1024) _ h.of_arcs).0
 
-  pub few_parts : (name : List ℕ) → IsNumber (part_count (entity_of cell name))
+  pub few_parts : (name : List ℕ) → IsCount (part_count (entity_of cell name))
   few_parts name =
       let ports = ports_few name [] cell.pins in
       let pins = few_pins cell h in

@@ -46,7 +46,6 @@ use Rattle.generated_entities.proofs.Names.{IsGivenName, entity_named}
 use Rattle.generated_entities.proofs.PortNames.{ports_are_named}
 use Rattle.generated_entities.proofs.Conditions.{looked_up_in_order}
 use Rattle.generated_entities.proofs.Counts.{few_parts, few_paths}
-use Rattle.generated_entities.proofs.AssignedNames.{generated_assignable}
 
 -- the support of each group ascends, of input pins
 supports :
@@ -209,7 +208,6 @@ module _ (cell : CellData) (h : Rules cell) where
         conditions = conditions_written;
         in_order = looked_up_in_order cell h name;
         outputs = outputs_written;
-        assignable = generated_assignable cell name;
         limits = limits_short;
         few = few_parts cell h name;
       }

@@ -7,6 +7,5 @@ pub mod Names
 pub mod PortNames
 pub mod Conditions
 pub mod Counts
-pub mod AssignedNames
 pub mod Entities
 pub mod EntityLists

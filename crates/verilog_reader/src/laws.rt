@@ -2,8 +2,8 @@
 
 ghost use Rattle.std.specs.Prelude.{false};
 ghost use Rattle.verilog_tokens.specs.Separators.{Padded};
-ghost use Rattle.specify_blocks.specs.VerilogText.{IsVerilogAnswer};
-ghost use Rattle.verilog_reader.specs.TextLaws.{HaveSameModules, HasFaultAtFirstToken};
+ghost use Rattle.rule_readers.specs.TextLaws.{HaveSameValues, HasFaultAtFirstToken};
+ghost use Rattle.specify_blocks.specs.VerilogText.{language, IsVerilogAnswer};
 
 /// A text is the text of one list of modules, or it has one fault, and not both.
 pub fn text_has_one_answer(text: &[u8])
@@ -12,10 +12,10 @@ pub fn text_has_one_answer(text: &[u8])
 
 /// Blanks, line ends and comments that are added between the tokens of a text change none of its modules.
 pub fn added_separators_change_no_module(text: &[u8], padded: &[u8])
-    ensures { Padded false text.now padded.now → HaveSameModules text.now padded.now }
+    ensures { Padded false text.now padded.now → HaveSameValues language text.now padded.now }
 {}
 
 /// The token of a fault is the first with which the tokens so far are no front of a file.
 pub fn fault_is_at_first_token(text: &[u8])
-    ensures { HasFaultAtFirstToken text.now }
+    ensures { HasFaultAtFirstToken language text.now }
 {}

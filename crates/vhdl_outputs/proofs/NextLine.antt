@@ -10,15 +10,15 @@ use Rattle.vhdl_text.specs.declared.scope.Scope.{Scope}
 use Rattle.vhdl_text.specs.VhdlOutputs.{Lines, begins_line, is_unpathed}
 
 module _ {B : Type 0} (scope : Scope) (lines : Lines) (s : List (List ℕ)) (go : Bool → List (List ℕ) → Outcome (List ℕ) Refusal B) (other : Outcome (List ℕ) Refusal B) where
-  -- a call of path delays
-  pub call : is_next is_same (codes "VitalPathDelay01") s ≡ true → choose (begins_line scope lines) s go other ≡ go true (rest s)
-  call e = by s e
+  -- a line that begins with the name of the procedure of path delays
+  pub so_named : is_next is_same (codes "VitalPathDelay01") s ≡ true → choose (begins_line scope lines) s go other ≡ go true (rest s)
+  so_named e = by s e
     where
       by : (m : List (List ℕ)) → is_next is_same (codes "VitalPathDelay01") m ≡ true → choose (begins_line scope lines) m go other ≡ go true (rest m)
       by [] f = absurd cc
       by (x ∷ m) f = rw f refl
 
-  -- no call and no name
+  -- no name
   pub no_line : is_next is_same (codes "VitalPathDelay01") s ≡ false → is_name (next_bytes s) ≡ false → choose (begins_line scope lines) s go other ≡ other
   no_line e f = by s e f
     where

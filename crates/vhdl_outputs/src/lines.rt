@@ -5,7 +5,7 @@ ghost use Rattle.rule_readers.specs.Reading.{read, Reads, Many};
 ghost use Rattle.vhdl_text.specs.VhdlDeclarations as declarations;
 ghost use Rattle.vhdl_text.specs.VhdlOutputs as spec;
 
-use crate::outputs::{Lines, assignment, is_next_unpathed, path_call};
+use crate::outputs::{Lines, assignment, call_or_assignment, is_next_unpathed};
 use rule_readers::{Read, Refusal, Stop};
 use sqlite_items::Items;
 use vhdl_tokens::is_name;
@@ -13,14 +13,14 @@ use vhdl_words::{Cursor, Declarations, Uses};
 use vital_models::HPath;
 
 /// The lines of outputs behind these.
-#[tactic(auto, using(rule_readers::proofs::Repeats::turn, crate::proofs::NextLine::call, crate::proofs::NextLine::no_line, crate::proofs::NextLine::other_line, crate::proofs::NextLine::this_line))]
+#[tactic(auto, using(rule_readers::proofs::Repeats::turn, crate::proofs::NextLine::so_named, crate::proofs::NextLine::no_line, crate::proofs::NextLine::other_line, crate::proofs::NextLine::this_line))]
 fn more_lines(cursor: &mut Cursor, scope: &Declarations, mut lines: Lines) -> Read<Lines>
     ensures { Reads (read (Many (spec.begins_line scope.now) (spec.line_by scope.now) lines) cursor.old) result cursor.new }
 {
     for _turn in 0..cursor.left() {
         if cursor.is_next(b"VitalPathDelay01") {
             cursor.skip();
-            lines = path_call(cursor, scope, lines)?;
+            lines = call_or_assignment(cursor, scope, lines)?;
             continue;
         }
         if !is_name(cursor.bytes()) {

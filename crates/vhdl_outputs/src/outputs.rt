@@ -131,7 +131,7 @@ fn next_value_name(cursor: &mut Cursor, alloc: Global, lines: &[Items<HPath>]) -
 
 /// A path call, behind its word, and behind the lines of other outputs.
 #[tactic(auto, unfolding(vhdl_text::specs::VhdlOutputs::path_call))]
-pub fn path_call(cursor: &mut Cursor, scope: &Declarations, before: Lines) -> Read<Lines>
+fn path_call(cursor: &mut Cursor, scope: &Declarations, before: Lines) -> Read<Lines>
     ensures { Reads (read (spec.path_call scope.now before) cursor.old) result cursor.new }
 {
     let (mut lines, uses) = before;
@@ -146,17 +146,25 @@ pub fn path_call(cursor: &mut Cursor, scope: &Declarations, before: Lines) -> Re
     Ok((lines, more))
 }
 
+/// The variable of an output without paths, behind `<=`, and behind the lines of other outputs.
+#[tactic(auto, unfolding(vhdl_text::specs::VhdlOutputs::assigned_value))]
+fn assigned_value(cursor: &mut Cursor, alloc: Global, before: Lines) -> Read<Lines>
+    ensures { Reads (read (spec.assigned_value before) cursor.old) result cursor.new }
+{
+    let (mut lines, uses) = before;
+    next_value_name(cursor, alloc, lines.as_slice())?;
+    cursor.expect(b";")?;
+    lines.push(Items::new(alloc))?;
+    Ok((lines, uses))
+}
+
 /// An assignment, behind the name of its output, and behind the lines of other outputs.
 #[tactic(auto, unfolding(vhdl_text::specs::VhdlOutputs::assignment))]
 pub fn assignment(cursor: &mut Cursor, alloc: Global, before: Lines) -> Read<Lines>
     ensures { Reads (read (spec.assignment before) cursor.old) result cursor.new }
 {
-    let (mut lines, uses) = before;
     cursor.expect(b"<=")?;
-    next_value_name(cursor, alloc, lines.as_slice())?;
-    cursor.expect(b";")?;
-    lines.push(Items::new(alloc))?;
-    Ok((lines, uses))
+    assigned_value(cursor, alloc, before)
 }
 
 /// Whether a name is that of the output with this number, from 0, which has no paths.
@@ -177,4 +185,24 @@ pub fn is_next_unpathed(scope: &Declarations, lines: &[Items<HPath>], name: &[u8
     ensures { result ≡ spec.is_unpathed scope.now (length lines.now) name.now }
 {
     is_unpathed(scope, lines.len(), name)
+}
+
+/// Whether a token behind `VitalPathDelay01` assigns the output behind these lines of other outputs, which has the same name and no
+/// paths.
+fn assigns_so_named(scope: &Declarations, lines: &[Items<HPath>], token: &[u8]) -> bool
+    ensures { result ≡ spec.assigns_so_named scope.now (length lines.now) token.now }
+{
+    is_same(token, b"<=") && is_next_unpathed(scope, lines, b"VitalPathDelay01")
+}
+
+/// What stands behind `VitalPathDelay01` and behind the lines of other outputs: the assignment of an output of this name, or a call.
+#[tactic(auto, unfolding(vhdl_text::specs::VhdlOutputs::call_or_assignment), using(rule_readers::proofs::Choices::choose_by, rule_readers::proofs::Choices::choose_not_by))]
+pub fn call_or_assignment(cursor: &mut Cursor, scope: &Declarations, before: Lines) -> Read<Lines>
+    ensures { Reads (read (spec.call_or_assignment scope.now before) cursor.old) result cursor.new }
+{
+    if !assigns_so_named(scope, before.0.as_slice(), cursor.bytes()) {
+        return path_call(cursor, scope, before);
+    }
+    cursor.skip();
+    assigned_value(cursor, scope.alloc(), before)
 }

@@ -3,10 +3,10 @@ use Rattle.std.proofs.Common.{◌≡◌, ℕ, List, length, Result, Ok, Err, IfO
 use Rattle.std.specs.Prelude.{Vec}
 use Rattle.vital_models.specs.declared.model.VEntity.{VEntity}
 use Rattle.vhdl_text.specs.VhdlText.{vhdl_text, VhdlTextHasOneAnswer}
-use Rattle.vhdl_text.specs.WellFormed.{IsNumber, AreWellFormed}
+use Rattle.vhdl_text.specs.WellFormed.{IsCount, AreWellFormed}
 use Rattle.vhdl_text.specs.Laws.{TextsAreWellFormed}
 
 pub well_formed : {A E : Type 0} → VhdlTextHasOneAnswer → TextsAreWellFormed → (text : List ℕ) (r : Result (Vec VEntity A) E) →
-    IfOk r (λ found. vhdl_text text ≡ Ok found.items) → IsNumber (length text) → IfOk r (λ found. AreWellFormed found.items)
+    IfOk r (λ found. vhdl_text text ≡ Ok found.items) → IsCount (length text) → IfOk r (λ found. AreWellFormed found.items)
 well_formed answer texts text (Ok found) e few = texts text found.items few (((answer text).entities found.items).1 e)
 well_formed answer texts text (Err e) h few = tt

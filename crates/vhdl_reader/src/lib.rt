@@ -4,6 +4,8 @@
 mod entities;
 mod entity;
 mod joined;
+mod laws;
 mod read;
 
+pub use laws::{added_separators_change_no_entity, fault_is_at_first_token};
 pub use read::read_entities;

@@ -1,8 +1,8 @@
 //! VHDL text to entities, or to its fault.
 
-ghost use Rattle.std.specs.Prelude.{◌≡◌, length, IfOk, IfErr, Ok};
+ghost use Rattle.std.specs.Prelude.{◌≡◌, IfOk, IfErr, Ok};
 ghost use Rattle.vhdl_text.specs.VhdlText.{vhdl_text, language};
-ghost use Rattle.vhdl_text.specs.WellFormed.{IsNumber, AreWellFormed};
+ghost use Rattle.vhdl_text.specs.WellFormed.{AreWellFormed};
 ghost use Rattle.token_spans.specs.Spans.{tokens_of};
 ghost use Rattle.vhdl_reader.specs.File.{IsFaultOf};
 
@@ -39,11 +39,11 @@ fn entities_of(alloc: Global, text: &[u8]) -> Result<Vec<VEntity>, ModelFault>
 /// The entities of a VHDL text. (IEEE 1076-1993, 1.1 and 1.2; IEEE 1076.4-2000; the subset is this project's.)
 ///
 /// The fault is the first: the place where no token begins, the first token with which no text goes on or that breaks a rule, or the
-/// end of the text. Its offset counts bytes from 0. Entities that are read from fewer than 10^15 bytes are well formed: each is
-/// sound, and no name stands twice where it must not.
+/// end of the text. Its offset counts bytes from 0. Entities that are read are well formed: each is sound, and no name stands twice
+/// where it must not.
 pub fn read_entities(alloc: Global, text: &[u8]) -> Result<Vec<VEntity>, ModelFault>
     ensures entities { IfOk result (λ found. vhdl_text text.now ≡ Ok found.items) }
-    ensures well_formed { IsNumber (length text.now) → IfOk result (λ found. AreWellFormed found.items) }
+    ensures well_formed { IfOk result (λ found. AreWellFormed found.items) }
     ensures fault { IfErr result (λ e. IsFaultOf text.now e) }
 {
     vhdl_text_has_one_answer();

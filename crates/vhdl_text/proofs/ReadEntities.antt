@@ -1,8 +1,7 @@
 -- Entities that are read: the parts that declarations and statements give make up an entity that a text can tell.
-use Rattle.std.proofs.Common.{◌≡◌, ℕ, suc, ◌+◌, ◌<◌, ◌≤◌, Bool, true, false, ◌&&◌, nat_lt, if◌then◌else◌, IsTrue, List, [], ◌∷◌, ◌++◌, length, map, get_or, slice_get, Option, Some, None, refl, sym, ap, subst, ◌∙◌, arith}
+use Rattle.std.proofs.Common.{◌≡◌, ℕ, suc, ◌<◌, ◌≤◌, Bool, true, ◌&&◌, nat_lt, if◌then◌else◌, IsTrue, List, [], ◌∷◌, ◌++◌, length, map, get_or, Option, Some, None, refl, sym, ap, subst, ◌∙◌, arith}
 use Rattle.std.specs.Prelude.{All, flat_map}
 use Rattle.std.specs.List.{list_all}
-use Rattle.std.specs.Option.{option_map_or}
 use Rattle.std.proofs.lemmas.Bool.{eq-eqb}
 use Rattle.std.proofs.lemmas.List.{append-nil}
 use Rattle.std.proofs.lemmas.List.Elements.{All-nil, All-cons, All-head, All-tail}
@@ -22,7 +21,7 @@ use Rattle.vital_models.specs.declared.model.HGate.TheVariants as gate
 use Rattle.vital_models.specs.declared.model.HPath.{HPath}
 use Rattle.udp_tables.specs.declared.timing_checks.TimingCheck.{TimingCheck}
 use Rattle.vital_models.specs.declared.model.VEntity.{VEntity}
-use Rattle.vital_models.specs.Sound.{output_ports_from, IsState, IsTruth, feeds, IsValue, is_gate, IsPath, IsOutput, is_enabling, IsCheck, IsSound}
+use Rattle.vital_models.specs.Sound.{output_ports_from, IsState, IsTruth, feeds, IsValue, is_gate, IsPath, IsOutput, is_enabling, IsCheck}
 use Rattle.udp_tables.specs.Ports.{is_input_port}
 use Rattle.vhdl_text.specs.declared.scope.Columns.{Columns}
 use Rattle.vhdl_text.specs.declared.scope.Assigned.{Assigned}
@@ -34,13 +33,13 @@ use Rattle.vhdl_text.specs.VhdlNames.{Uses}
 use Rattle.vhdl_text.specs.VhdlChecks.{Checks}
 use Rattle.vhdl_text.specs.VhdlOutputs.{Lines}
 use Rattle.vhdl_text.specs.VhdlText.{states_with, conditions_with, values_with, outputs_with, entity_with, are_looked_up}
-use Rattle.vhdl_text.specs.WellFormed.{part_count, IsWellFormedEntity, names_procedure, IsAssignable, IsEntityName, IsPortName, AreApart, IsNumber, IsWrittenState, IsWrittenTruth, IsWrittenValue, IsWrittenOutput, conditions_of_check, conditions_of_output, looked_up, looks_up_in_order}
+use Rattle.vhdl_text.specs.WellFormed.{part_count, IsWellFormedEntity, IsEntityName, AreApart, IsNumber, IsCount, IsWrittenState, IsWrittenTruth, IsWrittenValue, IsWrittenOutput, conditions_of_check, conditions_of_output, looked_up, looks_up_in_order}
 use Rattle.vhdl_text.proofs.ReadTables.{HasStateRows, HasTruthRows}
 use Rattle.vhdl_text.proofs.ReadHeaders.{IsScope}
 use Rattle.vhdl_text.proofs.ReadLists.{AreUses}
 use Rattle.vhdl_text.proofs.ReadChecks.{IsToldCheck, is_enabled_in, AreAllChecks}
 use Rattle.vhdl_text.proofs.ReadColumns.{AreSoMany, AreStates, width_in, AreAllStates, feeds_in}
-use Rattle.vhdl_text.proofs.ReadOutputs.{AreValues, AreAllValues, is_gate_in, IsToldPath, IsToldLine, conditions_of_line, AreNamed, AreAllLines}
+use Rattle.vhdl_text.proofs.ReadOutputs.{AreValues, AreAllValues, is_gate_in, IsToldPath, IsToldLine, conditions_of_line, AreAllLines}
 
 -- An entity that has these ports, and as many checks, states and conditions as its declarations say.
 record IsOf (scope : Scope) (e : VEntity) : Type 0 where
@@ -181,22 +180,6 @@ good_outputs scope e of (p ∷ ports) (v ∷ values) (line ∷ lines) h told =
     })
     (good_outputs scope e of ports values lines (All-tail (IsGoodValue e) v values h) (All-tail (IsToldLine scope) line lines told))
 
--- those without paths have other names than the procedure of path delays
-assignable_outputs : (scope : Scope) (e : VEntity) → IsOf scope e → (o : ℕ) (ports : List ℕ) (values : List OutValue) (lines : List (List HPath))
-    → ((k p : ℕ) → slice_get ports k ≡ Some p → slice_get (output_ports_from 0 scope.ports) (o + k) ≡ Some p) → AreNamed scope o lines
-    → All (IsAssignable e) (outputs_with ports values lines)
-assignable_outputs scope e of o [] values lines at h = All-nil (IsAssignable e)
-assignable_outputs scope e of o (p ∷ ports) [] lines at h = All-nil (IsAssignable e)
-assignable_outputs scope e of o (p ∷ ports) (v ∷ values) [] at h = All-nil (IsAssignable e)
-assignable_outputs scope e of o (p ∷ ports) (v ∷ values) (line ∷ lines) at h =
-    All-cons (IsAssignable e) (record { port = p; value = v; paths = line }) (outputs_with ports values lines)
-    (λ none. subst (λ (l : List VPort). names_procedure l p ≡ false) (sym of.ports) (sym (ap (λ (q : Option ℕ). option_map_or (names_procedure scope.ports) q false) here) ∙ h.0 none))
-    (assignable_outputs scope e of (o + 1) ports values lines
-    (λ k q found. let same : o + suc k ≡ o + 1 + k = omega arith in ap (λ (n : ℕ). slice_get (output_ports_from 0 scope.ports) n) (sym same) ∙ at (suc k) q found) h.1)
-  where
-    here : slice_get (output_ports_from 0 scope.ports) o ≡ Some p
-    here = let same : o ≡ o + 0 = omega arith in ap (λ (n : ℕ). slice_get (output_ports_from 0 scope.ports) n) same ∙ at 0 p refl
-
 driven_ports : (ports : List ℕ) (values : List OutValue) (lines : List (List HPath)) → length values ≡ length ports → length lines ≡ length ports
     → map (λ (output : VOutput). output.port) (outputs_with ports values lines) ≡ ports
 driven_ports [] values lines h k = refl
@@ -231,7 +214,7 @@ check_sound scope e of k h = record {
 
 -- the entity is well formed, if it has not too many parts
 abbrev pub IsReadEntity : VEntity → Type 0
-IsReadEntity e = IsNumber (part_count e) → IsWellFormedEntity e
+IsReadEntity e = IsCount (part_count e) → IsWellFormedEntity e
 
 -- the statements of an entity of these declarations
 pub record AreStatements (scope : Scope) (all : Checks) (columns : List Columns) (values : List Assigned) (lines : Lines) : Type 0 where
@@ -288,8 +271,6 @@ read_entity name scope all columns values lines named s h n few =
       conditions = λ k d below. (conditions k d below).written;
       in_order = in_order scope all columns values lines h n;
       outputs = λ k d below. (outputs k d below).written;
-      assignable = assignable_outputs scope e of 0 (output_ports_from 0 scope.ports) (values_with scope.tables.outputs values) lines.0
-          (λ k p found. let same : 0 + k ≡ k = omega arith in ap (λ (m : ℕ). slice_get (output_ports_from 0 scope.ports) m) same ∙ found) h.lined.are.named;
       limits = λ k d below. (h.checks.are.told k d below).limit;
       few = few;
     }

@@ -1,10 +1,9 @@
 -- The values and the paths of outputs that are read.
-use Rattle.std.proofs.Common.{◌≡◌, ℕ, zero, suc, ◌+◌, ◌<◌, ◌≤◌, ◌^◌, Bool, true, false, not, ◌&&◌, if◌then◌else◌, Option, Some, None, nat_eq, nat_lt, cond, IsTrue, List, [], ◌∷◌, ◌++◌, length, slice_get, refl, sym, ap, subst, ◌∙◌, arith, codes, append_assoc, length-append}
+use Rattle.std.proofs.Common.{◌≡◌, ℕ, zero, suc, ◌+◌, ◌<◌, ◌≤◌, ◌^◌, Bool, true, false, ◌&&◌, nat_eq, nat_lt, cond, IsTrue, List, [], ◌∷◌, ◌++◌, length, slice_get, refl, sym, ap, subst, ◌∙◌, arith, codes, append_assoc, length-append}
 use Rattle.std.specs.Prelude.{All, flat_map}
 use Rattle.std.specs.List.{list_all}
-use Rattle.std.specs.Option.{option_map, option_map_or, option_and_then}
-use Rattle.std.specs.Str.{str_eq_ignore_ascii_case}
-use Rattle.std.proofs.lemmas.Bool.{and_from, and_parts, eqb-true}
+use Rattle.std.specs.Option.{option_map_or}
+use Rattle.std.proofs.lemmas.Bool.{and_from, eqb-true}
 use Rattle.std.proofs.lemmas.Bool.Decides.{nat_tests}
 use Rattle.std.proofs.lemmas.List.{append-nil}
 use Rattle.std.proofs.lemmas.List.Elements.{All-nil, All-push}
@@ -13,27 +12,21 @@ use Rattle.std.proofs.lemmas.List.Sums.{sum_by-cons}
 use Rattle.std.proofs.lemmas.Grind.{flat_map-append}
 use Rattle.grammar_rules.proofs.Promises.{Promises, gives, in_turn, many, choice}
 use Rattle.cell_machine.specs.declared.outputs.Source.{Source}
-use Rattle.grammar_rules.specs.Rule.{Fits, Misfit}
-use Rattle.rule_readers.specs.declared.refusal.Refusal.TheVariants.{Undefined}
-use Rattle.udp_tables.specs.declared.models.VPort.{VPort}
-use Rattle.vhdl_tokens.specs.Tokens.{is_name}
-use Rattle.vhdl_tokens.specs.Spelling.{is_same}
 use Rattle.vital_models.specs.declared.table.TruthTable.{TruthTable}
 use Rattle.vital_models.specs.declared.model.HGate.{HGate}
 use Rattle.vital_models.specs.declared.model.HGate.TheVariants as gate
 use Rattle.vital_models.specs.declared.model.HPath.{HPath}
-use Rattle.vital_models.specs.Sound.{output_ports_from}
 use Rattle.udp_tables.specs.Ports.{is_input_port}
 use Rattle.vhdl_text.specs.declared.scope.Assigned.{Assigned}
 use Rattle.vhdl_text.specs.declared.scope.Assigned.TheVariants as assigned
 use Rattle.vhdl_text.specs.declared.scope.Scope.{Scope}
 use Rattle.vhdl_text.specs.VhdlRules.{a_time}
 use Rattle.vhdl_text.specs.VhdlTables.{truth_width}
-use Rattle.vhdl_text.specs.VhdlDeclarations.{name_of_port, output_count}
+use Rattle.vhdl_text.specs.VhdlDeclarations.{output_count}
 use Rattle.vhdl_text.specs.VhdlNames.{Uses}
-use Rattle.vhdl_text.specs.VhdlOutputs.{is_lookup, lookups, output_width, lookup, a_constant, next_value, values_of, next_zero, all_zero, not_zero, equals_zero, gate_of_conditions, always, gate_of, delays, next_path, paths, Lines, output_name, has_glitch, is_unpathed, path_call, assignment, begins_line, line_by, output_lines}
-use Rattle.vhdl_text.specs.WellFormed.{IsNumber, names_procedure, names_condition, IsWrittenPath, conditions_of_gate, conditions_of_path}
-use Rattle.vhdl_text.proofs.ReadNames.{IsSpelled, same_equivalence, same_name, numbers, these_numbers, goes_on, behind}
+use Rattle.vhdl_text.specs.VhdlOutputs.{is_lookup, lookups, output_width, lookup, a_constant, next_value, values_of, next_zero, all_zero, not_zero, equals_zero, gate_of_conditions, always, gate_of, delays, next_path, paths, Lines, path_call, assigned_value, assignment, call_or_assignment, line_by, output_lines}
+use Rattle.vhdl_text.specs.WellFormed.{IsNumber, names_condition, IsWrittenPath, conditions_of_gate, conditions_of_path}
+use Rattle.vhdl_text.proofs.ReadNames.{IsSpelled, numbers, these_numbers, goes_on, behind}
 use Rattle.vhdl_text.proofs.ReadLists.{input_ports, AreLookedUp, IsNextLookUp, conditions}
 use Rattle.vhdl_text.proofs.ReadColumns.{IsSourceList, source_lists, named_where}
 
@@ -192,28 +185,20 @@ record ArePaths (scope : Scope) (is : List ℕ) (found : List HPath × Uses) : T
   few : length found.0 ≤ 10 ^ 15
   looked_up : AreLookedUp scope (is ++ flat_map conditions_of_path found.0) found.1
 
--- at least one path
-record AreSomePaths (scope : Scope) (is : List ℕ) (found : List HPath × Uses) : Type 0 where
-  are : ArePaths scope is found
-  some : 1 ≤ length found.0
-
 paths-push : (all : List HPath) (path : HPath) → flat_map conditions_of_path (all ++ path ∷ []) ≡ flat_map conditions_of_path all ++ conditions_of_gate path.gate
 paths-push all path =
     flat_map-append conditions_of_path all (path ∷ []) ∙ ap (λ (is : List ℕ). flat_map conditions_of_path all ++ is) (append-nil (conditions_of_gate path.gate))
 
 push_path : (scope : Scope) (is : List ℕ) (before : List HPath × Uses) (path : HPath) (uses : Uses) → ArePaths scope is before → IsNumber (length before.0) → IsToldPath scope path
-    → AreLookedUp scope ((is ++ flat_map conditions_of_path before.0) ++ conditions_of_gate path.gate) uses → AreSomePaths scope is (before.0 ++ path ∷ [], uses)
+    → AreLookedUp scope ((is ++ flat_map conditions_of_path before.0) ++ conditions_of_gate path.gate) uses → ArePaths scope is (before.0 ++ path ∷ [], uses)
 push_path scope is before path uses h n told looked = record {
-  are = record {
-    told = All-push (IsToldPath scope) before.0 path h.told told;
-    few = omega (arith, length-append before.0 (path ∷ []), n);
-    looked_up = subst (λ (js : List ℕ). AreLookedUp scope js uses)
-        (append_assoc is (flat_map conditions_of_path before.0) (conditions_of_gate path.gate) ∙ ap (λ (js : List ℕ). is ++ js) (sym (paths-push before.0 path))) looked;
-  };
-  some = omega (arith, length-append before.0 (path ∷ []));
+  told = All-push (IsToldPath scope) before.0 path h.told told;
+  few = omega (arith, length-append before.0 (path ∷ []), n);
+  looked_up = subst (λ (js : List ℕ). AreLookedUp scope js uses)
+      (append_assoc is (flat_map conditions_of_path before.0) (conditions_of_gate path.gate) ∙ ap (λ (js : List ℕ). is ++ js) (sym (paths-push before.0 path))) looked;
 }
 
-one_path : (scope : Scope) (is : List ℕ) (before : List HPath × Uses) → ArePaths scope is before → Promises IsSpelled (next_path scope before) (AreSomePaths scope is)
+one_path : (scope : Scope) (is : List ℕ) (before : List HPath × Uses) → ArePaths scope is before → Promises IsSpelled (next_path scope before) (ArePaths scope is)
 unfolding next_path
 one_path scope is before h =
     in_turn (these_numbers (length before.0)) (λ a n.
@@ -233,11 +218,11 @@ no_paths scope is uses h = record {
     zero_few : 0 ≤ 10 ^ 15
     zero_few = omega arith
 
-all_paths : (scope : Scope) (is : List ℕ) (uses : Uses) → AreLookedUp scope is uses → Promises IsSpelled (paths scope uses) (AreSomePaths scope is)
+all_paths : (scope : Scope) (is : List ℕ) (uses : Uses) → AreLookedUp scope is uses → Promises IsSpelled (paths scope uses) (ArePaths scope is)
 unfolding paths
 all_paths scope is uses h =
     behind (λ a. in_turn (one_path scope is ([], uses) (no_paths scope is uses h)) (λ first f.
-    in_turn (many f (λ w x b p q2 e. one_path scope is w p.are)) (λ all k.
+    in_turn (many f (λ w x b p q2 e. one_path scope is w p)) (λ all k.
     behind (λ c. gives k))))
 
 -- Lines of outputs.
@@ -250,67 +235,9 @@ pub record IsToldLine (scope : Scope) (line : List HPath) : Type 0 where
 abbrev pub conditions_of_line : List HPath → List ℕ
 conditions_of_line line = flat_map conditions_of_path line
 
--- the output with this number has the name of the procedure of path delays
-abbrev pub is_named_so : Scope → ℕ → Bool
-is_named_so scope o = option_map_or (names_procedure scope.ports) (slice_get (output_ports_from 0 scope.ports) o) false
-
--- of lines of outputs, of which the first is that of the output with this number, those without paths are of outputs with other names
-abbrev pub AreNamed : Scope → ℕ → List (List HPath) → Type 0
-AreNamed scope o [] = Unit {0}
-AreNamed scope o (line ∷ lines) = (length line ≡ 0 → is_named_so scope o ≡ false) × AreNamed scope (o + 1) lines
-
-named-push : (scope : Scope) (o : ℕ) (lines : List (List HPath)) (line : List HPath) → AreNamed scope o lines → (length line ≡ 0 → is_named_so scope (o + length lines) ≡ false)
-    → AreNamed scope o (lines ++ line ∷ [])
-named-push scope o [] line h k = (λ e. let same : o + 0 ≡ o = omega arith in subst (λ (n : ℕ). is_named_so scope n ≡ false) same (k e), tt)
-named-push scope o (first ∷ lines) line h k = (
-  h.0,
-  named-push scope (o + 1) lines line h.1
-      (λ e. let same : o + length (first ∷ lines) ≡ o + 1 + length lines = omega arith in subst (λ (n : ℕ). is_named_so scope n ≡ false) same (k e)),
-)
-
--- the name of an output that is assigned is not that of the procedure
-other_name : (x name : List ℕ) → IsTrue (is_name x) → is_same x (codes "VitalPathDelay01") ≡ false → is_same x name ≡ true
-    → str_eq_ignore_ascii_case name (codes "VitalPathDelay01") ≡ false
-other_name x name n other same =
-    sym (same_equivalence.congr x name (codes "VitalPathDelay01") (sym (same_name x name n) ∙ same)) ∙ sym (same_name x (codes "VitalPathDelay01") n) ∙ other
-
-assigned_name : (scope : Scope) (o : ℕ) (x : List ℕ) → IsTrue (is_name x) → is_same x (codes "VitalPathDelay01") ≡ false
-    → option_map_or (λ name. is_same x name) (output_name scope o) false ≡ true → is_named_so scope o ≡ false
-assigned_name scope o x n other same = at_output (slice_get (output_ports_from 0 scope.ports) o) same
-  where
-    at_port : (port : Option VPort) → option_map_or (λ name. is_same x name) (option_map name_of_port port) false ≡ true
-        → option_map_or (λ (port : VPort). str_eq_ignore_ascii_case port.name (codes "VitalPathDelay01")) port false ≡ false
-    at_port None e = refl
-    at_port (Some port) e = other_name x port.name n other e
-
-    at_output : (p : Option ℕ) → option_map_or (λ name. is_same x name) (option_and_then (λ p. option_map name_of_port (slice_get scope.ports p)) p) false ≡ true
-        → option_map_or (names_procedure scope.ports) p false ≡ false
-    at_output None e = refl
-    at_output (Some p) e = at_port (slice_get scope.ports p) e
-
-unpathed_name : (scope : Scope) (lines : Lines) (x : List ℕ) → begins_line scope lines x ≡ Some (Fits false) → is_named_so scope (length lines.0) ≡ false
-unpathed_name scope lines x e = by (is_same x (codes "VitalPathDelay01")) refl e
-  where
-    by_match : (b : Bool) → is_unpathed scope (length lines.0) x ≡ b → IsTrue (is_name x) → is_same x (codes "VitalPathDelay01") ≡ false
-        → Some (if b then Fits false else Misfit Undefined) ≡ Some (Fits false) → is_named_so scope (length lines.0) ≡ false
-    by_match true u n other e = assigned_name scope (length lines.0) x n other (and_parts (not (has_glitch scope (length lines.0))) _ u).1
-    by_match false u n other e = absurd cc
-
-    by_name : (b : Bool) → is_name x ≡ b → is_same x (codes "VitalPathDelay01") ≡ false
-        → (if b then Some (if is_unpathed scope (length lines.0) x then Fits false else Misfit Undefined) else None) ≡ Some (Fits false) → is_named_so scope (length lines.0) ≡ false
-    by_name true n other e = by_match (is_unpathed scope (length lines.0) x) refl n other e
-    by_name false n other e = absurd cc
-
-    by : (b : Bool) → is_same x (codes "VitalPathDelay01") ≡ b
-        → (if b then Some (Fits true) else (if is_name x then Some (if is_unpathed scope (length lines.0) x then Fits false else Misfit Undefined) else None)) ≡ Some (Fits false)
-        → is_named_so scope (length lines.0) ≡ false
-    by true s e = absurd cc
-    by false s e = by_name (is_name x) refl s e
-
 -- the lines of outputs, behind look-ups of these conditions
 pub record AreLines (scope : Scope) (is : List ℕ) (lines : Lines) : Type 0 where
   pub told : All (IsToldLine scope) lines.0
-  pub named : AreNamed scope 0 lines.0
   pub looked_up : AreLookedUp scope (is ++ flat_map conditions_of_line lines.0) lines.1
 
 lines-push : (all : List (List HPath)) (line : List HPath) → flat_map conditions_of_line (all ++ line ∷ []) ≡ flat_map conditions_of_line all ++ conditions_of_line line
@@ -318,22 +245,28 @@ lines-push all line =
     flat_map-append conditions_of_line all (line ∷ []) ∙ ap (λ (is : List ℕ). flat_map conditions_of_line all ++ is) (append-nil (conditions_of_line line))
 
 push_line : (scope : Scope) (is : List ℕ) (lines : Lines) (found : List HPath × Uses) → AreLines scope is lines → ArePaths scope (is ++ flat_map conditions_of_line lines.0) found
-    → (length found.0 ≡ 0 → is_named_so scope (length lines.0) ≡ false) → AreLines scope is (lines.0 ++ found.0 ∷ [], found.1)
-push_line scope is lines found h f named = record {
-  named = named-push scope 0 lines.0 found.0 h.named (λ e. let same : length lines.0 ≡ 0 + length lines.0 = omega arith in subst (λ (n : ℕ). is_named_so scope n ≡ false) same (named e));
+    → AreLines scope is (lines.0 ++ found.0 ∷ [], found.1)
+push_line scope is lines found h f = record {
   told = All-push (IsToldLine scope) lines.0 found.0 h.told (record { told = f.told; few = f.few });
   looked_up = subst (λ (js : List ℕ). AreLookedUp scope js found.1)
       (append_assoc is (flat_map conditions_of_line lines.0) (conditions_of_line found.0) ∙ ap (λ (js : List ℕ). is ++ js) (sym (lines-push lines.0 found.0))) f.looked_up;
 }
 
-one_line : (scope : Scope) (is : List ℕ) (lines : Lines) → AreLines scope is lines → (x : List ℕ) (b : Bool) → begins_line scope lines x ≡ Some (Fits b)
-    → Promises IsSpelled (line_by scope lines b) (AreLines scope is)
-unfolding path_call assignment
-one_line scope is lines h x true e =
+unpathed_line : (scope : Scope) (is : List ℕ) (lines : Lines) → AreLines scope is lines → Promises IsSpelled (assigned_value lines) (AreLines scope is)
+unfolding assigned_value
+unpathed_line scope is lines h =
+    behind (λ a. behind (λ b. gives (push_line scope is lines ([], lines.1) h (no_paths scope (is ++ flat_map conditions_of_line lines.0) lines.1 h.looked_up))))
+
+pathed_line : (scope : Scope) (is : List ℕ) (lines : Lines) → AreLines scope is lines → Promises IsSpelled (path_call scope lines) (AreLines scope is)
+unfolding path_call
+pathed_line scope is lines h =
     behind (λ a. behind (λ b. in_turn (all_paths scope (is ++ flat_map conditions_of_line lines.0) lines.1 h.looked_up) (λ found f.
-    behind (λ c. gives (push_line scope is lines found h f.are (λ none. let some = f.some in absurd (omega (arith, none, some))))))))
-one_line scope is lines h x false e =
-    behind (λ a. behind (λ b. behind (λ c. gives (push_line scope is lines ([], lines.1) h (no_paths scope (is ++ flat_map conditions_of_line lines.0) lines.1 h.looked_up) (λ none. unpathed_name scope lines x e)))))
+    behind (λ c. gives (push_line scope is lines found h f)))))
+
+one_line : (scope : Scope) (is : List ℕ) (lines : Lines) → AreLines scope is lines → (b : Bool) → Promises IsSpelled (line_by scope lines b) (AreLines scope is)
+unfolding call_or_assignment assignment
+one_line scope is lines h true = choice (λ x a p e. unpathed_line scope is lines h) (pathed_line scope is lines h)
+one_line scope is lines h false = behind (λ a. unpathed_line scope is lines h)
 
 -- the lines of all outputs
 pub record AreAllLines (scope : Scope) (is : List ℕ) (lines : Lines) : Type 0 where
@@ -344,8 +277,8 @@ pub all_lines : (scope : Scope) (is : List ℕ) (uses : Uses) → AreLookedUp sc
 unfolding output_lines
 all_lines scope is uses h =
     in_turn
-    (many {Q = AreLines scope is} (record { told = All-nil (IsToldLine scope); named = tt; looked_up = subst (λ (js : List ℕ). AreLookedUp scope js uses) (sym (append-nil is)) h })
-    (λ w x b q p e. one_line scope is w q x b e))
+    (many {Q = AreLines scope is} (record { told = All-nil (IsToldLine scope); looked_up = subst (λ (js : List ℕ). AreLookedUp scope js uses) (sym (append-nil is)) h })
+    (λ w x b q p e. one_line scope is w q b))
     (λ lines l.
     in_turn (goes_on (nat_eq (length lines.0) (output_count scope.ports))) (λ a n.
     gives (record { are = l; count = eqb-true (length lines.0) (output_count scope.ports) n })))

@@ -14,7 +14,7 @@ use Rattle.vhdl_text.specs.declared.scope.Scope.{Scope}
 use Rattle.vhdl_text.specs.VhdlRules.{is_among, new_name}
 use Rattle.vhdl_text.specs.VhdlNames.{Uses}
 use Rattle.vhdl_text.specs.VhdlText.{are_looked_up, entity_end, statements, entity, entity_names, next_entity, file, IsVhdlText, text_tokens}
-use Rattle.vhdl_text.specs.WellFormed.{IsEntityName, AreApart, IsNumber, part_count, conditions_of_check, IsWellFormedEntity, AreWellFormed}
+use Rattle.vhdl_text.specs.WellFormed.{IsEntityName, AreApart, IsCount, part_count, conditions_of_check, AreWellFormed}
 use Rattle.vhdl_text.proofs.ReadNames.{IsSpelled, a_name, fits_if, fits_unless, push_apart, where_holds, behind, surely}
 use Rattle.vhdl_text.proofs.ReadTokens.{tokens_spelled}
 use Rattle.vhdl_text.proofs.ReadHeaders.{IsScope, scopes}
@@ -91,7 +91,7 @@ files : Promises IsSpelled file AreRead
 unfolding file
 files = in_turn (many none_read (λ w x a q p e. one_entity w q)) (λ es h. last h)
 
-pub text_entities : (bytes : List ℕ) (es : List VEntity) → IsNumber (length bytes) → IsVhdlText bytes es → AreWellFormed es
+pub text_entities : (bytes : List ℕ) (es : List VEntity) → IsCount (length bytes) → IsVhdlText bytes es → AreWellFormed es
 text_entities bytes es number h =
     let read = (files.kept (text_tokens bytes) es [] (tokens_spelled bytes) h.takes).0 in
     record {
@@ -99,5 +99,5 @@ text_entities bytes es number h =
       apart = read.apart;
     }
   where
-    few : (k : ℕ) (d : VEntity) → k < length es → IsNumber (part_count (get_or es k d))
-    few k d below = let part = parts_in_text bytes es h.takes k d below in let bound : length bytes < 10 ^ 15 = number in omega (arith, part, bound)
+    few : (k : ℕ) (d : VEntity) → k < length es → IsCount (part_count (get_or es k d))
+    few k d below = let part = parts_in_text bytes es h.takes k d below in let bound : length bytes < 2 ^ 64 = number in omega (arith, part, bound)

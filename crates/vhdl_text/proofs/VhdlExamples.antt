@@ -54,7 +54,7 @@ flip-flop =
     }
 
 reads-flip-flop : vhdl_text (flip-flop-head ++ (flip-flop-tables ++ (flip-flop-variables ++ flip-flop-statements))) ≡ Ok (flip-flop ∷ [])
-unfolding kept flip-flop digits vhdl_words used_words is_reserved is_used rule.a_number rule.a_time rule.only_element rule.more_elements rule.several_elements rule.elements table.next_symbol table.symbols table.state_row table.state_table table.next_level table.levels table.truth_row table.truth_table table.assigned_truth_table table.condition_constant table.output_constant table.state_constant table.constant table.constants declared.packages declared.next_port declared.port_list declared.ports_of declared.entity_header declared.architecture_header declared.listed_name declared.listed_names declared.check_variables declared.violation_variable declared.state_variables declared.output_variable declared.glitch_variable declared.variable declared.variables declared.scope_of name.an_input name.listed_input name.first_list name.same_input name.same_list name.list_by name.condition name.next_column name.columns_of name.listed_source name.sources_of check.tested check.referred check.enabling_condition check.always_enabled check.enabled check.transition check.same_number check.both_limits check.setup_hold check.one_limit check.active_low check.recovery_removal check.period_pulse check.checks check.next_report check.any_report check.state_call_start check.state_call check.state_calls output.lookup output.a_constant output.next_value output.values_of output.next_zero output.all_zero output.not_zero output.equals_zero output.gate_of_conditions output.always output.gate_of output.delays output.next_path output.paths output.path_call_start output.path_call output.assignment output.output_lines text.entity_end text.statements text.entity text.next_entity text.file text.vhdl_text
+unfolding kept flip-flop digits vhdl_words used_words is_reserved is_used rule.a_number rule.a_time rule.only_element rule.more_elements rule.several_elements rule.elements table.next_symbol table.symbols table.state_row table.state_table table.next_level table.levels table.truth_row table.truth_table table.assigned_truth_table table.condition_constant table.output_constant table.state_constant table.constant table.constants declared.packages declared.next_port declared.port_list declared.ports_of declared.entity_header declared.architecture_header declared.listed_name declared.listed_names declared.check_variables declared.violation_variable declared.state_variables declared.output_variable declared.glitch_variable declared.variable declared.variables declared.scope_of name.an_input name.listed_input name.first_list name.same_input name.same_list name.list_by name.condition name.next_column name.columns_of name.listed_source name.sources_of check.tested check.referred check.enabling_condition check.always_enabled check.enabled check.transition check.same_number check.both_limits check.setup_hold check.one_limit check.active_low check.recovery_removal check.period_pulse check.checks check.next_report check.any_report check.state_call_start check.state_call check.state_calls output.lookup output.a_constant output.next_value output.values_of output.next_zero output.all_zero output.not_zero output.equals_zero output.gate_of_conditions output.always output.gate_of output.delays output.next_path output.paths output.path_call_start output.path_call output.assigned_value output.assignment output.call_or_assignment output.output_lines text.entity_end text.statements text.entity text.next_entity text.file text.vhdl_text
 reads-flip-flop = refl
 
 -- the packages of an entity
@@ -76,6 +76,14 @@ behind-checks = in-statements ++ codes "begin VitalSetupHoldCheck (Violation => 
 -- an entity with two conditions up to the gate of its first path
 abbrev in-gate : List ℕ
 in-gate = codes "library IEEE;\nuse IEEE.std_logic_1164.all;\nuse IEEE.VITAL_Timing.all;\nuse IEEE.VITAL_Primitives.all;\nentity C is port (A : in std_ulogic; B : in std_ulogic; Y : out std_ulogic); end C; architecture vital of C is constant c_1 : VitalTruthTableType := (0 => ('-', '-', 'X')); constant c_2 : VitalTruthTableType := (0 => ('-', 'X')); begin process (A, B) variable z_1 : std_logic := 'X'; variable g_1 : VitalGlitchDataType; begin z_1 := '0'; VitalPathDelay01 (OutSignal => Y, GlitchData => g_1, OutSignalName => \"Y\", OutTemp => z_1, Paths => (0 => (A'last_event, (1 ps, 2 ps), "
+
+-- an entity whose output has the name of the procedure of path delays and no paths, up to the line of the output
+abbrev in-assignment : List ℕ
+in-assignment = packages ++ codes "entity E is port (vitalpathdelay01 : out std_ulogic); end E; architecture vital of E is begin process variable z_1 : std_logic := 'X'; begin z_1 := '1'; "
+
+-- the same with a path
+abbrev in-call : List ℕ
+in-call = packages ++ codes "entity F is port (A : in std_ulogic; VITALPATHDELAY01 : out std_ulogic); end F; architecture vital of F is begin process (A) variable z_1 : std_logic := 'X'; variable g_1 : VitalGlitchDataType; begin z_1 := '0'; "
 
 -- The faults of texts, as they are by computing.
 faults : AreFaults vhdl_text (
@@ -170,11 +178,55 @@ faults : AreFaults vhdl_text (
     ∷ at "VitalTruthTable (TruthTable => c_1, DataIn => (A, B)) /= '0')), Mode => VitalTransport); end process" Undriven 89
     ∷ at "true)), Mode => VitalTransport); end process" Undriven 33 ∷ []
     )
+    -- Lines of outputs with the name of the procedure of path delays.
+    ++ behind in-assignment (
+    at "VitalPathDelay01 (OutSignal => VitalPathDelay01, GlitchData => g_1" Undefined 63
+    ∷ at "VitalPathDelay01 <= z_2" Undefined 20
+    ∷ at "VitalPathDelay01 := z_1" Syntax 17
+    ∷ at "VitalPathDelay01 <= z_1; VitalPathDelay01 <= z_1" Syntax 42 ∷ []
     )
-unfolding digits vhdl_words used_words is_reserved is_used rule.a_number rule.a_time rule.only_element rule.more_elements rule.several_elements rule.elements table.next_symbol table.symbols table.state_row table.state_table table.next_level table.levels table.truth_row table.truth_table table.assigned_truth_table table.condition_constant table.output_constant table.state_constant table.constant table.constants declared.packages declared.next_port declared.port_list declared.ports_of declared.entity_header declared.architecture_header declared.listed_name declared.listed_names declared.check_variables declared.violation_variable declared.state_variables declared.output_variable declared.glitch_variable declared.variable declared.variables declared.scope_of name.an_input name.listed_input name.first_list name.same_input name.same_list name.list_by name.condition name.next_column name.columns_of name.listed_source name.sources_of check.tested check.referred check.enabling_condition check.always_enabled check.enabled check.transition check.same_number check.both_limits check.setup_hold check.one_limit check.active_low check.recovery_removal check.period_pulse check.checks check.next_report check.any_report check.state_call_start check.state_call check.state_calls output.lookup output.a_constant output.next_value output.values_of output.next_zero output.all_zero output.not_zero output.equals_zero output.gate_of_conditions output.always output.gate_of output.delays output.next_path output.paths output.path_call_start output.path_call output.assignment output.output_lines text.entity_end text.statements text.entity text.next_entity text.file text.vhdl_text
+    ++ behind in-call (
+    at "VitalPathDelay01 <= z_1" Syntax 17 ∷ []
+    )
+    )
+unfolding digits vhdl_words used_words is_reserved is_used rule.a_number rule.a_time rule.only_element rule.more_elements rule.several_elements rule.elements table.next_symbol table.symbols table.state_row table.state_table table.next_level table.levels table.truth_row table.truth_table table.assigned_truth_table table.condition_constant table.output_constant table.state_constant table.constant table.constants declared.packages declared.next_port declared.port_list declared.ports_of declared.entity_header declared.architecture_header declared.listed_name declared.listed_names declared.check_variables declared.violation_variable declared.state_variables declared.output_variable declared.glitch_variable declared.variable declared.variables declared.scope_of name.an_input name.listed_input name.first_list name.same_input name.same_list name.list_by name.condition name.next_column name.columns_of name.listed_source name.sources_of check.tested check.referred check.enabling_condition check.always_enabled check.enabled check.transition check.same_number check.both_limits check.setup_hold check.one_limit check.active_low check.recovery_removal check.period_pulse check.checks check.next_report check.any_report check.state_call_start check.state_call check.state_calls output.lookup output.a_constant output.next_value output.values_of output.next_zero output.all_zero output.not_zero output.equals_zero output.gate_of_conditions output.always output.gate_of output.delays output.next_path output.paths output.path_call_start output.path_call output.assigned_value output.assignment output.call_or_assignment output.output_lines text.entity_end text.statements text.entity text.next_entity text.file text.vhdl_text
 faults = refl
+
+-- Outputs with the name of the procedure of path delays: one without paths that is assigned 1, and one that a call gives 0.
+assigned-so-named : VEntity
+assigned-so-named =
+    record {
+      name = codes "E";
+      ports = record { name = codes "vitalpathdelay01"; input = false } ∷ [];
+      states = [];
+      conditions = [];
+      outputs = record { port = 0; value = value.Constant true; paths = [] } ∷ [];
+      checks = [];
+    }
+
+called-so-named : VEntity
+called-so-named =
+    record {
+      name = codes "F";
+      ports = record { name = codes "A"; input = true } ∷ record { name = codes "VITALPATHDELAY01"; input = false } ∷ [];
+      states = [];
+      conditions = [];
+      outputs = record { port = 1; value = value.Constant false; paths = record { from = 0; rise = 1; fall = 2; gate = gate.Always } ∷ [] } ∷ [];
+      checks = [];
+    }
+
+-- the rest of each behind the line of its output
+abbrev assignment-end : List ℕ
+assignment-end = codes "VitalPathDelay01 <= z_1; wait; end process; end vital;\n"
+
+abbrev call-end : List ℕ
+call-end = codes "VitalPathDelay01 (OutSignal => VitalPathDelay01, GlitchData => g_1, OutSignalName => \"VitalPathDelay01\", OutTemp => z_1, Paths => (0 => (A'last_event, (1 ps, 2 ps), true)), Mode => VitalTransport); end process; end vital;\n"
+
+reads-so-named : vhdl_text (in-assignment ++ (assignment-end ++ (in-call ++ call-end))) ≡ Ok (assigned-so-named ∷ called-so-named ∷ [])
+unfolding assigned-so-named called-so-named digits vhdl_words used_words is_reserved is_used rule.a_number rule.a_time rule.only_element rule.more_elements rule.several_elements rule.elements table.next_symbol table.symbols table.state_row table.state_table table.next_level table.levels table.truth_row table.truth_table table.assigned_truth_table table.condition_constant table.output_constant table.state_constant table.constant table.constants declared.packages declared.next_port declared.port_list declared.ports_of declared.entity_header declared.architecture_header declared.listed_name declared.listed_names declared.check_variables declared.violation_variable declared.state_variables declared.output_variable declared.glitch_variable declared.variable declared.variables declared.scope_of name.an_input name.listed_input name.first_list name.same_input name.same_list name.list_by name.condition name.next_column name.columns_of name.listed_source name.sources_of check.tested check.referred check.enabling_condition check.always_enabled check.enabled check.transition check.same_number check.both_limits check.setup_hold check.one_limit check.active_low check.recovery_removal check.period_pulse check.checks check.next_report check.any_report check.state_call_start check.state_call check.state_calls output.lookup output.a_constant output.next_value output.values_of output.next_zero output.all_zero output.not_zero output.equals_zero output.gate_of_conditions output.always output.gate_of output.delays output.next_path output.paths output.path_call_start output.path_call output.assigned_value output.assignment output.call_or_assignment output.output_lines text.entity_end text.statements text.entity text.next_entity text.file text.vhdl_text
+reads-so-named = refl
 
 -- no bytes are no entities
 reads-nothing : vhdl_text [] ≡ Ok []
-unfolding vhdl_words used_words is_reserved is_used rule.a_number rule.a_time rule.only_element rule.more_elements rule.several_elements rule.elements table.next_symbol table.symbols table.state_row table.state_table table.next_level table.levels table.truth_row table.truth_table table.assigned_truth_table table.condition_constant table.output_constant table.state_constant table.constant table.constants declared.packages declared.next_port declared.port_list declared.ports_of declared.entity_header declared.architecture_header declared.listed_name declared.listed_names declared.check_variables declared.violation_variable declared.state_variables declared.output_variable declared.glitch_variable declared.variable declared.variables declared.scope_of name.an_input name.listed_input name.first_list name.same_input name.same_list name.list_by name.condition name.next_column name.columns_of name.listed_source name.sources_of check.tested check.referred check.enabling_condition check.always_enabled check.enabled check.transition check.same_number check.both_limits check.setup_hold check.one_limit check.active_low check.recovery_removal check.period_pulse check.checks check.next_report check.any_report check.state_call_start check.state_call check.state_calls output.lookup output.a_constant output.next_value output.values_of output.next_zero output.all_zero output.not_zero output.equals_zero output.gate_of_conditions output.always output.gate_of output.delays output.next_path output.paths output.path_call_start output.path_call output.assignment output.output_lines text.entity_end text.statements text.entity text.next_entity text.file text.vhdl_text
+unfolding vhdl_words used_words is_reserved is_used rule.a_number rule.a_time rule.only_element rule.more_elements rule.several_elements rule.elements table.next_symbol table.symbols table.state_row table.state_table table.next_level table.levels table.truth_row table.truth_table table.assigned_truth_table table.condition_constant table.output_constant table.state_constant table.constant table.constants declared.packages declared.next_port declared.port_list declared.ports_of declared.entity_header declared.architecture_header declared.listed_name declared.listed_names declared.check_variables declared.violation_variable declared.state_variables declared.output_variable declared.glitch_variable declared.variable declared.variables declared.scope_of name.an_input name.listed_input name.first_list name.same_input name.same_list name.list_by name.condition name.next_column name.columns_of name.listed_source name.sources_of check.tested check.referred check.enabling_condition check.always_enabled check.enabled check.transition check.same_number check.both_limits check.setup_hold check.one_limit check.active_low check.recovery_removal check.period_pulse check.checks check.next_report check.any_report check.state_call_start check.state_call check.state_calls output.lookup output.a_constant output.next_value output.values_of output.next_zero output.all_zero output.not_zero output.equals_zero output.gate_of_conditions output.always output.gate_of output.delays output.next_path output.paths output.path_call_start output.path_call output.assigned_value output.assignment output.call_or_assignment output.output_lines text.entity_end text.statements text.entity text.next_entity text.file text.vhdl_text
 reads-nothing = refl

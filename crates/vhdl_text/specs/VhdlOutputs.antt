@@ -11,7 +11,7 @@ use Rattle.vital_models.specs.declared.model.HPath.{HPath}
 use Rattle.vital_models.specs.Sound.{output_ports_from}
 use Rattle.rule_readers.specs.declared.refusal.Refusal.{Refusal}
 use Rattle.rule_readers.specs.declared.refusal.Refusal.TheVariants.{Syntax, Undefined}
-use Rattle.rule_readers.specs.Words.{Grammar, ◌>>=◌, go_on_where, valued}
+use Rattle.rule_readers.specs.Words.{Grammar, ◌>>=◌, go_on_where, begins_by, valued}
 use Rattle.vhdl_tokens.specs.Tokens.{is_name}
 use Rattle.vhdl_tokens.specs.Spelling.{is_same, is_string, is_quoted}
 use Rattle.vhdl_text.specs.declared.scope.Assigned.{Assigned}
@@ -200,27 +200,41 @@ path_call scope lines = do
   _ ← expect_all (codes "," ∷ codes "Mode" ∷ codes "=>" ∷ codes "VitalTransport" ∷ codes ")" ∷ codes ";" ∷ [])
   r.Gives (lines.0 ++ found.0 ∷ [], found.1)
 
+-- NAME ";" behind "<=": the variable of an output without paths
+unfoldable pub assigned_value : Lines → Grammar Lines
+assigned_value lines = do
+  _ ← this_name (Some (numbered (codes "z_") (length lines.0 + 1)))
+  _ ← expect (codes ";")
+  r.Gives (lines.0 ++ [] ∷ [], lines.1)
+
 -- "<=" NAME ";" behind the name of an output without paths
 unfoldable pub assignment : Lines → Grammar Lines
 assignment lines = do
   _ ← expect (codes "<=")
-  _ ← this_name (Some (numbered (codes "z_") (length lines.0 + 1)))
-  _ ← expect (codes ";")
-  r.Gives (lines.0 ++ [] ∷ [], lines.1)
+  assigned_value lines
 
 -- the name is that of the next output, and this has no paths
 abbrev pub is_unpathed : Scope → ℕ → List ℕ → Bool
 is_unpathed scope o x = not (has_glitch scope o) && option_map_or (λ name. is_same x name) (output_name scope o) false
 
--- What a token begins among the lines of outputs: a call, which is said by true, or an assignment. A name is that of the next output,
--- which has to have no paths.
+-- The token behind "VitalPathDelay01" assigns the output with this number, from 0, which has the same name and no paths.
+abbrev pub assigns_so_named : Scope → ℕ → List ℕ → Bool
+assigns_so_named scope o x = is_same x (codes "<=") && is_unpathed scope o (codes "VitalPathDelay01")
+
+-- What stands behind "VitalPathDelay01" and behind the lines of other outputs: the assignment of an output of this name, or a call.
+unfoldable pub call_or_assignment : Scope → Lines → Grammar Lines
+call_or_assignment scope lines =
+    r.Choice (begins_by (assigns_so_named scope (length lines.0))) (λ _. assigned_value lines) (path_call scope lines)
+
+-- What a token begins among the lines of outputs: "VitalPathDelay01" a call or an assignment, which is said by true, and another name
+-- an assignment. That is the name of the next output, which has to have no paths.
 abbrev pub begins_line : Scope → Lines → List ℕ → Option (Verdict Bool Refusal)
 begins_line scope lines x =
     if is_same x (codes "VitalPathDelay01") then Some (Fits true)
     else (if is_name x then Some (if is_unpathed scope (length lines.0) x then Fits false else Misfit Undefined) else None)
 
 abbrev pub line_by : Scope → Lines → Bool → Grammar Lines
-line_by scope lines true = path_call scope lines
+line_by scope lines true = call_or_assignment scope lines
 line_by scope lines false = assignment lines
 
 -- the lines of the outputs, one for each

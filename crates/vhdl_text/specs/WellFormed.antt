@@ -1,15 +1,13 @@
 -- When a list of entities is one of a VHDL text of this project's subset. (IEEE 1076-1993, 13.3, identifiers, 10.3, declarations that
 -- are apart; IEEE 1076.4-2000, tables; the limits are this project's.)
-use Rattle.std.specs.Prelude.{◌≡◌, ℕ, ◌+◌, ◌<◌, ◌≤◌, ◌^◌, Bool, true, false, not, ◌&&◌, nat_eq, nat_lt, if◌then◌else◌, IsTrue, All, ⊤, List, [], ◌∷◌, ◌++◌, length, count_by, codes, slice_get, Option, Some, None}
+use Rattle.std.specs.Prelude.{ℕ, ◌+◌, ◌<◌, ◌≤◌, ◌^◌, Bool, true, false, not, ◌&&◌, nat_eq, nat_lt, if◌then◌else◌, IsTrue, All, ⊤, List, [], ◌∷◌, ◌++◌, length, count_by, Option, Some, None}
 use Rattle.std.specs.List.{IsDistinct, list_all, flat_map}
 use Rattle.std.specs.Char.{is_ascii_alphabetic}
-use Rattle.std.specs.Option.{option_map_or}
 use Rattle.std.specs.Str.{str_eq_ignore_ascii_case}
 use Rattle.cell_machine.specs.declared.outputs.Source.{Source}
 use Rattle.vhdl_names.specs.Kept.{is_plain}
 use Rattle.vhdl_names.specs.Words.{is_vhdl_word}
 use Rattle.vhdl_tokens.specs.Tokens.{is_name_byte}
-use Rattle.udp_tables.specs.declared.models.VPort.{VPort}
 use Rattle.vital_models.specs.declared.table.TruthTable.{TruthTable}
 use Rattle.vital_models.specs.declared.table.VStateRow.{VStateRow}
 use Rattle.vital_models.specs.declared.model.VState.{VState}
@@ -54,6 +52,10 @@ HasOneEdge row = count_by is_edge row.inputs ≤ 1
 -- a number of at most 15 digits
 abbrev pub IsNumber : ℕ → Type 0
 IsNumber n = n < 10 ^ 15
+
+-- how many things memory can hold: a number of at most 64 bits
+abbrev pub IsCount : ℕ → Type 0
+IsCount n = n < 2 ^ 64
 
 -- A state that a text can tell: its table has a row and a column, and no input stands twice among its columns. How many columns there
 -- are is a number of the text, the bound of the variable of the columns before.
@@ -128,22 +130,12 @@ looks_up_in_order all seen (i ∷ is) =
     if nat_lt i seen then looks_up_in_order all seen is
     else (if nat_eq i seen then looks_up_in_order all (seen + 1) is else false)
 
--- the port with this number has the name of the procedure of path delays, whatever the case of its letters
-abbrev pub names_procedure : List VPort → ℕ → Bool
-names_procedure ports p =
-    option_map_or (λ (port : VPort). str_eq_ignore_ascii_case port.name (codes "VitalPathDelay01")) (slice_get ports p) false
-
--- An output without paths is assigned by its name, where the name of the procedure of path delays begins a call of it. So such an output
--- has another name.
-abbrev pub IsAssignable : VEntity → VOutput → Type 0
-IsAssignable e output = length output.paths ≡ 0 → names_procedure e.ports output.port ≡ false
-
 -- how many ports, states, conditions and checks there are
 abbrev pub part_count : VEntity → ℕ
 part_count e = length e.ports + length e.states + (length e.conditions + length e.checks)
 
--- An entity that a text can tell. The names of its parts end in their numbers, so how many parts there are is such a number as well
--- (this project's limit; IEEE 1076-1993, 13.3, bounds no name).
+-- An entity that a text in memory can tell. The names of its parts end in their numbers, so how many parts there are is a count as
+-- well (IEEE 1076-1993, 13.3, bounds no name).
 pub record IsWellFormedEntity (e : VEntity) : Type 0 where
   pub name : IsEntityName e.name
   pub ports : All IsPortName (port_names e.ports)
@@ -153,9 +145,8 @@ pub record IsWellFormedEntity (e : VEntity) : Type 0 where
   pub conditions : All IsWrittenTruth e.conditions
   pub in_order : IsTrue (looks_up_in_order (length e.conditions) 0 (looked_up e))
   pub outputs : All IsWrittenOutput e.outputs
-  pub assignable : All (IsAssignable e) e.outputs
   pub limits : All (λ (k : TimingCheck). IsNumber k.limit) e.checks
-  pub few : IsNumber (part_count e)
+  pub few : IsCount (part_count e)
 
 -- A list of entities that a text can have: each is well formed, and no two share a name.
 pub record AreWellFormed (es : List VEntity) : Type 0 where

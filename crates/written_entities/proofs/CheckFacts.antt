@@ -4,7 +4,7 @@ use Rattle.cell_machine.specs.declared.checks.CheckKind.{CheckKind}
 use Rattle.udp_tables.specs.declared.timing_checks.TimingCheck.{TimingCheck}
 use Rattle.vital_models.specs.declared.model.VEntity.{VEntity}
 use Rattle.vital_models.specs.Sound.{IsCheck}
-use Rattle.vhdl_text.specs.WellFormed.{IsNumber, IsWellFormedEntity, conditions_of_check, conditions_of_output}
+use Rattle.vhdl_text.specs.WellFormed.{IsNumber, IsCount, IsWellFormedEntity, conditions_of_check, conditions_of_output}
 use Rattle.vhdl_writer.specs.Statements.{test_at, reference_at}
 use Rattle.written_entities.proofs.Parts.{by_kind, fact_at, place_below, check_number}
 use Rattle.written_entities.proofs.LookUpOrder.{seen_after, looks_at}
@@ -15,7 +15,7 @@ pub record IsWrittenCheck (e : VEntity) (n : ℕ) (k : TimingCheck) : Type 0 whe
   pub formed : IsWellFormedEntity e
   pub sound : IsCheck e k
   pub limit : IsNumber k.limit
-  pub number : IsNumber n
+  pub number : IsCount n
   pub condition : (i : ℕ) → k.condition ≡ Some i → i < length e.conditions
 
 pub test_pin : (e : VEntity) (n : ℕ) (k : TimingCheck) → IsWrittenCheck e n k → (kind : CheckKind) → IsTrue (Rattle.udp_tables.specs.Ports.is_input_port e.ports (test_at k kind).pin)

@@ -12,7 +12,7 @@ use Rattle.udp_tables.specs.declared.timing_checks.TimingCheck.{TimingCheck}
 use Rattle.vital_models.specs.declared.model.VEntity.{VEntity}
 use Rattle.rule_readers.specs.Words.{valued}
 use Rattle.vhdl_text.specs.VhdlChecks.{Checks, has_data, tested, referred, enabling_condition, always_enabled, enabled, reference_edge, transition, equal_to, same_number, both_limits, one_limit}
-use Rattle.vhdl_text.specs.WellFormed.{IsNumber, IsWellFormedEntity, conditions_of_check}
+use Rattle.vhdl_text.specs.WellFormed.{IsNumber, IsCount, IsWellFormedEntity, conditions_of_check}
 use Rattle.grammar_phrases.proofs.Bytes.{number_is}
 use Rattle.grammar_phrases.proofs.Derivations.{Reads, gives, token, in_turn, chosen, passed}
 use Rattle.grammar_phrases.proofs.Places.{get_at}
@@ -44,7 +44,7 @@ pub tested_read : (e : VEntity) → IsWellFormedEntity e → (word : List ℕ) (
 unfolding tested
 tested_read e w word before k after b p same h input =
     let below : length before + 1 ≤ length e.checks = place_below before k after e.checks same in
-    let number : IsNumber (length before + 1) = check_number e w (length before + 1) below in
+    let number : IsCount (length before + 1) = check_number e w (length before + 1) below in
     in_turn three_expected
     (in_turn (part_read (nat_lt (length before) (length (scope e).variables.periods)) 120 (length before + 1) refl number
     (less (length before) (length (scope e).variables.periods) (omega (arith, below, length-map e.checks is_period_check))))

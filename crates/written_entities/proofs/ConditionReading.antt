@@ -22,7 +22,6 @@ use Rattle.vhdl_text.specs.VhdlNames.{kept, input_of, listed_by, input_by, liste
 use Rattle.vhdl_text.specs.WellFormed.{IsWrittenTruth, IsWellFormedEntity, looks_up_in_order}
 use Rattle.vhdl_writer.specs.Joined.{apart_text}
 use Rattle.vhdl_writer.specs.Names.{port_at, inputs_at, input_text, inputs_text, condition_text}
-use Rattle.grammar_phrases.proofs.Bytes.{below_word}
 use Rattle.grammar_phrases.proofs.Fronts.{Front, Anything}
 use Rattle.grammar_phrases.proofs.Derivations.{Reads, from_same, to_same, gives, token, in_turn, goes_on}
 use Rattle.grammar_phrases.proofs.Places.{at_place, all_at, get_at, one_longer}
@@ -228,11 +227,11 @@ condition_read e w seen i is {s} h =
     let few : seen ≤ length e.conditions = no_more (length e.conditions) seen (i ∷ is) h in
     let below : i < length e.conditions = is_there (length e.conditions) seen i is h in
     let truth = there e w i below in
-    let number = below_word (i + 1) (condition_number e w (i + 1) (omega (arith, below))) in
+    let number = condition_number e w (i + 1) (omega (arith, below)) in
     let most : ℕ = min (length (uses_of e seen) + 1) (length (all_tables e).conditions) in
     let tables : length (all_tables e).conditions ≡ length e.conditions = length-map e.conditions (λ (t : VTruth). t.table) in
     let found : condition_of (scope e) (uses_of e seen) (99 ∷ 95 ∷ decimal (i + 1)) ≡ Some i =
-    place_found 99 most i refl (omega (arith, next.among, below, so_many e seen few, tables)) (below_word most (condition_number e w most (omega (arith, tables)))) in
+    place_found 99 most i refl (omega (arith, next.among, below, so_many e seen few, tables)) (condition_number e w most (omega (arith, tables))) in
     in_turn three_expected (in_turn (known_as (condition_of (scope e) (uses_of e seen)) (part_named 99 (i + 1) refl number) found)
     (in_turn four_expected (in_turn (from_same (ap (λ (l : List ℕ). names_front (port_at e) l (codes ")" ∷ codes ")" ∷ s)) truth.1.inputs) (list_read e w seen i truth.0 (codes ")" ∷ s) truth.1 next.among few))
     (in_turn expected gives))))

@@ -24,9 +24,8 @@ use Rattle.vhdl_tokens.specs.Spelling.{is_same}
 use Rattle.vhdl_text.specs.declared.scope.Tables.{Tables}
 use Rattle.vhdl_text.specs.VhdlRules.{begins}
 use Rattle.vhdl_text.specs.VhdlTables.{StateOrOutput, Condition, is_before_outputs, constant_of, assigned_truth_table, condition_constant, output_constant, state_constant, constant, constants}
-use Rattle.vhdl_text.specs.WellFormed.{IsNumber, HasOneEdge, IsWrittenState, IsWrittenTruth, IsWrittenValue, IsWrittenOutput, IsWellFormedEntity}
+use Rattle.vhdl_text.specs.WellFormed.{IsCount, HasOneEdge, IsWrittenState, IsWrittenTruth, IsWrittenValue, IsWrittenOutput, IsWellFormedEntity}
 use Rattle.vhdl_writer.specs.Tables.{state_rows_text, truth_rows_text, state_constant_text, condition_constant_text, is_looked_up, table_number, output_table_text, value_constant_text, output_constant_text, constants_text}
-use Rattle.grammar_phrases.proofs.Bytes.{below_word}
 use Rattle.grammar_phrases.proofs.Fronts.{Front, Anything}
 use Rattle.grammar_phrases.proofs.Derivations.{Reads, to_same, gives, in_turn, chosen, passed, no_turn, turn, turns}
 use Rattle.grammar_phrases.proofs.Spelling.{behind, nothing}
@@ -73,15 +72,15 @@ state_type = literal 27 (λ r. refl)
 truth_type : {t : Bool} → Spells Anything t (codes " : VitalTruthTableType := (") (λ s. codes ":" ∷ codes "VitalTruthTableType" ∷ codes ":=" ∷ codes "(" ∷ s) false
 truth_type = literal 27 (λ r. refl)
 
-state_constant_spelled : (n : ℕ) (state : VState) → IsNumber n → Spells Anything false (state_constant_text n state) (state_constant_front n state) false
+state_constant_spelled : (n : ℕ) (state : VState) → IsCount n → Spells Anything false (state_constant_text n state) (state_constant_front n state) false
 unfolding state_constant_text state_rows_text
 state_constant_spelled n state h = part_behind 107 n refl h constant_word (λ r q. refl) (behind state_type (behind (state_rows state.table.rows) call_end))
 
-condition_constant_spelled : (n : ℕ) (truth : VTruth) → IsNumber n → Spells Anything false (condition_constant_text n truth) (condition_constant_front n truth) false
+condition_constant_spelled : (n : ℕ) (truth : VTruth) → IsCount n → Spells Anything false (condition_constant_text n truth) (condition_constant_front n truth) false
 unfolding condition_constant_text truth_rows_text
 condition_constant_spelled n truth h = part_behind 99 n refl h constant_word (λ r q. refl) (behind truth_type (behind (truth_rows truth.table.rows) call_end))
 
-output_constant_spelled : (e : VEntity) (n : ℕ) (v : OutValue) → IsNumber (table_number e n) → Spells Anything false (value_constant_text e n v) (value_constant_front e n v) false
+output_constant_spelled : (e : VEntity) (n : ℕ) (v : OutValue) → IsCount (table_number e n) → Spells Anything false (value_constant_text e n v) (value_constant_front e n v) false
 unfolding output_table_text truth_rows_text
 output_constant_spelled e n (value.Constant one) h = nothing
 output_constant_spelled e n (value.Table table sources) h =
@@ -131,7 +130,7 @@ its_number e before output after same =
     ∙ ap (λ (n : ℕ). length e.states + (n + 1)) (count_tables before)
 
 pub its_number_fits : (e : VEntity) → IsWellFormedEntity e → (before : List VOutput) (output : VOutput) (after : List VOutput) → before ++ output ∷ after ≡ e.outputs
-    → IsNumber (table_number e (length before + 1))
+    → IsCount (table_number e (length before + 1))
 its_number_fits e w before output after same =
     table_number_is e w (table_number e (length before + 1)) (omega (arith, its_number e before output after same, few_tables before, place_below before output after e.outputs same))
 
@@ -176,9 +175,9 @@ state_constant_read e w before state after q same =
     let n : ℕ = length before + 1 in
     let written : IsWrittenState state = fact_at IsWrittenState e.states w.states before state after same in
     let sound : IsState e state = fact_at (IsState e) e.states w.sound.states before state after same in
-    let number : IsNumber n = state_number e w n (place_below before state after e.states same) in
+    let number : IsCount n = state_number e w n (place_below before state after e.states same) in
     let place : length (map table_of before) + 0 + 1 ≡ n = omega (arith, length-map before table_of) in
-    in_turn (known_as (constant_of (tables_up_to before [] [])) (part_named 107 n refl (below_word n number)) (is_next_table (tables_up_to before [] []) n place))
+    in_turn (known_as (constant_of (tables_up_to before [] [])) (part_named 107 n refl number) (is_next_table (tables_up_to before [] []) n place))
     (in_turn expected (chosen refl (in_turn expected
     (in_turn (state_table_read (columns_of state) state.table (codes ";" ∷ q) written.columns written.rows
     (recursion_from_All (λ (row : VStateRow). length row.inputs ≡ columns_of state) state.table.rows sound.rows) (recursion_from_All HasOneEdge state.table.rows written.edges))
@@ -197,9 +196,9 @@ condition_constant_read e w before truth after q same =
     let n : ℕ = length before + 1 in
     let written : IsWrittenTruth truth = fact_at IsWrittenTruth e.conditions w.conditions before truth after same in
     let sound : IsTruth e truth = fact_at (IsTruth e) e.conditions w.sound.conditions before truth after same in
-    let number : IsNumber n = condition_number e w n (place_below before truth after e.conditions same) in
+    let number : IsCount n = condition_number e w n (place_below before truth after e.conditions same) in
     let place : length (map condition_table_of before) + 1 ≡ n = omega (arith, length-map before condition_table_of) in
-    in_turn (known_as (constant_of (tables_up_to e.states before [])) (part_named 99 n refl (below_word n number)) (is_next_condition (map table_of e.states) (map condition_table_of before) n place))
+    in_turn (known_as (constant_of (tables_up_to e.states before [])) (part_named 99 n refl number) (is_next_condition (map table_of e.states) (map condition_table_of before) n place))
     (in_turn expected (in_turn expected
     (in_turn (truth_read (length truth.inputs) truth.table q written.columns written.rows (recursion_from_All (λ (row : TruthRow). length row.inputs ≡ length truth.inputs) truth.table.rows sound.rows))
     (to_same (ap (λ (l : List TruthTable). record { states = map table_of e.states; conditions = l; outputs = [] }) (sym (map-append condition_table_of before (truth ∷ [])))) gives))))
@@ -208,7 +207,7 @@ abbrev AllTurns : Tables → List (List ℕ) → Tables → List (List ℕ) → 
 AllTurns tables s v left = Reads (r.Many (λ _. begins (codes "constant")) (λ tables _. constant tables) tables) s v left
 
 output_constant_by : (e : VEntity) → IsWellFormedEntity e → (before : List VOutput) (n : ℕ) (v : OutValue) {end : Tables} {left : List (List ℕ)} (q : List (List ℕ))
-    → length e.states + (length (output_tables before) + 1) ≡ table_number e n → IsNumber (table_number e n) → IsValue e v → IsWrittenValue v
+    → length e.states + (length (output_tables before) + 1) ≡ table_number e n → IsCount (table_number e n) → IsValue e v → IsWrittenValue v
     → AllTurns (record { states = map table_of e.states; conditions = map condition_table_of e.conditions; outputs = output_tables before ++ value_tables v }) q end left
     → AllTurns (tables_up_to e.states e.conditions before) (value_constant_front e n v q) end left
 unfolding constant output_constant
@@ -218,7 +217,7 @@ output_constant_by e w before n (value.Table table sources) q place number sound
     let tables : Tables = tables_up_to e.states e.conditions before in
     let k : ℕ = table_number e n in
     let next : length (map table_of e.states) + length (output_tables before) + 1 ≡ k = omega (arith, place, length-map e.states table_of) in
-    turns (turn refl (in_turn (known_as (constant_of tables) (part_named 107 k refl (below_word k number)) (is_next_table tables k next))
+    turns (turn refl (in_turn (known_as (constant_of tables) (part_named 107 k refl number) (is_next_table tables k next))
     (in_turn expected (passed (if_either (is_before_outputs tables && nat_eq (length tables.conditions) 0)) (in_turn expected
     (in_turn (truth_read (length sources) table q written.columns written.rows (recursion_from_All (λ (row : TruthRow). length row.inputs ≡ length sources) table.rows sound.0)) gives)))))) rest
 

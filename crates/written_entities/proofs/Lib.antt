@@ -26,7 +26,6 @@ pub mod StateReading
 pub mod ValueReading
 pub mod QuotedNames
 pub mod PathReading
-pub mod Assigned
 pub mod OutputReading
 pub mod EntityReading
 pub mod EntityFile

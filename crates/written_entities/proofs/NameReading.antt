@@ -16,8 +16,8 @@ use Rattle.vhdl_names.specs.Kept.{is_plain}
 use Rattle.vhdl_tokens.specs.Tokens.{is_name_byte}
 use Rattle.vhdl_tokens.specs.Spelling.{is_character, is_same}
 use Rattle.vhdl_text.specs.VhdlRules.{expect, expect_all, expect_where, is_among, new_name, known, this_name, place_among, this_number, a_number, a_time, numbered_where}
-use Rattle.vhdl_text.specs.WellFormed.{AreApart, IsNumber}
-use Rattle.grammar_phrases.proofs.Bytes.{all_digits, below_word, number_is}
+use Rattle.vhdl_text.specs.WellFormed.{AreApart, IsNumber, IsCount}
+use Rattle.grammar_phrases.proofs.Bytes.{all_digits, number_is}
 use Rattle.grammar_phrases.proofs.Derivations.{Reads, gives, token, in_turn}
 use Rattle.grammar_phrases.proofs.Places.{same_bytes, at_place, found_behind}
 use Rattle.written_entities.proofs.Words.{IsNamed, other_second, part_named, unlike_scored}
@@ -207,5 +207,5 @@ first_place test before x after none here =
 named_if : (b : Bool) (letter n : ℕ) → b ≡ true → numbered_where b (letter ∷ 95 ∷ []) n ≡ Some (letter ∷ 95 ∷ decimal n)
 named_if b letter n e = if_true b _ _ e
 
-pub part_read : (b : Bool) (letter n : ℕ) {s : List (List ℕ)} → is_ascii_alphabetic letter ≡ true → IsNumber n → b ≡ true → Reads (this_name (numbered_where b (letter ∷ 95 ∷ []) n)) ((letter ∷ 95 ∷ decimal n) ∷ s) tt s
-part_read b letter n l h e = so_named (numbered_where b (letter ∷ 95 ∷ []) n) (part_named letter n l (below_word n h)) (named_if b letter n e)
+pub part_read : (b : Bool) (letter n : ℕ) {s : List (List ℕ)} → is_ascii_alphabetic letter ≡ true → IsCount n → b ≡ true → Reads (this_name (numbered_where b (letter ∷ 95 ∷ []) n)) ((letter ∷ 95 ∷ decimal n) ∷ s) tt s
+part_read b letter n l h e = so_named (numbered_where b (letter ∷ 95 ∷ []) n) (part_named letter n l h) (named_if b letter n e)

@@ -1,7 +1,6 @@
 -- The lines of outputs in a written entity: their tokens and their reading.
 use Rattle.std.proofs.Common.{◌≡◌, ℕ, zero, suc, ◌+◌, Bool, true, false, not, nat_eq, nat_lt, if◌then◌else◌, List, [], ◌∷◌, ◌++◌, length, map, flat_map, Option, Some, slice_get, refl, sym, ap, ◌∙◌, arith, subst, codes, decimal}
 use Rattle.std.specs.Option.{option_map, option_map_or, option_and_then}
-use Rattle.std.specs.Str.{str_eq_ignore_ascii_case}
 use Rattle.std.proofs.lemmas.List.{length-map, map-append, append-nil}
 use Rattle.std.proofs.lemmas.Option.{slice_get-map}
 use Rattle.grammar_rules.specs.Rule.{Verdict, Fits, Stops}
@@ -16,20 +15,18 @@ use Rattle.vhdl_tokens.specs.Tokens.{is_name}
 use Rattle.vhdl_tokens.specs.Spelling.{is_same}
 use Rattle.vhdl_text.specs.VhdlDeclarations.{name_of_port, output_count}
 use Rattle.vhdl_text.specs.VhdlNames.{Uses}
-use Rattle.vhdl_text.specs.VhdlOutputs.{paths, output_name, has_glitch, Lines, is_text_of, text_by, path_call_start, path_call, assignment, is_unpathed, begins_line, line_by, output_lines}
-use Rattle.vhdl_text.specs.WellFormed.{IsAssignable, IsNumber, IsPortName, IsWrittenOutput, IsWellFormedEntity, conditions_of_check, conditions_of_path, conditions_of_output}
+use Rattle.vhdl_text.specs.VhdlOutputs.{paths, output_name, has_glitch, Lines, is_text_of, text_by, path_call_start, path_call, assigned_value, assignment, is_unpathed, assigns_so_named, call_or_assignment, begins_line, line_by, output_lines}
+use Rattle.vhdl_text.specs.WellFormed.{IsCount, IsPortName, IsWrittenOutput, IsWellFormedEntity, conditions_of_check, conditions_of_path, conditions_of_output}
 use Rattle.vhdl_writer.specs.Joined.{numbered_texts}
 use Rattle.vhdl_writer.specs.Names.{port_at}
 use Rattle.vhdl_writer.specs.Outputs.{path_text, paths_text, direct_text, output_line}
-use Rattle.grammar_phrases.proofs.Bytes.{below_word}
 use Rattle.grammar_phrases.proofs.Fronts.{Front, Anything}
-use Rattle.grammar_phrases.proofs.Derivations.{Reads, gives, token, in_turn, no_turn, turn, turns, goes_on}
+use Rattle.grammar_phrases.proofs.Derivations.{Reads, gives, token, in_turn, chosen, passed, no_turn, Turn, turn, turns, goes_on}
 use Rattle.grammar_phrases.proofs.Places.{get_at}
-use Rattle.written_entities.proofs.Assigned.{IsAssigned, assigned}
 use Rattle.grammar_phrases.proofs.Spelling.{joins, behind}
 use Rattle.written_entities.proofs.Spelling.{Spells, argument, literal}
 use Rattle.written_entities.proofs.Words.{IsNamed, name, part_named, port_named}
-use Rattle.written_entities.proofs.NameReading.{same_name, same_self, expected, two_expected, three_expected, six_expected, so_named, part_read}
+use Rattle.written_entities.proofs.NameReading.{same_name, same_self, case_turned, expected, two_expected, three_expected, six_expected, so_named, part_read}
 use Rattle.written_entities.proofs.Counting.{counted, counted_anywhere, apart_front, over}
 use Rattle.written_entities.proofs.Elements.{line_end, indented}
 use Rattle.written_entities.proofs.Parts.{part_behind, fact_at, place_below, output_number}
@@ -138,7 +135,7 @@ its_paths e w before output after same =
           (subst (λ (l : List VOutput). Looks e (seen_by_checks e) (flat_map conditions_of_output l ++ [])) (sym same) (lines_look e w));
     }
 
-call_spelled : (e : VEntity) (n : ℕ) (output : VOutput) (seen : ℕ) (path : HPath) (all : List HPath) (others : List ℕ) → output.paths ≡ path ∷ all → IsNumber n → IsNamed (port_at e output.port) → ArePaths e seen (path ∷ all) others
+call_spelled : (e : VEntity) (n : ℕ) (output : VOutput) (seen : ℕ) (path : HPath) (all : List HPath) (others : List ℕ) → output.paths ≡ path ∷ all → IsCount n → IsNamed (port_at e output.port) → ArePaths e seen (path ∷ all) others
     → Spells Anything false (paths_text e n output) (λ s. codes "VitalPathDelay01" ∷ call_front e n output.port (path ∷ all) s) false
 unfolding paths_text
 call_spelled e n output seen path all others same m x h =
@@ -148,11 +145,11 @@ call_spelled e n output seen path all others same m x h =
     behind path_call_word (joins (name p x) (λ r q. refl) (part_behind 103 n refl m (argument (codes "GlitchData") 16 (λ r. refl)) (λ r q. refl) (quoted_behind p x (argument (codes "OutSignalName") 19 (λ r. refl))
     (part_behind 122 n refl m (argument (codes "OutTemp") 13 (λ r. refl)) (λ r q. refl) (behind paths_word (behind list paths_end))))))
 
-direct_spelled : (e : VEntity) (n : ℕ) (output : VOutput) → IsNumber n → IsNamed (port_at e output.port) → Spells Anything false (direct_text e n output) (line_by_paths e n output.port []) false
+direct_spelled : (e : VEntity) (n : ℕ) (output : VOutput) → IsCount n → IsNamed (port_at e output.port) → Spells Anything false (direct_text e n output) (line_by_paths e n output.port []) false
 unfolding direct_text
 direct_spelled e n output m x = behind indented (joins (name (port_at e output.port) x) (λ r q. refl) (part_behind 122 n refl m takes (λ r q. refl) line_end))
 
-line_by_spelled : (e : VEntity) (n : ℕ) (output : VOutput) (seen : ℕ) (all : List HPath) (others : List ℕ) → output.paths ≡ all → IsNumber n → IsNamed (port_at e output.port) → ArePaths e seen all others
+line_by_spelled : (e : VEntity) (n : ℕ) (output : VOutput) (seen : ℕ) (all : List HPath) (others : List ℕ) → output.paths ≡ all → IsCount n → IsNamed (port_at e output.port) → ArePaths e seen all others
     → Spells Anything false (if nat_lt 0 (length all) then paths_text e n output else direct_text e n output) (line_by_paths e n output.port all) false
 line_by_spelled e n output seen [] others same m x h = direct_spelled e n output m x
 line_by_spelled e n output seen (path ∷ all) others same m x h =
@@ -178,17 +175,17 @@ text_read : (e : VEntity) (o : ℕ) (x : List ℕ) {s : List (List ℕ)} → out
 text_read e o x h =
     token (if_true (is_text_of (output_name (scope e) o) (quoted x)) _ _ (ap (λ (n : Option (List ℕ)). is_text_of n (quoted x)) h ∙ quoted_is x))
 
-start_read : (e : VEntity) → IsWellFormedEntity e → (o : ℕ) (output : VOutput) (s : List (List ℕ)) → IsOutputAt e o output → IsNumber (o + 1) → has_paths output ≡ true
+start_read : (e : VEntity) → IsWellFormedEntity e → (o : ℕ) (output : VOutput) (s : List (List ℕ)) → IsOutputAt e o output → IsCount (o + 1) → has_paths output ≡ true
     → Reads (path_call_start (scope e) o) (codes "(" ∷ codes "OutSignal" ∷ codes "=>" ∷ port_at e output.port ∷ codes "," ∷ codes "GlitchData" ∷ codes "=>" ∷ (103 ∷ 95 ∷ decimal (o + 1)) ∷ codes "," ∷ codes "OutSignalName"
     ∷ codes "=>" ∷ quoted (port_at e output.port) ∷ codes "," ∷ codes "OutTemp" ∷ codes "=>" ∷ (122 ∷ 95 ∷ decimal (o + 1)) ∷ codes "," ∷ s) tt s
 unfolding path_call_start
 start_read e w o output s h m some =
     in_turn three_expected (in_turn (so_named (output_name (scope e) o) (port_named_at e w o output h) h.named) (in_turn three_expected
     (in_turn (part_read (has_glitch (scope e) o) 103 (o + 1) refl m (h.pathed ∙ some)) (in_turn three_expected (in_turn (text_read e o (port_at e output.port) h.named)
-    (in_turn three_expected (in_turn (so_named (Some (122 ∷ 95 ∷ decimal (o + 1))) (part_named 122 (o + 1) refl (below_word (o + 1) m)) refl) expected)))))))
+    (in_turn three_expected (in_turn (so_named (Some (122 ∷ 95 ∷ decimal (o + 1))) (part_named 122 (o + 1) refl m) refl) expected)))))))
 
 call_read : (e : VEntity) → IsWellFormedEntity e → (done : List (List HPath)) (o seen : ℕ) (output : VOutput) (path : HPath) (all : List HPath) (others : List ℕ) (s : List (List ℕ)) → length done ≡ o
-    → IsOutputAt e o output → IsNumber (o + 1) → output.paths ≡ path ∷ all → ArePaths e seen (path ∷ all) others
+    → IsOutputAt e o output → IsCount (o + 1) → output.paths ≡ path ∷ all → ArePaths e seen (path ∷ all) others
     → Reads (path_call (scope e) (done, uses_of e seen)) (call_front e (o + 1) output.port (path ∷ all) s) (done ++ (path ∷ all) ∷ [], uses_of e (seen_after seen (flat_map conditions_of_path (path ∷ all)))) s
 unfolding path_call
 call_read e w done o seen output path all others s place h m same paths =
@@ -199,36 +196,66 @@ call_read e w done o seen output path all others s place h m same paths =
     ∷ codes "OutSignalName" ∷ codes "=>" ∷ quoted (port_at e output.port) ∷ codes "," ∷ codes "OutTemp" ∷ codes "=>" ∷ (122 ∷ 95 ∷ decimal (o + 1)) ∷ codes "," ∷ tail) tt tail) (sym place) (start_read e w o output tail h m some))
     (in_turn two_expected (in_turn (paths_read e seen path all others (codes "," ∷ codes "Mode" ∷ codes "=>" ∷ codes "VitalTransport" ∷ codes ")" ∷ codes ";" ∷ s) paths) (in_turn six_expected gives)))
 
-assignment_read : (done : List (List HPath)) (uses : Uses) (o : ℕ) {s : List (List ℕ)} → length done ≡ o → IsNumber (o + 1)
+assigned_read : (done : List (List HPath)) (uses : Uses) (o : ℕ) {s : List (List ℕ)} → length done ≡ o → IsCount (o + 1)
+    → Reads (assigned_value (done, uses)) ((122 ∷ 95 ∷ decimal (o + 1)) ∷ codes ";" ∷ s) (done ++ [] ∷ [], uses) s
+unfolding assigned_value
+assigned_read done uses o place m =
+    in_turn (so_named (Some (122 ∷ 95 ∷ decimal (length done + 1))) (part_named 122 (o + 1) refl m) (ap (λ (n : ℕ). Some (122 ∷ 95 ∷ decimal (n + 1))) place)) (in_turn expected gives)
+
+assignment_read : (done : List (List HPath)) (uses : Uses) (o : ℕ) {s : List (List ℕ)} → length done ≡ o → IsCount (o + 1)
     → Reads (assignment (done, uses)) (codes "<=" ∷ (122 ∷ 95 ∷ decimal (o + 1)) ∷ codes ";" ∷ s) (done ++ [] ∷ [], uses) s
 unfolding assignment
-assignment_read done uses o place m =
-    in_turn expected (in_turn (so_named (Some (122 ∷ 95 ∷ decimal (length done + 1))) (part_named 122 (o + 1) refl (below_word (o + 1) m)) (ap (λ (n : ℕ). Some (122 ∷ 95 ∷ decimal (n + 1))) place)) (in_turn expected gives))
+assignment_read done uses o place m = in_turn expected (assigned_read done uses o place m)
+
+-- a token that is the name of an output without paths
+unpathed_as : (e : VEntity) (o : ℕ) (output : VOutput) (x : List ℕ) → IsOutputAt e o output → has_paths output ≡ false → is_same x (port_at e output.port) ≡ true → is_unpathed (scope e) o x ≡ true
+unpathed_as e o output x h none same =
+    and_yes (not (has_glitch (scope e) o)) (option_map_or (λ y. is_same x y) (output_name (scope e) o) false) (ap not (h.pathed ∙ none))
+    (ap (λ (y : Option (List ℕ)). option_map_or (λ z. is_same x z) y false) h.named ∙ same)
 
 direct_begins : (e : VEntity) → IsWellFormedEntity e → (lines : Lines) (o : ℕ) (output : VOutput) → length lines.0 ≡ o → IsOutputAt e o output → has_paths output ≡ false
-    → str_eq_ignore_ascii_case (port_at e output.port) (codes "VitalPathDelay01") ≡ false → begins_line (scope e) lines (port_at e output.port) ≡ Some (Fits false)
+    → is_same (port_at e output.port) (codes "VitalPathDelay01") ≡ false → begins_line (scope e) lines (port_at e output.port) ≡ Some (Fits false)
 direct_begins e w lines o output place h none other =
     let x : List ℕ = port_at e output.port in
-    let n : IsNamed x = port_named_at e w o output h in
-    let its : is_unpathed (scope e) o x ≡ true =
-    and_yes (not (has_glitch (scope e) o)) (option_map_or (λ y. is_same x y) (output_name (scope e) o) false) (ap not (h.pathed ∙ none))
-    (ap (λ (y : Option (List ℕ)). option_map_or (λ z. is_same x z) y false) h.named ∙ same_self x) in
-    if_false (is_same x (codes "VitalPathDelay01")) _ _ (same_name x (codes "VitalPathDelay01") n ∙ other)
-    ∙ if_true (is_name x) _ _ n.named
+    let its : is_unpathed (scope e) o x ≡ true = unpathed_as e o output x h none (same_self x) in
+    if_false (is_same x (codes "VitalPathDelay01")) _ _ other
+    ∙ if_true (is_name x) _ _ (port_named_at e w o output h).named
     ∙ ap (λ (v : Verdict Bool Refusal). Some v) (if_true (is_unpathed (scope e) (length lines.0) x) _ _ (ap (λ (k : ℕ). is_unpathed (scope e) k x) place ∙ its))
+
+-- an output without paths that has the name of the procedure of path delays
+so_assigned : (e : VEntity) → IsWellFormedEntity e → (lines : Lines) (o : ℕ) (output : VOutput) → length lines.0 ≡ o → IsOutputAt e o output → has_paths output ≡ false
+    → is_same (port_at e output.port) (codes "VitalPathDelay01") ≡ true → assigns_so_named (scope e) (length lines.0) (codes "<=") ≡ true
+so_assigned e w lines o output place h none same =
+    let x : List ℕ = port_at e output.port in
+    let turned : is_same (codes "VitalPathDelay01") x ≡ true =
+    case_turned (codes "VitalPathDelay01") x ∙ sym (same_name x (codes "VitalPathDelay01") (port_named_at e w o output h)) ∙ same in
+    ap (λ (k : ℕ). is_unpathed (scope e) k (codes "VitalPathDelay01")) place ∙ unpathed_as e o output (codes "VitalPathDelay01") h none turned
+
+direct_turn : (e : VEntity) → IsWellFormedEntity e → (done : List (List HPath)) (uses : Uses) (o : ℕ) (output : VOutput) (s : List (List ℕ)) → length done ≡ o → IsOutputAt e o output → IsCount (o + 1)
+    → has_paths output ≡ false → Turn (begins_line (scope e)) (line_by (scope e)) (done, uses) (line_by_paths e (o + 1) output.port [] s) (done ++ [] ∷ [], uses) s
+unfolding call_or_assignment
+direct_turn e w done uses o output s place h m none = by (is_same (port_at e output.port) (codes "VitalPathDelay01")) refl
+  where
+    by : (b : Bool) → is_same (port_at e output.port) (codes "VitalPathDelay01") ≡ b
+        → Turn (begins_line (scope e)) (line_by (scope e)) (done, uses) (line_by_paths e (o + 1) output.port [] s) (done ++ [] ∷ [], uses) s
+    by true same =
+        turn (if_true (is_same (port_at e output.port) (codes "VitalPathDelay01")) _ _ same)
+        (chosen (if_true (assigns_so_named (scope e) (length done) (codes "<=")) _ _ (so_assigned e w (done, uses) o output place h none same)) (assigned_read done uses o place m))
+    by false other = turn (direct_begins e w (done, uses) o output place h none other) (assignment_read done uses o place m)
 
 abbrev AllLines : VEntity → Lines → List (List ℕ) → Lines → List (List ℕ) → Type 0
 AllLines e lines s end left = Reads (r.Many (begins_line (scope e)) (line_by (scope e)) lines) s end left
 
 line_turn : (e : VEntity) → IsWellFormedEntity e → (done : List (List HPath)) (o seen : ℕ) (output : VOutput) (all : List HPath) (others : List ℕ) {end : Lines} {left : List (List ℕ)} (q : List (List ℕ)) → length done ≡ o
-    → IsOutputAt e o output → IsNumber (o + 1) → IsAssigned e output → output.paths ≡ all → ArePaths e seen all others
+    → IsOutputAt e o output → IsCount (o + 1) → output.paths ≡ all → ArePaths e seen all others
     → AllLines e (done ++ all ∷ [], uses_of e (seen_after seen (flat_map conditions_of_path all))) q end left
     → AllLines e (done, uses_of e seen) (line_by_paths e (o + 1) output.port all q) end left
-line_turn e w done o seen output [] others q place h m free same paths rest =
+unfolding call_or_assignment
+line_turn e w done o seen output [] others q place h m same paths rest =
     let none : has_paths output ≡ false = ap (λ (l : List HPath). nat_lt 0 (length l)) same in
-    turns (turn (direct_begins e w (done, uses_of e seen) o output place h none (free (ap length same))) (assignment_read done (uses_of e seen) o place m)) rest
-line_turn e w done o seen output (path ∷ all) others q place h m free same paths rest =
-    turns (turn refl (call_read e w done o seen output path all others q place h m same paths)) rest
+    turns (direct_turn e w done (uses_of e seen) o output q place h m none) rest
+line_turn e w done o seen output (path ∷ all) others q place h m same paths rest =
+    turns (turn refl (passed refl (call_read e w done o seen output path all others q place h m same paths))) rest
 
 lines_with : (e : VEntity) (before : List VOutput) (output : VOutput)
     → ◌≡◌ {A = Lines} (lines_up_to e (before ++ output ∷ [])) (map paths_of before ++ output.paths ∷ [], uses_of e (seen_after (seen_before e before) (flat_map conditions_of_path output.paths)))
@@ -243,6 +270,6 @@ lines_read e w s stop =
     in_turn (over (lines_up_to e) (line_front e) [] e.outputs
     (λ before output after q same rest.
     line_turn e w (map paths_of before) (length before) (seen_before e before) output output.paths (flat_map conditions_of_output after ++ []) q (length-map before paths_of)
-    (output_at e w before output after same) (output_number e w (length before + 1) (place_below before output after e.outputs same)) (assigned e output (fact_at (IsAssignable e) e.outputs w.assignable before output after same)) refl
+    (output_at e w before output after same) (output_number e w (length before + 1) (place_below before output after e.outputs same)) refl
     (its_paths e w before output after same) (subst (λ (l : Lines). AllLines e l q (lines_up_to e e.outputs) s) (lines_with e before output) rest)) s (no_turn stop))
     (in_turn (goes_on (nat_eq (length (map paths_of e.outputs)) (output_count e.ports)) s (equal (length (map paths_of e.outputs)) (output_count e.ports) (length-map e.outputs paths_of ∙ so_many_outputs e w))) gives)

@@ -10,8 +10,7 @@ use Rattle.udp_tables.specs.declared.models.VPort.{VPort}
 use Rattle.vital_models.specs.declared.model.VOutput.{VOutput}
 use Rattle.vital_models.specs.declared.model.VEntity.{VEntity}
 use Rattle.vital_models.specs.Sound.{output_ports_from}
-use Rattle.vhdl_text.specs.WellFormed.{IsNumber, IsWellFormedEntity}
-use Rattle.grammar_phrases.proofs.Bytes.{below_word}
+use Rattle.vhdl_text.specs.WellFormed.{IsCount, IsWellFormedEntity}
 use Rattle.grammar_phrases.proofs.Fronts.{Front, Anything}
 use Rattle.grammar_phrases.proofs.Places.{at_place}
 use Rattle.grammar_phrases.proofs.Spelling.{joins, behind}
@@ -23,9 +22,9 @@ pub shown : {P : List ℕ → Type 0} {t u : Bool} {text : List ℕ} {f : Front}
 shown b e h = rw e h
 
 -- text that ends within the name of a part, its number, and what follows
-pub part_behind : {Q : List ℕ → Type 0} {t u v : Bool} {front rest : List ℕ} {f g : Front} (b n : ℕ) → is_ascii_alphabetic b ≡ true → IsNumber n → Spells Anything t front f u
+pub part_behind : {Q : List ℕ → Type 0} {t u v : Bool} {front rest : List ℕ} {f g : Front} (b n : ℕ) → is_ascii_alphabetic b ≡ true → IsCount n → Spells Anything t front f u
     → ((r : List ℕ) → Q r → Ends (rest ++ r)) → Spells Q true rest g v → Spells Q t (front ++ (b ∷ 95 ∷ decimal n ++ rest)) (λ s. f ((b ∷ 95 ∷ decimal n) ∷ g s)) v
-part_behind b n l h i k j = behind i (joins (part b n l (below_word n h)) k j)
+part_behind b n l h i k j = behind i (joins (part b n l h) k j)
 
 -- a piece of text that may stand behind a name
 pub record IsBehind (text : List ℕ) (f : Front) : Type 0 where
@@ -60,17 +59,17 @@ pub few_outputs : (e : VEntity) → IsWellFormedEntity e → length e.outputs �
 few_outputs e w =
     omega (arith, few_ports 0 e.ports, ap length w.sound.driven, length-map e.outputs (λ (output : VOutput). output.port))
 
-pub output_number : (e : VEntity) → IsWellFormedEntity e → (n : ℕ) → n ≤ length e.outputs → IsNumber n
+pub output_number : (e : VEntity) → IsWellFormedEntity e → (n : ℕ) → n ≤ length e.outputs → IsCount n
 output_number e w n h = omega (arith, h, few_outputs e w, w.few)
 
-pub state_number : (e : VEntity) → IsWellFormedEntity e → (n : ℕ) → n ≤ length e.states → IsNumber n
+pub state_number : (e : VEntity) → IsWellFormedEntity e → (n : ℕ) → n ≤ length e.states → IsCount n
 state_number e w n h = omega (arith, h, w.few)
 
-pub condition_number : (e : VEntity) → IsWellFormedEntity e → (n : ℕ) → n ≤ length e.conditions → IsNumber n
+pub condition_number : (e : VEntity) → IsWellFormedEntity e → (n : ℕ) → n ≤ length e.conditions → IsCount n
 condition_number e w n h = omega (arith, h, w.few)
 
-pub check_number : (e : VEntity) → IsWellFormedEntity e → (n : ℕ) → n ≤ length e.checks → IsNumber n
+pub check_number : (e : VEntity) → IsWellFormedEntity e → (n : ℕ) → n ≤ length e.checks → IsCount n
 check_number e w n h = omega (arith, h, w.few)
 
-pub table_number_is : (e : VEntity) → IsWellFormedEntity e → (n : ℕ) → n ≤ length e.states + length e.outputs → IsNumber n
+pub table_number_is : (e : VEntity) → IsWellFormedEntity e → (n : ℕ) → n ≤ length e.states + length e.outputs → IsCount n
 table_number_is e w n h = omega (arith, h, few_outputs e w, w.few)

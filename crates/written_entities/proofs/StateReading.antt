@@ -16,7 +16,7 @@ use Rattle.vhdl_text.specs.VhdlRules.{begins, elements, only_element, several_el
 use Rattle.vhdl_text.specs.VhdlDeclarations.{width_at}
 use Rattle.vhdl_text.specs.VhdlNames.{violated_columns, no_columns, column_count, behind_input, takes_violation, next_column, columns_of}
 use Rattle.vhdl_text.specs.VhdlChecks.{state_call_start, state_call, state_calls}
-use Rattle.vhdl_text.specs.WellFormed.{IsNumber, IsWrittenState, IsWellFormedEntity}
+use Rattle.vhdl_text.specs.WellFormed.{IsCount, IsWrittenState, IsWellFormedEntity}
 use Rattle.vhdl_writer.specs.Joined.{numbered_texts}
 use Rattle.vhdl_writer.specs.Names.{port_at, next_input_text, violated_text}
 use Rattle.vhdl_writer.specs.Statements.{state_text}
@@ -120,7 +120,7 @@ some_inputs false inputs h e = h
 has_inputs : (e : VEntity) → IsWellFormedEntity e → (before : List VState) (state : VState) (after : List VState) → before ++ state ∷ after ≡ e.states → state.violation ≡ false → 1 ≤ length state.inputs
 has_inputs e w before state after same h = some_inputs state.violation state.inputs (fact_at IsWrittenState e.states w.states before state after same).columns h
 
-state_spelled : (e : VEntity) (n : ℕ) (state : VState) → IsNumber n → IsFed e state.inputs → (state.violation ≡ false → 1 ≤ length state.inputs) → Spells Anything false (state_text e n state) (state_front e n state) false
+state_spelled : (e : VEntity) (n : ℕ) (state : VState) → IsCount n → IsFed e state.inputs → (state.violation ≡ false → 1 ≤ length state.inputs) → Spells Anything false (state_text e n state) (state_front e n state) false
 unfolding state_text
 state_spelled e n state m h some =
     part_behind 115 n refl m state_table_word (λ r q. refl) (part_behind 112 n refl m (argument (codes "PreviousDataIn") 20 (λ r. refl)) (λ r q. refl) (part_behind 107 n refl m (argument (codes "StateTable") 16 (λ r. refl)) (λ r q. refl)
@@ -193,7 +193,7 @@ unfolding state_call_start
 start_read e w before state after s same =
     let n : ℕ = length before + 1 in
     let below : n ≤ length e.states = place_below before state after e.states same in
-    let m : IsNumber n = state_number e w n below in
+    let m : IsCount n = state_number e w n below in
     let b : Bool = nat_lt (length before) (length (all_tables e).states) in
     let there : b ≡ true = less (length before) (length (all_tables e).states) (omega (arith, below, length-map e.states (λ (x : VState). x.table))) in
     in_turn three_expected (in_turn (part_read b 115 n refl m there) (in_turn three_expected (in_turn (part_read b 112 n refl m there)

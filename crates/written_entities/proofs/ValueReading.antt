@@ -31,12 +31,11 @@ use Rattle.vhdl_text.specs.VhdlTables.{truth_width}
 use Rattle.vhdl_text.specs.VhdlDeclarations.{port_names, output_count}
 use Rattle.vhdl_text.specs.VhdlNames.{kept, port_of, input_of, same_source, source_or_state, source_of, listed_source, sources_of}
 use Rattle.vhdl_text.specs.VhdlOutputs.{is_lookup, lookups, output_width, output_table_name, lookup, a_constant, next_value, is_this_value, begins_value, values_of}
-use Rattle.vhdl_text.specs.WellFormed.{IsNumber, IsPortName, IsWrittenValue, IsWrittenOutput, IsWellFormedEntity}
+use Rattle.vhdl_text.specs.WellFormed.{IsCount, IsPortName, IsWrittenValue, IsWrittenOutput, IsWellFormedEntity}
 use Rattle.vhdl_writer.specs.Joined.{numbered_texts, apart_text}
 use Rattle.vhdl_writer.specs.Names.{port_at, source_name, source_text, sources_text}
 use Rattle.vhdl_writer.specs.Tables.{table_number}
 use Rattle.vhdl_writer.specs.Outputs.{lookup_text, assigned_text, value_line}
-use Rattle.grammar_phrases.proofs.Bytes.{below_word}
 use Rattle.grammar_phrases.proofs.Fronts.{Front, Anything}
 use Rattle.grammar_phrases.proofs.Derivations.{Reads, to_same, gives, token, in_turn, chosen, passed, no_turn, turn, turns, goes_on}
 use Rattle.grammar_phrases.proofs.Places.{get_at}
@@ -87,7 +86,7 @@ unfolding source_name
 source_named e w (source.Pin p) h = input_named e w p h
 source_named e w (source.State g) h =
     let less : g < length e.states = below g (length e.states) h in
-    part_named 115 (g + 1) refl (below_word (g + 1) (state_number e w (g + 1) (omega (arith, less))))
+    part_named 115 (g + 1) refl (state_number e w (g + 1) (omega (arith, less)))
 
 source_text_is : (e : VEntity) (n : ℕ) (s : Source) → source_text e n s ≡ apart_text (codes ", ") n ++ source_name e s
 unfolding source_text
@@ -96,7 +95,7 @@ source_text_is e n s = refl
 feeding_at : (e : VEntity) (sources : List Source) → list_all (feeds e) sources ≡ true → (before : List Source) (s : Source) (after : List Source) → before ++ s ∷ after ≡ sources → feeds e s ≡ true
 feeding_at e sources h before s after same = passes_at (feeds e) before s after (subst (λ (l : List Source). list_all (feeds e) l ≡ true) (sym same) h)
 
-assigned_spelled : (e : VEntity) → IsWellFormedEntity e → (n : ℕ) (v : OutValue) → IsNumber (table_number e n) → IsValue e v → IsWrittenValue v → Spells Anything false (assigned_text e n v) (assigned_front e n v) false
+assigned_spelled : (e : VEntity) → IsWellFormedEntity e → (n : ℕ) (v : OutValue) → IsCount (table_number e n) → IsValue e v → IsWrittenValue v → Spells Anything false (assigned_text e n v) (assigned_front e n v) false
 unfolding lookup_text sources_text
 assigned_spelled e w n (value.Constant true) m h k = one_bit
 assigned_spelled e w n (value.Constant false) m h k = zero_bit
@@ -139,7 +138,7 @@ source_found e w (source.Pin p) h = ap (source_or_state (scope e) (port_at e p))
 source_found e w (source.State g) h =
     let less : g < length e.states = below g (length e.states) h in
     let all : length (all_tables e).states ≡ length e.states = length-map e.states (λ (s : VState). s.table) in
-    let few = below_word (length (all_tables e).states) (state_number e w (length (all_tables e).states) (omega (arith, all))) in
+    let few = state_number e w (length (all_tables e).states) (omega (arith, all)) in
     ap (source_or_state (scope e) (115 ∷ 95 ∷ decimal (g + 1))) (no_input e w g)
     ∙ ap (option_map source.State) (place_found 115 (length (all_tables e).states) g refl (omega (arith, less, all)) few)
 
@@ -202,7 +201,7 @@ record IsTableAt (e : VEntity) (t : ℕ) (n : ℕ) (table : TruthTable) : Type 0
   fewer : t < length (output_tables e.outputs)
   named : length e.states + t + 1 ≡ table_number e n
 
-lookup_read : (e : VEntity) → IsWellFormedEntity e → (n t : ℕ) (table : TruthTable) (sources : List Source) {s : List (List ℕ)} → IsTableAt e t n table → IsNumber (table_number e n)
+lookup_read : (e : VEntity) → IsWellFormedEntity e → (n t : ℕ) (table : TruthTable) (sources : List Source) {s : List (List ℕ)} → IsTableAt e t n table → IsCount (table_number e n)
     → IsValue e (value.Table table sources) → IsWrittenValue (value.Table table sources)
     → Reads (lookup (scope e) t) (codes "(" ∷ codes "TruthTable" ∷ codes "=>" ∷ (107 ∷ 95 ∷ decimal (table_number e n)) ∷ codes "," ∷ codes "DataIn" ∷ codes "=>" ∷ codes "("
     ∷ names_front (source_name e) sources (codes ")" ∷ codes ")" ∷ s)) (assigned.Lookup sources) s
@@ -214,10 +213,10 @@ lookup_read e w n t table sources {s} at m h k =
     if_true (nat_lt t (length (output_tables e.outputs))) _ _ (less t (length (output_tables e.outputs)) at.fewer) ∙ ap (λ (j : ℕ). Some (107 ∷ 95 ∷ decimal j)) number in
     let width : output_width (scope e) t ≡ length sources =
     ap (λ (o : Option TruthTable). option_map_or (λ (x : TruthTable). truth_width x.rows) o 0) at.place ∙ truth_wide (length sources) table k.rows h.0 in
-    in_turn three_expected (in_turn (so_named (output_table_name (scope e) t) (part_named 107 (table_number e n) refl (below_word (table_number e n) m)) its_name)
+    in_turn three_expected (in_turn (so_named (output_table_name (scope e) t) (part_named 107 (table_number e n) refl m) its_name)
     (in_turn four_expected (in_turn (sources_read e w (output_width (scope e) t) sources (codes ")" ∷ s) k.columns h.1 k.apart (sym width)) (in_turn expected gives))))
 
-assigned_read : (e : VEntity) → IsWellFormedEntity e → (n t : ℕ) (v : OutValue) {s : List (List ℕ)} → IsNumber (table_number e n) → IsValue e v → IsWrittenValue v
+assigned_read : (e : VEntity) → IsWellFormedEntity e → (n t : ℕ) (v : OutValue) {s : List (List ℕ)} → IsCount (table_number e n) → IsValue e v → IsWrittenValue v
     → ((table : TruthTable) (sources : List Source) → v ≡ value.Table table sources → IsTableAt e t n table)
     → Reads (r.Choice (begins (codes "VitalTruthTable")) (λ _. lookup (scope e) t) a_constant) (assigned_front e n v s) (assigned_by v) s
 assigned_read e w n t (value.Constant true) m h k at = passed refl (bit_read true)
@@ -250,7 +249,7 @@ value_begins e w before output after same =
     let so_many : m ≡ length before = length-map before assigned_of in
     let its : is_same x (122 ∷ 95 ∷ decimal (m + 1)) ≡ true = ap (λ (k : ℕ). is_same x (122 ∷ 95 ∷ decimal (k + 1))) so_many ∙ same_self x in
     if_true (nat_lt m (output_count e.ports) && is_name x) _ _
-    (and_yes (nat_lt m (output_count e.ports)) (is_name x) (less m (output_count e.ports) (omega (arith, under, so_many, so_many_outputs e w))) (part_named 122 n refl (below_word n (output_number e w n under))).named)
+    (and_yes (nat_lt m (output_count e.ports)) (is_name x) (less m (output_count e.ports) (omega (arith, under, so_many, so_many_outputs e w))) (part_named 122 n refl (output_number e w n under)).named)
     ∙ ap (λ (v : Verdict (Unit {0}) Refusal). Some v) (if_true (is_same x (122 ∷ 95 ∷ decimal (m + 1))) _ _ its)
 
 value_read : (e : VEntity) → IsWellFormedEntity e → (before : List VOutput) (output : VOutput) (after : List VOutput) (s : List (List ℕ)) → before ++ output ∷ after ≡ e.outputs

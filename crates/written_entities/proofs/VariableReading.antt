@@ -24,8 +24,7 @@ use Rattle.vhdl_text.specs.declared.scope.Variables.{Variables}
 use Rattle.vhdl_text.specs.VhdlRules.{begins, this_number}
 use Rattle.vhdl_text.specs.VhdlTables.{state_width}
 use Rattle.vhdl_text.specs.VhdlDeclarations.{last_true, is_last_false, VariableOf, Check, Violation, State, Output, Glitch, is_before_states, awaits_violation, output_count, variable_of, variable_by, is_period_type, first_data, check_variables, violation_variable, width_at, state_variables, output_variable, glitch_variable, variable, are_declared, variables}
-use Rattle.vhdl_text.specs.WellFormed.{IsNumber, IsWrittenState, IsWellFormedEntity}
-use Rattle.grammar_phrases.proofs.Bytes.{below_word}
+use Rattle.vhdl_text.specs.WellFormed.{IsNumber, IsCount, IsWrittenState, IsWellFormedEntity}
 use Rattle.grammar_phrases.proofs.Derivations.{Reads, to_same, gives, token, in_turn, no_turn, turn, turns, goes_on}
 use Rattle.grammar_phrases.proofs.Places.{get_at, one_longer}
 use Rattle.written_entities.proofs.Words.{IsNamed, number, part_named}
@@ -75,7 +74,7 @@ check_read : (e : VEntity) → IsWellFormedEntity e → (before : List TimingChe
 unfolding variable check_variables
 check_read e w before k after q same =
     let n : ℕ = length before + 1 in
-    let number = below_word n (check_number e w n (place_below before k after e.checks same)) in
+    let number = check_number e w n (place_below before k after e.checks same) in
     let so_many : length (map is_period_check before) + 1 ≡ n = ap (λ (m : ℕ). m + 1) (length-map before is_period_check) in
     let fits : variable_of e.ports (all_tables e) (checked before) (120 ∷ 95 ∷ decimal n) ≡ Some Check =
     if_true (is_same (120 ∷ 95 ∷ decimal n) (120 ∷ 95 ∷ decimal (length (map is_period_check before) + 1))) _ _ (same_part 120 (length (map is_period_check before) + 1) n so_many) in
@@ -128,7 +127,7 @@ unfolding variable state_variables
 state_read e w before state after q same =
     let n : ℕ = length before + 1 in
     let below : n ≤ length e.states = place_below before state after e.states same in
-    let number = below_word n (state_number e w n below) in
+    let number = state_number e w n below in
     let v : Variables = violated e.checks (length before) [] in
     let fewer : nat_lt (length before) (length (all_tables e).states) ≡ true =
     less (length before) (length (all_tables e).states) (omega (arith, below, length-map e.states (λ (s : VState). s.table))) in
@@ -186,7 +185,7 @@ glitch_fits e before =
     ∙ if_true (is_last_false gs && is_same (103 ∷ 95 ∷ decimal n) (103 ∷ 95 ∷ decimal (length gs))) _ _
     (and_yes (is_last_false gs) (is_same (103 ∷ 95 ∷ decimal n) (103 ∷ 95 ∷ decimal (length gs))) (last_is_false (map has_paths before)) (same_part 103 (length gs) n so_many)))
 
-glitch_turn : (e : VEntity) → IsWellFormedEntity e → (before : List VOutput) (n : ℕ) (paths : List HPath) {end : Variables} {left : List (List ℕ)} (q : List (List ℕ)) → n ≡ length before + 1 → IsNumber n
+glitch_turn : (e : VEntity) → IsWellFormedEntity e → (before : List VOutput) (n : ℕ) (paths : List HPath) {end : Variables} {left : List (List ℕ)} (q : List (List ℕ)) → n ≡ length before + 1 → IsCount n
     → AllTurns e (violated e.checks (length e.states) (map has_paths before ++ nat_lt 0 (length paths) ∷ [])) q end left
     → AllTurns e (violated e.checks (length e.states) (map has_paths before ++ false ∷ [])) (glitch_front n paths q) end left
 unfolding variable glitch_variable
@@ -195,7 +194,7 @@ glitch_turn e w before n (path ∷ paths) {end = end} {left = left} q same numbe
     let v : Variables = violated e.checks (length e.states) (map has_paths before ++ false ∷ []) in
     let fits : variable_of e.ports (all_tables e) v (103 ∷ 95 ∷ decimal n) ≡ Some Glitch =
     subst (λ (m : ℕ). variable_of e.ports (all_tables e) v (103 ∷ 95 ∷ decimal m) ≡ Some Glitch) (sym same) (glitch_fits e before) in
-    turns (turn refl (in_turn (token (named_variable e.ports (all_tables e) v (103 ∷ 95 ∷ decimal n) Glitch (part_named 103 n refl (below_word n number)) refl fits))
+    turns (turn refl (in_turn (token (named_variable e.ports (all_tables e) v (103 ∷ 95 ∷ decimal n) Glitch (part_named 103 n refl number) refl fits))
     (in_turn three_expected (to_same (ap (λ (l : List Bool). violated e.checks (length e.states) l) (last_is_true (map has_paths before))) gives))))
     (subst (λ (b : Bool). AllTurns e (violated e.checks (length e.states) (map has_paths before ++ b ∷ [])) q end left) (some_items (length paths)) rest)
 
@@ -205,9 +204,9 @@ output_turn : (e : VEntity) → IsWellFormedEntity e → (before : List VOutput)
 unfolding variable output_variable
 output_turn e w before output after {end = end} {left = left} q same rest =
     let n : ℕ = length before + 1 in
-    let number : IsNumber n = output_number e w n (place_below before output after e.outputs same) in
+    let number : IsCount n = output_number e w n (place_below before output after e.outputs same) in
     let v : Variables = violated e.checks (length e.states) (map has_paths before) in
-    turns (turn refl (in_turn (token (named_variable e.ports (all_tables e) v (122 ∷ 95 ∷ decimal n) Output (part_named 122 n refl (below_word n number)) refl (output_fits e w before output after same)))
+    turns (turn refl (in_turn (token (named_variable e.ports (all_tables e) v (122 ∷ 95 ∷ decimal n) Output (part_named 122 n refl number) refl (output_fits e w before output after same)))
     (in_turn five_expected gives)))
     (glitch_turn e w before n output.paths q refl number
     (subst (λ (l : List Bool). AllTurns e (violated e.checks (length e.states) l) q end left) (map-append has_paths before (output ∷ [])) rest))

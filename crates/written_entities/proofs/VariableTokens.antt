@@ -14,7 +14,7 @@ use Rattle.vital_models.specs.Sound.{columns_of, IsState}
 use Rattle.vhdl_names.specs.Words.{is_reserved, is_used, vhdl_words, used_words}
 use Rattle.vhdl_text.specs.VhdlTables.{state_width}
 use Rattle.vhdl_text.specs.VhdlDeclarations.{first_data}
-use Rattle.vhdl_text.specs.WellFormed.{IsNumber, IsWrittenState, IsWellFormedEntity}
+use Rattle.vhdl_text.specs.WellFormed.{IsNumber, IsCount, IsWrittenState, IsWellFormedEntity}
 use Rattle.vhdl_writer.specs.Declarations.{data_text, check_variables_text, violation_variable_text, width_of, state_variables_text, glitch_data_text, output_variables_text, variables_text}
 use Rattle.grammar_phrases.proofs.Fronts.{Front, Anything}
 use Rattle.grammar_phrases.proofs.Spelling.{joins, behind, nothing}
@@ -98,7 +98,7 @@ data_behind =
     by_kind (λ (kind : CheckKind). IsBehind (data_text kind) (λ s. codes ":" ∷ data_type (is_period kind) ∷ codes ":=" ∷ first_data (is_period kind) ∷ codes ";" ∷ s))
     timing_type timing_type timing_type timing_type period_type period_type
 
-check_spelled : (n : ℕ) (k : TimingCheck) → IsNumber n → Spells Anything false (check_variables_text n k) (check_front n k) false
+check_spelled : (n : ℕ) (k : TimingCheck) → IsCount n → Spells Anything false (check_variables_text n k) (check_front n k) false
 unfolding check_variables_text
 check_spelled n k h =
     part_behind 120 n refl h variable_word (λ r q. refl) (part_behind 100 n refl h report_type (λ r q. (data_behind k.kind).begins r) (data_behind k.kind).spelled)
@@ -119,7 +119,7 @@ pub read_width : (columns : ℕ) (rows : List VStateRow) → 1 ≤ length rows �
 read_width columns [] some all = absurd (omega (arith, some))
 read_width columns (row ∷ rows) some all = all.0
 
-state_spelled : (n : ℕ) (state : VState) → IsNumber n → width_of state.table.rows ≡ columns_of state → IsNumber (columns_of state) → Spells Anything false (state_variables_text n state) (state_front n state) false
+state_spelled : (n : ℕ) (state : VState) → IsCount n → width_of state.table.rows ≡ columns_of state → IsNumber (columns_of state) → Spells Anything false (state_variables_text n state) (state_front n state) false
 unfolding state_variables_text
 state_spelled n state h e m =
     subst (λ (w : ℕ). Spells Anything false
@@ -128,12 +128,12 @@ state_spelled n state h e m =
     (part_behind 115 n refl h variable_word (λ r q. refl) (part_behind 112 n refl h state_type (λ r q. refl)
     (behind columns_type (joins (number (columns_of state) m) (λ r q. refl) columns_end))))
 
-glitch_spelled : (n : ℕ) (paths : List HPath) → IsNumber n → Spells Anything false (if nat_lt 0 (length paths) then glitch_data_text n else []) (glitch_front n paths) false
+glitch_spelled : (n : ℕ) (paths : List HPath) → IsCount n → Spells Anything false (if nat_lt 0 (length paths) then glitch_data_text n else []) (glitch_front n paths) false
 unfolding glitch_data_text
 glitch_spelled n [] h = nothing
 glitch_spelled n (path ∷ paths) h = shown (nat_lt 0 (length (path ∷ paths))) (some_items (length paths)) (part_behind 103 n refl h variable_word (λ r q. refl) glitch_type)
 
-output_spelled : (n : ℕ) (output : VOutput) → IsNumber n → Spells Anything false (output_variables_text n output) (output_front n output) false
+output_spelled : (n : ℕ) (output : VOutput) → IsCount n → Spells Anything false (output_variables_text n output) (output_front n output) false
 unfolding output_variables_text
 output_spelled n output h = part_behind 122 n refl h variable_word (λ r q. refl) (behind output_type (glitch_spelled n output.paths h))
 

@@ -8,7 +8,6 @@ use Rattle.vhdl_text.specs.VhdlChecks.{checks, next_report, any_report, violatio
 use Rattle.vhdl_text.specs.WellFormed.{IsWellFormedEntity}
 use Rattle.vhdl_writer.specs.Joined.{apart_text}
 use Rattle.vhdl_writer.specs.Statements.{report_text, reports_text, violation_text}
-use Rattle.grammar_phrases.proofs.Bytes.{below_word}
 use Rattle.grammar_phrases.proofs.Fronts.{Front, Anything}
 use Rattle.grammar_phrases.proofs.Derivations.{Reads, to_same, gives, in_turn, no_turn, turn, turns, goes_on}
 use Rattle.grammar_phrases.proofs.Places.{one_longer}
@@ -50,7 +49,7 @@ violation_by_spelled e w [] same = nothing
 violation_by_spelled e w (k ∷ checks) same =
     shown (nat_lt 0 (length (k ∷ checks))) (some_items (length checks))
     (behind violation_start (joins (apart_spelled {P = Ends} (codes " or ") (λ q. codes "or" ∷ q) report_text (λ n x. 120 ∷ 95 ∷ decimal n) report_front report_text_is or_word (λ r. refl) k checks
-    (λ before x after at. part 120 (length before + 1) refl (below_word (length before + 1) (check_number e w (length before + 1) (place_below before x after e.checks (at ∙ same)))))) (λ r q. refl) line_end))
+    (λ before x after at. part 120 (length before + 1) refl (check_number e w (length before + 1) (place_below before x after e.checks (at ∙ same))))) (λ r q. refl) line_end))
 
 pub violation_spelled : (e : VEntity) → IsWellFormedEntity e → Spells Anything false (violation_text e.checks) (violation_front e) false
 violation_spelled e w = violation_by_spelled e w e.checks refl

@@ -1,5 +1,7 @@
-use Rattle.verilog_reader.proofs.TextLemmas.{same_modules}
+use Rattle.rule_readers.proofs.TextLaws.{same_values}
+use Rattle.verilog_tokens.proofs.Padding.{same_tokens}
+use Rattle.specify_blocks.specs.VerilogText.{language}
 use Rattle.verilog_reader.proofs.laws.added_separators_change_no_module.Goals as goal
 
 pub returns : goal.returns
-returns c = same_modules c.args.text.now c.args.padded.now
+returns c h = same_values language c.args.text.now c.args.padded.now (same_tokens c.args.text.now c.args.padded.now h)

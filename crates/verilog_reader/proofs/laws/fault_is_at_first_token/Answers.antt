@@ -1,5 +1,6 @@
-use Rattle.verilog_reader.proofs.TextLemmas.{fault_at_first_token}
+use Rattle.rule_readers.proofs.TextLaws.{fault_at_first_token}
+use Rattle.specify_blocks.specs.VerilogText.{language}
 use Rattle.verilog_reader.proofs.laws.fault_is_at_first_token.Goals as goal
 
 pub returns : goal.returns
-returns c = fault_at_first_token c.args.text.now
+returns c = fault_at_first_token language c.args.text.now

@@ -1,0 +1,16 @@
+//! Laws of VHDL text: functions that do nothing, whose `ensures` holds of every text.
+
+ghost use Rattle.std.specs.Prelude.{false};
+ghost use Rattle.vhdl_tokens.specs.Separators.{Padded};
+ghost use Rattle.rule_readers.specs.TextLaws.{HaveSameValues, HasFaultAtFirstToken};
+ghost use Rattle.vhdl_text.specs.VhdlText.{language};
+
+/// Blanks, line ends and comments that are added between the tokens of a text change none of its entities.
+pub fn added_separators_change_no_entity(text: &[u8], padded: &[u8])
+    ensures { Padded false text.now padded.now → HaveSameValues language text.now padded.now }
+{}
+
+/// The token of a fault is the first with which the tokens so far are no front of a file.
+pub fn fault_is_at_first_token(text: &[u8])
+    ensures { HasFaultAtFirstToken language text.now }
+{}

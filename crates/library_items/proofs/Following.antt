@@ -1,9 +1,9 @@
 -- Going over the items of a library one after another.
-use Rattle.std.proofs.Common.{◌≡◌, ℕ, ◌+◌, ◌≤◌, Bool, true, false, List, [], ◌∷◌, ◌++◌, reverse, drop, length, Option, Some, None, Err, ◌⊎◌, inl, inr, refl, sym, ap, subst, ◌∙◌, append_assoc, arith}
-use Rattle.std.proofs.lemmas.List.{append-nil}
+use Rattle.std.proofs.Common.{◌≡◌, ℕ, ◌+◌, ◌≤◌, Bool, true, false, List, [], ◌∷◌, ◌++◌, reverse, take, drop, length, length-append, Option, Some, None, Err, ◌⊎◌, inl, inr, refl, sym, ap, subst, ◌∙◌, append_assoc, arith}
+use Rattle.std.proofs.lemmas.List.{append-nil, length-take}
 use Rattle.std.specs.Option.{option_map}
 use Rattle.text_io.specs.declared.slots.InSlot.TheVariants.{Library}
-use Rattle.text_io.specs.Desk.{DeskState, Rose}
+use Rattle.text_io.specs.Desk.{DeskState, Rose, StopsWithCause}
 use Rattle.cell_cursor.specs.declared.item.LibraryItem.{LibraryItem}
 use Rattle.cell_cursor.specs.declared.item.LibraryItem.TheVariants as item
 use Rattle.cell_cursor.specs.declared.cursor.Answer.{Answer}
@@ -13,13 +13,13 @@ use Rattle.cell_cursor.specs.declared.fault.CursorFault.TheVariants as fault
 use Rattle.cell_cursor.specs.Ends.{items_within, end_within}
 use Rattle.cell_cursor.specs.Stands.{Knows, Stands, Moves, is_ended, is_going}
 use Rattle.cell_cursor.proofs.StandsLemmas.{first_of_going}
+use Rattle.cell_cursor.proofs.Ascending.{items_few}
 use Rattle.cell_parts.specs.Groups.{cell_name}
 use Rattle.library_items.specs.declared.progress.Progress.{Progress}
 use Rattle.library_items.specs.declared.ending.Ending.{Ending}
 use Rattle.library_items.specs.declared.ending.Ending.TheVariants as ending
-use Rattle.library_items.specs.declared.stop.Stop.{Stop}
-use Rattle.library_items.specs.declared.stop.Stop.TheVariants as stops
-use Rattle.library_items.specs.Stops.{StopsWithCause}
+use Rattle.text_io.specs.declared.stop.Stop.{Stop}
+use Rattle.text_io.specs.declared.stop.Stop.TheVariants as stops
 use Rattle.library_items.specs.Progress.{next_refusal, entity_by, after_cell, after_item, progress_after}
 use Rattle.library_items.specs.Endings.{ending_by, ending_of}
 use Rattle.library_items.specs.Steps.{end_told, TellsEnd, IsAtEnd}
@@ -187,17 +187,29 @@ all_given limit left now next p q c d e all h m a t is =
     all_items limit left next (h.taken ++ m.taken) h.items d e all (m.stands h.taken h.items h.stands)
     (m.limit ∙ h.limit_is) (a h.at_end) (left_moved left now next h.taken m.taken h.rest m.takes) (front_moved left now next h.taken m.taken h.rest h.told m.takes) t is
 
+-- No more items were given than the limit has bytes: each has a byte of its own.
+pub few_given : (limit : ℕ) (left : Option (List ℕ)) (now : DeskState) (p q : Progress) (c : CellCursor) (h : Follows limit left now p q c) → length h.items ≤ limit
+unfolding items_within
+few_given limit left now p q c h =
+    let all = h.items ++ reverse c.waiting.items in
+    let known = first_known c.answer c h.taken [] all h.stands.known (λ ended. refl) in
+    let few = items_few (take c.limit (h.taken ++ [])) in
+    let short = length-take c.limit (h.taken ++ []) in
+    let first = length-append h.items (reverse c.waiting.items) in
+    let parts = length-append all known.0 in
+    let same = ap length known.1 in
+    omega (arith, few, short, first, parts, same, h.limit_is)
+
 -- where a read failed in a step, and none before it
 pub failed_now : (first old new : ℕ) (failed : Bool) → old ≡ first → failed ≡ false → (failed ≡ true) ⊎ Rose old new → Rose first new
 failed_now first old new failed same not w =
     elim w [ inl was ↦ absurd (let h : false ≡ true = sym not ∙ was in cc) | inr rose ↦ omega (arith, same, rose) ]
 
 -- a command that stops at a step, before which no fault was counted
-pub stops_at_step : {T : Type 0} (first old new : ℕ) (failed : Bool) (stop : Stop) → old ≡ first → failed ≡ false → old ≤ new →
-    (stop ≡ stops.Memory → failed ≡ false → new ≡ old) → (stop ≡ stops.Failed → (failed ≡ true) ⊎ Rose old new) → StopsWithCause {T = T} first new (Err stop)
+pub stops_at_step : (first old new : ℕ) (failed : Bool) (stop : Stop) → old ≡ first → failed ≡ false → old ≤ new →
+    (stop ≡ stops.Memory → failed ≡ false → new ≡ old) → (stop ≡ stops.Failed → (failed ≡ true) ⊎ Rose old new) → StopsWithCause {T = Ending} first new (Err stop)
 stops_at_step first old new failed stop same not later memory rises = record {
   later = omega arith;
-  kept = tt;
-  memory = λ e. memory e not ∙ same;
+  kept = λ e. memory e not ∙ same;
   failed = λ e. failed_now first old new failed same not (rises e);
 }

@@ -1,5 +1,5 @@
 -- The bytes that were taken of a library, and what is left of it.
-use Rattle.std.proofs.Common.{◌≡◌, ℕ, ◌+◌, List, [], ◌++◌, take, drop, length, Option, Some, None, Result, Ok, Err, IsErr, IfOk, IfSome, refl, sym, ap, ◌∙◌, length-append, length-drop, arith}
+use Rattle.std.proofs.Common.{◌≡◌, ℕ, ◌+◌, List, [], ◌++◌, take, drop, length, Option, Some, None, IfSome, refl, sym, ap, ◌∙◌, length-append, length-drop, arith}
 use Rattle.std.proofs.lemmas.List.{take-append-drop, drop_all, drop-drop}
 use Rattle.std.proofs.Math.Seq.{take-add}
 use Rattle.std.specs.Option.{option_map}
@@ -9,16 +9,6 @@ use Rattle.text_io.proofs.Took.{left_after}
 use Rattle.cell_cursor.specs.Taking.{Takes}
 use Rattle.cell_cursor.specs.Stands.{NothingLeft}
 use Rattle.library_items.specs.Reached.{IsFront}
-
--- each value that is there
-pub IfSome-each : {X : Type 0} (o : Option X) (P : X → Type 0) → ((x : X) → o ≡ Some x → P x) → IfSome o P
-IfSome-each None P f = tt
-IfSome-each (Some x) P f = f x refl
-
--- nothing is claimed of what an error gave
-pub IfOk-error : {T E : Type 0} (r : Result T E) (P : T → Type 0) → IsErr r → IfOk r P
-IfOk-error (Ok x) P e = absurd (cc)
-IfOk-error (Err y) P e = tt
 
 pub front-nil : (left : Option (List ℕ)) → IsFront left []
 front-nil None = tt

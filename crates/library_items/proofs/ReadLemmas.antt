@@ -2,8 +2,8 @@
 use Rattle.std.proofs.Common.{IfOk}
 use Rattle.std.specs.Prelude.{Vec}
 use Rattle.bool_functions.specs.NameList.{AreDistinct}
-use Rattle.cell_reader.specs.declared.library_cell.LibraryCell.{LibraryCell}
-use Rattle.cell_reader.specs.LibraryCells.{all_described, cell_names}
+use Rattle.library_items.specs.declared.library_cell.LibraryCell.{LibraryCell}
+use Rattle.library_items.specs.LibraryCells.{all_described, cell_names}
 use Rattle.library_items.specs.declared.ending.Ending.{Ending}
 use Rattle.library_items.specs.declared.ending.Ending.TheVariants as ending
 use Rattle.library_items.specs.KeptCells.{cells_by}

@@ -9,9 +9,9 @@ use Rattle.cell_cursor.specs.declared.item.LibraryItem.TheVariants as item
 use Rattle.cell_cursor.specs.Ends.{items_within}
 use Rattle.cell_parts.specs.Groups.{cell_name}
 use Rattle.cell_reader.specs.declared.refusal.Refusal.{Refusal}
-use Rattle.cell_reader.specs.declared.library_cell.LibraryCell.{LibraryCell}
-use Rattle.cell_reader.specs.LibraryCells.{CellEntry, Accepted, Refused, all_described}
-use Rattle.library_items.specs.declared.stop.Stop.{Stop}
+use Rattle.library_items.specs.declared.library_cell.LibraryCell.{LibraryCell}
+use Rattle.library_items.specs.LibraryCells.{CellEntry, Accepted, Refused, all_described}
+use Rattle.text_io.specs.declared.stop.Stop.{Stop}
 use Rattle.library_items.specs.declared.progress.Progress.{Progress}
 use Rattle.library_items.specs.declared.ending.Ending.{Ending}
 use Rattle.library_items.specs.declared.ending.Ending.TheVariants as ending

@@ -1,8 +1,10 @@
-pub mod Stops
+pub mod CellLines
 pub mod Progress
 pub mod Endings
 pub mod Steps
 pub mod NextCells
+pub mod LibraryCells
 pub mod KeptCells
+pub mod WrittenItems
 pub mod Reached
 pub mod Folds

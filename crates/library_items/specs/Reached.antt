@@ -4,14 +4,16 @@ use Rattle.std.specs.Option.{option_map}
 use Rattle.bool_functions.specs.NameList.{AreDistinct}
 use Rattle.text_io.specs.declared.slots.InSlot.TheVariants.{Library}
 use Rattle.text_io.specs.Desk.{DeskState, took}
-use Rattle.cell_reader.specs.LibraryCells.{CellEntry, cell_names}
+use Rattle.command_outcomes.specs.Written.{Written, wrote_all}
 use Rattle.cell_cursor.specs.declared.item.LibraryItem.{LibraryItem}
 use Rattle.cell_cursor.specs.declared.cursor.CellCursor.{CellCursor}
 use Rattle.cell_cursor.specs.Stands.{Stands}
 use Rattle.library_items.specs.declared.progress.Progress.{Progress}
 use Rattle.library_items.specs.Progress.{no_progress, progress_after}
 use Rattle.library_items.specs.Steps.{IsAtEnd}
+use Rattle.library_items.specs.LibraryCells.{CellEntry, cell_names}
 use Rattle.library_items.specs.KeptCells.{kept_cells}
+use Rattle.library_items.specs.WrittenItems.{written_for_all}
 
 -- these are the first of the bytes that are left, where the desk tells them
 abbrev pub IsFront : Option (List ℕ) → List ℕ → Type 0
@@ -29,10 +31,12 @@ pub record Follows (limit : ℕ) (left : Option (List ℕ)) (now : DeskState) (b
   pub rest : now.left Library ≡ option_map (drop (length taken)) left
   pub progress : after ≡ progress_after before items
 
--- These cells are kept of the items, and the desk is as after reading the bytes that the cursor has taken.
-pub record HasKept (limit : ℕ) (base now : DeskState) (progress : Progress) (cells : List CellEntry) (cursor : CellCursor) : Type 0 where
+-- So many items of the library were given: the desk is as after reading the bytes that the cursor has taken and writing all that is
+-- written for the items, and this is made of the cells that are kept of them.
+pub record HasFolded (each : Progress → LibraryItem → Written) (Made : List CellEntry → Type 0) (limit : ℕ) (base now : DeskState) (progress : Progress) (count : ℕ) (cursor : CellCursor) : Type 0 where
   pub follows : Follows limit (base.left Library) now no_progress progress cursor
-  pub state : now ≡ took base Library (length follows.taken)
-  pub kept : cells ≡ kept_cells no_progress follows.items
-  pub names : cell_names cells ≡ progress.names
+  pub counted : length follows.items ≡ count
+  pub state : now ≡ wrote_all (took base Library (length follows.taken)) (written_for_all each no_progress follows.items)
+  pub made : Made (kept_cells no_progress follows.items)
+  pub names : cell_names (kept_cells no_progress follows.items) ≡ progress.names
   pub own : AreDistinct progress.names

@@ -7,7 +7,7 @@ use Rattle.cell_cursor.specs.declared.cursor.Answer.TheVariants as answer
 use Rattle.cell_cursor.specs.declared.cursor.CellCursor.{CellCursor}
 use Rattle.cell_cursor.specs.declared.fault.CursorFault.TheVariants as fault
 use Rattle.cell_cursor.specs.Stands.{Moves, IsSettled, is_ended, NothingLeft}
-use Rattle.library_items.specs.declared.stop.Stop.{Stop}
+use Rattle.text_io.specs.declared.stop.Stop.{Stop}
 use Rattle.library_items.specs.declared.ending.Ending.{Ending}
 use Rattle.library_items.specs.declared.ending.Ending.TheVariants as ending
 use Rattle.library_items.specs.declared.step.Step.{Step}

@@ -3,21 +3,20 @@ ghost use Rattle.std.specs.Prelude.{◌≡◌, IsTrue, IfOk};
 ghost use Rattle.bool_functions.specs.NameList.{AreDistinct};
 ghost use Rattle.text_io.specs.declared.slots.Slot.TheVariants.{Input};
 ghost use Rattle.text_io.specs.declared.slots.InSlot.TheVariants.{Library};
-ghost use Rattle.text_io.specs.Desk.{is_bound};
-ghost use Rattle.cell_reader.specs.LibraryCells.{all_described, cell_names};
-ghost use Rattle.library_items.specs.Stops.{StopsWithCause};
+ghost use Rattle.text_io.specs.Desk.{is_bound, StopsWithCause};
+ghost use Rattle.library_items.specs.LibraryCells.{all_described, cell_names};
+ghost use Rattle.library_items.specs.Endings.{library_limit};
 ghost use Rattle.library_items.specs.KeptCells.{cells_by, ReadsCells};
 
 use crate::ending::{Ending, NotWhole};
 use crate::fold::{CellFold, fold_cells};
+use crate::library_cell::LibraryCell;
 use crate::next::NextCell;
-use crate::stop::Stop;
 use cell_parts::groups::cell_name;
-use cell_reader::LibraryCell;
 use liberty_groups::Group;
 use sqlite_items::Items;
 use std::alloc::Global;
-use text_io::Desk;
+use text_io::{Desk, Stop};
 
 /// The cells, in order.
 impl CellFold for Vec<LibraryCell> {
@@ -50,21 +49,20 @@ fn cells_by(ending: Ending, cells: Vec<LibraryCell>) -> Result<Vec<LibraryCell>,
     }
 }
 
-/// Reads the cells of the library that is bound, where it is a library text of at most so many bytes. Of cells of one name the
-/// first is kept. Nothing is written, and of the library's text only the statement that has not ended is held.
+/// Reads the cells of the library that is bound, where it is a library text of at most `LIBRARY_LIMIT` bytes. Of cells of one name
+/// the first is kept. Nothing is written, and of the library's text only the statement that has not ended is held.
 ///
-/// Faults: `Failed` where a read failed, `Memory`, also where the library has 2 to the 31st items.
+/// Faults: `Failed` where a read failed, `Memory`.
 pub fn read_cells<D: Desk>(
     alloc: Global,
     desk: &mut D,
-    limit: usize,
 ) -> Result<Result<Vec<LibraryCell>, NotWhole>, Stop>
     requires { IsTrue (is_bound (D.state desk.old) (Input Library)) }
-    ensures cells { ReadsCells limit (D.state desk.old) (D.state desk.new) result }
+    ensures cells { ReadsCells library_limit (D.state desk.old) (D.state desk.new) result }
     ensures own { IfOk result (λ answer. IfOk answer (λ cells. AreDistinct (cell_names (all_described cells.items)))) }
     ensures cause { StopsWithCause (D.faults desk.old) (D.faults desk.new) result }
 {
     let mut cells = Vec::new(alloc);
-    let ending = fold_cells(alloc, desk, limit, &mut cells)?;
+    let ending = fold_cells(alloc, desk, &mut cells)?;
     Ok(cells_by(ending, cells))
 }

@@ -1,13 +1,16 @@
 //! The next cell of a library.
-ghost use Rattle.std.specs.Prelude.{◌≡◌, ◌+◌, ◌<◌, ◌^◌, IfOk, IfErr};
+ghost use Rattle.std.specs.Prelude.{◌≡◌, ◌+◌, ◌<◌, ◌^◌, IfOk, IfErr, OnOk};
+ghost use Rattle.cell_cursor.specs.declared.item.LibraryItem.TheVariants as item;
+ghost use Rattle.library_items.specs.Progress.{after_item};
 ghost use Rattle.library_items.specs.NextCells.{IsNext};
 
 use crate::progress::Progress;
-use crate::stop::Stop;
+use cell_parts::groups::cell_name;
 use cell_reader::{CellFault, ReadCell, Refusal, read_cell};
 use liberty_groups::Group;
 use sqlite_items::Items;
 use std::alloc::Global;
+use text_io::Stop;
 use vital_models::entity_name;
 
 /// The next cell of a library, or why it is refused.
@@ -25,7 +28,7 @@ pub enum NextCell {
 }
 
 /// Reads the group of the next cell. It stops only where memory is wanting.
-pub fn next_cell(alloc: Global, progress: &Progress, group: &Group) -> Result<NextCell, Stop>
+pub(crate) fn next_cell(alloc: Global, progress: &Progress, group: &Group) -> Result<NextCell, Stop>
     requires { progress.now.accepted + progress.now.refused + 1 < 2 ^ 64 }
     ensures next { IfOk result (λ next. IsNext progress.now group.now next) }
     ensures memory { IfErr result (λ stop. stop ≡ Stop.Memory) }
@@ -39,4 +42,26 @@ pub fn next_cell(alloc: Global, progress: &Progress, group: &Group) -> Result<Ne
         Err(CellFault::Refused(refusal)) => Ok(NextCell::Refused(refusal)),
         Err(CellFault::Memory) => Err(Stop::Memory),
     }
+}
+
+/// Counts the next cell, which was read so of its group. It stops only where memory is wanting.
+pub(crate) fn count_cell(
+    alloc: Global,
+    progress: &mut Progress,
+    group: &Group,
+    next: &NextCell,
+) -> Result<(), Stop>
+    requires next { IsNext progress.old group.now next.now }
+    requires few { progress.old.accepted + progress.old.refused + 1 < 2 ^ 64 }
+    ensures counted { OnOk result (progress.new ≡ after_item progress.old (item.Cell group.now)) }
+    ensures memory { IfErr result (λ stop. stop ≡ Stop.Memory) }
+{
+    let name = cell_name(group);
+    match next {
+        NextCell::Accepted { entity, .. } => {
+            progress.count_accepted(alloc, name, entity.as_slice())?
+        }
+        NextCell::Refused(_) => progress.count_refused(name)?,
+    }
+    Ok(())
 }

@@ -2,10 +2,10 @@
 ghost use Rattle.std.specs.Prelude.{◌≡◌, ◌+◌, ◌<◌, ◌^◌, IfErr, OnOk, Some, None};
 ghost use Rattle.library_items.specs.Progress.{unit_of, no_progress, next_number, names_with, after_cell};
 
-use crate::stop::Stop;
 use bool_functions::Names;
 use liberty_text::Unit;
 use std::alloc::{AllocError, Global};
+use text_io::Stop;
 
 /// What counts for the items of a library that come next.
 #[derive(Drop)]
@@ -23,7 +23,7 @@ pub struct Progress {
 }
 
 /// The unit of time that a text names.
-pub fn unit_of(text: &[u8]) -> Option<Unit>
+pub(crate) fn unit_of(text: &[u8]) -> Option<Unit>
     ensures { result ≡ unit_of text.now }
 {
     if text == b"1ns".as_slice() {
@@ -62,7 +62,7 @@ impl Progress {
     }
 
     /// Counts a cell that was refused. `AllocError` comes only where memory is wanting.
-    pub fn count_refused(&mut self, name: &[u8]) -> Result<(), AllocError>
+    pub(crate) fn count_refused(&mut self, name: &[u8]) -> Result<(), AllocError>
         requires { self.old.accepted + self.old.refused + 1 < 2 ^ 64 }
         ensures { OnOk result (self.new ≡ after_cell self.old name.now None) }
     {
@@ -72,7 +72,12 @@ impl Progress {
     }
 
     /// Counts a cell that was accepted, and whose entity has this name. It stops only where memory is wanting.
-    pub fn count_accepted(&mut self, alloc: Global, name: &[u8], entity: &[u8]) -> Result<(), Stop>
+    pub(crate) fn count_accepted(
+        &mut self,
+        alloc: Global,
+        name: &[u8],
+        entity: &[u8],
+    ) -> Result<(), Stop>
         requires { self.old.accepted + self.old.refused + 1 < 2 ^ 64 }
         ensures counted { OnOk result (self.new ≡ after_cell self.old name.now (Some entity.now)) }
         ensures memory { IfErr result (λ stop. stop ≡ Stop.Memory) }

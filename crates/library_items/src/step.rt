@@ -7,13 +7,12 @@ ghost use Rattle.cell_cursor.specs.Stands.{is_going, is_failed};
 ghost use Rattle.library_items.specs.Steps.{Steps};
 
 use crate::ending::Ending;
-use crate::stop::Stop;
 use cell_cursor::{CellCursor, CursorFault, LibraryItem, Next};
-use text_io::Desk;
+use text_io::{Desk, Stop};
 
 /// What comes next in a library.
-#[derive(Debug, Drop)]
-pub enum Step {
+#[derive(Drop)]
+pub(crate) enum Step {
     /// An item.
     Item(LibraryItem),
     /// Its end.
@@ -23,7 +22,7 @@ pub enum Step {
 /// Takes what comes next in the library that is bound.
 ///
 /// Faults: `Failed` where a read failed, `Memory`.
-pub fn next_step<D: Desk>(cursor: &mut CellCursor, desk: &mut D) -> Result<Step, Stop>
+pub(crate) fn next_step<D: Desk>(cursor: &mut CellCursor, desk: &mut D) -> Result<Step, Stop>
     requires { IsTrue (is_bound (D.state desk.old) (Input Library)) }
     ensures steps { Steps cursor.old cursor.new (D.state desk.old) (D.state desk.new) result }
     ensures kept { is_going cursor.old.answer ≡ false → cursor.new.answer ≡ cursor.old.answer }

@@ -5,7 +5,8 @@ use Rattle.liberty_groups.specs.declared.fault.Expected.TheVariants as expected
 use Rattle.liberty_groups.specs.declared.fault.LibraryFault.TheVariants as fault
 use Rattle.cell_reader.specs.declared.refusal.Reason.TheVariants as reason
 use Rattle.command_outcomes.specs.Refusals.{refusal_text}
-use Rattle.library_report.specs.CellLines.{cell_text, printed_name, accepted_line, refused_line, totals_line}
+use Rattle.library_items.specs.CellLines.{printed_name}
+use Rattle.library_report.specs.CellLines.{cell_text, accepted_line, refused_line, totals_line}
 use Rattle.library_report.specs.LeftOutLines.{left_out_line}
 use Rattle.library_report.specs.FaultLines.{library_fault_line}
 

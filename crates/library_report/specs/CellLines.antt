@@ -1,18 +1,8 @@
 -- The lines of the report on the cells of a library (this project's format). Cells are numbered from 1 by their place
 -- among all cells of the library.
-use Rattle.std.specs.Prelude.{ℕ, List, ◌++◌, codes, decimal, if◌then◌else◌}
-use Rattle.cell_machine.specs.CellRules.{is_name}
+use Rattle.std.specs.Prelude.{ℕ, List, ◌++◌, codes, decimal}
 use Rattle.cell_reader.specs.declared.refusal.Refusal.{Refusal}
-use Rattle.cell_reader.specs.ReasonWords.{number_of_reason, word_of_reason}
-use Rattle.command_outcomes.specs.Refusals.{refusal_text}
-
--- a name as the report shows it: one that no cell may bear, for its length or a byte of it, is a question mark
-unfoldable pub printed_name : List ℕ → List ℕ
-printed_name name = if is_name name then name else codes "?"
-
--- the end of a line on a cell that is refused, with the offset of the statement or group that meets the reason
-abbrev pub refusal_line : Refusal → List ℕ
-refusal_line refusal = refusal_text (number_of_reason refusal.reason) (word_of_reason refusal.reason) refusal.at
+use Rattle.library_items.specs.CellLines.{printed_name, refusal_line}
 
 -- the front of a line on a cell: its number and its name
 unfoldable pub cell_text : ℕ → List ℕ → List ℕ

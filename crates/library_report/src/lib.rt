@@ -7,6 +7,6 @@ mod fault_words;
 mod faults;
 mod left_out;
 
-pub use cells::{PrintedName, RefusalLine, write_accepted_cell, write_refused_cell, write_totals};
+pub use cells::{write_accepted_cell, write_refused_cell, write_totals};
 pub use faults::{write_library_fault, write_library_too_long};
 pub use left_out::{write_left_out_file, write_left_out_groups};

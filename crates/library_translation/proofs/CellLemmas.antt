@@ -1,5 +1,5 @@
 -- The next cell of a library.
-use Rattle.std.proofs.Common.{◌≡◌, ℕ, List, Some, None, refl, subst, ◌∙◌, ap}
+use Rattle.std.proofs.Common.{◌≡◌, ℕ, List, Some, subst, ◌∙◌, ap}
 use Rattle.liberty_groups.specs.declared.tree.Group.{Group}
 use Rattle.cell_machine.specs.CellData.{data_of}
 use Rattle.cell_reader.specs.declared.refusal.Refusal.{Refusal}
@@ -7,7 +7,7 @@ use Rattle.cell_reader.specs.declared.read.ReadCell.{ReadCell}
 use Rattle.cell_parts.specs.Groups.{cell_name}
 use Rattle.library_report.specs.CellLines.{refused_line}
 use Rattle.library_items.specs.declared.progress.Progress.{Progress}
-use Rattle.library_items.specs.Progress.{next_number, next_refusal, next_data, next_entity, entity_by}
+use Rattle.library_items.specs.Progress.{next_number, next_refusal, next_data, next_entity}
 use Rattle.library_items.specs.NextCells.{IsAcceptedNext, IsNext}
 use Rattle.library_items.specs.declared.next.NextCell.{NextCell}
 use Rattle.library_items.specs.declared.next.NextCell.TheVariants as next
@@ -24,10 +24,6 @@ pub refused_of : (p : Progress) (group : Group) (found : NextCell) (refusal : Re
 refused_of p group found refusal e h = subst (IsNext p group) e h
 
 -- nothing refuses the next cell
-pub entity_by_as : (p : Progress) (group : Group) (read : ReadCell) (entity : List ℕ) → IsAcceptedNext p group read entity
-    → Some entity ≡ entity_by p group (next_refusal p group)
-entity_by_as p group read entity h = rw h.unrefused (ap Some h.same_entity)
-
 pub accepted_written_as : (p : Progress) (group : Group) (read : ReadCell) (entity : List ℕ) → IsAcceptedNext p group read entity
     → accepted_written entity (data_of read.cell) read.left_out group ≡ written_by p group (next_refusal p group)
 accepted_written_as p group read entity h =
@@ -41,6 +37,3 @@ pub refused_written_as : (p : Progress) (group : Group) (number : ℕ) (name : L
     → in_report (refused_line number name refusal) ≡ written_by p group (next_refusal p group)
 refused_written_as p group number name refusal n m e =
     rw e (ap (λ k. in_report (refused_line k name refusal)) n ∙ ap (λ t. in_report (refused_line (next_number p) t refusal)) m)
-
-pub no_entity_as : (p : Progress) (group : Group) (refusal : Refusal) → next_refusal p group ≡ Some refusal → None ≡ entity_by p group (next_refusal p group)
-no_entity_as p group refusal e = rw e refl

@@ -12,7 +12,7 @@ use Rattle.command_outcomes.specs.Written.{in_report, wrote_all}
 use Rattle.library_translation.specs.Library.{last_line, fault_line, status_at, Finishes}
 use Rattle.command_outcomes.proofs.WrittenLaws.{wrote_all-nothing, wrote_all-report}
 use Rattle.command_outcomes.proofs.RunsLaws.{nothing}
-use Rattle.library_translation.proofs.Claims.{IfOk-err}
+use Rattle.library_items.proofs.Claims.{IfOk-err}
 
 -- a stop within the last line
 pub last_stops : {S : Type 0} (old new : DeskState) (p : Progress) (end : Ending) (y : Failed) (r : Result Status Failed)

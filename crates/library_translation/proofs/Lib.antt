@@ -1,8 +1,6 @@
 pub mod CellLemmas
 pub mod TestLineTexts
-pub mod ItemTexts
 pub mod ModelsLemmas
-pub mod Claims
 pub mod TranslateLemmas
 pub mod LastLines
 pub mod ItemsLemmas

@@ -22,7 +22,7 @@ use Rattle.library_translation.specs.Models.{HoldsModels}
 use Rattle.library_translation.proofs.ModelsLemmas.{no_model_owed}
 use Rattle.command_outcomes.proofs.WrittenLaws.{wrote_all-nothing, IsPart-nothing}
 use Rattle.command_outcomes.proofs.RunsLaws.{nothing}
-use Rattle.library_translation.proofs.Claims.{OnOk-err}
+use Rattle.library_items.proofs.Claims.{OnOk-err}
 
 -- Binding.
 

@@ -8,22 +8,23 @@ use Rattle.text_io.proofs.Wrote.{wrote-nil}
 use Rattle.text_io.proofs.Took.{took-zero}
 use Rattle.verilog_writer.specs.Model.{prelude_text}
 use Rattle.command_outcomes.specs.declared.status.Status.{Status}
-use Rattle.library_items.specs.declared.stop.Stop.{Stop}
+use Rattle.text_io.specs.declared.stop.Stop.{Stop}
 use Rattle.library_items.specs.declared.progress.Progress.{Progress}
 use Rattle.cell_cursor.specs.declared.item.LibraryItem.{LibraryItem}
 use Rattle.cell_cursor.specs.Ends.{items_within}
 use Rattle.library_items.specs.declared.ending.Ending.{Ending}
 use Rattle.command_outcomes.specs.Written.{Written, in_verilog, in_report, joined, IsPart, wrote_all}
 use Rattle.library_items.specs.Progress.{no_progress, progress_after}
-use Rattle.library_translation.specs.Cells.{items_written}
+use Rattle.library_items.specs.WrittenItems.{HoldsCells}
+use Rattle.library_translation.specs.Cells.{item_written, items_written}
 use Rattle.command_outcomes.specs.Outcome.{IsPartOf, IsAllOf}
 use Rattle.library_items.specs.Endings.{library_limit}
 use Rattle.library_translation.specs.Library.{last_line, fault_line, status_at, outcome_at, translate_outcome, IsHandled, Handles, IsFinished, Finishes, Translates}
-use Rattle.library_translation.specs.Models.{HoldsCells, HoldsModels}
+use Rattle.library_translation.specs.Models.{HoldsModels}
 use Rattle.library_translation.proofs.ModelsLemmas.{no_model_owed, behind_prelude, with_more}
 use Rattle.command_outcomes.proofs.WrittenLaws.{wrote_all-joined, wrote_all-verilog, took-wrote_all, IsPart-after, IsPart-front}
 use Rattle.command_outcomes.proofs.RunsLaws.{nothing}
-use Rattle.library_translation.proofs.Claims.{IfSome-always, IfSome-map, IfOk-err}
+use Rattle.library_items.proofs.Claims.{IfSome-always, IfSome-map, IfOk-err}
 
 prelude_part : (items : List LibraryItem) (end : Ending) (part : List ℕ) → IsPrefix part prelude_text
     → IsPartOf (in_verilog part) [] (outcome_at items end)
@@ -75,16 +76,16 @@ items_part items end text h = record {
 
 -- the cells that are written whole, behind the prelude
 models_behind : (old now : DeskState) (before : Progress) (taken : ℕ) (text : Written) → now ≡ wrote old VerilogText prelude_text → before ≡ no_progress
-    → IfSome (now.left Library) (λ bytes. HoldsCells before bytes taken text)
+    → IfSome (now.left Library) (λ bytes. HoldsCells item_written before bytes taken text)
     → IfSome (old.left Library) (λ bytes. HoldsModels bytes taken (joined (in_verilog prelude_text) text))
 models_behind old now before taken text first fresh held =
     let cells = rw (left_behind old now prelude_text first, fresh) at held in
-    IfSome-map (old.left Library) (λ bytes. HoldsCells no_progress bytes taken text) (λ bytes. HoldsModels bytes taken (joined (in_verilog prelude_text) text))
+    IfSome-map (old.left Library) (λ bytes. HoldsCells item_written no_progress bytes taken text) (λ bytes. HoldsModels bytes taken (joined (in_verilog prelude_text) text))
     (λ bytes. behind_prelude bytes taken text) cells
 
 -- and before the last line
 models_before : (old now : DeskState) (before : Progress) (taken : ℕ) (text last : Written) → now ≡ wrote old VerilogText prelude_text → before ≡ no_progress
-    → IfSome (now.left Library) (λ bytes. HoldsCells before bytes taken text)
+    → IfSome (now.left Library) (λ bytes. HoldsCells item_written before bytes taken text)
     → IfSome (old.left Library) (λ bytes. HoldsModels bytes taken (joined (joined (in_verilog prelude_text) text) last))
 models_before old now before taken text last first fresh held =
     IfSome-map (old.left Library) (λ bytes. HoldsModels bytes taken (joined (in_verilog prelude_text) text))

@@ -1,5 +1,5 @@
 -- What becomes of one item of a library: the two models of a cell and the lines of the report. This project's rules.
-use Rattle.std.specs.Prelude.{ℕ, List, [], ◌∷◌, ◌++◌, Option, Some, None, IsTrue}
+use Rattle.std.specs.Prelude.{ℕ, List, [], ◌++◌, Option, Some, None, IsTrue}
 use Rattle.std.specs.Option.{option_map}
 use Rattle.text_io.specs.declared.slots.OutSlot.TheVariants.{VerilogText, VitalText}
 use Rattle.text_io.specs.declared.slots.Slot.TheVariants.{Output}
@@ -22,9 +22,9 @@ use Rattle.library_report.specs.CellLines.{accepted_line, refused_line}
 use Rattle.library_report.specs.LeftOutLines.{left_out_lines, left_out_file_line}
 use Rattle.library_items.specs.declared.progress.Progress.{Progress}
 use Rattle.cell_cursor.specs.declared.item.LibraryItem.{LibraryItem}
-use Rattle.cell_cursor.specs.declared.item.LibraryItem.TheVariants as item
-use Rattle.command_outcomes.specs.Written.{Written, nothing_written, in_verilog, in_vital, in_report, joined}
-use Rattle.library_items.specs.Progress.{next_number, next_refusal, next_data, next_left_out, next_entity, after_item}
+use Rattle.command_outcomes.specs.Written.{Written, in_verilog, in_vital, in_report, joined}
+use Rattle.library_items.specs.Progress.{next_number, next_refusal, next_data, next_left_out, next_entity}
+use Rattle.library_items.specs.WrittenItems.{written_for, written_for_all}
 
 -- both model files are bound
 pub record ModelsAreBound (s : DeskState) : Type 0 where
@@ -67,13 +67,14 @@ abbrev pub written_by : Progress → Group → Option Refusal → Written
 written_by p group None = accepted_written (next_entity p group) (next_data p group) (next_left_out p group) group
 written_by p group (Some refusal) = in_report (refused_line (next_number p) (cell_name group) refusal)
 
+-- what is written for the next cell
+abbrev pub cell_written : Progress → Group → Written
+cell_written p group = written_by p group (next_refusal p group)
+
 -- what is written for an item
 abbrev pub item_written : Progress → LibraryItem → Written
-item_written p (item.Cell group) = written_by p group (next_refusal p group)
-item_written p (item.Unit line) = nothing_written
-item_written p (item.LeftOut at) = in_report left_out_file_line
+item_written = written_for cell_written (in_report left_out_file_line)
 
 -- what is written for these items, one after another
 abbrev pub items_written : Progress → List LibraryItem → Written
-items_written p [] = nothing_written
-items_written p (one ∷ items) = joined (item_written p one) (items_written (after_item p one) items)
+items_written = written_for_all item_written

@@ -1,5 +1,4 @@
 pub mod Cells
 pub mod Models
 pub mod Library
-pub mod Reached
 pub mod Runs

@@ -10,7 +10,7 @@ use Rattle.library_report.specs.CellLines.{totals_line}
 use Rattle.library_report.specs.FaultLines.{library_fault_line, library_too_long_line}
 use Rattle.command_outcomes.specs.declared.status.Status.{Status}
 use Rattle.command_outcomes.specs.declared.status.Status.TheVariants as status
-use Rattle.library_items.specs.declared.stop.Stop.{Stop}
+use Rattle.text_io.specs.declared.stop.Stop.{Stop}
 use Rattle.library_items.specs.declared.progress.Progress.{Progress}
 use Rattle.cell_cursor.specs.declared.item.LibraryItem.{LibraryItem}
 use Rattle.library_items.specs.declared.ending.Ending.{Ending}
@@ -19,8 +19,9 @@ use Rattle.command_outcomes.specs.Outcome.{Outcome, IsPartOf, IsAllOf}
 use Rattle.command_outcomes.specs.Written.{Written, in_verilog, in_report, joined, IsPart, wrote_all}
 use Rattle.library_items.specs.Progress.{no_progress, progress_after}
 use Rattle.library_items.specs.Endings.{library_limit, ending_of}
-use Rattle.library_translation.specs.Cells.{items_written}
-use Rattle.library_translation.specs.Models.{HoldsCells, HoldsModels}
+use Rattle.library_items.specs.WrittenItems.{HoldsCells}
+use Rattle.library_translation.specs.Cells.{item_written, items_written}
+use Rattle.library_translation.specs.Models.{HoldsModels}
 
 -- the line behind those of the cells, where the library was read to its end
 abbrev pub last_line : Ending → Progress → List ℕ
@@ -68,7 +69,7 @@ pub record Handles (limit : ℕ) (old new : DeskState) (before after : Progress)
   pub text : Written
   pub state : new ≡ wrote_all (took old Library taken) text
   pub part : IfSome (old.left Library) (λ bytes. IsPart text (items_written before (items_within limit bytes)))
-  pub cells : IfSome (old.left Library) (λ bytes. HoldsCells before bytes taken text)
+  pub cells : IfSome (old.left Library) (λ bytes. HoldsCells item_written before bytes taken text)
   pub whole : IfOk result (λ ending. IfSome (old.left Library) (λ bytes. IsHandled limit bytes before after text ending))
 
 -- all that stands behind the items was written, and the status is that of the end

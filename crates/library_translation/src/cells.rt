@@ -1,26 +1,20 @@
-//! One cell of a library: its models and its lines.
-ghost use Rattle.std.specs.Prelude.{◌≡◌, ◌+◌, ◌<◌, ◌^◌, IsTrue, IfOk, IfErr, OnOk};
+//! One accepted cell of a library: its models and its lines.
+ghost use Rattle.std.specs.Prelude.{IsTrue};
 ghost use Rattle.text_io.specs.declared.slots.Slot.TheVariants.{Output};
 ghost use Rattle.text_io.specs.declared.slots.OutSlot.TheVariants.{VerilogText, VitalText, Report};
-ghost use Rattle.text_io.specs.Desk.{is_bound, HasCause, WritesText};
+ghost use Rattle.text_io.specs.Desk.{is_bound, HasCause, StopsWithCause, WritesText};
 ghost use Rattle.cell_machine.specs.CellData.{data_of};
-ghost use Rattle.cell_cursor.specs.declared.item.LibraryItem.TheVariants as item;
 ghost use Rattle.command_outcomes.specs.Written.{Writes, in_verilog, in_vital};
-ghost use Rattle.library_items.specs.Stops.{StopsWithCause};
-ghost use Rattle.library_items.specs.Progress.{next_refusal, entity_by, after_item};
-ghost use Rattle.library_translation.specs.Cells.{ModelsAreBound, model_text, vital_text, models_written, accepted_lines, accepted_written, written_by};
+ghost use Rattle.library_translation.specs.Cells.{ModelsAreBound, model_text, vital_text, models_written, accepted_lines, accepted_written};
 
 use crate::test_lines::write_test;
 use cell_machine::Cell;
-use cell_parts::groups::cell_name;
 use cell_reader::ReadCell;
 use liberty_groups::Group;
-use library_items::{NextCell, Progress, Stop, next_cell};
-use library_report::{write_accepted_cell, write_left_out_groups, write_refused_cell};
+use library_report::{write_accepted_cell, write_left_out_groups};
 use specify_blocks::verilog_model;
-use sqlite_items::Items;
 use std::alloc::Global;
-use text_io::{Desk, Failed};
+use text_io::{Desk, Failed, Stop};
 use verilog_writer::write_model;
 use vhdl_writer::write_entity;
 use vital_models::vital_model;
@@ -86,7 +80,7 @@ fn write_lines<D: Desk>(desk: &mut D, read: &ReadCell) -> Result<(), Failed>
 /// Writes the models of an accepted cell, whose entity has this name, its report lines, and the line on the test cell of its
 /// group.
 #[tactic(auto, unfolding(crate::specs::Cells::accepted_written))]
-fn write_accepted<D: Desk>(
+pub(crate) fn write_accepted<D: Desk>(
     alloc: Global,
     desk: &mut D,
     read: &ReadCell,
@@ -100,48 +94,4 @@ fn write_accepted<D: Desk>(
     write_models(alloc, desk, &read.cell, entity)?;
     write_lines(desk, read)?;
     write_test(alloc, desk, &read.cell, group)
-}
-
-/// Writes what becomes of the next cell, and answers the name of its entity where it was accepted.
-pub(crate) fn write_cell<D: Desk>(
-    alloc: Global,
-    desk: &mut D,
-    progress: &Progress,
-    group: &Group,
-) -> Result<Option<Items<u8>>, Stop>
-    requires models { ModelsAreBound (D.state desk.old) }
-    requires room { progress.now.accepted + progress.now.refused + 1 < 2 ^ 64 }
-    ensures text { Writes (D.state desk.old) (D.state desk.new) (written_by progress.now group.now (next_refusal progress.now group.now)) result }
-    ensures entity { IfOk result (λ entity. entity ≡ entity_by progress.now group.now (next_refusal progress.now group.now)) }
-    ensures cause { StopsWithCause (D.faults desk.old) (D.faults desk.new) result }
-{
-    match next_cell(alloc, progress, group)? {
-        NextCell::Accepted { read, entity } => {
-            write_accepted(alloc, desk, &read, entity.as_slice(), group)?;
-            Ok(Some(entity))
-        }
-        NextCell::Refused(refusal) => {
-            write_refused_cell(desk, progress.next_number(), cell_name(group), &refusal)?;
-            Ok(None)
-        }
-    }
-}
-
-/// Counts the next cell, whose entity has this name where it was accepted. It stops only where memory is wanting.
-pub(crate) fn count_cell(
-    alloc: Global,
-    progress: &mut Progress,
-    group: &Group,
-    entity: Option<Items<u8>>,
-) -> Result<(), Stop>
-    requires entity { entity ≡ entity_by progress.old group.now (next_refusal progress.old group.now) }
-    requires room { progress.old.accepted + progress.old.refused + 1 < 2 ^ 64 }
-    ensures counted { OnOk result (progress.new ≡ after_item progress.old (item.Cell group.now)) }
-    ensures memory { IfErr result (λ stop. stop ≡ Stop.Memory) }
-{
-    match entity {
-        Some(entity) => progress.count_accepted(alloc, cell_name(group), entity.as_slice())?,
-        None => progress.count_refused(cell_name(group))?,
-    }
-    Ok(())
 }

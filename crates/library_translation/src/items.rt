@@ -1,47 +1,57 @@
-//! The items of a library, one after another.
-ghost use Rattle.std.specs.Prelude.{◌≡◌, ◌+◌, ◌<◌, ◌^◌, IsTrue, OnOk};
+//! The items of a library, one after another: what is written for each.
+ghost use Rattle.std.specs.Prelude.{◌≡◌, [], ◌∷◌, IsTrue};
 ghost use Rattle.text_io.specs.declared.slots.Slot.TheVariants.{Input};
 ghost use Rattle.text_io.specs.declared.slots.InSlot.TheVariants.{Library};
-ghost use Rattle.text_io.specs.Desk.{is_bound};
-ghost use Rattle.command_outcomes.specs.Written.{Writes};
-ghost use Rattle.library_items.specs.Stops.{StopsWithCause};
-ghost use Rattle.library_items.specs.Progress.{after_item};
-ghost use Rattle.library_translation.specs.Cells.{ModelsAreBound, item_written};
+ghost use Rattle.text_io.specs.declared.slots.OutSlot.TheVariants.{VerilogText, VitalText};
+ghost use Rattle.text_io.specs.Desk.{is_bound, StopsWithCause};
+ghost use Rattle.command_outcomes.specs.Written.{in_report};
+ghost use Rattle.library_report.specs.LeftOutLines.{left_out_file_line};
+ghost use Rattle.library_items.specs.Endings.{library_limit};
+ghost use Rattle.library_items.specs.Progress.{no_progress};
+ghost use Rattle.library_translation.specs.Cells.{ModelsAreBound, cell_written};
 ghost use Rattle.library_translation.specs.Library.{Handles};
 
-use crate::cells::{count_cell, write_cell};
-use cell_cursor::{CellCursor, LibraryItem};
-use library_items::{Ending, Progress, Step, Stop, next_step, unit_of};
-use library_report::write_left_out_file;
+use crate::cells::write_accepted;
+use cell_parts::groups::cell_name;
+use liberty_groups::Group;
+use library_items::{Ending, ItemWriter, NextCell, NothingKept, Progress, fold_items};
+use library_report::{write_left_out_file, write_refused_cell};
 use std::alloc::Global;
-use text_io::Desk;
+use text_io::{Desk, Stop};
 
-/// Writes what becomes of an item of a library, and counts it.
-fn handle_item<D: Desk>(
-    alloc: Global,
-    desk: &mut D,
-    progress: &mut Progress,
-    item: &LibraryItem,
-) -> Result<(), Stop>
-    requires models { ModelsAreBound (D.state desk.old) }
-    requires room { progress.old.accepted + progress.old.refused + 1 < 2 ^ 64 }
-    ensures text { Writes (D.state desk.old) (D.state desk.new) (item_written progress.old item.now) result }
-    ensures progress { OnOk result (progress.new ≡ after_item progress.old item.now) }
-    ensures cause { StopsWithCause (D.faults desk.old) (D.faults desk.new) result }
-{
-    match item {
-        LibraryItem::Cell(group) => {
-            let entity = write_cell(alloc, desk, progress, group)?;
-            count_cell(alloc, progress, group, entity)
+/// The models of the cells, and the lines of the report.
+#[derive(Drop)]
+struct CellModels;
+
+impl ItemWriter for CellModels {
+    ghost outputs = { VerilogText ∷ VitalText ∷ [] };
+
+    ghost for_cell = { cell_written };
+
+    ghost for_left_out = { in_report left_out_file_line };
+
+    fn write_cell<D: Desk>(
+        &self,
+        alloc: Global,
+        desk: &mut D,
+        progress: &Progress,
+        group: &Group,
+        next: &NextCell,
+    ) -> Result<(), Stop> {
+        match next {
+            NextCell::Accepted { read, entity } => {
+                write_accepted(alloc, desk, read, entity.as_slice(), group)
+            }
+            NextCell::Refused(refusal) => {
+                write_refused_cell(desk, progress.next_number(), cell_name(group), refusal)?;
+                Ok(())
+            }
         }
-        LibraryItem::Unit(line) => {
-            progress.unit = unit_of(line.value.as_slice());
-            Ok(())
-        }
-        LibraryItem::LeftOut(_) => {
-            write_left_out_file(desk)?;
-            Ok(())
-        }
+    }
+
+    fn write_left_out<D: Desk>(&self, desk: &mut D) -> Result<(), Stop> {
+        write_left_out_file(desk)?;
+        Ok(())
     }
 }
 
@@ -51,21 +61,12 @@ pub(crate) fn handle_items<D: Desk>(
     alloc: Global,
     desk: &mut D,
     progress: &mut Progress,
-    limit: usize,
 ) -> Result<Ending, Stop>
     requires library { IsTrue (is_bound (D.state desk.old) (Input Library)) }
     requires models { ModelsAreBound (D.state desk.old) }
-    requires fresh { progress.old.accepted + progress.old.refused ≡ 0 }
-    ensures text { Handles limit (D.state desk.old) (D.state desk.new) progress.old progress.new result }
+    requires fresh { progress.old ≡ no_progress }
+    ensures text { Handles library_limit (D.state desk.old) (D.state desk.new) progress.old progress.new result }
     ensures cause { StopsWithCause (D.faults desk.old) (D.faults desk.new) result }
 {
-    let mut cursor = CellCursor::new(alloc, limit)?;
-    for _turn in 0..usize::MAX {
-        match next_step(&mut cursor, desk) {
-            Ok(Step::Item(item)) => handle_item(alloc, desk, progress, &item)?,
-            Ok(Step::Ended(ending)) => return Ok(ending),
-            Err(stop) => return Err(stop),
-        }
-    }
-    Err(Stop::Memory)
+    fold_items(alloc, desk, progress, &CellModels, &mut NothingKept)
 }

@@ -3,12 +3,11 @@ ghost use Rattle.std.specs.Prelude.{◌≡◌, [], ◌∷◌, IsTrue, IfOk};
 ghost use Rattle.text_io.specs.declared.slots.Slot.TheVariants.{Input, Output};
 ghost use Rattle.text_io.specs.declared.slots.InSlot.TheVariants.{Library};
 ghost use Rattle.text_io.specs.declared.slots.OutSlot.TheVariants.{VerilogText, VitalText};
-ghost use Rattle.text_io.specs.Desk.{is_bound, HasCause};
+ghost use Rattle.text_io.specs.Desk.{is_bound, HasCause, StopsWithCause};
 ghost use Rattle.text_io.specs.Plan.{plan};
 ghost use Rattle.command_outcomes.specs.Status.{is_decided};
 ghost use Rattle.command_outcomes.specs.Binding.{Binds};
 ghost use Rattle.command_outcomes.specs.Runs.{StopsWithStatus};
-ghost use Rattle.library_items.specs.Stops.{StopsWithCause};
 ghost use Rattle.library_items.specs.declared.ending.Ending.TheVariants as ending;
 ghost use Rattle.library_translation.specs.Cells.{ModelsAreBound};
 ghost use Rattle.library_translation.specs.Library.{status_at, Finishes, Translates};
@@ -16,10 +15,10 @@ ghost use Rattle.library_translation.specs.Runs.{translate_files, RunsTranslatio
 
 use crate::items::handle_items;
 use command_outcomes::Status;
-use library_items::{Ending, LIBRARY_LIMIT, Progress, Stop};
+use library_items::{Ending, Progress};
 use library_report::{write_library_fault, write_library_too_long, write_totals};
 use std::alloc::Global;
-use text_io::{Desk, Failed, InSlot, OutSlot};
+use text_io::{Desk, Failed, InSlot, OutSlot, Stop};
 use verilog_writer::write_prelude;
 
 /// Writes the Verilog and VHDL models of the cells of the library that the words name, and its report.
@@ -65,7 +64,7 @@ fn translate_bound<D: Desk>(alloc: Global, desk: &mut D) -> Result<Status, Stop>
 {
     write_prelude(desk)?;
     let mut progress = Progress::new(alloc);
-    let ending = handle_items(alloc, desk, &mut progress, LIBRARY_LIMIT)?;
+    let ending = handle_items(alloc, desk, &mut progress)?;
     Ok(finish(desk, &progress, ending)?)
 }
 

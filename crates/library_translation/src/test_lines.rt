@@ -2,10 +2,9 @@
 ghost use Rattle.std.specs.Prelude.{◌≡◌, IfOk};
 ghost use Rattle.std.specs.Option.{option_map};
 ghost use Rattle.text_io.specs.declared.slots.OutSlot.TheVariants.{Report};
-ghost use Rattle.text_io.specs.Desk.{HasCause, WritesText};
+ghost use Rattle.text_io.specs.Desk.{HasCause, StopsWithCause, WritesText};
 ghost use Rattle.cell_machine.specs.CellData.{data_of};
 ghost use Rattle.command_outcomes.specs.Written.{Writes, in_report};
-ghost use Rattle.library_items.specs.Stops.{StopsWithCause};
 ghost use Rattle.scan_cells.specs.Functional.{functional_view};
 ghost use Rattle.scan_cells.specs.Comparison.{agreement as agreement_with};
 ghost use Rattle.scan_cells.specs.TestLines.{digit as digit_of, agreement_text, test_line};
@@ -13,10 +12,9 @@ ghost use Rattle.library_translation.specs.Cells.{test_lines};
 
 use cell_machine::Cell;
 use liberty_groups::Group;
-use library_items::Stop;
 use scan_cells::{Agreement, agrees, functional_cell, test_of};
 use std::alloc::{AllocError, Global};
-use text_io::{Desk, Failed, Line, OutSlot};
+use text_io::{Desk, Failed, Line, OutSlot, Stop};
 use text_parts::{Bytes, Decimal, Part, Put, parts, write_part};
 
 /// A state as a digit.

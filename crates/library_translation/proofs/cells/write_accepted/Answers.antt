@@ -1,5 +1,5 @@
 use Rattle.std.proofs.Common.{Err, refl}
-use Rattle.library_items.specs.declared.stop.Stop.TheVariants.{Failed}
+use Rattle.text_io.specs.declared.stop.Stop.TheVariants.{Failed}
 use Rattle.library_translation.specs.Cells.{accepted_written}
 use Rattle.command_outcomes.proofs.WrittenLaws.{all_stops, all_goes_on, report_stops, report_whole}
 use Rattle.library_translation.proofs.cells.write_accepted.Goals as goal

@@ -1,5 +1,5 @@
 use Rattle.std.proofs.Common.{refl, Err}
-use Rattle.library_items.specs.declared.stop.Stop.TheVariants.{Memory}
+use Rattle.text_io.specs.declared.stop.Stop.TheVariants.{Memory}
 use Rattle.library_translation.specs.Cells.{model_text}
 use Rattle.command_outcomes.proofs.WrittenLaws.{stopped_before, verilog_stops, verilog_whole}
 use Rattle.library_translation.proofs.cells.write_verilog.Goals as goal

@@ -1,7 +1,7 @@
 use Rattle.std.proofs.Common.{Err, refl, sym, ap, ◌∙◌}
 use Rattle.std.specs.Option.{option_copied}
 use Rattle.cell_machine.specs.CellData.{data_of}
-use Rattle.library_items.specs.declared.stop.Stop.TheVariants.{Memory}
+use Rattle.text_io.specs.declared.stop.Stop.TheVariants.{Memory}
 use Rattle.command_outcomes.proofs.WrittenLaws.{stopped_before}
 use Rattle.library_translation.proofs.TestLineTexts.{none_whole, line_stops, line_whole}
 use Rattle.library_translation.proofs.test_lines.write_test.Goals as goal

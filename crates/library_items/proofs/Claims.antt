@@ -1,5 +1,10 @@
 -- What is claimed of a value that may be there, and of an answer that may be an error.
-use Rattle.std.proofs.Common.{Option, Some, None, Result, Ok, Err, IsErr, IfOk, IfSome, OnOk}
+use Rattle.std.proofs.Common.{◌≡◌, Option, Some, None, Result, Ok, Err, IsErr, IfOk, IfSome, OnOk, refl}
+
+-- each value that is there
+pub IfSome-each : {X : Type 0} (o : Option X) (P : X → Type 0) → ((x : X) → o ≡ Some x → P x) → IfSome o P
+IfSome-each None P f = tt
+IfSome-each (Some x) P f = f x refl
 
 -- what holds of every value holds of the one that is there
 pub IfSome-always : {X : Type 0} (o : Option X) (P : X → Type 0) → ((x : X) → P x) → IfSome o P
@@ -9,6 +14,10 @@ IfSome-always (Some x) P f = f x
 pub IfSome-map : {X : Type 0} (o : Option X) (P Q : X → Type 0) → ((x : X) → P x → Q x) → IfSome o P → IfSome o Q
 IfSome-map None P Q f h = tt
 IfSome-map (Some x) P Q f h = f x h
+
+pub IfOk-map : {T E : Type 0} (r : Result T E) (P Q : T → Type 0) → ((x : T) → P x → Q x) → IfOk r P → IfOk r Q
+IfOk-map (Ok x) P Q f h = f x h
+IfOk-map (Err y) P Q f h = tt
 
 -- nothing is claimed of what an error gave
 pub IfOk-err : {T E : Type 0} (r : Result T E) (P : T → Type 0) → IsErr r → IfOk r P

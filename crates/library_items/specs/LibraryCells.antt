@@ -1,0 +1,29 @@
+-- The cells of a library as definitions speak of them: functions of what the library says. (Liberty Reference Manual, the `cell`
+-- group.)
+use Rattle.std.specs.Prelude.{ℕ, List, map}
+use Rattle.cell_machine.specs.CellData.{CellData, data_of}
+use Rattle.cell_reader.specs.declared.refusal.Refusal.{Refusal}
+use Rattle.library_items.specs.declared.library_cell.LibraryCell.{LibraryCell}
+use Rattle.library_items.specs.declared.library_cell.LibraryCell.TheVariants as kept
+
+-- a cell that is accepted, with the name of its entity, or one that is refused
+pub data CellEntry : Type 0 where
+  Accepted : (cell : CellData) (entity : List ℕ) → CellEntry
+  Refused : (name : List ℕ) (refusal : Refusal) → CellEntry
+
+-- the same without the rules that a cell keeps
+abbrev pub described : LibraryCell → CellEntry
+described (kept.Accepted cell entity) = Accepted (data_of cell) entity
+described (kept.Refused name refusal) = Refused name refusal
+
+-- the cells of a library so
+abbrev pub all_described : List LibraryCell → List CellEntry
+all_described cells = map described cells
+
+-- the name of a cell
+abbrev pub name_of : CellEntry → List ℕ
+name_of (Accepted cell entity) = cell.name
+name_of (Refused name refusal) = name
+
+abbrev pub cell_names : List CellEntry → List (List ℕ)
+cell_names cells = map name_of cells

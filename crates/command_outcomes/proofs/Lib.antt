@@ -5,3 +5,4 @@ pub mod SlotLaws
 pub mod FileLaws
 pub mod FilesReadLaws
 pub mod FailureLaws
+pub mod FileStepLaws

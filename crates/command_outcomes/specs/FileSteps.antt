@@ -1,6 +1,6 @@
 -- Files that a run reads one after another: each is read as something, or ends the run. The first that ends it decides. This
 -- project's rule.
-use Rattle.std.specs.Prelude.{◌≡◌, ◌⊎◌, ℕ, Bool, true, false, List, [], Result, Ok, Err, IfSome, IsTrue}
+use Rattle.std.specs.Prelude.{◌≡◌, ◌⊎◌, ℕ, Bool, true, false, List, [], length, nat_lt, Result, Ok, Err, IfSome, IsTrue}
 use Rattle.text_io.specs.declared.slots.InSlot.{InSlot}
 use Rattle.text_io.specs.declared.slots.OutSlot.TheVariants.{Faults}
 use Rattle.text_io.specs.Desk.{DeskState, opened, took, wrote, IsFileAt, IsPrefix}
@@ -18,6 +18,15 @@ pub record FileStop : Type 0 where
 -- what a file's bytes are read as, or how they end the run
 abbrev pub FileAnswer : Type 0 → Type 0
 FileAnswer T = List ℕ → Result T FileStop
+
+-- what a file with these bytes is read as, or one with these and more than its limit, of which the first stop tells
+abbrev pub answer_where : {T : Type 0} → FileStop → FileAnswer T → Bool → FileAnswer T
+answer_where long read true bytes = Err long
+answer_where long read false bytes = read bytes
+
+-- what a file is read as within a limit on its bytes
+abbrev pub answer_within : {T : Type 0} → ℕ → FileStop → FileAnswer T → FileAnswer T
+answer_within limit long read bytes = answer_where long read (nat_lt limit (length bytes)) bytes
 
 -- what a run comes to at a file which is the last of so many that are bound, where the run goes on with what the file is read as
 abbrev pub outcome_by : {T : Type 0} → ℕ → Result T FileStop → (T → Outcome) → Outcome

@@ -1,8 +1,8 @@
 -- What a run of a command leaves on the desk.
-use Rattle.std.specs.Prelude.{◌≡◌, ◌≤◌, ℕ, List, take, IsTrue}
+use Rattle.std.specs.Prelude.{◌≡◌, ℕ, List, take, IsTrue}
 use Rattle.text_io.specs.declared.slots.InSlot.{InSlot}
 use Rattle.text_io.specs.declared.slots.OutSlot.TheVariants.{Faults}
-use Rattle.text_io.specs.Desk.{DeskState, Folder, wrote, Rose}
+use Rattle.text_io.specs.Desk.{DeskState, Folder, wrote, CountsFaults}
 use Rattle.command_outcomes.specs.declared.status.Status.{Status}
 use Rattle.command_outcomes.specs.declared.status.Status.TheVariants.{Outside, Usage}
 use Rattle.command_outcomes.specs.Status.{is_decided, is_unfailed}
@@ -29,9 +29,7 @@ pub record RunsAs (files : Files) (outcome : Folder → Outcome) (old new : Desk
   pub all_bound : IsTrue (is_decided result) → (folder : Folder) → Tells files old folder → bound ≡ take (outcome folder).binds files
   pub whole : IsTrue (is_decided result) → (folder : Folder) → Tells files old folder → IsAllOf result text faults (outcome folder)
 
--- the count of faults rose where a call failed, and in every other case it stayed as it was; words without a reading end no run here
+-- The count of faults rose where a call failed, and in every other case it stayed as it was. Words without a reading end no run here.
 pub record StopsWithStatus (before now : ℕ) (end : Status) : Type 0 where
-  pub later : before ≤ now
-  pub kept : IsTrue (is_unfailed end) → now ≡ before
-  pub outside : end ≡ Outside → Rose before now
+  pub counts : CountsFaults (λ P. IsTrue (is_unfailed end) → P) (λ P. end ≡ Outside → P) before now
   pub usage : end ≡ Usage → ⊥

@@ -1,5 +1,7 @@
 -- The statuses of a run, and the program's exit codes. This project's rule.
-use Rattle.std.specs.Prelude.{ℕ, Bool, true, false}
+use Rattle.std.specs.Prelude.{ℕ, Bool, true, false, Result, Ok, Err}
+use Rattle.text_io.specs.declared.stop.Stop.{Stop}
+use Rattle.text_io.specs.declared.stop.Stop.TheVariants as stops
 use Rattle.command_outcomes.specs.declared.status.Status.{Status}
 use Rattle.command_outcomes.specs.declared.status.Status.TheVariants.{Done, Usage, Library, Cells, Stimulus, Model, Differ, Outside, Memory, TooLong}
 
@@ -26,3 +28,13 @@ is_decided _ = true
 abbrev pub is_unfailed : Status → Bool
 is_unfailed Outside = false
 is_unfailed _ = true
+
+-- the status of a run that stops so
+abbrev pub stop_status : Stop → Status
+stop_status stops.Failed = Outside
+stop_status stops.Memory = Memory
+
+-- the status of a run that comes to one by what its last call gives, or stops with that call
+abbrev pub status_by : {T : Type 0} → (T → Status) → Result T Stop → Status
+status_by ends (Ok value) = ends value
+status_by ends (Err stop) = stop_status stop

@@ -1,8 +1,10 @@
 //! The statuses of a run, and the program's exit codes.
 ghost use Rattle.std.specs.Prelude.{◌≡◌, MatchResult};
-ghost use Rattle.command_outcomes.specs.Status.{code_of};
+ghost use Rattle.command_outcomes.specs.declared.status.Status.TheVariants as status;
+ghost use Rattle.command_outcomes.specs.Status.{code_of, stop_status};
 
-use text_io::Failed;
+use std::alloc::AllocError;
+use text_io::{Failed, Stop};
 
 /// How a run of a command ended.
 #[derive(Clone, Copy, Debug, PartialEq, Eq)]
@@ -46,6 +48,34 @@ impl Status {
             Status::Memory => 8,
             Status::TooLong => 9,
         }
+    }
+}
+
+/// `Outside` where a call failed, and `Memory` where there was none.
+impl From<Stop> for Status {
+    ghost from_gives = { λ stop made. made ≡ stop_status stop };
+
+    fn from(stop: Stop) -> Status {
+        match stop {
+            Stop::Failed => Status::Outside,
+            Stop::Memory => Status::Memory,
+        }
+    }
+}
+
+impl From<Failed> for Status {
+    ghost from_gives = { λ _ made. made ≡ status.Outside };
+
+    fn from(_failed: Failed) -> Status {
+        Status::Outside
+    }
+}
+
+impl From<AllocError> for Status {
+    ghost from_gives = { λ _ made. made ≡ status.Memory };
+
+    fn from(_error: AllocError) -> Status {
+        Status::Memory
     }
 }
 

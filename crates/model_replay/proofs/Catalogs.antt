@@ -4,8 +4,9 @@ use Rattle.std.proofs.lemmas.List.{drop_more}
 use Rattle.udp_tables.specs.declared.models.VPort.{VPort}
 use Rattle.stimulus.specs.declared.ports.Ports.{Ports}
 use Rattle.stimulus.specs.PortEntries.{NamedCells, AddsCell}
-use Rattle.model_replay.specs.Languages.{Language}
-use Rattle.model_replay.specs.ModelPorts.{ports_of, model_names, model_ports, AreNew, HasOwnNames, HasOwnPorts, HaveOwnNames}
+use Rattle.model_files.specs.Languages.{Language}
+use Rattle.model_files.specs.ModelNames.{model_names, AreNew, HasOwnNames, HasOwnPorts, HaveOwnNames}
+use Rattle.model_replay.specs.ModelPorts.{ports_of, model_ports}
 
 -- these names stand in a list, those of the rest are still to come and are new, and together they are all
 abbrev pub Fills : List (List ℕ) → List (List ℕ) → List (List ℕ) → Type 0

@@ -1,16 +1,14 @@
 -- What can be replayed is replayed whole.
-use Rattle.std.proofs.Common.{◌≡◌, ◌≤◌, ℕ, false, List, length, nat_lt, refl, arith}
-use Rattle.std.proofs.lemmas.Bool.Decides.{nat_tests}
-use Rattle.model_replay.specs.Languages.{Language}
-use Rattle.model_replay.specs.Outcome.{model_limit, stimulus_limit, replay_outcome}
+use Rattle.std.proofs.Common.{◌≡◌, ℕ, List, ap, ◌∙◌}
+use Rattle.command_outcomes.specs.FileSteps.{outcome_by}
+use Rattle.model_files.specs.Languages.{Language}
+use Rattle.model_files.proofs.WholeAnswers.{model_whole, stimulus_whole}
+use Rattle.model_replay.specs.ModelPorts.{models_named}
+use Rattle.model_replay.specs.Outcome.{replay_line_stop, replayed_outcome, behind_models, replay_outcome}
 use Rattle.model_replay.specs.Complete.{CanBeReplayed}
-use Rattle.model_replay.specs.Replays.{sections_outcome}
 
-fits_not_over : (n limit : ℕ) → n ≤ limit → nat_lt limit n ≡ false
-fits_not_over n limit h = grind (arith, nat_tests, h)
-
-pub replayed_whole : {M : Type 0} (l : Language M) (text stimulus : List ℕ) → (can : CanBeReplayed l text stimulus) → replay_outcome l text stimulus ≡ sections_outcome l can.models can.sections
+pub replayed_whole : {M : Type 0} (l : Language M) (text stimulus : List ℕ) → (can : CanBeReplayed l text stimulus) → replay_outcome l text stimulus ≡ replayed_outcome l can.models can.sections
 replayed_whole l text stimulus can =
-    let short = fits_not_over (length text) model_limit can.text_within in
-    let brief = fits_not_over (length stimulus) stimulus_limit can.stimulus_within in
-    rw (short, can.read, brief, can.lines) refl
+    ap (λ found. outcome_by 1 found (λ models. behind_models l models stimulus)) (model_whole l text can.models can.text_within can.read)
+    ∙ ap (λ found. outcome_by 2 found (λ sections. replayed_outcome l can.models sections))
+    (stimulus_whole replay_line_stop (models_named l can.models) stimulus can.sections can.stimulus_within can.lines)

@@ -1,8 +1,5 @@
 mod Catalogs
 mod Sections
-mod DeskSteps
-pub mod FileLemmas
-mod ReplayOutcomes
-pub mod SectionTexts
-pub mod ReplayRuns
+mod SectionTexts
+mod ReplayFiles
 pub mod Completes

@@ -1,40 +1,22 @@
 -- The sections of a replay, appended to the report one behind another.
-use Rattle.std.proofs.Common.{◌≡◌, ℕ, ◌+◌, ◌<◌, ◌≤◌, List, [], ◌++◌, take, drop, length, get_or, All, Some, Result, Ok, Err, IsErr, slice_get, flat_map, refl, sym, ap, subst, ◌∙◌}
+use Rattle.std.proofs.Common.{◌≡◌, ℕ, ◌<◌, ◌≤◌, List, [], take, length, get_or, Some, Result, Err, IsErr, slice_get, flat_map, refl, sym, ap, subst, ◌∙◌}
 use Rattle.std.specs.Option.{option_map}
-use Rattle.std.proofs.lemmas.List.Elements.{All-get_or}
 use Rattle.std.proofs.lemmas.Option.{slice_get-map, slice_get-get_or, slice_get_within}
 use Rattle.text_io.specs.declared.slots.OutSlot.TheVariants.{Report}
+use Rattle.text_io.specs.declared.stop.Stop.{Stop}
 use Rattle.text_io.specs.Desk.{DeskState, wrote}
-use Rattle.text_io.proofs.Wrote.{wrote-nil, wrote_more, wrote_items, IsPrefix-append, IsPrefix-front, flat_map-split}
+use Rattle.text_io.proofs.Wrote.{wrote-nil, wrote_items}
 use Rattle.cell_machine.specs.declared.changes.Change.{Change}
 use Rattle.cell_machine.specs.History.{IsProperFrom}
-use Rattle.cell_machine.specs.Lines.{trace, Machine}
 use Rattle.stimulus.specs.declared.ports.Ports.{Ports}
 use Rattle.stimulus.specs.declared.sections.Section.{Section}
 use Rattle.stimulus.specs.PortEntries.{NamedCells}
-use Rattle.section_runs.specs.declared.faults.RunFault.{RunFault}
-use Rattle.section_runs.specs.TraceText.{heading_text, trace_text}
 use Rattle.section_runs.specs.Writes.{WritesTrace}
-use Rattle.model_replay.specs.Formats.{tag_of}
-use Rattle.model_replay.specs.Languages.{Language, model_text}
+use Rattle.section_runs.proofs.Runs.{part_of_item}
+use Rattle.model_files.specs.Languages.{Language, model_trace_text}
 use Rattle.model_replay.specs.ModelPorts.{ports_of, models_named}
-use Rattle.model_replay.specs.Outcome.{model_section, section_of, section_text, sections_text}
+use Rattle.model_replay.specs.Outcome.{model_section, section_of, replayed_section_text, replayed_sections_text}
 use Rattle.model_replay.specs.Replays.{CanBeRun}
-
--- a call that appends nothing and stops
-pub appends_nothing : {T : Type 0} (s : DeskState) (text : List ℕ) (r : Result T RunFault) → IsErr r → WritesTrace s s text r
-appends_nothing s text (Ok x) e = absurd cc
-appends_nothing s text (Err y) e = record { whole = tt; part = record { part = []; front = (text, refl); state = sym (wrote-nil s Report) } }
-
--- what a simulator of a model appends is the model's section
-pub model_written : {T M : Type 0} (l : Language M) (s t : DeskState) (name : List ℕ) (ports : Ports) (changes : List Change) (machine : Machine) (model : M) (r : Result T RunFault)
-    → name ≡ l.name model → machine ≡ l.machine model
-    → WritesTrace s t (heading_text name ++ trace_text (tag_of l.format) ports changes (trace machine.line changes)) r
-    → WritesTrace s t (model_text l model ports changes) r
-model_written l s t name ports changes machine model r named same w =
-    let text = ap (λ n. heading_text n ++ trace_text (tag_of l.format) ports changes (trace machine.line changes)) named
-    ∙ ap (λ (k : Machine). heading_text (l.name model) ++ trace_text (tag_of l.format) ports changes (trace k.line changes)) same in
-    subst (λ x. WritesTrace s t x r) text w
 
 -- the model of a section that can be run has the section's number
 pub has_model : {M : Type 0} (l : Language M) (models : List M) (section : Section) → CanBeRun l models section → section.cell < length models
@@ -67,51 +49,29 @@ is_found {M = M} l models slice catalog section model ports run cat all is found
     (record { found = run.found; named = refl; well_formed = run.well_formed; inputs = run.inputs; outputs = run.outputs; proper = run.proper }))
 
 -- what is appended for them is the section's text
-pub section_written : {T M : Type 0} (l : Language M) (s t : DeskState) (models : List M) (section : Section) (model : M) (ports : Ports) (changes : List Change) (r : Result T RunFault)
-    → IsFound l models section model ports → changes ≡ section.changes → WritesTrace s t (model_text l model ports changes) r
-    → WritesTrace s t (section_text l models section) r
+pub section_written : {T M : Type 0} (l : Language M) (s t : DeskState) (models : List M) (section : Section) (model : M) (ports : Ports) (changes : List Change) (r : Result T Stop)
+    → IsFound l models section model ports → changes ≡ section.changes → WritesTrace s t (model_trace_text l model ports changes) r
+    → WritesTrace s t (replayed_section_text l models section) r
 unfolding model_section
 section_written l s t models section model ports changes r found given w =
-    let text : model_text l model ports changes ≡ section_text l models section =
-    ap (model_text l model ports) given
-    ∙ ap (λ p. model_text l model p section.changes) found.named
+    let text : model_trace_text l model ports changes ≡ replayed_section_text l models section =
+    ap (model_trace_text l model ports) given
+    ∙ ap (λ p. model_trace_text l model p section.changes) found.named
     ∙ sym (ap (λ m. section_of l m section.changes) found.found) in
     subst (λ x. WritesTrace s t x r) text w
 
--- a fault within the text of an item
-pub part_of_item : {X S T : Type 0} (f : X → List ℕ) (xs : List X) (i : ℕ) (x : X) (s now new : DeskState) (y : RunFault) (r : Result T RunFault)
-    → i < length xs → x ≡ get_or xs i x → now ≡ wrote s Report (flat_map f (take i xs)) → WritesTrace {T = S} now new (f x) (Err y) → IsErr r
-    → WritesTrace s new (flat_map f xs) r
-part_of_item f xs i x s now new y (Ok z) h is before item e = absurd cc
-part_of_item f xs i x s now new y (Err z) h is before item e =
-    let front = flat_map f (take i xs) in
-    let part = item.part.part in
-    record {
-      whole = tt;
-      part = record {
-        part = front ++ part;
-        front = rw (flat_map-split f xs i x h is)
-            (IsPrefix-append front part (f x ++ flat_map f (drop (i + 1) xs)) (IsPrefix-front part (f x) (flat_map f (drop (i + 1) xs)) item.part.front));
-        state = wrote_more s now new Report front part before item.part.state;
-      };
-    }
-
--- what holds of all holds of the next item
-pub holds_next : {X : Type 0} (P : X → Type 0) (xs : List X) (i : ℕ) (x : X) → All P xs → i < length xs → x ≡ get_or xs i x → P x
-holds_next P xs i x all h is = subst P (sym is) (All-get_or P xs i x h all)
-
 -- before the first section, and behind the last
-pub sections_none : {M : Type 0} (l : Language M) (models : List M) (sections : List Section) (s : DeskState) → s ≡ wrote s Report (flat_map (section_text l models) (take 0 sections))
+pub sections_none : {M : Type 0} (l : Language M) (models : List M) (sections : List Section) (s : DeskState) → s ≡ wrote s Report (flat_map (replayed_section_text l models) (take 0 sections))
 sections_none l models sections s = sym (wrote-nil s Report)
 
 pub sections_whole : {M : Type 0} (l : Language M) (models : List M) (sections : List Section) (i : ℕ) (s now : DeskState)
-    → length sections ≤ i → now ≡ wrote s Report (flat_map (section_text l models) (take i sections)) → now ≡ wrote s Report (sections_text l models sections)
-unfolding sections_text
-sections_whole l models sections i s now h e = wrote_items (section_text l models) sections i s now Report h e
+    → length sections ≤ i → now ≡ wrote s Report (flat_map (replayed_section_text l models) (take i sections)) → now ≡ wrote s Report (replayed_sections_text l models sections)
+unfolding replayed_sections_text
+sections_whole l models sections i s now h e = wrote_items (replayed_section_text l models) sections i s now Report h e
 
--- a fault within one of them
-pub sections_part : {S T M : Type 0} (l : Language M) (models : List M) (sections : List Section) (i : ℕ) (x : Section) (s now new : DeskState) (y : RunFault) (r : Result T RunFault)
-    → i < length sections → x ≡ get_or sections i x → now ≡ wrote s Report (flat_map (section_text l models) (take i sections))
-    → WritesTrace {T = S} now new (section_text l models x) (Err y) → IsErr r → WritesTrace s new (sections_text l models sections) r
-unfolding sections_text
-sections_part l models sections i x s now new y r h is before item e = part_of_item (section_text l models) sections i x s now new y r h is before item e
+-- a stop within one of them
+pub sections_part : {S T M : Type 0} (l : Language M) (models : List M) (sections : List Section) (i : ℕ) (x : Section) (s now new : DeskState) (y : Stop) (r : Result T Stop)
+    → i < length sections → x ≡ get_or sections i x → now ≡ wrote s Report (flat_map (replayed_section_text l models) (take i sections))
+    → WritesTrace {T = S} now new (replayed_section_text l models x) (Err y) → IsErr r → WritesTrace s new (replayed_sections_text l models sections) r
+unfolding replayed_sections_text
+sections_part l models sections i x s now new y r h is before item e = part_of_item (replayed_section_text l models) sections i x s now new y r h is before item e

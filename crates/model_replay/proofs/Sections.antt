@@ -15,8 +15,9 @@ use Rattle.stimulus.specs.Laws.{IsSectionOf}
 use Rattle.stimulus.specs.Stimulus.{stimulus_of}
 use Rattle.stimulus.proofs.Properness.{sections_proper}
 use Rattle.stimulus.proofs.Entries.{no_cell, some_cell, inputs_below}
-use Rattle.model_replay.specs.Languages.{Language}
-use Rattle.model_replay.specs.ModelPorts.{ports_of, model_names, model_ports, models_named, HasOwnPorts, HaveOwnNames}
+use Rattle.model_files.specs.Languages.{Language}
+use Rattle.model_files.specs.ModelNames.{model_names, HasOwnPorts, HaveOwnNames}
+use Rattle.model_replay.specs.ModelPorts.{ports_of, model_ports, models_named}
 use Rattle.model_replay.specs.Replays.{CanBeRun}
 
 -- the number of a cell that may be given changes

@@ -3,9 +3,9 @@ use Rattle.std.specs.Prelude.{◌≡◌, ◌≤◌, ℕ, List, length, Ok}
 use Rattle.stimulus.specs.declared.sections.Section.{Section}
 use Rattle.stimulus.specs.PortEntries.{listed}
 use Rattle.stimulus.specs.Stimulus.{stimulus_of}
-use Rattle.model_replay.specs.Languages.{Language}
+use Rattle.model_files.specs.Languages.{Language}
+use Rattle.model_files.specs.Limits.{model_limit, stimulus_limit}
 use Rattle.model_replay.specs.ModelPorts.{models_named}
-use Rattle.model_replay.specs.Outcome.{model_limit, stimulus_limit}
 
 -- a file of models and a stimulus over its models, both within their limits and neither refused
 pub record CanBeReplayed {M : Type 0} (l : Language M) (text stimulus : List ℕ) : Type 0 where

@@ -1,10 +1,4 @@
-pub mod Formats
-pub mod Languages
 pub mod ModelPorts
-pub mod FaultLines
 pub mod Outcome
-pub mod Endings
-pub mod Answers
-pub mod FileEnds
 pub mod Replays
 pub mod Complete

@@ -1,19 +1,17 @@
 -- What is to be run once both files of a replay are read.
-use Rattle.std.specs.Prelude.{◌≡◌, ℕ, List, [], length, slice_get, Some, Ok, All}
-use Rattle.text_io.specs.declared.slots.InSlot.{InSlot}
-use Rattle.text_io.specs.Desk.{DeskState, Folder}
+use Rattle.std.specs.Prelude.{◌≡◌, ◌≤◌, ℕ, List, [], length, slice_get, Some, Ok, All}
+use Rattle.text_io.specs.Desk.{DeskState}
 use Rattle.cell_machine.specs.History.{IsProperFrom}
 use Rattle.stimulus.specs.declared.sections.Section.{Section}
 use Rattle.stimulus.specs.PortEntries.{listed}
 use Rattle.stimulus.specs.Stimulus.{stimulus_of}
-use Rattle.command_outcomes.specs.declared.status.Status.TheVariants as status
-use Rattle.command_outcomes.specs.Binding.{bound_state, AreNamed, took_all, Tells}
-use Rattle.command_outcomes.specs.Outcome.{Outcome}
-use Rattle.command_outcomes.specs.Written.{in_report}
+use Rattle.command_outcomes.specs.FilesRead.{HasRead}
+use Rattle.model_files.specs.Languages.{Language}
+use Rattle.model_files.specs.Limits.{model_limit}
+use Rattle.model_files.specs.ModelNames.{input_names, output_names}
 use Rattle.model_replay.specs.declared.reading.Replay.{Replay}
-use Rattle.model_replay.specs.Languages.{Language}
-use Rattle.model_replay.specs.ModelPorts.{input_names, output_names, models_named}
-use Rattle.model_replay.specs.Outcome.{replay_files, replay_of, sections_text}
+use Rattle.model_replay.specs.ModelPorts.{models_named}
+use Rattle.model_replay.specs.Outcome.{replay_files, replay_of, replayed_outcome}
 
 -- A section can be run on the model with its number: the model is well formed, it has as many names of inputs and of outputs as it
 -- has inputs and outputs, and the section's changes are of its inputs, at times that rise strictly.
@@ -25,23 +23,13 @@ pub record CanBeRun {M : Type 0} (l : Language M) (models : List M) (section : S
   pub outputs : length (output_names (l.ports model)) ≡ (l.machine model).outputs
   pub proper : IsProperFrom (l.machine model).inputs [] section.changes
 
--- what a replay of these sections on these models comes to
-abbrev pub sections_outcome : {M : Type 0} → Language M → List M → List Section → Outcome
-sections_outcome l models sections = record { status = status.Done; binds = 2; text = in_report (sections_text l models sections); faults = [] }
-
--- After both files were bound and read: some bytes of each were read, nothing was appended, and nothing else changed. The models
+-- Both files were bound and read: some bytes of each were read, nothing was appended, and nothing else changed. The models
 -- are those of the bytes that were read, and the sections those of the stimulus over the models. Where the desk tells the files,
 -- the run comes to these sections.
 pub record ReadsReplay {M : Type 0} (l : Language M) (old new : DeskState) (replay : Replay M) : Type 0 where
-  pub bytes : InSlot → List ℕ
-  pub taken : InSlot → ℕ
-  pub state : new ≡ took_all (bound_state old (replay_files l.format) bytes) taken
-  pub named : AreNamed old (replay_files l.format) bytes
-  pub text : List ℕ
-  pub models : l.text text ≡ Ok replay.models
+  pub files : HasRead (replay_files l.format) (replay_files l.format) (replay_of l old.words) (λ _. replayed_outcome l replay.models replay.sections) old new
+  pub text : (bytes : List ℕ) × (length bytes ≤ model_limit) × (l.text bytes ≡ Ok replay.models)
   pub well_formed : All l.is_well_formed replay.models
   pub catalog : replay.catalog ≡ models_named l replay.models
-  pub stimulus : List ℕ
-  pub sections : stimulus_of (listed (models_named l replay.models)) stimulus ≡ Ok replay.sections
+  pub stimulus : (bytes : List ℕ) × (stimulus_of (listed (models_named l replay.models)) bytes ≡ Ok replay.sections)
   pub runs : All (CanBeRun l replay.models) replay.sections
-  pub outcome : (folder : Folder) → Tells (replay_files l.format) old folder → replay_of l old.words folder ≡ sections_outcome l replay.models replay.sections

@@ -1,9 +1,10 @@
 //! The models of a file as the cells that a stimulus may name.
 ghost use Rattle.std.specs.Prelude.{◌≡◌, IfOk};
-ghost use Rattle.model_replay.specs.ModelPorts.{ports_of, models_named, HasOwnNames, HaveOwnNames};
+ghost use Rattle.model_files.specs.ModelNames.{HasOwnNames, HaveOwnNames};
+ghost use Rattle.model_replay.specs.ModelPorts.{ports_of, models_named};
 
-use crate::language::ModelLanguage;
 use bool_functions::Names;
+use model_files::ModelLanguage;
 use std::alloc::{AllocError, Global};
 use stimulus::{PortCatalog, Ports, Standing};
 use udp_tables::VPort;
@@ -30,7 +31,7 @@ fn ports_of(alloc: Global, ports: &[VPort]) -> Result<Ports, AllocError>
 
 /// The catalog of these models, in the order of the file, each with the names of its ports as they are spelled. It lists the
 /// models where no two of them have one name and in none two ports of one direction have.
-pub fn models_named<L: ModelLanguage>(
+pub(crate) fn models_named<L: ModelLanguage>(
     alloc: Global,
     models: &[L::Model],
 ) -> Result<PortCatalog, AllocError>

@@ -1,48 +1,48 @@
 //! The sections of a replay: each is run on its model, and printed.
 ghost use Rattle.std.specs.Prelude.{◌≡◌, All};
-ghost use Rattle.section_runs.specs.Writes.{WritesTrace, HasCause};
+ghost use Rattle.text_io.specs.Desk.{StopsWithCause};
+ghost use Rattle.section_runs.specs.Writes.{WritesTrace};
 ghost use Rattle.model_replay.specs.ModelPorts.{models_named};
-ghost use Rattle.model_replay.specs.Outcome.{section_text, sections_text};
+ghost use Rattle.model_replay.specs.Outcome.{replayed_section_text, replayed_sections_text};
 ghost use Rattle.model_replay.specs.Replays.{CanBeRun};
 
-use crate::language::ModelLanguage;
 use crate::reading::Replay;
-use section_runs::RunFault;
+use model_files::ModelLanguage;
 use std::alloc::Global;
 use stimulus::Section;
-use text_io::Desk;
+use text_io::{Desk, Stop};
 
 /// Appends a section that can be run to the report, or, after a fault, a prefix of it.
-fn write_one_section<D: Desk, L: ModelLanguage>(
+fn write_replayed_section<D: Desk, L: ModelLanguage>(
     alloc: Global,
     desk: &mut D,
     replay: &Replay<L::Model>,
     section: &Section,
-) -> Result<(), RunFault>
+) -> Result<(), Stop>
     requires catalog { replay.now.catalog ≡ models_named L.language replay.now.models }
     requires run { CanBeRun L.language replay.now.models section.now }
-    ensures text { WritesTrace (D.state desk.old) (D.state desk.new) (section_text L.language replay.now.models section.now) result }
-    ensures cause { HasCause (D.faults desk.old) (D.faults desk.new) result }
+    ensures text { WritesTrace (D.state desk.old) (D.state desk.new) (replayed_section_text L.language replay.now.models section.now) result }
+    ensures cause { StopsWithCause (D.faults desk.old) (D.faults desk.new) result }
 {
     let model = &replay.models.as_slice()[section.cell];
     let ports = replay.catalog.ports(section.cell);
-    L::write_model(alloc, desk, model, ports, section.changes.as_slice())
+    L::write_model_trace(alloc, desk, model, ports, section.changes.as_slice())
 }
 
 /// Appends the sections of a replay to the report, in order, or, after a fault, a prefix of them. `Failed` comes only where a
 /// write failed.
-pub fn write_sections<D: Desk, L: ModelLanguage>(
+pub(crate) fn write_replayed_sections<D: Desk, L: ModelLanguage>(
     alloc: Global,
     desk: &mut D,
     replay: &Replay<L::Model>,
-) -> Result<(), RunFault>
+) -> Result<(), Stop>
     requires catalog { replay.now.catalog ≡ models_named L.language replay.now.models }
     requires runs { All (CanBeRun L.language replay.now.models) replay.now.sections }
-    ensures text { WritesTrace (D.state desk.old) (D.state desk.new) (sections_text L.language replay.now.models replay.now.sections) result }
-    ensures cause { HasCause (D.faults desk.old) (D.faults desk.new) result }
+    ensures text { WritesTrace (D.state desk.old) (D.state desk.new) (replayed_sections_text L.language replay.now.models replay.now.sections) result }
+    ensures cause { StopsWithCause (D.faults desk.old) (D.faults desk.new) result }
 {
     for section in replay.sections.as_slice() {
-        write_one_section::<D, L>(alloc, desk, replay, section)?;
+        write_replayed_section::<D, L>(alloc, desk, replay, section)?;
     }
     Ok(())
 }

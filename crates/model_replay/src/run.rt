@@ -1,17 +1,16 @@
 //! Replaying a file of models: its files are read, and then its sections are run and printed.
 ghost use Rattle.std.specs.Prelude.{◌≡◌};
 ghost use Rattle.text_io.specs.Plan.{plan};
+ghost use Rattle.command_outcomes.specs.Status.{status_by};
 ghost use Rattle.command_outcomes.specs.Runs.{RunsAs, StopsWithStatus};
 ghost use Rattle.model_replay.specs.Outcome.{replay_files, replay_of};
-ghost use Rattle.model_replay.specs.Endings.{printed_status};
 
-use crate::language::ModelLanguage;
-use crate::printing::write_sections;
+use crate::printing::write_replayed_sections;
 use crate::reading::read_replay;
 use command_outcomes::Status;
-use section_runs::RunFault;
+use model_files::ModelLanguage;
 use std::alloc::Global;
-use text_io::Desk;
+use text_io::{Desk, Stop};
 
 /// Prints the traces of the models of the file that the words name, section by section of the stimulus that they name.
 /// Nothing is printed before both files are read.
@@ -24,18 +23,17 @@ pub fn replay_models<D: Desk, L: ModelLanguage>(alloc: Global, desk: &mut D) -> 
     ensures cause { StopsWithStatus (D.faults desk.old) (D.faults desk.new) result }
 {
     match read_replay::<D, L>(alloc, desk) {
-        Ok(replay) => ended(write_sections::<D, L>(alloc, desk, &replay)),
-        Err(ending) => ending.status(),
+        Ok(replay) => printed_status(write_replayed_sections::<D, L>(alloc, desk, &replay)),
+        Err(status) => status,
     }
 }
 
 /// The status of a run whose sections were printed so.
-fn ended(printed: Result<(), RunFault>) -> Status
-    ensures { result ≡ printed_status printed }
+fn printed_status(printed: Result<(), Stop>) -> Status
+    ensures { result ≡ status_by (λ _. Status.Done) printed }
 {
     match printed {
         Ok(()) => Status::Done,
-        Err(RunFault::Failed) => Status::Outside,
-        Err(RunFault::Memory) => Status::Memory,
+        Err(stop) => Status::from(stop),
     }
 }

@@ -7,7 +7,7 @@ use Rattle.cell_machine.specs.declared.changes.Change.{Change}
 use Rattle.cell_machine.specs.History.{IsProperFrom}
 use Rattle.cell_machine.specs.Lines.{Line, lines_from, trace, Machine, IsSized}
 use Rattle.cell_machine.proofs.StillLemmas.{same-is, same-self}
-use Rattle.section_runs.specs.Differences.{same_values, same_delay, same_delays, agree, same_reports, same_line, difference_from, first_difference, NoDifferenceIsEqual}
+use Rattle.section_runs.specs.Differences.{same_values, same_delay, same_delays, same_fact, same_reports, same_line, difference_from, first_difference, NoDifferenceIsEqual}
 
 -- Two simulators that stand after one history. The changes that are left go on from there, and the first difference of their
 -- lines is that of the whole traces.
@@ -58,27 +58,27 @@ delays-self : (xs : List (Option ℕ)) → same_delays xs xs ≡ true
 delays-self [] = refl
 delays-self (x ∷ xs) = and_from (same_delay x x) (same_delays xs xs) (delay-self x) (delays-self xs)
 
-agree-is : (a b : Bool) → agree a b ≡ true → a ≡ b
-agree-is true true e = refl
-agree-is true false e = absurd cc
-agree-is false true e = absurd cc
-agree-is false false e = refl
+same_fact-is : (a b : Bool) → same_fact a b ≡ true → a ≡ b
+same_fact-is true true e = refl
+same_fact-is true false e = absurd cc
+same_fact-is false true e = absurd cc
+same_fact-is false false e = refl
 
-agree-self : (a : Bool) → agree a a ≡ true
-agree-self true = refl
-agree-self false = refl
+same_fact-self : (a : Bool) → same_fact a a ≡ true
+same_fact-self true = refl
+same_fact-self false = refl
 
 reports-are : (xs ys : List Bool) → length xs ≡ length ys → same_reports xs ys ≡ true → xs ≡ ys
 reports-are [] [] l e = refl
 reports-are [] (y ∷ ys) l e = absurd (omega (arith, l))
 reports-are (x ∷ xs) [] l e = absurd (omega (arith, l))
 reports-are (x ∷ xs) (y ∷ ys) l e =
-    let p = and_parts (agree x y) (same_reports xs ys) e in
-    cons_path x y xs ys (agree-is x y p.0) (reports-are xs ys (omega (arith, l)) p.1)
+    let p = and_parts (same_fact x y) (same_reports xs ys) e in
+    cons_path x y xs ys (same_fact-is x y p.0) (reports-are xs ys (omega (arith, l)) p.1)
 
 reports-self : (xs : List Bool) → same_reports xs xs ≡ true
 reports-self [] = refl
-reports-self (x ∷ xs) = and_from (agree x x) (same_reports xs xs) (agree-self x) (reports-self xs)
+reports-self (x ∷ xs) = and_from (same_fact x x) (same_reports xs xs) (same_fact-self x) (reports-self xs)
 
 pub line-is : (l r : Line) → length l.reports ≡ length r.reports → same_line l r ≡ true → l ≡ r
 line-is l r e h =

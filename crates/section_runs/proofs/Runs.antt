@@ -1,24 +1,25 @@
 -- The lines of a run, put one behind another as the simulator takes the changes.
-use Rattle.std.proofs.Common.{◌≡◌, ℕ, ◌+◌, Bool, true, false, if◌then◌else◌, ◌<◌, ◌≤◌, List, [], ◌∷◌, ◌++◌, get_or, drop, length, Option, Some, None, Result, Ok, Err, IsErr, refl, sym, ◌∙◌, ap, subst, append_assoc}
+use Rattle.std.proofs.Common.{◌≡◌, ℕ, ◌+◌, Bool, true, false, if◌then◌else◌, ◌<◌, ◌≤◌, List, [], ◌∷◌, ◌++◌, get_or, take, drop, length, All, Option, Some, None, Result, Ok, Err, IsErr, flat_map, refl, sym, ◌∙◌, ap, subst, append_assoc}
 use Rattle.std.proofs.lemmas.List.{append-nil, drop_more, drop_all}
+use Rattle.std.proofs.lemmas.List.Elements.{All-get_or}
 use Rattle.text_io.specs.declared.outside.Failed.{Failed}
 use Rattle.text_io.specs.declared.slots.OutSlot.TheVariants.{Report}
+use Rattle.text_io.specs.declared.stop.Stop.{Stop}
 use Rattle.text_io.specs.Desk.{DeskState, wrote, WritesText}
 use Rattle.text_io.specs.Line.{Gathers, StopsWithin}
-use Rattle.text_io.proofs.Wrote.{wrote-nil, wrote_more, IsPrefix-append, IsPrefix-front}
+use Rattle.text_io.proofs.Wrote.{wrote-nil, wrote_more, IsPrefix-append, IsPrefix-front, flat_map-split}
 use Rattle.text_io.proofs.LineLaws.{Gathers-Gathers, Gathers-stops, StopsWithin-more, flushes}
 use Rattle.cell_machine.specs.declared.changes.Change.{Change}
 use Rattle.cell_machine.specs.History.{IsProperFrom}
 use Rattle.cell_machine.specs.Lines.{Line, lines_from, trace}
 use Rattle.stimulus.specs.declared.ports.Ports.{Ports}
 use Rattle.stimulus.specs.TraceLine.{line_text}
-use Rattle.section_runs.specs.declared.faults.RunFault.{RunFault}
 use Rattle.section_runs.specs.TraceText.{change_texts, trace_text}
 use Rattle.section_runs.specs.Comparison.{Lines, lines_text, are_alike, all_from, compared_texts, compared_text, first_of, unlike_from, first_unlike}
 use Rattle.section_runs.specs.Writes.{WritesTrace, PutsTrace}
 
 -- a call that stops before anything is put
-pub puts_nothing : {T : Type 0} (s : DeskState) (l a n : List ℕ) (r : Result T RunFault) → IsErr r → PutsTrace s s l a n r
+pub puts_nothing : {T : Type 0} (s : DeskState) (l a n : List ℕ) (r : Result T Stop) → IsErr r → PutsTrace s s l a n r
 puts_nothing s l a n (Ok x) e = absurd cc
 puts_nothing s l a n (Err y) e =
     record { whole = tt; part = record { part = []; front = (l ++ a, refl); state = sym (wrote-nil s Report) } }
@@ -70,7 +71,7 @@ goes_on stands later shown n s now next held after xs i x whole below is steps g
     }
 
 -- the next change was given, and its text not put whole
-pub stops_in : {S T : Type 0} (stands later : List Change → Type 0) (shown : List Change → List ℕ) (n : ℕ) (s now next : DeskState) (held after : List ℕ) (xs : List Change) (i : ℕ) (x : Change) (whole : List ℕ) (y : RunFault) (r : Result T RunFault)
+pub stops_in : {S T : Type 0} (stands later : List Change → Type 0) (shown : List Change → List ℕ) (n : ℕ) (s now next : DeskState) (held after : List ℕ) (xs : List Change) (i : ℕ) (x : Change) (whole : List ℕ) (y : Stop) (r : Result T Stop)
     → i < length xs → x ≡ get_or xs i x → ((h : List Change) → stands h → later (x ∷ h))
     → Going stands shown n s now held (drop i xs) whole
     → ((h : List Change) → later (x ∷ h) → PutsTrace {T = S} now next held (shown (x ∷ h)) after (Err y))
@@ -94,12 +95,12 @@ flushed stands shown n s now next held xs i whole r over g w =
 
 -- One text and then another.
 
-pub puts_on : {S T : Type 0} (s t u : DeskState) (l m n a b : List ℕ) (x : S) (r : Result T RunFault)
+pub puts_on : {S T : Type 0} (s t u : DeskState) (l m n a b : List ℕ) (x : S) (r : Result T Stop)
     → PutsTrace {T = S} s t l a m (Ok x) → PutsTrace t u m b n r → PutsTrace s u l (a ++ b) n r
 puts_on s t u l m n a b x (Ok y) p q = record { whole = Gathers-Gathers s t u Report l m n a b p.whole q.whole; part = tt }
 puts_on s t u l m n a b x (Err y) p q = record { whole = tt; part = Gathers-stops s t u Report l m a b p.whole q.part }
 
-pub puts_less : {S T : Type 0} (s t : DeskState) (l m n a b : List ℕ) (y : RunFault) (r : Result T RunFault)
+pub puts_less : {S T : Type 0} (s t : DeskState) (l m n a b : List ℕ) (y : Stop) (r : Result T Stop)
     → PutsTrace {T = S} s t l a m (Err y) → IsErr r → PutsTrace s t l (a ++ b) n r
 puts_less s t l m n a b y (Ok x) p e = absurd cc
 puts_less s t l m n a b y (Err z) p e = record { whole = tt; part = StopsWithin-more s t Report l a b p.part }
@@ -186,13 +187,13 @@ compares_first stands ports lines n s now held cs first alike start proper put e
 }
 
 -- what is put and shown, where the machines stay the same
-pub one_put : {S : Type 0} (later : List Change → Type 0) (tag : ℕ) (ports : Ports) (line shown : List Change → Line) (now next : DeskState) (held after : List ℕ) (x : Change) (r : Result S RunFault)
+pub one_put : {S : Type 0} (later : List Change → Type 0) (tag : ℕ) (ports : Ports) (line shown : List Change → Line) (now next : DeskState) (held after : List ℕ) (x : Change) (r : Result S Stop)
     → shown ≡ line → ((h : List Change) → later h → PutsTrace now next held (line_text tag (Some x) ports.inputs ports.outputs (shown h)) after r)
     → (h : List Change) → later (x ∷ h) → PutsTrace now next held (one_shown tag ports line (x ∷ h)) after r
 one_put later tag ports line shown now next held after x r same put h s =
     subst (λ l. PutsTrace now next held (line_text tag (Some x) ports.inputs ports.outputs (l (x ∷ h))) after r) same (put (x ∷ h) s)
 
-pub three_put : {S : Type 0} (liberty verilog vital : List Change → Type 0) (ports : Ports) (lines shown : List Change → Lines) (now next : DeskState) (held after : List ℕ) (x : Change) (r : Result S RunFault)
+pub three_put : {S : Type 0} (liberty verilog vital : List Change → Type 0) (ports : Ports) (lines shown : List Change → Lines) (now next : DeskState) (held after : List ℕ) (x : Change) (r : Result S Stop)
     → shown ≡ lines → ((h : List Change) → liberty h → verilog h → vital h → PutsTrace now next held (lines_text (Some x) ports (shown h)) after r)
     → (h : List Change) → Stand liberty verilog vital (x ∷ h) → PutsTrace now next held (three_shown ports lines (x ∷ h)) after r
 three_put liberty verilog vital ports lines shown now next held after x r same put h s =
@@ -205,14 +206,14 @@ three_alike liberty verilog vital lines shown x b same shows h s =
     subst (λ l. b ≡ are_alike (l (x ∷ h))) same (shows (x ∷ h) s.of_liberty s.of_verilog s.of_vital)
 
 -- a text that was written but for its rest
-pub written_part : {S T : Type 0} (s next : DeskState) (text : List ℕ) (y : Failed) (r : Result T RunFault)
+pub written_part : {S T : Type 0} (s next : DeskState) (text : List ℕ) (y : Failed) (r : Result T Stop)
     → WritesText {T = S} s next Report text (Err y) → IsErr r → WritesTrace s next text r
 written_part s next text y (Ok z) w e = absurd cc
 written_part s next text y (Err z) w e =
     record { whole = tt; part = record { part = w.part.0; front = w.part.1; state = w.part.2 } }
 
 -- behind one text that was appended, a call that appends another
-pub behind : {T : Type 0} (s t u : DeskState) (a b : List ℕ) (r : Result T RunFault) → t ≡ wrote s Report a → WritesTrace t u b r → WritesTrace s u (a ++ b) r
+pub behind : {T : Type 0} (s t u : DeskState) (a b : List ℕ) (r : Result T Stop) → t ≡ wrote s Report a → WritesTrace t u b r → WritesTrace s u (a ++ b) r
 behind s t u a b (Ok x) e w = record { whole = wrote_more s t u Report a b e w.whole; part = tt }
 behind s t u a b (Err y) e w = record {
   whole = tt;
@@ -220,8 +221,34 @@ behind s t u a b (Err y) e w = record {
 }
 
 -- a stop within the first of two texts
-pub stops_before : {S T : Type 0} (s t : DeskState) (a b : List ℕ) (y : Failed) (r : Result T RunFault) → WritesText {T = S} s t Report a (Err y) → IsErr r
+pub stops_before : {S T : Type 0} (s t : DeskState) (a b : List ℕ) (y : Failed) (r : Result T Stop) → WritesText {T = S} s t Report a (Err y) → IsErr r
     → WritesTrace s t (a ++ b) r
 stops_before s t a b y (Ok x) w e = absurd cc
 stops_before s t a b y (Err z) w e =
     record { whole = tt; part = record { part = w.part.0; front = IsPrefix-front w.part.0 a b w.part.1; state = w.part.2 } }
+
+-- a stop within the first of two texts, after some of it
+pub trace_stops : {S T : Type 0} (s t : DeskState) (a b : List ℕ) (y : Stop) (r : Result T Stop) → WritesTrace {T = S} s t a (Err y) → IsErr r → WritesTrace s t (a ++ b) r
+trace_stops s t a b y (Ok x) w e = absurd cc
+trace_stops s t a b y (Err z) w e =
+    record { whole = tt; part = record { part = w.part.part; front = IsPrefix-front w.part.part a b w.part.front; state = w.part.state } }
+
+-- a call that appends nothing and stops
+pub appends_nothing : {T : Type 0} (s : DeskState) (text : List ℕ) (r : Result T Stop) → IsErr r → WritesTrace s s text r
+appends_nothing s text (Ok x) e = absurd cc
+appends_nothing s text (Err y) e = record { whole = tt; part = record { part = []; front = (text, refl); state = sym (wrote-nil s Report) } }
+
+-- Texts of items, appended one behind another.
+
+-- what holds of all holds of the next item
+pub holds_next : {X : Type 0} (P : X → Type 0) (xs : List X) (i : ℕ) (x : X) → All P xs → i < length xs → x ≡ get_or xs i x → P x
+holds_next P xs i x all h is = subst P (sym is) (All-get_or P xs i x h all)
+
+-- a stop within the text of an item
+pub part_of_item : {X S T : Type 0} (f : X → List ℕ) (xs : List X) (i : ℕ) (x : X) (s now new : DeskState) (y : Stop) (r : Result T Stop)
+    → i < length xs → x ≡ get_or xs i x → now ≡ wrote s Report (flat_map f (take i xs)) → WritesTrace {T = S} now new (f x) (Err y) → IsErr r
+    → WritesTrace s new (flat_map f xs) r
+part_of_item f xs i x s now new y r h is before item e =
+    subst (λ text. WritesTrace s new text r) (sym (flat_map-split f xs i x h is))
+    (behind s now new (flat_map f (take i xs)) (f x ++ flat_map f (drop (i + 1) xs)) r before
+    (trace_stops now new (f x) (flat_map f (drop (i + 1) xs)) y r item e))

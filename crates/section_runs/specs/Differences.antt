@@ -22,16 +22,16 @@ same_delays (x ∷ xs) (y ∷ ys) = same_delay x y && same_delays xs ys
 same_delays _ _ = false
 
 -- the same of two facts
-abbrev pub agree : Bool → Bool → Bool
-agree true b = b
-agree false b = not b
+abbrev pub same_fact : Bool → Bool → Bool
+same_fact true b = b
+same_fact false b = not b
 
 -- the checks that report; one that is not there reports nothing
 abbrev pub same_reports : List Bool → List Bool → Bool
 same_reports [] [] = true
-same_reports (x ∷ xs) [] = agree x false && same_reports xs []
-same_reports [] (y ∷ ys) = agree false y && same_reports [] ys
-same_reports (x ∷ xs) (y ∷ ys) = agree x y && same_reports xs ys
+same_reports (x ∷ xs) [] = same_fact x false && same_reports xs []
+same_reports [] (y ∷ ys) = same_fact false y && same_reports [] ys
+same_reports (x ∷ xs) (y ∷ ys) = same_fact x y && same_reports xs ys
 
 -- two lines show the same
 abbrev pub same_line : Line → Line → Bool

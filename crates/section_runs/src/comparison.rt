@@ -4,19 +4,18 @@ ghost use Rattle.std.specs.Option.{option_copied};
 ghost use Rattle.cell_machine.specs.declared.changes.Change.{Change as ChangeOf};
 ghost use Rattle.cell_machine.specs.History.{IsProperFrom, ComesAfter};
 ghost use Rattle.text_io.specs.declared.slots.OutSlot.TheVariants.{Report};
-ghost use Rattle.text_io.specs.Desk.{WritesText, HasCause as HasCauseOf};
+ghost use Rattle.text_io.specs.Desk.{WritesText, HasCause, StopsWithCause};
 ghost use Rattle.stimulus.specs.TraceLine.{line_text};
 ghost use Rattle.section_runs.specs.Comparison.{three_lines, HavePorts, are_alike, lines_text, compared_text, first_of, first_unlike, verdict_text, NoneUnlikeIsEqual};
-ghost use Rattle.section_runs.specs.Writes.{WritesTrace, PutsTrace, HasCause};
+ghost use Rattle.section_runs.specs.Writes.{WritesTrace, PutsTrace};
 
 use crate::differences::same_line;
-use crate::faults::RunFault;
 use crate::trace::put_line;
 use cell_machine::{CellSim, Change};
 use itoa::Buffer;
 use std::alloc::Global;
 use stimulus::Ports;
-use text_io::{Desk, Failed, Line, OutSlot, write_pieces, write_whole};
+use text_io::{Desk, Failed, Line, OutSlot, Stop, write_pieces, write_whole};
 
 /// Simulators of a cell, of its Verilog module and of its VITAL entity.
 #[derive(Drop)]
@@ -67,7 +66,7 @@ pub fn write_comparison<D: Desk, L: CellSim, V: CellSim, H: CellSim>(
     ports: &Ports,
     three: &mut Three<L, V, H>,
     changes: &[Change],
-) -> Result<Option<usize>, RunFault>
+) -> Result<Option<usize>, Stop>
     requires ports { HavePorts ports.now (L.machine three.old.liberty) (V.machine three.old.verilog) (H.machine three.old.vital) }
     requires liberty { L.stands three.old.liberty [] }
     requires verilog { V.stands three.old.verilog [] }
@@ -75,7 +74,7 @@ pub fn write_comparison<D: Desk, L: CellSim, V: CellSim, H: CellSim>(
     requires proper { IsProperFrom (length ports.now.inputs) [] changes.now }
     ensures text { WritesTrace (D.state desk.old) (D.state desk.new) (compared_text ports.now changes.now (three_lines (L.machine three.old.liberty) (V.machine three.old.verilog) (H.machine three.old.vital))) result }
     ensures first { IfOk result (λ first. first ≡ first_unlike changes.now (three_lines (L.machine three.old.liberty) (V.machine three.old.verilog) (H.machine three.old.vital))) }
-    ensures cause { HasCause (D.faults desk.old) (D.faults desk.new) result }
+    ensures cause { StopsWithCause (D.faults desk.old) (D.faults desk.new) result }
 {
     let mut line = Line::new();
     let mut text = Vec::new(alloc);
@@ -112,11 +111,11 @@ fn put_lines<D: Desk, L: CellSim, V: CellSim, H: CellSim>(
     change: Option<&Change>,
     ports: &Ports,
     three: &Three<L, V, H>,
-) -> Result<(), RunFault>
+) -> Result<(), Stop>
     requires ports { HavePorts ports.now (L.machine three.now.liberty) (V.machine three.now.verilog) (H.machine three.now.vital) }
     requires pin { IfSome change (λ change. change.now.pin < length ports.now.inputs) }
     ensures text { (h : List ChangeOf) → L.stands three.now.liberty h → V.stands three.now.verilog h → H.stands three.now.vital h → PutsTrace (D.state desk.old) (D.state desk.new) line.old (lines_text (option_copied change.entry) ports.now (three_lines (L.machine three.now.liberty) (V.machine three.now.verilog) (H.machine three.now.vital) h)) line.new result }
-    ensures cause { HasCause (D.faults desk.old) (D.faults desk.new) result }
+    ensures cause { StopsWithCause (D.faults desk.old) (D.faults desk.new) result }
 {
     put_line(desk, line, text, b'L', change, ports, &three.liberty)?;
     put_line(desk, line, text, b'V', change, ports, &three.verilog)?;
@@ -129,7 +128,7 @@ fn put_lines<D: Desk, L: CellSim, V: CellSim, H: CellSim>(
 #[tactic(auto, unfolding(crate::specs::Comparison::verdict_text))]
 pub fn write_verdict<D: Desk>(desk: &mut D, first: Option<usize>) -> Result<(), Failed>
     ensures text { WritesText (D.state desk.old) (D.state desk.new) Report (verdict_text first) result }
-    ensures cause { HasCauseOf (D.faults desk.old) (D.faults desk.new) result }
+    ensures cause { HasCause (D.faults desk.old) (D.faults desk.new) result }
 {
     match first {
         None => write_whole(desk, OutSlot::Report, b"equal\n"),

@@ -4,7 +4,7 @@ ghost use Rattle.trit_cubes.specs.Filling.{same};
 ghost use Rattle.cell_machine.specs.declared.changes.Change.{Change as ChangeOf};
 ghost use Rattle.cell_machine.specs.History.{IsProperFrom};
 ghost use Rattle.cell_machine.specs.Lines.{trace};
-ghost use Rattle.section_runs.specs.Differences.{same_delay as same_delay_of, agree as agree_of, same_values as same_values_of, same_delays as same_delays_of, same_reports as same_reports_of, same_line as same_line_of, first_difference as first_difference_of, NoDifferenceIsEqual};
+ghost use Rattle.section_runs.specs.Differences.{same_delay as same_delay_of, same_fact as same_fact_of, same_values as same_values_of, same_delays as same_delays_of, same_reports as same_reports_of, same_line as same_line_of, first_difference as first_difference_of, NoDifferenceIsEqual};
 
 use cell_machine::{CellSim, Change};
 use trit_cubes::Trit;
@@ -99,7 +99,7 @@ fn same_reports<A: CellSim, B: CellSim>(left: &A, right: &B) -> bool
     ensures { (g h : List ChangeOf) → A.stands left.now g → B.stands right.now h → result ≡ same_reports_of ((A.machine left.now).line g).reports ((B.machine right.now).line h).reports }
 {
     for check in 0..left.checks().max(right.checks()) {
-        if !agree(reports(left, check), reports(right, check)) {
+        if !same_fact(reports(left, check), reports(right, check)) {
             return false;
         }
     }
@@ -107,8 +107,8 @@ fn same_reports<A: CellSim, B: CellSim>(left: &A, right: &B) -> bool
 }
 
 /// Whether two facts are the same.
-fn agree(one: bool, other: bool) -> bool
-    ensures { result ≡ agree_of one other }
+fn same_fact(one: bool, other: bool) -> bool
+    ensures { result ≡ same_fact_of one other }
 {
     one == other
 }

@@ -3,13 +3,11 @@
 
 mod comparison;
 mod differences;
-mod faults;
 mod heading;
 mod section;
 mod trace;
 
 pub use comparison::{Three, none_unlike_is_equal, write_comparison, write_verdict};
 pub use differences::{first_difference, no_difference_is_equal, same_line};
-pub use faults::RunFault;
 pub use heading::write_heading;
 pub use section::write_section;

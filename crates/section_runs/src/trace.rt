@@ -3,15 +3,15 @@ ghost use Rattle.std.specs.Prelude.{◌≡◌, ◌<◌, List, length, IfSome};
 ghost use Rattle.std.specs.Option.{option_copied};
 ghost use Rattle.cell_machine.specs.declared.changes.Change.{Change as ChangeOf};
 ghost use Rattle.cell_machine.specs.Lines.{trace};
+ghost use Rattle.text_io.specs.Desk.{StopsWithCause};
 ghost use Rattle.stimulus.specs.TraceLine.{line_text};
 ghost use Rattle.section_runs.specs.TraceText.{trace_text};
-ghost use Rattle.section_runs.specs.Writes.{CanBegin, WritesTrace, PutsTrace, HasCause};
+ghost use Rattle.section_runs.specs.Writes.{CanBegin, WritesTrace, PutsTrace};
 
-use crate::faults::RunFault;
 use cell_machine::{CellSim, Change};
 use std::alloc::Global;
 use stimulus::{Ports, append_trace_line};
-use text_io::{Desk, Line, OutSlot};
+use text_io::{Desk, Line, OutSlot, Stop};
 
 /// Gives the changes to a simulator that stands at its start, and appends the lines of its trace to the report, one for
 /// the start and one for each change, each with this tag and the names of these ports.
@@ -25,10 +25,10 @@ pub(crate) fn write_trace<D: Desk, S: CellSim>(
     ports: &Ports,
     sim: &mut S,
     changes: &[Change],
-) -> Result<(), RunFault>
+) -> Result<(), Stop>
     requires { CanBegin ports.now (S.machine sim.old) (S.stands sim.old) changes.now }
     ensures text { WritesTrace (D.state desk.old) (D.state desk.new) (trace_text tag ports.now changes.now (trace (S.machine sim.old).line changes.now)) result }
-    ensures cause { HasCause (D.faults desk.old) (D.faults desk.new) result }
+    ensures cause { StopsWithCause (D.faults desk.old) (D.faults desk.new) result }
 {
     let mut line = Line::new();
     let mut text = Vec::new(alloc);
@@ -51,12 +51,12 @@ pub(crate) fn put_line<D: Desk, S: CellSim>(
     change: Option<&Change>,
     ports: &Ports,
     sim: &S,
-) -> Result<(), RunFault>
+) -> Result<(), Stop>
     requires inputs { length ports.now.inputs ≡ (S.machine sim.now).inputs }
     requires outputs { length ports.now.outputs ≡ (S.machine sim.now).outputs }
     requires pin { IfSome change (λ change. change.now.pin < (S.machine sim.now).inputs) }
     ensures text { (h : List ChangeOf) → S.stands sim.now h → PutsTrace (D.state desk.old) (D.state desk.new) line.old (line_text tag (option_copied change.entry) ports.now.inputs ports.now.outputs ((S.machine sim.now).line h)) line.new result }
-    ensures cause { HasCause (D.faults desk.old) (D.faults desk.new) result }
+    ensures cause { StopsWithCause (D.faults desk.old) (D.faults desk.new) result }
 {
     text.clear();
     append_trace_line(text, tag, change, &ports.inputs, &ports.outputs, sim)?;

@@ -1,5 +1,5 @@
 use Rattle.std.proofs.Common.{drop}
-use Rattle.model_replay.specs.ModelPorts.{HaveOwnNames}
+use Rattle.model_files.specs.ModelNames.{HaveOwnNames}
 use Rattle.model_replay.proofs.Catalogs.{Lists}
 use Rattle.model_replay.proofs.catalog.models_named.Given as goal
 

@@ -1,5 +1,5 @@
 use Rattle.std.proofs.Common.{drop}
-use Rattle.model_replay.specs.ModelPorts.{input_names, output_names}
+use Rattle.model_files.specs.ModelNames.{input_names, output_names}
 use Rattle.model_replay.proofs.Catalogs.{Fills}
 use Rattle.model_replay.proofs.catalog.ports_of.Given as goal
 

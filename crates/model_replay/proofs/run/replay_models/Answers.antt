@@ -1,9 +1,12 @@
-use Rattle.model_replay.proofs.ReplayRuns.{replay_runs, ended_runs}
+use Rattle.command_outcomes.specs.declared.status.Status.TheVariants.{Done}
+use Rattle.command_outcomes.proofs.FailureLaws.{ends_by_call}
+use Rattle.model_replay.proofs.ReplayFiles.{printed_runs}
 use Rattle.model_replay.proofs.run.replay_models.Goals as goal
 
 pub returns-in-Ok-clause-writes : goal.returns-in-Ok-clause-writes
 returns-in-Ok-clause-writes g c =
-    replay_runs g.L.ModelLanguage.language _ _ _ _ c.write_sections.result _ c.in-Ok.ensures.read c.write_sections.ensures.text c.ended.ensures
+    printed_runs g.L.ModelLanguage.language _ _ _ c.in-Ok.replay.models c.in-Ok.replay.sections c.write_replayed_sections.result _ c.in-Ok.ensures.read.files c.write_replayed_sections.ensures.text c.printed_status.ensures
 
-pub returns-in-Err-clause-writes : goal.returns-in-Err-clause-writes
-returns-in-Err-clause-writes g c = ended_runs g.L.ModelLanguage.language _ _ _ _ c.status.ensures c.in-Err.ensures.ended
+pub returns-in-Ok-clause-cause : goal.returns-in-Ok-clause-cause
+returns-in-Ok-clause-cause g c =
+    ends_by_call (λ _. Done) _ _ _ c.write_replayed_sections.result _ (λ _. record { no_failure = λ e. absurd cc; has_reading = λ e. absurd cc }) c.in-Ok.ensures.kept c.write_replayed_sections.ensures.cause c.printed_status.ensures

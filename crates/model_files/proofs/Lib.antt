@@ -1,0 +1,2 @@
+pub mod ModelTraces
+pub mod WholeAnswers

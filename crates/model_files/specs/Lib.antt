@@ -1,0 +1,7 @@
+pub mod Formats
+pub mod Languages
+pub mod ModelNames
+pub mod Limits
+pub mod FaultLines
+pub mod ModelAnswer
+pub mod StimulusAnswer

@@ -1,0 +1,12 @@
+use Rattle.std.proofs.Common.{take, ◌≡◌}
+use Rattle.std.specs.List.{flat_map}
+use Rattle.text_io.specs.declared.slots.OutSlot.TheVariants.{Report}
+use Rattle.text_io.specs.Desk.{wrote}
+use Rattle.model_replay.specs.Outcome.{replayed_section_text}
+use Rattle.model_replay.proofs.printing.write_replayed_sections.Given as goal
+
+abbrev pub invariant-loop-section : goal.invariant-loop-section
+invariant-loop-section g l = record {
+  written : g.D.Desk.state l.desk ≡ wrote (g.D.Desk.state l.initial.desk) Report (flat_map (replayed_section_text g.L.ModelLanguage.language l.replay.models) (take l.section-index l.replay.sections));
+  kept : g.D.Desk.faults l.desk ≡ g.D.Desk.faults l.initial.desk;
+}

@@ -1,4 +1,5 @@
 mod NewNames
 mod PortCounts
+mod LanguageLemmas
 pub mod VerilogModels
 pub mod VitalEntities

@@ -8,7 +8,7 @@ use Rattle.udp_tables.specs.declared.models.VPort.{VPort}
 use Rattle.specify_blocks.specs.WellFormed.{AreApart}
 use Rattle.specify_blocks.proofs.ReadNames.{bytes_equivalence}
 use Rattle.bool_functions.proofs.NameLists.{position-none}
-use Rattle.model_replay.specs.ModelPorts.{input_names, output_names, AreNew, HasOwnNames}
+use Rattle.model_files.specs.ModelNames.{input_names, output_names, AreNew, HasOwnNames}
 
 -- this name is none of those after it
 abbrev IsNone : List ℕ → List (List ℕ) → Type 0

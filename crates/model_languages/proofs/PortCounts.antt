@@ -4,7 +4,7 @@ use Rattle.std.proofs.lemmas.List.Recursion.{is_count_by}
 use Rattle.udp_tables.specs.declared.models.VPort.{VPort}
 use Rattle.vital_models.specs.Sound.{output_ports_from}
 use Rattle.model_traces.specs.PortNumbers.{is_input, input_count, output_by, outputs_from, output_ports}
-use Rattle.model_replay.specs.ModelPorts.{input_names, output_names}
+use Rattle.model_files.specs.ModelNames.{input_names, output_names}
 
 one_more : (port : VPort) (ports : List VPort) → length (input_names (port ∷ ports)) ≡ cond (is_input port) (1 + length (input_names ports)) (length (input_names ports))
 one_more port ports =

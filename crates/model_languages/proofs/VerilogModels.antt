@@ -6,7 +6,7 @@ use Rattle.std.specs.List.{IsDistinct, AllByRecursion}
 use Rattle.specify_blocks.specs.declared.model.VModule.{VModule}
 use Rattle.specify_blocks.specs.VerilogModules.{port_names}
 use Rattle.specify_blocks.specs.WellFormed.{AreApart, IsWellFormedModule, AreWellFormed, udp_names, outer_names, register_names}
-use Rattle.model_replay.specs.ModelPorts.{model_names, HasOwnPorts, HaveOwnNames}
+use Rattle.model_files.specs.ModelNames.{model_names, HasOwnPorts, HaveOwnNames}
 use Rattle.model_languages.specs.Verilog.{verilog}
 use Rattle.model_languages.proofs.NewNames.{all_back, apart_front, apart_back, apart_new, own_ports}
 use Rattle.model_languages.proofs.PortCounts.{length-input_names, length-output_names}

@@ -7,7 +7,7 @@ use Rattle.vital_models.specs.declared.model.VEntity.{VEntity}
 use Rattle.vhdl_text.specs.VhdlDeclarations.{port_names}
 use Rattle.vhdl_text.specs.VhdlText.{entity_names}
 use Rattle.vhdl_text.specs.WellFormed.{AreApart, IsWellFormedEntity, AreWellFormed}
-use Rattle.model_replay.specs.ModelPorts.{output_names, HasOwnPorts, HaveOwnNames}
+use Rattle.model_files.specs.ModelNames.{output_names, HasOwnPorts, HaveOwnNames}
 use Rattle.model_languages.specs.Vital.{vital}
 use Rattle.model_languages.proofs.NewNames.{apart_new, apart_spelled, own_ports}
 use Rattle.model_languages.proofs.PortCounts.{length-input_names, length-ports_from}

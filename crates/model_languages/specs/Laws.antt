@@ -4,7 +4,7 @@ use Rattle.specify_blocks.specs.declared.model.VModule.{VModule}
 use Rattle.specify_blocks.specs.WellFormed as modules
 use Rattle.vital_models.specs.declared.model.VEntity.{VEntity}
 use Rattle.vhdl_text.specs.WellFormed as entities
-use Rattle.model_replay.specs.ModelPorts.{HaveOwnNames}
+use Rattle.model_files.specs.ModelNames.{HaveOwnNames}
 use Rattle.model_languages.specs.Verilog.{verilog}
 use Rattle.model_languages.specs.Vital.{vital}
 

@@ -1,7 +1,11 @@
-//! Verilog and VHDL as a replay sees them: what their texts are, what their models are called, and what runs of them. (IEEE
-//! 1364-2005; IEEE 1076-1993 and IEEE 1076.4-2000.) The definitions stand in `specs/`.
+//! Verilog and VHDL as a run reads, names and runs their models. (IEEE 1364-2005; IEEE 1076-1993 and IEEE 1076.4-2000.) What their
+//! texts are, what their models are called, and what runs of them stands in `specs/`.
 #![tactic(auto)]
 
 mod laws;
+mod verilog;
+mod vital;
 
 pub use laws::{entities_have_own_names, modules_have_own_names};
+pub use verilog::Verilog;
+pub use vital::Vital;

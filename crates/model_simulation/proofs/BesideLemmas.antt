@@ -5,26 +5,26 @@ use Rattle.std.proofs.lemmas.List.{take_all}
 use Rattle.std.proofs.lemmas.List.Folds.{list_any_more}
 use Rattle.text_io.specs.declared.outside.Failed.{Failed}
 use Rattle.text_io.specs.declared.slots.OutSlot.TheVariants.{Report}
-use Rattle.text_io.specs.Desk.{DeskState, wrote, WritesText, HasCause as HasWriteCause}
-use Rattle.text_io.proofs.Wrote.{wrote_more, IsPrefix-front}
+use Rattle.text_io.specs.declared.stop.Stop.TheVariants as stops
+use Rattle.text_io.specs.Desk.{DeskState, wrote, Rose, WritesText, StopsWithCause}
+use Rattle.text_io.proofs.Wrote.{wrote_more}
 use Rattle.cell_machine.specs.declared.changes.Change.{Change}
 use Rattle.cell_machine.specs.declared.cells.Cell.{Cell}
 use Rattle.cell_machine.specs.CellData.{data_of}
 use Rattle.cell_machine.specs.CellTrace.{cell_machine_of}
 use Rattle.cell_machine.specs.Lines.{Machine}
-use Rattle.cell_reader.specs.LibraryCells.{CellEntry}
+use Rattle.library_items.specs.LibraryCells.{CellEntry}
 use Rattle.specify_blocks.specs.declared.model.VModule.{VModule}
 use Rattle.vital_models.specs.declared.model.VEntity.{VEntity}
 use Rattle.model_traces.specs.ModuleTrace.{module_machine}
 use Rattle.model_traces.specs.EntityTrace.{entity_machine}
 use Rattle.stimulus.specs.declared.ports.Ports.{Ports}
 use Rattle.stimulus.specs.declared.sections.Section.{Section}
-use Rattle.section_runs.specs.declared.faults.RunFault.{RunFault}
-use Rattle.section_runs.specs.declared.faults.RunFault.TheVariants as fault
+use Rattle.text_io.specs.declared.stop.Stop.{Stop}
 use Rattle.section_runs.specs.TraceText.{heading_text}
 use Rattle.section_runs.specs.Comparison.{HavePorts, three_lines, compared_text, first_unlike, verdict_text}
-use Rattle.section_runs.specs.Writes.{WritesTrace, HasCause}
-use Rattle.section_runs.proofs.Runs.{behind, stops_before, written_part}
+use Rattle.section_runs.specs.Writes.{WritesTrace}
+use Rattle.section_runs.proofs.Runs.{behind, stops_before, written_part, trace_stops}
 use Rattle.simulation_catalog.specs.Sections.{CanBeCompared}
 use Rattle.simulation_catalog.specs.Comparisons.{Compared, compared_at, lines_of, compared_section, section_by, section_text, differs_by, differs, any_differs}
 use Rattle.model_simulation.specs.declared.comparisons.Beside.{Beside}
@@ -54,7 +54,7 @@ can_be_given cells modules entities section beside run d p m e = record {
 
 -- What is appended for what the section is run on is the section's text, and it differs so.
 
-pub section_is : {T : Type 0} (cells : List CellEntry) (modules : List VModule) (entities : List VEntity) (section : Section) (beside : Beside) (s t : DeskState) (r : Result T RunFault)
+pub section_is : {T : Type 0} (cells : List CellEntry) (modules : List VModule) (entities : List VEntity) (section : Section) (beside : Beside) (s t : DeskState) (r : Result T Stop)
     → IsRunOn cells modules entities section beside → WritesTrace s t (compared_section (compared_of beside) section.changes) r
     → WritesTrace s t (section_text cells modules entities section) r
 section_is cells modules entities section beside s t r is w =
@@ -63,12 +63,6 @@ section_is cells modules entities section beside s t r is w =
 pub differs_is : (cells : List CellEntry) (modules : List VModule) (entities : List VEntity) (section : Section) (beside : Beside)
     → IsRunOn cells modules entities section beside → is_some (first_unlike section.changes (lines_of (compared_of beside))) ≡ differs cells modules entities section
 differs_is cells modules entities section beside is = sym (ap (λ c. differs_by c section.changes) is)
-
--- a stop within the first of two texts
-pub trace_stops : {S T : Type 0} (s t : DeskState) (a b : List ℕ) (y : RunFault) (r : Result T RunFault) → WritesTrace {T = S} s t a (Err y) → IsErr r → WritesTrace s t (a ++ b) r
-trace_stops s t a b y (Ok x) w e = absurd cc
-trace_stops s t a b y (Err z) w e =
-    record { whole = tt; part = record { part = w.part.part; front = IsPrefix-front w.part.part a b w.part.front; state = w.part.state } }
 
 -- The machines of three simulators that were started are those of what the section is run on.
 
@@ -81,7 +75,7 @@ pub have_ports : (beside : Beside) (liberty verilog vital : Machine) → liberty
     → HavePorts beside.ports.now liberty verilog vital
 have_ports beside liberty verilog vital l v h have = rw (l, v, h) have
 
-pub text_is : {T : Type 0} (beside : Beside) (name : List ℕ) (liberty verilog vital : Machine) (given changes : List Change) (s t : DeskState) (r : Result T RunFault)
+pub text_is : {T : Type 0} (beside : Beside) (name : List ℕ) (liberty verilog vital : Machine) (given changes : List Change) (s t : DeskState) (r : Result T Stop)
     → name ≡ beside.cell.now.name → given ≡ changes
     → liberty ≡ cell_machine_of (data_of beside.cell.now) → verilog ≡ module_machine beside.module.now → vital ≡ entity_machine beside.entity.now
     → WritesTrace s t (compared_section (compared_with name beside.ports.now liberty verilog vital) given) r → WritesTrace s t (compared_section (compared_of beside) changes) r
@@ -97,13 +91,13 @@ unlike_is beside liberty verilog vital given changes r e l v h w =
 
 -- How far a section was appended: its parts are its heading, the lines and the verdict.
 
-pub heading_stops : {S T : Type 0} (c : Compared) (changes : List Change) (s t : DeskState) (y : Failed) (r : Result T RunFault)
+pub heading_stops : {S T : Type 0} (c : Compared) (changes : List Change) (s t : DeskState) (y : Failed) (r : Result T Stop)
     → WritesText {T = S} s t Report (heading_text c.name) (Err y) → IsErr r → WritesTrace s t (compared_section c changes) r
 unfolding compared_section
 heading_stops c changes s t y r w e =
     stops_before s t (heading_text c.name) (compared_text c.ports changes (lines_of c) ++ verdict_text (first_unlike changes (lines_of c))) y r w e
 
-pub lines_stop : {S T : Type 0} (c : Compared) (changes : List Change) (s t u : DeskState) (y : RunFault) (r : Result T RunFault)
+pub lines_stop : {S T : Type 0} (c : Compared) (changes : List Change) (s t u : DeskState) (y : Stop) (r : Result T Stop)
     → t ≡ wrote s Report (heading_text c.name) → WritesTrace {T = S} t u (compared_text c.ports changes (lines_of c)) (Err y) → IsErr r
     → WritesTrace s u (compared_section c changes) r
 unfolding compared_section
@@ -111,7 +105,7 @@ lines_stop c changes s t u y r h w e =
     behind s t u (heading_text c.name) (compared_text c.ports changes (lines_of c) ++ verdict_text (first_unlike changes (lines_of c))) r h
     (trace_stops t u (compared_text c.ports changes (lines_of c)) (verdict_text (first_unlike changes (lines_of c))) y r w e)
 
-pub verdict_stops : {S T : Type 0} (c : Compared) (changes : List Change) (first : Option ℕ) (s t u v : DeskState) (y : Failed) (r : Result T RunFault)
+pub verdict_stops : {S T : Type 0} (c : Compared) (changes : List Change) (first : Option ℕ) (s t u v : DeskState) (y : Failed) (r : Result T Stop)
     → first ≡ first_unlike changes (lines_of c) → t ≡ wrote s Report (heading_text c.name) → u ≡ wrote t Report (compared_text c.ports changes (lines_of c))
     → WritesText {T = S} u v Report (verdict_text first) (Err y) → IsErr r → WritesTrace s v (compared_section c changes) r
 unfolding compared_section
@@ -132,15 +126,16 @@ section_whole c changes first s t u v found h l w =
 -- Why a section was not appended whole.
 
 -- a write failed
-pub write_cause : {S T : Type 0} (before now : ℕ) (y : Failed) (r : Result T RunFault) → IsErrAnd r (λ stop. stop ≡ fault.Failed) → HasWriteCause {T = S} before now (Err y) → HasCause before now r
-write_cause before now y (Ok x) is h = absurd is
-write_cause before now y (Err z) is h = record { later = h.later; kept = tt; memory = λ m. absurd cc; failed = λ f. h.failed }
+pub write_cause : {T : Type 0} (before now : ℕ) (r : Result T Stop) → IsErrAnd r (λ stop. stop ≡ stops.Failed) → before ≤ now → Rose before now → StopsWithCause before now r
+write_cause before now (Ok x) is later rose = absurd is
+write_cause before now (Err z) is later rose = record { later = later; kept = λ m. absurd (let no = sym is ∙ m in cc); failed = λ f. rose }
 
--- the fault is that of a part, before which there was none
-pub part_cause : {S T : Type 0} (start before now : ℕ) (y : RunFault) (r : Result T RunFault) → before ≡ start → IsErrAnd r (λ stop. stop ≡ y) → HasCause {T = S} before now (Err y) → HasCause start now r
-part_cause {T = T} start before now y (Ok x) kept is h = absurd is
-part_cause {T = T} start before now y (Err z) kept is h =
-    subst (λ n. HasCause {T = T} n now (Err z)) kept (record { later = h.later; kept = tt; memory = λ m. h.memory (sym is ∙ m); failed = λ f. h.failed (sym is ∙ f) })
+-- the stop is that of a part, before which there was none
+pub part_cause : {T : Type 0} (start before now : ℕ) (y : Stop) (r : Result T Stop) → before ≡ start → IsErrAnd r (λ stop. stop ≡ y)
+    → before ≤ now → (y ≡ stops.Memory → now ≡ before) → (y ≡ stops.Failed → Rose before now) → StopsWithCause start now r
+part_cause {T = T} start before now y (Ok x) same is later kept failed = absurd is
+part_cause {T = T} start before now y (Err z) same is later kept failed =
+    subst (λ n. StopsWithCause {T = T} n now (Err z)) same (record { later = later; kept = λ m. kept (sym is ∙ m); failed = λ f. failed (sym is ∙ f) })
 
 -- one section more
 pub differs_more : (cells : List CellEntry) (modules : List VModule) (entities : List VEntity) (sections : List Section) (i : ℕ) (x : Section) (before here : Bool)

@@ -1,6 +1,3 @@
-pub mod LibraryFileLemmas
-pub mod LanguageLemmas
-pub mod ModelFileLemmas
 pub mod SimulationFiles
 pub mod SimulateLemmas
 pub mod BesideLemmas

@@ -15,7 +15,7 @@ use Rattle.vhdl_names.specs.Kept.{lowered}
 use Rattle.vital_models.specs.declared.model.VEntity.{VEntity}
 use Rattle.vhdl_text.specs.WellFormed as entities
 use Rattle.vhdl_text.specs.VhdlText.{entity_names}
-use Rattle.model_replay.specs.ModelPorts.{AreNew}
+use Rattle.model_files.specs.ModelNames.{AreNew}
 use Rattle.model_languages.proofs.VerilogModels as verilog_models
 use Rattle.simulation_catalog.specs.NamedModels.{module_names, lowered_names}
 use Rattle.cell_parts.proofs.Clashes.{found_is}

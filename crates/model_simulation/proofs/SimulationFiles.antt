@@ -4,16 +4,16 @@ use Rattle.std.proofs.lemmas.List.{append-nil}
 use Rattle.text_io.specs.declared.slots.InSlot.TheVariants.{Library, Verilog, Vital, Stimulus}
 use Rattle.text_io.specs.declared.slots.Slot.{Slot}
 use Rattle.text_io.specs.declared.slots.Slot.TheVariants.{Input}
+use Rattle.text_io.specs.declared.stop.Stop.TheVariants as stops
 use Rattle.text_io.specs.Plan.{plan}
 use Rattle.text_io.specs.Desk.{DeskState, Folder}
-use Rattle.cell_reader.specs.LibraryCells.{CellEntry, all_described}
+use Rattle.library_items.specs.LibraryCells.{CellEntry, all_described}
 use Rattle.specify_blocks.specs.declared.model.VModule.{VModule}
 use Rattle.vital_models.specs.declared.model.VEntity.{VEntity}
 use Rattle.stimulus.specs.declared.sections.Section.{Section}
 use Rattle.stimulus.specs.PortEntries.{listed}
 use Rattle.stimulus.specs.Stimulus.{stimulus_of}
-use Rattle.section_runs.specs.declared.faults.RunFault.{RunFault}
-use Rattle.section_runs.specs.declared.faults.RunFault.TheVariants as run
+use Rattle.text_io.specs.declared.stop.Stop.{Stop}
 use Rattle.section_runs.specs.Writes.{WritesTrace}
 use Rattle.command_outcomes.specs.declared.status.Status.{Status}
 use Rattle.command_outcomes.specs.declared.status.Status.TheVariants as status
@@ -32,10 +32,11 @@ use Rattle.simulation_catalog.specs.Catalog.{cells_named, simulated_of}
 use Rattle.simulation_catalog.specs.Comparisons.{sections_text, any_differs}
 use Rattle.simulation_catalog.specs.Ends.{sections_outcome}
 use Rattle.simulation_catalog.specs.Sections.{SectionsCanBeCompared}
-use Rattle.simulation_catalog.specs.StimulusFile.{stimulus_answer}
+use Rattle.model_files.specs.StimulusAnswer.{stimulus_answer}
+use Rattle.simulation_catalog.specs.FaultLines.{cause_stop}
 use Rattle.model_simulation.specs.declared.simulation.ModelsRead.{ModelsRead}
-use Rattle.model_simulation.specs.LibraryAnswers.{library_answer}
-use Rattle.model_simulation.specs.ModelAnswers.{model_answer}
+use Rattle.library_file.specs.LibraryAnswer.{library_answer}
+use Rattle.model_files.specs.ModelAnswer.{model_answer}
 use Rattle.model_simulation.specs.Simulate.{simulate_files, model_files, simulate_of, behind_cells, behind_modules, behind_entities, behind_models}
 use Rattle.model_simulation.specs.Simulations.{ReadsModels, ReadsSimulation}
 use Rattle.model_simulation.specs.Besides.{compared_status}
@@ -95,10 +96,10 @@ entities_read old now new cells modules entities r t =
 
 pub sections_read : (old now new : DeskState) (cells : List CellEntry) (modules : List VModule) (entities : List VEntity) (sections : List Section)
     → HasRead simulate_files model_files (simulate_of old.words) (behind_models cells modules entities old.words) old now
-    → FileIsTaken (stimulus_answer cells (cells_named cells modules entities)) now new Stimulus 4 sections
+    → FileIsTaken (stimulus_answer (cause_stop cells) (cells_named cells modules entities)) now new Stimulus 4 sections
     → HasRead simulate_files simulate_files (simulate_of old.words) (λ _. sections_outcome cells modules entities sections) old new
 sections_read old now new cells modules entities sections r t =
-    one_more simulate_files model_files (simulate_of old.words) (stimulus_answer cells (cells_named cells modules entities)) (λ found _. sections_outcome cells modules entities found) old now new Stimulus 4 4 sections
+    one_more simulate_files model_files (simulate_of old.words) (stimulus_answer (cause_stop cells) (cells_named cells modules entities)) (λ found _. sections_outcome cells modules entities found) old now new Stimulus 4 4 sections
     r refl ([], refl) t
 
 -- The file that ends the run.
@@ -123,9 +124,9 @@ vital_ends old now new cells modules result r f =
 
 pub stimulus_ends : (old now new : DeskState) (cells : List CellEntry) (modules : List VModule) (entities : List VEntity) (result : Status)
     → HasRead simulate_files model_files (simulate_of old.words) (behind_models cells modules entities old.words) old now
-    → FileEndsRun (stimulus_answer cells (cells_named cells modules entities)) now new Stimulus 4 result → RunsAs simulate_files (simulate_of old.words) old new result
+    → FileEndsRun (stimulus_answer (cause_stop cells) (cells_named cells modules entities)) now new Stimulus 4 result → RunsAs simulate_files (simulate_of old.words) old new result
 stimulus_ends old now new cells modules entities result r f =
-    ends_there simulate_files model_files (simulate_of old.words) (stimulus_answer cells (cells_named cells modules entities)) (λ found _. sections_outcome cells modules entities found) old now new Stimulus 4 4 result
+    ends_there simulate_files model_files (simulate_of old.words) (stimulus_answer (cause_stop cells) (cells_named cells modules entities)) (λ found _. sections_outcome cells modules entities found) old now new Stimulus 4 4 result
     r refl ([], refl) refl refl f
 
 -- want of memory behind the models
@@ -140,22 +141,22 @@ no_memory old now cells modules entities result r is =
 -- the stimulus ends the run
 pub stimulus_stops : (old now new : DeskState) (read : ModelsRead) (simulated : Simulated) (result : Status) → ReadsModels old now read
     → simulated ≡ simulated_of (all_described read.cells) read.modules read.entities
-    → FileEndsRun (stimulus_answer (all_described read.cells) simulated.catalog) now new Stimulus 4 result → RunsAs simulate_files (simulate_of old.words) old new result
+    → FileEndsRun (stimulus_answer (cause_stop (all_described read.cells)) simulated.catalog) now new Stimulus 4 result → RunsAs simulate_files (simulate_of old.words) old new result
 stimulus_stops old now new read simulated result r is f =
     let cells = all_described read.cells in
     stimulus_ends old now new cells read.modules read.entities result r.files
-    (subst (λ (s : Simulated). FileEndsRun (stimulus_answer cells s.catalog) now new Stimulus 4 result) is f)
+    (subst (λ (s : Simulated). FileEndsRun (stimulus_answer (cause_stop cells) s.catalog) now new Stimulus 4 result) is f)
 
 -- the stimulus is read, and its sections can be run
 pub simulation_read : (old now new : DeskState) (read : ModelsRead) (simulated : Simulated) (sections : List Section) (bytes : List ℕ) → SectionsCanBeCompared → ReadsModels old now read
     → simulated ≡ simulated_of (all_described read.cells) read.modules read.entities
-    → FileIsTaken (stimulus_answer (all_described read.cells) simulated.catalog) now new Stimulus 4 sections
+    → FileIsTaken (stimulus_answer (cause_stop (all_described read.cells)) simulated.catalog) now new Stimulus 4 sections
     → stimulus_of (listed simulated.catalog) bytes ≡ Ok sections → ReadsSimulation old new (record { read = read; simulated = simulated; sections = sections })
 simulation_read old now new read simulated sections bytes can r is taken text =
     let cells = all_described read.cells in
     record {
       files = sections_read old now new cells read.modules read.entities sections r.files
-          (subst (λ (s : Simulated). FileIsTaken (stimulus_answer cells s.catalog) now new Stimulus 4 sections) is taken);
+          (subst (λ (s : Simulated). FileIsTaken (stimulus_answer (cause_stop cells) s.catalog) now new Stimulus 4 sections) is taken);
       runs = record {
         simulated = is;
         sections = can read.cells read.modules read.entities bytes sections r.modules r.entities (subst (λ (s : Simulated). stimulus_of (listed s.catalog) bytes ≡ Ok sections) is text);
@@ -164,7 +165,7 @@ simulation_read old now new read simulated sections bytes can r is taken text =
 
 -- The sections are printed.
 
-pub printed_runs : (old now new : DeskState) (cells : List CellEntry) (modules : List VModule) (entities : List VEntity) (sections : List Section) (printed : Result Bool RunFault) (result : Status)
+pub printed_runs : (old now new : DeskState) (cells : List CellEntry) (modules : List VModule) (entities : List VEntity) (sections : List Section) (printed : Result Bool Stop) (result : Status)
     → HasRead simulate_files simulate_files (simulate_of old.words) (λ _. sections_outcome cells modules entities sections) old now
     → WritesTrace now new (sections_text cells modules entities sections) printed
     → IfOk printed (λ differ. differ ≡ any_differs cells modules entities sections)
@@ -174,9 +175,9 @@ printed_runs old now new cells modules entities sections (Ok differ) result r w 
     let ends = if any_differs cells modules entities sections then status.Differ else status.Done in
     let same : result ≡ ends = is ∙ ap (λ b. if b then status.Differ else status.Done) d in
     reports_all simulate_files (simulate_of old.words) old now new ends result text text r refl w.whole ([], append-nil text) (λ _. (same, refl))
-printed_runs old now new cells modules entities sections (Err run.Failed) result r w d is =
+printed_runs old now new cells modules entities sections (Err stops.Failed) result r w d is =
     let ends = if any_differs cells modules entities sections then status.Differ else status.Done in
     reports_all simulate_files (simulate_of old.words) old now new ends result w.part.part (sections_text cells modules entities sections) r refl w.part.state w.part.front (λ k. absurd (let h = rw is at k in cc))
-printed_runs old now new cells modules entities sections (Err run.Memory) result r w d is =
+printed_runs old now new cells modules entities sections (Err stops.Memory) result r w d is =
     let ends = if any_differs cells modules entities sections then status.Differ else status.Done in
     reports_all simulate_files (simulate_of old.words) old now new ends result w.part.part (sections_text cells modules entities sections) r refl w.part.state w.part.front (λ k. absurd (let h = rw is at k in cc))

@@ -1,10 +1,10 @@
 -- A cell beside the models that stand for it, and how a simulation that was printed ends.
-use Rattle.std.specs.Prelude.{◌≡◌, ℕ, Bool, List, [], length, Some, Result, Ok, Err, if◌then◌else◌}
+use Rattle.std.specs.Prelude.{◌≡◌, ℕ, Bool, List, [], length, Some, Result, if◌then◌else◌}
 use Rattle.cell_machine.specs.CellData.{data_of}
 use Rattle.cell_machine.specs.CellTrace.{cell_machine_of}
 use Rattle.cell_machine.specs.History.{IsProperFrom}
 use Rattle.cell_machine.specs.Lines.{Machine}
-use Rattle.cell_reader.specs.LibraryCells.{CellEntry}
+use Rattle.library_items.specs.LibraryCells.{CellEntry}
 use Rattle.specify_blocks.specs.declared.model.VModule.{VModule}
 use Rattle.specify_blocks.specs.Sound as modules_of
 use Rattle.vital_models.specs.declared.model.VEntity.{VEntity}
@@ -13,11 +13,11 @@ use Rattle.model_traces.specs.ModuleTrace.{module_machine}
 use Rattle.model_traces.specs.EntityTrace.{entity_machine}
 use Rattle.stimulus.specs.declared.ports.Ports.{Ports}
 use Rattle.stimulus.specs.declared.sections.Section.{Section}
-use Rattle.section_runs.specs.declared.faults.RunFault.{RunFault}
-use Rattle.section_runs.specs.declared.faults.RunFault.TheVariants as run
+use Rattle.text_io.specs.declared.stop.Stop.{Stop}
 use Rattle.section_runs.specs.Comparison.{HavePorts}
 use Rattle.command_outcomes.specs.declared.status.Status.{Status}
 use Rattle.command_outcomes.specs.declared.status.Status.TheVariants as status
+use Rattle.command_outcomes.specs.Status.{status_by}
 use Rattle.simulation_catalog.specs.Comparisons.{Compared, compared_at}
 use Rattle.model_simulation.specs.declared.comparisons.Beside.{Beside}
 
@@ -43,7 +43,5 @@ abbrev pub IsRunOn : List CellEntry → List VModule → List VEntity → Sectio
 IsRunOn cells modules entities section beside = compared_at cells modules entities section.cell ≡ Some (compared_of beside)
 
 -- the status of a run whose sections were printed so, and of which some differ or none
-abbrev pub compared_status : Result Bool RunFault → Status
-compared_status (Ok some_differ) = if some_differ then status.Differ else status.Done
-compared_status (Err run.Failed) = status.Outside
-compared_status (Err run.Memory) = status.Memory
+abbrev pub compared_status : Result Bool Stop → Status
+compared_status printed = status_by (λ some_differ. if some_differ then status.Differ else status.Done) printed

@@ -4,7 +4,7 @@ use Rattle.std.specs.Prelude.{ℕ, List, [], ◌∷◌}
 use Rattle.text_io.specs.declared.slots.InSlot.TheVariants.{Library, Verilog, Vital, Stimulus}
 use Rattle.text_io.specs.declared.slots.Slot.TheVariants.{Input}
 use Rattle.text_io.specs.Desk.{Folder}
-use Rattle.cell_reader.specs.LibraryCells.{CellEntry}
+use Rattle.library_items.specs.LibraryCells.{CellEntry}
 use Rattle.specify_blocks.specs.declared.model.VModule.{VModule}
 use Rattle.vital_models.specs.declared.model.VEntity.{VEntity}
 use Rattle.command_outcomes.specs.Binding.{Files, bytes_at}
@@ -14,9 +14,10 @@ use Rattle.model_languages.specs.Verilog.{verilog}
 use Rattle.model_languages.specs.Vital.{vital}
 use Rattle.simulation_catalog.specs.Catalog.{cells_named}
 use Rattle.simulation_catalog.specs.Ends.{sections_outcome}
-use Rattle.simulation_catalog.specs.StimulusFile.{stimulus_answer}
-use Rattle.model_simulation.specs.LibraryAnswers.{library_answer}
-use Rattle.model_simulation.specs.ModelAnswers.{model_answer}
+use Rattle.model_files.specs.StimulusAnswer.{stimulus_answer}
+use Rattle.simulation_catalog.specs.FaultLines.{cause_stop}
+use Rattle.library_file.specs.LibraryAnswer.{library_answer}
+use Rattle.model_files.specs.ModelAnswer.{model_answer}
 
 -- the files of `simulate`: the library, the Verilog file, the VHDL file and the stimulus
 abbrev pub simulate_files : Files
@@ -29,7 +30,7 @@ model_files = (Input Library, 1) ∷ (Input Verilog, 2) ∷ (Input Vital, 3) ∷
 -- behind the entities, by the stimulus
 abbrev pub behind_entities : List CellEntry → List VModule → List VEntity → List ℕ → Outcome
 behind_entities cells modules entities stimulus =
-    outcome_by 4 (stimulus_answer cells (cells_named cells modules entities) stimulus) (λ sections. sections_outcome cells modules entities sections)
+    outcome_by 4 (stimulus_answer (cause_stop cells) (cells_named cells modules entities) stimulus) (λ sections. sections_outcome cells modules entities sections)
 
 -- behind the modules, by the VHDL file
 abbrev pub behind_modules : List CellEntry → List VModule → List ℕ → List ℕ → Outcome

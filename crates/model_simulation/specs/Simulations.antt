@@ -1,7 +1,7 @@
 -- What stands once the files of a simulation are read.
 use Rattle.std.specs.Prelude.{◌≡◌, All}
 use Rattle.text_io.specs.Desk.{DeskState}
-use Rattle.cell_reader.specs.LibraryCells.{all_described}
+use Rattle.library_items.specs.LibraryCells.{all_described}
 use Rattle.specify_blocks.specs.Sound as modules_of
 use Rattle.vital_models.specs.Sound as entities_of
 use Rattle.command_outcomes.specs.FilesRead.{HasRead}

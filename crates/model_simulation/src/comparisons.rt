@@ -1,9 +1,10 @@
 //! The sections of a simulation: each is run on its cell and on the models of this cell, printed and compared.
 ghost use Rattle.std.specs.Prelude.{◌≡◌, [], length, is_some, Ok, IfOk};
-ghost use Rattle.cell_reader.specs.LibraryCells.{all_described};
+ghost use Rattle.library_items.specs.LibraryCells.{all_described};
 ghost use Rattle.cell_machine.specs.History.{IsProperFrom};
 ghost use Rattle.section_runs.specs.Comparison.{HavePorts, three_lines, first_unlike};
-ghost use Rattle.section_runs.specs.Writes.{WritesTrace, HasCause};
+ghost use Rattle.section_runs.specs.Writes.{WritesTrace};
+ghost use Rattle.text_io.specs.Desk.{StopsWithCause};
 ghost use Rattle.simulation_catalog.specs.Catalog.{simulated_of};
 ghost use Rattle.simulation_catalog.specs.Comparisons.{lines_of, compared_section, section_text, sections_text, differs, any_differs};
 ghost use Rattle.simulation_catalog.specs.Sections.{CanBeCompared};
@@ -12,14 +13,14 @@ ghost use Rattle.model_simulation.specs.Simulations.{CanBePrinted};
 
 use crate::simulation::Simulation;
 use cell_machine::{Cell, CellSim, Change, LibertySim};
-use cell_reader::LibraryCell;
-use section_runs::{RunFault, Three, write_comparison, write_heading, write_verdict};
+use library_items::LibraryCell;
+use section_runs::{Three, write_comparison, write_heading, write_verdict};
 use simulation_catalog::described_are_cells;
 use specify_blocks::VModule;
 use std::alloc::{AllocError, Global};
 use stimulus::{Ports, Section};
 use table_interpreters::{VerilogSim, VitalSim};
-use text_io::Desk;
+use text_io::{Desk, Stop};
 use vital_models::VEntity;
 
 /// A cell, the names of its ports, and the models that stand for it.
@@ -81,7 +82,7 @@ fn write_started<D: Desk, L: CellSim + Drop, V: CellSim + Drop, H: CellSim + Dro
     ports: &Ports,
     mut three: Three<L, V, H>,
     changes: &[Change],
-) -> Result<bool, RunFault>
+) -> Result<bool, Stop>
     requires ports { HavePorts ports.now (L.machine three.liberty) (V.machine three.verilog) (H.machine three.vital) }
     requires liberty { L.stands three.liberty [] }
     requires verilog { V.stands three.verilog [] }
@@ -89,7 +90,7 @@ fn write_started<D: Desk, L: CellSim + Drop, V: CellSim + Drop, H: CellSim + Dro
     requires proper { IsProperFrom (length ports.now.inputs) [] changes.now }
     ensures text { WritesTrace (D.state desk.old) (D.state desk.new) (compared_section (compared_with name.now ports.now (L.machine three.liberty) (V.machine three.verilog) (H.machine three.vital)) changes.now) result }
     ensures differs { IfOk result (λ some_differ. some_differ ≡ is_some (first_unlike changes.now (three_lines (L.machine three.liberty) (V.machine three.verilog) (H.machine three.vital)))) }
-    ensures cause { HasCause (D.faults desk.old) (D.faults desk.new) result }
+    ensures cause { StopsWithCause (D.faults desk.old) (D.faults desk.new) result }
 {
     write_heading(desk, name)?;
     let first = write_comparison(alloc, desk, ports, &mut three, changes)?;
@@ -104,11 +105,11 @@ fn write_compared<D: Desk>(
     desk: &mut D,
     beside: &Beside<'_>,
     section: &Section,
-) -> Result<bool, RunFault>
+) -> Result<bool, Stop>
     requires { CanBeGiven beside.now section.now }
     ensures text { WritesTrace (D.state desk.old) (D.state desk.new) (compared_section (compared_of beside.now) section.now.changes) result }
     ensures differs { IfOk result (λ some_differ. some_differ ≡ is_some (first_unlike section.now.changes (lines_of (compared_of beside.now)))) }
-    ensures cause { HasCause (D.faults desk.old) (D.faults desk.new) result }
+    ensures cause { StopsWithCause (D.faults desk.old) (D.faults desk.new) result }
 {
     let name = beside.cell.name.as_slice();
     let changes = section.changes.as_slice();
@@ -117,23 +118,23 @@ fn write_compared<D: Desk>(
     let vital = VitalSim::start(alloc, beside.entity);
     match all_started(liberty, verilog, vital) {
         Ok(three) => write_started(alloc, desk, name, beside.ports, three, changes),
-        Err(_) => Err(RunFault::Memory),
+        Err(_) => Err(Stop::Memory),
     }
 }
 
 /// Appends a section of a simulation to the report, and answers whether two of its three traces differ. After a fault a prefix of the
 /// section was appended.
-fn write_section<D: Desk>(
+fn write_compared_section<D: Desk>(
     alloc: Global,
     desk: &mut D,
     simulation: &Simulation,
     section: &Section,
-) -> Result<bool, RunFault>
+) -> Result<bool, Stop>
     requires simulated { simulation.now.simulated ≡ simulated_of (all_described simulation.now.read.cells) simulation.now.read.modules simulation.now.read.entities }
     requires run { CanBeCompared (all_described simulation.now.read.cells) simulation.now.read.modules simulation.now.read.entities section.now }
     ensures text { WritesTrace (D.state desk.old) (D.state desk.new) (section_text (all_described simulation.now.read.cells) simulation.now.read.modules simulation.now.read.entities section.now) result }
     ensures differs { IfOk result (λ some_differ. some_differ ≡ differs (all_described simulation.now.read.cells) simulation.now.read.modules simulation.now.read.entities section.now) }
-    ensures cause { HasCause (D.faults desk.old) (D.faults desk.new) result }
+    ensures cause { StopsWithCause (D.faults desk.old) (D.faults desk.new) result }
 {
     let beside = stands_beside(simulation, section);
     write_compared(alloc, desk, &beside, section)
@@ -141,19 +142,19 @@ fn write_section<D: Desk>(
 
 /// Appends the sections of a simulation to the report, in order, and answers whether two of the three traces of some section differ.
 /// After a fault a prefix of the sections was appended. `Failed` comes only where a write failed.
-pub(crate) fn write_sections<D: Desk>(
+pub(crate) fn write_compared_sections<D: Desk>(
     alloc: Global,
     desk: &mut D,
     simulation: &Simulation,
-) -> Result<bool, RunFault>
+) -> Result<bool, Stop>
     requires { CanBePrinted simulation.now }
     ensures text { WritesTrace (D.state desk.old) (D.state desk.new) (sections_text (all_described simulation.now.read.cells) simulation.now.read.modules simulation.now.read.entities simulation.now.sections) result }
     ensures differs { IfOk result (λ some_differ. some_differ ≡ any_differs (all_described simulation.now.read.cells) simulation.now.read.modules simulation.now.read.entities simulation.now.sections) }
-    ensures cause { HasCause (D.faults desk.old) (D.faults desk.new) result }
+    ensures cause { StopsWithCause (D.faults desk.old) (D.faults desk.new) result }
 {
     let mut some_differ = false;
     for section in simulation.sections.as_slice() {
-        let section_differs = write_section(alloc, desk, simulation, section)?;
+        let section_differs = write_compared_section(alloc, desk, simulation, section)?;
         some_differ = some_differ || section_differs;
     }
     Ok(some_differ)

@@ -3,14 +3,13 @@ ghost use Rattle.std.specs.Prelude.{◌≡◌};
 ghost use Rattle.text_io.specs.Plan.{plan};
 ghost use Rattle.command_outcomes.specs.Runs.{RunsAs, StopsWithStatus};
 ghost use Rattle.model_simulation.specs.Simulate.{simulate_files, simulate_of};
-ghost use Rattle.model_simulation.specs.Besides.{compared_status};
+ghost use Rattle.model_simulation.specs.Besides.{compared_status as compared_status_of};
 
-use crate::comparisons::write_sections;
+use crate::comparisons::write_compared_sections;
 use crate::simulation::read_simulation;
 use command_outcomes::Status;
-use section_runs::RunFault;
 use std::alloc::Global;
-use text_io::Desk;
+use text_io::{Desk, Stop};
 
 /// Prints the traces of the cells of a library, of their modules and of their entities, section by section of a stimulus, all of the
 /// files that the words name, and whether the three of each section are equal. Nothing is printed before all four files are read.
@@ -23,19 +22,18 @@ pub fn simulate_library<D: Desk>(alloc: Global, desk: &mut D) -> Status
     ensures cause { StopsWithStatus (D.faults desk.old) (D.faults desk.new) result }
 {
     match read_simulation(alloc, desk) {
-        Ok(simulation) => ended(write_sections(alloc, desk, &simulation)),
+        Ok(simulation) => compared_status(write_compared_sections(alloc, desk, &simulation)),
         Err(status) => status,
     }
 }
 
 /// The status of a run whose sections were printed so, and of which some differ or none.
-fn ended(printed: Result<bool, RunFault>) -> Status
-    ensures { result ≡ compared_status printed }
+fn compared_status(printed: Result<bool, Stop>) -> Status
+    ensures { result ≡ compared_status_of printed }
 {
     match printed {
         Ok(true) => Status::Differ,
         Ok(false) => Status::Done,
-        Err(RunFault::Failed) => Status::Outside,
-        Err(RunFault::Memory) => Status::Memory,
+        Err(stop) => Status::from(stop),
     }
 }

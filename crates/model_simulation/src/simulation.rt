@@ -1,19 +1,18 @@
 //! The files of a simulation: the library, the two files of models and the stimulus are read, or the run ends.
 ghost use Rattle.std.specs.Prelude.{◌≡◌, IfOk, IfErr, OnOk};
 ghost use Rattle.text_io.specs.Plan.{plan};
-ghost use Rattle.cell_reader.specs.LibraryCells.{all_described};
+ghost use Rattle.library_items.specs.LibraryCells.{all_described};
 ghost use Rattle.command_outcomes.specs.Runs.{RunsAs, StopsWithStatus};
 ghost use Rattle.simulation_catalog.specs.Catalog.{simulated_of, HaveOwnNames};
 ghost use Rattle.model_simulation.specs.Simulate.{simulate_files, simulate_of};
 ghost use Rattle.model_simulation.specs.Simulations.{ReadsModels, ReadsSimulation};
 
-use crate::library_file::read_library;
-use crate::model_file::read_model_file;
-use crate::verilog::Verilog;
-use crate::vital::Vital;
-use cell_reader::LibraryCell;
 use command_outcomes::Status;
-use simulation_catalog::{Simulated, read_sections, sections_can_be_compared, simulation_catalog};
+use library_file::read_library;
+use library_items::LibraryCell;
+use model_files::{read_model_file, read_stimulus_file};
+use model_languages::{Verilog, Vital};
+use simulation_catalog::{Simulated, SimulationStop, sections_can_be_compared, simulation_catalog};
 use specify_blocks::VModule;
 use sqlite_items::Items;
 use std::alloc::Global;
@@ -97,11 +96,13 @@ pub(crate) fn read_simulation<D: Desk>(alloc: Global, desk: &mut D) -> Result<Si
     sections_can_be_compared();
     let read = read_cells_and_models(alloc, desk)?;
     let simulated = catalog_of(alloc, &read)?;
-    let cells = read.cells.as_slice();
-    let sections = Items::from_vec(read_sections(alloc, desk, 4, cells, &simulated.catalog)?);
+    let stop = SimulationStop {
+        cells: read.cells.as_slice(),
+    };
+    let sections = read_stimulus_file(alloc, desk, 4, &stop, &simulated.catalog)?;
     Ok(Simulation {
         read,
         simulated,
-        sections,
+        sections: Items::from_vec(sections),
     })
 }

@@ -1,7 +1,7 @@
 -- The cells of a catalog, added one after another.
 use Rattle.std.proofs.Common.{◌≡◌, ◌<◌, ℕ, ◌+◌, true, is_some, List, [], ◌∷◌, ◌++◌, map, take, get_or, length, Option, Some, None, Result, Ok, Err, IfOk, refl, sym, ap, ◌∙◌}
 use Rattle.bool_functions.specs.NameList.{number_of, AreDistinct}
-use Rattle.cell_reader.specs.LibraryCells.{CellEntry, name_of, cell_names}
+use Rattle.library_items.specs.LibraryCells.{CellEntry, name_of, cell_names}
 use Rattle.specify_blocks.specs.declared.model.VModule.{VModule}
 use Rattle.vital_models.specs.declared.model.VEntity.{VEntity}
 use Rattle.stimulus.specs.declared.ports.Ports.{Ports}

@@ -4,9 +4,9 @@ use Rattle.std.specs.Prelude.{slice_get}
 use Rattle.std.proofs.lemmas.List.{length-map, get_or-map}
 use Rattle.std.proofs.lemmas.List.Elements.{All-cons, All-nil}
 use Rattle.cell_machine.specs.CellData.{data_of}
-use Rattle.cell_reader.specs.declared.library_cell.LibraryCell.{LibraryCell}
-use Rattle.cell_reader.specs.declared.library_cell.LibraryCell.TheVariants as kept
-use Rattle.cell_reader.specs.LibraryCells.{Accepted, Refused, described, all_described}
+use Rattle.library_items.specs.declared.library_cell.LibraryCell.{LibraryCell}
+use Rattle.library_items.specs.declared.library_cell.LibraryCell.TheVariants as kept
+use Rattle.library_items.specs.LibraryCells.{Accepted, Refused, described, all_described}
 use Rattle.simulation_catalog.specs.Sections.{HasData, DescribedAreCells}
 use Rattle.simulation_catalog.specs.Generated.{KeepsRules, DescribedKeepRules}
 

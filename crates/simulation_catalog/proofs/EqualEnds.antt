@@ -3,7 +3,7 @@ use Rattle.std.proofs.Common.{◌≡◌, ℕ, zero, suc, Bool, true, false, if�
 use Rattle.std.specs.Prelude.{◌≢◌, slice_get, All}
 use Rattle.std.specs.Option.{option_map}
 use Rattle.std.proofs.lemmas.List.{length-map}
-use Rattle.cell_reader.specs.LibraryCells.{CellEntry, Accepted, Refused, name_of, cell_names}
+use Rattle.library_items.specs.LibraryCells.{CellEntry, Accepted, Refused, name_of, cell_names}
 use Rattle.specify_blocks.specs.declared.model.VModule.{VModule}
 use Rattle.vital_models.specs.declared.model.VEntity.{VEntity}
 use Rattle.stimulus.specs.declared.catalog.CellFound.{CellFound}
@@ -23,12 +23,12 @@ use Rattle.stimulus.specs.Stimulus.{stimulus_of}
 use Rattle.stimulus.proofs.BadLines.{causes_name_answers}
 use Rattle.stimulus.proofs.Entries.{no_cell, some_cell}
 use Rattle.command_outcomes.specs.declared.status.Status.TheVariants as status
-use Rattle.command_outcomes.specs.FileSteps.{FileStop}
-use Rattle.model_replay.specs.Outcome.{stimulus_limit}
+use Rattle.command_outcomes.specs.FileSteps.{FileStop, answer_where}
+use Rattle.model_files.specs.Limits.{stimulus_limit}
+use Rattle.model_files.specs.StimulusAnswer.{long_stimulus_stop, stimulus_fault_stop, sections_or_stop, sections_in_text}
 use Rattle.simulation_catalog.specs.NamedModels.{NamedModels, named_models}
 use Rattle.simulation_catalog.specs.Catalog.{ports_in, cells_named}
-use Rattle.simulation_catalog.specs.FaultLines.{cause_status}
-use Rattle.simulation_catalog.specs.StimulusFile.{too_long_stop, fault_stop, sections_or, answer_where}
+use Rattle.simulation_catalog.specs.FaultLines.{cause_status, cause_stop}
 use Rattle.simulation_catalog.specs.Generated.{modules_of, entities_of, KeepsRules, HaveOwnModels, EndsEqual, NeverModelOrDiffer}
 use Rattle.simulation_catalog.proofs.GeneratedModels.{accepted_are_ready}
 use Rattle.simulation_catalog.proofs.EqualTraces.{sections_equal, no_section_differs}
@@ -115,14 +115,14 @@ stopped_fine : (cells : List CellEntry) (modules : List VModule) (entities : Lis
 stopped_fine cells modules entities stop f g = record { not_model = f; not_differ = g; no_difference = tt; done = tt; sections = tt }
 
 ends_equal : (cells : List CellEntry) (bytes : List ℕ) (more : Bool) → All KeepsRules cells → HaveOwnModels cells
-    → EndsEqual cells (modules_of cells) (entities_of cells) (answer_where cells (cells_named cells (modules_of cells) (entities_of cells)) more bytes)
-ends_equal cells bytes true keep own = stopped_fine cells (modules_of cells) (entities_of cells) too_long_stop (λ e. absurd cc) (λ e. absurd cc)
+    → EndsEqual cells (modules_of cells) (entities_of cells) (answer_where long_stimulus_stop (sections_in_text (cause_stop cells) (cells_named cells (modules_of cells) (entities_of cells))) more bytes)
+ends_equal cells bytes true keep own = stopped_fine cells (modules_of cells) (entities_of cells) long_stimulus_stop (λ e. absurd cc) (λ e. absurd cc)
 ends_equal cells bytes false keep own = by (stimulus_of listing bytes) refl
   where
     listing : Listing
     listing = listed (cells_named cells (modules_of cells) (entities_of cells))
 
-    by : (answer : Result (List Section) StimulusFault) → stimulus_of listing bytes ≡ answer → EndsEqual cells (modules_of cells) (entities_of cells) (sections_or cells answer)
+    by : (answer : Result (List Section) StimulusFault) → stimulus_of listing bytes ≡ answer → EndsEqual cells (modules_of cells) (entities_of cells) (sections_or_stop (cause_stop cells) answer)
     by (Ok sections) e =
         let none = no_section_differs cells bytes sections keep own e in
         record {
@@ -133,9 +133,9 @@ ends_equal cells bytes false keep own = by (stimulus_of listing bytes) refl
           sections = sections_equal cells bytes sections keep own e;
         }
     by (Err (fault.Line line why)) e =
-        stopped_fine cells (modules_of cells) (entities_of cells) (fault_stop cells (fault.Line line why))
+        stopped_fine cells (modules_of cells) (entities_of cells) (stimulus_fault_stop (cause_stop cells) (fault.Line line why))
         (not_model listing why (all_supplied cells own) (causes_name_answers listing bytes line why e)) (bad_line_stops why).0
-    by (Err fault.Memory) e = stopped_fine cells (modules_of cells) (entities_of cells) (fault_stop cells fault.Memory) (λ f. absurd cc) (λ f. absurd cc)
+    by (Err fault.Memory) e = stopped_fine cells (modules_of cells) (entities_of cells) (stimulus_fault_stop (cause_stop cells) fault.Memory) (λ f. absurd cc) (λ f. absurd cc)
 
 pub never_model_or_differ : NeverModelOrDiffer
 never_model_or_differ cells bytes keep own = ends_equal cells bytes (nat_lt stimulus_limit (length bytes)) keep own

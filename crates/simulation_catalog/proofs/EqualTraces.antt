@@ -9,7 +9,7 @@ use Rattle.cell_machine.specs.CellTrace.{inputs_of, cell_line}
 use Rattle.cell_machine.specs.History.{IsProperFrom}
 use Rattle.cell_machine.specs.Lines.{Line, lines_from, trace, Machine, IsSized}
 use Rattle.cell_machine.specs.Sized.{cell_machine_sized}
-use Rattle.cell_reader.specs.LibraryCells.{CellEntry, Accepted}
+use Rattle.library_items.specs.LibraryCells.{CellEntry, Accepted}
 use Rattle.specify_blocks.specs.declared.model.VModule.{VModule}
 use Rattle.specify_blocks.specs.Generated.{module_of}
 use Rattle.vital_models.specs.declared.model.VEntity.{VEntity}
@@ -100,10 +100,10 @@ section_equal cells section keep own r =
     let h = accepted_are_ready cells section.cell d r.entity_name own r.is_accepted in
     let proper : IsProperFrom (inputs_of d) [] section.changes =
     subst (λ n. IsProperFrom n [] section.changes) r.have_ports.liberty_inputs r.proper in
-    let agree = (models-agree d r.entity_name (all_at KeepsRules cells section.cell (Accepted d r.entity_name) keep r.is_accepted)).traces section.changes proper in
+    let same_fact = (models-agree d r.entity_name (all_at KeepsRules cells section.cell (Accepted d r.entity_name) keep r.is_accepted)).traces section.changes proper in
     let is = compared_as models d r.entity_name h.numbers (module_of d) (entity_of d r.entity_name) (slice_get cells section.cell) r.is_accepted h.are h.own_module h.own_entity in
     says_equal cells (modules_of cells) (entities_of cells) section _ is
-    (equal_traces d (module_line (module_of d)) (entity_line (entity_of d r.entity_name)) section.changes agree.0 agree.1)
+    (equal_traces d (module_line (module_of d)) (entity_line (entity_of d r.entity_name)) section.changes same_fact.0 same_fact.1)
 
 -- all sections say so
 pub sections_equal : (cells : List CellEntry) (bytes : List ℕ) (sections : List Section) → All KeepsRules cells → HaveOwnModels cells

@@ -10,7 +10,7 @@ use Rattle.std.proofs.lemmas.List.Elements.{All-cons}
 use Rattle.bool_functions.specs.NameList.{number_of, AreDistinct}
 use Rattle.cell_machine.specs.CellData.{CellData}
 use Rattle.cell_machine.proofs.RuleLemmas.{rules_of}
-use Rattle.cell_reader.specs.LibraryCells.{CellEntry, Accepted, Refused}
+use Rattle.library_items.specs.LibraryCells.{CellEntry, Accepted, Refused}
 use Rattle.udp_tables.specs.declared.models.VPort.{VPort}
 use Rattle.specify_blocks.specs.declared.model.VModule.{VModule}
 use Rattle.specify_blocks.specs.Generated.{module_of}
@@ -27,7 +27,7 @@ use Rattle.vital_models.specs.Sound as sound_entities
 use Rattle.vital_models.proofs.Soundness.{entity_is_sound}
 use Rattle.simulation_catalog.specs.declared.same_ports.Spelling.{Spelling}
 use Rattle.simulation_catalog.specs.declared.same_ports.Spelling.TheVariants.{Exact, AnyCase}
-use Rattle.section_runs.specs.Differences.{agree}
+use Rattle.section_runs.specs.Differences.{same_fact}
 use Rattle.simulation_catalog.specs.SamePorts.{same_name, same_port, same_ports}
 use Rattle.simulation_catalog.specs.NamedModels.{named_models, module_names, lowered_names, module_ports, entity_ports, has_ports, with_ports, verilog_number, vital_number}
 use Rattle.simulation_catalog.specs.Standings.{standing_by, numbers_by}
@@ -59,9 +59,9 @@ own_number f xs i x own e = position_from-zero (bytes_eq (f x)) (map f xs) ∙ p
 
 -- Ports are the same as themselves.
 
-agree_self : (a : Bool) → agree a a ≡ true
-agree_self true = refl
-agree_self false = refl
+same_fact-self : (a : Bool) → same_fact a a ≡ true
+same_fact-self true = refl
+same_fact-self false = refl
 
 name_self : (spelling : Spelling) (name : List ℕ) → same_name spelling name name ≡ true
 name_self Exact name = bytes_equivalence.refl name
@@ -71,7 +71,7 @@ ports_self : (spelling : Spelling) (ports : List VPort) → same_ports spelling 
 ports_self spelling [] = refl
 ports_self spelling (port ∷ ports) =
     and_from (same_port spelling port port) (same_ports spelling ports ports)
-    (and_from (same_name spelling port.name port.name) (agree port.input port.input) (name_self spelling port.name) (agree_self port.input))
+    (and_from (same_name spelling port.name port.name) (same_fact port.input port.input) (name_self spelling port.name) (same_fact-self port.input))
     (ports_self spelling ports)
 
 counts : (spelling : Spelling) (ports : List VPort) (ports_at : ℕ → Option (List VPort)) (found : Option ℕ) (number : ℕ)

@@ -8,4 +8,4 @@ pub mod ReadyCells
 pub mod GeneratedModels
 pub mod EqualTraces
 pub mod EqualEnds
-mod FileLemmas
+mod BadLineEnds

@@ -31,20 +31,20 @@ use Rattle.section_runs.specs.Comparison.{HavePorts}
 use Rattle.simulation_catalog.specs.declared.same_ports.Spelling.{Spelling}
 use Rattle.simulation_catalog.specs.declared.same_ports.Spelling.TheVariants.{Exact, AnyCase}
 use Rattle.simulation_catalog.specs.PinNames.{pin_names, named_ports}
-use Rattle.section_runs.specs.Differences.{agree}
+use Rattle.section_runs.specs.Differences.{same_fact}
 use Rattle.simulation_catalog.specs.SamePorts.{same_name, same_port, same_ports}
 
 -- Ports that are the same have the same directions.
 
-agree-is : (a b : Bool) → agree a b ≡ true → a ≡ b
-agree-is true true e = refl
-agree-is true false e = absurd cc
-agree-is false true e = absurd cc
-agree-is false false e = refl
+same_fact-is : (a b : Bool) → same_fact a b ≡ true → a ≡ b
+same_fact-is true true e = refl
+same_fact-is true false e = absurd cc
+same_fact-is false true e = absurd cc
+same_fact-is false false e = refl
 
 same_way : (spelling : Spelling) (one other : VPort) → same_port spelling one other ≡ true → one.input ≡ other.input
 same_way spelling one other e =
-    agree-is one.input other.input (and_parts (same_name spelling one.name other.name) (agree one.input other.input) e).1
+    same_fact-is one.input other.input (and_parts (same_name spelling one.name other.name) (same_fact one.input other.input) e).1
 
 input_more : (port : VPort) (ports : List VPort) → input_count (port ∷ ports) ≡ cond port.input 1 0 + input_count ports
 input_more port ports = sum_by-cons (λ (p : VPort). cond (is_input p) 1 0) port ports

@@ -7,7 +7,7 @@ use Rattle.std.proofs.lemmas.Option.{slice_get-map}
 use Rattle.cell_machine.specs.CellData.{CellData}
 use Rattle.cell_machine.specs.CellTrace.{cell_machine_of}
 use Rattle.cell_machine.proofs.RuleLemmas.{rules_of}
-use Rattle.cell_reader.specs.LibraryCells.{CellEntry, Accepted, Refused, name_of, cell_names, all_described}
+use Rattle.library_items.specs.LibraryCells.{CellEntry, Accepted, Refused, name_of, cell_names, all_described}
 use Rattle.udp_tables.specs.declared.models.VPort.{VPort}
 use Rattle.specify_blocks.specs.declared.model.VModule.{VModule}
 use Rattle.specify_blocks.specs.Ports as in_verilog

@@ -2,7 +2,7 @@
 use Rattle.std.specs.Prelude.{ℕ, List, [], map, Option, None}
 use Rattle.bool_functions.specs.NameList.{AreDistinct}
 use Rattle.cell_machine.specs.CellData.{CellData}
-use Rattle.cell_reader.specs.LibraryCells.{CellEntry, Accepted, Refused, cell_names}
+use Rattle.library_items.specs.LibraryCells.{CellEntry, Accepted, Refused, cell_names}
 use Rattle.specify_blocks.specs.declared.model.VModule.{VModule}
 use Rattle.vital_models.specs.declared.model.VEntity.{VEntity}
 use Rattle.stimulus.specs.declared.ports.Ports.{Ports}

@@ -6,7 +6,7 @@ use Rattle.cell_machine.specs.declared.changes.Change.{Change}
 use Rattle.cell_machine.specs.CellData.{CellData}
 use Rattle.cell_machine.specs.CellTrace.{cell_machine_of}
 use Rattle.cell_machine.specs.Lines.{Machine}
-use Rattle.cell_reader.specs.LibraryCells.{CellEntry, Accepted, Refused}
+use Rattle.library_items.specs.LibraryCells.{CellEntry, Accepted, Refused}
 use Rattle.specify_blocks.specs.declared.model.VModule.{VModule}
 use Rattle.vital_models.specs.declared.model.VEntity.{VEntity}
 use Rattle.model_traces.specs.ModuleTrace.{module_machine}

@@ -1,6 +1,6 @@
 -- What a simulation comes to behind its four files. (This project's rule.)
 use Rattle.std.specs.Prelude.{List, [], if◌then◌else◌}
-use Rattle.cell_reader.specs.LibraryCells.{CellEntry}
+use Rattle.library_items.specs.LibraryCells.{CellEntry}
 use Rattle.specify_blocks.specs.declared.model.VModule.{VModule}
 use Rattle.vital_models.specs.declared.model.VEntity.{VEntity}
 use Rattle.stimulus.specs.declared.sections.Section.{Section}

@@ -2,13 +2,14 @@
 use Rattle.std.specs.Prelude.{ℕ, List, [], ◌++◌, codes, Option, Some, None, slice_get}
 use Rattle.std.specs.Option.{option_map_or}
 use Rattle.cell_reader.specs.declared.refusal.Refusal.{Refusal}
-use Rattle.cell_reader.specs.LibraryCells.{CellEntry, Accepted, Refused, name_of}
+use Rattle.library_items.specs.LibraryCells.{CellEntry, Accepted, Refused, name_of}
 use Rattle.stimulus.specs.declared.faults.Cause.{Cause}
 use Rattle.stimulus.specs.declared.faults.Cause.TheVariants as cause
-use Rattle.library_report.specs.CellLines.{printed_name, refusal_line}
+use Rattle.library_items.specs.CellLines.{printed_name, refusal_line}
 use Rattle.command_outcomes.specs.declared.status.Status.{Status}
 use Rattle.command_outcomes.specs.declared.status.Status.TheVariants as status
-use Rattle.model_replay.specs.FaultLines.{stimulus_fault_line}
+use Rattle.model_files.specs.FaultLines.{stimulus_fault_line}
+use Rattle.model_files.specs.StimulusAnswer.{LineStop}
 
 -- a cell that is refused: its name, and why
 unfoldable pub refused_cell_line : List ℕ → Refusal → List ℕ
@@ -46,3 +47,7 @@ cause_status (cause.RefusedCell number) = status.Cells
 cause_status (cause.VerilogPorts number) = status.Model
 cause_status (cause.VitalPorts number) = status.Model
 cause_status why = status.Stimulus
+
+-- how a simulation of these cells ends at the first bad line of its stimulus
+abbrev pub cause_stop : List CellEntry → LineStop
+cause_stop cells line why = record { status = cause_status why; line = cause_line cells line why }

@@ -3,8 +3,8 @@ use Rattle.std.specs.Prelude.{◌≡◌, ◌≢◌, ℕ, false, List, [], ◌∷
 use Rattle.bool_functions.specs.NameList.{AreDistinct}
 use Rattle.cell_machine.specs.CellData.{CellData}
 use Rattle.cell_machine.specs.CellRules.{is_cell}
-use Rattle.cell_reader.specs.declared.library_cell.LibraryCell.{LibraryCell}
-use Rattle.cell_reader.specs.LibraryCells.{CellEntry, Accepted, Refused, all_described}
+use Rattle.library_items.specs.declared.library_cell.LibraryCell.{LibraryCell}
+use Rattle.library_items.specs.LibraryCells.{CellEntry, Accepted, Refused, all_described}
 use Rattle.specify_blocks.specs.declared.model.VModule.{VModule}
 use Rattle.specify_blocks.specs.Generated.{module_of}
 use Rattle.vital_models.specs.declared.model.VEntity.{VEntity}
@@ -17,11 +17,12 @@ use Rattle.section_runs.specs.TraceText.{heading_text}
 use Rattle.section_runs.specs.Comparison.{compared_text, first_unlike, verdict_text}
 use Rattle.command_outcomes.specs.declared.status.Status.TheVariants as status
 use Rattle.command_outcomes.specs.FileSteps.{FileStop}
+use Rattle.model_files.specs.StimulusAnswer.{stimulus_answer}
 use Rattle.simulation_catalog.specs.declared.numbers.ModelNumbers.{ModelNumbers}
 use Rattle.simulation_catalog.specs.NamedModels.{named_models, module_names, lowered_names}
 use Rattle.simulation_catalog.specs.Catalog.{standing_in, numbers_in, cells_named}
 use Rattle.simulation_catalog.specs.Comparisons.{Compared, lines_of, compared_at, section_text, any_differs}
-use Rattle.simulation_catalog.specs.StimulusFile.{stimulus_answer}
+use Rattle.simulation_catalog.specs.FaultLines.{cause_stop}
 use Rattle.simulation_catalog.specs.Ends.{sections_outcome}
 
 -- the modules of the accepted cells, in the order of the cells
@@ -94,4 +95,4 @@ abbrev pub NeverModelOrDiffer : Type 0
 NeverModelOrDiffer =
     (cells : List CellEntry) (bytes : List ℕ)
     → All KeepsRules cells → HaveOwnModels cells
-    → EndsEqual cells (modules_of cells) (entities_of cells) (stimulus_answer cells (cells_named cells (modules_of cells) (entities_of cells)) bytes)
+    → EndsEqual cells (modules_of cells) (entities_of cells) (stimulus_answer (cause_stop cells) (cells_named cells (modules_of cells) (entities_of cells)) bytes)

@@ -6,6 +6,5 @@ pub mod Catalog
 pub mod Comparisons
 pub mod Sections
 pub mod FaultLines
-pub mod StimulusFile
 pub mod Ends
 pub mod Generated

@@ -12,7 +12,7 @@ use Rattle.specify_blocks.specs.Ports as verilog
 use Rattle.vhdl_names.specs.Kept.{lowered}
 use Rattle.vital_models.specs.declared.model.VEntity.{VEntity}
 use Rattle.vital_models.specs.Ports as vital
-use Rattle.simulation_catalog.specs.declared.model_files.ModelFiles.{ModelFiles}
+use Rattle.simulation_catalog.specs.declared.named_models.ModelFiles.{ModelFiles}
 use Rattle.simulation_catalog.specs.declared.same_ports.Spelling.{Spelling}
 use Rattle.simulation_catalog.specs.declared.same_ports.Spelling.TheVariants.{Exact, AnyCase}
 use Rattle.simulation_catalog.specs.SamePorts.{same_ports}

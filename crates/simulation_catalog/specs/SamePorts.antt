@@ -4,7 +4,7 @@
 use Rattle.std.specs.Prelude.{ℕ, Bool, true, false, ◌&&◌, List, [], ◌∷◌}
 use Rattle.std.specs.Str.{bytes_eq, str_eq_ignore_ascii_case}
 use Rattle.udp_tables.specs.declared.models.VPort.{VPort}
-use Rattle.section_runs.specs.Differences.{agree}
+use Rattle.section_runs.specs.Differences.{same_fact}
 use Rattle.simulation_catalog.specs.declared.same_ports.Spelling.{Spelling}
 use Rattle.simulation_catalog.specs.declared.same_ports.Spelling.TheVariants.{Exact, AnyCase}
 
@@ -15,7 +15,7 @@ same_name AnyCase one other = str_eq_ignore_ascii_case one other
 
 -- two ports have the same name and direction
 abbrev pub same_port : Spelling → VPort → VPort → Bool
-same_port spelling one other = same_name spelling one.name other.name && agree one.input other.input
+same_port spelling one other = same_name spelling one.name other.name && same_fact one.input other.input
 
 -- two lists of ports are the same, in order
 abbrev pub same_ports : Spelling → List VPort → List VPort → Bool

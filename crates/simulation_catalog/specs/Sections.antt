@@ -4,9 +4,9 @@ use Rattle.cell_machine.specs.declared.cells.Cell.{Cell}
 use Rattle.cell_machine.specs.CellData.{CellData, data_of}
 use Rattle.cell_machine.specs.CellTrace.{cell_machine_of}
 use Rattle.cell_machine.specs.History.{IsProperFrom}
-use Rattle.cell_reader.specs.declared.library_cell.LibraryCell.{LibraryCell}
-use Rattle.cell_reader.specs.declared.library_cell.LibraryCell.TheVariants as kept
-use Rattle.cell_reader.specs.LibraryCells.{CellEntry, Accepted, all_described}
+use Rattle.library_items.specs.declared.library_cell.LibraryCell.{LibraryCell}
+use Rattle.library_items.specs.declared.library_cell.LibraryCell.TheVariants as kept
+use Rattle.library_items.specs.LibraryCells.{CellEntry, Accepted, all_described}
 use Rattle.specify_blocks.specs.declared.model.VModule.{VModule}
 use Rattle.specify_blocks.specs.Sound as modules_of
 use Rattle.vital_models.specs.declared.model.VEntity.{VEntity}

@@ -3,19 +3,37 @@ ghost use Rattle.std.specs.Prelude.{◌≡◌, []};
 ghost use Rattle.std.specs.Option.{option_copied, option_map, option_map_or};
 ghost use Rattle.text_io.specs.declared.slots.OutSlot.TheVariants.{Faults};
 ghost use Rattle.text_io.specs.Desk.{HasCause, WritesText};
-ghost use Rattle.cell_reader.specs.LibraryCells.{described, all_described, name_of};
-ghost use Rattle.simulation_catalog.specs.FaultLines.{refused_cell_line, verilog_ports_line, vital_ports_line, refused_line_by, cause_line, cause_status as cause_status_of};
+ghost use Rattle.library_items.specs.LibraryCells.{described, all_described, name_of};
+ghost use Rattle.simulation_catalog.specs.FaultLines.{refused_cell_line, verilog_ports_line, vital_ports_line, refused_line_by, cause_line, cause_status as cause_status_of, cause_stop};
 
-use cell_reader::{LibraryCell, Refusal};
-use command_outcomes::Status;
-use library_report::{PrintedName, RefusalLine};
-use model_replay::write_stimulus_fault;
+use cell_reader::Refusal;
+use command_outcomes::{Status, ended};
+use library_items::{LibraryCell, PrintedName, RefusalLine};
+use model_files::{BadLineStop, write_stimulus_fault};
 use stimulus::Cause;
 use text_io::{Desk, Failed, OutSlot, write_pieces};
 use text_parts::{Bytes, parts, write_part};
 
+/// How a simulation of these cells ends at the first bad line of its stimulus.
+#[derive(Drop)]
+pub struct SimulationStop<'a> {
+    /// The cells, in the order of the library.
+    pub cells: &'a [LibraryCell],
+}
+
+impl BadLineStop for SimulationStop<'_> {
+    ghost stop = { λ s. cause_stop (all_described s.cells.now) };
+
+    fn tell<D: Desk>(&self, desk: &mut D, line: usize, cause: Cause) -> Status {
+        ended(
+            write_cause(desk, self.cells, line, cause),
+            cause_status(cause),
+        )
+    }
+}
+
 /// The status of a run whose stimulus has a first bad line with this cause.
-pub fn cause_status(cause: Cause) -> Status
+fn cause_status(cause: Cause) -> Status
     ensures { result ≡ cause_status_of cause }
 {
     match cause {
@@ -28,7 +46,7 @@ pub fn cause_status(cause: Cause) -> Status
 /// Tells the first bad line of a stimulus over the catalog of these cells, with the line's number, from 1, and its cause: of a cell
 /// that may not be given changes its name, and why it is refused or which of its models is not there; else the line and the cause.
 /// After `Failed`, which comes only where a write failed, a prefix of the line was appended.
-pub fn write_cause<D: Desk>(
+fn write_cause<D: Desk>(
     desk: &mut D,
     cells: &[LibraryCell],
     line: usize,

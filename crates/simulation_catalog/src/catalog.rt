@@ -1,15 +1,15 @@
 //! The cells of a library as those that a stimulus may name, with the models of each.
 ghost use Rattle.std.specs.Prelude.{◌≡◌, [], IfOk};
 ghost use Rattle.bool_functions.specs.NameList.{AreDistinct};
-ghost use Rattle.cell_reader.specs.LibraryCells.{described, all_described, cell_names};
+ghost use Rattle.library_items.specs.LibraryCells.{described, all_described, cell_names};
 ghost use Rattle.simulation_catalog.specs.NamedModels.{shown};
 ghost use Rattle.simulation_catalog.specs.Catalog.{ports_in, numbers_in, simulated_in, simulated_of, HaveOwnNames};
 
-use crate::model_files::{ModelFiles, lowered_names, module_names};
+use crate::named_models::{ModelFiles, lowered_names, module_names};
 use crate::numbers::ModelNumbers;
 use crate::pin_names::named_ports;
 use bool_functions::Names;
-use cell_reader::LibraryCell;
+use library_items::LibraryCell;
 use specify_blocks::VModule;
 use sqlite_items::Items;
 use std::alloc::{AllocError, Global};

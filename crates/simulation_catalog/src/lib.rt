@@ -5,17 +5,15 @@
 mod bad_lines;
 mod catalog;
 mod laws;
-mod model_files;
+mod named_models;
 mod numbers;
 mod pin_names;
 mod same_ports;
-mod stimulus_file;
 
-pub use bad_lines::{cause_status, write_cause};
+pub use bad_lines::SimulationStop;
 pub use catalog::{Simulated, simulation_catalog};
 pub use laws::{
     accepted_are_ready, described_are_cells, described_keep_rules, never_model_or_differ,
     no_section_differs, sections_can_be_compared,
 };
 pub use numbers::ModelNumbers;
-pub use stimulus_file::read_sections;

@@ -1,6 +1,6 @@
 //! Ports that a file has and those that it should have.
 ghost use Rattle.std.specs.Prelude.{◌≡◌, ◌<◌, length};
-ghost use Rattle.section_runs.specs.Differences.{agree};
+ghost use Rattle.section_runs.specs.Differences.{same_fact};
 ghost use Rattle.simulation_catalog.specs.SamePorts.{same_name, same_port, same_ports};
 
 use udp_tables::VPort;
@@ -30,7 +30,8 @@ impl Spelling {
     fn same_port(self, one: &VPort, other: &VPort) -> bool
         ensures { result ≡ same_port self one.now other.now }
     {
-        self.same_name(one.name.as_slice(), other.name.as_slice()) && agree(one.input, other.input)
+        self.same_name(one.name.as_slice(), other.name.as_slice())
+            && same_port_direction(one.input, other.input)
     }
 
     /// Whether two lists of ports are the same, in order.
@@ -49,9 +50,9 @@ impl Spelling {
     }
 }
 
-/// Whether two facts are the same.
-fn agree(one: bool, other: bool) -> bool
-    ensures { result ≡ agree one other }
+/// Whether two ports have the same direction, of which each is told by whether it is an input.
+fn same_port_direction(one: bool, other: bool) -> bool
+    ensures { result ≡ same_fact one other }
 {
     one == other
 }

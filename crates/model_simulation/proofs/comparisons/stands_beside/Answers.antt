@@ -1,7 +1,7 @@
-use Rattle.std.proofs.Common.{rules, ◌≡◌, ◌∙◌, ap, sym, Some, None, get_or}
+use Rattle.std.proofs.Common.{rules, ◌≡◌, ◌∙◌, ap, Some, None, get_or}
 use Rattle.std.proofs.lemmas.Option.{get_or_from_slice_get}
 use Rattle.cell_machine.specs.CellData.{data_of}
-use Rattle.cell_reader.specs.declared.library_cell.LibraryCell.TheVariants as kept
+use Rattle.library_items.specs.declared.library_cell.LibraryCell.TheVariants as kept
 use Rattle.model_simulation.proofs.BesideLemmas.{runs_on, can_be_given}
 use Rattle.model_simulation.proofs.comparisons.stands_beside.Goals as goal
 

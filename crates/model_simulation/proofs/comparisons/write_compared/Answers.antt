@@ -1,4 +1,4 @@
-use Rattle.model_replay.proofs.SectionTexts.{appends_nothing}
+use Rattle.section_runs.proofs.Runs.{appends_nothing}
 use Rattle.model_simulation.proofs.BesideLemmas.{of_started, have_ports, text_is, unlike_is}
 use Rattle.model_simulation.proofs.comparisons.write_compared.Goals as goal
 

@@ -6,7 +6,8 @@ pub returns-in_err-write_heading-clause-text : goal.returns-in_err-write_heading
 returns-in_err-write_heading-clause-text g c = heading_stops _ _ _ _ _ _ c.in_err-write_heading.ensures.text c.from_residual.ensures.0
 
 pub returns-in_err-write_heading-clause-cause : goal.returns-in_err-write_heading-clause-cause
-returns-in_err-write_heading-clause-cause g c = write_cause _ _ _ _ c.from_residual.ensures.1 c.in_err-write_heading.ensures.cause
+returns-in_err-write_heading-clause-cause g c =
+    write_cause _ _ _ c.from_residual.ensures.1 c.in_err-write_heading.ensures.cause.later c.in_err-write_heading.ensures.cause.failed
 
 pub returns-in_err-first-clause-text : goal.returns-in_err-first-clause-text
 returns-in_err-first-clause-text g c = lines_stop _ _ _ _ _ _ _ c.in_ok-write_heading.ensures.text.whole c.in_err-first.ensures.text c.from_residual-in_err-first.ensures.0

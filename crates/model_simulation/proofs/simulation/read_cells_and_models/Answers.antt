@@ -1,6 +1,6 @@
 use Rattle.std.proofs.Common.{sym, subst}
 use Rattle.command_outcomes.specs.Runs.{RunsAs}
-use Rattle.model_replay.proofs.FileLemmas.{err_is}
+use Rattle.command_outcomes.proofs.FileStepLaws.{err_is}
 use Rattle.model_simulation.specs.Simulate.{simulate_files, simulate_of}
 use Rattle.model_simulation.proofs.SimulationFiles.{one_file, two_files, still_planned, has_verilog, has_vital, cells_read, modules_read, entities_read, library_ends, verilog_ends, vital_ends}
 use Rattle.model_simulation.proofs.SimulateLemmas.{own_names, modules_sound, entities_sound}

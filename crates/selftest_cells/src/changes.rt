@@ -26,8 +26,7 @@ fn value(number: u64) -> Trit
 /// `Err` comes only where memory is wanting.
 #[tactic(auto, unfolding(crate::specs::Changes::changes_of))]
 pub fn cell_changes(alloc: Global, number: u64, inputs: usize) -> Result<Items<Change>, AllocError>
-    requires number { number < 2147483648 }
-    requires inputs { 0 < inputs }
+    requires { 0 < inputs }
     ensures { IfOk result (λ list. list ≡ changes_of number inputs) }
 {
     let mut list = Items::new(alloc);

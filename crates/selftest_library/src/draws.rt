@@ -4,11 +4,10 @@ ghost use Rattle.selftest_library.specs.Draws.{next as next_of, pick as pick_of}
 
 /// The number that is drawn after another one.
 pub fn next(x: u64) -> u64
-    requires { x < 2147483648 }
     ensures value { result ≡ next_of x }
     ensures below { result < 2147483648 }
 {
-    (1_103_515_245 * x + 12_345) % 2_147_483_648
+    (1_103_515_245 * (x % 2_147_483_648) + 12_345) % 2_147_483_648
 }
 
 /// The number below `m` that a drawn one stands for.

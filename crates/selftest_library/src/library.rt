@@ -1,5 +1,5 @@
 //! The cells that a run makes for itself, as groups of a library.
-ghost use Rattle.std.specs.Prelude.{◌≡◌, ◌<◌, [], ◌∷◌, ◌++◌, codes, decimal, IfOk};
+ghost use Rattle.std.specs.Prelude.{◌≡◌, [], ◌∷◌, ◌++◌, codes, decimal, IfOk};
 ghost use Rattle.selftest_library.specs.Draws.{next as next_of, pick as pick_of};
 ghost use Rattle.selftest_library.specs.Statements.{text as text_of, simple as simple_of, inner as inner_of};
 ghost use Rattle.selftest_library.specs.Sums.{function_text as function_text_of};
@@ -170,7 +170,6 @@ fn clock_gate_items(alloc: Global) -> Result<Items<Item>, AllocError>
 
 /// The statements of a cell with a function that is drawn from its number.
 fn drawn_items(alloc: Global, number: u64) -> Result<Items<Item>, AllocError>
-    requires { number < 2147483648 }
     ensures { IfOk result (λ items. items ≡ function_items_of (function_text_of (pick_of (next_of number) 256))) }
 {
     let function = function_text(alloc, pick(next(number), 256))?;
@@ -189,7 +188,6 @@ fn cell_name(alloc: Global, number: u64) -> Result<Vec<u8>, AllocError>
 
 /// The statements of a cell whose number has this remainder.
 fn cell_items(alloc: Global, kind: u64, number: u64) -> Result<Items<Item>, AllocError>
-    requires { number < 2147483648 }
     ensures { IfOk result (λ items. items ≡ items_by_of kind number) }
 {
     match kind {
@@ -203,7 +201,6 @@ fn cell_items(alloc: Global, kind: u64, number: u64) -> Result<Items<Item>, Allo
 /// The cell with a number, from 1 on, as a group.
 #[tactic(auto, unfolding(crate::specs::Library::cell_group))]
 fn cell_group(alloc: Global, number: u64) -> Result<Group, AllocError>
-    requires { number < 2147483648 }
     ensures { IfOk result (λ group. group ≡ cell_group_of number) }
 {
     let name = cell_name(alloc, number)?;
@@ -213,7 +210,6 @@ fn cell_group(alloc: Global, number: u64) -> Result<Group, AllocError>
 
 /// The text of the cell with a number, from 1 on. An `Err` comes only where memory is wanting.
 pub(crate) fn cell_text(alloc: Global, number: u64) -> Result<Vec<u8>, AllocError>
-    requires { number < 2147483648 }
     ensures { IfOk result (λ text. text.items ≡ group_text (cell_group_of number)) }
 {
     let group = cell_group(alloc, number)?;

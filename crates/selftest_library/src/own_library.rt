@@ -22,7 +22,6 @@ pub struct OwnLibrary {
     taken: usize,
     /// How many calls failed, at most 2^64 - 1.
     faults: u64,
-    ghost few: { cells < 2147483647 },
     ghost within: { taken ≤ length piece.items },
 }
 
@@ -34,7 +33,6 @@ impl OwnLibrary {
 
     /// The library of so many cells, of which nothing is read yet. An `Err` comes only where memory is wanting.
     pub fn new(alloc: Global, cells: u64) -> Result<OwnLibrary, AllocError>
-        requires { cells < 2147483647 }
         ensures state { IfOk result (λ own. ⟦<OwnLibrary as Desk>⟧.state own ≡ reads_library (library_text cells)) }
     {
         Ok(OwnLibrary {

@@ -1,24 +1,24 @@
 -- What is counted of the cells of a library, one cell after another.
-use Rattle.std.proofs.Common.{◌≡◌, ℕ, ◌+◌, ◌<◌, List, [], ◌∷◌, ◌++◌, Some, None, Ok, sym, ap, ◌∙◌, arith}
+use Rattle.std.proofs.Common.{◌≡◌, ℕ, ◌+◌, List, [], ◌∷◌, ◌++◌, Some, None, Ok, sym, ap, ◌∙◌, arith}
 use Rattle.text_io.specs.Desk.{DeskState}
 use Rattle.text_io.specs.declared.slots.InSlot.TheVariants.{Library}
 use Rattle.liberty_groups.specs.declared.tree.Group.{Group}
 use Rattle.cell_machine.specs.CellData.{data_of}
 use Rattle.cell_reader.specs.declared.read.ReadCell.{ReadCell}
 use Rattle.cell_reader.specs.declared.refusal.Refusal.{Refusal}
-use Rattle.cell_reader.specs.LibraryCells.{CellEntry}
+use Rattle.library_items.specs.LibraryCells.{CellEntry}
 use Rattle.library_items.specs.declared.ending.Ending.{Ending}
-use Rattle.library_items.specs.declared.next.NextCell.TheVariants as next
 use Rattle.library_items.specs.declared.progress.Progress.{Progress}
-use Rattle.library_items.specs.Folds.{IsNumberedNext, FoldsCells}
+use Rattle.library_items.specs.Endings.{library_limit}
+use Rattle.library_items.specs.Folds.{FoldsCells}
 use Rattle.library_items.specs.KeptCells.{kept_by, next_entry}
 use Rattle.library_items.specs.NextCells.{IsAcceptedNext}
-use Rattle.library_items.specs.Progress.{next_refusal, next_data}
-use Rattle.library_items.proofs.Fronts.{IfSome-each}
+use Rattle.library_items.specs.Progress.{next_refusal}
+use Rattle.library_items.proofs.Claims.{IfSome-each}
 use Rattle.selftest_runs.specs.declared.counts.Counts.{Counts}
 use Rattle.selftest_runs.specs.Counts.{no_counts, plus}
 use Rattle.selftest_runs.specs.CellCounts.{cell_counts}
-use Rattle.selftest_runs.specs.LibraryCounts.{counted, all_counts, counts_within, CountsCells}
+use Rattle.selftest_runs.specs.LibraryCounts.{counted, all_counts, library_counts, CountsCells}
 
 -- Sums of counts.
 
@@ -50,12 +50,6 @@ all_counts-more (y ∷ cells) x = ap (plus (counted y)) (all_counts-more cells x
 
 -- The next cell.
 
--- it is read with its number
-pub accepted_number : (group : Group) (read : ReadCell) (entity : List ℕ) → (p : Progress) × IsNumberedNext p group (next.Accepted read entity)
-    → read.cell.number < 2147483648
-unfolding next_data
-accepted_number group read entity (p, h) = rw (ap (λ d. d.number) h.is.same_cell) h.numbered
-
 -- what is counted of it
 pub accepted_counted : (p : Progress) (group : Group) (read : ReadCell) (entity : List ℕ) (before more after : Counts) (cells : List CellEntry)
     → IsAcceptedNext p group read entity → before ≡ all_counts cells → more ≡ cell_counts (data_of read.cell) entity → after ≡ plus before more
@@ -78,12 +72,12 @@ refused_counted p group refusal counts cells h so_far =
 abbrev IsCounted : Counts → List CellEntry → Type 0
 IsCounted counts cells = counts ≡ all_counts cells
 
-pub counts_all : (limit : ℕ) (old new : DeskState) (counts : Counts) (e : Ending)
-    → FoldsCells (IsCounted counts) limit old new (Ok e) → CountsCells limit old new (Ok counts)
-unfolding counts_within
-counts_all limit old new counts e f = record {
+pub counts_all : (old new : DeskState) (counts : Counts) (e : Ending)
+    → FoldsCells (IsCounted counts) library_limit old new (Ok e) → CountsCells old new (Ok counts)
+unfolding library_counts
+counts_all old new counts e f = record {
   taken = f.taken;
   state = f.state;
-  counts = IfSome-each (old.left Library) (λ bytes. counts ≡ counts_within limit bytes) (λ bytes left.
+  counts = IfSome-each (old.left Library) (λ bytes. counts ≡ library_counts bytes) (λ bytes left.
       let told = rw left at f.cells.told in f.cells.made ∙ ap all_counts told.0);
 }

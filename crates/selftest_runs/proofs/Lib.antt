@@ -1,3 +1,7 @@
+mod KeptTextLemmas
+mod NamesAlone
+mod ModuleTexts
+mod EntityTexts
 pub mod CountLemmas
 pub mod CountedCells
 pub mod BesideModels

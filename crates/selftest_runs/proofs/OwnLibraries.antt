@@ -3,12 +3,11 @@ use Rattle.std.proofs.Common.{◌≡◌, ℕ, List, IsTrue, Result, IfOk, IfSome
 use Rattle.text_io.specs.declared.slots.InSlot.TheVariants.{Library}
 use Rattle.text_io.specs.declared.slots.Slot.TheVariants.{Input}
 use Rattle.text_io.specs.Desk.{DeskState, is_bound}
-use Rattle.library_items.specs.declared.stop.Stop.{Stop}
-use Rattle.library_items.specs.Endings.{library_limit}
+use Rattle.text_io.specs.declared.stop.Stop.{Stop}
 use Rattle.selftest_library.specs.Library.{library_text}
 use Rattle.selftest_library.specs.Reading.{reads_library}
 use Rattle.selftest_runs.specs.declared.counts.Counts.{Counts}
-use Rattle.selftest_runs.specs.LibraryCounts.{counts_within, CountsCells}
+use Rattle.selftest_runs.specs.LibraryCounts.{library_counts, CountsCells}
 use Rattle.selftest_runs.specs.OwnCounts.{own_counts}
 
 -- it is bound
@@ -18,7 +17,7 @@ library_bound s bytes e = subst (λ t. IsTrue (is_bound t (Input Library))) (sym
 
 -- what is counted of it
 pub own_counted : (cells : ℕ) (s next : DeskState) (r : Result Counts Stop) → s ≡ reads_library (library_text cells)
-    → CountsCells library_limit s next r → IfOk r (λ counts. counts ≡ own_counts cells)
+    → CountsCells s next r → IfOk r (λ counts. counts ≡ own_counts cells)
 unfolding reads_library own_counts
 own_counted cells s next r e w =
-    subst (λ left. IfOk r (λ counts. IfSome left (λ bytes. counts ≡ counts_within library_limit bytes))) (ap (λ t. t.left Library) e) w.counts
+    subst (λ left. IfOk r (λ counts. IfSome left (λ bytes. counts ≡ library_counts bytes))) (ap (λ t. t.left Library) e) w.counts

@@ -1,3 +1,5 @@
+pub mod EntityNames
+pub mod KeptTexts
 pub mod Counts
 pub mod CellCounts
 pub mod LibraryCounts

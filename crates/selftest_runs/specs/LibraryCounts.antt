@@ -2,9 +2,10 @@
 use Rattle.std.specs.Prelude.{◌≡◌, ℕ, List, [], ◌∷◌, Result, IfOk, IfSome}
 use Rattle.text_io.specs.declared.slots.InSlot.TheVariants.{Library}
 use Rattle.text_io.specs.Desk.{DeskState, took}
-use Rattle.cell_reader.specs.LibraryCells.{CellEntry, Accepted, Refused}
+use Rattle.text_io.specs.declared.stop.Stop.{Stop}
+use Rattle.library_items.specs.LibraryCells.{CellEntry, Accepted, Refused}
 use Rattle.cell_cursor.specs.Ends.{items_within}
-use Rattle.library_items.specs.declared.stop.Stop.{Stop}
+use Rattle.library_items.specs.Endings.{library_limit}
 use Rattle.library_items.specs.Progress.{no_progress}
 use Rattle.library_items.specs.KeptCells.{kept_cells}
 use Rattle.selftest_runs.specs.declared.counts.Counts.{Counts}
@@ -22,12 +23,12 @@ all_counts [] = no_counts
 all_counts (cell ∷ cells) = plus (counted cell) (all_counts cells)
 
 -- What is counted of the cells of a library. Of cells of one name the first counts. How the library ends does not matter.
-unfoldable pub counts_within : ℕ → List ℕ → Counts
-counts_within limit bytes = all_counts (kept_cells no_progress (items_within limit bytes))
+unfoldable pub library_counts : List ℕ → Counts
+library_counts bytes = all_counts (kept_cells no_progress (items_within library_limit bytes))
 
 -- After a call that counts the cells of the library that is bound: some bytes of it were taken, and nothing else changed. Where the
 -- desk tells what is left of it, the answer is what is counted of these bytes.
-pub record CountsCells (limit : ℕ) (old new : DeskState) (result : Result Counts Stop) : Type 0 where
+pub record CountsCells (old new : DeskState) (result : Result Counts Stop) : Type 0 where
   pub taken : ℕ
   pub state : new ≡ took old Library taken
-  pub counts : IfOk result (λ counts. IfSome (old.left Library) (λ bytes. counts ≡ counts_within limit bytes))
+  pub counts : IfOk result (λ counts. IfSome (old.left Library) (λ bytes. counts ≡ library_counts bytes))

@@ -1,9 +1,9 @@
 //! What is counted of one cell.
-ghost use Rattle.std.specs.Prelude.{◌≡◌, ◌<◌, [], IfOk};
+ghost use Rattle.std.specs.Prelude.{◌≡◌, [], IfOk};
 ghost use Rattle.cell_machine.specs.CellData.{data_of};
 ghost use Rattle.cell_machine.specs.CellTrace.{inputs_of, cell_trace};
 ghost use Rattle.cell_machine.specs.History.{IsProperFrom};
-ghost use Rattle.read_back_models.specs.EntityNames.{IsNameOfEntity};
+ghost use Rattle.selftest_runs.specs.EntityNames.{IsNameOfEntity};
 ghost use Rattle.selftest_runs.specs.Counts.{known_in};
 ghost use Rattle.selftest_runs.specs.CellCounts.{changes_by, counts_on, cell_counts};
 
@@ -16,7 +16,6 @@ use std::alloc::{AllocError, Global};
 
 /// The changes of the cell with this number, where it has so many inputs: one without inputs is run on none.
 fn drawn_changes(alloc: Global, number: usize, inputs: usize) -> Result<Items<Change>, AllocError>
-    requires { number < 2147483648 }
     ensures changes { IfOk result (λ list. list ≡ changes_by number inputs) }
     ensures proper { IfOk result (λ list. IsProperFrom inputs [] list) }
 {
@@ -54,8 +53,7 @@ fn counts_on(
 /// that are drawn for its number, and so are the damaged models. The name is one that an entity of the cell has. An `Err` comes
 /// only where memory is wanting or a count comes to 2 to the 64th.
 pub fn count_cell(alloc: Global, cell: &Cell, entity: &[u8]) -> Result<Counts, AllocError>
-    requires name { IsNameOfEntity (data_of cell.now) entity.now }
-    requires number { cell.now.number < 2147483648 }
+    requires { IsNameOfEntity (data_of cell.now) entity.now }
     ensures { IfOk result (λ counts. counts ≡ cell_counts (data_of cell.now) entity.now) }
 {
     let mut liberty = LibertySim::start(alloc, cell)?;

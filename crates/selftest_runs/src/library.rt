@@ -2,17 +2,16 @@
 ghost use Rattle.std.specs.Prelude.{◌≡◌, IsTrue};
 ghost use Rattle.text_io.specs.declared.slots.Slot.TheVariants.{Input};
 ghost use Rattle.text_io.specs.declared.slots.InSlot.TheVariants.{Library};
-ghost use Rattle.text_io.specs.Desk.{is_bound};
-ghost use Rattle.library_items.specs.Stops.{StopsWithCause};
+ghost use Rattle.text_io.specs.Desk.{is_bound, StopsWithCause};
 ghost use Rattle.selftest_runs.specs.LibraryCounts.{all_counts, CountsCells};
 
 use crate::cells::count_cell;
 use crate::counts::Counts;
+use crate::laws::next_cells_have_entity_names;
 use liberty_groups::Group;
-use library_items::{CellFold, NextCell, Stop, fold_cells};
-use read_back_models::next_cells_have_entity_names;
+use library_items::{CellFold, NextCell, fold_cells};
 use std::alloc::Global;
-use text_io::Desk;
+use text_io::{Desk, Stop};
 
 /// What is counted of the cells: nothing of one that is refused.
 impl CellFold for Counts {
@@ -28,17 +27,17 @@ impl CellFold for Counts {
     }
 }
 
-/// Counts the cells of the library that is bound, of which at most so many bytes are read. Of cells of one name the first counts,
-/// and how the library ends does not matter. One cell is held at a time, and of the library's text only the statement that has not
-/// ended.
+/// Counts the cells of the library that is bound, of which at most as many bytes are read as a library may have. Of cells of one name
+/// the first counts, and how the library ends does not matter. One cell is held at a time, and of the library's text only the
+/// statement that has not ended.
 ///
-/// Faults: `Failed` where a read failed, `Memory`, also where the library has 2 to the 31st items or a count comes to 2 to the 64th.
-pub fn count_cells<D: Desk>(alloc: Global, desk: &mut D, limit: usize) -> Result<Counts, Stop>
+/// Faults: `Failed` where a read failed, `Memory` where there was none or a count comes to 2 to the 64th.
+pub fn count_cells<D: Desk>(alloc: Global, desk: &mut D) -> Result<Counts, Stop>
     requires { IsTrue (is_bound (D.state desk.old) (Input Library)) }
-    ensures counts { CountsCells limit (D.state desk.old) (D.state desk.new) result }
+    ensures counts { CountsCells (D.state desk.old) (D.state desk.new) result }
     ensures cause { StopsWithCause (D.faults desk.old) (D.faults desk.new) result }
 {
     let mut counts = Counts::none();
-    fold_cells(alloc, desk, limit, &mut counts)?;
+    fold_cells(alloc, desk, &mut counts)?;
     Ok(counts)
 }

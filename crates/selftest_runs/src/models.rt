@@ -10,13 +10,14 @@ ghost use Rattle.vital_models.specs.Sound as entities_of;
 ghost use Rattle.model_traces.specs.PortNumbers.{input_count, output_ports};
 ghost use Rattle.model_traces.specs.ModuleTrace.{module_trace};
 ghost use Rattle.model_traces.specs.EntityTrace.{entity_trace};
-ghost use Rattle.read_back_models.specs.EntityNames.{IsNameOfEntity};
+ghost use Rattle.selftest_runs.specs.EntityNames.{IsNameOfEntity};
 ghost use Rattle.selftest_cells.specs.Damage.{damaged_module, damaged_entity};
 ghost use Rattle.selftest_runs.specs.Counts.{is_caught};
 
+use crate::entity_texts::entity_read_back;
+use crate::module_texts::module_read_back;
 use cell_machine::{Cell, Change, LibertySim};
 use model_traces::models_agree;
-use read_back_models::{entity_read_back, module_read_back};
 use section_runs::{first_difference, no_difference_is_equal};
 use selftest_cells::{
     damaged_entities_are_sound, damaged_entity, damaged_module, damaged_modules_are_sound,

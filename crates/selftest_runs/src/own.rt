@@ -4,7 +4,6 @@ ghost use Rattle.selftest_runs.specs.OwnCounts.{own_counts};
 
 use crate::counts::Counts;
 use crate::library::count_cells;
-use library_items::LIBRARY_LIMIT;
 use selftest_library::OwnLibrary;
 use std::alloc::{AllocError, Global};
 
@@ -15,7 +14,7 @@ pub fn selftest_counts(alloc: Global, cells: u64) -> Result<Counts, AllocError>
     ensures { IfOk result (λ counts. counts ≡ own_counts cells) }
 {
     let mut library = OwnLibrary::new(alloc, cells)?;
-    match count_cells(alloc, &mut library, LIBRARY_LIMIT) {
+    match count_cells(alloc, &mut library) {
         Ok(counts) => Ok(counts),
         Err(_) => Err(AllocError),
     }

@@ -6,4 +6,4 @@ pub returns : goal.returns
 unfolding changes_of
 returns c =
     let all : c.loop.counter ≡ 100 = omega arith in
-    c.loop.invariant.4 ∙ ap (first_changes c.args.number c.args.inputs) all
+    c.loop.invariant.3 ∙ ap (first_changes c.args.number c.args.inputs) all

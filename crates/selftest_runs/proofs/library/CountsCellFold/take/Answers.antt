@@ -1,12 +1,8 @@
 use Rattle.std.proofs.Common.{ap, ◌∙◌}
 use Rattle.cell_machine.specs.CellData.{data_of}
 use Rattle.selftest_runs.specs.CellCounts.{cell_counts}
-use Rattle.selftest_runs.proofs.CountedCells.{accepted_number, accepted_counted, refused_counted}
+use Rattle.selftest_runs.proofs.CountedCells.{accepted_counted, refused_counted}
 use Rattle.selftest_runs.proofs.library.CountsCellFold.take.Goals as goal
-
-pub count_cell-requires-clause-number : goal.count_cell-requires-clause-number
-count_cell-requires-clause-number c =
-    accepted_number c.args._group.now c.in-Accepted.read c.in-Accepted.entity (rw c.in-Accepted.is at c.requires.next)
 
 pub returns-in_ok-self-clause-made : goal.returns-in_ok-self-clause-made
 returns-in_ok-self-clause-made c = λ p h cells e.

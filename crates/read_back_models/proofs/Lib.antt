@@ -1,4 +1,0 @@
-mod Kept
-mod Names
-mod ModuleLemmas
-mod EntityLemmas

@@ -1,7 +1,0 @@
-use Rattle.cell_machine.specs.CellData.{data_of}
-use Rattle.read_back_models.proofs.ModuleLemmas.{generated_module}
-use Rattle.read_back_models.proofs.modules.module_read_back.Goals as goal
-
-pub read_back_module-requires : goal.read_back_module-requires
-read_back_module-requires c =
-    generated_module (data_of c.args.cell.now) c.modules_are_well_formed.ensures c.cell_is_numbered.ensures _ c.in_ok-model.ensures

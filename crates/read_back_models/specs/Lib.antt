@@ -1,2 +1,0 @@
-pub mod EntityNames
-pub mod Texts

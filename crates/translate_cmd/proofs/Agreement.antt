@@ -2,7 +2,7 @@
 use Rattle.std.proofs.Common.{◌≡◌, ℕ, Bool, true, false, List, [], length, nat_lt, ◌⊎◌, inl, inr, refl, sym, ap, subst, ◌∙◌, Result, Ok, Err}
 use Rattle.std.specs.Prelude.{◌≢◌, IfErr}
 use Rattle.cell_cursor.specs.Ends.{items_within}
-use Rattle.cell_reader.specs.LibraryCells.{CellEntry}
+use Rattle.library_items.specs.LibraryCells.{CellEntry}
 use Rattle.specify_blocks.specs.declared.model.VModule.{VModule}
 use Rattle.udp_tables.specs.declared.models.ModelFault.{ModelFault}
 use Rattle.vital_models.specs.declared.model.VEntity.{VEntity}
@@ -14,17 +14,17 @@ use Rattle.stimulus.specs.Stimulus.{stimulus_of}
 use Rattle.command_outcomes.specs.declared.status.Status.TheVariants as status
 use Rattle.command_outcomes.specs.Written.{nothing_written, in_report}
 use Rattle.command_outcomes.specs.Outcome.{Outcome}
-use Rattle.command_outcomes.specs.FileSteps.{FileStop, outcome_by}
-use Rattle.model_replay.specs.declared.refused.Refused.TheVariants as refused
-use Rattle.model_replay.specs.Languages.{Language}
-use Rattle.model_replay.specs.Answers.{models_or, models_answer}
-use Rattle.model_replay.specs.Outcome.{model_limit, stimulus_limit}
+use Rattle.command_outcomes.specs.FileSteps.{FileStop, answer_where, outcome_by}
+use Rattle.model_files.specs.Languages.{Language}
+use Rattle.model_files.specs.ModelAnswer.{long_model_stop, models_or_stop, models_in_text, model_answer}
+use Rattle.model_files.specs.StimulusAnswer.{long_stimulus_stop, sections_or_stop, sections_in_text, stimulus_answer}
+use Rattle.model_files.specs.Limits.{model_limit, stimulus_limit}
 use Rattle.model_languages.specs.Verilog.{verilog}
 use Rattle.model_languages.specs.Vital.{vital}
 use Rattle.simulation_catalog.specs.Catalog.{cells_named}
 use Rattle.simulation_catalog.specs.Comparisons.{sections_text}
 use Rattle.simulation_catalog.specs.Generated.{modules_of, entities_of, HaveOwnModels, EndsEqual}
-use Rattle.simulation_catalog.specs.StimulusFile.{sections_or, answer_where, stimulus_answer}
+use Rattle.simulation_catalog.specs.FaultLines.{cause_stop}
 use Rattle.simulation_catalog.specs.Ends.{sections_outcome}
 use Rattle.simulation_catalog.proofs.EqualEnds.{bad_line_stops, never_model_or_differ}
 use Rattle.library_items.specs.declared.ending.Ending.{Ending}
@@ -34,8 +34,7 @@ use Rattle.library_items.specs.Progress.{no_progress}
 use Rattle.library_items.specs.Endings.{library_limit, ending_of}
 use Rattle.library_items.specs.KeptCells.{kept_cells, cells_by}
 use Rattle.library_translation.specs.Library.{translate_outcome}
-use Rattle.model_simulation.specs.LibraryAnswers.{library_answer, answer_by, library_stop}
-use Rattle.model_simulation.specs.ModelAnswers.{stop_of, or_stop, model_answer}
+use Rattle.library_file.specs.LibraryAnswer.{library_answer, answer_by, library_stop}
 use Rattle.model_simulation.specs.Simulate.{behind_cells, behind_modules, behind_entities}
 use Rattle.translate_cmd.specs.TranslatedModels.{modules_in, entities_in}
 use Rattle.translate_cmd.specs.Agreement.{Agrees, OwnModelsAgree}
@@ -63,13 +62,13 @@ own_models library = record {
 -- at the stimulus
 ends_equal : (library stimulus : List ℕ)
     → EndsEqual (cells_of library) (modules_in library) (entities_in library)
-    (stimulus_answer (cells_of library) (cells_named (cells_of library) (modules_in library) (entities_in library)) stimulus)
+    (stimulus_answer (cause_stop (cells_of library)) (cells_named (cells_of library) (modules_in library) (entities_in library)) stimulus)
 ends_equal library stimulus =
     subst
-    (λ (es : List VEntity). EndsEqual (cells_of library) (modules_in library) es (stimulus_answer (cells_of library) (cells_named (cells_of library) (modules_in library) es) stimulus))
+    (λ (es : List VEntity). EndsEqual (cells_of library) (modules_in library) es (stimulus_answer (cause_stop (cells_of library)) (cells_named (cells_of library) (modules_in library) es) stimulus))
     (entities_are library)
     (subst
-    (λ (ms : List VModule). EndsEqual (cells_of library) ms (entities_of (cells_of library)) (stimulus_answer (cells_of library) (cells_named (cells_of library) ms (entities_of (cells_of library))) stimulus))
+    (λ (ms : List VModule). EndsEqual (cells_of library) ms (entities_of (cells_of library)) (stimulus_answer (cause_stop (cells_of library)) (cells_named (cells_of library) ms (entities_of (cells_of library))) stimulus))
     (modules_are library)
     (never_model_or_differ (cells_of library) stimulus (kept_rules (items_within library_limit library) no_progress) (own_models library)))
 
@@ -88,9 +87,9 @@ read_as : {M : Type 0} (l : Language M) (text : List ℕ) (models : List M) → 
 unfolding model_answer
 read_as {M = M} l text models e = by (nat_lt model_limit (length text))
   where
-    by : (more : Bool) → IsReadAs models (or_stop (models_answer l more text))
-    by true = inr (stop_of (refused.LongModel l.format), refl, refl)
-    by false = inl (ap (λ (r : Result (List M) ModelFault). or_stop (models_or l.format r)) e)
+    by : (more : Bool) → IsReadAs models (answer_where (long_model_stop l.format) (models_in_text l) more text)
+    by true = inr (long_model_stop l.format, refl, refl)
+    by false = inl (ap (λ (r : Result (List M) ModelFault). models_or_stop l.format r) e)
 
 -- a run goes on behind such a file
 goes_on : {T : Type 0} (library stimulus : List ℕ) (binds : ℕ) (value : T) (answer : Result T FileStop) (more : T → Outcome)
@@ -106,17 +105,17 @@ goes_on library stimulus binds value answer more (inr (stop, e, long)) h =
 abbrev IsUndone : {T : Type 0} → Result T FileStop → Type 0
 IsUndone answer = IfErr answer (λ stop. stop.status ≢ status.Done)
 
-fault_undone : (cells : List CellEntry) (answer : Result (List Section) StimulusFault) → IsUndone (sections_or cells answer)
+fault_undone : (cells : List CellEntry) (answer : Result (List Section) StimulusFault) → IsUndone (sections_or_stop (cause_stop cells) answer)
 fault_undone cells (Ok sections) = tt
 fault_undone cells (Err (fault.Line line why)) = (bad_line_stops why).1
 fault_undone cells (Err fault.Memory) = λ e. absurd cc
 
-stimulus_undone : (cells : List CellEntry) (catalog : NamedCells) (more : Bool) (bytes : List ℕ) → IsUndone (answer_where cells catalog more bytes)
+stimulus_undone : (cells : List CellEntry) (catalog : NamedCells) (more : Bool) (bytes : List ℕ) → IsUndone (answer_where long_stimulus_stop (sections_in_text (cause_stop cells) catalog) more bytes)
 stimulus_undone cells catalog true bytes = λ e. absurd cc
 stimulus_undone cells catalog false bytes = fault_undone cells (stimulus_of (listed catalog) bytes)
 
 by_stimulus : (library stimulus : List ℕ) → library_answer library ≡ Ok (cells_of library) → (answer : Result (List Section) FileStop)
-    → stimulus_answer (cells_of library) (cells_named (cells_of library) (modules_in library) (entities_in library)) stimulus ≡ answer
+    → stimulus_answer (cause_stop (cells_of library)) (cells_named (cells_of library) (modules_in library) (entities_in library)) stimulus ≡ answer
     → IsUndone answer → EndsEqual (cells_of library) (modules_in library) (entities_in library) answer
     → Agrees library stimulus (outcome_by 4 answer (λ sections. sections_outcome (cells_of library) (modules_in library) (entities_in library) sections))
 by_stimulus library stimulus whole (Ok sections) e undone h = record {
@@ -139,7 +138,7 @@ behind_the_models : (library stimulus : List ℕ) → library_answer library ≡
     → Agrees library stimulus (behind_entities (cells_of library) (modules_in library) (entities_in library) stimulus)
 behind_the_models library stimulus whole =
     let catalog = cells_named (cells_of library) (modules_in library) (entities_in library) in
-    by_stimulus library stimulus whole (stimulus_answer (cells_of library) catalog stimulus) refl
+    by_stimulus library stimulus whole (stimulus_answer (cause_stop (cells_of library)) catalog stimulus) refl
     (stimulus_undone (cells_of library) catalog (nat_lt stimulus_limit (length stimulus)) stimulus) (ends_equal library stimulus)
 
 -- The library and its models.

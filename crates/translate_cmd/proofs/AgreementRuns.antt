@@ -1,5 +1,6 @@
 -- A run of `simulate` on a library and its own models.
 use Rattle.std.proofs.Common.{◌≡◌, ℕ, List, [], take, IsTrue, inl, inr, refl, sym, ap, subst, ◌∙◌}
+use Rattle.text_io.specs.declared.file_commands.FileCommand.TheVariants.{Simulate}
 use Rattle.text_io.specs.declared.slots.OutSlot.TheVariants.{Report, Faults}
 use Rattle.text_io.specs.Desk.{DeskState, Folder, wrote}
 use Rattle.text_io.proofs.Wrote.{wrote-nil}
@@ -37,7 +38,7 @@ own_outcome words folder own =
 abbrev Simulates : DeskState → DeskState → Status → Type 0
 Simulates old new result = RunsAs simulate_files (simulate_of old.words) old new result
 
-simulates : (old new : DeskState) (result : Status) → reading old.words ≡ command.Simulate → Runs old new result → Simulates old new result
+simulates : (old new : DeskState) (result : Status) → reading old.words ≡ command.Files Simulate → Runs old new result → Simulates old new result
 simulates old new result e r = subst (λ (asked : Command). RunsAs (files_of asked) (outcome_of asked old.words) old new result) e r.run
 
 -- A run with a status that is decided ends as its outcome says.

@@ -1,9 +1,12 @@
 -- A run on which no call failed did all that it was asked for.
-use Rattle.std.proofs.Common.{◌≡◌, ◌≤◌, ℕ, Bool, true, false, List, [], take, length, nat_le, ◌⊎◌, inl, inr, if◌then◌else◌, IsTrue, refl, sym, ap, subst, ◌∙◌, arith}
+use Rattle.std.proofs.Common.{◌≡◌, ◌≤◌, ℕ, Bool, true, false, List, [], take, length, nat_le, Some, ◌⊎◌, inl, inr, if◌then◌else◌, IsTrue, refl, sym, ap, subst, ◌∙◌, arith}
 use Rattle.std.proofs.lemmas.List.{take_all}
 use Rattle.std.proofs.lemmas.Bool.Decides.{nat_tests}
+use Rattle.text_io.specs.declared.file_commands.FileCommand.{FileCommand}
+use Rattle.text_io.specs.declared.file_commands.FileCommand.TheVariants.{Translate, Simulate, ReplayVerilog, ReplayVital}
 use Rattle.text_io.specs.declared.slots.OutSlot.TheVariants.{Faults}
 use Rattle.text_io.specs.Desk.{DeskState, Folder, wrote}
+use Rattle.text_io.specs.Plan.{planned_files}
 use Rattle.text_io.proofs.Wrote.{wrote-nil}
 use Rattle.cell_cursor.specs.Ends.{items_within, end_within}
 use Rattle.cell_cursor.specs.declared.item.LibraryItem.{LibraryItem}
@@ -20,19 +23,20 @@ use Rattle.command_outcomes.specs.Outcome.{Outcome}
 use Rattle.command_outcomes.specs.Binding.{Files, bound_state, AreNamed, took_all, Tells, bytes_at}
 use Rattle.library_items.specs.Endings.{library_limit, ending_of}
 use Rattle.library_translation.specs.Library.{outcome_at}
-use Rattle.translate_cmd.specs.Outcome.{files_of, outcome_of, outcome}
+use Rattle.translate_cmd.specs.Outcome.{files_of, file_outcome, outcome_of, outcome}
 use Rattle.translate_cmd.specs.Runs.{Runs}
-use Rattle.translate_cmd.specs.Complete.{IsWholeLibrary, CanBeSimulated, CanBeDone, IsAllDone, Completes}
+use Rattle.translate_cmd.specs.Complete.{IsWholeLibrary, CanBeSimulated, FilesCanBeDone, CanBeDone, IsAllDone, Completes}
 use Rattle.library_items.specs.KeptCells.{kept_cells, cells_by}
 use Rattle.library_items.specs.Progress.{no_progress}
 use Rattle.simulation_catalog.specs.Catalog.{cells_named}
 use Rattle.simulation_catalog.specs.Comparisons.{any_differs}
 use Rattle.simulation_catalog.specs.Ends.{sections_outcome}
-use Rattle.model_simulation.specs.LibraryAnswers.{answer_by}
+use Rattle.library_file.specs.LibraryAnswer.{answer_by}
 use Rattle.model_simulation.specs.Simulate.{simulate_files, simulate_outcome}
-use Rattle.model_simulation.proofs.WholeSimulations.{model_whole, stimulus_whole, simulated_whole}
-use Rattle.model_replay.specs.declared.format.ModelFormat.TheVariants as format
-use Rattle.model_replay.specs.Languages.{Language}
+use Rattle.model_files.proofs.WholeAnswers.{model_whole, stimulus_whole}
+use Rattle.model_simulation.proofs.WholeSimulations.{simulated_whole}
+use Rattle.simulation_catalog.specs.FaultLines.{cause_stop}
+use Rattle.model_files.specs.Languages.{Language}
 use Rattle.model_replay.specs.Outcome.{replay_files, replay_outcome}
 use Rattle.model_replay.specs.Complete.{CanBeReplayed}
 use Rattle.model_replay.proofs.Completes.{replayed_whole}
@@ -102,7 +106,7 @@ simulation_comes_to library text vhdl stimulus can =
     simulated_whole library text vhdl stimulus cells can.modules can.entities can.sections
     (ap (λ end. answer_by (cells_by end cells)) (ends_whole library can.whole))
     (model_whole verilog text can.modules can.text_within can.verilog) (model_whole vital vhdl can.entities can.vhdl_within can.vital)
-    (stimulus_whole cells (cells_named cells can.modules can.entities) stimulus can.sections can.stimulus_within can.lines)
+    (stimulus_whole (cause_stop cells) (cells_named cells can.modules can.entities) stimulus can.sections can.stimulus_within can.lines)
 
 simulation_is_good : (library text vhdl stimulus : List ℕ) → CanBeSimulated library text vhdl stimulus → IsGoodOf simulate_files (simulate_outcome library text vhdl stimulus)
 simulation_is_good library text vhdl stimulus can =
@@ -110,15 +114,18 @@ simulation_is_good library text vhdl stimulus can =
     subst (IsGoodOf simulate_files) (sym (simulation_comes_to library text vhdl stimulus can))
     (record { good = record { status = differ_or_done (any_differs cells can.modules can.entities can.sections) _ refl; faults = refl }; binds = refl })
 
-can_is_good : (asked : Command) (words : List (List ℕ)) (folder : Folder) → CanBeDone asked words folder → IsGoodOf (files_of asked) (outcome_of asked words folder)
+files_are_good : (asked : FileCommand) (words : List (List ℕ)) (folder : Folder) → FilesCanBeDone asked words folder → IsGoodOf (planned_files (Some asked)) (file_outcome asked words folder)
 unfolding outcome_at
-can_is_good (command.Udp udp) words folder can = record { good = record { status = inl refl; faults = refl }; binds = refl }
-can_is_good command.Translate words folder can =
+files_are_good Translate words folder can =
     let bytes = bytes_at words folder 1 in
     record { good = whole_is_good (items_within library_limit bytes) (ending_of library_limit bytes) (ends_whole bytes can); binds = refl }
-can_is_good command.Simulate words folder can = simulation_is_good (bytes_at words folder 1) (bytes_at words folder 2) (bytes_at words folder 3) (bytes_at words folder 4) can
-can_is_good (command.Replay format.Verilog) words folder can = replay_is_good verilog (bytes_at words folder 1) (bytes_at words folder 2) can
-can_is_good (command.Replay format.Vital) words folder can = replay_is_good vital (bytes_at words folder 1) (bytes_at words folder 2) can
+files_are_good Simulate words folder can = simulation_is_good (bytes_at words folder 1) (bytes_at words folder 2) (bytes_at words folder 3) (bytes_at words folder 4) can
+files_are_good ReplayVerilog words folder can = replay_is_good verilog (bytes_at words folder 1) (bytes_at words folder 2) can
+files_are_good ReplayVital words folder can = replay_is_good vital (bytes_at words folder 1) (bytes_at words folder 2) can
+
+can_is_good : (asked : Command) (words : List (List ℕ)) (folder : Folder) → CanBeDone asked words folder → IsGoodOf (files_of asked) (outcome_of asked words folder)
+can_is_good (command.Udp udp) words folder can = record { good = record { status = inl refl; faults = refl }; binds = refl }
+can_is_good (command.Files asked) words folder can = files_are_good asked words folder can
 can_is_good (command.Selftest cells) words folder can = record { good = record { status = inl refl; faults = refl }; binds = refl }
 can_is_good command.Usage words folder can = absurd can
 

@@ -10,7 +10,7 @@ use Rattle.cell_parts.specs.Declarations.{declared_of, known_cell, clashes_after
 use Rattle.cell_parts.proofs.Distinct.{nil_parts}
 use Rattle.cell_reader.specs.declared.refusal.Refusal.{Refusal}
 use Rattle.cell_reader.specs.CellTexts.{subject_of}
-use Rattle.cell_reader.specs.LibraryCells.{CellEntry}
+use Rattle.library_items.specs.LibraryCells.{CellEntry}
 use Rattle.cell_reader.proofs.Accepted.{accepted_meets_none, accepted_cells_are_sound}
 use Rattle.cell_cursor.specs.declared.item.LibraryItem.{LibraryItem}
 use Rattle.cell_cursor.specs.declared.item.LibraryItem.TheVariants as item

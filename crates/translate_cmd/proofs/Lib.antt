@@ -1,4 +1,3 @@
-pub mod PlanLemmas
 pub mod RunsLemmas
 pub mod SelftestLemmas
 pub mod AskedRuns

@@ -42,6 +42,7 @@ done_unless true s e never = absurd (never e)
 done_unless false s e never = e
 
 own_simulation_is_done : (library stimulus : List ℕ) → IsWithoutFault library stimulus → (own_simulation library stimulus).status ≡ status.Done
+unfolding can_be_simulated
 own_simulation_is_done library stimulus h =
     let cells = kept_cells no_progress (items_within library_limit library) in
     let text = (translate_outcome library).text.verilog in

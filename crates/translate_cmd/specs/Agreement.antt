@@ -1,7 +1,7 @@
 -- A library simulated with the models that translating it writes: what it comes to. This project's promise.
 use Rattle.std.specs.Prelude.{◌≡◌, ◌≢◌, ◌≤◌, ℕ, List, [], length, Ok, All}
 use Rattle.cell_cursor.specs.Ends.{items_within}
-use Rattle.cell_reader.specs.LibraryCells.{CellEntry}
+use Rattle.library_items.specs.LibraryCells.{CellEntry}
 use Rattle.stimulus.specs.declared.sections.Section.{Section}
 use Rattle.stimulus.specs.PortEntries.{listed}
 use Rattle.stimulus.specs.Stimulus.{stimulus_of}
@@ -11,13 +11,14 @@ use Rattle.command_outcomes.specs.Outcome.{Outcome}
 use Rattle.simulation_catalog.specs.Catalog.{cells_named}
 use Rattle.simulation_catalog.specs.Comparisons.{sections_text}
 use Rattle.simulation_catalog.specs.Generated.{SaysEqual}
-use Rattle.simulation_catalog.specs.StimulusFile.{stimulus_answer}
+use Rattle.simulation_catalog.specs.FaultLines.{cause_stop}
+use Rattle.model_files.specs.StimulusAnswer.{stimulus_answer}
 use Rattle.library_items.specs.Endings.{library_limit}
 use Rattle.library_items.specs.KeptCells.{kept_cells}
 use Rattle.library_items.specs.Progress.{no_progress}
 use Rattle.library_translation.specs.Library.{translate_outcome}
-use Rattle.model_replay.specs.Outcome.{model_limit, stimulus_limit}
-use Rattle.model_simulation.specs.LibraryAnswers.{library_answer}
+use Rattle.model_files.specs.Limits.{model_limit, stimulus_limit}
+use Rattle.library_file.specs.LibraryAnswer.{library_answer}
 use Rattle.model_simulation.specs.Simulate.{simulate_outcome}
 use Rattle.translate_cmd.specs.Complete.{IsWholeLibrary}
 use Rattle.translate_cmd.specs.TranslatedModels.{modules_in, entities_in}
@@ -33,7 +34,7 @@ pub record SaysAllEqual (library stimulus report : List ℕ) : Type 0 where
   pub cells : List CellEntry
   pub are_cells : library_answer library ≡ Ok cells
   pub sections : List Section
-  pub are_sections : stimulus_answer cells (cells_named cells (modules_in library) (entities_in library)) stimulus ≡ Ok sections
+  pub are_sections : stimulus_answer (cause_stop cells) (cells_named cells (modules_in library) (entities_in library)) stimulus ≡ Ok sections
   pub equal : All (SaysEqual cells (modules_in library) (entities_in library)) sections
   pub report_is : report ≡ sections_text cells (modules_in library) (entities_in library) sections
 

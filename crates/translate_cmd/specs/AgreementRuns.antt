@@ -1,5 +1,6 @@
 -- A run that simulates a library beside its own models. This project's promise.
 use Rattle.std.specs.Prelude.{◌≡◌, ◌≢◌, ◌⊎◌, ℕ, List}
+use Rattle.text_io.specs.declared.file_commands.FileCommand.TheVariants.{Simulate}
 use Rattle.text_io.specs.declared.slots.InSlot.{InSlot}
 use Rattle.text_io.specs.declared.slots.OutSlot.TheVariants.{Report}
 use Rattle.text_io.specs.Desk.{DeskState, Folder, wrote}
@@ -38,5 +39,5 @@ pub record EndsInAgreement (library stimulus : List ℕ) (old new : DeskState) (
 -- Where the words ask for a simulation of a library beside its own models, and the desk tells the files, the run ends so.
 abbrev pub OwnModelsEndInAgreement : DeskState → DeskState → Status → Type 0
 OwnModelsEndInAgreement old new result =
-    reading old.words ≡ command.Simulate → (folder : Folder) → Tells simulate_files old folder → NameOwnModels old.words folder
+    reading old.words ≡ command.Files Simulate → (folder : Folder) → Tells simulate_files old folder → NameOwnModels old.words folder
     → EndsInAgreement (bytes_at old.words folder 1) (bytes_at old.words folder 4) old new result

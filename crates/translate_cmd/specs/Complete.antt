@@ -2,6 +2,8 @@
 use Rattle.std.specs.Prelude.{◌≡◌, ◌≤◌, ◌⊎◌, ℕ, List, length, true, Ok}
 use Rattle.liberty_groups.specs.declared.read.End.TheVariants.{Whole}
 use Rattle.liberty_groups.specs.Answer.{end_of_bytes}
+use Rattle.text_io.specs.declared.file_commands.FileCommand.{FileCommand}
+use Rattle.text_io.specs.declared.file_commands.FileCommand.TheVariants.{Translate, Simulate, ReplayVerilog, ReplayVital}
 use Rattle.text_io.specs.declared.slots.InSlot.{InSlot}
 use Rattle.text_io.specs.Desk.{DeskState, Folder}
 use Rattle.command_outcomes.specs.declared.status.Status.{Status}
@@ -11,10 +13,8 @@ use Rattle.command_words.specs.declared.commands.Command.TheVariants as command
 use Rattle.command_words.specs.Reading.{reading}
 use Rattle.command_outcomes.specs.Written.{wrote_all}
 use Rattle.command_outcomes.specs.Binding.{bound_state, AreNamed, took_all, Tells, bytes_at}
-use Rattle.model_replay.specs.declared.format.ModelFormat.{ModelFormat}
-use Rattle.model_replay.specs.declared.format.ModelFormat.TheVariants as format
 use Rattle.model_replay.specs.Complete.{CanBeReplayed}
-use Rattle.model_replay.specs.Outcome.{model_limit, stimulus_limit}
+use Rattle.model_files.specs.Limits.{model_limit, stimulus_limit}
 use Rattle.cell_cursor.specs.Ends.{items_within}
 use Rattle.specify_blocks.specs.declared.model.VModule.{VModule}
 use Rattle.specify_blocks.specs.VerilogText.{verilog_text}
@@ -36,11 +36,6 @@ pub record IsWholeLibrary (bytes : List ℕ) : Type 0 where
   pub within : length bytes ≤ library_limit
   pub whole : end_of_bytes bytes true ≡ Whole
 
--- a file of models of this format and a stimulus that can be replayed
-abbrev pub CanBeReplayedAs : ModelFormat → List ℕ → List ℕ → Type 0
-CanBeReplayedAs format.Verilog text stimulus = CanBeReplayed verilog text stimulus
-CanBeReplayedAs format.Vital text stimulus = CanBeReplayed vital text stimulus
-
 -- a whole library, a Verilog file and a VHDL file that are not refused, and a stimulus without a bad line over the library's cells beside
 -- these models, each within its limit
 pub record CanBeSimulated (library text vhdl stimulus : List ℕ) : Type 0 where
@@ -55,14 +50,18 @@ pub record CanBeSimulated (library text vhdl stimulus : List ℕ) : Type 0 where
   pub sections : List Section
   pub lines : stimulus_of (listed (cells_named (kept_cells no_progress (items_within library_limit library)) modules entities)) stimulus ≡ Ok sections
 
--- The command can be done with these words and files: a primitive can always be printed, a run on test cells be made, a whole library be translated, its cells be
--- simulated beside the models of files that are not refused, under a stimulus that is not, and a Verilog or VHDL file be replayed so.
--- Words without a reading ask for nothing.
+-- A command of files can be done with these words and files: a whole library be translated, its cells be simulated beside the models
+-- of files that are not refused, under a stimulus that is not, and a Verilog or VHDL file be replayed so.
+abbrev pub FilesCanBeDone : FileCommand → List (List ℕ) → Folder → Type 0
+FilesCanBeDone Translate words folder = IsWholeLibrary (bytes_at words folder 1)
+FilesCanBeDone Simulate words folder = CanBeSimulated (bytes_at words folder 1) (bytes_at words folder 2) (bytes_at words folder 3) (bytes_at words folder 4)
+FilesCanBeDone ReplayVerilog words folder = CanBeReplayed verilog (bytes_at words folder 1) (bytes_at words folder 2)
+FilesCanBeDone ReplayVital words folder = CanBeReplayed vital (bytes_at words folder 1) (bytes_at words folder 2)
+
+-- The command can be done: a primitive can always be printed, and a run on test cells be made. Words without a reading ask for nothing.
 abbrev pub CanBeDone : Command → List (List ℕ) → Folder → Type 0
 CanBeDone (command.Udp udp) words folder = Unit {0}
-CanBeDone command.Translate words folder = IsWholeLibrary (bytes_at words folder 1)
-CanBeDone command.Simulate words folder = CanBeSimulated (bytes_at words folder 1) (bytes_at words folder 2) (bytes_at words folder 3) (bytes_at words folder 4)
-CanBeDone (command.Replay f) words folder = CanBeReplayedAs f (bytes_at words folder 1) (bytes_at words folder 2)
+CanBeDone (command.Files asked) words folder = FilesCanBeDone asked words folder
 CanBeDone (command.Selftest cells) words folder = Unit {0}
 CanBeDone command.Usage words folder = ⊥
 

@@ -1,5 +1,6 @@
 -- What a run of a command leaves on the desk.
 use Rattle.std.specs.Prelude.{◌≡◌}
+use Rattle.text_io.specs.declared.file_commands.FileCommand.TheVariants.{Translate}
 use Rattle.text_io.specs.declared.slots.InSlot.TheVariants.{Library}
 use Rattle.text_io.specs.Desk.{DeskState, Folder}
 use Rattle.command_outcomes.specs.declared.status.Status.{Status}
@@ -16,4 +17,4 @@ use Rattle.translate_cmd.specs.Outcome.{files_of, outcome}
 -- more than 65,536 bytes before the end of the bytes that were read of the library.
 pub record Runs (old new : DeskState) (result : Status) : Type 0 where
   pub run : RunsAs (files_of (reading old.words)) (outcome old.words) old new result
-  pub models : reading old.words ≡ command.Translate → (folder : Folder) → Tells translate_files old folder → HoldsModels (bytes_at old.words folder 1) (run.taken Library) run.text
+  pub models : reading old.words ≡ command.Files Translate → (folder : Folder) → Tells translate_files old folder → HoldsModels (bytes_at old.words folder 1) (run.taken Library) run.text

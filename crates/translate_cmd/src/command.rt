@@ -12,7 +12,7 @@ ghost use Rattle.translate_cmd.specs.Complete.{Completes};
 ghost use Rattle.translate_cmd.specs.Selftests.{SelftestsEnd};
 ghost use Rattle.translate_cmd.specs.AgreementRuns.{OwnModelsEndInAgreement};
 
-use crate::commands::{replay, selftest, simulate, translate};
+use crate::commands::{selftest, work_on_files};
 use command_outcomes::{Status, ended};
 use command_words::{Command, Memory, asked};
 use std::alloc::Global;
@@ -75,9 +75,7 @@ fn carry_out<D: Desk>(alloc: Global, desk: &mut D) -> Status
 {
     match asked(alloc, desk) {
         Ok(Command::Udp(udp)) => ended(write_udp(desk, OutSlot::Report, &udp), Status::Done),
-        Ok(Command::Translate) => translate(alloc, desk),
-        Ok(Command::Simulate) => simulate(alloc, desk),
-        Ok(Command::Replay(format)) => replay(alloc, desk, format),
+        Ok(Command::Files(asked)) => work_on_files(alloc, desk, asked),
         Ok(Command::Selftest(cells)) => selftest(alloc, desk, cells),
         Ok(Command::Usage) => ended(write_whole(desk, OutSlot::Faults, USAGE), Status::Usage),
         Err(Memory) => Status::Memory,

@@ -7,41 +7,27 @@ ghost use Rattle.translate_cmd.specs.Runs.{Runs};
 
 use command_outcomes::{Status, ended};
 use library_translation::translate_library;
-use model_replay::{ModelFormat, replay_models};
-use model_simulation::{Verilog, Vital, simulate_library};
+use model_languages::{Verilog, Vital};
+use model_replay::replay_models;
+use model_simulation::simulate_library;
 use selftest_runs::{selftest_counts, write_report};
 use std::alloc::Global;
-use text_io::Desk;
+use text_io::{Desk, FileCommand};
 
-/// Writes the Verilog and VHDL models of the cells of the library that the words name, and its report.
-pub(crate) fn translate<D: Desk>(alloc: Global, desk: &mut D) -> Status
-    requires { reading (D.state desk.old).words ≡ command.Translate }
+/// Carries out a command on the files that the words name: writes the Verilog and VHDL models of the cells of a library, and its report;
+/// prints the traces of the cells of a library, of their modules and of their entities, section by section of a stimulus, and whether the
+/// three of each section are equal; or prints the traces of the models of a file, section by section of a stimulus. No trace is printed
+/// before all files are read.
+pub(crate) fn work_on_files<D: Desk>(alloc: Global, desk: &mut D, asked: FileCommand) -> Status
+    requires { reading (D.state desk.old).words ≡ command.Files asked }
     ensures writes { Runs (D.state desk.old) (D.state desk.new) result }
     ensures cause { StopsWithStatus (D.faults desk.old) (D.faults desk.new) result }
 {
-    translate_library(alloc, desk)
-}
-
-/// Prints the traces of the cells of a library, of their modules and of their entities, section by section of a stimulus, all of the
-/// files that the words name, and whether the three of each section are equal. Nothing is printed before all four files are read.
-pub(crate) fn simulate<D: Desk>(alloc: Global, desk: &mut D) -> Status
-    requires { reading (D.state desk.old).words ≡ command.Simulate }
-    ensures writes { Runs (D.state desk.old) (D.state desk.new) result }
-    ensures cause { StopsWithStatus (D.faults desk.old) (D.faults desk.new) result }
-{
-    simulate_library(alloc, desk)
-}
-
-/// Prints the traces of the models of the file, of this format, that the words name, section by section of the stimulus that they
-/// name. Nothing is printed before both files are read.
-pub(crate) fn replay<D: Desk>(alloc: Global, desk: &mut D, format: ModelFormat) -> Status
-    requires { reading (D.state desk.old).words ≡ command.Replay format }
-    ensures writes { Runs (D.state desk.old) (D.state desk.new) result }
-    ensures cause { StopsWithStatus (D.faults desk.old) (D.faults desk.new) result }
-{
-    match format {
-        ModelFormat::Verilog => replay_models::<D, Verilog>(alloc, desk),
-        ModelFormat::Vital => replay_models::<D, Vital>(alloc, desk),
+    match asked {
+        FileCommand::Translate => translate_library(alloc, desk),
+        FileCommand::Simulate => simulate_library(alloc, desk),
+        FileCommand::ReplayVerilog => replay_models::<D, Verilog>(alloc, desk),
+        FileCommand::ReplayVital => replay_models::<D, Vital>(alloc, desk),
     }
 }
 

@@ -1,5 +1,5 @@
 use Rattle.translate_cmd.proofs.RunsLemmas.{nothing_runs, selftest_runs}
-use Rattle.command_words.proofs.FewCells.{few_cells}
+use Rattle.command_words.proofs.ReadingLaws.{few_cells}
 use Rattle.translate_cmd.proofs.commands.selftest.Goals as goal
 
 pub selftest_counts-requires : goal.selftest_counts-requires

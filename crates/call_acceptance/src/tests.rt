@@ -1,4 +1,5 @@
 //! The tests, and what they share.
+mod cell_cursors;
 mod desks;
 mod functions;
 mod liberty_tokens;

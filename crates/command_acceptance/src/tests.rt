@@ -1,19 +1,9 @@
 //! The tests, and what they share.
-mod cut_files;
 mod cut_libraries;
-mod cuts;
-mod desks;
-mod entity_texts;
 mod failing_calls;
 mod far_reading;
-mod inverter;
-mod libraries;
-mod refused_files;
-mod replays;
 mod runs_on_test_cells;
-mod test_cells;
-mod texts;
-mod three_cells;
-mod traces;
+mod scan_flip_flops;
+mod tied_models;
 mod translations;
 mod words_and_udp;

@@ -5,6 +5,7 @@ mod flip_flops;
 mod functions;
 mod latches;
 mod lines;
+mod primitives;
 mod scan_flip_flops;
 mod tables;
 mod timing_checks;

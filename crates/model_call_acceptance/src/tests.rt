@@ -1,5 +1,9 @@
 //! The tests, and what they share.
+mod cubes;
 mod pin_timings;
 mod port_names;
+mod primitives;
 mod stimuli;
 mod verilog_texts;
+mod vhdl_texts;
+mod vital_tables;

@@ -5,7 +5,7 @@ use std::alloc::Global;
 use std::test::Fail;
 
 /// Three cells, of which the second has an output that is driven or not.
-const THREE_CELLS: &[u8] = b"library (L) {
+pub(crate) const THREE_CELLS: &[u8] = b"library (L) {
 cell (INV) { pin (A) { direction : input; } pin (Y) { direction : output; function : \"!A\"; } }
 cell (TB) { pin (A) { direction : input; } pin (Y) { direction : output; three_state : \"A\"; function : \"A\"; } }
 cell (BUF) { pin (A) { direction : input; } pin (Y) { direction : output; function : \"A\"; } }

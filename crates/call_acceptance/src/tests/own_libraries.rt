@@ -3,13 +3,13 @@
 use selftest_library::OwnLibrary;
 use std::alloc::Global;
 use std::test::Fail;
-use text_io::{InSlot, ReadFault, read_all};
+use text_io::{InSlot, Stop, read_all};
 
 /// Whether the text that is read of the library of four cells ends so.
 #[tactic(auto, unfolding(selftest_library::specs::Reading::reads_library))]
-fn ends_in(alloc: Global, wanted: &[u8]) -> Result<bool, ReadFault> {
+fn ends_in(alloc: Global, wanted: &[u8]) -> Result<bool, Stop> {
     let Ok(mut library) = OwnLibrary::new(alloc, 4) else {
-        return Err(ReadFault::Memory);
+        return Err(Stop::Memory);
     };
     let read = read_all(alloc, &mut library, InSlot::Library, 100_000)?;
     Ok(!read.more && read.bytes.as_slice().ends_with(wanted))

@@ -1,7 +1,7 @@
 //! A library that is cut at each of its bytes: the cells that ended before the cut are written.
-use super::desks::{Left, PIECES, TRANSLATE, library_alone, ran};
-use super::three_cells::{
-    FIRST_ENTITY, FIRST_MODULE, NO_MODULE, THIRD_ENTITY, THIRD_MODULE, THREE_CELLS, THREE_LINES,
+use command_runs::{
+    FIRST_ENTITY, FIRST_MODULE, Left, NO_MODULE, PIECES, THIRD_ENTITY, THIRD_MODULE, THREE_CELLS,
+    THREE_LINES, TRANSLATE, library_alone, ran,
 };
 use std::alloc::Global;
 use std::test::Fail;

@@ -1,7 +1,7 @@
 //! A library with much behind its cells: their models are written before all of it is read.
-use super::desks::{Left, TRANSLATE, library_alone, ran};
-use super::three_cells::{
-    FIRST_ENTITY, FIRST_MODULE, THIRD_ENTITY, THIRD_MODULE, THREE_CELLS, THREE_LINES,
+use command_runs::{
+    FIRST_ENTITY, FIRST_MODULE, Left, THIRD_ENTITY, THIRD_MODULE, THREE_CELLS, THREE_LINES,
+    TRANSLATE, library_alone, ran,
 };
 use std::alloc::{AllocError, Global};
 use std::test::Fail;

@@ -1,5 +1,5 @@
 //! Runs of `selftest`.
-use super::desks::ran_without_files;
+use command_runs::ran_without_files;
 use std::alloc::Global;
 use std::test::Fail;
 use translate_cmd::Status;

@@ -1,5 +1,5 @@
 //! Runs of `udp` and of words without a reading.
-use super::desks::{Limits, desk_of, library_alone, ran_without_files, words_of};
+use command_runs::{Limits, desk_of, library_alone, ran_without_files, words_of};
 use std::alloc::Global;
 use std::test::Fail;
 use text_io::{MemoryDesk, OutSlot, SureDesk};

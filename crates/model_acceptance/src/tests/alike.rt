@@ -19,7 +19,7 @@ use table_interpreters::{VerilogSim, VitalSim};
 use vital_models::{VEntity, vital_model};
 
 /// The first cell of a library in picoseconds.
-fn first_cell(alloc: Global, text: &str) -> Result<Cell, Fail> {
+pub fn first_cell(alloc: Global, text: &str) -> Result<Cell, Fail> {
     let reading = read_library(alloc, text.as_bytes(), true)?;
     let group = reading.cells.get(0).ok_or("no cell")?;
     let read = read_cell(alloc, group, 1, Some(Unit::Ps1), &Names::new(alloc))?;

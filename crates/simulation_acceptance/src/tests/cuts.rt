@@ -1,5 +1,5 @@
 //! Files that are cut at each of their bytes.
-use super::desks::{Files, ran};
+use command_runs::{Files, ran};
 use std::alloc::Global;
 use std::test::Fail;
 use translate_cmd::Status;

@@ -5,20 +5,20 @@ use text_io::{MemoryDesk, NamedFile, OutSlot};
 use translate_cmd::{Status, run};
 
 /// Words that translate the library.
-pub(crate) const TRANSLATE: [&str; 4] = ["translate", "in.lib", "out.v", "out.vhd"];
+pub const TRANSLATE: [&str; 4] = ["translate", "in.lib", "out.v", "out.vhd"];
 
 /// Words that simulate the library beside both files of models.
-pub(crate) const SIMULATE: [&str; 5] = ["simulate", "in.lib", "in.v", "in.vhd", "in.stim"];
+pub const SIMULATE: [&str; 5] = ["simulate", "in.lib", "in.v", "in.vhd", "in.stim"];
 
 /// Words that replay the Verilog file.
-pub(crate) const REPLAY_VERILOG: [&str; 3] = ["replay-verilog", "in.v", "in.stim"];
+pub const REPLAY_VERILOG: [&str; 3] = ["replay-verilog", "in.v", "in.stim"];
 
 /// Words that replay the VHDL file.
-pub(crate) const REPLAY_VITAL: [&str; 3] = ["replay-vital", "in.vhd", "in.stim"];
+pub const REPLAY_VITAL: [&str; 3] = ["replay-vital", "in.vhd", "in.stim"];
 
 /// The bytes of the files that those words name.
 #[derive(Copy, Clone)]
-pub(crate) struct Files<'a> {
+pub struct Files<'a> {
     pub library: &'a [u8],
     pub verilog: &'a [u8],
     pub vital: &'a [u8],
@@ -26,7 +26,7 @@ pub(crate) struct Files<'a> {
 }
 
 /// A library and no other file.
-pub(crate) fn library_alone(library: &[u8]) -> Files<'_> {
+pub fn library_alone(library: &[u8]) -> Files<'_> {
     Files {
         library,
         verilog: b"",
@@ -36,7 +36,7 @@ pub(crate) fn library_alone(library: &[u8]) -> Files<'_> {
 }
 
 /// The words of a desk.
-pub(crate) fn words_of(alloc: Global, texts: &[&str]) -> Result<Vec<String>, AllocError> {
+pub fn words_of(alloc: Global, texts: &[&str]) -> Result<Vec<String>, AllocError> {
     let mut words = Vec::new(alloc);
     for text in texts {
         words.push(String::from_str(alloc, text)?)?;
@@ -63,19 +63,19 @@ fn folder_of(alloc: Global, files: Files<'_>) -> Result<Vec<NamedFile>, AllocErr
 }
 
 /// How many bytes a call may move in the runs that are tried at several such numbers.
-pub(crate) const PIECES: [usize; 3] = [1, 7, 4096];
+pub const PIECES: [usize; 3] = [1, 7, 4096];
 
 /// What limits the calls on a desk: those with these numbers fail, an output has this room, in bytes, and a call moves at most
 /// `piece` bytes.
 #[derive(Copy, Clone)]
-pub(crate) struct Limits<'a> {
+pub struct Limits<'a> {
     pub failing: &'a [u64],
     pub room: usize,
     pub piece: usize,
 }
 
 /// A desk with these words, files and limits.
-pub(crate) fn desk_of(
+pub fn desk_of(
     alloc: Global,
     words: &[&str],
     files: Files<'_>,
@@ -90,21 +90,21 @@ pub(crate) fn desk_of(
 
 /// What a run left: its status, and the desk.
 #[derive(Drop)]
-pub(crate) struct Left {
+pub struct Left {
     pub status: Status,
     pub desk: MemoryDesk,
 }
 
 impl Left {
     /// Whether the run ended with this status, this report and these faults.
-    pub(crate) fn is(&self, status: Status, report: &str, faults: &str) -> bool {
+    pub fn is(&self, status: Status, report: &str, faults: &str) -> bool {
         self.status == status
             && self.desk.written(OutSlot::Report) == report.as_bytes()
             && self.desk.written(OutSlot::Faults) == faults.as_bytes()
     }
 
     /// Whether the run ended with this status, this report, and faults that begin so.
-    pub(crate) fn begins(&self, status: Status, report: &str, faults: &str) -> bool {
+    pub fn begins(&self, status: Status, report: &str, faults: &str) -> bool {
         self.status == status
             && self.desk.written(OutSlot::Report) == report.as_bytes()
             && self
@@ -114,7 +114,7 @@ impl Left {
     }
 
     /// Whether a slot has these two texts, one behind the other.
-    pub(crate) fn wrote(&self, slot: OutSlot, first: &str, second: &str) -> bool {
+    pub fn wrote(&self, slot: OutSlot, first: &str, second: &str) -> bool {
         let written = self.desk.written(slot);
         match written.get(first.len()..) {
             Some(rest) => written.starts_with(first.as_bytes()) && rest == second.as_bytes(),
@@ -123,7 +123,7 @@ impl Left {
     }
 
     /// Whether a slot has a front of these two texts.
-    pub(crate) fn wrote_front(&self, slot: OutSlot, first: &str, second: &str) -> bool {
+    pub fn wrote_front(&self, slot: OutSlot, first: &str, second: &str) -> bool {
         let written = self.desk.written(slot);
         match written.get(first.len()..) {
             Some(rest) => {
@@ -138,7 +138,7 @@ impl Left {
 const ROOM: usize = 10_000;
 
 /// Runs these words over these files, on a desk at which the calls with these numbers fail and a call moves at most `piece` bytes.
-pub(crate) fn ran(
+pub fn ran(
     alloc: Global,
     words: &[&str],
     files: Files<'_>,
@@ -156,23 +156,23 @@ pub(crate) fn ran(
 }
 
 /// Translates a library.
-pub(crate) fn translated(alloc: Global, library: &str) -> Result<Left, Fail> {
+pub fn translated(alloc: Global, library: &str) -> Result<Left, Fail> {
     let files = library_alone(library.as_bytes());
     ran(alloc, &TRANSLATE, files, &[], usize::MAX)
 }
 
 /// Runs words that name no file, on a desk at which no call fails.
-pub(crate) fn ran_without_files(alloc: Global, words: &[&str]) -> Result<Left, Fail> {
+pub fn ran_without_files(alloc: Global, words: &[&str]) -> Result<Left, Fail> {
     ran(alloc, words, library_alone(b""), &[], usize::MAX)
 }
 
 /// Simulates these files.
-pub(crate) fn simulated(alloc: Global, files: Files<'_>) -> Result<Left, Fail> {
+pub fn simulated(alloc: Global, files: Files<'_>) -> Result<Left, Fail> {
     ran(alloc, &SIMULATE, files, &[], usize::MAX)
 }
 
 /// Simulates a library beside its own models.
-pub(crate) fn simulated_beside_its_own(
+pub fn simulated_beside_its_own(
     alloc: Global,
     library: &str,
     stimulus: &str,

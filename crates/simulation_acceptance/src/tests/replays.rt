@@ -1,6 +1,8 @@
 //! Runs of `replay-verilog` and `replay-vital`.
-use super::desks::{Files, Left, REPLAY_VERILOG, REPLAY_VITAL, ran};
-use super::three_cells::{FIRST_MODULE, THIRD_MODULE};
+use command_runs::{
+    FIRST_MODULE, Files, Left, REPLAY_VERILOG, REPLAY_VITAL, THIRD_MODULE, TIMED_FLIP_FLOP_MODULE,
+    ran,
+};
 use std::alloc::Global;
 use std::test::Fail;
 use translate_cmd::Status;
@@ -44,9 +46,37 @@ V start : Y=x
 V 5 A 1 : Y=0@0
 ";
 
+/// A section in which the setup time of a flip-flop is kept, and then is not.
+const RISES: &str = "cell DFFT
+10 D 1
+20 CK 0
+100 CK 1
+110 D 0
+130 CK 0
+150 CK 1
+";
+
+/// Its report.
+const RISES_REPORT: &str = "cell DFFT
+V start : Q=x
+V 10 D 1 : Q=x
+V 20 CK 0 : Q=x
+V 100 CK 1 : Q=1@100
+V 110 D 0 : Q=1
+V 130 CK 0 : Q=1
+V 150 CK 1 : Q=x@120 !1
+";
+
+/// Whether a replay of the module of that flip-flop has this report.
+fn replays_rises(alloc: Global, report: &str) -> Result<bool, Fail> {
+    let left = replayed(alloc, &REPLAY_VERILOG, TIMED_FLIP_FLOP_MODULE, RISES)?;
+    Ok(left.is(Status::Done, report, ""))
+}
+
 #[test]
 fn sections_are_printed_in_the_order_of_the_stimulus(rt: HostRuntime) -> Result<(), Fail> {
     assert!(rt; replays(rt.alloc(), STIMULUS, Status::Done, REPORT, "")?);
+    assert!(rt; replays_rises(rt.alloc(), RISES_REPORT)?);
     Ok(())
 }
 
@@ -91,5 +121,59 @@ fn the_first_fault_of_the_files_is_told(rt: HostRuntime) -> Result<(), Fail> {
         )?
     );
     assert!(rt; has_bad_line(rt.alloc(), "cell TB\n", unknown)?);
+    Ok(())
+}
+
+/// A row with two changes, the second at offset 106.
+const TWO_CHANGES: &str = "`timescale 1ps/1ps
+primitive p (q, i1, i2);
+  output q;
+  reg q;
+  input i1;
+  input i2;
+  table
+    (01) (01) : ? : 1;
+  endtable
+endprimitive
+module M (A, B, Y);
+  input A;
+  input B;
+  output Y;
+  wire s;
+  p (s, A, B);
+  buf (Y, 1'b1);
+endmodule
+";
+
+/// A period whose two lines have two numbers, the second at offset 150.
+const TWO_NUMBERS: &str = "`timescale 1ps/1ps
+module M (A, Y);
+  input A;
+  output Y;
+  reg n;
+  buf (Y, 1'b1);
+  specify
+    $period(posedge A, 100, n);
+    $period(negedge A, 101, n);
+  endspecify
+endmodule
+";
+
+/// Whether a replay of a Verilog file is refused with these faults.
+fn refuses(alloc: Global, models: &str, faults: &str) -> Result<bool, Fail> {
+    let left = replayed(alloc, &REPLAY_VERILOG, models, "cell M")?;
+    Ok(left.is(Status::Model, "", faults))
+}
+
+#[test]
+fn the_first_fault_of_a_verilog_file_is_told(rt: HostRuntime) -> Result<(), Fail> {
+    assert!(rt;
+        refuses(
+            rt.alloc(),
+            TWO_CHANGES,
+            "verilog refused at 106: two edges\n"
+        )?
+    );
+    assert!(rt; refuses(rt.alloc(), TWO_NUMBERS, "verilog refused at 150: unequal\n")?);
     Ok(())
 }

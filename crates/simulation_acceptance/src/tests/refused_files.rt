@@ -1,6 +1,6 @@
 //! Simulations that end at one of the four files. The first that is refused decides.
-use super::desks::{Files, simulated, simulated_beside_its_own, translated};
 use super::libraries::INVERTER;
+use command_runs::{FLIP_FLOP, Files, simulated, simulated_beside_its_own, translated};
 use std::alloc::Global;
 use std::test::Fail;
 use text_io::OutSlot;
@@ -82,8 +82,21 @@ fn a_cell_without_its_models_is_told_where_it_is_named(rt: HostRuntime) -> Resul
     assert!(rt; refuses_models(rt.alloc(), INVERTER, b"", "vital ports: INV\n")?);
     assert!(rt; refuses_another_entity(rt.alloc())?);
     assert!(rt; refuses_models(rt.alloc(), ANOTHER_ORDER, b"", "verilog ports: INV\n")?);
+    assert!(rt; has_no_entity(rt.alloc())?);
     assert!(rt; names_no_cell(rt.alloc())?);
     Ok(())
+}
+
+/// Whether a flip-flop beside its own module and a VHDL file of no byte has no entity.
+fn has_no_entity(alloc: Global) -> Result<bool, Fail> {
+    let models = translated(alloc, FLIP_FLOP)?;
+    let files = Files {
+        library: FLIP_FLOP.as_bytes(),
+        verilog: models.desk.written(OutSlot::VerilogText),
+        vital: b"",
+        stimulus: b"cell DFF",
+    };
+    Ok(simulated(alloc, files)?.is(Status::Model, "", "vital ports: DFF\n"))
 }
 
 /// Whether models of another order count for nothing where the stimulus names no cell.

@@ -1,4 +1,4 @@
-//! What texts of models share: gates of one input, outputs that are tied to 1, and entities behind their context. A macro that stands in another one's call is
+//! What texts of models share: gates of one input, and entities behind their context. A macro that stands in another one's call is
 //! handed literals, since `concat!` takes no other macro.
 
 /// The text of a gate of this name from A to Y, behind this one: its primitive, of this name and with these two rows, and its module.
@@ -23,29 +23,9 @@ macro_rules! gate_module {
 
 pub(crate) use gate_module;
 
-/// The Verilog of a module of this name with these ports, of which these inputs are declared, and with this output, which is tied to 1.
-macro_rules! tied_module {
-    ($name:literal, $ports:literal, $inputs:literal, $output:literal) => {
-        concat!(
-            "`timescale 1ps/1ps\nmodule ",
-            $name,
-            " (",
-            $ports,
-            ");\n",
-            $inputs,
-            "  output ",
-            $output,
-            ";\n  buf (",
-            $output,
-            ", 1'b1);\nendmodule\n"
-        )
-    };
-}
-
-pub(crate) use tied_module;
-
 /// The text of an entity of this name with these ports, behind its context: what its architecture declares, and its only process from
 /// behind that word up to its end.
+#[macro_export]
 macro_rules! entity_text {
     ($name:literal, $ports:literal, [$($declared:literal),*], [$($process:literal),*]) => {
         concat!(
@@ -68,12 +48,10 @@ macro_rules! entity_text {
     };
 }
 
-pub(crate) use entity_text;
-
 /// The text of the entity of a gate of this name from A to Y, with these two rows of its table.
 macro_rules! gate_entity {
     ($name:literal, $first:literal, $second:literal) => {
-        entity_text!(
+        $crate::entity_text!(
             $name,
             "A : in std_ulogic; Y : out std_ulogic",
             ["  constant k_1 : VitalTruthTableType := (\n    (", $first, "),\n    (", $second, "));\n"],
@@ -83,18 +61,3 @@ macro_rules! gate_entity {
 }
 
 pub(crate) use gate_entity;
-
-/// The text of the entity of a cell of this name with these ports and an output that is tied to 1: behind these signals, to which its
-/// process responds, up to these statements, with which it ends.
-macro_rules! tied_entity {
-    ($name:literal, $ports:literal, $signals:literal, $last:literal) => {
-        entity_text!(
-            $name,
-            $ports,
-            [],
-            [$signals, "\n    variable z_1 : std_logic := 'X';\n  begin\n    z_1 := '1';\n", $last]
-        )
-    };
-}
-
-pub(crate) use tied_entity;

@@ -1,0 +1,95 @@
+//! Calls on the desk that fail, each in turn: what was written then is the front of what is written without, and no call is made
+//! behind it.
+use crate::desks::{Files, Left, PIECES, ran};
+use std::alloc::Global;
+use std::test::Fail;
+use text_io::OutSlot;
+use translate_cmd::Status;
+
+/// What a run comes to where no call fails: each text in two parts, of which the second may be empty.
+#[derive(Copy, Clone)]
+pub struct Whole {
+    /// The status.
+    pub status: Status,
+    /// The Verilog that is written.
+    pub verilog: (&'static str, &'static str),
+    /// The VHDL that is written.
+    pub vital: (&'static str, &'static str),
+    /// The report.
+    pub report: &'static str,
+    /// The line of faults.
+    pub faults: &'static str,
+}
+
+/// A run that is done and writes no model, with this report.
+pub fn done(report: &'static str) -> Whole {
+    Whole {
+        status: Status::Done,
+        verilog: ("", ""),
+        vital: ("", ""),
+        report,
+        faults: "",
+    }
+}
+
+/// Whether what was left is a front of the whole, and at most one call failed.
+fn is_front(left: &Left, whole: &Whole) -> bool {
+    let (verilog, more_verilog) = whole.verilog;
+    let (vital, more_vital) = whole.vital;
+    left.wrote_front(OutSlot::VerilogText, verilog, more_verilog)
+        && left.wrote_front(OutSlot::VitalText, vital, more_vital)
+        && left.wrote_front(OutSlot::Report, whole.report, "")
+        && left.wrote_front(OutSlot::Faults, whole.faults, "")
+        && left.desk.faults() <= 1
+}
+
+/// Whether each call that fails in its turn, the next one failing too, leaves a front and is the last, up to the run at which no
+/// call is left that could fail, where a call moves at most `piece` bytes.
+pub fn leaves_fronts(
+    alloc: Global,
+    words: &[&str],
+    files: Files<'_>,
+    whole: &Whole,
+    piece: usize,
+) -> Result<bool, Fail> {
+    for call in 1..10000 {
+        let left = ran(alloc, words, files, &[call, call + 1], piece)?;
+        if !is_front(&left, whole) {
+            return Ok(false);
+        }
+        if left.status != Status::Outside {
+            return Ok(left.status == whole.status);
+        }
+    }
+    Ok(false)
+}
+
+/// Whether that holds of words, whatever a call moves of bytes.
+pub fn leaves_fronts_in_pieces(
+    alloc: Global,
+    words: &[&str],
+    files: Files<'_>,
+    whole: &Whole,
+) -> Result<bool, Fail> {
+    for piece in PIECES {
+        if !leaves_fronts(alloc, words, files, whole, piece)? {
+            return Ok(false);
+        }
+    }
+    Ok(true)
+}
+
+/// Whether a run at which this call fails leaves nothing written.
+pub fn leaves_nothing(
+    alloc: Global,
+    words: &[&str],
+    files: Files<'_>,
+    call: u64,
+) -> Result<bool, Fail> {
+    let left = ran(alloc, words, files, &[call], usize::MAX)?;
+    Ok(
+        left.is(Status::Outside, "", "")
+            && left.wrote(OutSlot::VerilogText, "", "")
+            && left.wrote(OutSlot::VitalText, "", ""),
+    )
+}

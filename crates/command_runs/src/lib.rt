@@ -1,0 +1,25 @@
+//! What tests of whole runs share: runs of commands over desks in memory, also with each call failing in its turn, and samples of
+//! libraries and models with what they come to; no product code.
+#![tactic(auto)]
+
+mod desks;
+mod fronts;
+mod libraries;
+mod texts;
+mod three_cells;
+mod timed_flip_flops;
+
+pub use desks::{
+    Files, Left, Limits, PIECES, REPLAY_VERILOG, REPLAY_VITAL, SIMULATE, TRANSLATE, desk_of,
+    library_alone, ran, ran_without_files, simulated, simulated_beside_its_own, translated,
+    words_of,
+};
+pub use fronts::{Whole, done, leaves_fronts, leaves_fronts_in_pieces, leaves_nothing};
+pub use libraries::{CLOCK_GATE, CLOCK_GATE_WITHOUT_KEEP, FLIP_FLOP, TIE};
+pub use three_cells::{
+    FIRST_ENTITY, FIRST_MODULE, NO_MODULE, THIRD_ENTITY, THIRD_MODULE, THREE_CELLS, THREE_LINES,
+};
+pub use timed_flip_flops::{
+    GUARDED_FLIP_FLOP, PLAIN_FLIP_FLOP_MODULE, TIMED_FLIP_FLOP, TIMED_FLIP_FLOP_ENTITY,
+    TIMED_FLIP_FLOP_MODULE,
+};

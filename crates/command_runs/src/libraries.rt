@@ -1,0 +1,32 @@
+//! Libraries of one cell without timing.
+
+/// An output that is tied to 1, alone.
+pub const TIE: &str =
+    "library (L) { cell (TIE) { pin (Y) { direction : output; function : \"1\"; } } }";
+
+/// A flip-flop without timing.
+pub const FLIP_FLOP: &str = "library (L) { cell (DFF) {
+ff (IQ, IQN) { next_state : \"D\"; clocked_on : \"CK\"; }
+pin (CK) { direction : input; } pin (D) { direction : input; } pin (Q) { direction : output; function : \"IQ\"; }
+} }
+";
+
+/// A clock gate by a state table with these rows behind those for a low clock.
+macro_rules! clock_gate {
+    ($last:literal) => {
+        concat!(
+            "library (L) { time_unit : \"1ps\"; cell (GATE) {\n",
+            "statetable (\"CK E SE\", \"IQ\") { table : \"L L L : - : L, L L H : - : H, L H L : - : H, L H H : - : H",
+            $last,
+            "\"; }\npin (CK) { direction : input; } pin (E) { direction : input; } pin (SE) { direction : input; }\n",
+            "pin (IQ) { direction : internal; internal_node : \"IQ\"; }\n",
+            "pin (GCK) { direction : output; state_function : \"CK * IQ\"; }\n} }\n"
+        )
+    };
+}
+
+/// A clock gate that keeps its node while the clock is high.
+pub const CLOCK_GATE: &str = clock_gate!(", H - - : - : N");
+
+/// One without a row for a high clock.
+pub const CLOCK_GATE_WITHOUT_KEEP: &str = clock_gate!("");

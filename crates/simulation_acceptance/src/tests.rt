@@ -1,0 +1,11 @@
+//! The tests, and what they share.
+mod cut_files;
+mod cuts;
+mod differences;
+mod failing_calls;
+mod inverter;
+mod libraries;
+mod refused_files;
+mod replays;
+mod sections;
+mod traces;

@@ -1,0 +1,73 @@
+//! A section on which a flip-flop and its module differ.
+use command_runs::{FLIP_FLOP, Files, simulated, translated};
+use std::alloc::Global;
+use std::test::Fail;
+use text_io::OutSlot;
+use translate_cmd::Status;
+
+/// A section of eight changes.
+const STIMULUS: &str = "cell DFF
+10 D 1
+20 CK 0
+30 CK 1
+40 CK 0
+50 CK x
+60 CK 0
+70 D 0
+80 CK x
+";
+
+/// Its report where the module takes the other value at the third change, so that an unknown clock may take another one again.
+const DIFFERENCE: &str = "cell DFF
+L start : Q=x
+V start : Q=x
+H start : Q=x
+L 10 D 1 : Q=x
+V 10 D 1 : Q=x
+H 10 D 1 : Q=x
+L 20 CK 0 : Q=x
+V 20 CK 0 : Q=x
+H 20 CK 0 : Q=x
+L 30 CK 1 : Q=1@0
+V 30 CK 1 : Q=0@0
+H 30 CK 1 : Q=1@0
+L 40 CK 0 : Q=1
+V 40 CK 0 : Q=0
+H 40 CK 0 : Q=1
+L 50 CK x : Q=1
+V 50 CK x : Q=x@0
+H 50 CK x : Q=1
+L 60 CK 0 : Q=1
+V 60 CK 0 : Q=x
+H 60 CK 0 : Q=1
+L 70 D 0 : Q=1
+V 70 D 0 : Q=x
+H 70 D 0 : Q=1
+L 80 CK x : Q=x@0
+V 80 CK x : Q=x
+H 80 CK x : Q=x@0
+differs at change 3
+";
+
+/// The row of the flip-flop's module that takes its data where they are 1, and one that gives another value.
+const ROWS: (&str, &str) = ("(01) 1 : ? : 1;", "(01) 1 : ? : 0;");
+
+/// Whether that is what the flip-flop comes to beside its module with the other row and its own entity.
+fn differs(alloc: Global, stimulus: &str) -> Result<bool, Fail> {
+    let models = translated(alloc, FLIP_FLOP)?;
+    let module = str::from_utf8(models.desk.written(OutSlot::VerilogText))?;
+    let other = module.replace(alloc, ROWS.0, ROWS.1)?;
+    let files = Files {
+        library: FLIP_FLOP.as_bytes(),
+        verilog: other.as_bytes(),
+        vital: models.desk.written(OutSlot::VitalText),
+        stimulus: stimulus.as_bytes(),
+    };
+    Ok(simulated(alloc, files)?.is(Status::Differ, DIFFERENCE, ""))
+}
+
+#[test]
+fn the_first_difference_is_told(rt: HostRuntime) -> Result<(), Fail> {
+    assert!(rt; differs(rt.alloc(), STIMULUS)?);
+    Ok(())
+}

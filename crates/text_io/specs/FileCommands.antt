@@ -3,7 +3,7 @@ use Rattle.std.specs.Prelude.{ℕ, List, [], ◌∷◌, codes, Option}
 use Rattle.std.specs.List.{find}
 use Rattle.std.specs.Str.{bytes_eq}
 use Rattle.text_io.specs.declared.file_commands.FileCommand.{FileCommand}
-use Rattle.text_io.specs.declared.file_commands.FileCommand.TheVariants.{Translate, Simulate, ReplayVerilog, ReplayVital}
+use Rattle.text_io.specs.declared.file_commands.FileCommand.TheVariants.{Translate, Simulate, ReplayVerilog, ReplayVital, Audit}
 use Rattle.text_io.specs.declared.slots.InSlot.TheVariants.{Library, Verilog, Vital, Stimulus}
 use Rattle.text_io.specs.declared.slots.OutSlot.TheVariants.{VerilogText, VitalText}
 use Rattle.text_io.specs.declared.slots.Slot.{Slot}
@@ -20,10 +20,11 @@ form_of Translate = record { word = codes "translate"; slots = Input Library ∷
 form_of Simulate = record { word = codes "simulate"; slots = Input Library ∷ Input Verilog ∷ Input Vital ∷ Input Stimulus ∷ [] }
 form_of ReplayVerilog = record { word = codes "replay-verilog"; slots = Input Verilog ∷ Input Stimulus ∷ [] }
 form_of ReplayVital = record { word = codes "replay-vital"; slots = Input Vital ∷ Input Stimulus ∷ [] }
+form_of Audit = record { word = codes "audit"; slots = Input Library ∷ Input Verilog ∷ [] }
 
 -- all of them
 abbrev pub file_commands : List FileCommand
-file_commands = Translate ∷ Simulate ∷ ReplayVerilog ∷ ReplayVital ∷ []
+file_commands = Translate ∷ Simulate ∷ ReplayVerilog ∷ ReplayVital ∷ Audit ∷ []
 
 -- the command of this word
 abbrev pub command_of : List ℕ → Option FileCommand

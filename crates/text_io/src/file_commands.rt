@@ -29,6 +29,8 @@ pub enum FileCommand {
     ReplayVerilog,
     /// Prints the traces of VHDL entities under a stimulus.
     ReplayVital,
+    /// Compares the tables of the cells of a library with those of the Verilog modules of their names.
+    Audit,
 }
 
 /// A command, and the slots of its files in the order of its words.
@@ -49,6 +51,7 @@ impl CommandFiles {
             "simulate" => (FileCommand::Simulate, &[LIBRARY, VERILOG, VITAL, STIMULUS]),
             "replay-verilog" => (FileCommand::ReplayVerilog, &[VERILOG, STIMULUS]),
             "replay-vital" => (FileCommand::ReplayVital, &[VITAL, STIMULUS]),
+            "audit" => (FileCommand::Audit, &[LIBRARY, VERILOG]),
             _ => return None,
         };
         Some(CommandFiles { command, slots })

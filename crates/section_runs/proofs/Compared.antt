@@ -1,22 +1,21 @@
 -- Traces compared line by line.
 use Rattle.std.proofs.Common.{◌≡◌, ℕ, ◌+◌, Bool, true, false, ◌&&◌, if◌then◌else◌, List, [], ◌∷◌, length, drop, Option, Some, None, refl, sym, ap, subst, ◌∙◌, arith}
 use Rattle.std.proofs.lemmas.Bool.{and_parts, and_from, eqb-true, eq-eqb}
-use Rattle.trit_cubes.specs.declared.trits.Trit.{Trit}
-use Rattle.trit_cubes.specs.Filling.{same}
 use Rattle.cell_machine.specs.declared.changes.Change.{Change}
 use Rattle.cell_machine.specs.History.{IsProperFrom}
-use Rattle.cell_machine.specs.Lines.{Line, lines_from, trace, Machine, IsSized}
-use Rattle.cell_machine.proofs.StillLemmas.{same-is, same-self}
+use Rattle.stimulus.specs.declared.drives.Drive.{Drive}
+use Rattle.stimulus.specs.declared.drives.Drive.TheVariants.{Zero, One, Unknown, Floating}
+use Rattle.stimulus.specs.DriveLines.{same_drive, DriveLine, lines_after, lines_along, DriveMachine, IsSized}
 use Rattle.section_runs.specs.Differences.{same_values, same_delay, same_delays, same_fact, same_reports, same_line, difference_from, first_difference, NoDifferenceIsEqual}
 
 -- Two simulators that stand after one history. The changes that are left go on from there, and the first difference of their
 -- lines is that of the whole traces.
-pub record Alike (left right : List Change → Type 0) (one other : List Change → Line) (n number : ℕ) (rest : List Change) (found : Option ℕ) : Type 0 where
+pub record Alike (left right : List Change → Type 0) (one other : List Change → DriveLine) (n number : ℕ) (rest : List Change) (found : Option ℕ) : Type 0 where
   pub history : List Change
   pub left_stands : left history
   pub right_stands : right history
   pub proper : IsProperFrom n history rest
-  pub later : difference_from number (lines_from one history rest) (lines_from other history rest) ≡ found
+  pub later : difference_from number (lines_after one history rest) (lines_after other history rest) ≡ found
 
 -- Whatever the histories of two simulators, what is left of two lists of their lines from this place on decides whether these are the
 -- same.
@@ -29,15 +28,28 @@ RestDecides same_lists left right one other place =
 pub cons_path : {X : Type 0} (x y : X) (xs ys : List X) → x ≡ y → xs ≡ ys → x ∷ xs ≡ y ∷ ys
 cons_path x y xs ys e f = λ i. e i ∷ f i
 
-values-are : (xs ys : List Trit) → same_values xs ys ≡ true → xs ≡ ys
+same_drive-is : (x y : Drive) → same_drive x y ≡ true → x ≡ y
+same_drive-is Zero Zero e = refl
+same_drive-is One One e = refl
+same_drive-is Unknown Unknown e = refl
+same_drive-is Floating Floating e = refl
+same_drive-is _ _ e = absurd cc
+
+same_drive-self : (x : Drive) → same_drive x x ≡ true
+same_drive-self Zero = refl
+same_drive-self One = refl
+same_drive-self Unknown = refl
+same_drive-self Floating = refl
+
+values-are : (xs ys : List Drive) → same_values xs ys ≡ true → xs ≡ ys
 values-are [] [] e = refl
 values-are [] (y ∷ ys) e = absurd cc
 values-are (x ∷ xs) [] e = absurd cc
-values-are (x ∷ xs) (y ∷ ys) e = let p = and_parts (same x y) (same_values xs ys) e in cons_path x y xs ys (same-is x y p.0) (values-are xs ys p.1)
+values-are (x ∷ xs) (y ∷ ys) e = let p = and_parts (same_drive x y) (same_values xs ys) e in cons_path x y xs ys (same_drive-is x y p.0) (values-are xs ys p.1)
 
-values-self : (xs : List Trit) → same_values xs xs ≡ true
+values-self : (xs : List Drive) → same_values xs xs ≡ true
 values-self [] = refl
-values-self (x ∷ xs) = and_from (same x x) (same_values xs xs) (same-self x) (values-self xs)
+values-self (x ∷ xs) = and_from (same_drive x x) (same_values xs xs) (same_drive-self x) (values-self xs)
 
 delay-is : (a b : Option ℕ) → same_delay a b ≡ true → a ≡ b
 delay-is None None e = refl
@@ -80,7 +92,7 @@ reports-self : (xs : List Bool) → same_reports xs xs ≡ true
 reports-self [] = refl
 reports-self (x ∷ xs) = and_from (same_fact x x) (same_reports xs xs) (same_fact-self x) (reports-self xs)
 
-pub line-is : (l r : Line) → length l.reports ≡ length r.reports → same_line l r ≡ true → l ≡ r
+pub line-is : (l r : DriveLine) → length l.reports ≡ length r.reports → same_line l r ≡ true → l ≡ r
 line-is l r e h =
     let p = and_parts (same_values l.values r.values) (same_delays l.delays r.delays && same_reports l.reports r.reports) h in
     let q = and_parts (same_delays l.delays r.delays) (same_reports l.reports r.reports) p.1 in
@@ -89,12 +101,12 @@ line-is l r e h =
     let reports = reports-are l.reports r.reports e q.1 in
     λ i. record { values = values i; delays = delays i; reports = reports i }
 
-pub line-self : (l : Line) → same_line l l ≡ true
+pub line-self : (l : DriveLine) → same_line l l ≡ true
 line-self l =
     and_from (same_values l.values l.values) (same_delays l.delays l.delays && same_reports l.reports l.reports) (values-self l.values)
     (and_from (same_delays l.delays l.delays) (same_reports l.reports l.reports) (delays-self l.delays) (reports-self l.reports))
 
-no_other : (n : ℕ) (ls : List Line) → difference_from n ls ls ≡ None
+no_other : (n : ℕ) (ls : List DriveLine) → difference_from n ls ls ≡ None
 no_other n [] = refl
 no_other n (l ∷ ls) = rw (line-self l) (no_other (n + 1) ls)
 
@@ -102,20 +114,20 @@ pub none_here : (b : Bool) (n : ℕ) (later : Option ℕ) → (if b then later e
 none_here true n later e = (refl, e)
 none_here false n later e = absurd cc
 
-rest-is : (m n : Machine) (number : ℕ) (h cs : List Change) → IsSized m → IsSized n → m.checks ≡ n.checks
-    → difference_from number (lines_from m.line h cs) (lines_from n.line h cs) ≡ None → lines_from m.line h cs ≡ lines_from n.line h cs
+rest-is : (m n : DriveMachine) (number : ℕ) (h cs : List Change) → IsSized m → IsSized n → m.checks ≡ n.checks
+    → difference_from number (lines_after m.line h cs) (lines_after n.line h cs) ≡ None → lines_after m.line h cs ≡ lines_after n.line h cs
 rest-is m n number h [] sm sn checks e = refl
 rest-is m n number h (c ∷ cs) sm sn checks e =
-    let p = none_here (same_line (m.line (c ∷ h)) (n.line (c ∷ h))) number (difference_from (number + 1) (lines_from m.line (c ∷ h) cs) (lines_from n.line (c ∷ h) cs)) e in
-    cons_path (m.line (c ∷ h)) (n.line (c ∷ h)) (lines_from m.line (c ∷ h) cs) (lines_from n.line (c ∷ h) cs)
+    let p = none_here (same_line (m.line (c ∷ h)) (n.line (c ∷ h))) number (difference_from (number + 1) (lines_after m.line (c ∷ h) cs) (lines_after n.line (c ∷ h) cs)) e in
+    cons_path (m.line (c ∷ h)) (n.line (c ∷ h)) (lines_after m.line (c ∷ h) cs) (lines_after n.line (c ∷ h) cs)
     (line-is (m.line (c ∷ h)) (n.line (c ∷ h)) (sm.reports (c ∷ h) ∙ checks ∙ sym (sn.reports (c ∷ h))) p.0)
     (rest-is m n (number + 1) (c ∷ h) cs sm sn checks p.1)
 
 pub no_difference : NoDifferenceIsEqual
 no_difference m n cs sm sn outputs checks = (
   λ e.
-      let p = none_here (same_line (m.line []) (n.line [])) 0 (difference_from 1 (lines_from m.line [] cs) (lines_from n.line [] cs)) e in
-      cons_path (m.line []) (n.line []) (lines_from m.line [] cs) (lines_from n.line [] cs)
+      let p = none_here (same_line (m.line []) (n.line [])) 0 (difference_from 1 (lines_after m.line [] cs) (lines_after n.line [] cs)) e in
+      cons_path (m.line []) (n.line []) (lines_after m.line [] cs) (lines_after n.line [] cs)
       (line-is (m.line []) (n.line []) (sm.reports [] ∙ checks ∙ sym (sn.reports [])) p.0) (rest-is m n 1 [] cs sm sn checks p.1),
-  λ e. subst (λ ls. first_difference (trace m.line cs) ls ≡ None) e (no_other 0 (trace m.line cs)),
+  λ e. subst (λ ls. first_difference (lines_along m.line cs) ls ≡ None) e (no_other 0 (lines_along m.line cs)),
 )

@@ -11,11 +11,11 @@ use Rattle.text_io.proofs.Wrote.{wrote-nil, wrote_more, IsPrefix-append, IsPrefi
 use Rattle.text_io.proofs.LineLaws.{Gathers-Gathers, Gathers-stops, StopsWithin-more, flushes}
 use Rattle.cell_machine.specs.declared.changes.Change.{Change}
 use Rattle.cell_machine.specs.History.{IsProperFrom}
-use Rattle.cell_machine.specs.Lines.{Line, lines_from, trace}
 use Rattle.stimulus.specs.declared.ports.Ports.{Ports}
-use Rattle.stimulus.specs.TraceLine.{line_text}
+use Rattle.stimulus.specs.DriveLines.{DriveLine, lines_after, lines_along}
+use Rattle.stimulus.specs.TraceLine.{drive_line_text}
 use Rattle.section_runs.specs.TraceText.{change_texts, trace_text}
-use Rattle.section_runs.specs.Comparison.{Lines, lines_text, are_alike, all_from, compared_texts, compared_text, first_of, unlike_from, first_unlike}
+use Rattle.section_runs.specs.Comparison.{Lines, lines_text, are_alike, compared_texts, compared_text, first_of, unlike_from, first_unlike}
 use Rattle.section_runs.specs.Writes.{WritesTrace, PutsTrace}
 
 -- a call that stops before anything is put
@@ -111,24 +111,24 @@ abbrev pub newest : List Change → Option Change
 newest [] = None
 newest (c ∷ h) = Some c
 
-abbrev pub one_shown : ℕ → Ports → (List Change → Line) → List Change → List ℕ
-one_shown tag ports line h = line_text tag (newest h) ports.inputs ports.outputs (line h)
+abbrev pub one_shown : ℕ → Ports → (List Change → DriveLine) → List Change → List ℕ
+one_shown tag ports line h = drive_line_text tag (newest h) ports.inputs ports.outputs (line h)
 
-change_texts-are : (tag : ℕ) (ports : Ports) (line : List Change → Line) (h cs : List Change) → texts_from (one_shown tag ports line) h cs ≡ change_texts tag ports cs (lines_from line h cs)
+change_texts-are : (tag : ℕ) (ports : Ports) (line : List Change → DriveLine) (h cs : List Change) → texts_from (one_shown tag ports line) h cs ≡ change_texts tag ports cs (lines_after line h cs)
 change_texts-are tag ports line h [] = refl
 change_texts-are tag ports line h (c ∷ cs) =
-    ap (λ t. line_text tag (Some c) ports.inputs ports.outputs (line (c ∷ h)) ++ t) (change_texts-are tag ports line (c ∷ h) cs)
+    ap (λ t. drive_line_text tag (Some c) ports.inputs ports.outputs (line (c ∷ h)) ++ t) (change_texts-are tag ports line (c ∷ h) cs)
 
-pub trace_text-is : (tag : ℕ) (ports : Ports) (line : List Change → Line) (cs : List Change)
-    → one_shown tag ports line [] ++ texts_from (one_shown tag ports line) [] cs ≡ trace_text tag ports cs (trace line cs)
-trace_text-is tag ports line cs = ap (λ t. line_text tag None ports.inputs ports.outputs (line []) ++ t) (change_texts-are tag ports line [] cs)
+pub trace_text-is : (tag : ℕ) (ports : Ports) (line : List Change → DriveLine) (cs : List Change)
+    → one_shown tag ports line [] ++ texts_from (one_shown tag ports line) [] cs ≡ trace_text tag ports cs (lines_along line cs)
+trace_text-is tag ports line cs = ap (λ t. drive_line_text tag None ports.inputs ports.outputs (line []) ++ t) (change_texts-are tag ports line [] cs)
 
 -- The text of three simulators.
 
 abbrev pub three_shown : Ports → (List Change → Lines) → List Change → List ℕ
 three_shown ports lines h = lines_text (newest h) ports (lines h)
 
-compared_texts-are : (ports : Ports) (lines : List Change → Lines) (h cs : List Change) → texts_from (three_shown ports lines) h cs ≡ compared_texts ports cs (all_from lines h cs)
+compared_texts-are : (ports : Ports) (lines : List Change → Lines) (h cs : List Change) → texts_from (three_shown ports lines) h cs ≡ compared_texts ports cs (lines_after lines h cs)
 compared_texts-are ports lines h [] = refl
 compared_texts-are ports lines h (c ∷ cs) = ap (λ t. lines_text (Some c) ports (lines (c ∷ h)) ++ t) (compared_texts-are ports lines (c ∷ h) cs)
 
@@ -156,7 +156,7 @@ pub record Stand (liberty verilog vital : List Change → Type 0) (h : List Chan
 -- How far a run of three has come: as one, and the first number so far, or else that in the rest, is that of the whole.
 pub record Comparing (stands : List Change → Type 0) (ports : Ports) (lines : List Change → Lines) (n : ℕ) (s now : DeskState) (held : List ℕ) (changes rest : List Change) (first : Option ℕ) (number : ℕ) : Type 0 where
   pub going : Going stands (three_shown ports lines) n s now held rest (compared_text ports changes lines)
-  pub found : or_later first (unlike_from number (all_from lines going.history rest)) ≡ first_unlike changes lines
+  pub found : or_later first (unlike_from number (lines_after lines going.history rest)) ≡ first_unlike changes lines
 
 pub compares : (stands later : List Change → Type 0) (ports : Ports) (lines : List Change → Lines) (n : ℕ) (s now next : DeskState) (held after : List ℕ) (xs : List Change) (i : ℕ) (x : Change) (first : Option ℕ) (number : ℕ) (alike : Bool)
     → i < length xs → x ≡ get_or xs i x → ((h : List Change) → stands h → later (x ∷ h))
@@ -171,9 +171,9 @@ compares stands later ports lines n s now next held after xs i x first number al
     let here : alike ≡ are_alike (lines (x ∷ h)) = shows h (steps h c.going.standing) in
     record {
       going = goes_on stands later (three_shown ports lines) n s now next held after xs i x (compared_text ports xs lines) below is steps c.going put;
-      found = first_step alike first number (unlike_from (number + 1) (all_from lines (x ∷ h) (drop (i + 1) xs)))
-          ∙ (ap (λ b. or_later first (if b then unlike_from (number + 1) (all_from lines (x ∷ h) (drop (i + 1) xs)) else Some number)) here
-          ∙ (ap (λ ys. or_later first (unlike_from number (all_from lines h ys))) (sym rest) ∙ c.found));
+      found = first_step alike first number (unlike_from (number + 1) (lines_after lines (x ∷ h) (drop (i + 1) xs)))
+          ∙ (ap (λ b. or_later first (if b then unlike_from (number + 1) (lines_after lines (x ∷ h) (drop (i + 1) xs)) else Some number)) here
+          ∙ (ap (λ ys. or_later first (unlike_from number (lines_after lines h ys))) (sym rest) ∙ c.found));
     }
 
 -- the run of three has begun: the text of the start was put
@@ -182,16 +182,16 @@ pub compares_first : (stands : List Change → Type 0) (ports : Ports) (lines : 
     → Comparing stands ports lines n s now held cs cs first 1
 compares_first stands ports lines n s now held cs first alike start proper put e a = record {
   going = record { history = []; standing = start; proper = proper; done = three_shown ports lines []; gathered = put; joined = compared_text-is ports lines cs };
-  found = ap (λ f. or_later f (unlike_from 1 (all_from lines [] cs))) e
-      ∙ (first_step alike None 0 (unlike_from 1 (all_from lines [] cs)) ∙ ap (λ b. or_later None (if b then unlike_from 1 (all_from lines [] cs) else Some 0)) a);
+  found = ap (λ f. or_later f (unlike_from 1 (lines_after lines [] cs))) e
+      ∙ (first_step alike None 0 (unlike_from 1 (lines_after lines [] cs)) ∙ ap (λ b. or_later None (if b then unlike_from 1 (lines_after lines [] cs) else Some 0)) a);
 }
 
 -- what is put and shown, where the machines stay the same
-pub one_put : {S : Type 0} (later : List Change → Type 0) (tag : ℕ) (ports : Ports) (line shown : List Change → Line) (now next : DeskState) (held after : List ℕ) (x : Change) (r : Result S Stop)
-    → shown ≡ line → ((h : List Change) → later h → PutsTrace now next held (line_text tag (Some x) ports.inputs ports.outputs (shown h)) after r)
+pub one_put : {S : Type 0} (later : List Change → Type 0) (tag : ℕ) (ports : Ports) (line shown : List Change → DriveLine) (now next : DeskState) (held after : List ℕ) (x : Change) (r : Result S Stop)
+    → shown ≡ line → ((h : List Change) → later h → PutsTrace now next held (drive_line_text tag (Some x) ports.inputs ports.outputs (shown h)) after r)
     → (h : List Change) → later (x ∷ h) → PutsTrace now next held (one_shown tag ports line (x ∷ h)) after r
 one_put later tag ports line shown now next held after x r same put h s =
-    subst (λ l. PutsTrace now next held (line_text tag (Some x) ports.inputs ports.outputs (l (x ∷ h))) after r) same (put (x ∷ h) s)
+    subst (λ l. PutsTrace now next held (drive_line_text tag (Some x) ports.inputs ports.outputs (l (x ∷ h))) after r) same (put (x ∷ h) s)
 
 pub three_put : {S : Type 0} (liberty verilog vital : List Change → Type 0) (ports : Ports) (lines shown : List Change → Lines) (now next : DeskState) (held after : List ℕ) (x : Change) (r : Result S Stop)
     → shown ≡ lines → ((h : List Change) → liberty h → verilog h → vital h → PutsTrace now next held (lines_text (Some x) ports (shown h)) after r)

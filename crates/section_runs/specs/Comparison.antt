@@ -2,23 +2,23 @@
 -- format).
 use Rattle.std.specs.Prelude.{◌≡◌, ◌↔◌, ℕ, ◌+◌, Bool, true, false, ◌&&◌, List, [], ◌∷◌, ◌++◌, length, codes, decimal, Option, Some, None, if◌then◌else◌}
 use Rattle.cell_machine.specs.declared.changes.Change.{Change}
-use Rattle.cell_machine.specs.Lines.{Line, trace, Machine, IsSized}
 use Rattle.stimulus.specs.declared.ports.Ports.{Ports}
-use Rattle.stimulus.specs.TraceLine.{line_text}
+use Rattle.stimulus.specs.DriveLines.{DriveLine, lines_after, lines_along, DriveMachine, IsSized}
+use Rattle.stimulus.specs.TraceLine.{drive_line_text}
 use Rattle.section_runs.specs.Differences.{same_line}
 
 -- what the three show at one place
 pub record Lines : Type 0 where
-  pub liberty : Line
-  pub verilog : Line
-  pub vital : Line
+  pub liberty : DriveLine
+  pub verilog : DriveLine
+  pub vital : DriveLine
 
 -- what three machines show after a history
-abbrev pub three_lines : Machine → Machine → Machine → List Change → Lines
+abbrev pub three_lines : DriveMachine → DriveMachine → DriveMachine → List Change → Lines
 three_lines liberty verilog vital h = record { liberty = liberty.line h; verilog = verilog.line h; vital = vital.line h }
 
 -- each of three machines has as many inputs and outputs as there are names
-pub record HavePorts (ports : Ports) (liberty verilog vital : Machine) : Type 0 where
+pub record HavePorts (ports : Ports) (liberty verilog vital : DriveMachine) : Type 0 where
   pub liberty_inputs : length ports.inputs ≡ liberty.inputs
   pub liberty_outputs : length ports.outputs ≡ liberty.outputs
   pub verilog_inputs : length ports.inputs ≡ verilog.inputs
@@ -29,17 +29,12 @@ pub record HavePorts (ports : Ports) (liberty verilog vital : Machine) : Type 0 
 -- the line of each, in this order
 unfoldable pub lines_text : Option Change → Ports → Lines → List ℕ
 lines_text change ports lines =
-    line_text 76 change ports.inputs ports.outputs lines.liberty
-    ++ (line_text 86 change ports.inputs ports.outputs lines.verilog ++ line_text 72 change ports.inputs ports.outputs lines.vital)
+    drive_line_text 76 change ports.inputs ports.outputs lines.liberty
+    ++ (drive_line_text 86 change ports.inputs ports.outputs lines.verilog ++ drive_line_text 72 change ports.inputs ports.outputs lines.vital)
 
 -- no two of the three lines differ: the first one is that of each other
 abbrev pub are_alike : Lines → Bool
 are_alike lines = same_line lines.liberty lines.verilog && same_line lines.liberty lines.vital
-
--- what the three show along changes that go on from a history, the oldest first
-abbrev pub all_from : (List Change → Lines) → List Change → List Change → List Lines
-all_from lines h [] = []
-all_from lines h (c ∷ cs) = lines (c ∷ h) ∷ all_from lines (c ∷ h) cs
 
 -- the lines on these changes
 abbrev pub compared_texts : Ports → List Change → List Lines → List ℕ
@@ -48,7 +43,7 @@ compared_texts ports _ _ = []
 
 -- the lines of the start and on each change
 abbrev pub compared_text : Ports → List Change → (List Change → Lines) → List ℕ
-compared_text ports changes lines = lines_text None ports (lines []) ++ compared_texts ports changes (all_from lines [] changes)
+compared_text ports changes lines = lines_text None ports (lines []) ++ compared_texts ports changes (lines_after lines [] changes)
 
 -- the first number so far, and else this one where the three are not alike
 abbrev pub first_of : Bool → Option ℕ → ℕ → Option ℕ
@@ -63,15 +58,15 @@ unlike_from n (lines ∷ more) = if are_alike lines then unlike_from (n + 1) mor
 
 -- the number of the first change at which two of the three traces differ, from 1, and 0 for the start
 abbrev pub first_unlike : List Change → (List Change → Lines) → Option ℕ
-first_unlike changes lines = unlike_from 0 (lines [] ∷ all_from lines [] changes)
+first_unlike changes lines = unlike_from 0 (lines_along lines changes)
 
 -- Where three machines run as many checks, no two of them differ exactly where their traces are equal.
 abbrev pub NoneUnlikeIsEqual : Type 0
 NoneUnlikeIsEqual =
-    (liberty verilog vital : Machine) (cs : List Change) → IsSized liberty → IsSized verilog → IsSized vital
+    (liberty verilog vital : DriveMachine) (cs : List Change) → IsSized liberty → IsSized verilog → IsSized vital
     → liberty.checks ≡ verilog.checks → liberty.checks ≡ vital.checks
     → (first_unlike cs (three_lines liberty verilog vital) ≡ None)
-    ↔ ((trace liberty.line cs ≡ trace verilog.line cs) × (trace liberty.line cs ≡ trace vital.line cs))
+    ↔ ((lines_along liberty.line cs ≡ lines_along verilog.line cs) × (lines_along liberty.line cs ≡ lines_along vital.line cs))
 
 -- the line with which such a section ends
 unfoldable pub verdict_text : Option ℕ → List ℕ

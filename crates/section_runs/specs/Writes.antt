@@ -6,11 +6,11 @@ use Rattle.text_io.specs.Desk.{DeskState, wrote}
 use Rattle.text_io.specs.Line.{Gathers, StopsWithin}
 use Rattle.cell_machine.specs.declared.changes.Change.{Change}
 use Rattle.cell_machine.specs.History.{IsProperFrom}
-use Rattle.cell_machine.specs.Lines.{Machine}
 use Rattle.stimulus.specs.declared.ports.Ports.{Ports}
+use Rattle.stimulus.specs.DriveLines.{DriveMachine}
 
 -- Such a simulator at its start can be given the changes, and the ports name its inputs and its outputs.
-pub record CanBegin (ports : Ports) (machine : Machine) (stands : List Change → Type 0) (changes : List Change) : Type 0 where
+pub record CanBegin (ports : Ports) (machine : DriveMachine) (stands : List Change → Type 0) (changes : List Change) : Type 0 where
   pub inputs : length ports.inputs ≡ machine.inputs
   pub outputs : length ports.outputs ≡ machine.outputs
   pub start : stands []

@@ -5,16 +5,15 @@ ghost use Rattle.cell_machine.specs.declared.changes.Change.{Change as ChangeOf}
 ghost use Rattle.cell_machine.specs.History.{IsProperFrom, ComesAfter};
 ghost use Rattle.text_io.specs.declared.slots.OutSlot.TheVariants.{Report};
 ghost use Rattle.text_io.specs.Desk.{WritesText, HasCause, StopsWithCause};
-ghost use Rattle.stimulus.specs.TraceLine.{line_text};
 ghost use Rattle.section_runs.specs.Comparison.{three_lines, HavePorts, are_alike, lines_text, compared_text, first_of, first_unlike, verdict_text, NoneUnlikeIsEqual};
 ghost use Rattle.section_runs.specs.Writes.{WritesTrace, PutsTrace};
 
 use crate::differences::same_line;
 use crate::trace::put_line;
-use cell_machine::{CellSim, Change};
+use cell_machine::Change;
 use itoa::Buffer;
 use std::alloc::Global;
-use stimulus::Ports;
+use stimulus::{Ports, TraceSim};
 use text_io::{Desk, Failed, Line, OutSlot, Stop, write_pieces, write_whole};
 
 /// Simulators of a cell, of its Verilog module and of its VITAL entity.
@@ -25,7 +24,7 @@ pub struct Three<L, V, H> {
     pub vital: H,
 }
 
-impl<L: CellSim, V: CellSim, H: CellSim> Three<L, V, H> {
+impl<L: TraceSim, V: TraceSim, H: TraceSim> Three<L, V, H> {
     /// Gives a change to each.
     fn step(&mut self, change: &Change)
         requires liberty_pin { change.now.pin < (L.machine self.old.liberty).inputs }
@@ -60,7 +59,7 @@ impl<L: CellSim, V: CellSim, H: CellSim> Three<L, V, H> {
 ///
 /// Each needs as many inputs and outputs as there are names, and the changes are of these inputs, at times that rise strictly.
 /// After a fault a prefix of the lines was appended. `Failed` comes only where a write failed.
-pub fn write_comparison<D: Desk, L: CellSim, V: CellSim, H: CellSim>(
+pub fn write_comparison<D: Desk, L: TraceSim, V: TraceSim, H: TraceSim>(
     alloc: Global,
     desk: &mut D,
     ports: &Ports,
@@ -104,7 +103,7 @@ fn unlike(alike: bool, first: Option<usize>, number: usize) -> Option<usize>
 
 /// Puts the lines that the three show behind the bytes that wait, each made in the text.
 #[tactic(auto, unfolding(crate::specs::Comparison::lines_text))]
-fn put_lines<D: Desk, L: CellSim, V: CellSim, H: CellSim>(
+fn put_lines<D: Desk, L: TraceSim, V: TraceSim, H: TraceSim>(
     desk: &mut D,
     line: &mut Line,
     text: &mut Vec<u8>,

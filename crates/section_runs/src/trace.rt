@@ -2,15 +2,15 @@
 ghost use Rattle.std.specs.Prelude.{◌≡◌, ◌<◌, List, length, IfSome};
 ghost use Rattle.std.specs.Option.{option_copied};
 ghost use Rattle.cell_machine.specs.declared.changes.Change.{Change as ChangeOf};
-ghost use Rattle.cell_machine.specs.Lines.{trace};
+ghost use Rattle.stimulus.specs.DriveLines.{lines_along};
 ghost use Rattle.text_io.specs.Desk.{StopsWithCause};
-ghost use Rattle.stimulus.specs.TraceLine.{line_text};
+ghost use Rattle.stimulus.specs.TraceLine.{drive_line_text};
 ghost use Rattle.section_runs.specs.TraceText.{trace_text};
 ghost use Rattle.section_runs.specs.Writes.{CanBegin, WritesTrace, PutsTrace};
 
-use cell_machine::{CellSim, Change};
+use cell_machine::Change;
 use std::alloc::Global;
-use stimulus::{Ports, append_trace_line};
+use stimulus::{Ports, TraceSim, append_trace_line};
 use text_io::{Desk, Line, OutSlot, Stop};
 
 /// Gives the changes to a simulator that stands at its start, and appends the lines of its trace to the report, one for
@@ -18,7 +18,7 @@ use text_io::{Desk, Line, OutSlot, Stop};
 ///
 /// It needs as many names as the simulator has inputs and outputs, and changes of its inputs at times that rise strictly.
 /// After a fault a prefix of the lines was appended. `Failed` comes only where a write failed.
-pub(crate) fn write_trace<D: Desk, S: CellSim>(
+pub(crate) fn write_trace<D: Desk, S: TraceSim>(
     alloc: Global,
     desk: &mut D,
     tag: u8,
@@ -27,7 +27,7 @@ pub(crate) fn write_trace<D: Desk, S: CellSim>(
     changes: &[Change],
 ) -> Result<(), Stop>
     requires { CanBegin ports.now (S.machine sim.old) (S.stands sim.old) changes.now }
-    ensures text { WritesTrace (D.state desk.old) (D.state desk.new) (trace_text tag ports.now changes.now (trace (S.machine sim.old).line changes.now)) result }
+    ensures text { WritesTrace (D.state desk.old) (D.state desk.new) (trace_text tag ports.now changes.now (lines_along (S.machine sim.old).line changes.now)) result }
     ensures cause { StopsWithCause (D.faults desk.old) (D.faults desk.new) result }
 {
     let mut line = Line::new();
@@ -43,7 +43,7 @@ pub(crate) fn write_trace<D: Desk, S: CellSim>(
 
 /// Puts the line that the simulator shows behind the bytes that wait. It is made in the text, whose bytes are lost and whose
 /// room is kept for the next line.
-pub(crate) fn put_line<D: Desk, S: CellSim>(
+pub(crate) fn put_line<D: Desk, S: TraceSim>(
     desk: &mut D,
     line: &mut Line,
     text: &mut Vec<u8>,
@@ -55,7 +55,7 @@ pub(crate) fn put_line<D: Desk, S: CellSim>(
     requires inputs { length ports.now.inputs ≡ (S.machine sim.now).inputs }
     requires outputs { length ports.now.outputs ≡ (S.machine sim.now).outputs }
     requires pin { IfSome change (λ change. change.now.pin < (S.machine sim.now).inputs) }
-    ensures text { (h : List ChangeOf) → S.stands sim.now h → PutsTrace (D.state desk.old) (D.state desk.new) line.old (line_text tag (option_copied change.entry) ports.now.inputs ports.now.outputs ((S.machine sim.now).line h)) line.new result }
+    ensures text { (h : List ChangeOf) → S.stands sim.now h → PutsTrace (D.state desk.old) (D.state desk.new) line.old (drive_line_text tag (option_copied change.entry) ports.now.inputs ports.now.outputs ((S.machine sim.now).line h)) line.new result }
     ensures cause { StopsWithCause (D.faults desk.old) (D.faults desk.new) result }
 {
     text.clear();

@@ -7,7 +7,8 @@ use Rattle.stimulus.specs.declared.faults.StimulusFault.TheVariants as fault
 use Rattle.stimulus.specs.Catalog.{Listing, ready, refused, verilog_ports, vital_ports, input, output}
 use Rattle.stimulus.specs.Stimulus.{stimulus_of}
 use Rattle.stimulus.specs.Text.{lines_of, words_of}
-use Rattle.stimulus.specs.TraceLine.{line_text, change_text, output_text, report_text}
+use Rattle.stimulus.specs.declared.drives.Drive.TheVariants as drive
+use Rattle.stimulus.specs.TraceLine.{drive_line_text, line_text, change_text, output_text, report_text}
 
 -- an inverter and a cell with two inputs, a refused cell, and two without models; a second cell of the inverter's name
 cells : Listing
@@ -74,17 +75,21 @@ bad_changes = refl
 
 -- lines of traces: a start, a value that changed at once, a value with a report, and one that changed later with a report
 start_line : line_text 76 None [] (codes "Y" ∷ []) (record { values = One ∷ []; delays = None ∷ []; reports = [] }) ≡ codes "L start : Y=1\n"
-unfolding line_text output_text
+unfolding drive_line_text output_text
 start_line = refl
 
 at_once : line_text 76 (Some (record { at = 10; pin = 1; to = One })) (codes "B" ∷ codes "C" ∷ []) (codes "Q" ∷ codes "QN" ∷ []) (record { values = Zero ∷ Unknown ∷ []; delays = Some 0 ∷ None ∷ []; reports = [] }) ≡ codes "L 10 C 1 : Q=0@0 QN=x\n"
-unfolding digits line_text change_text output_text
+unfolding digits drive_line_text change_text output_text
 at_once = refl
 
 reported : line_text 86 (Some (record { at = 120; pin = 0; to = Unknown })) (codes "CK" ∷ []) (codes "Q" ∷ []) (record { values = Zero ∷ []; delays = None ∷ []; reports = true ∷ false ∷ true ∷ [] }) ≡ codes "V 120 CK x : Q=0 !1 !3\n"
-unfolding digits line_text change_text output_text report_text
+unfolding digits drive_line_text change_text output_text report_text
 reported = refl
 
 later : line_text 72 (Some (record { at = 150; pin = 0; to = One })) (codes "CK" ∷ []) (codes "Q" ∷ []) (record { values = Unknown ∷ []; delays = Some 120 ∷ []; reports = true ∷ [] }) ≡ codes "H 150 CK 1 : Q=x@120 !1\n"
-unfolding digits line_text change_text output_text report_text
+unfolding digits drive_line_text change_text output_text report_text
 later = refl
+
+floats : drive_line_text 76 (Some (record { at = 6; pin = 0; to = One })) (codes "A" ∷ []) (codes "Y" ∷ []) (record { values = drive.Floating ∷ []; delays = Some 0 ∷ []; reports = [] }) ≡ codes "L 6 A 1 : Y=z@0\n"
+unfolding digits drive_line_text change_text output_text
+floats = refl

@@ -1,4 +1,5 @@
 mod Examples
+pub mod DriveTraces
 pub mod Cuts
 pub mod TimeBounds
 pub mod Steps

@@ -2,18 +2,18 @@
 use Rattle.std.proofs.Common.{◌≡◌, ℕ, suc, ◌+◌, ◌<◌, List, [], ◌∷◌, ◌++◌, length, drop, get_or, sym, ap, ◌∙◌, add-one, arith, drop-cons, append_assoc}
 use Rattle.std.specs.Prelude.{Option, Some, None, slice_get}
 use Rattle.std.proofs.lemmas.Option.{get_or_from_slice_get}
-use Rattle.trit_cubes.specs.declared.trits.Trit.{Trit}
-use Rattle.trit_cubes.specs.declared.trits.Trit.TheVariants.{Unknown}
 use Rattle.cell_machine.specs.declared.changes.Change.{Change}
-use Rattle.cell_machine.specs.Lines.{Line}
-use Rattle.stimulus.specs.TraceLine.{head_text, output_text, outputs_text, reports_text, line_text}
+use Rattle.stimulus.specs.declared.drives.Drive.{Drive}
+use Rattle.stimulus.specs.declared.drives.Drive.TheVariants.{Unknown}
+use Rattle.stimulus.specs.DriveLines.{DriveLine}
+use Rattle.stimulus.specs.TraceLine.{head_text, output_text, outputs_text, reports_text, drive_line_text}
 
 -- an entry and those behind it
 drop_at : {A : Type 0} (xs : List A) (place : ℕ) (x d : A) → place < length xs → x ≡ get_or xs place d → drop place xs ≡ x ∷ drop (place + 1) xs
 drop_at xs place x d h e = rw (add-one) (drop-cons xs place d h ∙ ap (λ y. y ∷ drop (suc place) xs) (sym e))
 
 -- the outputs from a place on: the one there, and those behind it
-pub outputs_at : (names : List (List ℕ)) (values : List Trit) (delays : List (Option ℕ)) (place : ℕ) (name : List ℕ) (value : Trit) (delay : Option ℕ)
+pub outputs_at : (names : List (List ℕ)) (values : List Drive) (delays : List (Option ℕ)) (place : ℕ) (name : List ℕ) (value : Drive) (delay : Option ℕ)
     → place < length names → length values ≡ length names → length delays ≡ length names
     → slice_get names place ≡ Some name → value ≡ get_or values place Unknown → delay ≡ get_or delays place None
     → outputs_text (drop place names) (drop place values) (drop place delays) ≡ output_text name value delay ++ outputs_text (drop (place + 1) names) (drop (place + 1) values) (drop (place + 1) delays)
@@ -30,14 +30,14 @@ pub grown : (text more piece rest all whole : List ℕ) → more ≡ text ++ pie
 grown text more piece rest all whole e s h = ap (λ t. t ++ rest) e ∙ append_assoc text piece rest ∙ ap (λ t. text ++ t) (sym s) ∙ h
 
 -- a text with a line behind it, from the line's parts
-pub put_together : (text : List ℕ) (tag : ℕ) (change : Option Change) (inputs outputs : List (List ℕ)) (line : Line) (t1 t2 t3 t4 t5 : List ℕ)
+pub put_together : (text : List ℕ) (tag : ℕ) (change : Option Change) (inputs outputs : List (List ℕ)) (line : DriveLine) (t1 t2 t3 t4 t5 : List ℕ)
     → t1 ≡ text ++ tag ∷ []
     → t2 ≡ t1 ++ head_text inputs change
     → t3 ≡ t2 ++ outputs_text outputs line.values line.delays
     → t4 ≡ t3 ++ reports_text 1 line.reports
     → t5 ≡ t4 ++ 10 ∷ []
-    → t5 ≡ text ++ line_text tag change inputs outputs line
-unfolding line_text
+    → t5 ≡ text ++ drive_line_text tag change inputs outputs line
+unfolding drive_line_text
 put_together text tag change inputs outputs line t1 t2 t3 t4 t5 e1 e2 e3 e4 e5 =
     let a : List ℕ = head_text inputs change in
     let b : List ℕ = outputs_text outputs line.values line.delays in

@@ -1,6 +1,8 @@
 -- Laws of what is read, for the crates above.
-use Rattle.std.specs.Prelude.{◌≡◌, ℕ, ◌<◌, List, [], length, slice_get, All, Some, Ok, Err}
+use Rattle.std.specs.Prelude.{◌≡◌, ℕ, ◌<◌, List, [], length, map, slice_get, All, Some, Ok, Err}
+use Rattle.cell_machine.specs.declared.changes.Change.{Change}
 use Rattle.cell_machine.specs.History.{IsProperFrom}
+use Rattle.cell_machine.specs.Lines.{trace, Machine}
 use Rattle.stimulus.specs.declared.catalog.CellFound.TheVariants as cells
 use Rattle.stimulus.specs.declared.catalog.PinFound.TheVariants as pins
 use Rattle.stimulus.specs.declared.faults.Cause.{Cause}
@@ -9,6 +11,7 @@ use Rattle.stimulus.specs.declared.faults.StimulusFault.TheVariants as fault
 use Rattle.stimulus.specs.declared.ports.Ports.{Ports}
 use Rattle.stimulus.specs.declared.sections.Section.{Section}
 use Rattle.stimulus.specs.Catalog.{Listing, cell_found, pin_found}
+use Rattle.stimulus.specs.DriveLines.{drive_line, lines_along, drive_machine}
 use Rattle.stimulus.specs.PortEntries.{NamedCells, listed}
 use Rattle.stimulus.specs.Stimulus.{stimulus_of}
 
@@ -41,3 +44,8 @@ NamesAnAnswer listing why = Unit {0}
 abbrev pub CausesNameAnswers : Type 0
 CausesNameAnswers =
     (listing : Listing) (bytes : List ℕ) (line : ℕ) (why : Cause) → stimulus_of listing bytes ≡ Err (fault.Line line why) → NamesAnAnswer listing why
+
+-- What is printed along changes of a machine whose outputs are never z: its trace, line by line.
+abbrev pub DriveLinesShowTraces : Type 0
+DriveLinesShowTraces =
+    (m : Machine) (cs : List Change) → lines_along (drive_machine m).line cs ≡ map drive_line (trace m.line cs)

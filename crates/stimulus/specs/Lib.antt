@@ -9,6 +9,8 @@ pub mod Context
 pub mod Judged
 pub mod Sections
 pub mod Stimulus
+pub mod DriveLines
+pub mod DriveSized
 pub mod TraceLine
 pub mod Laws
 pub mod NextLine

@@ -1,5 +1,5 @@
 //! Laws of the definitions, for the crates above.
-ghost use Rattle.stimulus.specs.Laws.{SectionsAreProper, PortsAreInputs, CausesNameAnswers};
+ghost use Rattle.stimulus.specs.Laws.{DriveLinesShowTraces, SectionsAreProper, PortsAreInputs, CausesNameAnswers};
 
 /// The law that each section of a stimulus that is read is of a cell that the catalog names, with changes of the cell's
 /// inputs at times that rise strictly. So what `read_stimulus` answers meets what the simulators require.
@@ -16,4 +16,10 @@ pub fn ports_are_inputs()
 /// refused, or as one whose module or entity is not there, as the cause says.
 pub fn causes_name_answers()
     ensures { CausesNameAnswers }
+{}
+
+/// The law that what is printed along changes of a simulator whose outputs are never `z` is its trace, line by line.
+#[tactic(auto, using(crate::proofs::DriveTraces::drive_lines_show_traces))]
+pub fn drive_lines_show_traces()
+    ensures { DriveLinesShowTraces }
 {}

@@ -3,6 +3,7 @@
 
 mod catalog;
 mod context;
+mod drives;
 mod faults;
 mod judged;
 mod laws;
@@ -13,13 +14,18 @@ mod read;
 mod sections;
 mod times;
 mod trace;
+mod trace_sim;
 mod written;
 
 pub use catalog::{Catalog, CellFound, PinFound};
+pub use drives::Drive;
 pub use faults::{Cause, StimulusFault};
 pub use judged::MAX_CHANGES;
-pub use laws::{causes_name_answers, ports_are_inputs, sections_are_proper};
+pub use laws::{
+    causes_name_answers, drive_lines_show_traces, ports_are_inputs, sections_are_proper,
+};
 pub use ports::{PortCatalog, Ports, Standing};
 pub use read::read_stimulus;
 pub use sections::Section;
 pub use trace::{append_trace_line, trace_line};
+pub use trace_sim::TraceSim;

@@ -2,23 +2,24 @@
 ghost use Rattle.std.specs.Prelude.{◌≡◌, ◌+◌, ◌<◌, ◌≤◌, ◌^◌, ◌++◌, List, length, IfOk, IfSome, OnOk};
 ghost use Rattle.std.specs.Option.{option_copied};
 ghost use Rattle.cell_machine.specs.declared.changes.Change.{Change as ChangeOf};
-ghost use Rattle.stimulus.specs.TraceLine.{value_text as value_text_of, head_text, change_text, output_text, outputs_text, delay_text, report_text, reports_text, line_text};
+ghost use Rattle.stimulus.specs.TraceLine.{value_text as value_text_of, head_text, change_text, output_text, outputs_text, delay_text, report_text, reports_text, drive_line_text};
 
+use crate::drives::Drive;
+use crate::trace_sim::TraceSim;
 use bool_functions::Names;
-use cell_machine::{CellSim, Change};
+use cell_machine::Change;
 use itoa::Buffer;
 use std::alloc::{AllocError, Global};
-use trit_cubes::Trit;
 
 /// How many bytes a text is given room for ahead of a line: most lines are shorter.
 const ROOM: usize = 64;
 
 /// The line of a trace that a simulator shows after its last change, with the line feed at its end: the tag; `start` or
-/// the change's time in picoseconds, input and value; each output's value, with its delay in picoseconds where it changed
-/// at this change; and the checks that reported, numbered from 1.
+/// the change's time in picoseconds, input and value; what each output shows, `z` where it floats, with its delay in
+/// picoseconds where it changed at this change; and the checks that reported, numbered from 1.
 ///
 /// It needs as many names as the simulator has inputs and outputs, and a change of one of its inputs.
-pub fn trace_line<S: CellSim>(
+pub fn trace_line<S: TraceSim>(
     alloc: Global,
     tag: u8,
     change: Option<&Change>,
@@ -29,7 +30,7 @@ pub fn trace_line<S: CellSim>(
     requires inputs { length inputs.now ≡ (S.machine sim.now).inputs }
     requires outputs { length outputs.now ≡ (S.machine sim.now).outputs }
     requires pin { IfSome change (λ change. change.now.pin < (S.machine sim.now).inputs) }
-    ensures { IfOk result (λ text. (h : List ChangeOf) → S.stands sim.now h → text.items ≡ line_text tag (option_copied change.entry) inputs.now outputs.now ((S.machine sim.now).line h)) }
+    ensures { IfOk result (λ text. (h : List ChangeOf) → S.stands sim.now h → text.items ≡ drive_line_text tag (option_copied change.entry) inputs.now outputs.now ((S.machine sim.now).line h)) }
 {
     let mut text = Vec::new(alloc);
     append_trace_line(&mut text, tag, change, inputs, outputs, sim)?;
@@ -38,7 +39,7 @@ pub fn trace_line<S: CellSim>(
 
 /// Appends the line that `trace_line` answers to a text. It takes memory only where the text's room does not suffice, so a
 /// text that is cleared after each line takes none for most of them. Without memory a part of the line may be appended.
-pub fn append_trace_line<S: CellSim>(
+pub fn append_trace_line<S: TraceSim>(
     text: &mut Vec<u8>,
     tag: u8,
     change: Option<&Change>,
@@ -49,7 +50,7 @@ pub fn append_trace_line<S: CellSim>(
     requires inputs { length inputs.now ≡ (S.machine sim.now).inputs }
     requires outputs { length outputs.now ≡ (S.machine sim.now).outputs }
     requires pin { IfSome change (λ change. change.now.pin < (S.machine sim.now).inputs) }
-    ensures { OnOk result ((h : List ChangeOf) → S.stands sim.now h → text.new.items ≡ text.old.items ++ line_text tag (option_copied change.entry) inputs.now outputs.now ((S.machine sim.now).line h)) }
+    ensures { OnOk result ((h : List ChangeOf) → S.stands sim.now h → text.new.items ≡ text.old.items ++ drive_line_text tag (option_copied change.entry) inputs.now outputs.now ((S.machine sim.now).line h)) }
 {
     text.reserve(ROOM)?;
     text.push(tag)?;
@@ -84,29 +85,30 @@ fn push_change(text: &mut Vec<u8>, change: &Change, inputs: &Names) -> Result<()
     text.extend_from_slice(b" ")?;
     text.extend_from_slice(inputs.name(change.pin))?;
     text.extend_from_slice(b" ")?;
-    text.extend_from_slice(value_text(change.to))?;
+    text.extend_from_slice(value_text(Drive::of(change.to)))?;
     text.extend_from_slice(b" :")?;
     Ok(())
 }
 
-/// How a value is printed.
-fn value_text(value: Trit) -> &'static [u8]
+/// How a drive is printed.
+fn value_text(value: Drive) -> &'static [u8]
     ensures { result.now ≡ value_text_of value }
 {
     match value {
-        Trit::Zero => b"0",
-        Trit::One => b"1",
-        Trit::Unknown => b"x",
+        Drive::Zero => b"0",
+        Drive::One => b"1",
+        Drive::Unknown => b"x",
+        Drive::Floating => b"z",
     }
 }
 
 /// The outputs, in order.
-fn push_outputs<S: CellSim>(text: &mut Vec<u8>, names: &Names, sim: &S) -> Result<(), AllocError>
+fn push_outputs<S: TraceSim>(text: &mut Vec<u8>, names: &Names, sim: &S) -> Result<(), AllocError>
     requires { length names.now ≡ (S.machine sim.now).outputs }
     ensures { OnOk result ((h : List ChangeOf) → S.stands sim.now h → text.new.items ≡ text.old.items ++ outputs_text names.now ((S.machine sim.now).line h).values ((S.machine sim.now).line h).delays) }
 {
     for place in 0..names.len() {
-        push_output(text, names.name(place), sim.output(place), sim.delay(place))?;
+        push_output(text, names.name(place), sim.value(place), sim.delay(place))?;
     }
     Ok(())
 }
@@ -116,7 +118,7 @@ fn push_outputs<S: CellSim>(text: &mut Vec<u8>, names: &Names, sim: &S) -> Resul
 fn push_output(
     text: &mut Vec<u8>,
     name: &[u8],
-    value: Trit,
+    value: Drive,
     delay: Option<u64>,
 ) -> Result<(), AllocError>
     ensures { OnOk result (text.new.items ≡ text.old.items ++ output_text name.now value delay) }
@@ -141,7 +143,7 @@ fn push_delay(text: &mut Vec<u8>, delay: Option<u64>) -> Result<(), AllocError>
 }
 
 /// The checks that reported.
-fn push_reports<S: CellSim>(text: &mut Vec<u8>, sim: &S) -> Result<(), AllocError>
+fn push_reports<S: TraceSim>(text: &mut Vec<u8>, sim: &S) -> Result<(), AllocError>
     ensures { OnOk result ((h : List ChangeOf) → S.stands sim.now h → text.new.items ≡ text.old.items ++ reports_text 1 ((S.machine sim.now).line h).reports) }
 {
     for check in 0..sim.checks() {

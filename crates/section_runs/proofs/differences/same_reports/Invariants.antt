@@ -4,5 +4,5 @@ use Rattle.section_runs.proofs.differences.same_reports.Given as goal
 
 abbrev pub invariant-loop-check : goal.invariant-loop-check
 invariant-loop-check g l =
-    RestDecides same_reports (g.A.CellSim.stands l.left) (g.B.CellSim.stands l.right) (λ h. ((g.A.CellSim.machine l.left).line h).reports)
-    (λ k. ((g.B.CellSim.machine l.right).line k).reports) l.check
+    RestDecides same_reports (g.A.TraceSim.stands l.left) (g.B.TraceSim.stands l.right) (λ h. ((g.A.TraceSim.machine l.left).line h).reports)
+    (λ k. ((g.B.TraceSim.machine l.right).line k).reports) l.check

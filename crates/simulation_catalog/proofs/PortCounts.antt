@@ -27,6 +27,7 @@ use Rattle.model_traces.specs.ModuleFits as modules_of
 use Rattle.model_traces.proofs.FitLemmas.{fit-length}
 use Rattle.model_traces.proofs.ModelAgreement.{generated-modules, generated-entities}
 use Rattle.stimulus.specs.declared.ports.Standing.{Standing}
+use Rattle.stimulus.specs.DriveLines.{drive_machine}
 use Rattle.section_runs.specs.Comparison.{HavePorts}
 use Rattle.simulation_catalog.specs.declared.same_ports.Spelling.{Spelling}
 use Rattle.simulation_catalog.specs.declared.same_ports.Spelling.TheVariants.{Exact, AnyCase}
@@ -123,7 +124,7 @@ pub have_ports : (standing : Standing) (cell : CellData) (entity : List ℕ) (m 
     → IsTrue (is_cell cell.name cell.pins cell.groups cell.outputs cell.checks cell.arcs)
     → same_ports Exact (in_verilog.ports_of cell.pins) m.ports ≡ true → same_ports AnyCase (in_vital.ports_of entity cell.pins) e.ports ≡ true
     → IsSound (entity_of cell entity) → IsSound e
-    → HavePorts (named_ports standing cell.pins) (cell_machine_of cell) (module_machine m) (entity_machine e)
+    → HavePorts (named_ports standing cell.pins) (drive_machine (cell_machine_of cell)) (drive_machine (module_machine m)) (drive_machine (entity_machine e))
 have_ports standing cell entity m e rules same other generated sound =
     let fits = generated-modules cell rules in
     let entity_fits = generated-entities cell entity rules in

@@ -27,6 +27,7 @@ use Rattle.stimulus.specs.declared.ports.Standing.{Standing}
 use Rattle.stimulus.specs.declared.ports.Standing.TheVariants as standing
 use Rattle.stimulus.specs.declared.sections.Section.{Section}
 use Rattle.stimulus.specs.Catalog.{cell_answer, cell_found}
+use Rattle.stimulus.specs.DriveLines.{drive_machine}
 use Rattle.stimulus.specs.PortEntries.{NamedCells, listed, entry_of_cell}
 use Rattle.stimulus.specs.Laws.{IsSectionOf}
 use Rattle.stimulus.specs.Stimulus.{stimulus_of}
@@ -152,9 +153,9 @@ pub compared_as : (models : NamedModels) (cell : CellData) (entity : List ℕ) (
     ≡ Some (record {
       name = cell.name;
       ports = ports_in models (Accepted cell entity);
-      liberty = cell_machine_of cell;
-      verilog = module_machine m;
-      vital = entity_machine n;
+      liberty = drive_machine (cell_machine_of cell);
+      verilog = drive_machine (module_machine m);
+      vital = drive_machine (entity_machine n);
     })
 compared_as models cell entity numbers m n found e f g h =
     ap (beside_models models) e ∙ ap (beside_numbers models cell (ports_in models (Accepted cell entity))) f

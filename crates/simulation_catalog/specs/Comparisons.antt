@@ -5,7 +5,6 @@ use Rattle.std.specs.List.{flat_map, list_any}
 use Rattle.cell_machine.specs.declared.changes.Change.{Change}
 use Rattle.cell_machine.specs.CellData.{CellData}
 use Rattle.cell_machine.specs.CellTrace.{cell_machine_of}
-use Rattle.cell_machine.specs.Lines.{Machine}
 use Rattle.library_items.specs.LibraryCells.{CellEntry, Accepted, Refused}
 use Rattle.specify_blocks.specs.declared.model.VModule.{VModule}
 use Rattle.vital_models.specs.declared.model.VEntity.{VEntity}
@@ -13,6 +12,7 @@ use Rattle.model_traces.specs.ModuleTrace.{module_machine}
 use Rattle.model_traces.specs.EntityTrace.{entity_machine}
 use Rattle.stimulus.specs.declared.ports.Ports.{Ports}
 use Rattle.stimulus.specs.declared.sections.Section.{Section}
+use Rattle.stimulus.specs.DriveLines.{DriveMachine, drive_machine}
 use Rattle.section_runs.specs.TraceText.{heading_text}
 use Rattle.section_runs.specs.Comparison.{Lines, three_lines, compared_text, first_unlike, verdict_text}
 use Rattle.simulation_catalog.specs.declared.numbers.ModelNumbers.{ModelNumbers}
@@ -23,9 +23,9 @@ use Rattle.simulation_catalog.specs.Catalog.{ports_in, numbers_in}
 pub record Compared : Type 0 where
   pub name : List ℕ
   pub ports : Ports
-  pub liberty : Machine
-  pub verilog : Machine
-  pub vital : Machine
+  pub liberty : DriveMachine
+  pub verilog : DriveMachine
+  pub vital : DriveMachine
 
 -- what the three show after a history
 abbrev pub lines_of : Compared → List Change → Lines
@@ -37,9 +37,9 @@ beside cell ports (Some m) (Some e) =
     Some (record {
       name = cell.name;
       ports = ports;
-      liberty = cell_machine_of cell;
-      verilog = module_machine m;
-      vital = entity_machine e;
+      liberty = drive_machine (cell_machine_of cell);
+      verilog = drive_machine (module_machine m);
+      vital = drive_machine (entity_machine e);
     })
 beside cell ports _ _ = None
 

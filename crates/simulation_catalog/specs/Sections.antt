@@ -15,6 +15,7 @@ use Rattle.model_traces.specs.ModuleTrace.{module_machine}
 use Rattle.model_traces.specs.EntityTrace.{entity_machine}
 use Rattle.stimulus.specs.declared.ports.Ports.{Ports}
 use Rattle.stimulus.specs.declared.sections.Section.{Section}
+use Rattle.stimulus.specs.DriveLines.{drive_machine}
 use Rattle.stimulus.specs.PortEntries.{listed}
 use Rattle.stimulus.specs.Stimulus.{stimulus_of}
 use Rattle.section_runs.specs.Comparison.{HavePorts}
@@ -41,13 +42,13 @@ pub record CanBeCompared (cells : List CellEntry) (modules : List VModule) (enti
       ≡ Some (record {
         name = cell.name;
         ports = ports;
-        liberty = cell_machine_of cell;
-        verilog = module_machine verilog;
-        vital = entity_machine vital;
+        liberty = drive_machine (cell_machine_of cell);
+        verilog = drive_machine (module_machine verilog);
+        vital = drive_machine (entity_machine vital);
       })
   pub sound_module : modules_of.IsSound verilog
   pub sound_entity : entities_of.IsSound vital
-  pub have_ports : HavePorts ports (cell_machine_of cell) (module_machine verilog) (entity_machine vital)
+  pub have_ports : HavePorts ports (drive_machine (cell_machine_of cell)) (drive_machine (module_machine verilog)) (drive_machine (entity_machine vital))
   pub proper : IsProperFrom (length ports.inputs) [] section.changes
 
 -- The sections of a stimulus that is read over the catalog of cells can be run so, where all models are sound.

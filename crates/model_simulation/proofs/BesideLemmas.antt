@@ -20,6 +20,7 @@ use Rattle.model_traces.specs.ModuleTrace.{module_machine}
 use Rattle.model_traces.specs.EntityTrace.{entity_machine}
 use Rattle.stimulus.specs.declared.ports.Ports.{Ports}
 use Rattle.stimulus.specs.declared.sections.Section.{Section}
+use Rattle.stimulus.specs.DriveLines.{drive_machine}
 use Rattle.text_io.specs.declared.stop.Stop.{Stop}
 use Rattle.section_runs.specs.TraceText.{heading_text}
 use Rattle.section_runs.specs.Comparison.{HavePorts, three_lines, compared_text, first_unlike, verdict_text}
@@ -34,9 +35,9 @@ use Rattle.model_simulation.specs.Besides.{compared_with, compared_of, CanBeGive
 
 pub runs_on : (cells : List CellEntry) (modules : List VModule) (entities : List VEntity) (section : Section) (run : CanBeCompared cells modules entities section)
     (cell : Cell) (ports : Ports) (verilog : VModule) (vital : VEntity) → data_of cell ≡ run.cell → ports ≡ run.ports → verilog ≡ run.verilog → vital ≡ run.vital
-    → compared_at cells modules entities section.cell ≡ Some (compared_with cell.name ports (cell_machine_of (data_of cell)) (module_machine verilog) (entity_machine vital))
+    → compared_at cells modules entities section.cell ≡ Some (compared_with cell.name ports (drive_machine (cell_machine_of (data_of cell))) (drive_machine (module_machine verilog)) (drive_machine (entity_machine vital)))
 runs_on cells modules entities section run cell ports verilog vital d p m e =
-    run.is_compared ∙ sym (λ i. Some (compared_with (d i).name (p i) (cell_machine_of (d i)) (module_machine (m i)) (entity_machine (e i))))
+    run.is_compared ∙ sym (λ i. Some (compared_with (d i).name (p i) (drive_machine (cell_machine_of (d i))) (drive_machine (module_machine (m i))) (drive_machine (entity_machine (e i)))))
 
 pub can_be_given : (cells : List CellEntry) (modules : List VModule) (entities : List VEntity) (section : Section) (beside : Beside) (run : CanBeCompared cells modules entities section)
     → data_of beside.cell.now ≡ run.cell → beside.ports.now ≡ run.ports → beside.module.now ≡ run.verilog → beside.entity.now ≡ run.vital
@@ -45,10 +46,10 @@ can_be_given cells modules entities section beside run d p m e = record {
   sound_module = rw m run.sound_module;
   sound_entity = rw e run.sound_entity;
   have_ports =
-      subst (λ x. HavePorts x (cell_machine_of (data_of beside.cell.now)) (module_machine beside.module.now) (entity_machine beside.entity.now)) (sym p)
-      (subst (λ x. HavePorts run.ports (cell_machine_of x) (module_machine beside.module.now) (entity_machine beside.entity.now)) (sym d)
-      (subst (λ x. HavePorts run.ports (cell_machine_of run.cell) (module_machine x) (entity_machine beside.entity.now)) (sym m)
-      (subst (λ x. HavePorts run.ports (cell_machine_of run.cell) (module_machine run.verilog) (entity_machine x)) (sym e) run.have_ports)));
+      subst (λ x. HavePorts x (drive_machine (cell_machine_of (data_of beside.cell.now))) (drive_machine (module_machine beside.module.now)) (drive_machine (entity_machine beside.entity.now))) (sym p)
+      (subst (λ x. HavePorts run.ports (drive_machine (cell_machine_of x)) (drive_machine (module_machine beside.module.now)) (drive_machine (entity_machine beside.entity.now))) (sym d)
+      (subst (λ x. HavePorts run.ports (drive_machine (cell_machine_of run.cell)) (drive_machine (module_machine x)) (drive_machine (entity_machine beside.entity.now))) (sym m)
+      (subst (λ x. HavePorts run.ports (drive_machine (cell_machine_of run.cell)) (drive_machine (module_machine run.verilog)) (drive_machine (entity_machine x))) (sym e) run.have_ports)));
   proper = rw p run.proper;
 }
 
@@ -71,23 +72,23 @@ pub of_started : {T E : Type 0} (r : Result T E) (x : T) (P : T → Type 0) → 
 of_started r x P e h = rw e at h
 
 pub have_ports : (beside : Beside) (liberty verilog vital : Machine) → liberty ≡ cell_machine_of (data_of beside.cell.now) → verilog ≡ module_machine beside.module.now → vital ≡ entity_machine beside.entity.now
-    → HavePorts beside.ports.now (cell_machine_of (data_of beside.cell.now)) (module_machine beside.module.now) (entity_machine beside.entity.now)
-    → HavePorts beside.ports.now liberty verilog vital
+    → HavePorts beside.ports.now (drive_machine (cell_machine_of (data_of beside.cell.now))) (drive_machine (module_machine beside.module.now)) (drive_machine (entity_machine beside.entity.now))
+    → HavePorts beside.ports.now (drive_machine liberty) (drive_machine verilog) (drive_machine vital)
 have_ports beside liberty verilog vital l v h have = rw (l, v, h) have
 
 pub text_is : {T : Type 0} (beside : Beside) (name : List ℕ) (liberty verilog vital : Machine) (given changes : List Change) (s t : DeskState) (r : Result T Stop)
     → name ≡ beside.cell.now.name → given ≡ changes
     → liberty ≡ cell_machine_of (data_of beside.cell.now) → verilog ≡ module_machine beside.module.now → vital ≡ entity_machine beside.entity.now
-    → WritesTrace s t (compared_section (compared_with name beside.ports.now liberty verilog vital) given) r → WritesTrace s t (compared_section (compared_of beside) changes) r
+    → WritesTrace s t (compared_section (compared_with name beside.ports.now (drive_machine liberty) (drive_machine verilog) (drive_machine vital)) given) r → WritesTrace s t (compared_section (compared_of beside) changes) r
 text_is beside name liberty verilog vital given changes s t r n e l v h w =
-    subst (λ x. WritesTrace s t x r) (λ i. compared_section (compared_with (n i) beside.ports.now (l i) (v i) (h i)) (e i)) w
+    subst (λ x. WritesTrace s t x r) (λ i. compared_section (compared_with (n i) beside.ports.now (drive_machine (l i)) (drive_machine (v i)) (drive_machine (h i))) (e i)) w
 
 pub unlike_is : {E : Type 0} (beside : Beside) (liberty verilog vital : Machine) (given changes : List Change) (r : Result Bool E) → given ≡ changes
     → liberty ≡ cell_machine_of (data_of beside.cell.now) → verilog ≡ module_machine beside.module.now → vital ≡ entity_machine beside.entity.now
-    → IfOk r (λ some_differ. some_differ ≡ is_some (first_unlike given (three_lines liberty verilog vital)))
+    → IfOk r (λ some_differ. some_differ ≡ is_some (first_unlike given (three_lines (drive_machine liberty) (drive_machine verilog) (drive_machine vital))))
     → IfOk r (λ some_differ. some_differ ≡ is_some (first_unlike changes (lines_of (compared_of beside))))
 unlike_is beside liberty verilog vital given changes r e l v h w =
-    subst (λ d. IfOk r (λ some_differ. some_differ ≡ d)) (λ i. is_some (first_unlike (e i) (three_lines (l i) (v i) (h i)))) w
+    subst (λ d. IfOk r (λ some_differ. some_differ ≡ d)) (λ i. is_some (first_unlike (e i) (three_lines (drive_machine (l i)) (drive_machine (v i)) (drive_machine (h i))))) w
 
 -- How far a section was appended: its parts are its heading, the lines and the verdict.
 

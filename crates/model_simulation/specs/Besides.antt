@@ -3,7 +3,6 @@ use Rattle.std.specs.Prelude.{◌≡◌, ℕ, Bool, List, [], length, Some, Resu
 use Rattle.cell_machine.specs.CellData.{data_of}
 use Rattle.cell_machine.specs.CellTrace.{cell_machine_of}
 use Rattle.cell_machine.specs.History.{IsProperFrom}
-use Rattle.cell_machine.specs.Lines.{Machine}
 use Rattle.library_items.specs.LibraryCells.{CellEntry}
 use Rattle.specify_blocks.specs.declared.model.VModule.{VModule}
 use Rattle.specify_blocks.specs.Sound as modules_of
@@ -13,6 +12,7 @@ use Rattle.model_traces.specs.ModuleTrace.{module_machine}
 use Rattle.model_traces.specs.EntityTrace.{entity_machine}
 use Rattle.stimulus.specs.declared.ports.Ports.{Ports}
 use Rattle.stimulus.specs.declared.sections.Section.{Section}
+use Rattle.stimulus.specs.DriveLines.{DriveMachine, drive_machine}
 use Rattle.text_io.specs.declared.stop.Stop.{Stop}
 use Rattle.section_runs.specs.Comparison.{HavePorts}
 use Rattle.command_outcomes.specs.declared.status.Status.{Status}
@@ -22,20 +22,23 @@ use Rattle.simulation_catalog.specs.Comparisons.{Compared, compared_at}
 use Rattle.model_simulation.specs.declared.comparisons.Beside.{Beside}
 
 -- what a section is run on, with these machines
-abbrev pub compared_with : List ℕ → Ports → Machine → Machine → Machine → Compared
+abbrev pub compared_with : List ℕ → Ports → DriveMachine → DriveMachine → DriveMachine → Compared
 compared_with name ports liberty verilog vital = record { name = name; ports = ports; liberty = liberty; verilog = verilog; vital = vital }
 
 -- what a section of the cell is run on
 abbrev pub compared_of : Beside → Compared
 compared_of beside =
-    compared_with beside.cell.now.name beside.ports.now (cell_machine_of (data_of beside.cell.now)) (module_machine beside.module.now) (entity_machine beside.entity.now)
+    compared_with beside.cell.now.name beside.ports.now (drive_machine (cell_machine_of (data_of beside.cell.now)))
+    (drive_machine (module_machine beside.module.now)) (drive_machine (entity_machine beside.entity.now))
 
 -- Changes can be given to all three: both models are sound, all have as many inputs and outputs as there are names, and the changes are
 -- of these inputs, at times that rise strictly.
 pub record CanBeGiven (beside : Beside) (section : Section) : Type 0 where
   pub sound_module : modules_of.IsSound beside.module.now
   pub sound_entity : entities_of.IsSound beside.entity.now
-  pub have_ports : HavePorts beside.ports.now (cell_machine_of (data_of beside.cell.now)) (module_machine beside.module.now) (entity_machine beside.entity.now)
+  pub have_ports :
+      HavePorts beside.ports.now (drive_machine (cell_machine_of (data_of beside.cell.now))) (drive_machine (module_machine beside.module.now))
+      (drive_machine (entity_machine beside.entity.now))
   pub proper : IsProperFrom (length beside.ports.now.inputs) [] section.changes
 
 -- this is what the section is run on

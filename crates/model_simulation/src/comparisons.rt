@@ -12,13 +12,13 @@ ghost use Rattle.model_simulation.specs.Besides.{compared_with, compared_of, Can
 ghost use Rattle.model_simulation.specs.Simulations.{CanBePrinted};
 
 use crate::simulation::Simulation;
-use cell_machine::{Cell, CellSim, Change, LibertySim};
+use cell_machine::{Cell, Change, LibertySim};
 use library_items::LibraryCell;
 use section_runs::{Three, write_comparison, write_heading, write_verdict};
 use simulation_catalog::described_are_cells;
 use specify_blocks::VModule;
 use std::alloc::{AllocError, Global};
-use stimulus::{Ports, Section};
+use stimulus::{Ports, Section, TraceSim};
 use table_interpreters::{VerilogSim, VitalSim};
 use text_io::{Desk, Stop};
 use vital_models::VEntity;
@@ -75,7 +75,7 @@ fn all_started<L: Drop, V: Drop, H: Drop>(
 
 /// Appends to the report the section of three simulators that stand at their starts: this name, the lines of the three traces on the
 /// changes, and whether these are equal. It answers whether two of them differ. After a fault a prefix of the section was appended.
-fn write_started<D: Desk, L: CellSim + Drop, V: CellSim + Drop, H: CellSim + Drop>(
+fn write_started<D: Desk, L: TraceSim + Drop, V: TraceSim + Drop, H: TraceSim + Drop>(
     alloc: Global,
     desk: &mut D,
     name: &[u8],

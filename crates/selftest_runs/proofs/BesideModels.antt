@@ -4,7 +4,7 @@ use Rattle.cell_machine.specs.declared.changes.Change.{Change}
 use Rattle.cell_machine.specs.declared.outputs.OutputPin.{OutputPin}
 use Rattle.cell_machine.specs.CellData.{CellData}
 use Rattle.cell_machine.specs.CellRules.{is_cell}
-use Rattle.cell_machine.specs.CellTrace.{inputs_of, cell_trace, cell_machine_of}
+use Rattle.cell_machine.specs.CellTrace.{inputs_of, cell_line, cell_trace, cell_machine_of}
 use Rattle.cell_machine.specs.History.{IsProperFrom}
 use Rattle.cell_machine.specs.Lines.{Line}
 use Rattle.cell_machine.specs.Sized.{cell_machine_sized}
@@ -26,7 +26,10 @@ use Rattle.model_traces.specs.ModuleFits as module_fits
 use Rattle.model_traces.specs.EntityFits as entity_fits
 use Rattle.model_traces.specs.Agreement.{ModelsAgree}
 use Rattle.model_traces.proofs.ModelAgreement.{generated-modules, generated-entities}
-use Rattle.section_runs.specs.Differences.{NoDifferenceIsEqual}
+use Rattle.stimulus.specs.DriveLines.{drive_machine}
+use Rattle.stimulus.specs.DriveSized.{drive_machine_sized}
+use Rattle.stimulus.proofs.DriveTraces.{drive_lines}
+use Rattle.section_runs.specs.Differences.{first_difference, NoDifferenceIsEqual}
 use Rattle.selftest_cells.specs.Damage.{alter_first, damaged_output, damaged_by, damaged_module, damaged_entity, DamagedModulesAreSound, DamagedEntitiesAreSound}
 use Rattle.selftest_runs.specs.Counts.{is_caught}
 
@@ -116,7 +119,11 @@ damaged_entity_beside d name e n law keep is damaged =
 
 -- no trace is unlike itself
 never : (d : CellData) (cs : List Change) → NoDifferenceIsEqual → is_caught (cell_trace d cs) (cell_trace d cs) ≡ false
-never d cs law = ap is_some ((law (cell_machine_of d) (cell_machine_of d) cs (cell_machine_sized d) (cell_machine_sized d) refl refl).1 refl)
+never d cs law =
+    let m = drive_machine (cell_machine_of d) in
+    let sized = drive_machine_sized (cell_machine_of d) (cell_machine_sized d) in
+    let shown = drive_lines (cell_line d) cs in
+    ap is_some ((λ i. first_difference (sym shown i) (sym shown i)) ∙ (law m m cs sized sized refl refl).1 refl)
 
 never_by : (d : CellData) (cs : List Change) (trace : List Line) (caught : Bool) → NoDifferenceIsEqual → trace ≡ cell_trace d cs
     → caught ≡ is_caught (cell_trace d cs) trace → caught ≡ true → ⊥

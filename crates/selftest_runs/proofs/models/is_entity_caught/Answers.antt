@@ -1,9 +1,18 @@
 use Rattle.std.proofs.Common.{is_some, ap, ◌∙◌}
-use Rattle.cell_machine.specs.Lines.{trace}
+use Rattle.cell_machine.specs.CellData.{data_of}
+use Rattle.cell_machine.specs.CellTrace.{cell_line}
+use Rattle.model_traces.specs.EntityTrace.{entity_line}
+use Rattle.stimulus.specs.DriveLines.{drive_machine, lines_along}
+use Rattle.stimulus.proofs.DriveTraces.{drive_lines}
 use Rattle.section_runs.specs.Differences.{first_difference}
 use Rattle.selftest_runs.proofs.models.is_entity_caught.Goals as goal
 
 pub returns : goal.returns
 returns c =
     let changes = c.args.changes.now in
-    c.is_some.ensures ∙ ap is_some (c.first_difference.ensures ∙ (λ i. first_difference (trace (c.in_ok-liberty.ensures.machine i).line changes) (trace (c.in_ok-vital.ensures.machine i).line changes)))
+    let liberty = c.in_ok-liberty.ensures.machine in
+    let vital = c.in_ok-vital.ensures.machine in
+    c.is_some.ensures
+    ∙ ap is_some (c.first_difference.ensures
+    ∙ ((λ i. first_difference (lines_along (drive_machine (liberty i)).line changes) (lines_along (drive_machine (vital i)).line changes))
+    ∙ (λ i. first_difference (drive_lines (cell_line (data_of c.args.cell.now)) changes i) (drive_lines (entity_line c.args.entity.now) changes i))))

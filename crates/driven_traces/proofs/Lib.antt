@@ -1,0 +1,4 @@
+mod Examples
+pub mod DrivenTraces
+pub mod DrivePlaces
+pub mod DrivenOutputs

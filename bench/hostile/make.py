@@ -1,7 +1,9 @@
 #!/usr/bin/env python3
-"""make.py KIND SIZE: prints a hostile Liberty text of this kind and size; make.py alone lists the kinds with their three sizes.
+"""make.py KIND SIZE: prints a hostile Liberty text, or a hostile file of models, of this kind and size; make.py KIND SIZE changes
+prints the stimulus of a kind that is replayed; make.py alone lists the kinds, each with its command and its three sizes.
 
-Each kind is small to write and dear to read carelessly: it repeats one thing that a library repeats only a few times."""
+Each kind is small to write and dear to read or to run carelessly: it repeats one thing that a library, or a model, repeats only a
+few times."""
 import itertools
 import sys
 
@@ -150,7 +152,162 @@ def cut_cell(n):
     return "library(L){cell(C){" + "a:1;" * n
 
 
-KINDS = {
+# Models to replay. Each kind is a pair of functions of its size: the models and the stimulus.
+
+
+def module(header, *parts, tables=""):
+    return "`timescale 1ps/1ps\n" + tables + "module M (%s);\n" % ", ".join(header) + "".join(parts) + "endmodule\n"
+
+
+def declared(word, names):
+    return "".join("  %s %s;\n" % (word, name) for name in names)
+
+
+def specified(*lines):
+    return "  specify\n" + "".join("    %s;\n" % line for line in lines) + "  endspecify\n"
+
+
+def primitive(name, inputs, rows, state=False):
+    ports = ["i%d" % k for k in range(inputs)]
+    return (
+        "primitive %s (q, %s);\n  output q;\n" % (name, ", ".join(ports))
+        + ("  reg q;\n" if state else "")
+        + declared("input", ports)
+        + "  table\n"
+        + "".join("    %s;\n" % row for row in rows)
+        + "  endtable\nendprimitive\n"
+    )
+
+
+BUFFER = primitive("B", 1, ["0 : 0", "1 : 1"])
+LATCH = primitive("L", 1, ["(01) : ? : 1", "(10) : ? : 0", "(?x) : ? : -", "(x?) : ? : -"], state=True)
+
+
+def turns(name, count, cell="M"):
+    """a section of so many changes of one input, to and fro"""
+    return "cell %s\n" % cell + "".join("%d %s %d\n" % (100 * (k + 1), name, k % 2) for k in range(count))
+
+
+def outputs_of_one_input(n):
+    outputs = ["y%d" % k for k in range(n)]
+    driven = "".join("  B (%s, A);\n" % name for name in outputs)
+    return module(["A"] + outputs, declared("input", ["A"]), declared("output", outputs), driven, tables=BUFFER)
+
+
+def conditional_paths(wires, n):
+    """n `if` paths on these wires in turn and n `ifnone` paths, all of the same two ports"""
+    some = ["if (%s) (A => Y) = (1, 1)" % wires[k % len(wires)] for k in range(n)]
+    driven = "".join("  B (%s, B1);\n" % wire for wire in wires)
+    return module(
+        ["A", "B1", "Y"],
+        declared("input", ["A", "B1"]),
+        declared("output", ["Y"]),
+        declared("wire", wires),
+        driven + "  B (Y, A);\n",
+        specified(*some, *["ifnone (A => Y) = (2, 2)"] * n),
+        tables=BUFFER,
+    )
+
+
+def conditions_of_wires(n):
+    return conditional_paths(["w%d" % k for k in range(n)], n)
+
+
+def conditions_of_one_wire(n):
+    return conditional_paths(["w"], n)
+
+
+def quiet_turns(n):
+    """changes while the other input is 0, so that no `if` path is active"""
+    return "cell M\n50 B1 0\n" + "".join(turns("A", 20).splitlines(True)[1:])
+
+
+def checks_of_ports(n):
+    ports = ["a%d" % k for k in range(n)]
+    return module(
+        ports + ["Y"],
+        declared("input", ports),
+        declared("output", ["Y"]),
+        "  reg N;\n  B (Y, %s);\n" % ports[0],
+        specified(*["$width(posedge %s, 1, 0, N)" % name for name in ports]),
+        tables=BUFFER,
+    )
+
+
+def states_of_ports(n):
+    ports = ["a%d" % k for k in range(n)]
+    wires = ["s%d" % k for k in range(n)]
+    driven = "".join("  L (%s, %s);\n" % pair for pair in zip(wires, ports))
+    return module(
+        ports + ["Y"],
+        declared("input", ports),
+        declared("output", ["Y"]),
+        declared("wire", wires),
+        driven + "  B (Y, %s);\n" % ports[0],
+        tables=BUFFER + LATCH,
+    )
+
+
+def paths_to_outputs(n):
+    outputs = ["y%d" % k for k in range(n)]
+    driven = "".join("  B (%s, A);\n" % name for name in outputs)
+    return module(
+        ["A"] + outputs,
+        declared("input", ["A"]),
+        declared("output", outputs),
+        driven,
+        specified(*["(A => %s) = (1, 1)" % name for name in outputs]),
+        tables=BUFFER,
+    )
+
+
+def rows_of_sections(n):
+    rows = ["0 1 : 0"] * (50 * n - 2) + ["1 ? : 1", "0 0 : 0"]
+    return module(
+        ["A", "B1", "Y"],
+        declared("input", ["A", "B1"]),
+        declared("output", ["Y"]),
+        "  T (Y, A, B1);\n",
+        tables=primitive("T", 2, rows),
+    )
+
+
+def entity(ports, rows, columns, assignment):
+    """an entity of these input ports and the output Y, with a truth table of these rows over these columns"""
+    width = "(%s)" % (", ".join(columns) if len(columns) > 1 else "0 => " + columns[0])
+    return (
+        "library IEEE;\nuse IEEE.std_logic_1164.all;\nuse IEEE.VITAL_Timing.all;\nuse IEEE.VITAL_Primitives.all;\n"
+        "entity M is\n  port (%s; Y : out std_ulogic);\nend M;\n" % "; ".join("%s : in std_ulogic" % name for name in ports)
+        + "architecture vital of M is\n  constant k_1 : VitalTruthTableType := (\n    %s);\n"
+        % ",\n    ".join("(%s)" % ", ".join("'%s'" % symbol for symbol in row) for row in rows)
+        + "begin\n  process (%s)\n    variable z_1 : std_logic := 'X';\n" % ", ".join(ports)
+        + ("    variable g_1 : VitalGlitchDataType;\n" if "g_1" in assignment else "")
+        + "  begin\n    z_1 := VitalTruthTable (TruthTable => k_1, DataIn => %s);\n" % width
+        + "    %s;\n  end process;\nend vital;\n" % assignment
+    )
+
+
+def entity_paths(n):
+    """n input ports, and for each a path to the one output"""
+    ports = ["a%d" % k for k in range(n)]
+    entries = ", ".join("%d => (%s'last_event, (1 ps, 1 ps), true)" % pair for pair in enumerate(ports))
+    return entity(
+        ports,
+        ["11", "00"],
+        ports[:1],
+        'VitalPathDelay01 (OutSignal => Y, GlitchData => g_1, OutSignalName => "Y", OutTemp => z_1, Paths => (%s), Mode => VitalTransport)'
+        % entries,
+    )
+
+
+def columns_of_a_table(n):
+    """a truth table of n columns and 100 rows"""
+    ports = ["a%d" % k for k in range(n)]
+    rows = ["-" * k + "0" + "-" * (n - k - 1) + "0" for k in range(99)] + ["1" * n + "1"]
+    return entity(ports, rows, ports, "Y <= z_1")
+
+
+TRANSLATED = {
     "one_pin_group_of_names": (one_pin_group_of_names, (7500, 15000, 30000)),
     "shared_condition": (shared_condition, (25000, 50000, 100000)),
     "outputs_by_related": (outputs_by_related, (500, 1000, 2000)),
@@ -165,8 +322,33 @@ KINDS = {
     "cut_cell": (cut_cell, (1000000, 2000000, 4000000)),
 }
 
-if len(sys.argv) == 1:
-    for kind, (_, sizes) in KINDS.items():
-        print(kind, *sizes)
-else:
-    sys.stdout.write(KINDS[sys.argv[1]][0](int(sys.argv[2])))
+REPLAYED = {
+    "outputs_of_one_input": ("replay-verilog", outputs_of_one_input, lambda n: turns("A", 2), (5000, 10000, 20000)),
+    "conditions_of_wires": ("replay-verilog", conditions_of_wires, quiet_turns, (2000, 4000, 8000)),
+    "conditions_of_one_wire": ("replay-verilog", conditions_of_one_wire, quiet_turns, (2000, 4000, 8000)),
+    "checks_of_ports": ("replay-verilog", checks_of_ports, lambda n: turns("a0", 100), (1000, 2000, 4000)),
+    "states_of_ports": ("replay-verilog", states_of_ports, lambda n: turns("a0", 100), (1000, 2000, 4000)),
+    "paths_to_outputs": ("replay-verilog", paths_to_outputs, lambda n: turns("A", 2), (5000, 10000, 20000)),
+    "columns_of_a_table": ("replay-vital", columns_of_a_table, lambda n: turns("a0", 1000), (1000, 2000, 4000)),
+    "rows_of_sections": ("replay-verilog", rows_of_sections, lambda n: turns("A", 0) * n, (1000, 2000, 4000)),
+    "entity_paths": ("replay-vital", entity_paths, lambda n: turns("a0", 100), (1000, 2000, 4000)),
+}
+
+
+def main(words):
+    if not words:
+        for kind, (_, sizes) in TRANSLATED.items():
+            print(kind, "translate", *sizes)
+        for kind, (command, _, _, sizes) in REPLAYED.items():
+            print(kind, command, *sizes)
+        return
+    kind, size = words[0], int(words[1])
+    if kind in TRANSLATED:
+        text = TRANSLATED[kind][0](size)
+    else:
+        _, models, changes, _ = REPLAYED[kind]
+        text = (changes if words[2:] == ["changes"] else models)(size)
+    sys.stdout.write(text)
+
+
+main(sys.argv[1:])

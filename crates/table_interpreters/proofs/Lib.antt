@@ -5,3 +5,5 @@ pub mod WiringLemmas
 pub mod EntityLemmas
 pub mod ColumnLemmas
 pub mod TableWordLemmas
+pub mod PortLemmas
+pub mod DriverLemmas

@@ -1,9 +1,13 @@
 pub mod Wiring
 pub mod Keys
+pub mod InputNumbers
+pub mod NetDrivers
+pub mod ModuleIndexed
 pub mod LeastPath
 pub mod ShownPorts
 pub mod ModuleStands
 pub mod TableWords
+pub mod EntityIndexed
 pub mod EntityRooms
 pub mod EntitySteps
 pub mod EntitySized

@@ -6,17 +6,17 @@ ghost use Rattle.model_traces.specs.PortNumbers.{input_event};
 ghost use Rattle.model_traces.specs.CheckTimes.{stamped, opened, reports_where};
 
 use crate::conditions::Conditions;
-use crate::ports::input_number;
+use crate::ports::{Ports, input_number};
 use cell_machine::{Change, Edge, Event, Times, is_rise, is_within, moves, renewed};
 use sqlite_items::Items;
 use trit_cubes::Trit;
-use udp_tables::{TimingCheck, VPort};
+use udp_tables::TimingCheck;
 
 /// A change of an input, as the timing checks of a model see it.
 #[derive(Clone, Copy)]
 pub struct InputChange<'a> {
     /// The ports of the model.
-    pub ports: &'a [VPort],
+    pub ports: Ports<'a>,
     /// The value that the input had.
     pub from: Trit,
     /// The change.
@@ -25,15 +25,15 @@ pub struct InputChange<'a> {
 
 /// Whether a change is this event of a port.
 fn happens(seen: &InputChange, event: Event) -> bool
-    ensures { result ≡ happens (input_event seen.now.ports.now event) seen.now.from seen.now.change }
+    ensures { result ≡ happens (input_event seen.now.ports.list.now event) seen.now.from seen.now.change }
 {
-    seen.change.pin == input_number(seen.ports, event.pin)
+    seen.change.pin == input_number(&seen.ports, event.pin)
         && moves(event.edge, seen.from, seen.change.to)
 }
 
 /// The times that a check keeps after a change.
 fn stamped(seen: &InputChange, check: &TimingCheck, stamps: Times) -> Times
-    ensures { result ≡ stamped seen.now.ports.now seen.now.from seen.now.change check.now stamps }
+    ensures { result ≡ stamped seen.now.ports.list.now seen.now.from seen.now.change check.now stamps }
 {
     let at = seen.change.at;
     let pin = check.second.pin;
@@ -72,7 +72,7 @@ fn check_reports<V: Conditions>(
     room: &mut Items<Trit>,
 ) -> bool
     requires { V.fits values.now (length room.old) }
-    ensures reports { result ≡ reports_where seen.now.ports.now (V.counts values.now) seen.now.from seen.now.change check.now stamps }
+    ensures reports { result ≡ reports_where seen.now.ports.list.now (V.counts values.now) seen.now.from seen.now.change check.now stamps }
     ensures len { length room.new ≡ length room.old }
 {
     if !happens(seen, check.second) {
@@ -94,7 +94,7 @@ pub(crate) fn compare_all<V: Conditions>(
     requires fits { V.fits values.now (length room.old) }
     requires one_each { length stamps.now ≡ length checks.now }
     requires one_report { length reports.old ≡ length checks.now }
-    ensures reports { reports.new ≡ each (reports_where seen.now.ports.now (V.counts values.now) seen.now.from seen.now.change) checks.now stamps.now }
+    ensures reports { reports.new ≡ each (reports_where seen.now.ports.list.now (V.counts values.now) seen.now.from seen.now.change) checks.now stamps.now }
     ensures len { length reports.new ≡ length reports.old }
     ensures room { length room.new ≡ length room.old }
 {
@@ -107,7 +107,7 @@ pub(crate) fn compare_all<V: Conditions>(
 /// Takes the kept times of all checks over a change.
 pub(crate) fn stamp_all(seen: &InputChange, checks: &[TimingCheck], stamps: &mut Items<Times>)
     requires { length stamps.old ≡ length checks.now }
-    ensures stamped { stamps.new ≡ each (stamped seen.now.ports.now seen.now.from seen.now.change) checks.now stamps.old }
+    ensures stamped { stamps.new ≡ each (stamped seen.now.ports.list.now seen.now.from seen.now.change) checks.now stamps.old }
     ensures len { length stamps.new ≡ length stamps.old }
 {
     for i in 0..stamps.len() {

@@ -105,7 +105,7 @@ fn path_delay(
     ensures delay { result ≡ path_delay_of (is_between values.now.tables.model.now.ports change.input change.port) (path_at values.now.tables.model.now values.now.inputs.now values.now.states.now) change.from change.to path }
     ensures len { length room.new ≡ length room.old }
 {
-    let leads = input_number(values.tables.model.ports.as_slice(), path.from) == change.input
+    let leads = input_number(&values.tables.ports(), path.from) == change.input
         && path.to == change.port;
     if !leads {
         return None;

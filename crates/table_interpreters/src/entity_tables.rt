@@ -1,20 +1,22 @@
-//! An entity with the words of its tables.
+//! An entity with what is known of it.
 ghost use Rattle.std.specs.Prelude.{◌≡◌};
-ghost use Rattle.table_interpreters.specs.TableWords.{entity_words, words_at};
+ghost use Rattle.table_interpreters.specs.EntityIndexed.{IsEntityIndex};
+ghost use Rattle.table_interpreters.specs.TableWords.{words_at};
 
-use crate::entity_words::EntityWords;
+use crate::entity_index::EntityIndex;
+use crate::ports::Ports;
 use sqlite_items::{Items, at};
 use udp_tables::RowWords;
 use vital_models::VEntity;
 
-/// An entity with the words of the rows of its tables, by which they are looked up.
+/// An entity with what is known of it: the words of its tables and the numbers of its ports.
 #[derive(Clone, Copy)]
 pub struct EntityTables<'a> {
     /// The entity.
     pub model: &'a VEntity,
-    /// The words of the rows of its tables.
-    pub words: &'a EntityWords,
-    ghost keyed: { words.now ≡ entity_words model.now },
+    /// What is known of it.
+    pub index: &'a EntityIndex,
+    ghost indexed: { IsEntityIndex model.now index.now },
 }
 
 impl<'a> EntityTables<'a> {
@@ -26,25 +28,35 @@ impl<'a> EntityTables<'a> {
     ghost use Rattle.vital_models.specs.RowWords.{truth_words, state_words};
     ghost use Rattle.table_interpreters.specs.TableWords.{value_rows};
 
+    /// The ports of the entity.
+    pub(crate) fn ports(&self) -> Ports
+        ensures { result.list.now ≡ self.now.model.now.ports }
+    {
+        Ports {
+            list: self.model.ports.as_slice(),
+            numbers: self.index.numbers.as_slice(),
+        }
+    }
+
     /// The words of the rows of the table of the state with this number.
     pub(crate) fn state_words(&self, i: usize) -> &[RowWords]
         ensures { (state : VState) → slice_get self.now.model.now.states i ≡ Some state → AreKept state_words result.now state.table.rows }
     {
-        words_at(self.words.states.as_slice(), i)
+        words_at(self.index.words.states.as_slice(), i)
     }
 
     /// The words of the rows of the table of the condition with this number.
     pub(crate) fn condition_words(&self, i: usize) -> &[RowWords]
         ensures { (truth : VTruth) → slice_get self.now.model.now.conditions i ≡ Some truth → AreKept truth_words result.now truth.table.rows }
     {
-        words_at(self.words.conditions.as_slice(), i)
+        words_at(self.index.words.conditions.as_slice(), i)
     }
 
     /// The words of the rows of the table of the output with this number.
     pub(crate) fn output_words(&self, i: usize) -> &[RowWords]
         ensures { (output : VOutput) → slice_get self.now.model.now.outputs i ≡ Some output → AreKept truth_words result.now (value_rows output.value) }
     {
-        words_at(self.words.outputs.as_slice(), i)
+        words_at(self.index.words.outputs.as_slice(), i)
     }
 }
 

@@ -5,9 +5,12 @@
 mod checks;
 mod conditions;
 mod delays;
+mod drivers;
+mod entity_index;
 mod entity_tables;
 mod entity_values;
 mod entity_words;
+mod module_index;
 mod module_run;
 mod module_tables;
 mod module_values;

@@ -135,7 +135,7 @@ fn happen(
         inputs: run.inputs.as_slice(),
         states: run.states.as_slice(),
     };
-    let ports = tables.model.ports.as_slice();
+    let ports = tables.ports();
     let seen = InputChange {
         ports,
         from,

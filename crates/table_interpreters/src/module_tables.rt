@@ -1,19 +1,22 @@
-//! A module with the keys of its primitives' rows.
-ghost use Rattle.std.specs.Prelude.{◌≡◌, map};
-ghost use Rattle.table_interpreters.specs.Keys.{udp_keys};
+//! A module with what is known of it.
+ghost use Rattle.std.specs.Prelude.{◌≡◌};
+ghost use Rattle.model_traces.specs.NetValues.{driver};
+ghost use Rattle.table_interpreters.specs.ModuleIndexed.{IsModuleIndex};
 
-use specify_blocks::VModule;
-use sqlite_items::{Items, at};
+use crate::module_index::ModuleIndex;
+use crate::ports::Ports;
+use specify_blocks::{Instance, VModule, VNet};
+use sqlite_items::at;
 use udp_tables::RowKey;
 
-/// A module with the keys of its primitives' rows, by which its tables are looked up.
+/// A module with what is known of it: the keys of its tables, the numbers of its ports and the drivers of its nets.
 #[derive(Clone, Copy)]
 pub struct ModuleTables<'a> {
     /// The module.
     pub model: &'a VModule,
-    /// The keys of each primitive's rows.
-    pub keys: &'a [Items<RowKey>],
-    ghost keyed: { keys.now ≡ map udp_keys model.now.udps },
+    /// What is known of it.
+    pub index: &'a ModuleIndex,
+    ghost indexed: { IsModuleIndex model.now index.now },
 }
 
 impl<'a> ModuleTables<'a> {
@@ -26,9 +29,39 @@ impl<'a> ModuleTables<'a> {
     pub(crate) fn keys_at(&self, number: usize) -> &[RowKey]
         ensures { (udp : Udp) → slice_get self.now.model.now.udps number ≡ Some udp → AreKept row_key result.now udp.rows }
     {
-        match at(self.keys, number) {
+        let all = self.index.keys.as_slice();
+        match at(all, number) {
             Some(keys) => keys.as_slice(),
             None => &[],
         }
     }
+
+    /// The ports of the module.
+    pub(crate) fn ports(&self) -> Ports
+        ensures { result.list.now ≡ self.now.model.now.ports }
+    {
+        Ports {
+            list: self.model.ports.as_slice(),
+            numbers: self.index.numbers.as_slice(),
+        }
+    }
+
+    /// The place of the instance that drives a net, where there is one.
+    pub(crate) fn driver(&self, net: VNet) -> Option<usize>
+        ensures { result ≡ driver self.now.model.now.instances net }
+    {
+        match self.index.drivers.known(net) {
+            Some(place) => place,
+            None => first_driver(self.model.instances.as_slice(), net),
+        }
+    }
+}
+
+/// The place of the first instance that drives a net, where there is one. No net of a sound module is looked for so.
+fn first_driver(instances: &[Instance], net: VNet) -> Option<usize>
+    ensures { result ≡ driver instances.now net }
+{
+    instances
+        .iter()
+        .position(|instance| instance.net_driven().is_same(net))
 }

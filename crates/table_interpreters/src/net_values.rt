@@ -7,7 +7,7 @@ ghost use Rattle.udp_tables.specs.Tables.{AreKept};
 ghost use Rattle.udp_tables.specs.Primitive.{IsCombinational};
 ghost use Rattle.udp_tables.specs.RowKeys.{row_key};
 ghost use Rattle.table_interpreters.specs.Wiring.{is_table, is_joined, is_wired};
-ghost use Rattle.model_traces.specs.NetValues.{driver, kept_state, source_value, table_value, primitive_value, instance_value, net_value};
+ghost use Rattle.model_traces.specs.NetValues.{kept_state, source_value, table_value, primitive_value, instance_value, net_value};
 
 use crate::module_values::ModuleValues;
 use crate::ports::input_value;
@@ -17,15 +17,6 @@ use specify_blocks::{Instance, VNet};
 use sqlite_items::Items;
 use trit_cubes::Trit;
 use udp_tables::{RowKey, Udp, keyed_level};
-
-/// The place of the instance that drives a net, where there is one.
-fn driver(instances: &[Instance], net: VNet) -> Option<usize>
-    ensures { result ≡ driver instances.now net }
-{
-    instances
-        .iter()
-        .position(|instance| instance.net_driven().is_same(net))
-}
 
 /// The state of the instance at this place, unknown where there is none.
 fn kept_state(states: &[Trit], place: Option<usize>) -> Trit
@@ -42,11 +33,8 @@ fn source_value(values: &ModuleValues, net: VNet) -> Trit
     ensures { result ≡ source_value values.now.tables.model.now values.now.inputs.now values.now.states.now net }
 {
     match net {
-        VNet::Port(port) => input_value(values.tables.model.ports.as_slice(), values.inputs, port),
-        VNet::Wire(wire) => kept_state(
-            values.states,
-            driver(values.tables.model.instances.as_slice(), VNet::Wire(wire)),
-        ),
+        VNet::Port(port) => input_value(&values.tables.ports(), values.inputs, port),
+        VNet::Wire(wire) => kept_state(values.states, values.tables.driver(VNet::Wire(wire))),
         VNet::Notifier => Trit::Unknown,
     }
 }
@@ -138,7 +126,7 @@ pub(crate) fn net_value(values: &ModuleValues, net: VNet, room: &mut Items<Trit>
     ensures value { result ≡ net_value values.now.tables.model.now values.now.inputs.now values.now.states.now net }
     ensures len { length room.new ≡ length room.old }
 {
-    let place = driver(values.tables.model.instances.as_slice(), net);
+    let place = values.tables.driver(net);
     let state = kept_state(values.states, place);
     let Some(place) = place else {
         return Trit::Unknown;

@@ -7,21 +7,22 @@ ghost use Rattle.table_interpreters.specs.Wiring.{is_table, is_joined, is_wired}
 ghost use Rattle.model_traces.specs.Primitives.{is_turned, entry_value, primitive_next, next_state, next_states};
 
 use crate::module_tables::ModuleTables;
-use crate::ports::{input_number, input_value};
+use crate::ports::{Ports, input_number, input_value};
 use crate::wiring::instance_at;
 use model_traces::{Turn, Turned};
 use specify_blocks::{Instance, VNet};
 use sqlite_items::Items;
 use trit_cubes::Trit;
-use udp_tables::{RowKey, Udp, VPort, is_input_port, keyed_next};
+use udp_tables::{RowKey, Udp, is_input_port, keyed_next};
 
 /// Whether this net is what changes.
-fn is_turned(ports: &[VPort], what: Turned, net: VNet) -> bool
-    ensures { result ≡ is_turned ports.now what net }
+fn is_turned(ports: &Ports, what: Turned, net: VNet) -> bool
+    ensures { result ≡ is_turned ports.now.list.now what net }
 {
     match what {
         Turned::Input(input) => match net {
-            VNet::Port(port) => is_input_port(ports, port) && input_number(ports, port) == input,
+            VNet::Port(port) => is_input_port(ports.list, port)
+                && input_number(ports, port) == input,
             VNet::Wire(_) => false,
             VNet::Notifier => false,
         },
@@ -34,15 +35,15 @@ fn is_turned(ports: &[VPort], what: Turned, net: VNet) -> bool
 }
 
 /// The place of what changes among the nets that feed a primitive, where it is there.
-fn place_of(ports: &[VPort], what: Turned, nets: &[VNet]) -> Option<usize>
-    ensures { result ≡ position (is_turned ports.now what) nets.now }
+fn place_of(ports: &Ports, what: Turned, nets: &[VNet]) -> Option<usize>
+    ensures { result ≡ position (is_turned ports.now.list.now what) nets.now }
 {
     nets.iter().position(|net| is_turned(ports, what, *net))
 }
 
 /// The value of a net that feeds a primitive with a state.
-fn entry_value(ports: &[VPort], inputs: &[Trit], notifier: Trit, net: VNet) -> Trit
-    ensures { result ≡ entry_value ports.now inputs.now notifier net }
+fn entry_value(ports: &Ports, inputs: &[Trit], notifier: Trit, net: VNet) -> Trit
+    ensures { result ≡ entry_value ports.now.list.now inputs.now notifier net }
 {
     match net {
         VNet::Port(port) => input_value(ports, inputs, port),
@@ -52,9 +53,9 @@ fn entry_value(ports: &[VPort], inputs: &[Trit], notifier: Trit, net: VNet) -> T
 }
 
 /// Writes the values of the nets that feed a primitive with a state to the front of the room.
-fn feed(ports: &[VPort], inputs: &[Trit], notifier: Trit, nets: &[VNet], room: &mut Items<Trit>)
+fn feed(ports: &Ports, inputs: &[Trit], notifier: Trit, nets: &[VNet], room: &mut Items<Trit>)
     requires { length nets.now ≤ length room.old }
-    ensures front { take (length nets.now) room.new ≡ map (entry_value ports.now inputs.now notifier) nets.now }
+    ensures front { take (length nets.now) room.new ≡ map (entry_value ports.now.list.now inputs.now notifier) nets.now }
     ensures len { length room.new ≡ length room.old }
 {
     for i in 0..nets.len() {
@@ -64,7 +65,7 @@ fn feed(ports: &[VPort], inputs: &[Trit], notifier: Trit, nets: &[VNet], room: &
 
 /// The next state of an instance of a primitive that these nets feed.
 fn primitive_next(
-    ports: &[VPort],
+    ports: &Ports,
     inputs: &[Trit],
     notifier: Trit,
     turn: Turn,
@@ -78,7 +79,7 @@ fn primitive_next(
     requires entries { length nets.now ≡ length udp.now.inputs }
     requires keys { AreKept row_key keys.now udp.now.rows }
     requires room { length nets.now ≤ length room.old }
-    ensures next { result ≡ primitive_next ports.now inputs.now notifier turn nets.now state udp.now }
+    ensures next { result ≡ primitive_next ports.now.list.now inputs.now notifier turn nets.now state udp.now }
     ensures len { length room.new ≡ length room.old }
 {
     if !udp.sequential {
@@ -116,7 +117,7 @@ fn next_state(
             Some(udp) => {
                 let keys = tables.keys_at(*number);
                 primitive_next(
-                    tables.model.ports.as_slice(),
+                    &tables.ports(),
                     inputs,
                     notifier,
                     turn,

@@ -54,7 +54,7 @@ fn path_delay(
     ensures delay { result ≡ path_delay_of (begins_at values.now.tables.model.now.ports change.input) (path_at values.now.tables.model.now values.now.inputs.now) change.from change.to path.now }
     ensures len { length room.new ≡ length room.old }
 {
-    if input_number(values.tables.model.ports.as_slice(), path.from) != change.input {
+    if input_number(&values.tables.ports(), path.from) != change.input {
         return None;
     }
     if !gate_holds(values, &path.gate, room) {

@@ -9,24 +9,25 @@ ghost use Rattle.table_interpreters.specs.EntitySteps.{next_by};
 ghost use Rattle.model_traces.specs.ProcessRun.{columns};
 
 use crate::entity_tables::EntityTables;
+use crate::ports::Ports;
 use crate::process_rooms::columns_of;
 use crate::process_values::feed;
 use cell_machine::entry;
 use sqlite_items::Items;
 use trit_cubes::Trit;
-use udp_tables::{RowWords, VPort};
-use vital_models::{VEntity, VState, keyed_state};
+use udp_tables::RowWords;
+use vital_models::{VState, keyed_state};
 
 /// Writes the columns of a state's table to the front of the room.
 fn feed_columns(
-    ports: &[VPort],
+    ports: &Ports,
     violation: Trit,
     inputs: &[Trit],
     state: &VState,
     room: &mut Items<Trit>,
 )
     requires { columns_of state.now ≤ length room.old }
-    ensures front { take (columns_of state.now) room.new ≡ columns ports.now violation inputs.now state.now }
+    ensures front { take (columns_of state.now) room.new ≡ columns ports.now.list.now violation inputs.now state.now }
     ensures len { length room.new ≡ length room.old }
 {
     if state.violation {
@@ -39,7 +40,7 @@ fn feed_columns(
 
 /// The next state by a table, whose rows have these words where they are kept.
 fn next_state(
-    model: &VEntity,
+    tables: &EntityTables,
     was: Trit,
     before: &[Trit],
     violation: Trit,
@@ -50,15 +51,15 @@ fn next_state(
     earlier: &mut Items<Trit>,
     room: &mut Items<Trit>,
 ) -> Trit
-    requires table { IsState model.now table.now }
+    requires table { IsState tables.now.model.now table.now }
     requires words { AreKept state_words words.now table.now.table.rows }
     requires earlier { columns_of table.now ≤ length earlier.old }
     requires room { columns_of table.now ≤ length room.old }
-    ensures next { result ≡ next_by model.now was before.now violation inputs.now table.now state }
+    ensures next { result ≡ next_by tables.now.model.now was before.now violation inputs.now table.now state }
     ensures earlier { length earlier.new ≡ length earlier.old }
     ensures room { length room.new ≡ length room.old }
 {
-    let ports = model.ports.as_slice();
+    let ports = &tables.ports();
     let count = columns_of(table);
     feed_columns(ports, was, before, table, earlier);
     feed_columns(ports, violation, inputs, table, room);
@@ -96,16 +97,7 @@ pub(crate) fn step_entity(
         let words = tables.state_words(i);
         let state = states.as_slice()[i];
         let next = next_state(
-            tables.model,
-            was,
-            before,
-            violation,
-            inputs,
-            table,
-            words,
-            state,
-            earlier,
-            room,
+            tables, was, before, violation, inputs, table, words, state, earlier, room,
         );
         states.set(i, next);
     }

@@ -10,16 +10,16 @@ ghost use Rattle.model_traces.specs.PortNumbers.{input_value};
 ghost use Rattle.model_traces.specs.ProcessValues.{truth_value, condition_value, source_value, output_value};
 
 use crate::entity_values::EntityValues;
-use crate::ports::input_value;
+use crate::ports::{Ports, input_value};
 use cell_machine::{Source, entry, numbered_value};
 use sqlite_items::Items;
 use trit_cubes::Trit;
-use udp_tables::{RowWords, VPort};
+use udp_tables::RowWords;
 use vital_models::{OutValue, VTruth, keyed_truth};
 
 /// Writes the values of these input ports to the room, from the place `start` on.
 pub(crate) fn feed(
-    ports: &[VPort],
+    ports: &Ports,
     inputs: &[Trit],
     nets: &[usize],
     start: usize,
@@ -27,7 +27,7 @@ pub(crate) fn feed(
 )
     requires first { start ≤ 1 }
     requires room { start + length nets.now ≤ length room.old }
-    ensures front { take (start + length nets.now) room.new ≡ take start room.old ++ map (input_value ports.now inputs.now) nets.now }
+    ensures front { take (start + length nets.now) room.new ≡ take start room.old ++ map (input_value ports.now.list.now inputs.now) nets.now }
     ensures len { length room.new ≡ length room.old }
 {
     for i in 0..nets.len() {
@@ -37,7 +37,7 @@ pub(crate) fn feed(
 
 /// What a truth table of input ports gives, whose rows have these words where they are kept.
 fn truth_value(
-    ports: &[VPort],
+    ports: &Ports,
     inputs: &[Trit],
     truth: &VTruth,
     words: &[RowWords],
@@ -46,7 +46,7 @@ fn truth_value(
     requires rows { All (λ row. length row.inputs ≡ length truth.now.inputs) truth.now.table.rows }
     requires words { AreKept truth_words words.now truth.now.table.rows }
     requires room { length truth.now.inputs ≤ length room.old }
-    ensures value { result ≡ truth_value ports.now inputs.now truth.now }
+    ensures value { result ≡ truth_value ports.now.list.now inputs.now truth.now }
     ensures len { length room.new ≡ length room.old }
 {
     let count = truth.inputs.len();
@@ -65,7 +65,7 @@ pub(crate) fn condition_value(values: &EntityValues, i: usize, room: &mut Items<
         return Trit::Unknown;
     }
     truth_value(
-        values.tables.model.ports.as_slice(),
+        &values.tables.ports(),
         values.inputs,
         entry(&values.tables.model.conditions, i),
         values.tables.condition_words(i),
@@ -74,8 +74,8 @@ pub(crate) fn condition_value(values: &EntityValues, i: usize, room: &mut Items<
 }
 
 /// The value of an input port, or of a state.
-fn source_value(ports: &[VPort], inputs: &[Trit], states: &[Trit], source: Source) -> Trit
-    ensures { result ≡ source_value ports.now inputs.now states.now source }
+fn source_value(ports: &Ports, inputs: &[Trit], states: &[Trit], source: Source) -> Trit
+    ensures { result ≡ source_value ports.now.list.now inputs.now states.now source }
 {
     match source {
         Source::Pin(port) => input_value(ports, inputs, port),
@@ -85,14 +85,14 @@ fn source_value(ports: &[VPort], inputs: &[Trit], states: &[Trit], source: Sourc
 
 /// Writes the values of these ports and states to the front of the room.
 fn feed_sources(
-    ports: &[VPort],
+    ports: &Ports,
     inputs: &[Trit],
     states: &[Trit],
     sources: &[Source],
     room: &mut Items<Trit>,
 )
     requires { length sources.now ≤ length room.old }
-    ensures front { take (length sources.now) room.new ≡ map (source_value ports.now inputs.now states.now) sources.now }
+    ensures front { take (length sources.now) room.new ≡ map (source_value ports.now.list.now inputs.now states.now) sources.now }
     ensures len { length room.new ≡ length room.old }
 {
     for i in 0..sources.len() {
@@ -121,7 +121,7 @@ pub(crate) fn output_value(
         } => {
             let count = sources.len();
             feed_sources(
-                values.tables.model.ports.as_slice(),
+                &values.tables.ports(),
                 values.inputs,
                 values.states,
                 sources.as_slice(),

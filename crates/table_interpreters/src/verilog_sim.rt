@@ -1,15 +1,15 @@
 //! The simulator of a Verilog module.
-ghost use Rattle.std.specs.Prelude.{◌≡◌, [], length, map, IfOk};
+ghost use Rattle.std.specs.Prelude.{◌≡◌, [], length, IfOk};
 ghost use Rattle.specify_blocks.specs.Sound.{IsSound};
 ghost use Rattle.model_traces.specs.PortNumbers.{output_ports};
-ghost use Rattle.table_interpreters.specs.Keys.{udp_keys};
+ghost use Rattle.table_interpreters.specs.ModuleIndexed.{IsModuleIndex};
 ghost use Rattle.table_interpreters.specs.ModuleStands.{IsReady, Stands, module_machine, module_sized};
 
+use crate::module_index::ModuleIndex;
 use crate::module_run::change;
 use crate::module_tables::ModuleTables;
 use crate::module_values::ModuleValues;
 use crate::ports::input_count;
-use crate::row_keys::keys_of_all;
 use crate::shown::{Shown, first_shown, show_all};
 use crate::starts::{no_reports, no_times, unknown_values};
 use crate::wiring::most_nets;
@@ -19,18 +19,17 @@ use specify_blocks::VModule;
 use sqlite_items::Items;
 use std::alloc::{AllocError, Global};
 use trit_cubes::Trit;
-use udp_tables::RowKey;
 
 /// A Verilog module run by its tables, paths and checks. (IEEE 1364-2005, clauses 8, 14 and 15.)
 #[derive(Drop)]
 pub struct VerilogSim<'a> {
     model: &'a VModule,
-    keys: Items<Items<RowKey>>,
+    index: ModuleIndex,
     run: ModuleRun,
     reports: Items<bool>,
     shown: Items<Shown>,
     room: Items<Trit>,
-    ghost keyed: { keys ≡ map udp_keys model.now.udps },
+    ghost indexed: { IsModuleIndex model.now index },
     ghost ready: { IsReady model.now run reports (length room) },
     ghost each_output: { length shown ≡ length (output_ports model.now.ports) },
 }
@@ -48,10 +47,10 @@ impl<'a> VerilogSim<'a> {
         let states = unknown_values(alloc, model.instances.len())?;
         let stamps = no_times(alloc, model.checks.len())?;
         let reports = no_reports(alloc, model.checks.len())?;
-        let keys = keys_of_all(alloc, model.udps.as_slice())?;
+        let index = ModuleIndex::of(alloc, model)?;
         let tables = ModuleTables {
             model,
-            keys: keys.as_slice(),
+            index: &index,
         };
         let shown = first_shown(
             alloc,
@@ -68,7 +67,7 @@ impl<'a> VerilogSim<'a> {
         };
         Ok(VerilogSim {
             model,
-            keys,
+            index,
             run,
             reports,
             shown,
@@ -93,7 +92,7 @@ impl<'a> CellSim for VerilogSim<'a> {
     fn step(&mut self, at: u64, pin: usize, to: Trit) {
         let tables = ModuleTables {
             model: self.model,
-            keys: self.keys.as_slice(),
+            index: &self.index,
         };
         change(
             &mut self.run,

@@ -2,13 +2,13 @@
 ghost use Rattle.std.specs.Prelude.{◌≡◌, [], length, IfOk};
 ghost use Rattle.std.proofs.Props.{props};
 ghost use Rattle.table_interpreters.specs.EntityProps.{value_prop};
-ghost use Rattle.table_interpreters.specs.TableWords.{entity_words};
+ghost use Rattle.table_interpreters.specs.EntityIndexed.{IsEntityIndex};
 ghost use Rattle.table_interpreters.specs.EntityRooms.{IsSound};
 ghost use Rattle.table_interpreters.specs.EntitySteps.{IsReady, EntityStands, entity_machine, entity_sized};
 
+use crate::entity_index::EntityIndex;
 use crate::entity_tables::EntityTables;
 use crate::entity_values::EntityValues;
-use crate::entity_words::EntityWords;
 use crate::ports::input_count;
 use crate::process_rooms::most_columns;
 use crate::process_run::{ProcessState, take};
@@ -25,13 +25,13 @@ use vital_models::VEntity;
 #[derive(Drop)]
 pub struct VitalSim<'a> {
     model: &'a VEntity,
-    words: EntityWords,
+    index: EntityIndex,
     run: ProcessState,
     reports: Items<bool>,
     shown: Items<Shown>,
     earlier: Items<Trit>,
     room: Items<Trit>,
-    ghost keyed: { words ≡ entity_words model.now },
+    ghost indexed: { IsEntityIndex model.now index },
     ghost ready: { IsReady model.now run reports (length earlier) (length room) } by { Prim.hlevel (props, value_prop) },
     ghost each_output: { length shown ≡ length model.now.outputs },
 }
@@ -53,10 +53,10 @@ impl<'a> VitalSim<'a> {
         let states = unknown_values(alloc, model.states.len())?;
         let stamps = no_times(alloc, model.checks.len())?;
         let reports = no_reports(alloc, model.checks.len())?;
-        let words = EntityWords::of(alloc, model)?;
+        let index = EntityIndex::of(alloc, model)?;
         let tables = EntityTables {
             model,
-            words: &words,
+            index: &index,
         };
         let shown = show_first(
             alloc,
@@ -74,7 +74,7 @@ impl<'a> VitalSim<'a> {
         };
         Ok(VitalSim {
             model,
-            words,
+            index,
             run,
             reports,
             shown,
@@ -100,7 +100,7 @@ impl<'a> CellSim for VitalSim<'a> {
     fn step(&mut self, at: u64, pin: usize, to: Trit) {
         let tables = EntityTables {
             model: self.model,
-            words: &self.words,
+            index: &self.index,
         };
         take(
             &mut self.run,

@@ -14,7 +14,7 @@ loop-i-preserved g c =
     record {
       front =
           rw c.set.ensures
-          (front-step (reports_where c.args.seen.now.ports.now (g.V.Conditions.counts c.args.values.now) c.args.seen.now.from c.args.seen.now.change) checks
+          (front-step (reports_where c.args.seen.now.ports.list.now (g.V.Conditions.counts c.args.values.now) c.args.seen.now.from c.args.seen.now.change) checks
           c.args.stamps.now c.loop-i.reports c.loop-i.i _ _ c.check_reports-reported.result
           (slice_get-get_or checks c.loop-i.i _ inside) kept many c.check_reports-reported.ensures.reports c.loop-i.invariant.front);
       len = ap length c.set.ensures ∙ length-set c.loop-i.reports c.loop-i.i c.check_reports-reported.result ∙ c.loop-i.invariant.len;
@@ -27,5 +27,5 @@ returns-clause-reports g c =
     let all : length c.loop-i.reports ≤ c.loop-i.i = omega (arith, c.loop-i.invariant.len) in
     let done : length checks ≤ c.loop-i.i = omega (arith, all, c.loop-i.invariant.len, c.requires.one_report) in
     let kept : length c.args.stamps.now ≤ c.loop-i.i = omega (arith, done, c.requires.one_each) in
-    front-done (reports_where c.args.seen.now.ports.now (g.V.Conditions.counts c.args.values.now) c.args.seen.now.from c.args.seen.now.change) checks
+    front-done (reports_where c.args.seen.now.ports.list.now (g.V.Conditions.counts c.args.values.now) c.args.seen.now.from c.args.seen.now.change) checks
     c.args.stamps.now c.loop-i.reports c.loop-i.i done kept all c.loop-i.invariant.front

@@ -8,7 +8,7 @@ abbrev pub invariant-loop-i : goal.invariant-loop-i
 invariant-loop-i g l = record {
   front :
       take l.i l.reports
-      ≡ each (reports_where l.seen.ports.now (g.V.Conditions.counts l.values) l.seen.from l.seen.change) (take l.i l.checks) (take l.i l.stamps);
+      ≡ each (reports_where l.seen.ports.list.now (g.V.Conditions.counts l.values) l.seen.from l.seen.change) (take l.i l.checks) (take l.i l.stamps);
   len : length l.reports ≡ length l.initial.reports;
   room : length l.room ≡ length l.initial.room;
 }

@@ -12,7 +12,7 @@ loop-i-preserved c =
     let inside : c.loop-i.i < length checks = omega (arith, c.loop-i.invariant.len, c.requires) in
     record {
       whole =
-          each-kept (stamped c.args.seen.now.ports.now c.args.seen.now.from c.args.seen.now.change) checks c.loop-i.stamps c.loop-i.i _
+          each-kept (stamped c.args.seen.now.ports.list.now c.args.seen.now.from c.args.seen.now.change) checks c.loop-i.stamps c.loop-i.i _
           (slice_get-get_or checks c.loop-i.i _ inside) many (rw c.as_slice.ensures at c.stamped.ensures) c.set.ensures c.loop-i.invariant.whole;
       len = ap length c.set.ensures ∙ length-set c.loop-i.stamps c.loop-i.i c.stamped.result ∙ c.loop-i.invariant.len;
     }
@@ -20,5 +20,5 @@ loop-i-preserved c =
 pub returns-clause-stamped : goal.returns-clause-stamped
 returns-clause-stamped c =
     let checks = c.args.checks.now in
-    sym (each-done (stamped c.args.seen.now.ports.now c.args.seen.now.from c.args.seen.now.change) checks c.loop-i.stamps c.loop-i.i (omega arith))
+    sym (each-done (stamped c.args.seen.now.ports.list.now c.args.seen.now.from c.args.seen.now.change) checks c.loop-i.stamps c.loop-i.i (omega arith))
     ∙ c.loop-i.invariant.whole

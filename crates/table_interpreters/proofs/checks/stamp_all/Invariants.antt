@@ -7,7 +7,7 @@ use Rattle.table_interpreters.proofs.checks.stamp_all.Given as goal
 abbrev pub invariant-loop-i : goal.invariant-loop-i
 invariant-loop-i l = record {
   whole :
-      take l.i l.stamps ++ each (stamped l.seen.ports.now l.seen.from l.seen.change) (drop l.i l.checks) (drop l.i l.stamps)
-      ≡ each (stamped l.seen.ports.now l.seen.from l.seen.change) l.checks l.initial.stamps;
+      take l.i l.stamps ++ each (stamped l.seen.ports.list.now l.seen.from l.seen.change) (drop l.i l.checks) (drop l.i l.stamps)
+      ≡ each (stamped l.seen.ports.list.now l.seen.from l.seen.change) l.checks l.initial.stamps;
   len : length l.stamps ≡ length l.initial.stamps;
 }

@@ -16,7 +16,7 @@ returns-in-Some-clause-next c =
     let m = c.args.tables.now.model.now in
     let inputs = c.args.inputs.now in
     let state = c.args.state in
-    rw (c.as_slice.ensures, c.as_slice-in-Some.ensures) at c.primitive_next.ensures.next
+    rw (c.ports.ensures, c.as_slice.ensures) at c.primitive_next.ensures.next
     ∙ ap (λ o. option_map_or (primitive_next m.ports inputs c.args.notifier c.args.turn c.in-Primitive.nets state) o state)
     c.in-Some.ensures.value
     ∙ ap (λ x. next_state m inputs c.args.notifier c.args.turn x state) (sym c.in-Primitive.is)

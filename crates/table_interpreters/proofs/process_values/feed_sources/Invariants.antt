@@ -5,6 +5,6 @@ use Rattle.table_interpreters.proofs.process_values.feed_sources.Given as goal
 -- the values of the sources so far stand in front
 abbrev pub invariant-loop-i : goal.invariant-loop-i
 invariant-loop-i l = record {
-  front : take l.i l.room ≡ map (source_value l.ports l.inputs l.states) (take l.i l.sources);
+  front : take l.i l.room ≡ map (source_value l.ports.list.now l.inputs l.states) (take l.i l.sources);
   len : length l.room ≡ length l.initial.room;
 }

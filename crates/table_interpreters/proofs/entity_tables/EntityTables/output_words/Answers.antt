@@ -9,4 +9,4 @@ pub returns : goal.returns
 returns c = λ part is.
     let tables = c.args.self.now in
     kept-at truth_words (λ (o : VOutput). value_rows o.value) tables.model.now.outputs c.args.i part c.words_at.result.now
-    (c.words_at.ensures ∙ (λ j. words_at (c.as_slice.ensures j) c.args.i) ∙ (λ j. words_at (tables.keyed j).outputs c.args.i)) is
+    (c.words_at.ensures ∙ (λ j. words_at (c.as_slice.ensures j) c.args.i) ∙ (λ j. words_at (tables.indexed.keyed j).outputs c.args.i)) is

@@ -9,4 +9,4 @@ pub returns : goal.returns
 returns c = λ part is.
     let tables = c.args.self.now in
     kept-at state_words (λ (s : VState). s.table.rows) tables.model.now.states c.args.i part c.words_at.result.now
-    (c.words_at.ensures ∙ (λ j. words_at (c.as_slice.ensures j) c.args.i) ∙ (λ j. words_at (tables.keyed j).states c.args.i)) is
+    (c.words_at.ensures ∙ (λ j. words_at (c.as_slice.ensures j) c.args.i) ∙ (λ j. words_at (tables.indexed.keyed j).states c.args.i)) is

@@ -11,7 +11,7 @@ returns-in-Some c = λ udp is.
     let keyed = c.args.self.now in
     let keys = c.in-Some.keys.now in
     let found : slice_get (map udp_keys keyed.model.now.udps) c.args.number ≡ Some keys
-    = ap (λ (xs : List (List RowKey)). slice_get xs c.args.number) (sym keyed.keyed) ∙ sym c.in-Some.ensures in
+    = ap (λ (xs : List (List RowKey)). slice_get xs c.args.number) (sym (c.as_slice-all.ensures ∙ keyed.indexed.keyed)) ∙ sym c.in-Some.ensures in
     let same = (all_kept udp_keys keyed.model.now.udps).each_is c.args.number keys udp found is in
     subst (λ (ks : List RowKey). AreKept row_key ks udp.rows) (sym (c.as_slice.ensures ∙ same)) (all_kept row_key udp.rows)
 

@@ -15,7 +15,7 @@ pub returns-clause-stands : goal.returns-clause-stands
 returns-clause-stands c =
     let m = c.args.model.now in
     let count = rw c.as_slice.ensures at c.input_count-count.ensures in
-    let shown = rw (c.as_slice-4.ensures, c.as_slice-5.ensures) at c.in_ok-shown.ensures.shown in
+    let shown = rw (c.as_slice-2.ensures, c.as_slice-3.ensures) at c.in_ok-shown.ensures.shown in
     start-stands m c.in_ok-inputs.inputs c.in_ok-states.states c.in_ok-stamps.stamps c.in_ok-reports.reports c.in_ok-shown.shown
     (c.in_ok-inputs.ensures ∙ ap (λ n. replicate n Unknown) count)
     (c.in_ok-states.ensures ∙ ap (λ n. replicate n Unknown) c.len.ensures)

@@ -1,0 +1,13 @@
+-- What a simulator of a module knows of it.
+use Rattle.std.specs.Prelude.{◌≡◌, map}
+use Rattle.specify_blocks.specs.declared.model.VModule.{VModule}
+use Rattle.table_interpreters.specs.declared.module_index.ModuleIndex.{ModuleIndex}
+use Rattle.table_interpreters.specs.Keys.{udp_keys}
+use Rattle.table_interpreters.specs.InputNumbers.{input_numbers}
+use Rattle.table_interpreters.specs.NetDrivers.{AreDrivers}
+
+-- these are the keys of its tables, the numbers of its ports among the inputs and the drivers of its nets
+pub record IsModuleIndex (m : VModule) (index : ModuleIndex) : Type 0 where
+  pub keyed : index.keys ≡ map udp_keys m.udps
+  pub numbered : index.numbers ≡ input_numbers m.ports
+  pub driven : AreDrivers m.instances index.drivers

@@ -1,0 +1,38 @@
+//! Where the parts of a module are found.
+use crate::drivers::Drivers;
+use crate::ports::input_numbers;
+use crate::row_keys::keys_of_all;
+use specify_blocks::VModule;
+use sqlite_items::Items;
+use std::alloc::{AllocError, Global};
+use udp_tables::RowKey;
+
+/// What a simulator knows of its module before any change, so that a change looks for nothing along the module.
+#[derive(Drop)]
+pub struct ModuleIndex {
+    /// The keys of each primitive's rows.
+    pub keys: Items<Items<RowKey>>,
+    /// For each port how many inputs stand before it.
+    pub numbers: Items<usize>,
+    /// The drivers of the nets.
+    pub drivers: Drivers,
+}
+
+impl ModuleIndex {
+    ghost use Rattle.std.specs.Prelude.{IfOk};
+    ghost use Rattle.table_interpreters.specs.ModuleIndexed.{IsModuleIndex};
+
+    /// What is known of a module. `AllocError` comes only where memory is wanted and not there.
+    pub(crate) fn of(alloc: Global, model: &VModule) -> Result<ModuleIndex, AllocError>
+        ensures { IfOk result (λ index. IsModuleIndex model.now index) }
+    {
+        let keys = keys_of_all(alloc, model.udps.as_slice())?;
+        let numbers = input_numbers(alloc, model.ports.as_slice())?;
+        let drivers = Drivers::of(alloc, model)?;
+        Ok(ModuleIndex {
+            keys,
+            numbers,
+            drivers,
+        })
+    }
+}

@@ -1,5 +1,5 @@
 -- The drivers of nets, found from the last instance to the first.
-use Rattle.std.proofs.Common.{◌≡◌, ℕ, suc, ◌+◌, ◌-◌, ◌<◌, ◌≤◌, cond, List, [], ◌∷◌, length, get_or, drop, replicate, ap, sym, subst, ◌∙◌, Option, Some, None, slice_get, zero, arith}
+use Rattle.std.proofs.Common.{◌≡◌, ℕ, suc, ◌+◌, ◌-◌, ◌<◌, ◌≤◌, cond, List, length, get_or, drop, replicate, ap, sym, subst, ◌∙◌, Option, Some, None, slice_get, zero, arith}
 use Rattle.std.proofs.lemmas.List.{drop_all}
 use Rattle.std.proofs.lemmas.Option.{slice_get-get_or}
 use Rattle.cell_machine.proofs.ArcDelays.{drop-at}
@@ -10,7 +10,7 @@ use Rattle.specify_blocks.specs.Nets.{same_net, net_driven}
 use Rattle.model_traces.specs.NetValues.{driver}
 use Rattle.model_traces.proofs.PlaceLemmas.{position-from}
 use Rattle.table_interpreters.specs.declared.drivers.Drivers.{Drivers}
-use Rattle.table_interpreters.specs.NetDrivers.{known_driver, IsKnown, driver_from, AreDrivers}
+use Rattle.table_interpreters.specs.NetDrivers.{IsKnown, driver_from}
 
 none-there : (count p : ℕ) (found : Option ℕ) → slice_get (replicate count None) p ≡ Some found → found ≡ None
 none-there zero p found e = absurd cc

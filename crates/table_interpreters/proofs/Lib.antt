@@ -7,3 +7,4 @@ pub mod ColumnLemmas
 pub mod TableWordLemmas
 pub mod PortLemmas
 pub mod DriverLemmas
+pub mod OutputPathLemmas

@@ -1,5 +1,5 @@
 -- The numbers of ports among the inputs, as a list.
-use Rattle.std.proofs.Common.{◌≡◌, ℕ, zero, suc, ◌+◌, ◌<◌, ◌≤◌, Bool, true, false, List, length, map, get_or, take, ap, sym, ◌∙◌, Some, None, slice_get, arith, inl, inr, ◌⊎◌, [], ◌∷◌, ◌++◌}
+use Rattle.std.proofs.Common.{◌≡◌, ℕ, ◌+◌, ◌<◌, ◌≤◌, true, false, List, length, map, get_or, ap, sym, ◌∙◌, Some, None, slice_get, arith, inl, inr, ◌⊎◌, [], ◌∷◌, ◌++◌}
 use Rattle.std.specs.Prelude.{count_by}
 use Rattle.std.specs.List.{range_with_len}
 use Rattle.std.proofs.lemmas.List.{take_all}

@@ -2,6 +2,8 @@ pub mod Wiring
 pub mod Keys
 pub mod InputNumbers
 pub mod NetDrivers
+pub mod OutputPaths
+pub mod QuietPorts
 pub mod ModuleIndexed
 pub mod LeastPath
 pub mod ShownPorts

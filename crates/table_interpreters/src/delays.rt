@@ -5,6 +5,7 @@ ghost use Rattle.cell_machine.specs.Delay.{path_delay, least_delay};
 ghost use Rattle.table_interpreters.specs.Wiring.{is_wired};
 ghost use Rattle.model_traces.specs.PathDelays.{is_off, is_quiet, is_active, is_between, paths_between, path_at, delay_at};
 ghost use Rattle.table_interpreters.specs.LeastPath.{path_delay_of};
+ghost use Rattle.table_interpreters.specs.QuietPorts.{IsKnown};
 
 use crate::module_values::ModuleValues;
 use crate::net_values::net_value;
@@ -25,6 +26,17 @@ pub struct OutputChange {
     pub from: Trit,
     /// The value that it has.
     pub to: Trit,
+}
+
+/// Whether all `if` paths of two ports are 0.
+#[derive(Clone, Copy)]
+pub struct Quiet {
+    /// The number of the port where the paths start.
+    pub from: usize,
+    /// The number of the port where they end.
+    pub to: usize,
+    /// Whether all are 0.
+    pub holds: bool,
 }
 
 impl OutputChange {
@@ -72,7 +84,7 @@ fn all_are_quiet(values: &ModuleValues, path: VPath, room: &mut Items<Trit>) -> 
     ensures quiet { result ≡ list_all (is_quiet values.now.tables.model.now values.now.inputs.now values.now.states.now path) values.now.tables.model.now.paths }
     ensures len { length room.new ≡ length room.old }
 {
-    let paths = values.tables.model.paths.as_slice();
+    let paths = values.tables.paths_to(path.to);
     for i in 0..paths.len() {
         if !is_quiet(values, path, paths[i], room) {
             return false;
@@ -81,16 +93,50 @@ fn all_are_quiet(values: &ModuleValues, path: VPath, room: &mut Items<Trit>) -> 
     true
 }
 
+/// Whether an `ifnone` path is active. `quiet` holds the answer of the two ports for which it was found last.
+fn is_left(
+    values: &ModuleValues,
+    path: VPath,
+    quiet: &mut Option<Quiet>,
+    room: &mut Items<Trit>,
+) -> bool
+    requires wired { IsTrue (is_wired (length room.old) values.now.tables.model.now) }
+    requires known { IsKnown values.now.tables.model.now values.now.inputs.now values.now.states.now quiet.old }
+    ensures left { result ≡ list_all (is_quiet values.now.tables.model.now values.now.inputs.now values.now.states.now path) values.now.tables.model.now.paths }
+    ensures known { IsKnown values.now.tables.model.now values.now.inputs.now values.now.states.now quiet.new }
+    ensures len { length room.new ≡ length room.old }
+{
+    if let Some(known) = *quiet {
+        if known.from == path.from && known.to == path.to {
+            return known.holds;
+        }
+    }
+    let holds = all_are_quiet(values, path, room);
+    *quiet = Some(Quiet {
+        from: path.from,
+        to: path.to,
+        holds,
+    });
+    holds
+}
+
 /// Whether a path is active.
-fn is_active(values: &ModuleValues, path: VPath, room: &mut Items<Trit>) -> bool
-    requires { IsTrue (is_wired (length room.old) values.now.tables.model.now) }
+fn is_active(
+    values: &ModuleValues,
+    path: VPath,
+    quiet: &mut Option<Quiet>,
+    room: &mut Items<Trit>,
+) -> bool
+    requires wired { IsTrue (is_wired (length room.old) values.now.tables.model.now) }
+    requires known { IsKnown values.now.tables.model.now values.now.inputs.now values.now.states.now quiet.old }
     ensures active { result ≡ is_active values.now.tables.model.now values.now.inputs.now values.now.states.now path path.gate }
+    ensures known { IsKnown values.now.tables.model.now values.now.inputs.now values.now.states.now quiet.new }
     ensures len { length room.new ≡ length room.old }
 {
     match path.gate {
         Gate::Always => true,
         Gate::If(wire) => { net_value(values, VNet::Wire(wire), room) != Trit::Zero }
-        Gate::IfNone => all_are_quiet(values, path, room),
+        Gate::IfNone => is_left(values, path, quiet, room),
     }
 }
 
@@ -99,10 +145,13 @@ fn path_delay(
     values: &ModuleValues,
     change: OutputChange,
     path: VPath,
+    quiet: &mut Option<Quiet>,
     room: &mut Items<Trit>,
 ) -> Option<u64>
-    requires { IsTrue (is_wired (length room.old) values.now.tables.model.now) }
+    requires wired { IsTrue (is_wired (length room.old) values.now.tables.model.now) }
+    requires known { IsKnown values.now.tables.model.now values.now.inputs.now values.now.states.now quiet.old }
     ensures delay { result ≡ path_delay_of (is_between values.now.tables.model.now.ports change.input change.port) (path_at values.now.tables.model.now values.now.inputs.now values.now.states.now) change.from change.to path }
+    ensures known { IsKnown values.now.tables.model.now values.now.inputs.now values.now.states.now quiet.new }
     ensures len { length room.new ≡ length room.old }
 {
     let leads = input_number(&values.tables.ports(), path.from) == change.input
@@ -110,7 +159,7 @@ fn path_delay(
     if !leads {
         return None;
     }
-    if !is_active(values, path, room) {
+    if !is_active(values, path, quiet, room) {
         return None;
     }
     Some(change.delay(path.rise, path.fall))
@@ -122,10 +171,11 @@ fn least_delay(values: &ModuleValues, change: OutputChange, room: &mut Items<Tri
     ensures delay { result ≡ least_delay change.from change.to (paths_between values.now.tables.model.now values.now.inputs.now values.now.states.now change.input change.port) }
     ensures len { length room.new ≡ length room.old }
 {
-    let paths = values.tables.model.paths.as_slice();
+    let paths = values.tables.paths_to(change.port);
     let mut best = None;
+    let mut quiet = None;
     for i in 0..paths.len() {
-        best = lesser(best, path_delay(values, change, paths[i], room));
+        best = lesser(best, path_delay(values, change, paths[i], &mut quiet, room));
     }
     best.unwrap_or(0)
 }

@@ -1,8 +1,9 @@
 //! Where the parts of a module are found.
 use crate::drivers::Drivers;
+use crate::output_paths::paths_by_output;
 use crate::ports::input_numbers;
 use crate::row_keys::keys_of_all;
-use specify_blocks::VModule;
+use specify_blocks::{VModule, VPath};
 use sqlite_items::Items;
 use std::alloc::{AllocError, Global};
 use udp_tables::RowKey;
@@ -16,6 +17,8 @@ pub struct ModuleIndex {
     pub numbers: Items<usize>,
     /// The drivers of the nets.
     pub drivers: Drivers,
+    /// For each port the paths that lead to it.
+    pub paths: Items<Items<VPath>>,
 }
 
 impl ModuleIndex {
@@ -29,10 +32,12 @@ impl ModuleIndex {
         let keys = keys_of_all(alloc, model.udps.as_slice())?;
         let numbers = input_numbers(alloc, model.ports.as_slice())?;
         let drivers = Drivers::of(alloc, model)?;
+        let paths = paths_by_output(alloc, model.ports.len(), model.paths.as_slice())?;
         Ok(ModuleIndex {
             keys,
             numbers,
             drivers,
+            paths,
         })
     }
 }

@@ -1,15 +1,17 @@
 //! A module with what is known of it.
-ghost use Rattle.std.specs.Prelude.{◌≡◌};
+ghost use Rattle.std.specs.Prelude.{◌≡◌, filter};
 ghost use Rattle.model_traces.specs.NetValues.{driver};
 ghost use Rattle.table_interpreters.specs.ModuleIndexed.{IsModuleIndex};
+ghost use Rattle.table_interpreters.specs.OutputPaths.{leads_to};
 
 use crate::module_index::ModuleIndex;
 use crate::ports::Ports;
-use specify_blocks::{Instance, VModule, VNet};
+use specify_blocks::{Instance, VModule, VNet, VPath};
 use sqlite_items::at;
 use udp_tables::RowKey;
 
-/// A module with what is known of it: the keys of its tables, the numbers of its ports and the drivers of its nets.
+/// A module with what is known of it: the keys of its tables, the numbers of its ports, the drivers of its nets and the paths to
+/// its ports.
 #[derive(Clone, Copy)]
 pub struct ModuleTables<'a> {
     /// The module.
@@ -43,6 +45,17 @@ impl<'a> ModuleTables<'a> {
         Ports {
             list: self.model.ports.as_slice(),
             numbers: self.index.numbers.as_slice(),
+        }
+    }
+
+    /// Paths of the module, among them all that lead to this port.
+    pub(crate) fn paths_to(&self, port: usize) -> &[VPath]
+        ensures { filter (leads_to port) result.now ≡ filter (leads_to port) self.now.model.now.paths }
+    {
+        let all = self.index.paths.as_slice();
+        match at(all, port) {
+            Some(paths) => paths.as_slice(),
+            None => self.model.paths.as_slice(),
         }
     }
 

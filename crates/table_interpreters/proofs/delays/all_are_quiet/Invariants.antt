@@ -7,7 +7,7 @@ use Rattle.table_interpreters.proofs.delays.all_are_quiet.Given as goal
 abbrev pub invariant-loop-i : goal.invariant-loop-i
 invariant-loop-i l = record {
   rest :
-      list_all (is_quiet l.values.tables.model.now l.values.inputs.now l.values.states.now l.path) (drop l.i l.values.tables.model.now.paths)
+      list_all (is_quiet l.values.tables.model.now l.values.inputs.now l.values.states.now l.path) (drop l.i l.paths)
       ≡ list_all (is_quiet l.values.tables.model.now l.values.inputs.now l.values.states.now l.path) l.values.tables.model.now.paths;
   len : length l.room ≡ length l.initial.room;
 }

@@ -2,6 +2,7 @@ use Rattle.std.proofs.Common.{◌≡◌, drop, length}
 use Rattle.cell_machine.specs.Delay.{lesser}
 use Rattle.model_traces.specs.PathDelays.{is_between, path_at}
 use Rattle.table_interpreters.specs.LeastPath.{least_of}
+use Rattle.table_interpreters.specs.QuietPorts.{IsKnown}
 use Rattle.table_interpreters.proofs.delays.least_delay.Given as goal
 
 -- the best so far and the least of the rest give the least of all
@@ -10,8 +11,9 @@ invariant-loop-i l = record {
   least :
       lesser l.best
       (least_of (is_between l.values.tables.model.now.ports l.change.input l.change.port) (path_at l.values.tables.model.now l.values.inputs.now l.values.states.now)
-      l.change.from l.change.to (drop l.i l.values.tables.model.now.paths))
+      l.change.from l.change.to (drop l.i l.paths))
       ≡ least_of (is_between l.values.tables.model.now.ports l.change.input l.change.port) (path_at l.values.tables.model.now l.values.inputs.now l.values.states.now)
       l.change.from l.change.to l.values.tables.model.now.paths;
+  known : IsKnown l.values.tables.model.now l.values.inputs.now l.values.states.now l.quiet;
   len : length l.room ≡ length l.initial.room;
 }

@@ -1,4 +1,4 @@
-use Rattle.std.proofs.Common.{◌+◌, drop}
+use Rattle.std.proofs.Common.{drop}
 use Rattle.specify_blocks.specs.declared.model.VNet.{VNet}
 use Rattle.table_interpreters.specs.NetDrivers.{IsKnown, driver_from}
 use Rattle.table_interpreters.proofs.drivers.Drivers.of.Given as goal

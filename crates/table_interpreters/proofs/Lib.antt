@@ -7,4 +7,5 @@ pub mod ColumnLemmas
 pub mod TableWordLemmas
 pub mod PortLemmas
 pub mod DriverLemmas
+pub mod NumberedListLemmas
 pub mod OutputPathLemmas

@@ -1,10 +1,9 @@
 -- The paths of a module by the outputs to which they lead.
-use Rattle.std.proofs.Common.{◌≡◌, ℕ, zero, suc, ◌≤◌, ◌&&◌, ◌||◌, not, Bool, true, false, cond, List, [], ◌∷◌, ◌++◌, length, get_or, set, filter, refl, ap, sym, ◌∙◌, Some, slice_get, nat_eq, arith}
+use Rattle.std.proofs.Common.{◌≡◌, ℕ, ◌+◌, ◌<◌, ◌&&◌, ◌||◌, not, Bool, true, false, cond, List, [], ◌∷◌, ◌++◌, length, get_or, filter, take, refl, ap, sym, ◌∙◌, Some, slice_get, nat_eq, arith}
 use Rattle.std.specs.List.{list_all}
-use Rattle.std.proofs.Math.Dec.{eqb-zero-suc, eqb-suc-zero, eqb-suc-suc}
 use Rattle.std.proofs.lemmas.Bool.{and_parts, and_right}
 use Rattle.std.proofs.lemmas.Bool.Decides.{nat_tests}
-use Rattle.std.proofs.lemmas.List.{append-nil, set_past}
+use Rattle.std.proofs.lemmas.List.{take_more}
 use Rattle.std.proofs.lemmas.List.Elements.{filter-append}
 use Rattle.trit_cubes.specs.declared.trits.Trit.{Trit}
 use Rattle.specify_blocks.specs.declared.model.VPath.{VPath}
@@ -14,38 +13,15 @@ use Rattle.model_traces.specs.PortNumbers.{input_number}
 use Rattle.model_traces.specs.PathDelays.{is_off, is_quiet, is_between}
 use Rattle.table_interpreters.specs.OutputPaths.{leads_to, AreByOutput}
 
--- an entry is added to one of the lists
-one-more :
-    (all : List (List VPath)) (q p : ℕ) (x : VPath) (d list found : List VPath)
-    → ((was : List VPath) → slice_get all p ≡ Some was → was ≡ list)
-    → slice_get (set all q (get_or all q d ++ x ∷ [])) p ≡ Some found → found ≡ list ++ cond (nat_eq q p) (x ∷ []) []
-one-more [] q p x d list found was e = absurd cc
-one-more (y ∷ ys) zero zero x d list found was e =
-    let same : y ++ x ∷ [] ≡ found = cc in sym same ∙ ap (λ r. r ++ x ∷ []) (was y refl)
-one-more (y ∷ ys) zero (suc p) x d list found was e =
-    was found e ∙ sym (append-nil list) ∙ ap (λ b. list ++ cond b (x ∷ []) []) (sym (eqb-zero-suc p))
-one-more (y ∷ ys) (suc q) zero x d list found was e =
-    was found e ∙ sym (append-nil list) ∙ ap (λ b. list ++ cond b (x ∷ []) []) (sym (eqb-suc-zero q))
-one-more (y ∷ ys) (suc q) (suc p) x d list found was e =
-    one-more ys q p x d list found was e ∙ ap (λ b. list ++ cond b (x ∷ []) []) (sym (eqb-suc-suc q p))
-
-filter-last :
-    (port : ℕ) (paths : List VPath) (x : VPath)
-    → filter (leads_to port) paths ++ cond (nat_eq x.to port) (x ∷ []) [] ≡ filter (leads_to port) (paths ++ x ∷ [])
-filter-last port paths x = sym (filter-append (leads_to port) paths (x ∷ []))
-
-pub added :
-    (all next : List (List VPath)) (paths : List VPath) (x : VPath) (d : List VPath)
-    → next ≡ set all x.to (get_or all x.to d ++ x ∷ []) → AreByOutput paths all → AreByOutput (paths ++ x ∷ []) next
-added all next paths x d is are = λ port found e.
-    one-more all x.to port x d (filter (leads_to port) paths) found (are port)
-    (ap (λ (xs : List (List VPath)). slice_get xs port) (sym is) ∙ e)
-    ∙ filter-last port paths x
-
-pub not-added :
-    (all : List (List VPath)) (paths : List VPath) (x : VPath)
-    → length all ≤ x.to → AreByOutput paths all → AreByOutput (paths ++ x ∷ []) all
-not-added all paths x past are = added all all paths x [] (sym (set_past all x.to (get_or all x.to [] ++ x ∷ []) past)) are
+-- one path more
+pub one-path :
+    (paths : List VPath) (i : ℕ) (d : VPath) (port : ℕ)
+    → i < length paths
+    → filter (leads_to port) (take i paths) ++ cond (nat_eq (get_or paths i d).to port) (get_or paths i d ∷ []) []
+    ≡ filter (leads_to port) (take (i + 1) paths)
+one-path paths i d port inside =
+    sym (filter-append (leads_to port) (take i paths) (get_or paths i d ∷ []))
+    ∙ ap (filter (leads_to port)) (sym (take_more paths i d inside))
 
 -- what passes a test among the entries that pass a weaker one
 through-one :

@@ -2,6 +2,7 @@ pub mod Wiring
 pub mod Keys
 pub mod InputNumbers
 pub mod NetDrivers
+pub mod NumberedLists
 pub mod OutputPaths
 pub mod QuietPorts
 pub mod ModuleIndexed

@@ -1,6 +1,7 @@
 -- The paths of a module by the outputs to which they lead.
-use Rattle.std.specs.Prelude.{◌≡◌, ℕ, Bool, List, Some, filter, nat_eq, slice_get}
+use Rattle.std.specs.Prelude.{ℕ, Bool, List, filter, nat_eq}
 use Rattle.specify_blocks.specs.declared.model.VPath.{VPath}
+use Rattle.table_interpreters.specs.NumberedLists.{AreLists}
 
 -- whether a path leads to a port
 abbrev pub leads_to : ℕ → VPath → Bool
@@ -8,4 +9,4 @@ leads_to port path = nat_eq path.to port
 
 -- each of these lists has the paths that lead to its port, in their order
 abbrev pub AreByOutput : List VPath → List (List VPath) → Type 0
-AreByOutput paths all = (port : ℕ) (found : List VPath) → slice_get all port ≡ Some found → found ≡ filter (leads_to port) paths
+AreByOutput paths = AreLists (λ port. filter (leads_to port) paths)

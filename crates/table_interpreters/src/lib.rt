@@ -15,6 +15,7 @@ mod module_run;
 mod module_tables;
 mod module_values;
 mod net_values;
+mod numbered_lists;
 mod output_paths;
 mod ports;
 mod primitives;

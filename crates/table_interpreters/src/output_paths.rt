@@ -1,8 +1,8 @@
 //! The paths of a module by the outputs to which they lead.
-ghost use Rattle.std.specs.Prelude.{List, [], ◌∷◌, ◌++◌, IfOk, OnOk};
-ghost use Rattle.specify_blocks.specs.declared.model.VPath.{VPath};
+ghost use Rattle.std.specs.Prelude.{IfOk};
 ghost use Rattle.table_interpreters.specs.OutputPaths.{AreByOutput};
 
+use crate::numbered_lists::{add, empty_lists};
 use specify_blocks::VPath;
 use sqlite_items::Items;
 use std::alloc::{AllocError, Global};
@@ -15,30 +15,9 @@ pub(crate) fn paths_by_output(
 ) -> Result<Items<Items<VPath>>, AllocError>
     ensures { IfOk result (λ all. AreByOutput paths.now all) }
 {
-    let mut all = no_paths(alloc, ports)?;
+    let mut all = empty_lists(alloc, ports)?;
     for path in paths {
-        add(&mut all, *path)?;
+        add(&mut all, path.to, *path)?;
     }
     Ok(Items::from_vec(all))
-}
-
-/// No paths to so many ports.
-fn no_paths(alloc: Global, ports: usize) -> Result<Vec<Items<VPath>>, AllocError>
-    ensures { IfOk result (λ all. AreByOutput [] all.items) }
-{
-    let mut all = Vec::new(alloc);
-    for _ in 0..ports {
-        all.push(Items::new(alloc))?;
-    }
-    Ok(all)
-}
-
-/// Adds a path to those of its output.
-fn add(all: &mut Vec<Items<VPath>>, path: VPath) -> Result<(), AllocError>
-    ensures { OnOk result ((paths : List VPath) → AreByOutput paths all.old.items → AreByOutput (paths ++ path ∷ []) all.new.items) }
-{
-    if path.to < all.len() {
-        all[path.to].push(path)?;
-    }
-    Ok(())
 }

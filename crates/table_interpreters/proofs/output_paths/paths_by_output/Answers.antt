@@ -1,6 +1,6 @@
-use Rattle.std.proofs.Common.{◌<◌, sym, subst, length, arith}
-use Rattle.std.proofs.lemmas.List.{take_more}
-use Rattle.table_interpreters.specs.OutputPaths.{AreByOutput}
+use Rattle.std.proofs.Common.{◌<◌, length, arith}
+use Rattle.table_interpreters.proofs.NumberedListLemmas.{same-lists}
+use Rattle.table_interpreters.proofs.OutputPathLemmas.{one-path}
 use Rattle.table_interpreters.proofs.output_paths.paths_by_output.Goals as goal
 
 pub loop-path-preserved : goal.loop-path-preserved
@@ -8,4 +8,4 @@ loop-path-preserved c =
     let paths = c.args.paths.now in
     let i = c.loop-path.path-index in
     let inside : i < length paths = omega arith in
-    subst (λ ps. AreByOutput ps c.add.new.all.items) (sym (take_more paths i _ inside)) (c.in_ok-add.ensures _ c.loop-path.invariant)
+    same-lists c.add.new.all.items _ _ (λ port. one-path paths i _ port inside) (c.in_ok-add.ensures.lists _ c.loop-path.invariant)

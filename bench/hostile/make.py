@@ -328,6 +328,7 @@ REPLAYED = {
     "conditions_of_one_wire": ("replay-verilog", conditions_of_one_wire, quiet_turns, (2000, 4000, 8000)),
     "checks_of_ports": ("replay-verilog", checks_of_ports, lambda n: turns("a0", 100), (1000, 2000, 4000)),
     "states_of_ports": ("replay-verilog", states_of_ports, lambda n: turns("a0", 100), (1000, 2000, 4000)),
+    "changes_of_states": ("replay-verilog", states_of_ports, lambda n: turns("a0", n), (5000, 10000, 20000)),
     "paths_to_outputs": ("replay-verilog", paths_to_outputs, lambda n: turns("A", 2), (5000, 10000, 20000)),
     "columns_of_a_table": ("replay-vital", columns_of_a_table, lambda n: turns("a0", 1000), (1000, 2000, 4000)),
     "rows_of_sections": ("replay-verilog", rows_of_sections, lambda n: turns("A", 0) * n, (1000, 2000, 4000)),

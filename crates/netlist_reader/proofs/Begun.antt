@@ -10,7 +10,7 @@ use Rattle.rule_readers.specs.declared.refusal.Refusal.{Refusal}
 use Rattle.rule_readers.specs.declared.refusal.Refusal.TheVariants.{Undefined}
 use Rattle.rule_readers.specs.declared.refusal.Stop.{Stop}
 use Rattle.rule_readers.specs.declared.refusal.Stop.TheVariants.{Memory, Refused}
-use Rattle.rule_readers.specs.Reading.{Reads, ReadsAs}
+use Rattle.rule_readers.specs.Reading.{ReadsAs}
 use Rattle.specify_blocks.specs.VerilogModules.{begins_instance, of_primitive, primitive_number, one_instance, with_instance}
 use Rattle.specify_blocks.specs.declared.model.Instance.{Instance}
 use Rattle.specify_blocks.specs.declared.model.VModule.{VModule}
@@ -106,14 +106,14 @@ undefined_exit n i m s x y starts found whole h ex es et ey ef en ew =
     ∙ undefined m.udps s go (Ok (m, s)) start which
 
 -- the instance that begins is refused
-pub refused_exit : (n i : ℕ) (m : VModule) (s left more : List (List ℕ)) (x y : List ℕ) (starts : Bool) (found : Option (Option ℕ)) (p : Option ℕ)
-    (whole : Outcome (List ℕ) Refusal VModule) (stop : Stop) (result : Result VModule Stop) →
+pub refused_exit : {B : Type 0} (n i : ℕ) (m : VModule) (s left more : List (List ℕ)) (x y : List ℕ) (starts : Bool) (found : Option (Option ℕ)) (p : Option ℕ)
+    (whole : Outcome (List ℕ) Refusal VModule) (stop : Stop) (value : B → VModule) (result : Result B Stop) →
     i < n → x ≡ next_bytes s → starts ≡ is_instance_start x → starts ≡ true → y ≡ next_bytes s → found ≡ instance_primitive m.udps y → found ≡ Some p → more ≡ rest s →
     ReadsAs {B = Instance} (with_instance m) (read (one_instance m p) more) (Err stop) left → turns (n - i) m s ≡ whole → IsErrAnd result (λ made. made ≡ stop) →
-    Reads whole result left
-refused_exit n i m s left more x y starts found p whole stop (Ok v) h ex es et ey ef ep em er ew made = absurd made
-refused_exit n i m s left more x y starts found p whole Memory (Err e) h ex es et ey ef ep em er ew made = rw made tt
-refused_exit n i m s left more x y starts found p whole (Refused k) (Err e) h ex es et ey ef ep em er ew made =
+    ReadsAs value whole result left
+refused_exit n i m s left more x y starts found p whole stop value (Ok v) h ex es et ey ef ep em er ew made = absurd made
+refused_exit n i m s left more x y starts found p whole Memory value (Err e) h ex es et ey ef ep em er ew made = rw made tt
+refused_exit n i m s left more x y starts found p whole (Refused k) value (Err e) h ex es et ey ef ep em er ew made =
     let go : Option ℕ → List (List ℕ) → Outcome (List ℕ) Refusal VModule = λ q r. and_then (read (one_instance m q) r) (λ v t. turns (n - (i + 1)) v t) in
     let start : is_instance_start (next_bytes s) ≡ true = ap is_instance_start (sym ex) ∙ sym es ∙ et in
     let which : instance_primitive m.udps (next_bytes s) ≡ Some p = ap (λ (z : List ℕ). instance_primitive m.udps z) (sym ey) ∙ sym ef ∙ ep in

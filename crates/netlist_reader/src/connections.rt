@@ -23,6 +23,24 @@ pub struct Terminals<'a> {
     pub names: TextNames<'a>,
 }
 
+impl<'a> Terminals<'a> {
+    ghost use Rattle.std.specs.Prelude.{◌≡◌, ◌∷◌, ◌++◌, [], false, IfOk, IfErr};
+    ghost use Rattle.udp_tables.specs.VerilogRules.{is_among};
+
+    /// These terminals, and one more behind them, whose name is none of theirs.
+    fn with(self, net: VNet, name: &'a [u8]) -> Read<Terminals<'a>>
+        requires { is_among self.names name.now ≡ false }
+        ensures inputs { IfOk result (λ more. more.inputs ≡ self.entry.inputs ++ net ∷ []) }
+        ensures names { IfOk result (λ more. more.names ≡ self.entry.names ++ name.now ∷ []) }
+        ensures memory { IfErr result (λ stop. stop ≡ Stop.Memory) }
+    {
+        let Terminals { mut inputs, names } = self;
+        inputs.push(net)?;
+        let names = names.with(name)?;
+        Ok(Terminals { inputs, names })
+    }
+}
+
 /// The net that an instance drives.
 #[tactic(auto, unfolding(specify_blocks::specs::VerilogModules::driven_terminal), using(crate::proofs::NamedNets::other, crate::proofs::NamedNets::no_net, crate::proofs::NamedNets::barred, crate::proofs::NamedNets::taken, crate::proofs::NamedNets::fits))]
 pub fn driven_terminal(cursor: &mut Cursor, model: &Netlist, sequential: bool) -> Read<VNet>
@@ -91,10 +109,7 @@ fn next_terminal<'a>(
 {
     let token = cursor.bytes();
     let net = feeding_terminal(cursor, model, sequential, output, &before)?;
-    let Terminals { mut inputs, names } = before;
-    inputs.push(net)?;
-    let names = names.with(token)?;
-    Ok(Terminals { inputs, names })
+    before.with(net, token)
 }
 
 /// The first net that feeds an instance, behind the name of its output.

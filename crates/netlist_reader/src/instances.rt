@@ -13,6 +13,7 @@ use crate::first_names::{FirstNames, many_names, place_of};
 use crate::netlist::Netlist;
 use crate::nets::is_sequential;
 use crate::terminals::has_all_inputs;
+use part_readers::where_read;
 use rule_readers::{Language, Read, Refusal, Stop, value_of};
 use specify_blocks::{Instance, VModule};
 use std::alloc::Global;
@@ -111,9 +112,35 @@ fn one_instance(
     }
 }
 
-/// The instances of a module behind those that it has, where its primitives have these names, if they are many.
+/// Puts the instances of a module behind those that it has, where its primitives have these names, if they are many.
 #[tactic(auto, unfolding(specify_blocks::specs::VerilogModules::instances), using(rule_readers::proofs::Repeats::turn, crate::proofs::Begun::no_instance, crate::proofs::Begun::undefined, crate::proofs::Begun::some_instance))]
 fn more_instances(
+    cursor: &mut Cursor,
+    alloc: Global,
+    names: &Option<FirstNames>,
+    model: &mut Netlist,
+) -> Read<()>
+    requires { MayFind udp_name names.now model.old.udps }
+    ensures reads { ReadsAs (λ _. model.new) (read (spec.instances model.old) cursor.old) result cursor.new }
+    ensures named { IfOk result (λ _. model.new.name ≡ model.old.name) }
+{
+    for _turn in 0..cursor.left() {
+        if !is_instance_start(cursor.bytes()) {
+            break;
+        }
+        let Some(udp) = instance_primitive(names, model, cursor.bytes()) else {
+            return Err(Stop::Refused(Refusal::Undefined));
+        };
+        cursor.skip();
+        let instance = one_instance(cursor, alloc, model, udp)?;
+        model.join(instance)?;
+    }
+    Ok(())
+}
+
+/// A module with its instances behind those that it has, where its primitives have these names, if they are many.
+#[tactic(auto, using(part_readers::proofs::WithRest::reads_before, part_readers::proofs::WithRest::kept_before))]
+fn with_instances(
     cursor: &mut Cursor,
     alloc: Global,
     names: &Option<FirstNames>,
@@ -123,18 +150,8 @@ fn more_instances(
     ensures reads { Reads (read (spec.instances model) cursor.old) result cursor.new }
     ensures named { IfOk result (λ joined. joined.name ≡ model.name) }
 {
-    for _turn in 0..cursor.left() {
-        if !is_instance_start(cursor.bytes()) {
-            break;
-        }
-        let Some(udp) = instance_primitive(names, &model, cursor.bytes()) else {
-            return Err(Stop::Refused(Refusal::Undefined));
-        };
-        cursor.skip();
-        let instance = one_instance(cursor, alloc, &model, udp)?;
-        model.join(instance)?;
-    }
-    Ok(model)
+    let rest = more_instances(cursor, alloc, names, &mut model);
+    where_read(model, rest)
 }
 
 /// All instances of a module, which it then has.
@@ -144,5 +161,5 @@ pub fn module_instances(cursor: &mut Cursor, alloc: Global, declared: VModule) -
 {
     let names = many_names(alloc, declared.udps.as_slice())?;
     let model = Netlist::new(alloc, declared)?;
-    more_instances(cursor, alloc, &names, model)
+    with_instances(cursor, alloc, &names, model)
 }

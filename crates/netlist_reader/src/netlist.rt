@@ -1,6 +1,6 @@
 //! A module that finds each of its nets, and what drives it, in the time of one look-up.
 
-ghost use Rattle.std.specs.Prelude.{◌≡◌};
+ghost use Rattle.std.specs.Prelude.{◌≡◌, IfOk, IfErr, Ok};
 
 use crate::driven_nets::{DrivenNets, driven_nets};
 use crate::first_names::{FirstNames, many_names, place_of};
@@ -33,6 +33,29 @@ impl Model for Netlist {
     ghost invariant = { λ n. AreKeptOf n.model n.ports n.wires n.driven };
 }
 
+/// What is kept beside a module.
+struct Kept<P, W, D> {
+    ports: P,
+    wires: W,
+    driven: D,
+}
+
+/// What is kept beside a module, where all of it was made.
+fn all_kept<P: Drop, W: Drop, D: Drop>(
+    ports: Read<P>,
+    wires: Read<W>,
+    driven: Read<D>,
+) -> Read<Kept<P, W, D>>
+    ensures made { IfOk result (λ kept. (ports ≡ Ok kept.ports) × ((wires ≡ Ok kept.wires) × (driven ≡ Ok kept.driven))) }
+    ensures memory { IfErr ports (λ stop. stop ≡ Stop.Memory) → IfErr wires (λ stop. stop ≡ Stop.Memory) → IfErr driven (λ stop. stop ≡ Stop.Memory) → IfErr result (λ stop. stop ≡ Stop.Memory) }
+{
+    Ok(Kept {
+        ports: ports?,
+        wires: wires?,
+        driven: driven?,
+    })
+}
+
 impl Netlist {
     ghost use Rattle.std.specs.Prelude.{◌≡◌, IfErr, IfOk, OnOk};
     ghost use Rattle.std.specs.List.{list_any, position};
@@ -48,9 +71,14 @@ impl Netlist {
         ensures same { IfOk result (λ made. made ≡ model) }
         ensures memory { IfErr result (λ stop. stop ≡ Stop.Memory) }
     {
-        let ports = many_names(alloc, model.ports.as_slice())?;
-        let wires = many_names(alloc, model.wires.as_slice())?;
-        let driven = driven_nets(alloc, &model)?;
+        let ports = many_names(alloc, model.ports.as_slice());
+        let wires = many_names(alloc, model.wires.as_slice());
+        let driven = driven_nets(alloc, &model);
+        let Kept {
+            ports,
+            wires,
+            driven,
+        } = all_kept(ports, wires, driven)?;
         Ok(Netlist {
             model,
             ports,
@@ -157,23 +185,11 @@ impl Netlist {
         Ok(())
     }
 
-    /// The module with the paths and checks of its specify block.
-    pub fn with_block(self, paths: Items<VPath>, checks: Items<TimingCheck>) -> Netlist
-        ensures { result ≡ with_block self paths checks }
+    /// The module gets these paths and checks, those of its specify block.
+    pub fn set_block(&mut self, paths: Items<VPath>, checks: Items<TimingCheck>)
+        ensures { self.new ≡ with_block self.old paths checks }
     {
-        let Netlist {
-            mut model,
-            ports,
-            wires,
-            driven,
-        } = self;
-        model.paths = paths;
-        model.checks = checks;
-        Netlist {
-            model,
-            ports,
-            wires,
-            driven,
-        }
+        self.model.paths = paths;
+        self.model.checks = checks;
     }
 }

@@ -7,5 +7,5 @@ use Rattle.netlist_reader.proofs.instances.module_instances.Goals as goal
 
 pub returns-clause-reads : goal.returns-clause-reads
 returns-clause-reads c =
-    subst (λ (m : VModule). Reads (read (spec.instances m) c.args.cursor.now) c.more_instances.result c.more_instances.new.cursor)
-    c.in_ok-model.ensures.same c.more_instances.ensures.reads
+    subst (λ (m : VModule). Reads (read (spec.instances m) c.args.cursor.now) c.with_instances.result c.with_instances.new.cursor)
+    c.in_ok-model.ensures.same c.with_instances.ensures.reads

@@ -1,5 +1,4 @@
 pub mod NextWords
-pub mod StoppedTurns
 pub mod LoweredNames
 pub mod SameBytes
 pub mod EitherWords

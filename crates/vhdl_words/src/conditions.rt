@@ -2,17 +2,19 @@
 
 ghost use Rattle.std.specs.Prelude.{◌≡◌, ℕ, ◌+◌, ◌-◌, ◌<◌, ◌^◌, if◌then◌else◌, min, length, drop, slice_get, Option, Some, None, IfOk, codes, decimal};
 ghost use Rattle.grammar_rules.specs.Rule.{Gives, Then};
-ghost use Rattle.rule_readers.specs.Reading.{read, Many, Reads};
+ghost use Rattle.rule_readers.specs.Reading.{read, Reads};
 ghost use Rattle.vhdl_tokens.specs.Spelling.{is_same};
 ghost use Rattle.vhdl_text.specs.VhdlRules as rules;
 ghost use Rattle.vhdl_text.specs.VhdlNames as spec;
 
+use crate::aggregates::elements;
 use crate::declarations::Declarations;
-use crate::language::Cursor;
+use crate::language::{Cursor, Vhdl};
 use crate::names::{input_at, inputs, list_end};
 use crate::ports::Ports;
 use crate::widths::truth_width;
-use crate::words::{expect_all, is_number_token, is_numbered};
+use crate::words::{expect_all, is_numbered};
+use part_readers::RepeatedPart;
 use rule_readers::Read;
 use sqlite_items::Items;
 use std::alloc::{AllocError, Global};
@@ -145,57 +147,31 @@ fn same_name(cursor: &mut Cursor<'_>, ports: &Ports, inputs: &[usize], place: us
     cursor.known(found)
 }
 
-/// The next input of a list, where so many of it stand before.
-#[tactic(auto, unfolding(vhdl_text::specs::VhdlNames::same_input))]
-fn same_input(cursor: &mut Cursor<'_>, ports: &Ports, inputs: &[usize], place: usize) -> Read<usize>
-    ensures { Reads (read (spec.same_input ports.now inputs.now place) cursor.old) result cursor.new }
-{
-    same_name(cursor, ports, inputs, place)?;
-    Ok(place + 1)
+/// The input of a list that stands behind so many of it.
+#[derive(Drop)]
+struct SameInput<'a> {
+    ports: &'a Ports,
+    inputs: &'a [usize],
 }
 
-/// How many inputs of a list stand behind so many.
-#[tactic(auto, using(rule_readers::proofs::Repeats::turn, crate::proofs::NextWords::choose_begun, crate::proofs::NextWords::choose_other))]
-fn more_same_inputs(
-    cursor: &mut Cursor<'_>,
-    ports: &Ports,
-    inputs: &[usize],
-    mut place: usize,
-) -> Read<usize>
-    ensures { Reads (read (Many (λ _. rules.begins (codes ",")) (λ found _. spec.same_input ports.now inputs.now found) place) cursor.old) result cursor.new }
-{
-    for _turn in 0..cursor.left() {
-        if !cursor.is_next(b",") {
-            break;
-        }
-        cursor.skip();
-        place = same_input(cursor, ports, inputs, place)?;
+impl RepeatedPart<Vhdl> for SameInput<'_> {
+    type Found = usize;
+
+    ghost reading = { λ input place s. read (spec.same_input input.ports.now input.inputs.now place) s };
+
+    #[tactic(auto, unfolding(vhdl_text::specs::VhdlNames::same_input))]
+    fn next(&self, cursor: &mut Cursor<'_>, place: usize) -> Read<usize> {
+        same_name(cursor, self.ports, self.inputs, place)?;
+        Ok(place + 1)
     }
-    Ok(place)
-}
-
-/// How many inputs of a list stand in one of two or more.
-#[tactic(auto, unfolding(vhdl_text::specs::VhdlRules::several_elements, vhdl_text::specs::VhdlRules::more_elements))]
-fn several_same_inputs(cursor: &mut Cursor<'_>, ports: &Ports, inputs: &[usize]) -> Read<usize>
-    ensures { Reads (read (rules.several_elements (spec.same_input ports.now inputs.now) 0) cursor.old) result cursor.new }
-{
-    let first = same_input(cursor, ports, inputs, 0)?;
-    cursor.expect(b",")?;
-    let second = same_input(cursor, ports, inputs, first)?;
-    more_same_inputs(cursor, ports, inputs, second)
 }
 
 /// How many inputs of a list stand next.
-#[tactic(auto, unfolding(vhdl_text::specs::VhdlRules::elements, vhdl_text::specs::VhdlRules::only_element), using(rule_readers::proofs::Choices::choose_by, rule_readers::proofs::Choices::choose_not_by))]
+#[tactic(auto, unfolding(vhdl_text::specs::VhdlRules::elements, vhdl_text::specs::VhdlRules::only_element, vhdl_text::specs::VhdlRules::several_elements, vhdl_text::specs::VhdlRules::more_elements))]
 fn same_inputs(cursor: &mut Cursor<'_>, ports: &Ports, inputs: &[usize]) -> Read<usize>
     ensures { Reads (read (rules.elements (spec.same_input ports.now inputs.now) 0) cursor.old) result cursor.new }
 {
-    if !is_number_token(0, cursor.bytes()) {
-        return several_same_inputs(cursor, ports, inputs);
-    }
-    cursor.skip();
-    cursor.expect(b"=>")?;
-    same_input(cursor, ports, inputs, 0)
+    elements(cursor, &SameInput { ports, inputs }, 0)
 }
 
 /// The list of inputs of a condition that was looked up before.

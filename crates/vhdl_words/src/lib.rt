@@ -2,16 +2,18 @@
 //! conditions. (IEEE 1076-1993; IEEE 1076.4-2000.)
 #![tactic(auto)]
 
+mod aggregates;
 mod conditions;
 mod declarations;
-mod elements;
 mod language;
 mod listed;
 mod names;
 mod ports;
+mod unlisted_names;
 mod widths;
 mod words;
 
+pub use aggregates::elements;
 pub use conditions::{Uses, condition, place_among};
 pub use declarations::Declarations;
 pub use language::{Cursor, Vhdl};

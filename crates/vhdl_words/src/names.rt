@@ -2,16 +2,17 @@
 
 ghost use Rattle.std.specs.Prelude.{◌≡◌, nat_eq, [], true, false, IfOk, codes};
 ghost use Rattle.std.specs.List.{list_any};
-ghost use Rattle.rule_readers.specs.Reading.{read, Many, Reads};
+ghost use Rattle.rule_readers.specs.Reading.{read, Reads};
 ghost use Rattle.vhdl_tokens.specs.Tokens.{is_name};
 ghost use Rattle.vhdl_text.specs.VhdlRules as rules;
 ghost use Rattle.vhdl_text.specs.VhdlNames as spec;
 
-use crate::language::Cursor;
+use crate::aggregates::elements;
+use crate::language::{Cursor, Vhdl};
 use crate::listed::Listed;
 use crate::ports::Ports;
 use crate::unlisted;
-use crate::words::is_number_token;
+use part_readers::{RepeatedPart, with_read};
 use rule_readers::{Read, Refusal};
 use sqlite_items::Items;
 use std::alloc::{AllocError, Global};
@@ -78,53 +79,30 @@ fn listed_name(cursor: &mut Cursor<'_>, ports: &Ports, inputs: &Listed) -> Read<
     Ok(port)
 }
 
-/// One more input of a list.
-#[tactic(auto, unfolding(vhdl_text::specs::VhdlNames::listed_input))]
-fn listed_input(cursor: &mut Cursor<'_>, ports: &Ports, inputs: Listed) -> Read<Listed>
-    ensures { Reads (read (spec.listed_input ports.now inputs) cursor.old) result cursor.new }
-{
-    let port = listed_name(cursor, ports, &inputs)?;
-    let more = inputs.with(port)?;
-    Ok(more)
-}
+/// An input of a list.
+#[derive(Drop)]
+struct ListedInput<'a>(&'a Ports);
 
-/// The inputs of a list behind these.
-#[tactic(auto, using(rule_readers::proofs::Repeats::turn, crate::proofs::NextWords::choose_begun, crate::proofs::NextWords::choose_other))]
-fn more_inputs(cursor: &mut Cursor<'_>, ports: &Ports, mut inputs: Listed) -> Read<Listed>
-    ensures { Reads (read (Many (λ _. rules.begins (codes ",")) (λ found _. spec.listed_input ports.now found) inputs) cursor.old) result cursor.new }
-{
-    for _turn in 0..cursor.left() {
-        if !cursor.is_next(b",") {
-            break;
-        }
-        cursor.skip();
-        inputs = listed_input(cursor, ports, inputs)?;
+impl RepeatedPart<Vhdl> for ListedInput<'_> {
+    type Found = Listed;
+
+    ghost reading = { λ input inputs s. read (spec.listed_input input.0.now inputs) s };
+
+    #[tactic(auto, unfolding(vhdl_text::specs::VhdlNames::listed_input))]
+    fn next(&self, cursor: &mut Cursor<'_>, inputs: Listed) -> Read<Listed> {
+        let port = listed_name(cursor, self.0, &inputs);
+        let (inputs, port) = with_read(inputs, port)?;
+        let more = inputs.with(port)?;
+        Ok(more)
     }
-    Ok(inputs)
-}
-
-/// A list of two inputs or more.
-#[tactic(auto, unfolding(vhdl_text::specs::VhdlRules::several_elements, vhdl_text::specs::VhdlRules::more_elements))]
-fn several_inputs(cursor: &mut Cursor<'_>, alloc: Global, ports: &Ports) -> Read<Listed>
-    ensures { Reads (read (rules.several_elements (spec.listed_input ports.now) []) cursor.old) result cursor.new }
-{
-    let first = listed_input(cursor, ports, Listed::new(alloc))?;
-    cursor.expect(b",")?;
-    let second = listed_input(cursor, ports, first)?;
-    more_inputs(cursor, ports, second)
 }
 
 /// A list of inputs, as a list that finds each at once.
-#[tactic(auto, unfolding(vhdl_text::specs::VhdlRules::elements, vhdl_text::specs::VhdlRules::only_element), using(rule_readers::proofs::Choices::choose_by, rule_readers::proofs::Choices::choose_not_by))]
+#[tactic(auto, unfolding(vhdl_text::specs::VhdlRules::elements, vhdl_text::specs::VhdlRules::only_element, vhdl_text::specs::VhdlRules::several_elements, vhdl_text::specs::VhdlRules::more_elements))]
 fn listed_inputs(cursor: &mut Cursor<'_>, alloc: Global, ports: &Ports) -> Read<Listed>
     ensures { Reads (read (rules.elements (spec.listed_input ports.now) []) cursor.old) result cursor.new }
 {
-    if !is_number_token(0, cursor.bytes()) {
-        return several_inputs(cursor, alloc, ports);
-    }
-    cursor.skip();
-    cursor.expect(b"=>")?;
-    listed_input(cursor, ports, Listed::new(alloc))
+    elements(cursor, &ListedInput(ports), Listed::new(alloc))
 }
 
 /// A list of inputs, in time that grows with its length.

@@ -3,11 +3,13 @@
 
 mod declared;
 mod language;
+mod named_items;
 mod primitives;
 mod row;
 mod text_names;
 
 pub use declared::declare;
 pub use language::{Cursor, Verilog};
+pub use named_items::NamedItems;
 pub use primitives::primitive;
-pub use text_names::TextNames;
+pub use text_names::{TextNames, new_name};

@@ -6,14 +6,16 @@ ghost use Rattle.udp_tables.specs.VerilogPrimitives as spec;
 ghost use Rattle.rule_readers.specs.Reading.{read, Token, Many, Reads, ReadsAs};
 ghost use Rattle.rule_readers.specs.Next.{next_bytes};
 ghost use Rattle.udp_tables.specs.VerilogRules.{any_name};
-ghost use Rattle.udp_reader.specs.Headers.{header_of, inputs_of};
+ghost use Rattle.udp_reader.specs.Headers.{header_of, header_rest, header_with, inputs_of};
 
 use crate::declared::declare;
-use crate::language::Cursor;
+use crate::language::{Cursor, Verilog};
+use crate::named_items::NamedItems;
 use crate::row::{begins_entry, row};
-use crate::text_names::TextNames;
+use crate::text_names::{TextNames, new_name};
 use bool_functions::Names;
-use rule_readers::{Read, Refusal, Stop, while_next};
+use part_readers::{RepeatedPart, where_read, while_next, with_read};
+use rule_readers::{Read, Refusal, Stop};
 use sqlite_items::Items;
 use std::alloc::Global;
 use udp_tables::{Udp, UdpRow};
@@ -29,18 +31,14 @@ const MOST_INPUTS_WITH_STATE: usize = 9;
 const SOME_ROWS: usize = 8;
 
 /// The output and the inputs of a primitive's header.
-#[derive(Debug, Drop)]
+#[derive(Drop)]
 pub struct Header {
     pub output: Items<u8>,
     pub inputs: Items<Items<u8>>,
 }
 
-/// The inputs of a header so far, with the names of its output and of these.
-#[derive(Drop)]
-pub struct HeaderInputs<'a> {
-    pub inputs: Items<Items<u8>>,
-    pub names: TextNames<'a>,
-}
+/// The inputs of a header so far, and the names of its output and of these.
+type HeaderInputs<'a> = NamedItems<'a, Items<u8>>;
 
 /// The name of the output, as the only one of a header.
 #[tactic(auto, using(crate::proofs::NewNames::any_fits, crate::proofs::NewNames::any_other))]
@@ -59,29 +57,21 @@ fn first_name<'a>(cursor: &mut Cursor<'a>, alloc: Global) -> Read<(Items<u8>, Te
 }
 
 /// One more input of a header with this output.
-#[tactic(auto, unfolding(udp_tables::specs::VerilogPrimitives::next_input), using(crate::proofs::NewNames::new_fits, crate::proofs::NewNames::new_taken, crate::proofs::NewNames::new_other))]
+#[tactic(auto, unfolding(udp_tables::specs::VerilogPrimitives::next_input))]
 fn next_input<'a>(
     cursor: &mut Cursor<'a>,
     alloc: Global,
     output: &[u8],
     before: HeaderInputs<'a>,
 ) -> Read<HeaderInputs<'a>>
-    requires { before.names ≡ output.now ∷ before.inputs }
-    ensures reads { ReadsAs inputs_of (read (spec.next_input output.now before.entry.inputs) cursor.old) result cursor.new }
-    ensures named { IfOk result (λ more. more.names ≡ output.now ∷ more.inputs) }
+    requires { before.names ≡ output.now ∷ before.items }
+    ensures reads { ReadsAs inputs_of (read (spec.next_input output.now before.entry.items) cursor.old) result cursor.new }
+    ensures named { IfOk result (λ more. more.names ≡ output.now ∷ more.items) }
 {
-    let HeaderInputs { mut inputs, names } = before;
     let token = cursor.bytes();
-    if !is_name(token) {
-        return Err(Stop::Refused(Refusal::Syntax));
-    }
-    if names.has(token) {
-        return Err(Stop::Refused(Refusal::Twice));
-    }
-    inputs.push(Items::from_slice(alloc, token)?)?;
-    let names = names.with(token)?;
-    cursor.skip();
-    Ok(HeaderInputs { inputs, names })
+    let input = new_name(cursor, alloc, &before.names);
+    let (before, input) = with_read(before, input)?;
+    before.with(input, token)
 }
 
 /// The inputs of a header with this output behind these.
@@ -92,34 +82,52 @@ fn more_inputs<'a>(
     output: &[u8],
     mut found: HeaderInputs<'a>,
 ) -> Read<HeaderInputs<'a>>
-    requires { found.names ≡ output.now ∷ found.inputs }
-    ensures { ReadsAs inputs_of (read (spec.more_inputs output.now found.entry.inputs) cursor.old) result cursor.new }
+    requires { found.names ≡ output.now ∷ found.items }
+    ensures { ReadsAs inputs_of (read (spec.more_inputs output.now found.entry.items) cursor.old) result cursor.new }
 {
-    while_next!(
-        cursor,
-        _turn,
-        b",",
-        found = next_input(cursor, alloc, output, found)
-    );
+    for _turn in 0..cursor.left() {
+        if !cursor.is_next(b",") {
+            break;
+        }
+        cursor.skip();
+        found = next_input(cursor, alloc, output, found)?;
+    }
     Ok(found)
 }
 
+/// The inputs of a header with this output, of which these are the names, and its end.
+#[tactic(auto, unfolding(crate::specs::Headers::header_rest))]
+fn header_rest<'a>(
+    cursor: &mut Cursor<'a>,
+    alloc: Global,
+    output: &[u8],
+    names: TextNames<'a>,
+) -> Read<Items<Items<u8>>>
+    requires { names ≡ output.now ∷ [] }
+    ensures { ReadsAs (header_with output.now) (read (header_rest output.now) cursor.old) result cursor.new }
+{
+    let none = NamedItems {
+        items: Items::new(alloc),
+        names,
+    };
+    let first = next_input(cursor, alloc, output, none)?;
+    let NamedItems { items: inputs, .. } = more_inputs(cursor, alloc, output, first)?;
+    cursor.expect_where(inputs.len() <= MOST_INPUTS, Refusal::Width, b")")?;
+    cursor.expect(b";")?;
+    Ok(inputs)
+}
+
 /// The header of a primitive, behind its name.
-#[tactic(auto, unfolding(udp_tables::specs::VerilogPrimitives::header))]
+#[tactic(auto, unfolding(udp_tables::specs::VerilogPrimitives::header, crate::specs::Headers::header_rest))]
 fn primitive_header(cursor: &mut Cursor<'_>, alloc: Global) -> Read<Header>
     ensures { ReadsAs header_of (read spec.header cursor.old) result cursor.new }
 {
     cursor.expect(b"(")?;
     let (output, names) = first_name(cursor, alloc)?;
-    cursor.expect(b",")?;
-    let none = HeaderInputs {
-        inputs: Items::new(alloc),
-        names,
-    };
-    let first = next_input(cursor, alloc, output.as_slice(), none)?;
-    let HeaderInputs { inputs, .. } = more_inputs(cursor, alloc, output.as_slice(), first)?;
-    cursor.expect_where(inputs.len() <= MOST_INPUTS, Refusal::Width, b")")?;
-    cursor.expect(b";")?;
+    let comma = cursor.expect(b",");
+    let (output, names) = where_read((output, names), comma)?;
+    let inputs = header_rest(cursor, alloc, output.as_slice(), names);
+    let (output, inputs) = with_read(output, inputs)?;
     Ok(Header { output, inputs })
 }
 
@@ -156,31 +164,32 @@ fn primitive_register(cursor: &mut Cursor<'_>, header: &Header) -> Read<bool>
     primitive_state(cursor, header.output.as_slice())
 }
 
-/// One more declared input, where so many are declared.
-#[tactic(auto, unfolding(udp_tables::specs::VerilogPrimitives::declared_input))]
-fn primitive_input(cursor: &mut Cursor<'_>, inputs: &[Items<u8>], count: usize) -> Read<usize>
-    ensures { Reads (read (spec.declared_input inputs.now count) cursor.old) result cursor.new }
-{
-    let Some(name) = inputs.get(count) else {
-        return Err(Stop::Refused(cursor.no_name()));
-    };
-    cursor.this_name(name.as_slice())?;
-    cursor.expect(b";")?;
-    Ok(count + 1)
+/// A declared input, where so many are declared, behind its word.
+#[derive(Drop)]
+struct DeclaredInput<'a>(&'a [Items<u8>]);
+
+impl RepeatedPart<Verilog> for DeclaredInput<'_> {
+    type Found = usize;
+
+    ghost reading = { λ input count s. read (spec.declared_input input.0.now count) s };
+
+    #[tactic(auto, unfolding(udp_tables::specs::VerilogPrimitives::declared_input))]
+    fn next(&self, cursor: &mut Cursor<'_>, count: usize) -> Read<usize> {
+        let Some(name) = self.0.get(count) else {
+            return Err(Stop::Refused(cursor.no_name()));
+        };
+        cursor.this_name(name.as_slice())?;
+        cursor.expect(b";")?;
+        Ok(count + 1)
+    }
 }
 
 /// The declarations of all inputs.
-#[tactic(auto, unfolding(udp_tables::specs::VerilogPrimitives::declared_inputs), using(rule_readers::proofs::Repeats::turns))]
+#[tactic(auto, unfolding(udp_tables::specs::VerilogPrimitives::declared_inputs))]
 fn primitive_inputs(cursor: &mut Cursor<'_>, inputs: &[Items<u8>]) -> Read<()>
     ensures { Reads (read (spec.declared_inputs inputs.now) cursor.old) result cursor.new }
 {
-    let mut count = 0;
-    while_next!(
-        cursor,
-        _turn,
-        b"input",
-        count = primitive_input(cursor, inputs, count)
-    );
+    let count = while_next(cursor, b"input", &DeclaredInput(inputs), 0)?;
     cursor.go_on_where(count == inputs.len())
 }
 

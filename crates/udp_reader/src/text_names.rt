@@ -3,12 +3,17 @@
 ghost use Rattle.std.specs.Prelude.{◌≡◌, [], ◌∷◌, ◌++◌, false, map, take, drop, IfOk, IfErr};
 ghost use Rattle.std.specs.List.{list_any};
 ghost use Rattle.std.specs.Str.{bytes_eq};
+ghost use Rattle.rule_readers.specs.Next.{next_bytes};
+ghost use Rattle.rule_readers.specs.Reading.{read, Reads};
+ghost use Rattle.udp_tables.specs.VerilogRules as spec;
 
-use crate::language::Verilog;
+use crate::language::{Cursor, Verilog};
 use bool_functions::Names;
-use rule_readers::{Language, Stop};
+use rule_readers::{Language, Read, Refusal, Stop};
+use sqlite_items::Items;
 use std::alloc::Global;
 use std::marker::Model;
+use verilog_tokens::is_name;
 
 /// How many names of a list are compared one by one.
 const NEAR: usize = 16;
@@ -114,4 +119,23 @@ impl<'a> TextNames<'a> {
         names.push(name)?;
         Ok(TextNames { names, far })
     }
+}
+
+/// A name that is declared here, and is none of these.
+#[tactic(auto, using(crate::proofs::NewNames::new_fits, crate::proofs::NewNames::new_taken, crate::proofs::NewNames::new_other))]
+pub fn new_name(cursor: &mut Cursor<'_>, alloc: Global, names: &TextNames<'_>) -> Read<Items<u8>>
+    ensures reads { Reads (read (spec.new_name names.now) cursor.old) result cursor.new }
+    ensures named { IfOk result (λ name. name ≡ next_bytes cursor.old) }
+    ensures fresh { IfOk result (λ _. spec.is_among names.now (next_bytes cursor.old) ≡ false) }
+{
+    let token = cursor.bytes();
+    if !is_name(token) {
+        return Err(Stop::Refused(Refusal::Syntax));
+    }
+    if names.has(token) {
+        return Err(Stop::Refused(Refusal::Twice));
+    }
+    let name = Items::from_slice(alloc, token)?;
+    cursor.skip();
+    Ok(name)
 }

@@ -1,13 +1,16 @@
 //! The paths of outputs. (IEEE 1076.4-2000, VitalPathDelay01.)
 
-ghost use Rattle.std.specs.Prelude.{length, codes};
-ghost use Rattle.rule_readers.specs.Reading.{read, Reads, Many};
+ghost use Rattle.std.specs.Prelude.{length};
+ghost use Rattle.rule_readers.specs.Reading.{read, Reads};
 ghost use Rattle.vhdl_text.specs.VhdlRules as rules;
 ghost use Rattle.vhdl_text.specs.VhdlOutputs as spec;
 
+use part_readers::{RepeatedPart, one_or_more, while_next};
 use rule_readers::Read;
 use sqlite_items::Items;
-use vhdl_words::{Cursor, Declarations, Uses, an_input, condition, expect_all, this_number, time};
+use vhdl_words::{
+    Cursor, Declarations, Uses, Vhdl, an_input, condition, expect_all, this_number, time,
+};
 use vital_models::{HGate, HPath};
 
 /// The conditions so far that have to be 0, and the lists of the conditions that were looked up.
@@ -16,32 +19,24 @@ type Zeros = (Items<usize>, Uses);
 /// The paths of an output so far, and the lists of the conditions that were looked up.
 pub type Paths = (Items<HPath>, Uses);
 
-/// One more condition that has to be 0.
-#[tactic(auto, unfolding(vhdl_text::specs::VhdlOutputs::next_zero))]
-fn next_zero(cursor: &mut Cursor, scope: &Declarations, before: Zeros) -> Read<Zeros>
-    ensures { Reads (read (spec.next_zero scope.now before) cursor.old) result cursor.new }
-{
-    let (mut conditions, uses) = before;
-    cursor.expect(b"VitalTruthTable")?;
-    let (number, more) = condition(cursor, scope.alloc(), scope, uses)?;
-    expect_all(cursor, &[b"=", b"'0'"])?;
-    conditions.push(number)?;
-    Ok((conditions, more))
-}
+/// A condition that has to be 0.
+#[derive(Drop)]
+struct NextZero<'a>(&'a Declarations);
 
-/// The conditions that have to be 0 behind these.
-#[tactic(auto, using(rule_readers::proofs::Repeats::turns))]
-fn more_zeros(cursor: &mut Cursor, scope: &Declarations, mut found: Zeros) -> Read<Zeros>
-    ensures { Reads (read (Many (λ _. rules.begins (codes "and")) (λ found _. spec.next_zero scope.now found) found) cursor.old) result cursor.new }
-{
-    for _turn in 0..cursor.left() {
-        if !cursor.is_next(b"and") {
-            break;
-        }
-        cursor.skip();
-        found = next_zero(cursor, scope, found)?;
+impl RepeatedPart<Vhdl> for NextZero<'_> {
+    type Found = Zeros;
+
+    ghost reading = { λ zero found s. read (spec.next_zero zero.0.now found) s };
+
+    #[tactic(auto, unfolding(vhdl_text::specs::VhdlOutputs::next_zero))]
+    fn next(&self, cursor: &mut Cursor<'_>, before: Zeros) -> Read<Zeros> {
+        let (mut conditions, uses) = before;
+        cursor.expect(b"VitalTruthTable")?;
+        let (number, more) = condition(cursor, self.0.alloc(), self.0, uses)?;
+        expect_all(cursor, &[b"=", b"'0'"])?;
+        conditions.push(number)?;
+        Ok((conditions, more))
     }
-    Ok(found)
 }
 
 /// The conditions that have to be 0, behind the first of them and its `=`.
@@ -53,7 +48,7 @@ fn all_zero(cursor: &mut Cursor, scope: &Declarations, first: (usize, Uses)) -> 
     let mut conditions = Items::new(scope.alloc());
     conditions.push(number)?;
     cursor.expect(b"'0'")?;
-    let (all, more) = more_zeros(cursor, scope, (conditions, uses))?;
+    let (all, more) = while_next(cursor, b"and", &NextZero(scope), (conditions, uses))?;
     Ok((HGate::AllZero(all), more))
 }
 
@@ -113,41 +108,33 @@ fn path_number(cursor: &mut Cursor, paths: &[HPath]) -> Read<()>
     this_number(cursor, paths.len())
 }
 
-/// One more path.
-#[tactic(auto, unfolding(vhdl_text::specs::VhdlOutputs::next_path))]
-fn next_path(cursor: &mut Cursor, scope: &Declarations, before: Paths) -> Read<Paths>
-    ensures { Reads (read (spec.next_path scope.now before) cursor.old) result cursor.new }
-{
-    let (mut paths, uses) = before;
-    path_number(cursor, paths.as_slice())?;
-    expect_all(cursor, &[b"=>", b"("])?;
-    let from = an_input(cursor, scope.ports())?;
-    expect_all(cursor, &[b"'", b"last_event", b","])?;
-    let (rise, fall) = delays(cursor)?;
-    let (gate, more) = gate_of(cursor, scope, uses)?;
-    cursor.expect(b")")?;
-    paths.push(HPath {
-        from,
-        rise,
-        fall,
-        gate,
-    })?;
-    Ok((paths, more))
-}
+/// A path, behind others.
+#[derive(Drop)]
+struct NextPath<'a>(&'a Declarations);
 
-/// The paths behind these.
-#[tactic(auto, using(rule_readers::proofs::Repeats::turns))]
-fn more_paths(cursor: &mut Cursor, scope: &Declarations, mut found: Paths) -> Read<Paths>
-    ensures { Reads (read (Many (λ _. rules.begins (codes ",")) (λ found _. spec.next_path scope.now found) found) cursor.old) result cursor.new }
-{
-    for _turn in 0..cursor.left() {
-        if !cursor.is_next(b",") {
-            break;
-        }
-        cursor.skip();
-        found = next_path(cursor, scope, found)?;
+impl RepeatedPart<Vhdl> for NextPath<'_> {
+    type Found = Paths;
+
+    ghost reading = { λ path found s. read (spec.next_path path.0.now found) s };
+
+    #[tactic(auto, unfolding(vhdl_text::specs::VhdlOutputs::next_path))]
+    fn next(&self, cursor: &mut Cursor<'_>, before: Paths) -> Read<Paths> {
+        let (mut paths, uses) = before;
+        path_number(cursor, paths.as_slice())?;
+        expect_all(cursor, &[b"=>", b"("])?;
+        let from = an_input(cursor, self.0.ports())?;
+        expect_all(cursor, &[b"'", b"last_event", b","])?;
+        let (rise, fall) = delays(cursor)?;
+        let (gate, more) = gate_of(cursor, self.0, uses)?;
+        cursor.expect(b")")?;
+        paths.push(HPath {
+            from,
+            rise,
+            fall,
+            gate,
+        })?;
+        Ok((paths, more))
     }
-    Ok(found)
 }
 
 /// All paths of an output, and the lists.
@@ -156,8 +143,8 @@ pub fn paths(cursor: &mut Cursor, scope: &Declarations, uses: Uses) -> Read<Path
     ensures { Reads (read (spec.paths scope.now uses) cursor.old) result cursor.new }
 {
     cursor.expect(b"(")?;
-    let first = next_path(cursor, scope, (Items::new(scope.alloc()), uses))?;
-    let all = more_paths(cursor, scope, first)?;
+    let none = (Items::new(scope.alloc()), uses);
+    let all = one_or_more(cursor, b",", &NextPath(scope), none)?;
     cursor.expect(b")")?;
     Ok(all)
 }

@@ -1,20 +1,19 @@
 //! The inputs and states that the calls of tables of outputs list. (IEEE 1076.4-2000, VitalTruthTable; IEEE 1076-1993, 7.3.2.)
 
-ghost use Rattle.std.specs.Prelude.{◌≡◌, [], true, false, IfOk, codes};
+ghost use Rattle.std.specs.Prelude.{◌≡◌, [], true, false, IfOk};
 ghost use Rattle.std.specs.List.{list_any};
-ghost use Rattle.rule_readers.specs.Reading.{read, Reads, Many};
+ghost use Rattle.rule_readers.specs.Reading.{read, Reads};
 ghost use Rattle.vhdl_tokens.specs.Tokens.{is_name};
 ghost use Rattle.vhdl_text.specs.VhdlRules as rules;
 ghost use Rattle.vhdl_text.specs.VhdlNames as names;
 
 use crate::listed_sources::ListedSources;
 use cell_machine::Source;
+use part_readers::{RepeatedPart, with_read};
 use rule_readers::Read;
 use sqlite_items::Items;
 use std::alloc::AllocError;
-use vhdl_words::{
-    Cursor, Declarations, input_of, is_number_token, list_end, place_among, unlisted,
-};
+use vhdl_words::{Cursor, Declarations, Vhdl, elements, input_of, list_end, place_among, unlisted};
 
 /// The source of a name: an input, or a state. An `Err` comes only where memory is wanting.
 fn source_of(scope: &Declarations, token: &[u8]) -> Result<Option<Source>, AllocError>
@@ -45,61 +44,34 @@ fn source_name(cursor: &mut Cursor, scope: &Declarations, sources: &ListedSource
     Ok(source)
 }
 
-/// One more source of a list.
-#[tactic(auto, unfolding(vhdl_text::specs::VhdlNames::listed_source))]
-fn listed_source(
-    cursor: &mut Cursor,
-    scope: &Declarations,
-    sources: ListedSources,
-) -> Read<ListedSources>
-    ensures { Reads (read (names.listed_source scope.now sources) cursor.old) result cursor.new }
-{
-    let source = source_name(cursor, scope, &sources)?;
-    let more = sources.with(source)?;
-    Ok(more)
-}
+/// A source of a list.
+#[derive(Drop)]
+struct ListedSource<'a>(&'a Declarations);
 
-/// The sources of a list behind these.
-#[tactic(auto, using(rule_readers::proofs::Repeats::turns))]
-fn more_sources(
-    cursor: &mut Cursor,
-    scope: &Declarations,
-    mut sources: ListedSources,
-) -> Read<ListedSources>
-    ensures { Reads (read (Many (λ _. rules.begins (codes ",")) (λ found _. names.listed_source scope.now found) sources) cursor.old) result cursor.new }
-{
-    for _turn in 0..cursor.left() {
-        if !cursor.is_next(b",") {
-            break;
-        }
-        cursor.skip();
-        sources = listed_source(cursor, scope, sources)?;
+impl RepeatedPart<Vhdl> for ListedSource<'_> {
+    type Found = ListedSources;
+
+    ghost reading = { λ source sources s. read (names.listed_source source.0.now sources) s };
+
+    #[tactic(auto, unfolding(vhdl_text::specs::VhdlNames::listed_source))]
+    fn next(&self, cursor: &mut Cursor<'_>, sources: ListedSources) -> Read<ListedSources> {
+        let source = source_name(cursor, self.0, &sources);
+        let (sources, source) = with_read(sources, source)?;
+        let more = sources.with(source)?;
+        Ok(more)
     }
-    Ok(sources)
-}
-
-/// A list of two sources or more.
-#[tactic(auto, unfolding(vhdl_text::specs::VhdlRules::several_elements, vhdl_text::specs::VhdlRules::more_elements))]
-fn several_sources(cursor: &mut Cursor, scope: &Declarations) -> Read<ListedSources>
-    ensures { Reads (read (rules.several_elements (names.listed_source scope.now) []) cursor.old) result cursor.new }
-{
-    let first = listed_source(cursor, scope, ListedSources::new(scope.alloc()))?;
-    cursor.expect(b",")?;
-    let second = listed_source(cursor, scope, first)?;
-    more_sources(cursor, scope, second)
 }
 
 /// A list of sources.
-#[tactic(auto, unfolding(vhdl_text::specs::VhdlRules::elements, vhdl_text::specs::VhdlRules::only_element), using(rule_readers::proofs::Choices::choose_by, rule_readers::proofs::Choices::choose_not_by))]
+#[tactic(auto, unfolding(vhdl_text::specs::VhdlRules::elements, vhdl_text::specs::VhdlRules::only_element, vhdl_text::specs::VhdlRules::several_elements, vhdl_text::specs::VhdlRules::more_elements))]
 fn sources(cursor: &mut Cursor, scope: &Declarations) -> Read<ListedSources>
     ensures { Reads (read (rules.elements (names.listed_source scope.now) []) cursor.old) result cursor.new }
 {
-    if !is_number_token(0, cursor.bytes()) {
-        return several_sources(cursor, scope);
-    }
-    cursor.skip();
-    cursor.expect(b"=>")?;
-    listed_source(cursor, scope, ListedSources::new(scope.alloc()))
+    elements(
+        cursor,
+        &ListedSource(scope),
+        ListedSources::new(scope.alloc()),
+    )
 }
 
 /// A list of so many sources, and its end.

@@ -1,5 +1,6 @@
 -- The next column of a state's table.
-use Rattle.std.proofs.Common.{◌≡◌, ℕ, ◌&&◌, true, false, nat_eq, List, [], ◌∷◌, Some, None, Ok, Err, refl, codes}
+use Rattle.std.proofs.Common.{◌≡◌, ℕ, ◌+◌, Bool, ◌&&◌, if◌then◌else◌, true, false, nat_eq, nat_lt, length, List, [], ◌∷◌, Some, None, Ok, Err, refl, codes, arith}
+use Rattle.std.proofs.lemmas.Bool.{eqb-true}
 use Rattle.std.specs.List.{list_any}
 use Rattle.grammar_rules.specs.Rule.{Token}
 use Rattle.grammar_rules.specs.Reading.{read}
@@ -9,7 +10,7 @@ use Rattle.vhdl_tokens.specs.Tokens.{is_name}
 use Rattle.vhdl_tokens.specs.Spelling.{is_same}
 use Rattle.vhdl_text.specs.declared.scope.Columns.{Columns}
 use Rattle.vhdl_text.specs.declared.scope.Scope.{Scope}
-use Rattle.vhdl_text.specs.VhdlNames.{input_of, takes_violation, violated_columns, with_input, column_by}
+use Rattle.vhdl_text.specs.VhdlNames.{input_of, column_count, takes_violation, violated_columns, with_input, column_by}
 
 module _ (scope : Scope) (columns : Columns) where
   -- the violation does not stand here
@@ -39,3 +40,16 @@ module _ (scope : Scope) (columns : Columns) where
       list_any (nat_eq p) columns.inputs ≡ false → read (Token (column_by scope columns) Syntax) s ≡ Ok (with_input columns p, rest s)
   fits [] p e f g h = absurd cc
   fits (x ∷ s) p e f g h = rw (e, f, g, h) refl
+
+  -- no column stands before the violation
+  pub none_before : takes_violation scope columns ≡ true → columns.inputs ≡ []
+  none_before e = by columns.violation columns.inputs (eqb-true (column_count columns) 0 (right (nat_lt 0 (length scope.variables.periods)) (nat_eq (column_count columns) 0) e))
+    where
+      right : (a b : Bool) → (a && b) ≡ true → b ≡ true
+      right true b f = f
+      right false b f = absurd cc
+
+      by : (v : Bool) (inputs : List ℕ) → (if v then length inputs + 1 else length inputs) ≡ 0 → inputs ≡ []
+      by v [] f = refl
+      by true (p ∷ inputs) f = absurd (omega arith)
+      by false (p ∷ inputs) f = absurd cc

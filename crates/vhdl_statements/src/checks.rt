@@ -26,7 +26,7 @@ pub struct Checks {
 }
 
 /// The procedures of checks.
-#[derive(Clone, Copy, Debug, PartialEq, Eq)]
+#[derive(Clone, Copy)]
 enum Procedure {
     SetupHold,
     RecoveryRemoval,

@@ -1,15 +1,17 @@
 //! The columns of the tables of states, as their calls list them. (IEEE 1076.4-2000, VitalStateTable.)
 
-ghost use Rattle.std.specs.Prelude.{◌≡◌, codes};
-ghost use Rattle.rule_readers.specs.Reading.{read, Reads, Many};
+ghost use Rattle.std.specs.Prelude.{◌≡◌, IfOk};
+ghost use Rattle.rule_readers.specs.Reading.{read, Reads, ReadsAs};
 ghost use Rattle.vhdl_text.specs.VhdlRules as rules;
 ghost use Rattle.vhdl_text.specs.VhdlNames as spec;
+ghost use Rattle.vhdl_statements.specs.NextColumns.{with_column, MayStand};
 
-use rule_readers::Read;
+use part_readers::{RepeatedPart, with_read};
+use rule_readers::{Read, Stop};
 use std::marker::Model;
 use vhdl_text::Columns;
 use vhdl_words::{
-    Cursor, Declarations, Listed, input_of, is_number_token, list_end, unlisted, width_at,
+    Cursor, Declarations, Listed, Vhdl, elements, input_of, list_end, unlisted, width_at,
 };
 
 /// The columns of a table, with inputs of which each is found at once. Contracts see them as `Columns`.
@@ -45,21 +47,43 @@ fn takes_violation(scope: &Declarations, columns: &ListedColumns) -> bool
     scope.variables().periods.len() > 0 && column_count(columns) == 0
 }
 
-/// One more column.
-#[tactic(auto, unfolding(vhdl_text::specs::VhdlNames::next_column), using(crate::proofs::NextColumn::violation, crate::proofs::NextColumn::other, crate::proofs::NextColumn::undefined, crate::proofs::NextColumn::twice, crate::proofs::NextColumn::fits))]
-fn next_column(
+impl ListedColumns {
+    ghost use Rattle.std.specs.Prelude.{◌≡◌, IfOk, IfErr};
+    ghost use Rattle.vhdl_statements.specs.NextColumns.{with_column, MayStand};
+
+    /// These columns, and one more behind them: an input, or, as None, the violation.
+    fn with(self, column: Option<usize>) -> Read<ListedColumns>
+        requires { MayStand self column }
+        ensures added { IfOk result (λ more. more ≡ with_column self column) }
+        ensures memory { IfErr result (λ stop. stop ≡ Stop.Memory) }
+    {
+        let ListedColumns { violation, inputs } = self;
+        match column {
+            None => Ok(ListedColumns {
+                violation: true,
+                inputs,
+            }),
+            Some(port) => Ok(ListedColumns {
+                violation,
+                inputs: inputs.with(port)?,
+            }),
+        }
+    }
+}
+
+/// The column that stands next behind these: an input, or, as None, the violation.
+#[tactic(auto, unfolding(vhdl_text::specs::VhdlNames::next_column), using(crate::proofs::NextColumn::violation, crate::proofs::NextColumn::other, crate::proofs::NextColumn::undefined, crate::proofs::NextColumn::twice, crate::proofs::NextColumn::fits, crate::proofs::NextColumn::none_before))]
+fn a_column(
     cursor: &mut Cursor,
     scope: &Declarations,
-    columns: ListedColumns,
-) -> Read<ListedColumns>
-    ensures { Reads (read (spec.next_column scope.now columns) cursor.old) result cursor.new }
+    columns: &ListedColumns,
+) -> Read<Option<usize>>
+    ensures reads { ReadsAs (with_column columns.now) (read (spec.next_column scope.now columns.now) cursor.old) result cursor.new }
+    ensures allowed { IfOk result (MayStand columns.now) }
 {
-    if takes_violation(scope, &columns) && cursor.is_next(b"viol") {
+    if takes_violation(scope, columns) && cursor.is_next(b"viol") {
         cursor.skip();
-        return Ok(ListedColumns {
-            violation: true,
-            inputs: Listed::new(scope.alloc()),
-        });
+        return Ok(None);
     }
     unlisted!(
         cursor,
@@ -67,49 +91,27 @@ fn next_column(
         port = input_of(scope.ports(), token)?,
         columns.inputs.has(port)
     );
-    let ListedColumns { violation, inputs } = columns;
-    Ok(ListedColumns {
-        violation,
-        inputs: inputs.with(port)?,
-    })
+    Ok(Some(port))
 }
 
-/// The columns behind these.
-#[tactic(auto, using(rule_readers::proofs::Repeats::turns))]
-fn more_columns(
-    cursor: &mut Cursor,
-    scope: &Declarations,
-    mut columns: ListedColumns,
-) -> Read<ListedColumns>
-    ensures { Reads (read (Many (λ _. rules.begins (codes ",")) (λ found _. spec.next_column scope.now found) columns) cursor.old) result cursor.new }
-{
-    for _turn in 0..cursor.left() {
-        if !cursor.is_next(b",") {
-            break;
-        }
-        cursor.skip();
-        columns = next_column(cursor, scope, columns)?;
+/// A column, behind others.
+#[derive(Drop)]
+struct NextColumn<'a>(&'a Declarations);
+
+impl RepeatedPart<Vhdl> for NextColumn<'_> {
+    type Found = ListedColumns;
+
+    ghost reading = { λ column columns s. read (spec.next_column column.0.now columns) s };
+
+    fn next(&self, cursor: &mut Cursor<'_>, columns: ListedColumns) -> Read<ListedColumns> {
+        let column = a_column(cursor, self.0, &columns);
+        let (columns, column) = with_read(columns, column)?;
+        columns.with(column)
     }
-    Ok(columns)
-}
-
-/// Two columns or more.
-#[tactic(auto, unfolding(vhdl_text::specs::VhdlRules::several_elements, vhdl_text::specs::VhdlRules::more_elements))]
-fn several_columns(
-    cursor: &mut Cursor,
-    scope: &Declarations,
-    none: ListedColumns,
-) -> Read<ListedColumns>
-    ensures { Reads (read (rules.several_elements (spec.next_column scope.now) none) cursor.old) result cursor.new }
-{
-    let first = next_column(cursor, scope, none)?;
-    cursor.expect(b",")?;
-    let second = next_column(cursor, scope, first)?;
-    more_columns(cursor, scope, second)
 }
 
 /// All columns of a list.
-#[tactic(auto, unfolding(vhdl_text::specs::VhdlRules::elements, vhdl_text::specs::VhdlRules::only_element), using(rule_readers::proofs::Choices::choose_by, rule_readers::proofs::Choices::choose_not_by))]
+#[tactic(auto, unfolding(vhdl_text::specs::VhdlRules::elements, vhdl_text::specs::VhdlRules::only_element, vhdl_text::specs::VhdlRules::several_elements, vhdl_text::specs::VhdlRules::more_elements))]
 fn listed_columns(
     cursor: &mut Cursor,
     scope: &Declarations,
@@ -117,12 +119,7 @@ fn listed_columns(
 ) -> Read<ListedColumns>
     ensures { Reads (read (rules.elements (spec.next_column scope.now) none) cursor.old) result cursor.new }
 {
-    if !is_number_token(0, cursor.bytes()) {
-        return several_columns(cursor, scope, none);
-    }
-    cursor.skip();
-    cursor.expect(b"=>")?;
-    next_column(cursor, scope, none)
+    elements(cursor, &NextColumn(scope), none)
 }
 
 /// The columns of the state with this number, and the end of their list.

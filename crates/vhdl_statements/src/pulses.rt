@@ -14,7 +14,7 @@ use vhdl_tokens::is_same;
 use vhdl_words::Cursor;
 
 /// What is checked of one signal: the kind, and the edges of the earlier and of the later event.
-#[derive(Clone, Copy, Debug, PartialEq, Eq)]
+#[derive(Clone, Copy)]
 pub struct Pulse {
     /// What is checked.
     pub kind: CheckKind,

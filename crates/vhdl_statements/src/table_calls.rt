@@ -1,47 +1,40 @@
 //! The violation of the checks, and the calls of state tables. (IEEE 1076.4-2000, VitalStateTable; IEEE 1076-1993, 8.5.)
 
 ghost use Rattle.std.specs.Prelude.{◌+◌, ◌<◌, ◌≤◌, ◌^◌, nat_lt, length, IfOk, codes};
-ghost use Rattle.rule_readers.specs.Reading.{read, Reads, Many};
+ghost use Rattle.rule_readers.specs.Reading.{read, Reads};
 ghost use Rattle.vhdl_text.specs.VhdlRules as rules;
 ghost use Rattle.vhdl_text.specs.VhdlChecks as spec;
 
 use crate::columns::columns_of;
 use crate::limits::report;
+use part_readers::{RepeatedPart, one_or_more, while_next};
 use rule_readers::{Read, Stop};
 use sqlite_items::Items;
 use std::alloc::Global;
 use vhdl_text::Columns;
-use vhdl_words::{Cursor, Declarations, expect_all, numbered};
+use vhdl_words::{Cursor, Declarations, Vhdl, expect_all, numbered};
 
-/// How many reports of so many checks stand, with the next behind so many.
-#[tactic(auto, unfolding(vhdl_text::specs::VhdlChecks::next_report))]
-fn next_report(cursor: &mut Cursor, alloc: Global, checks: usize, before: usize) -> Read<usize>
-    requires { before < 2 ^ 63 }
-    ensures value { Reads (read (spec.next_report checks before) cursor.old) result cursor.new }
-    ensures within { IfOk result (λ after. after ≤ checks) }
-{
-    if before >= checks {
-        return Err(Stop::Refused(cursor.no_name()));
-    }
-    report(cursor, alloc, checks, before)?;
-    Ok(before + 1)
+/// The report of a check that stands behind those of so many, of this many checks.
+#[derive(Drop)]
+struct NextReport {
+    alloc: Global,
+    checks: usize,
+    ghost few: { checks < 2 ^ 63 },
 }
 
-/// How many reports of so many checks stand behind so many.
-#[tactic(auto, using(rule_readers::proofs::Repeats::turns))]
-fn more_reports(cursor: &mut Cursor, alloc: Global, checks: usize, mut count: usize) -> Read<usize>
-    requires fits { checks < 2 ^ 63 }
-    requires within { count ≤ checks }
-    ensures { Reads (read (Many (λ _. rules.begins (codes "or")) (λ j _. spec.next_report checks j) count) cursor.old) result cursor.new }
-{
-    for _turn in 0..cursor.left() {
-        if !cursor.is_next(b"or") {
-            break;
+impl RepeatedPart<Vhdl> for NextReport {
+    type Found = usize;
+
+    ghost reading = { λ report before s. read (spec.next_report report.checks before) s };
+
+    #[tactic(auto, unfolding(vhdl_text::specs::VhdlChecks::next_report))]
+    fn next(&self, cursor: &mut Cursor<'_>, before: usize) -> Read<usize> {
+        if before >= self.checks {
+            return Err(Stop::Refused(cursor.no_name()));
         }
-        cursor.skip();
-        count = next_report(cursor, alloc, checks, count)?;
+        report(cursor, self.alloc, self.checks, before)?;
+        Ok(before + 1)
     }
-    Ok(count)
 }
 
 /// The reports of so many checks, in order.
@@ -51,8 +44,7 @@ fn any_report(cursor: &mut Cursor, alloc: Global, checks: usize) -> Read<()>
     ensures { Reads (read (spec.any_report checks) cursor.old) result cursor.new }
 {
     expect_all(cursor, &[b"viol", b":="])?;
-    let one = next_report(cursor, alloc, checks, 0)?;
-    let count = more_reports(cursor, alloc, checks, one)?;
+    let count = one_or_more(cursor, b"or", &NextReport { alloc, checks }, 0)?;
     cursor.go_on_where(count == checks)?;
     cursor.expect(b";")
 }
@@ -93,39 +85,23 @@ fn state_call_start(cursor: &mut Cursor, scope: &Declarations, states: &[Columns
     expect_all(cursor, &[b",", b"DataIn", b"=>", b"("])
 }
 
-/// One more call, behind its word.
-#[tactic(auto, unfolding(vhdl_text::specs::VhdlChecks::state_call))]
-fn state_call(
-    cursor: &mut Cursor,
-    scope: &Declarations,
-    mut states: Items<Columns>,
-) -> Read<Items<Columns>>
-    ensures { Reads (read (spec.state_call scope.now states) cursor.old) result cursor.new }
-{
-    state_call_start(cursor, scope, states.as_slice())?;
-    let columns = columns_of(cursor, scope, states.len())?;
-    expect_all(cursor, &[b")", b";"])?;
-    states.push(columns)?;
-    Ok(states)
-}
+/// A call of the table of a state, behind its word.
+#[derive(Drop)]
+struct StateCall<'a>(&'a Declarations);
 
-/// The calls behind these.
-#[tactic(auto, using(rule_readers::proofs::Repeats::turns))]
-fn more_state_calls(
-    cursor: &mut Cursor,
-    scope: &Declarations,
-    mut states: Items<Columns>,
-) -> Read<Items<Columns>>
-    ensures { Reads (read (Many (λ _. rules.begins (codes "VitalStateTable")) (λ found _. spec.state_call scope.now found) states) cursor.old) result cursor.new }
-{
-    for _turn in 0..cursor.left() {
-        if !cursor.is_next(b"VitalStateTable") {
-            break;
-        }
-        cursor.skip();
-        states = state_call(cursor, scope, states)?;
+impl RepeatedPart<Vhdl> for StateCall<'_> {
+    type Found = Items<Columns>;
+
+    ghost reading = { λ call states s. read (spec.state_call call.0.now states) s };
+
+    #[tactic(auto, unfolding(vhdl_text::specs::VhdlChecks::state_call))]
+    fn next(&self, cursor: &mut Cursor<'_>, mut states: Items<Columns>) -> Read<Items<Columns>> {
+        state_call_start(cursor, self.0, states.as_slice())?;
+        let columns = columns_of(cursor, self.0, states.len())?;
+        expect_all(cursor, &[b")", b";"])?;
+        states.push(columns)?;
+        Ok(states)
     }
-    Ok(states)
 }
 
 /// The calls, one for each state.
@@ -133,7 +109,8 @@ fn more_state_calls(
 pub fn state_calls(cursor: &mut Cursor, scope: &Declarations) -> Read<Items<Columns>>
     ensures { Reads (read (spec.state_calls scope.now) cursor.old) result cursor.new }
 {
-    let states = more_state_calls(cursor, scope, Items::new(scope.alloc()))?;
+    let none = Items::new(scope.alloc());
+    let states = while_next(cursor, b"VitalStateTable", &StateCall(scope), none)?;
     cursor.go_on_where(states.len() == scope.tables().states.len())?;
     Ok(states)
 }

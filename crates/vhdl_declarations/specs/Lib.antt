@@ -1,2 +1,4 @@
 pub mod Kinds
 pub mod Tails
+pub mod Scopes
+pub mod Rows

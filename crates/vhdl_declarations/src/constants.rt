@@ -10,16 +10,17 @@ ghost use Rattle.vhdl_declarations.specs.Kinds.{constant_kind};
 
 use crate::state_rows::state_table;
 use crate::truth_rows::truth_table;
+use part_readers::{RepeatedPart, where_read, while_next};
 use rule_readers::{Read, Refusal, Stop};
 use sqlite_items::Items;
 use std::alloc::{AllocError, Global};
 use vhdl_text::Tables;
 use vhdl_tokens::is_name;
-use vhdl_words::{Cursor, is_numbered};
+use vhdl_words::{Cursor, Vhdl, is_numbered};
 use vital_models::TruthTable;
 
 /// What the next constant is a table of.
-#[derive(Clone, Copy, Debug, PartialEq, Eq)]
+#[derive(Clone, Copy)]
 pub enum ConstantOf {
     /// A state or an output.
     StateOrOutput,
@@ -75,16 +76,16 @@ fn truth_constant(cursor: &mut Cursor<'_>, alloc: Global) -> Read<TruthTable>
     Ok(table)
 }
 
-/// The table of a state, behind the type of its constant.
+/// The table of a state, behind the type of its constant, which stands behind these tables then.
 #[tactic(auto, unfolding(vhdl_text::specs::VhdlTables::state_constant))]
-fn state_constant(cursor: &mut Cursor<'_>, alloc: Global, mut tables: Tables) -> Read<Tables>
-    ensures { Reads (read (spec.state_constant tables) cursor.old) result cursor.new }
+fn state_constant(cursor: &mut Cursor<'_>, alloc: Global, tables: &mut Tables) -> Read<()>
+    ensures { ReadsAs (λ _. tables.new) (read (spec.state_constant tables.old) cursor.old) result cursor.new }
 {
     cursor.expect(b":=")?;
     let table = state_table(cursor, alloc)?;
     cursor.expect(b";")?;
     tables.states.push(table)?;
-    Ok(tables)
+    Ok(())
 }
 
 /// Whether neither the table of a condition nor that of an output stands yet.
@@ -94,53 +95,62 @@ fn is_before_truth_tables(tables: &Tables) -> bool
     tables.outputs.len() == 0 && tables.conditions.len() == 0
 }
 
-/// The table of a state or of an output, behind the `:` of its constant.
+/// The table of a state or of an output, behind the `:` of its constant, which stands behind these tables then.
 #[tactic(auto, unfolding(vhdl_text::specs::VhdlTables::output_constant), using(crate::proofs::NextConstant::state_begun, crate::proofs::NextConstant::no_state))]
-fn state_or_output(cursor: &mut Cursor<'_>, alloc: Global, mut tables: Tables) -> Read<Tables>
-    ensures { Reads (read (spec.constant_by tables spec.StateOrOutput) cursor.old) result cursor.new }
+fn state_or_output(cursor: &mut Cursor<'_>, alloc: Global, tables: &mut Tables) -> Read<()>
+    ensures { ReadsAs (λ _. tables.new) (read (spec.constant_by tables.old spec.StateOrOutput) cursor.old) result cursor.new }
 {
-    if is_before_truth_tables(&tables) && cursor.is_next(b"VitalStateTableType") {
+    if is_before_truth_tables(tables) && cursor.is_next(b"VitalStateTableType") {
         cursor.skip();
         return state_constant(cursor, alloc, tables);
     }
     let table = truth_constant(cursor, alloc)?;
     tables.outputs.push(table)?;
-    Ok(tables)
+    Ok(())
 }
 
-/// One more constant, behind its word.
+/// A constant, behind its word, whose table stands behind these then.
 #[tactic(auto, unfolding(vhdl_text::specs::VhdlTables::constant, vhdl_text::specs::VhdlTables::condition_constant))]
-fn constant(cursor: &mut Cursor<'_>, alloc: Global, mut tables: Tables) -> Read<Tables>
-    ensures { Reads (read (spec.constant tables) cursor.old) result cursor.new }
+fn constant(cursor: &mut Cursor<'_>, alloc: Global, tables: &mut Tables) -> Read<()>
+    ensures { ReadsAs (λ _. tables.new) (read (spec.constant tables.old) cursor.old) result cursor.new }
 {
-    let of = constant_name(cursor, alloc, &tables)?;
+    let of = constant_name(cursor, alloc, tables)?;
     cursor.expect(b":")?;
     match of {
         ConstantOf::StateOrOutput => state_or_output(cursor, alloc, tables),
         ConstantOf::Condition => {
             let table = truth_constant(cursor, alloc)?;
             tables.conditions.push(table)?;
-            Ok(tables)
+            Ok(())
         }
     }
 }
 
+/// A constant, behind its word.
+#[derive(Drop)]
+struct NextConstant(Global);
+
+impl RepeatedPart<Vhdl> for NextConstant {
+    type Found = Tables;
+
+    ghost reading = { λ _ tables s. read (spec.constant tables) s };
+
+    #[tactic(auto, using(part_readers::proofs::WithRest::reads_before))]
+    fn next(&self, cursor: &mut Cursor<'_>, mut tables: Tables) -> Read<Tables> {
+        let rest = constant(cursor, self.0, &mut tables);
+        where_read(tables, rest)
+    }
+}
+
 /// All constants.
-#[tactic(auto, unfolding(vhdl_text::specs::VhdlTables::constants), using(rule_readers::proofs::Repeats::turns))]
+#[tactic(auto, unfolding(vhdl_text::specs::VhdlTables::constants))]
 pub fn constants(cursor: &mut Cursor<'_>, alloc: Global) -> Read<Tables>
     ensures { Reads (read spec.constants cursor.old) result cursor.new }
 {
-    let mut tables = Tables {
+    let none = Tables {
         states: Items::new(alloc),
         conditions: Items::new(alloc),
         outputs: Items::new(alloc),
     };
-    for _turn in 0..cursor.left() {
-        if !cursor.is_next(b"constant") {
-            break;
-        }
-        cursor.skip();
-        tables = constant(cursor, alloc, tables)?;
-    }
-    Ok(tables)
+    while_next(cursor, b"constant", &NextConstant(alloc), none)
 }

@@ -1,18 +1,20 @@
 //! The header of an entity: its packages, name and ports. (IEEE 1076-1993, 1.1, 1.2 and 10.4.)
 
-ghost use Rattle.std.specs.Prelude.{◌≡◌, [], true, false, IfOk, codes};
-ghost use Rattle.rule_readers.specs.Reading.{read, Many, Reads};
+ghost use Rattle.std.specs.Prelude.{◌≡◌, [], ◌∷◌, ◌++◌, true, false, IfOk};
+ghost use Rattle.rule_readers.specs.Reading.{read, Reads, ReadsAs};
 ghost use Rattle.rule_readers.specs.Words.{valued};
 ghost use Rattle.vhdl_tokens.specs.Tokens.{is_name};
 ghost use Rattle.vhdl_text.specs.VhdlRules as rules;
 ghost use Rattle.vhdl_text.specs.VhdlDeclarations as spec;
+ghost use Rattle.vhdl_declarations.specs.Tails as tails;
 
+use part_readers::{RepeatedPart, one_or_more, with_read};
 use rule_readers::{Read, Refusal, Stop};
 use sqlite_items::Items;
 use std::alloc::Global;
 use udp_tables::VPort;
 use vhdl_tokens::{is_name, is_same};
-use vhdl_words::{Cursor, Ports, either_word, expect_all};
+use vhdl_words::{Cursor, Ports, Vhdl, either_word, expect_all};
 
 /// The packages that an entity uses, behind its first word.
 #[tactic(auto, unfolding(vhdl_text::specs::VhdlDeclarations::packages))]
@@ -88,52 +90,60 @@ fn direction(cursor: &mut Cursor<'_>) -> Read<bool>
     either_word(cursor, b"in", true, b"out", false)
 }
 
-/// One more port of this entity.
+/// A port of this entity, behind these ports, whose name is none of theirs.
 #[tactic(auto, unfolding(vhdl_text::specs::VhdlDeclarations::next_port))]
-fn next_port(cursor: &mut Cursor<'_>, alloc: Global, entity: &[u8], ports: Ports) -> Read<Ports>
-    ensures { Reads (read (spec.next_port entity.now ports) cursor.old) result cursor.new }
+fn a_port(cursor: &mut Cursor<'_>, alloc: Global, entity: &[u8], ports: &Ports) -> Read<VPort>
+    ensures reads { ReadsAs (λ port. ports.now ++ port ∷ []) (read (spec.next_port entity.now ports.now) cursor.old) result cursor.new }
+    ensures named { IfOk result (λ port. is_name port.name ≡ true) }
+    ensures fresh { IfOk result (λ port. rules.is_among (spec.port_names ports.now) port.name ≡ false) }
 {
-    let name = port_name(cursor, alloc, entity, &ports)?;
+    let name = port_name(cursor, alloc, entity, ports)?;
     cursor.expect(b":")?;
     let input = direction(cursor)?;
     cursor.expect(b"std_ulogic")?;
-    ports.with(VPort { name, input })
+    Ok(VPort { name, input })
 }
 
-/// The ports of this entity behind these.
-#[tactic(auto, using(rule_readers::proofs::Repeats::turn, vhdl_words::proofs::NextWords::choose_begun, vhdl_words::proofs::NextWords::choose_other))]
-fn more_ports(
-    cursor: &mut Cursor<'_>,
+/// A port of this entity.
+#[derive(Drop)]
+struct NextPort<'a> {
     alloc: Global,
-    entity: &[u8],
-    mut ports: Ports,
-) -> Read<Ports>
-    ensures { Reads (read (Many (λ _. rules.begins (codes ";")) (λ found _. spec.next_port entity.now found) ports) cursor.old) result cursor.new }
-{
-    for _turn in 0..cursor.left() {
-        if !cursor.is_next(b";") {
-            break;
-        }
-        cursor.skip();
-        ports = next_port(cursor, alloc, entity, ports)?;
-    }
-    Ok(ports)
+    entity: &'a [u8],
 }
 
-/// The ports of this entity, behind their word.
-#[tactic(auto, unfolding(vhdl_text::specs::VhdlDeclarations::port_list))]
-fn port_list(cursor: &mut Cursor<'_>, alloc: Global, entity: &[u8]) -> Read<Ports>
-    ensures { Reads (read (spec.port_list entity.now) cursor.old) result cursor.new }
+impl RepeatedPart<Vhdl> for NextPort<'_> {
+    type Found = Ports;
+
+    ghost reading = { λ port ports s. read (spec.next_port port.entity.now ports) s };
+
+    fn next(&self, cursor: &mut Cursor<'_>, ports: Ports) -> Read<Ports> {
+        let port = a_port(cursor, self.alloc, self.entity, &ports);
+        let (ports, port) = with_read(ports, port)?;
+        ports.with(port)
+    }
+}
+
+/// The end of the list of these ports.
+#[tactic(auto, unfolding(crate::specs::Tails::ports_end))]
+fn ports_end<T: Drop>(cursor: &mut Cursor<'_>, ports: T) -> Read<T>
+    ensures { Reads (read (tails.ports_end ports) cursor.old) result cursor.new }
 {
-    cursor.expect(b"(")?;
-    let first = next_port(cursor, alloc, entity, Ports::new(alloc))?;
-    let ports = more_ports(cursor, alloc, entity, first)?;
     expect_all(cursor, &[b")", b";"])?;
     Ok(ports)
 }
 
+/// The ports of this entity, behind their word.
+#[tactic(auto, unfolding(vhdl_text::specs::VhdlDeclarations::port_list, crate::specs::Tails::ports_end))]
+fn port_list(cursor: &mut Cursor<'_>, alloc: Global, entity: &[u8]) -> Read<Ports>
+    ensures { Reads (read (spec.port_list entity.now) cursor.old) result cursor.new }
+{
+    cursor.expect(b"(")?;
+    let ports = one_or_more(cursor, b";", &NextPort { alloc, entity }, Ports::new(alloc))?;
+    ports_end(cursor, ports)
+}
+
 /// The ports of this entity, if there are any.
-#[tactic(auto, unfolding(vhdl_text::specs::VhdlDeclarations::ports_of), using(vhdl_words::proofs::NextWords::choose_begun, vhdl_words::proofs::NextWords::choose_other))]
+#[tactic(auto, unfolding(vhdl_text::specs::VhdlDeclarations::ports_of), using(rule_readers::proofs::Repeats::choose_begun, rule_readers::proofs::Repeats::choose_other))]
 fn ports_of(cursor: &mut Cursor<'_>, alloc: Global, entity: &[u8]) -> Read<Ports>
     ensures { Reads (read (spec.ports_of entity.now) cursor.old) result cursor.new }
 {
@@ -144,17 +154,25 @@ fn ports_of(cursor: &mut Cursor<'_>, alloc: Global, entity: &[u8]) -> Read<Ports
     port_list(cursor, alloc, entity)
 }
 
+/// The end of the header of this entity, behind these ports.
+#[tactic(auto, unfolding(crate::specs::Tails::header_end))]
+fn header_end<T: Drop>(cursor: &mut Cursor<'_>, entity: &[u8], ports: T) -> Read<T>
+    ensures { Reads (read (tails.header_end entity.now ports) cursor.old) result cursor.new }
+{
+    cursor.expect(b"end")?;
+    cursor.this_name(entity)?;
+    cursor.expect(b";")?;
+    Ok(ports)
+}
+
 /// The header of this entity, behind its name.
-#[tactic(auto, unfolding(vhdl_text::specs::VhdlDeclarations::entity_header))]
+#[tactic(auto, unfolding(vhdl_text::specs::VhdlDeclarations::entity_header, crate::specs::Tails::header_end))]
 pub fn entity_header(cursor: &mut Cursor<'_>, alloc: Global, entity: &[u8]) -> Read<Ports>
     ensures { Reads (read (spec.entity_header entity.now) cursor.old) result cursor.new }
 {
     cursor.expect(b"is")?;
     let ports = ports_of(cursor, alloc, entity)?;
-    cursor.expect(b"end")?;
-    cursor.this_name(entity)?;
-    cursor.expect(b";")?;
-    Ok(ports)
+    header_end(cursor, entity, ports)
 }
 
 /// The header of the architecture of this entity.

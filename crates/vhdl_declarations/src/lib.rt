@@ -4,6 +4,7 @@
 mod constants;
 mod header;
 mod process;
+mod rows;
 mod scope;
 mod state_rows;
 mod symbols;

@@ -1,15 +1,15 @@
 //! The process of an architecture up to its statements: its sensitivity list. (IEEE 1076-1993, 9.2.)
 
-ghost use Rattle.std.specs.Prelude.{◌≡◌, IfOk, codes};
-ghost use Rattle.rule_readers.specs.Reading.{read, Many, Reads};
-ghost use Rattle.vhdl_text.specs.VhdlRules as rules;
+ghost use Rattle.std.specs.Prelude.{◌≡◌, IfOk};
+ghost use Rattle.rule_readers.specs.Reading.{read, Reads};
 ghost use Rattle.vhdl_text.specs.VhdlDeclarations as spec;
 
+use part_readers::{RepeatedPart, one_or_more};
 use rule_readers::{Read, Stop};
 use sqlite_items::Items;
 use std::alloc::{AllocError, Global};
 use udp_tables::VPort;
-use vhdl_words::Cursor;
+use vhdl_words::{Cursor, Vhdl};
 
 /// The names of the inputs, in order. An `Err` comes only where memory is wanting.
 pub fn input_names(alloc: Global, ports: &[VPort]) -> Result<Items<Items<u8>>, AllocError>
@@ -24,31 +24,23 @@ pub fn input_names(alloc: Global, ports: &[VPort]) -> Result<Items<Items<u8>>, A
     Ok(names)
 }
 
-/// The next of these names, where so many stand before it.
-#[tactic(auto, unfolding(vhdl_text::specs::VhdlDeclarations::listed_name))]
-fn listed_name(cursor: &mut Cursor<'_>, names: &[Items<u8>], count: usize) -> Read<usize>
-    ensures { Reads (read (spec.listed_name names.now count) cursor.old) result cursor.new }
-{
-    let Some(name) = names.get(count) else {
-        return Err(Stop::Refused(cursor.no_name()));
-    };
-    cursor.this_name(name.as_slice())?;
-    Ok(count + 1)
-}
+/// The name of these that stands behind so many of them.
+#[derive(Drop)]
+struct ListedName<'a>(&'a [Items<u8>]);
 
-/// How many of these names stand behind so many.
-#[tactic(auto, using(rule_readers::proofs::Repeats::turn, vhdl_words::proofs::NextWords::choose_begun, vhdl_words::proofs::NextWords::choose_other))]
-fn more_listed_names(cursor: &mut Cursor<'_>, names: &[Items<u8>], mut count: usize) -> Read<usize>
-    ensures { Reads (read (Many (λ _. rules.begins (codes ",")) (λ n _. spec.listed_name names.now n) count) cursor.old) result cursor.new }
-{
-    for _turn in 0..cursor.left() {
-        if !cursor.is_next(b",") {
-            break;
-        }
-        cursor.skip();
-        count = listed_name(cursor, names, count)?;
+impl RepeatedPart<Vhdl> for ListedName<'_> {
+    type Found = usize;
+
+    ghost reading = { λ listed count s. read (spec.listed_name listed.0.now count) s };
+
+    #[tactic(auto, unfolding(vhdl_text::specs::VhdlDeclarations::listed_name))]
+    fn next(&self, cursor: &mut Cursor<'_>, count: usize) -> Read<usize> {
+        let Some(name) = self.0.get(count) else {
+            return Err(Stop::Refused(cursor.no_name()));
+        };
+        cursor.this_name(name.as_slice())?;
+        Ok(count + 1)
     }
-    Ok(count)
 }
 
 /// All these names in order.
@@ -57,8 +49,7 @@ fn listed_names(cursor: &mut Cursor<'_>, names: &[Items<u8>]) -> Read<()>
     ensures { Reads (read (spec.listed_names names.now) cursor.old) result cursor.new }
 {
     cursor.expect(b"(")?;
-    let one = listed_name(cursor, names, 0)?;
-    let count = more_listed_names(cursor, names, one)?;
+    let count = one_or_more(cursor, b",", &ListedName(names), 0)?;
     cursor.go_on_where(count == names.len())?;
     cursor.expect(b")")
 }

@@ -1,8 +1,9 @@
 //! The declarations of an entity and of its architecture. (IEEE 1076-1993, 1.1 and 1.2.)
 
-ghost use Rattle.rule_readers.specs.Reading.{read, Reads};
+ghost use Rattle.rule_readers.specs.Reading.{read, Reads, ReadsAs};
 ghost use Rattle.vhdl_text.specs.VhdlDeclarations as spec;
 ghost use Rattle.vhdl_declarations.specs.Tails as tails;
+ghost use Rattle.vhdl_declarations.specs.Scopes.{scope_with};
 
 use crate::constants::constants;
 use crate::header::{architecture_header, entity_header};
@@ -11,47 +12,58 @@ use crate::variables::variables;
 use rule_readers::Read;
 use sqlite_items::Items;
 use std::alloc::Global;
-use vhdl_text::Tables;
+use vhdl_text::{Tables, Variables};
 use vhdl_words::{Cursor, Declarations, Ports, expect_all};
 
-/// The declarations behind the sensitivity list.
-#[tactic(auto, unfolding(crate::specs::Tails::behind_sensitivity))]
-fn behind_sensitivity(
-    cursor: &mut Cursor<'_>,
-    alloc: Global,
-    name: Items<u8>,
-    ports: Ports,
-    tables: Tables,
-) -> Read<Declarations>
-    ensures { Reads (read (tails.behind_sensitivity name ports tables) cursor.old) result cursor.new }
-{
-    let variables = variables(cursor, alloc, &ports, &tables)?;
-    cursor.expect(b"begin")?;
-    Ok(Declarations::new(name, ports, tables, variables))
+/// What is declared in an architecture.
+#[derive(Drop)]
+pub struct Architecture {
+    pub tables: Tables,
+    pub variables: Variables,
 }
 
-/// The declarations behind both headers.
-#[tactic(auto, unfolding(crate::specs::Tails::behind_headers))]
-fn behind_headers(
+/// The architecture of an entity with these ports, behind the entity's header, up to the `begin` before the statements.
+#[tactic(auto, unfolding(crate::specs::Tails::behind_header))]
+fn declared_inside(
     cursor: &mut Cursor<'_>,
     alloc: Global,
-    name: Items<u8>,
-    ports: Ports,
-) -> Read<Declarations>
-    ensures { Reads (read (tails.behind_headers name ports) cursor.old) result cursor.new }
+    entity: &[u8],
+    ports: &Ports,
+) -> Read<Architecture>
+    ensures { ReadsAs (scope_with entity.now ports.now) (read (tails.behind_header entity.now ports.now) cursor.old) result cursor.new }
 {
+    architecture_header(cursor, entity)?;
     let tables = constants(cursor, alloc)?;
     expect_all(cursor, &[b"begin", b"process"])?;
     sensitivity(cursor, alloc, ports.as_slice())?;
-    behind_sensitivity(cursor, alloc, name, ports, tables)
+    let variables = variables(cursor, alloc, ports, &tables)?;
+    cursor.expect(b"begin")?;
+    Ok(Architecture { tables, variables })
+}
+
+/// The declarations behind the header of the entity of this name, with these ports.
+fn behind_header(
+    cursor: &mut Cursor<'_>,
+    alloc: Global,
+    name: Items<u8>,
+    ports: Ports,
+) -> Read<Declarations>
+    ensures { Reads (read (tails.behind_header name ports) cursor.old) result cursor.new }
+{
+    let Architecture { tables, variables } = declared_inside(
+        cursor,
+        alloc,
+        name.as_slice(),
+        &ports,
+    )?;
+    Ok(Declarations::new(name, ports, tables, variables))
 }
 
 /// The declarations behind the name of an entity, up to the `begin` before the statements.
-#[tactic(auto, unfolding(vhdl_text::specs::VhdlDeclarations::scope_of, crate::specs::Tails::behind_headers, crate::specs::Tails::behind_sensitivity))]
+#[tactic(auto, unfolding(vhdl_text::specs::VhdlDeclarations::scope_of, crate::specs::Tails::behind_header))]
 pub fn scope_of(cursor: &mut Cursor<'_>, alloc: Global, name: Items<u8>) -> Read<Declarations>
     ensures { Reads (read (spec.scope_of name) cursor.old) result cursor.new }
 {
     let ports = entity_header(cursor, alloc, name.as_slice())?;
-    architecture_header(cursor, name.as_slice())?;
-    behind_headers(cursor, alloc, name, ports)
+    behind_header(cursor, alloc, name, ports)
 }

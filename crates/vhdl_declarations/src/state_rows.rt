@@ -1,16 +1,18 @@
 //! The tables of states. (IEEE 1076.4-2000, VitalStateTableType.)
 
-ghost use Rattle.std.specs.Prelude.{◌≡◌, [], codes};
+ghost use Rattle.std.specs.Prelude.{[]};
 ghost use Rattle.rule_readers.specs.declared.refusal.Refusal.TheVariants.{Syntax};
-ghost use Rattle.rule_readers.specs.Reading.{read, Many, Token, Reads};
+ghost use Rattle.rule_readers.specs.Reading.{read, Token, Reads};
 ghost use Rattle.vhdl_text.specs.VhdlRules as rules;
 ghost use Rattle.vhdl_text.specs.VhdlTables as spec;
 
+use crate::rows::{NextRow, TableRow};
 use crate::symbols::{has_edge, is_as_long_as_state_rows, is_edge, state_row_of, symbol_of};
+use part_readers::{RepeatedPart, one_or_more};
 use rule_readers::{Read, Refusal, Stop};
 use sqlite_items::Items;
-use std::alloc::Global;
-use vhdl_words::{Cursor, is_number_token};
+use std::alloc::{AllocError, Global};
+use vhdl_words::{Cursor, Vhdl, elements};
 use vital_models::{VStateRow, VStateTable, VSymbol};
 
 /// A symbol of a row, behind these.
@@ -27,29 +29,21 @@ fn a_symbol(cursor: &mut Cursor<'_>, symbols: &[VSymbol]) -> Read<VSymbol>
     Ok(symbol)
 }
 
-/// One more symbol of a row.
-#[tactic(auto, unfolding(vhdl_text::specs::VhdlTables::next_symbol))]
-fn next_symbol(cursor: &mut Cursor<'_>, mut symbols: Items<VSymbol>) -> Read<Items<VSymbol>>
-    ensures { Reads (read (spec.next_symbol symbols) cursor.old) result cursor.new }
-{
-    let symbol = a_symbol(cursor, symbols.as_slice())?;
-    symbols.push(symbol)?;
-    Ok(symbols)
-}
+/// A symbol of a row.
+#[derive(Drop)]
+struct NextSymbol;
 
-/// The symbols of a row behind these.
-#[tactic(auto, using(rule_readers::proofs::Repeats::turn, vhdl_words::proofs::NextWords::choose_begun, vhdl_words::proofs::NextWords::choose_other))]
-fn more_symbols(cursor: &mut Cursor<'_>, mut symbols: Items<VSymbol>) -> Read<Items<VSymbol>>
-    ensures { Reads (read (Many (λ _. rules.begins (codes ",")) (λ found _. spec.next_symbol found) symbols) cursor.old) result cursor.new }
-{
-    for _turn in 0..cursor.left() {
-        if !cursor.is_next(b",") {
-            break;
-        }
-        cursor.skip();
-        symbols = next_symbol(cursor, symbols)?;
+impl RepeatedPart<Vhdl> for NextSymbol {
+    type Found = Items<VSymbol>;
+
+    ghost reading = { λ _ symbols s. read (spec.next_symbol symbols) s };
+
+    #[tactic(auto, unfolding(vhdl_text::specs::VhdlTables::next_symbol))]
+    fn next(&self, cursor: &mut Cursor<'_>, mut symbols: Items<VSymbol>) -> Read<Items<VSymbol>> {
+        let symbol = a_symbol(cursor, symbols.as_slice())?;
+        symbols.push(symbol)?;
+        Ok(symbols)
     }
-    Ok(symbols)
 }
 
 /// The symbols of a row.
@@ -57,89 +51,36 @@ fn more_symbols(cursor: &mut Cursor<'_>, mut symbols: Items<VSymbol>) -> Read<It
 fn symbols(cursor: &mut Cursor<'_>, alloc: Global) -> Read<Items<VSymbol>>
     ensures { Reads (read spec.symbols cursor.old) result cursor.new }
 {
-    let first = next_symbol(cursor, Items::new(alloc))?;
-    more_symbols(cursor, first)
+    one_or_more(cursor, b",", &NextSymbol, Items::new(alloc))
 }
 
-/// The end of a row, where its symbols are this row, behind these rows.
-fn state_row_end(
-    cursor: &mut Cursor<'_>,
-    rows: &[VStateRow],
-    row: Option<VStateRow>,
-) -> Read<VStateRow>
-    ensures { Reads (read (Token (spec.row_end (spec.is_as_long_as_state_rows rows.now) row) Syntax) cursor.old) result cursor.new }
-{
-    let Some(row) = row else {
-        return Err(Stop::Refused(Refusal::Syntax));
-    };
-    if !cursor.is_next(b")") {
-        return Err(Stop::Refused(Refusal::Syntax));
+impl TableRow for VStateRow {
+    type Entry = VSymbol;
+
+    ghost entries = { λ s. read spec.symbols s };
+
+    ghost row_of = { spec.state_row_of };
+
+    ghost is_as_long = { spec.is_as_long_as_state_rows };
+
+    fn entries(cursor: &mut Cursor<'_>, alloc: Global) -> Read<Items<VSymbol>> {
+        symbols(cursor, alloc)
     }
-    if !is_as_long_as_state_rows(rows, &row) {
-        return Err(Stop::Refused(Refusal::Width));
+
+    fn row_of(alloc: Global, found: &[VSymbol]) -> Result<Option<VStateRow>, AllocError> {
+        state_row_of(alloc, found)
     }
-    cursor.skip();
-    Ok(row)
-}
 
-/// One more row.
-#[tactic(auto, unfolding(vhdl_text::specs::VhdlTables::state_row))]
-fn state_row(
-    cursor: &mut Cursor<'_>,
-    alloc: Global,
-    mut rows: Items<VStateRow>,
-) -> Read<Items<VStateRow>>
-    ensures { Reads (read (spec.state_row rows) cursor.old) result cursor.new }
-{
-    cursor.expect(b"(")?;
-    let all = symbols(cursor, alloc)?;
-    let row = state_row_of(alloc, all.as_slice())?;
-    let whole = state_row_end(cursor, rows.as_slice(), row)?;
-    rows.push(whole)?;
-    Ok(rows)
-}
-
-/// The rows of a table behind these.
-#[tactic(auto, using(rule_readers::proofs::Repeats::turn, vhdl_words::proofs::NextWords::choose_begun, vhdl_words::proofs::NextWords::choose_other))]
-fn more_state_rows(
-    cursor: &mut Cursor<'_>,
-    alloc: Global,
-    mut rows: Items<VStateRow>,
-) -> Read<Items<VStateRow>>
-    ensures { Reads (read (Many (λ _. rules.begins (codes ",")) (λ found _. spec.state_row found) rows) cursor.old) result cursor.new }
-{
-    for _turn in 0..cursor.left() {
-        if !cursor.is_next(b",") {
-            break;
-        }
-        cursor.skip();
-        rows = state_row(cursor, alloc, rows)?;
+    fn is_as_long(rows: &[VStateRow], row: &VStateRow) -> bool {
+        is_as_long_as_state_rows(rows, row)
     }
-    Ok(rows)
-}
-
-/// Two rows or more.
-#[tactic(auto, unfolding(vhdl_text::specs::VhdlRules::several_elements, vhdl_text::specs::VhdlRules::more_elements))]
-fn several_state_rows(cursor: &mut Cursor<'_>, alloc: Global) -> Read<Items<VStateRow>>
-    ensures { Reads (read (rules.several_elements spec.state_row []) cursor.old) result cursor.new }
-{
-    let first = state_row(cursor, alloc, Items::new(alloc))?;
-    cursor.expect(b",")?;
-    let second = state_row(cursor, alloc, first)?;
-    more_state_rows(cursor, alloc, second)
 }
 
 /// The rows of a table.
-#[tactic(auto, unfolding(vhdl_text::specs::VhdlRules::elements, vhdl_text::specs::VhdlRules::only_element), using(rule_readers::proofs::Choices::choose_by, rule_readers::proofs::Choices::choose_not_by))]
 fn state_rows(cursor: &mut Cursor<'_>, alloc: Global) -> Read<Items<VStateRow>>
     ensures { Reads (read (rules.elements spec.state_row []) cursor.old) result cursor.new }
 {
-    if !is_number_token(0, cursor.bytes()) {
-        return several_state_rows(cursor, alloc);
-    }
-    cursor.skip();
-    cursor.expect(b"=>")?;
-    state_row(cursor, alloc, Items::new(alloc))
+    elements(cursor, &NextRow::<VStateRow>::new(alloc), Items::new(alloc))
 }
 
 /// The table of a state.

@@ -16,7 +16,7 @@ use vhdl_tokens::is_name;
 use vhdl_words::{Cursor, Ports, is_numbered};
 
 /// What a variable is of.
-#[derive(Clone, Copy, Debug, PartialEq, Eq)]
+#[derive(Clone, Copy)]
 pub enum VariableOf {
     /// A check.
     Check,

@@ -1,17 +1,18 @@
 //! The variables of a process. (IEEE 1076-1993, 4.3.1.3; IEEE 1076.4-2000, the types of the data of checks and of delays.)
 
 ghost use Rattle.std.specs.Prelude.{◌≡◌, ◌+◌, ◌<◌, length, IfOk, Some, codes};
-ghost use Rattle.rule_readers.specs.Reading.{read, Many, Reads, ReadsAs};
+ghost use Rattle.rule_readers.specs.Reading.{read, Reads, ReadsAs};
 ghost use Rattle.rule_readers.specs.Words.{valued};
 ghost use Rattle.vhdl_text.specs.VhdlRules as rules;
 ghost use Rattle.vhdl_text.specs.VhdlDeclarations as spec;
 
 use crate::variable_names::{VariableOf, awaits_violation, variable_name};
+use part_readers::{RepeatedPart, where_read, while_next};
 use rule_readers::Read;
 use sqlite_items::Items;
 use std::alloc::{AllocError, Global};
 use vhdl_text::{Tables, Variables};
-use vhdl_words::{Cursor, Ports, either_word, expect_all, numbered, this_number, width_at};
+use vhdl_words::{Cursor, Ports, Vhdl, either_word, expect_all, numbered, this_number, width_at};
 
 /// The type of the data of a check.
 fn period_type(cursor: &mut Cursor<'_>) -> Read<bool>
@@ -100,44 +101,64 @@ fn set_last(flags: &mut Items<bool>) -> Result<(), AllocError>
     }
 }
 
-/// One more variable, behind its word.
+/// A variable, behind its word, which stands behind these then.
 #[tactic(auto, unfolding(vhdl_text::specs::VhdlDeclarations::variable, vhdl_text::specs::VhdlDeclarations::violation_variable, vhdl_text::specs::VhdlDeclarations::output_variable, vhdl_text::specs::VhdlDeclarations::glitch_variable))]
 fn variable(
     cursor: &mut Cursor<'_>,
     alloc: Global,
     ports: &Ports,
     tables: &Tables,
-    mut variables: Variables,
-) -> Read<Variables>
-    ensures { Reads (read (spec.variable ports.now tables.now variables) cursor.old) result cursor.new }
+    variables: &mut Variables,
+) -> Read<()>
+    ensures { ReadsAs (λ _. variables.new) (read (spec.variable ports.now tables.now variables.old) cursor.old) result cursor.new }
 {
-    match variable_name(cursor, alloc, ports, tables, &variables)? {
+    match variable_name(cursor, alloc, ports, tables, variables)? {
         VariableOf::Check => {
-            let is_period = check_variables(cursor, alloc, &variables)?;
+            let is_period = check_variables(cursor, alloc, variables)?;
             variables.periods.push(is_period)?;
-            Ok(variables)
+            Ok(())
         }
         VariableOf::Violation => {
             expect_all(cursor, &[b":", b"X01", b":=", b"'0'", b";"])?;
             variables.violation = true;
-            Ok(variables)
+            Ok(())
         }
         VariableOf::State => {
             let _bound = tables.states.as_slice().len();
-            state_variables(cursor, alloc, tables, &variables)?;
+            state_variables(cursor, alloc, tables, variables)?;
             variables.states += 1;
-            Ok(variables)
+            Ok(())
         }
         VariableOf::Output => {
             expect_all(cursor, &[b":", b"std_logic", b":=", b"'X'", b";"])?;
             variables.glitches.push(false)?;
-            Ok(variables)
+            Ok(())
         }
         VariableOf::Glitch => {
             expect_all(cursor, &[b":", b"VitalGlitchDataType", b";"])?;
             set_last(&mut variables.glitches)?;
-            Ok(variables)
+            Ok(())
         }
+    }
+}
+
+/// A variable of a process over these ports and tables, behind its word.
+#[derive(Drop)]
+struct NextVariable<'a> {
+    alloc: Global,
+    ports: &'a Ports,
+    tables: &'a Tables,
+}
+
+impl RepeatedPart<Vhdl> for NextVariable<'_> {
+    type Found = Variables;
+
+    ghost reading = { λ one variables s. read (spec.variable one.ports.now one.tables.now variables) s };
+
+    #[tactic(auto, using(part_readers::proofs::WithRest::reads_before))]
+    fn next(&self, cursor: &mut Cursor<'_>, mut variables: Variables) -> Read<Variables> {
+        let rest = variable(cursor, self.alloc, self.ports, self.tables, &mut variables);
+        where_read(variables, rest)
     }
 }
 
@@ -148,27 +169,6 @@ fn are_declared(ports: &Ports, tables: &Tables, variables: &Variables) -> bool
     !awaits_violation(variables)
         && variables.states == tables.states.len()
         && variables.glitches.len() == ports.outputs().len()
-}
-
-/// The variables behind these.
-#[tactic(auto, using(rule_readers::proofs::Repeats::turn, vhdl_words::proofs::NextWords::choose_begun, vhdl_words::proofs::NextWords::choose_other))]
-fn more_variables(
-    cursor: &mut Cursor<'_>,
-    alloc: Global,
-    ports: &Ports,
-    tables: &Tables,
-    mut variables: Variables,
-) -> Read<Variables>
-    ensures { Reads (read (Many (λ _. rules.begins (codes "variable")) (λ v _. spec.variable ports.now tables.now v) variables) cursor.old) result cursor.new }
-{
-    for _turn in 0..cursor.left() {
-        if !cursor.is_next(b"variable") {
-            break;
-        }
-        cursor.skip();
-        variables = variable(cursor, alloc, ports, tables, variables)?;
-    }
-    Ok(variables)
 }
 
 /// All variables.
@@ -187,7 +187,12 @@ pub fn variables(
         states: 0,
         glitches: Items::new(alloc),
     };
-    let all = more_variables(cursor, alloc, ports, tables, none)?;
+    let next = NextVariable {
+        alloc,
+        ports,
+        tables,
+    };
+    let all = while_next(cursor, b"variable", &next, none)?;
     cursor.go_on_where(are_declared(ports, tables, &all))?;
     Ok(all)
 }

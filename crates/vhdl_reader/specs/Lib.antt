@@ -1,2 +1,4 @@
 pub mod File
 pub mod Tails
+pub mod Joined
+pub mod Statements

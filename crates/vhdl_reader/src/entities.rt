@@ -1,6 +1,11 @@
 //! The entities of a text that were read so far, with a list that finds a name at once.
 
+ghost use Rattle.std.specs.Prelude.{◌≡◌, [], ◌∷◌, ◌++◌, IfOk, IfErr};
+ghost use Rattle.vhdl_text.specs.VhdlText.{entity_names};
+ghost use Rattle.vhdl_words.specs.Lowered.{HaveSame};
+
 use bool_functions::Names;
+use part_readers::where_read;
 use rule_readers::{Read, Stop};
 use std::alloc::{AllocError, Global};
 use std::marker::Model;
@@ -26,6 +31,26 @@ impl Model for Entities {
     ghost view = { λ e. e.entities.items };
 
     ghost invariant = { λ e. HaveSame e.lowered (entity_names e.entities.items) };
+}
+
+/// Puts an entity behind these, and its name in lower case behind these names.
+fn add_entity(
+    alloc: Global,
+    entities: &mut Vec<VEntity>,
+    lowered: &mut Names,
+    entity: VEntity,
+) -> Read<()>
+    requires { HaveSame lowered.old (entity_names entities.old.items) }
+    ensures added { IfOk result (λ _. entities.new.items ≡ entities.old.items ++ entity ∷ []) }
+    ensures lowered { IfOk result (λ _. HaveSame lowered.new (entity_names entities.new.items)) }
+    ensures memory { IfErr result (λ stop. stop ≡ Stop.Memory) }
+{
+    let name = entity.name.as_slice().to_ascii_lowercase(alloc)?;
+    let Ok(_) = lowered.add(&name) else {
+        return Err(Stop::Memory);
+    };
+    entities.push(entity)?;
+    Ok(())
 }
 
 impl Entities {
@@ -64,11 +89,8 @@ impl Entities {
             mut entities,
             mut lowered,
         } = self;
-        let name = entity.name.as_slice().to_ascii_lowercase(alloc)?;
-        let Ok(_) = lowered.add(&name) else {
-            return Err(Stop::Memory);
-        };
-        entities.push(entity)?;
+        let rest = add_entity(alloc, &mut entities, &mut lowered, entity);
+        let (entities, lowered) = where_read((entities, lowered), rest)?;
         Ok(Entities {
             alloc,
             entities,

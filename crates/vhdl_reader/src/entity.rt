@@ -1,16 +1,19 @@
 //! Entities of a text, by recursive descent. (IEEE 1076-1993, 1.1 and 1.2; IEEE 1076.4-2000.)
 
-ghost use Rattle.std.specs.Prelude.{◌≡◌, codes};
-ghost use Rattle.rule_readers.specs.Reading.{read, Reads, ReadsAs, Many};
+ghost use Rattle.std.specs.Prelude.{◌≡◌};
+ghost use Rattle.rule_readers.specs.Reading.{read, Reads, ReadsAs};
 ghost use Rattle.vhdl_text.specs.VhdlDeclarations.{input_names};
 ghost use Rattle.vhdl_text.specs.VhdlRules as rules;
 ghost use Rattle.vhdl_text.specs.VhdlText as spec;
 ghost use Rattle.vhdl_statements.specs.Checked.{checks_of};
 ghost use Rattle.vhdl_reader.specs.File.{entities_of};
+ghost use Rattle.vhdl_reader.specs.Statements.{entity_of};
 ghost use Rattle.vhdl_reader.specs.Tails as tails;
 
 use crate::entities::Entities;
 use crate::joined::entity_with;
+use crate::statements::Statements;
+use part_readers::{RepeatedPart, while_next, with_read};
 use rule_readers::{Read, Refusal, Stop};
 use sqlite_items::Items;
 use std::alloc::Global;
@@ -20,7 +23,7 @@ use vhdl_outputs::{output_lines, values_of};
 use vhdl_statements::{Checks, all_checks, state_calls, violation};
 use vhdl_text::{Assigned, Columns};
 use vhdl_tokens::is_name;
-use vhdl_words::{Cursor, Declarations, expect_all};
+use vhdl_words::{Cursor, Declarations, Vhdl, expect_all};
 use vital_models::VEntity;
 
 /// The wait at the end of a process in which these names are its sensitivity list, if there are none. (IEEE 1076-1993, 8.1.)
@@ -62,38 +65,52 @@ fn entity_end(cursor: &mut Cursor, scope: &Declarations, uses: &[Items<usize>]) 
 #[tactic(auto, unfolding(crate::specs::Tails::behind_values))]
 fn behind_values(
     cursor: &mut Cursor,
-    scope: Declarations,
+    scope: &Declarations,
     checked: Checks,
     columns: Items<Columns>,
     values: Items<Assigned>,
-) -> Read<VEntity>
-    ensures { Reads (read (tails.behind_values scope (checks_of checked) columns values) cursor.old) result cursor.new }
+) -> Read<Statements>
+    ensures { ReadsAs (entity_of scope.now) (read (tails.behind_values scope.now (checks_of checked) columns values) cursor.old) result cursor.new }
 {
     let Checks { checks, uses } = checked;
-    let lines = output_lines(cursor, &scope, uses)?;
-    entity_end(cursor, &scope, lines.1.as_slice())?;
-    let alloc = scope.alloc();
-    Ok(entity_with(alloc, scope.into_scope(), checks, columns, values, lines)?)
+    let lines = output_lines(cursor, scope, uses)?;
+    entity_end(cursor, scope, lines.1.as_slice())?;
+    Ok(Statements {
+        checks,
+        columns,
+        values,
+        lines,
+    })
 }
 
 /// The statements behind the checks.
 #[tactic(auto, unfolding(crate::specs::Tails::behind_checks))]
-fn behind_checks(cursor: &mut Cursor, scope: Declarations, checked: Checks) -> Read<VEntity>
-    ensures { Reads (read (tails.behind_checks scope (checks_of checked)) cursor.old) result cursor.new }
+fn behind_checks(cursor: &mut Cursor, scope: &Declarations, checked: Checks) -> Read<Statements>
+    ensures { ReadsAs (entity_of scope.now) (read (tails.behind_checks scope.now (checks_of checked)) cursor.old) result cursor.new }
 {
-    violation(cursor, &scope)?;
-    let columns = state_calls(cursor, &scope)?;
-    let values = values_of(cursor, &scope)?;
+    violation(cursor, scope)?;
+    let columns = state_calls(cursor, scope)?;
+    let values = values_of(cursor, scope)?;
     behind_values(cursor, scope, checked, columns, values)
 }
 
-/// The statements behind these declarations: an entity.
+/// The statements behind these declarations.
 #[tactic(auto, unfolding(vhdl_text::specs::VhdlText::statements, crate::specs::Tails::behind_checks, crate::specs::Tails::behind_values))]
-fn statements(cursor: &mut Cursor, scope: Declarations) -> Read<VEntity>
+fn all_statements(cursor: &mut Cursor, scope: &Declarations) -> Read<Statements>
+    ensures { ReadsAs (entity_of scope.now) (read (spec.statements scope.now) cursor.old) result cursor.new }
+{
+    let checked = all_checks(cursor, scope)?;
+    behind_checks(cursor, scope, checked)
+}
+
+/// The entity of these declarations and of the statements behind them.
+fn entity_body(cursor: &mut Cursor, scope: Declarations) -> Read<VEntity>
     ensures { Reads (read (spec.statements scope) cursor.old) result cursor.new }
 {
-    let checked = all_checks(cursor, &scope)?;
-    behind_checks(cursor, scope, checked)
+    let read = all_statements(cursor, &scope);
+    let (scope, read) = with_read(scope, read)?;
+    let alloc = scope.alloc();
+    Ok(entity_with(alloc, scope.into_scope(), read)?)
 }
 
 /// The name of an entity, where these entities stand before it.
@@ -118,31 +135,24 @@ fn entity(cursor: &mut Cursor, alloc: Global, entities: &Entities) -> Read<VEnti
     cursor.expect(b"entity")?;
     let name = entity_name(cursor, alloc, entities)?;
     let scope = scope_of(cursor, alloc, name)?;
-    statements(cursor, scope)
+    entity_body(cursor, scope)
 }
 
-/// One more entity, behind its first word.
-#[tactic(auto, unfolding(vhdl_text::specs::VhdlText::next_entity))]
-fn next_entity(cursor: &mut Cursor, alloc: Global, entities: Entities) -> Read<Entities>
-    ensures { Reads (read (spec.next_entity entities) cursor.old) result cursor.new }
-{
-    let more = entity(cursor, alloc, &entities)?;
-    entities.with(more)
-}
+/// An entity behind its first word.
+#[derive(Drop)]
+struct NextEntity(Global);
 
-/// The entities behind these.
-#[tactic(auto, using(rule_readers::proofs::Repeats::turns))]
-fn more_entities(cursor: &mut Cursor, alloc: Global, mut entities: Entities) -> Read<Entities>
-    ensures { Reads (read (Many (λ _. rules.begins (codes "library")) (λ found _. spec.next_entity found) entities) cursor.old) result cursor.new }
-{
-    for _turn in 0..cursor.left() {
-        if !cursor.is_next(b"library") {
-            break;
-        }
-        cursor.skip();
-        entities = next_entity(cursor, alloc, entities)?;
+impl RepeatedPart<Vhdl> for NextEntity {
+    type Found = Entities;
+
+    ghost reading = { λ _ entities s. read (spec.next_entity entities) s };
+
+    #[tactic(auto, unfolding(vhdl_text::specs::VhdlText::next_entity))]
+    fn next(&self, cursor: &mut Cursor<'_>, entities: Entities) -> Read<Entities> {
+        let more = entity(cursor, self.0, &entities);
+        let (entities, more) = with_read(entities, more)?;
+        entities.with(more)
     }
-    Ok(entities)
 }
 
 /// All entities of a text, and nothing behind them.
@@ -150,7 +160,8 @@ fn more_entities(cursor: &mut Cursor, alloc: Global, mut entities: Entities) -> 
 pub fn file(cursor: &mut Cursor, alloc: Global) -> Read<Vec<VEntity>>
     ensures { ReadsAs entities_of (read spec.file cursor.old) result cursor.new }
 {
-    let entities = more_entities(cursor, alloc, Entities::new(alloc))?;
+    let none = Entities::new(alloc);
+    let entities = while_next(cursor, b"library", &NextEntity(alloc), none)?;
     if cursor.left() > 0 {
         return Err(Stop::Refused(Refusal::Syntax));
     }

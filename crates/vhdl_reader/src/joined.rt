@@ -1,73 +1,19 @@
 //! The parts of an entity, each joined with what the statements say of it: an entity as data.
 
-ghost use Rattle.std.specs.Prelude.{◌≡◌, reverse, IfOk};
+ghost use Rattle.std.specs.Prelude.{◌≡◌, reverse, IfOk, Ok};
+ghost use Rattle.vital_models.specs.Sound.{output_ports_from};
 ghost use Rattle.vhdl_text.specs.VhdlText as spec;
+ghost use Rattle.vhdl_reader.specs.Statements.{entity_of};
 
+use crate::driven::Driven;
+use crate::statements::Statements;
+use crate::wholes::{joined, reversed};
 use sqlite_items::Items;
 use std::alloc::{AllocError, Global};
-use udp_tables::TimingCheck;
-use vhdl_outputs::{Lines, output_ports};
-use vhdl_text::{Assigned, Columns, Scope, Tables};
-use vhdl_words::Uses;
-use vital_models::{HPath, OutValue, TruthTable, VEntity, VOutput, VState, VStateTable, VTruth};
-
-/// These items, the last one first. An `Err` comes only where memory is wanting.
-#[tactic(auto, using(crate::proofs::Reversed::reverse_last))]
-fn reversed<T: Drop>(alloc: Global, mut items: Items<T>) -> Result<Items<T>, AllocError>
-    ensures { IfOk result (λ turned. turned ≡ reverse items) }
-{
-    let mut turned = Items::new(alloc);
-    while let Some(item) = items.pop() {
-        turned.push(item)?;
-    }
-    Ok(turned)
-}
-
-/// States: their tables, each with its columns. An `Err` comes only where memory is wanting.
-#[tactic(auto, using(crate::proofs::Reversed::reverse_last, crate::proofs::Reversed::reverse_twice))]
-fn states_with(
-    alloc: Global,
-    tables: Items<VStateTable>,
-    columns: Items<Columns>,
-) -> Result<Items<VState>, AllocError>
-    ensures { IfOk result (λ states. states ≡ spec.states_with tables columns) }
-{
-    let mut tables_left = reversed(alloc, tables)?;
-    let mut columns_left = reversed(alloc, columns)?;
-    let mut states = Items::new(alloc);
-    while let Some(table) = tables_left.pop() {
-        let Some(Columns { violation, inputs }) = columns_left.pop() else {
-            break;
-        };
-        states.push(VState {
-            table,
-            violation,
-            inputs,
-        })?;
-    }
-    Ok(states)
-}
-
-/// Conditions: their tables, each with its inputs. An `Err` comes only where memory is wanting.
-#[tactic(auto, using(crate::proofs::Reversed::reverse_last, crate::proofs::Reversed::reverse_twice))]
-fn conditions_with(
-    alloc: Global,
-    tables: Items<TruthTable>,
-    uses: Uses,
-) -> Result<Items<VTruth>, AllocError>
-    ensures { IfOk result (λ conditions. conditions ≡ spec.conditions_with tables uses) }
-{
-    let mut tables_left = reversed(alloc, tables)?;
-    let mut uses_left = reversed(alloc, uses)?;
-    let mut conditions = Items::new(alloc);
-    while let Some(table) = tables_left.pop() {
-        let Some(inputs) = uses_left.pop() else {
-            break;
-        };
-        conditions.push(VTruth { table, inputs })?;
-    }
-    Ok(conditions)
-}
+use udp_tables::VPort;
+use vhdl_outputs::output_ports;
+use vhdl_text::{Assigned, Scope, Tables};
+use vital_models::{HPath, OutValue, TruthTable, VEntity, VOutput};
 
 /// The values of outputs: constants, and look-ups, each of the next table. An `Err` comes only where memory is wanting.
 #[tactic(auto, using(crate::proofs::Reversed::reverse_last, crate::proofs::Reversed::reverse_twice))]
@@ -95,42 +41,52 @@ fn values_with(
     Ok(values)
 }
 
-/// Outputs: their ports, values and paths. An `Err` comes only where memory is wanting.
-#[tactic(auto, using(crate::proofs::Reversed::reverse_last, crate::proofs::Reversed::reverse_twice))]
+/// Two things.
+#[derive(Drop)]
+struct Pair<A, B> {
+    first: A,
+    second: B,
+}
+
+/// Two things, where each was made.
+fn both<A: Drop, B: Drop>(
+    first: Result<A, AllocError>,
+    second: Result<B, AllocError>,
+) -> Result<Pair<A, B>, AllocError>
+    ensures { IfOk result (λ made. (first ≡ Ok made.first) × (second ≡ Ok made.second)) }
+{
+    Ok(Pair {
+        first: first?,
+        second: second?,
+    })
+}
+
+/// The outputs among these ports: their values, which look up these tables, and their paths. An `Err` comes only where memory is
+/// wanting.
+#[tactic(auto, using(crate::proofs::JoinedParts::outputs))]
 fn outputs_with(
     alloc: Global,
-    ports: Items<usize>,
-    values: Items<OutValue>,
+    ports: &[VPort],
+    tables: Items<TruthTable>,
+    assigned: Items<Assigned>,
     paths: Items<Items<HPath>>,
 ) -> Result<Items<VOutput>, AllocError>
-    ensures { IfOk result (λ outputs. outputs ≡ spec.outputs_with ports values paths) }
+    ensures { IfOk result (λ outputs. outputs ≡ spec.outputs_with (output_ports_from 0 ports.now) (spec.values_with tables assigned) paths) }
 {
-    let mut ports_left = reversed(alloc, ports)?;
-    let mut values_left = reversed(alloc, values)?;
-    let mut paths_left = reversed(alloc, paths)?;
-    let mut outputs = Items::new(alloc);
-    while let Some(port) = ports_left.pop() {
-        let Some(value) = values_left.pop() else {
-            break;
-        };
-        let Some(paths) = paths_left.pop() else {
-            break;
-        };
-        outputs.push(VOutput { port, value, paths })?;
-    }
-    Ok(outputs)
+    let values = values_with(alloc, tables, assigned)?;
+    let driven = joined::<Driven>(alloc, values, paths);
+    let Pair { first, second } = both(output_ports(alloc, ports), driven)?;
+    joined(alloc, first, second)
 }
 
 /// The entity of these declarations and statements. An `Err` comes only where memory is wanting.
+#[tactic(auto, using(crate::proofs::JoinedParts::states, crate::proofs::JoinedParts::conditions))]
 pub fn entity_with(
     alloc: Global,
     scope: Scope,
-    checks: Items<TimingCheck>,
-    columns: Items<Columns>,
-    assigned: Items<Assigned>,
-    lines: Lines,
+    statements: Statements,
 ) -> Result<VEntity, AllocError>
-    ensures { IfOk result (λ entity. entity ≡ spec.entity_with scope checks columns assigned lines) }
+    ensures { IfOk result (λ entity. entity ≡ entity_of scope statements) }
 {
     let Scope {
         name,
@@ -143,15 +99,32 @@ pub fn entity_with(
         conditions,
         outputs,
     } = tables;
+    let Statements {
+        checks,
+        columns,
+        values,
+        lines,
+    } = statements;
     let (paths, uses) = lines;
-    let numbers = output_ports(alloc, ports.as_slice())?;
-    let values = values_with(alloc, outputs, assigned)?;
+    let inner = both(
+        joined(alloc, states, columns),
+        joined(alloc, conditions, uses),
+    );
+    let outputs = outputs_with(alloc, ports.as_slice(), outputs, values, paths);
+    let Pair {
+        first: inner,
+        second: outputs,
+    } = both(inner, outputs)?;
+    let Pair {
+        first: states,
+        second: conditions,
+    } = inner;
     Ok(VEntity {
         name,
         ports,
-        states: states_with(alloc, states, columns)?,
-        conditions: conditions_with(alloc, conditions, uses)?,
-        outputs: outputs_with(alloc, numbers, values, paths)?,
+        states,
+        conditions,
+        outputs,
         checks,
     })
 }

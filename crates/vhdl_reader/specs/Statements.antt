@@ -1,0 +1,8 @@
+-- The entity of declarations and statements.
+use Rattle.vital_models.specs.declared.model.VEntity.{VEntity}
+use Rattle.vhdl_text.specs.declared.scope.Scope.{Scope}
+use Rattle.vhdl_text.specs.VhdlText.{entity_with}
+use Rattle.vhdl_reader.specs.declared.statements.Statements.{Statements}
+
+abbrev pub entity_of : Scope → Statements → VEntity
+entity_of scope read = entity_with scope read.checks read.columns read.values read.lines

@@ -1,0 +1,11 @@
+//! What drives an output.
+
+use sqlite_items::Items;
+use vital_models::{HPath, OutValue};
+
+/// The value of an output, and its paths.
+#[derive(Drop)]
+pub struct Driven {
+    pub value: OutValue,
+    pub paths: Items<HPath>,
+}

@@ -1,5 +1,8 @@
 -- Names of ports, at the next token.
-use Rattle.std.proofs.Common.{◌≡◌, ℕ, ◌+◌, true, false, slice_set, List, [], ◌∷◌, Option, Some, None, Ok, Err, refl, subst}
+use Rattle.std.proofs.Common.{◌≡◌, ℕ, ◌+◌, true, false, slice_set, List, [], ◌∷◌, ◌++◌, Option, Some, None, Result, Ok, Err, IfOk, refl, sym, ap, subst, ◌∙◌}
+use Rattle.std.proofs.lemmas.List.{map-append}
+use Rattle.rule_readers.specs.declared.refusal.Stop.{Stop}
+use Rattle.udp_reader.specs.declared.named_items.NamedItems.{NamedItems}
 use Rattle.grammar_rules.specs.Reading.{Outcome, choose, read}
 use Rattle.rule_readers.specs.declared.refusal.Refusal.{Refusal}
 use Rattle.rule_readers.specs.declared.refusal.Refusal.TheVariants.{Undefined}
@@ -8,7 +11,7 @@ use Rattle.verilog_tokens.specs.Tokens.{is_name}
 use Rattle.udp_tables.specs.declared.models.VPort.{VPort}
 use Rattle.udp_tables.specs.VerilogRules.{known}
 use Rattle.udp_reader.proofs.Words as words
-use Rattle.specify_blocks.specs.VerilogModules.{Inputs, with_input, first_port}
+use Rattle.specify_blocks.specs.VerilogModules.{Inputs, with_input, first_port, port_names}
 
 -- a header has a port, where a name is next, and else none
 pub choose_port : {B : Type 0} (s : List (List ℕ)) (go : List ℕ → List (List ℕ) → Outcome (List ℕ) Refusal B) (other : Outcome (List ℕ) Refusal B) →
@@ -37,3 +40,10 @@ pub input_found : (x name : List ℕ) (ports more : List VPort) (p : ℕ) (left 
     name ≡ x → more ≡ slice_set ports p (record { name = name; input = true }) → left ≡ behind →
     ok_inputs (with_input x ports p) behind ≡ ok_inputs (record { ports = more; behind = p + 1 }) left
 input_found x name ports more p left behind e f g = cc
+
+-- the names of ports with one more
+pub ports_named : (names : List (List ℕ)) (ports : List VPort) (port : VPort) (x : List ℕ) (r : Result (NamedItems VPort) Stop) → names ≡ port_names ports → port.name ≡ x
+    → IfOk r (λ more. more.items ≡ ports ++ port ∷ []) → IfOk r (λ more. more.names ≡ names ++ x ∷ []) → IfOk r (λ more. more.names ≡ port_names more.items)
+ports_named names ports port x (Ok more) e f em en =
+    en ∙ ap (λ (ns : List (List ℕ)). ns ++ x ∷ []) e ∙ ap (λ (n : List ℕ). port_names ports ++ n ∷ []) (sym f) ∙ sym (map-append _ ports (port ∷ [])) ∙ sym (ap port_names em)
+ports_named names ports port x (Err stop) e f em en = tt

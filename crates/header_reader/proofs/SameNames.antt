@@ -11,6 +11,7 @@ use Rattle.rule_readers.specs.Next.{next_bytes}
 use Rattle.rule_readers.specs.Reading.{Reads}
 use Rattle.udp_tables.specs.declared.models.VPort.{VPort}
 use Rattle.udp_tables.specs.VerilogRules.{is_among, new_name}
+use Rattle.udp_reader.specs.declared.named_items.NamedItems.{NamedItems}
 use Rattle.udp_reader.proofs.NewNames.{name_read}
 use Rattle.specify_blocks.specs.VerilogModules.{port_names}
 use Rattle.header_reader.specs.SameNames.{HaveSame}
@@ -58,3 +59,8 @@ wire_added names new ports wires more token name h en em et =
     let longer : (ports ++ wires) ++ token ∷ [] ≡ ports ++ more =
     append_assoc ports wires (token ∷ []) ∙ ap (λ n. ports ++ (wires ++ n ∷ [])) (sym et) ∙ ap (λ ws. ports ++ ws) (sym em) in
     subst (λ ns. HaveSame ns (ports ++ more)) (sym en) (subst (HaveSame (names ++ token ∷ [])) longer all)
+
+pub wire_added_where : (names ports wires : List (List ℕ)) (token name : List ℕ) (r : Result (NamedItems (List ℕ)) Stop) → HaveSame names (ports ++ wires) → name ≡ token
+    → IfOk r (λ more. more.items ≡ wires ++ name ∷ []) → IfOk r (λ more. more.names ≡ names ++ token ∷ []) → IfOk r (λ more. HaveSame more.names (ports ++ more.items))
+wire_added_where names ports wires token name (Ok more) h et em en = wire_added names more.names ports wires more.items token name h en em et
+wire_added_where names ports wires token name (Err stop) h et em en = tt

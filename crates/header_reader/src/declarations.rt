@@ -8,52 +8,39 @@ ghost use Rattle.header_reader.specs.Headers.{inputs_of, ports_of};
 
 use crate::ports::{output_place, port_place};
 use crate::wires::{module_notifier, module_wires};
+use part_readers::{RepeatedPart, while_next, with_end};
 use rule_readers::{Read, Refusal, Stop};
 use specify_blocks::VModule;
 use sqlite_items::Items;
 use std::alloc::Global;
-use udp_reader::{Cursor, TextNames};
+use udp_reader::{Cursor, NamedItems, TextNames, Verilog, new_name};
 use udp_tables::{Udp, VPort};
 use verilog_tokens::is_name;
 
 /// The ports of a header with those that are declared inputs, and the place behind the last of these.
-#[derive(Debug, Drop)]
+#[derive(Drop)]
 pub struct Inputs {
     pub ports: Items<VPort>,
     pub behind: usize,
 }
 
 /// The ports of a header so far, with their names.
-#[derive(Drop)]
-pub struct HeaderPorts<'a> {
-    pub ports: Items<VPort>,
-    pub names: TextNames<'a>,
-}
+type HeaderPorts<'a> = NamedItems<'a, VPort>;
 
 /// One more port of a header.
-#[tactic(auto, unfolding(specify_blocks::specs::VerilogModules::next_port), using(udp_reader::proofs::NewNames::new_fits, udp_reader::proofs::NewNames::new_taken, udp_reader::proofs::NewNames::new_other))]
+#[tactic(auto, unfolding(specify_blocks::specs::VerilogModules::next_port))]
 fn next_port<'a>(
     cursor: &mut Cursor<'a>,
     alloc: Global,
     before: HeaderPorts<'a>,
 ) -> Read<HeaderPorts<'a>>
-    requires { before.names ≡ spec.port_names before.ports }
-    ensures reads { ReadsAs ports_of (read (spec.next_port before.entry.ports) cursor.old) result cursor.new }
-    ensures named { IfOk result (λ more. more.names ≡ spec.port_names more.ports) }
+    requires { before.names ≡ spec.port_names before.items }
+    ensures reads { ReadsAs ports_of (read (spec.next_port before.entry.items) cursor.old) result cursor.new }
+    ensures named { IfOk result (λ more. more.names ≡ spec.port_names more.items) }
 {
     let token = cursor.bytes();
-    if !is_name(token) {
-        return Err(Stop::Refused(Refusal::Syntax));
-    }
-    if before.names.has(token) {
-        return Err(Stop::Refused(Refusal::Twice));
-    }
-    let HeaderPorts { mut ports, names } = before;
-    let name = Items::from_slice(alloc, token)?;
-    ports.push(VPort { name, input: false })?;
-    let names = names.with(token)?;
-    cursor.skip();
-    Ok(HeaderPorts { ports, names })
+    let name = new_name(cursor, alloc, &before.names)?;
+    before.with(VPort { name, input: false }, token)
 }
 
 /// The ports of a header behind these.
@@ -63,8 +50,8 @@ fn more_ports<'a>(
     alloc: Global,
     mut found: HeaderPorts<'a>,
 ) -> Read<Items<VPort>>
-    requires { found.names ≡ spec.port_names found.ports }
-    ensures { Reads (read (spec.more_ports found.entry.ports) cursor.old) result cursor.new }
+    requires { found.names ≡ spec.port_names found.items }
+    ensures { Reads (read (spec.more_ports found.entry.items) cursor.old) result cursor.new }
 {
     for _turn in 0..cursor.left() {
         if !cursor.is_next(b",") {
@@ -73,7 +60,7 @@ fn more_ports<'a>(
         cursor.skip();
         found = next_port(cursor, alloc, found)?;
     }
-    let HeaderPorts { ports, .. } = found;
+    let NamedItems { items: ports, .. } = found;
     Ok(ports)
 }
 
@@ -93,7 +80,14 @@ fn some_ports(cursor: &mut Cursor, alloc: Global) -> Read<Items<VPort>>
     })?;
     let names = TextNames::new(alloc).with(token)?;
     cursor.skip();
-    more_ports(cursor, alloc, HeaderPorts { ports, names })
+    more_ports(
+        cursor,
+        alloc,
+        NamedItems {
+            items: ports,
+            names,
+        },
+    )
 }
 
 /// The header of a module, behind its name.
@@ -103,9 +97,7 @@ fn module_header(cursor: &mut Cursor, alloc: Global) -> Read<Items<VPort>>
 {
     cursor.expect(b"(")?;
     let ports = some_ports(cursor, alloc)?;
-    cursor.expect(b")")?;
-    cursor.expect(b";")?;
-    Ok(ports)
+    with_end(cursor, &[b")", b";"], ports)
 }
 
 /// The name of a port behind those that are declared inputs, which it becomes.
@@ -159,35 +151,35 @@ fn module_inputs(cursor: &mut Cursor, alloc: Global, mut found: Inputs) -> Read<
     Ok(found)
 }
 
-/// One more declared output: of the ports that are no inputs, the next one from this place on.
-#[tactic(auto, unfolding(specify_blocks::specs::VerilogModules::declared_output))]
-fn module_output(cursor: &mut Cursor, ports: &[VPort], from: usize) -> Read<usize>
-    ensures { Reads (read (spec.declared_output ports.now from) cursor.old) result cursor.new }
-{
-    let Some(place) = output_place(ports, from) else {
-        return Err(Stop::Refused(cursor.no_name()));
-    };
-    let Some(port) = ports.get(place) else {
-        return Err(Stop::Refused(cursor.no_name()));
-    };
-    cursor.this_name(port.name.as_slice())?;
-    cursor.expect(b";")?;
-    Ok(place + 1)
+/// A declared output, behind its word: of the ports that are no inputs, the next one from a place on.
+#[derive(Drop)]
+struct DeclaredOutput<'a>(&'a [VPort]);
+
+impl RepeatedPart<Verilog> for DeclaredOutput<'_> {
+    type Found = usize;
+
+    ghost reading = { λ output from s. read (spec.declared_output output.0.now from) s };
+
+    #[tactic(auto, unfolding(specify_blocks::specs::VerilogModules::declared_output))]
+    fn next(&self, cursor: &mut Cursor<'_>, from: usize) -> Read<usize> {
+        let Some(place) = output_place(self.0, from) else {
+            return Err(Stop::Refused(cursor.no_name()));
+        };
+        let Some(port) = self.0.get(place) else {
+            return Err(Stop::Refused(cursor.no_name()));
+        };
+        cursor.this_name(port.name.as_slice())?;
+        cursor.expect(b";")?;
+        Ok(place + 1)
+    }
 }
 
 /// The declarations of all outputs.
-#[tactic(auto, unfolding(specify_blocks::specs::VerilogModules::declared_outputs), using(rule_readers::proofs::Repeats::turns))]
+#[tactic(auto, unfolding(specify_blocks::specs::VerilogModules::declared_outputs))]
 fn module_outputs(cursor: &mut Cursor, ports: &[VPort]) -> Read<()>
     ensures { Reads (read (spec.declared_outputs ports.now) cursor.old) result cursor.new }
 {
-    let mut from = 0;
-    for _turn in 0..cursor.left() {
-        if !cursor.is_next(b"output") {
-            break;
-        }
-        cursor.skip();
-        from = module_output(cursor, ports, from)?;
-    }
+    let from = while_next(cursor, b"output", &DeclaredOutput(ports), 0)?;
     cursor.go_on_where(output_place(ports, from).is_none())
 }
 

@@ -12,7 +12,7 @@ use crate::ports::is_declared;
 use rule_readers::{Read, Stop};
 use sqlite_items::Items;
 use std::alloc::Global;
-use udp_reader::{Cursor, TextNames};
+use udp_reader::{Cursor, NamedItems, TextNames};
 use udp_tables::VPort;
 
 /// A name that is declared here, behind those of ports and of wires.
@@ -29,11 +29,7 @@ fn new_net_name(
 }
 
 /// The wires so far, and the names of the ports and of these.
-#[derive(Drop)]
-pub struct DeclaredWires<'a> {
-    pub wires: Items<Items<u8>>,
-    pub names: TextNames<'a>,
-}
+type DeclaredWires<'a> = NamedItems<'a, Items<u8>>;
 
 /// These names, and another behind them where it is none of them.
 #[tactic(auto, using(crate::proofs::SameNames::same_kept))]
@@ -76,8 +72,26 @@ fn new_wire_name(
     cursor.fresh_name(alloc, taken)
 }
 
-/// One more declared wire, behind its word, of which this is the next token.
+/// The line of a wire, behind its word, and behind the ports and others, of which these are the names: the name of the wire.
 #[tactic(auto, unfolding(specify_blocks::specs::VerilogModules::declared_wire))]
+fn wire_line(
+    cursor: &mut Cursor,
+    alloc: Global,
+    ports: &[VPort],
+    wires: &[Items<u8>],
+    names: &TextNames<'_>,
+) -> Read<Items<u8>>
+    requires { HaveSame names.now (spec.port_names ports.now ++ wires.now) }
+    ensures reads { ReadsAs (λ name. wires.now ++ name ∷ []) (read (spec.declared_wire ports.now wires.now) cursor.old) result cursor.new }
+    ensures named { IfOk result (λ name. name ≡ next_bytes cursor.old) }
+    ensures fresh { IfOk result (λ _. is_among names.now (next_bytes cursor.old) ≡ false) }
+{
+    let name = new_wire_name(cursor, alloc, ports, wires, names)?;
+    cursor.expect(b";")?;
+    Ok(name)
+}
+
+/// One more declared wire, behind its word, of which this is the next token.
 fn module_wire<'a>(
     cursor: &mut Cursor,
     alloc: Global,
@@ -86,16 +100,12 @@ fn module_wire<'a>(
     before: DeclaredWires<'a>,
 ) -> Read<DeclaredWires<'a>>
     requires next { token.now ≡ next_bytes cursor.old }
-    requires same { HaveSame before.names (spec.port_names ports.now ++ before.wires) }
-    ensures reads { ReadsAs wires_of (read (spec.declared_wire ports.now before.entry.wires) cursor.old) result cursor.new }
-    ensures named { IfOk result (λ more. HaveSame more.names (spec.port_names ports.now ++ more.wires)) }
+    requires same { HaveSame before.names (spec.port_names ports.now ++ before.items) }
+    ensures reads { ReadsAs wires_of (read (spec.declared_wire ports.now before.entry.items) cursor.old) result cursor.new }
+    ensures named { IfOk result (λ more. HaveSame more.names (spec.port_names ports.now ++ more.items)) }
 {
-    let DeclaredWires { mut wires, names } = before;
-    let name = new_wire_name(cursor, alloc, ports, wires.as_slice(), &names)?;
-    cursor.expect(b";")?;
-    wires.push(name)?;
-    let names = names.with(token)?;
-    Ok(DeclaredWires { wires, names })
+    let name = wire_line(cursor, alloc, ports, before.items.as_slice(), &before.names)?;
+    before.with(name, token)
 }
 
 /// The declared wires, of which there are some as a rule.
@@ -103,8 +113,8 @@ fn module_wire<'a>(
 fn some_wires(cursor: &mut Cursor, alloc: Global, ports: &[VPort]) -> Read<Items<Items<u8>>>
     ensures { Reads (read (spec.declared_wires ports.now) cursor.old) result cursor.new }
 {
-    let mut found = DeclaredWires {
-        wires: Items::new(alloc),
+    let mut found = NamedItems {
+        items: Items::new(alloc),
         names: names_of_ports(alloc, ports)?,
     };
     for _turn in 0..cursor.left() {
@@ -115,7 +125,7 @@ fn some_wires(cursor: &mut Cursor, alloc: Global, ports: &[VPort]) -> Read<Items
         let token = cursor.bytes();
         found = module_wire(cursor, alloc, ports, token, found)?;
     }
-    let DeclaredWires { wires, .. } = found;
+    let NamedItems { items: wires, .. } = found;
     Ok(wires)
 }
 

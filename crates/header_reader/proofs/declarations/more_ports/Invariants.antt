@@ -6,7 +6,7 @@ use Rattle.header_reader.proofs.declarations.more_ports.Given as goal
 
 abbrev pub invariant-loop-turn : goal.invariant-loop-turn
 invariant-loop-turn l = record {
-  reads : repeat (λ _. begins (codes ",")) (λ ports _ r. read (next_port ports) r) (l._turn-end - l._turn) l.found.ports l.cursor
-      ≡ repeat (λ _. begins (codes ",")) (λ ports _ r. read (next_port ports) r) l._turn-end l.initial.found.ports l.initial.cursor;
-  named : l.found.names ≡ port_names l.found.ports;
+  reads : repeat (λ _. begins (codes ",")) (λ ports _ r. read (next_port ports) r) (l._turn-end - l._turn) l.found.items l.cursor
+      ≡ repeat (λ _. begins (codes ",")) (λ ports _ r. read (next_port ports) r) l._turn-end l.initial.found.items l.initial.cursor;
+  named : l.found.names ≡ port_names l.found.items;
 }

@@ -7,7 +7,7 @@ use Rattle.header_reader.proofs.wires.some_wires.Given as goal
 
 abbrev pub invariant-loop-turn : goal.invariant-loop-turn
 invariant-loop-turn l = record {
-  reads : repeat (λ _. begins (codes "wire")) (λ u _ r. read (declared_wire l.ports u) r) (l._turn-end - l._turn) l.found.wires l.cursor
+  reads : repeat (λ _. begins (codes "wire")) (λ u _ r. read (declared_wire l.ports u) r) (l._turn-end - l._turn) l.found.items l.cursor
       ≡ repeat (λ _. begins (codes "wire")) (λ u _ r. read (declared_wire l.ports u) r) l._turn-end [] l.initial.cursor;
-  named : HaveSame l.found.names (port_names l.ports ++ l.found.wires);
+  named : HaveSame l.found.names (port_names l.ports ++ l.found.items);
 }

@@ -13,33 +13,11 @@ use rule_readers::{Read, Refusal, Stop};
 use specify_blocks::VNet;
 use sqlite_items::Items;
 use std::alloc::Global;
-use udp_reader::{Cursor, TextNames};
+use udp_reader::{Cursor, NamedItems, TextNames};
 use verilog_tokens::is_name;
 
 /// The nets that feed an instance so far, and the names of the net that it drives and of these, as they stand in the text.
-#[derive(Drop)]
-pub struct Terminals<'a> {
-    pub inputs: Items<VNet>,
-    pub names: TextNames<'a>,
-}
-
-impl<'a> Terminals<'a> {
-    ghost use Rattle.std.specs.Prelude.{◌≡◌, ◌∷◌, ◌++◌, [], false, IfOk, IfErr};
-    ghost use Rattle.udp_tables.specs.VerilogRules.{is_among};
-
-    /// These terminals, and one more behind them, whose name is none of theirs.
-    fn with(self, net: VNet, name: &'a [u8]) -> Read<Terminals<'a>>
-        requires { is_among self.names name.now ≡ false }
-        ensures inputs { IfOk result (λ more. more.inputs ≡ self.entry.inputs ++ net ∷ []) }
-        ensures names { IfOk result (λ more. more.names ≡ self.entry.names ++ name.now ∷ []) }
-        ensures memory { IfErr result (λ stop. stop ≡ Stop.Memory) }
-    {
-        let Terminals { mut inputs, names } = self;
-        inputs.push(net)?;
-        let names = names.with(name)?;
-        Ok(Terminals { inputs, names })
-    }
-}
+type Terminals<'a> = NamedItems<'a, VNet>;
 
 /// The net that an instance drives.
 #[tactic(auto, unfolding(specify_blocks::specs::VerilogModules::driven_terminal), using(crate::proofs::NamedNets::other, crate::proofs::NamedNets::no_net, crate::proofs::NamedNets::barred, crate::proofs::NamedNets::taken, crate::proofs::NamedNets::fits))]
@@ -72,8 +50,8 @@ fn feeding_terminal(
     output: VNet,
     before: &Terminals<'_>,
 ) -> Read<VNet>
-    requires { AreNamed model.now before.now.names (output ∷ before.now.inputs) }
-    ensures reads { Reads (read (spec.feeding_terminal model.now sequential (output ∷ before.now.inputs)) cursor.old) result cursor.new }
+    requires { AreNamed model.now before.now.names (output ∷ before.now.items) }
+    ensures reads { Reads (read (spec.feeding_terminal model.now sequential (output ∷ before.now.items)) cursor.old) result cursor.new }
     ensures named { IfOk result (λ net. spec.net_of model.now (next_bytes cursor.old) ≡ Some net) }
     ensures fresh { IfOk result (λ _. is_among before.now.names (next_bytes cursor.old) ≡ false) }
 {
@@ -103,9 +81,9 @@ fn next_terminal<'a>(
     output: VNet,
     before: Terminals<'a>,
 ) -> Read<Terminals<'a>>
-    requires { AreNamed model.now before.names (output ∷ before.inputs) }
-    ensures reads { ReadsAs inputs_of (read (spec.next_input model.now sequential output before.entry.inputs) cursor.old) result cursor.new }
-    ensures named { IfOk result (λ more. AreNamed model.now more.names (output ∷ more.inputs)) }
+    requires { AreNamed model.now before.names (output ∷ before.items) }
+    ensures reads { ReadsAs inputs_of (read (spec.next_input model.now sequential output before.entry.items) cursor.old) result cursor.new }
+    ensures named { IfOk result (λ more. AreNamed model.now more.names (output ∷ more.items)) }
 {
     let token = cursor.bytes();
     let net = feeding_terminal(cursor, model, sequential, output, &before)?;
@@ -123,16 +101,16 @@ pub fn first_terminal<'a>(
 ) -> Read<Terminals<'a>>
     requires { spec.net_of model.now name.now ≡ Some output }
     ensures reads { ReadsAs inputs_of (read (spec.next_input model.now sequential output []) cursor.old) result cursor.new }
-    ensures named { IfOk result (λ more. AreNamed model.now more.names (output ∷ more.inputs)) }
+    ensures named { IfOk result (λ more. AreNamed model.now more.names (output ∷ more.items)) }
 {
     let names = TextNames::new(alloc).with(name)?;
-    let inputs = Items::new(alloc);
+    let items = Items::new(alloc);
     next_terminal(
         cursor,
         model,
         sequential,
         output,
-        Terminals { inputs, names },
+        NamedItems { items, names },
     )
 }
 
@@ -145,8 +123,8 @@ pub fn more_terminals<'a>(
     output: VNet,
     mut found: Terminals<'a>,
 ) -> Read<Items<VNet>>
-    requires { AreNamed model.now found.names (output ∷ found.inputs) }
-    ensures { Reads (read (spec.more_inputs model.now sequential output found.entry.inputs) cursor.old) result cursor.new }
+    requires { AreNamed model.now found.names (output ∷ found.items) }
+    ensures { Reads (read (spec.more_inputs model.now sequential output found.entry.items) cursor.old) result cursor.new }
 {
     for _turn in 0..cursor.left() {
         if !cursor.is_next(b",") {
@@ -155,6 +133,6 @@ pub fn more_terminals<'a>(
         cursor.skip();
         found = next_terminal(cursor, model, sequential, output, found)?;
     }
-    let Terminals { inputs, .. } = found;
+    let NamedItems { items: inputs, .. } = found;
     Ok(inputs)
 }

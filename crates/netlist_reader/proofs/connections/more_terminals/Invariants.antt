@@ -7,7 +7,7 @@ use Rattle.netlist_reader.proofs.connections.more_terminals.Given as goal
 
 abbrev pub invariant-loop-turn : goal.invariant-loop-turn
 invariant-loop-turn l = record {
-  reads : repeat (λ _. begins (codes ",")) (λ u _ r. read (next_input l.model l.sequential l.output u) r) (l._turn-end - l._turn) l.found.inputs l.cursor
-      ≡ repeat (λ _. begins (codes ",")) (λ u _ r. read (next_input l.model l.sequential l.output u) r) l._turn-end l.initial.found.inputs l.initial.cursor;
-  named : AreNamed l.model l.found.names (l.output ∷ l.found.inputs);
+  reads : repeat (λ _. begins (codes ",")) (λ u _ r. read (next_input l.model l.sequential l.output u) r) (l._turn-end - l._turn) l.found.items l.cursor
+      ≡ repeat (λ _. begins (codes ",")) (λ u _ r. read (next_input l.model l.sequential l.output u) r) l._turn-end l.initial.found.items l.initial.cursor;
+  named : AreNamed l.model l.found.names (l.output ∷ l.found.items);
 }

@@ -1,6 +1,6 @@
 //! The parts of an entity, each joined with what the statements say of it: an entity as data.
 
-ghost use Rattle.std.specs.Prelude.{◌≡◌, reverse, IfOk, Ok};
+ghost use Rattle.std.specs.Prelude.{◌≡◌, IfOk, Ok};
 ghost use Rattle.vital_models.specs.Sound.{output_ports_from};
 ghost use Rattle.vhdl_text.specs.VhdlText as spec;
 ghost use Rattle.vhdl_reader.specs.Statements.{entity_of};

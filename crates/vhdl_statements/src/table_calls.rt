@@ -1,6 +1,6 @@
 //! The violation of the checks, and the calls of state tables. (IEEE 1076.4-2000, VitalStateTable; IEEE 1076-1993, 8.5.)
 
-ghost use Rattle.std.specs.Prelude.{◌+◌, ◌<◌, ◌≤◌, ◌^◌, nat_lt, length, IfOk, codes};
+ghost use Rattle.std.specs.Prelude.{◌+◌, ◌<◌, ◌^◌, nat_lt, length};
 ghost use Rattle.rule_readers.specs.Reading.{read, Reads};
 ghost use Rattle.vhdl_text.specs.VhdlRules as rules;
 ghost use Rattle.vhdl_text.specs.VhdlChecks as spec;

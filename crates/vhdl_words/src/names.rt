@@ -1,6 +1,6 @@
 //! The inputs that statements name, and lists of them. (IEEE 1076-1993, 6.2 and 7.3.2.)
 
-ghost use Rattle.std.specs.Prelude.{◌≡◌, nat_eq, [], true, false, IfOk, codes};
+ghost use Rattle.std.specs.Prelude.{◌≡◌, nat_eq, [], true, false, IfOk};
 ghost use Rattle.std.specs.List.{list_any};
 ghost use Rattle.rule_readers.specs.Reading.{read, Reads};
 ghost use Rattle.vhdl_tokens.specs.Tokens.{is_name};

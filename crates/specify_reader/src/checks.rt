@@ -2,7 +2,7 @@
 
 ghost use Rattle.std.specs.Prelude.{◌≡◌, IfOk};
 ghost use Rattle.specify_blocks.specs.VerilogBlocks as spec;
-ghost use Rattle.rule_readers.specs.Reading.{read, Reads};
+ghost use Rattle.rule_readers.specs.Reading.{read, Reads, ReadsAs};
 ghost use Rattle.specify_reader.specs.Checks.{limited};
 
 use crate::check_parts::{an_edge_event, an_event, check_end, condition};
@@ -11,6 +11,7 @@ use crate::paths::paths;
 use crate::period_lines::period_check;
 use cell_machine::{CheckKind, Edge, Event};
 use netlist_reader::Netlist;
+use part_readers::where_read;
 use rule_readers::{Read, value_of};
 use sqlite_items::Items;
 use std::alloc::Global;
@@ -158,9 +159,22 @@ fn checks(cursor: &mut Cursor, alloc: Global, model: &Netlist) -> Read<Items<Tim
     Ok(checks)
 }
 
+/// The paths and checks of a specify block, behind its word, which the module gets.
+#[tactic(auto, unfolding(specify_blocks::specs::VerilogBlocks::block))]
+fn block(cursor: &mut Cursor, alloc: Global, model: &mut Netlist) -> Read<()>
+    ensures reads { ReadsAs (λ _. model.new) (read (spec.block model.old) cursor.old) result cursor.new }
+    ensures named { IfOk result (λ _. model.new.name ≡ model.old.name) }
+{
+    let paths = paths(cursor, alloc, model)?;
+    let checks = checks(cursor, alloc, model)?;
+    cursor.expect(b"endspecify")?;
+    model.set_block(paths, checks);
+    Ok(())
+}
+
 /// The specify block of a module, if there is one: the module with its paths and checks.
-#[tactic(auto, using(rule_readers::proofs::Repeats::choose_begun, rule_readers::proofs::Repeats::choose_other), unfolding(specify_blocks::specs::VerilogBlocks::specify, specify_blocks::specs::VerilogBlocks::block))]
-pub fn specify(cursor: &mut Cursor, alloc: Global, joined: Netlist) -> Read<Netlist>
+#[tactic(auto, using(rule_readers::proofs::Repeats::choose_begun, rule_readers::proofs::Repeats::choose_other, part_readers::proofs::WithRest::reads_before, part_readers::proofs::WithRest::kept_before), unfolding(specify_blocks::specs::VerilogBlocks::specify))]
+pub fn specify(cursor: &mut Cursor, alloc: Global, mut joined: Netlist) -> Read<Netlist>
     ensures reads { Reads (read (spec.specify joined) cursor.old) result cursor.new }
     ensures named { IfOk result (λ model. model.name ≡ joined.name) }
 {
@@ -168,8 +182,6 @@ pub fn specify(cursor: &mut Cursor, alloc: Global, joined: Netlist) -> Read<Netl
         return Ok(joined);
     }
     cursor.skip();
-    let paths = paths(cursor, alloc, &joined)?;
-    let checks = checks(cursor, alloc, &joined)?;
-    cursor.expect(b"endspecify")?;
-    Ok(joined.with_block(paths, checks))
+    let rest = block(cursor, alloc, &mut joined);
+    where_read(joined, rest)
 }

@@ -11,6 +11,7 @@ ghost use Rattle.rule_readers.specs.Next.{next_bytes, rest};
 
 use crate::numbers::number;
 use netlist_reader::{Netlist, is_output_port};
+use part_readers::with_end;
 use rule_readers::{Language, Read};
 use specify_blocks::{Gate, VPath};
 use sqlite_items::Items;
@@ -91,9 +92,7 @@ fn if_gate(cursor: &mut Cursor, model: &Netlist) -> Read<Gate>
 {
     cursor.expect(b"(")?;
     let wire = condition_name(cursor, model)?;
-    cursor.expect(b")")?;
-    cursor.expect(b"(")?;
-    Ok(Gate::If(wire))
+    with_end(cursor, &[b")", b"("], Gate::If(wire))
 }
 
 /// What stands behind `ifnone` and before the ports of a path.
@@ -136,15 +135,14 @@ fn path(cursor: &mut Cursor, model: &Netlist) -> Read<VPath>
     let rise = number(cursor)?;
     cursor.expect(b",")?;
     let fall = number(cursor)?;
-    cursor.expect(b")")?;
-    cursor.expect(b";")?;
-    Ok(VPath {
+    let path = VPath {
         from,
         to,
         rise,
         fall,
         gate,
-    })
+    };
+    with_end(cursor, &[b")", b";"], path)
 }
 
 /// The paths of a specify block.

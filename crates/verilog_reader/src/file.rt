@@ -8,6 +8,7 @@ ghost use Rattle.rule_readers.specs.Reading.{read, Reads, ReadsAs};
 use bool_functions::Names;
 use header_reader::module_declarations;
 use netlist_reader::{Netlist, are_all_driven, module_instances};
+use part_readers::where_read;
 use rule_readers::{Language, Read, Refusal, Stop};
 use specify_blocks::VModule;
 use specify_reader::specify;
@@ -78,13 +79,13 @@ fn more_primitives(cursor: &mut Cursor, alloc: Global, mut before: Before) -> Re
 }
 
 /// The end of this module, all of whose outputs and wires are driven: the module alone.
-#[tactic(auto, unfolding(crate::specs::File::module_end))]
+#[tactic(auto, unfolding(crate::specs::File::module_end), using(part_readers::proofs::WithRest::reads_rest))]
 fn module_end(cursor: &mut Cursor, whole: Netlist) -> Read<VModule>
     ensures reads { Reads (read (module_end whole) cursor.old) result cursor.new }
     ensures same { IfOk result (λ model. model ≡ whole) }
 {
-    cursor.expect_where(are_all_driven(&whole), Refusal::Undriven, b"endmodule")?;
-    Ok(whole.into_module())
+    let end = cursor.expect_where(are_all_driven(&whole), Refusal::Undriven, b"endmodule");
+    where_read(whole.into_module(), end)
 }
 
 /// A module behind its word. Its own name is then the last of the names.

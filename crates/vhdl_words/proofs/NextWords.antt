@@ -2,22 +2,12 @@
 use Rattle.std.proofs.Common.{◌≡◌, ℕ, true, false, List, [], ◌∷◌, Ok, Err, refl}
 use Rattle.vhdl_tokens.specs.Spelling.{is_same}
 use Rattle.grammar_rules.specs.Rule.{Verdict, Fits, Foul, Misfit}
-use Rattle.grammar_rules.specs.Reading.{Outcome, choose, read}
+use Rattle.grammar_rules.specs.Reading.{read}
 use Rattle.rule_readers.specs.declared.refusal.Refusal.{Refusal}
 use Rattle.rule_readers.specs.declared.refusal.Refusal.TheVariants.{Syntax}
 use Rattle.rule_readers.specs.Next.{is_next, is_next_name, next_bytes, rest}
-use Rattle.rule_readers.proofs.Repeats as repeats
 use Rattle.vhdl_tokens.specs.Tokens.{is_name}
-use Rattle.vhdl_text.specs.VhdlRules.{begins, named, expect_all}
-
--- a part begins with a word that is next
-pub choose_begun : {B : Type 0} (text : List ℕ) (s : List (List ℕ)) (go : Unit {0} → List (List ℕ) → Outcome (List ℕ) Refusal B) (other : Outcome (List ℕ) Refusal B) →
-    is_next is_same text s ≡ true → choose (begins text) s go other ≡ go tt (rest s)
-choose_begun text s go other e = repeats.choose_begun is_same text s go other e
-
-pub choose_other : {B : Type 0} (text : List ℕ) (s : List (List ℕ)) (go : Unit {0} → List (List ℕ) → Outcome (List ℕ) Refusal B) (other : Outcome (List ℕ) Refusal B) →
-    is_next is_same text s ≡ false → choose (begins text) s go other ≡ other
-choose_other text s go other e = repeats.choose_other is_same text s go other e
+use Rattle.vhdl_text.specs.VhdlRules.{named, expect_all}
 
 -- the bytes of a next token that is a name are one
 pub next_is_name : (s : List (List ℕ)) (x : List ℕ) → x ≡ next_bytes s → is_next_name is_name s ≡ true → is_name x ≡ true

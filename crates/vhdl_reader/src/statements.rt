@@ -5,8 +5,8 @@ use udp_tables::TimingCheck;
 use vhdl_outputs::Lines;
 use vhdl_text::{Assigned, Columns};
 
-/// What the statements of an entity say: its checks, the columns of the calls of its state tables, the values of its outputs, and their
-/// paths with the inputs of the conditions.
+/// What the statements of an entity say: its checks, the columns of the calls of its state tables, the values of its outputs, and
+/// their paths with the inputs of the conditions.
 #[derive(Drop)]
 pub struct Statements {
     pub checks: Items<TimingCheck>,

@@ -1,5 +1,5 @@
 -- A section on a cell and the models that are generated for it shows equal traces.
-use Rattle.std.proofs.Common.{◌≡◌, ℕ, ◌+◌, Bool, true, false, ◌&&◌, if◌then◌else◌, is_some, List, [], ◌∷◌, ◌++◌, length, map, Option, Some, None, refl, sym, ap, subst, ◌∙◌}
+use Rattle.std.proofs.Common.{◌≡◌, ℕ, false, is_some, List, [], ◌++◌, Some, None, ap, subst, ◌∙◌}
 use Rattle.std.specs.Prelude.{Ok, slice_get, slice_index_or, All}
 use Rattle.std.proofs.lemmas.List.Folds.{list_any_none}
 use Rattle.cell_machine.specs.declared.changes.Change.{Change}
@@ -16,10 +16,10 @@ use Rattle.model_traces.specs.ModuleTrace.{module_line}
 use Rattle.model_traces.specs.EntityTrace.{entity_line}
 use Rattle.model_traces.proofs.ModelAgreement.{models-agree}
 use Rattle.stimulus.specs.declared.sections.Section.{Section}
-use Rattle.stimulus.specs.DriveLines.{drive_line, lines_along}
+use Rattle.stimulus.specs.DriveLines.{drive_line}
 use Rattle.stimulus.specs.PortEntries.{listed}
 use Rattle.stimulus.specs.Stimulus.{stimulus_of}
-use Rattle.stimulus.proofs.DriveTraces.{drive_lines}
+use Rattle.stimulus.proofs.DriveTraces.{same_lines}
 use Rattle.section_runs.specs.TraceText.{heading_text}
 use Rattle.section_runs.specs.Comparison.{compared_text, first_unlike, verdict_text}
 use Rattle.section_runs.proofs.ThreeTraces.{none_unlike}
@@ -30,11 +30,6 @@ use Rattle.simulation_catalog.specs.Catalog.{cells_named}
 use Rattle.simulation_catalog.specs.Generated.{modules_of, entities_of, KeepsRules, HaveOwnModels, SaysEqual, NoSectionDiffers}
 use Rattle.simulation_catalog.proofs.ReadyCells.{all_at, compared_as, sections_of_cells}
 use Rattle.simulation_catalog.proofs.GeneratedModels.{accepted_are_ready, modules_are_sound, entities_are_sound}
-
--- what is printed of equal traces is equal
-same_lines : (one other : List Change → Line) (cs : List Change) → trace one cs ≡ trace other cs
-    → lines_along (λ h. drive_line (one h)) cs ≡ lines_along (λ h. drive_line (other h)) cs
-same_lines one other cs e = drive_lines one cs ∙ ap (map drive_line) e ∙ sym (drive_lines other cs)
 
 equal_traces : (d : CellData) (verilog vital : List Change → Line) (cs : List Change)
     → trace verilog cs ≡ trace (cell_line d) cs → trace vital cs ≡ trace (cell_line d) cs

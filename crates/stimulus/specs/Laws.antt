@@ -1,5 +1,5 @@
 -- Laws of what is read, for the crates above.
-use Rattle.std.specs.Prelude.{◌≡◌, ℕ, ◌<◌, List, [], length, map, slice_get, All, Some, Ok, Err}
+use Rattle.std.specs.Prelude.{◌≡◌, ◌↔◌, ℕ, ◌<◌, List, [], length, map, slice_get, All, Some, Ok, Err}
 use Rattle.cell_machine.specs.declared.changes.Change.{Change}
 use Rattle.cell_machine.specs.History.{IsProperFrom}
 use Rattle.cell_machine.specs.Lines.{trace, Machine}
@@ -49,3 +49,9 @@ CausesNameAnswers =
 abbrev pub DriveLinesShowTraces : Type 0
 DriveLinesShowTraces =
     (m : Machine) (cs : List Change) → lines_along (drive_machine m).line cs ≡ map drive_line (trace m.line cs)
+
+-- Two such machines print equal lines along changes exactly where their traces on these are equal.
+abbrev pub EqualLinesAreEqualTraces : Type 0
+EqualLinesAreEqualTraces =
+    (one other : Machine) (cs : List Change)
+    → (lines_along (drive_machine one).line cs ≡ lines_along (drive_machine other).line cs) ↔ (trace one.line cs ≡ trace other.line cs)

@@ -1,5 +1,5 @@
 //! Laws of the definitions, for the crates above.
-ghost use Rattle.stimulus.specs.Laws.{DriveLinesShowTraces, SectionsAreProper, PortsAreInputs, CausesNameAnswers};
+ghost use Rattle.stimulus.specs.Laws.{DriveLinesShowTraces, EqualLinesAreEqualTraces, SectionsAreProper, PortsAreInputs, CausesNameAnswers};
 
 /// The law that each section of a stimulus that is read is of a cell that the catalog names, with changes of the cell's
 /// inputs at times that rise strictly. So what `read_stimulus` answers meets what the simulators require.
@@ -22,4 +22,11 @@ pub fn causes_name_answers()
 #[tactic(auto, using(crate::proofs::DriveTraces::drive_lines_show_traces))]
 pub fn drive_lines_show_traces()
     ensures { DriveLinesShowTraces }
+{}
+
+/// The law that two simulators whose outputs are never `z` print equal lines along changes exactly where their traces on these
+/// are equal.
+#[tactic(auto, using(crate::proofs::DriveTraces::equal_lines_are_equal_traces))]
+pub fn equal_lines_are_equal_traces()
+    ensures { EqualLinesAreEqualTraces }
 {}

@@ -22,7 +22,8 @@ pub use drives::Drive;
 pub use faults::{Cause, StimulusFault};
 pub use judged::MAX_CHANGES;
 pub use laws::{
-    causes_name_answers, drive_lines_show_traces, ports_are_inputs, sections_are_proper,
+    causes_name_answers, drive_lines_show_traces, equal_lines_are_equal_traces, ports_are_inputs,
+    sections_are_proper,
 };
 pub use ports::{PortCatalog, Ports, Standing};
 pub use read::read_stimulus;

@@ -9,3 +9,4 @@ pub mod PortLemmas
 pub mod DriverLemmas
 pub mod NumberedListLemmas
 pub mod OutputPathLemmas
+pub mod FedLemmas

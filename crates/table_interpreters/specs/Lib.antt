@@ -4,6 +4,7 @@ pub mod InputNumbers
 pub mod NetDrivers
 pub mod NumberedLists
 pub mod OutputPaths
+pub mod FedInstances
 pub mod QuietPorts
 pub mod ModuleIndexed
 pub mod LeastPath

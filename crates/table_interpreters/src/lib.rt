@@ -10,6 +10,7 @@ mod entity_index;
 mod entity_tables;
 mod entity_values;
 mod entity_words;
+mod fed_instances;
 mod module_index;
 mod module_run;
 mod module_tables;

@@ -1,7 +1,8 @@
 //! Where the parts of a module are found.
 use crate::drivers::Drivers;
+use crate::fed_instances::FedInstances;
 use crate::output_paths::paths_by_output;
-use crate::ports::input_numbers;
+use crate::ports::{Ports, input_numbers};
 use crate::row_keys::keys_of_all;
 use specify_blocks::{VModule, VPath};
 use sqlite_items::Items;
@@ -19,6 +20,8 @@ pub struct ModuleIndex {
     pub drivers: Drivers,
     /// For each port the paths that lead to it.
     pub paths: Items<Items<VPath>>,
+    /// The instances that changes feed.
+    pub fed: FedInstances,
 }
 
 impl ModuleIndex {
@@ -33,11 +36,17 @@ impl ModuleIndex {
         let numbers = input_numbers(alloc, model.ports.as_slice())?;
         let drivers = Drivers::of(alloc, model)?;
         let paths = paths_by_output(alloc, model.ports.len(), model.paths.as_slice())?;
+        let ports = Ports {
+            list: model.ports.as_slice(),
+            numbers: numbers.as_slice(),
+        };
+        let fed = FedInstances::of(alloc, &ports, model.instances.as_slice())?;
         Ok(ModuleIndex {
             keys,
             numbers,
             drivers,
             paths,
+            fed,
         })
     }
 }

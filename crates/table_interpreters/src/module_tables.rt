@@ -1,17 +1,20 @@
 //! A module with what is known of it.
 ghost use Rattle.std.specs.Prelude.{◌≡◌, filter};
+ghost use Rattle.model_traces.specs.declared.turns.Turned.TheVariants as turned;
 ghost use Rattle.model_traces.specs.NetValues.{driver};
 ghost use Rattle.table_interpreters.specs.ModuleIndexed.{IsModuleIndex};
 ghost use Rattle.table_interpreters.specs.OutputPaths.{leads_to};
+ghost use Rattle.table_interpreters.specs.FedInstances.{fed_places};
 
 use crate::module_index::ModuleIndex;
 use crate::ports::Ports;
+use model_traces::Turned;
 use specify_blocks::{Instance, VModule, VNet, VPath};
 use sqlite_items::at;
 use udp_tables::RowKey;
 
-/// A module with what is known of it: the keys of its tables, the numbers of its ports, the drivers of its nets and the paths to
-/// its ports.
+/// A module with what is known of it: the keys of its tables, the numbers of its ports, the drivers of its nets, the paths to its
+/// ports and the instances that changes feed.
 #[derive(Clone, Copy)]
 pub struct ModuleTables<'a> {
     /// The module.
@@ -56,6 +59,27 @@ impl<'a> ModuleTables<'a> {
         match at(all, port) {
             Some(paths) => paths.as_slice(),
             None => self.model.paths.as_slice(),
+        }
+    }
+
+    /// The places of the instances that a change feeds, in order.
+    pub(crate) fn fed_by(&self, what: Turned) -> &[usize]
+        ensures { result.now ≡ fed_places self.now.model.now.ports what self.now.model.now.instances }
+    {
+        match what {
+            Turned::Input(input) => self.fed_by_input(input),
+            Turned::Notifier => self.index.fed.by_register.as_slice(),
+        }
+    }
+
+    /// The places of the instances that an input feeds, in order.
+    fn fed_by_input(&self, input: usize) -> &[usize]
+        ensures { result.now ≡ fed_places self.now.model.now.ports (turned.Input input) self.now.model.now.instances }
+    {
+        let all = self.index.fed.by_input.as_slice();
+        match at(all, input) {
+            Some(places) => places.as_slice(),
+            None => &[],
         }
     }
 

@@ -7,7 +7,8 @@ use specify_blocks::VPath;
 use sqlite_items::Items;
 use std::alloc::{AllocError, Global};
 
-/// For each of so many ports the paths that lead to it, in their order. `AllocError` comes only where memory is wanted and not there.
+/// For each of so many ports the paths that lead to it, in their order. `AllocError` comes only where memory is wanted and not
+/// there.
 pub(crate) fn paths_by_output(
     alloc: Global,
     ports: usize,

@@ -16,7 +16,7 @@ use trit_cubes::Trit;
 use udp_tables::{RowKey, Udp, is_input_port, keyed_next};
 
 /// Whether this net is what changes.
-fn is_turned(ports: &Ports, what: Turned, net: VNet) -> bool
+pub(crate) fn is_turned(ports: &Ports, what: Turned, net: VNet) -> bool
     ensures { result ≡ is_turned ports.now.list.now what net }
 {
     match what {
@@ -134,7 +134,8 @@ fn next_state(
     }
 }
 
-/// Takes the states of all instances over a change. `inputs` and `notifier` are the values after it.
+/// Takes the states of all instances over a change: those that it feeds may take others. `inputs` and `notifier` are the values
+/// after it.
 pub(crate) fn step_states(
     tables: &ModuleTables,
     inputs: &[Trit],
@@ -149,7 +150,9 @@ pub(crate) fn step_states(
     ensures len { length states.new ≡ length states.old }
     ensures room { length room.new ≡ length room.old }
 {
-    for i in 0..states.len() {
+    let places = tables.fed_by(turn.what);
+    for j in 0..places.len() {
+        let i = places[j];
         let instance = instance_at(tables.model, i);
         let state = states.as_slice()[i];
         let next = next_state(tables, inputs, notifier, turn, instance, state, room);

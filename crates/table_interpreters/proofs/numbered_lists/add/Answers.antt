@@ -1,4 +1,4 @@
-use Rattle.std.proofs.Common.{◌≡◌, ◌≤◌, ◌∙◌, [], ◌∷◌, ◌++◌, ap, length, set, arith}
+use Rattle.std.proofs.Common.{◌≤◌, ◌∙◌, [], ◌∷◌, ◌++◌, ap, length, set, arith}
 use Rattle.table_interpreters.proofs.NumberedListLemmas.{added, not-added}
 use Rattle.table_interpreters.proofs.numbered_lists.add.Goals as goal
 

@@ -1,15 +1,15 @@
-use Rattle.std.proofs.Common.{◌≡◌, ◌++◌, take, drop, length}
-use Rattle.cell_machine.specs.Each.{each}
+use Rattle.std.proofs.Common.{◌≡◌, drop, length}
+use Rattle.trit_cubes.specs.declared.trits.Trit.TheVariants.{Zero}
 use Rattle.model_traces.specs.Primitives.{next_state}
+use Rattle.table_interpreters.proofs.FedLemmas.{stepped}
 use Rattle.table_interpreters.proofs.primitives.step_states.Given as goal
 
--- the states so far and the next ones of the rest give the next ones of all
-abbrev pub invariant-loop-i : goal.invariant-loop-i
-invariant-loop-i l = record {
-  whole :
-      take l.i l.states
-      ++ each (next_state l.tables.model.now l.inputs l.notifier l.turn) (drop l.i l.tables.model.now.instances) (drop l.i l.states)
-      ≡ each (next_state l.tables.model.now l.inputs l.notifier l.turn) l.tables.model.now.instances l.initial.states;
+-- the steps of the instances that are left take the states to where the steps of all that are fed take them
+abbrev pub invariant-loop-j : goal.invariant-loop-j
+invariant-loop-j l = record {
+  rest :
+      stepped (next_state l.tables.model.now l.inputs l.notifier l.turn) Zero l.tables.model.now.instances (drop l.j l.places) l.states
+      ≡ stepped (next_state l.tables.model.now l.inputs l.notifier l.turn) Zero l.tables.model.now.instances l.places l.initial.states;
   len : length l.states ≡ length l.initial.states;
   room : length l.room ≡ length l.initial.room;
 }

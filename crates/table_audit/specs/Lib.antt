@@ -1,0 +1,6 @@
+pub mod Terminals
+pub mod Shape
+pub mod Tables
+pub mod Matches
+pub mod Verdict
+pub mod Laws

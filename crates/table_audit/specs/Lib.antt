@@ -1,3 +1,4 @@
+pub mod Lists
 pub mod Terminals
 pub mod Shape
 pub mod Tables

@@ -1,8 +1,9 @@
 -- Whether the parts of a module are those of a cell, apart from the values of its tables.
-use Rattle.std.specs.Prelude.{ℕ, ◌+◌, Bool, true, false, not, ◌&&◌, List, [], ◌∷◌, ◌++◌, length, map, filter, find, nat_eq, Option, Some, None, slice_get}
+use Rattle.std.specs.Prelude.{⊤, ℕ, ◌+◌, ◌≤◌, Bool, true, false, not, ◌&&◌, List, [], ◌∷◌, ◌++◌, length, map, filter, find, flat_map, nat_eq, Option, Some, None, slice_get}
 use Rattle.std.specs.List.{list_any, range_with_len}
 use Rattle.std.specs.Option.{option_map_or}
 use Rattle.bool_functions.specs.declared.tree.Node.{Node}
+use Rattle.bool_functions.specs.Support.{support_of}
 use Rattle.cell_machine.specs.declared.pins.Pin.{Pin}
 use Rattle.cell_machine.specs.declared.outputs.OutputPin.{OutputPin}
 use Rattle.cell_machine.specs.declared.checks.CheckKind.{CheckKind}
@@ -121,6 +122,11 @@ abbrev pub gating : Option Node → Option ℕ → Option Gating
 gating (Some f) (Some w) = Some (record { condition = f; wire = w })
 gating _ _ = None
 
+-- a condition, where there is one, names at most ten pins
+abbrev pub HasFewNames : Option Node → Type 0
+HasFewNames None = ⊤
+HasFewNames (Some f) = length (support_of f) ≤ 10
+
 -- the wire of an `if` path
 abbrev pub gate_wire : Gate → Option ℕ
 gate_wire gate.Always = None
@@ -158,6 +164,17 @@ output_net d o = pin_net d.pins (option_map_or (λ (output : OutputPin). output.
 abbrev pub feeds_output : CellData → VModule → ℕ → Bool
 feeds_output d m o = drives_value m (output_nets d m o) (output_net d o)
 
+-- whether there are as many of a part, of which not only the number is asked; and whether the ports are those of the cell
+abbrev pub number_holds : CellData → VModule → ShapePart → Bool
+number_holds d m part.Ports = same_bits (port_inputs m) (cell_inputs d)
+number_holds d m part.States = nat_eq (length (sequential_instances m)) (length d.groups)
+number_holds d m part.StateInputs = true
+number_holds d m part.Checks = nat_eq (length m.checks) (length d.checks)
+number_holds d m part.Paths = nat_eq (length m.paths) (length d.arcs)
+number_holds d m part.CheckInputs = true
+number_holds d m part.PathInputs = true
+number_holds d m part.Outputs = true
+
 -- how many of a part are asked for one by one, and whether the one with this number, from 0, is the cell's
 abbrev pub part_count : CellData → ShapePart → ℕ
 part_count d part.Ports = 0
@@ -179,27 +196,30 @@ part_holds d m part.CheckInputs k = feeds_gating d m (check_gating d m k)
 part_holds d m part.PathInputs k = feeds_gating d m (path_gating d m k)
 part_holds d m part.Outputs k = feeds_output d m k
 
--- the questions on the parts of one kind, in their order
+-- The questions on a part: that on its number, and that on each one, in their order.
+abbrev pub asked_once : CellData → VModule → ShapePart → ShapeTest
+asked_once d m p = record { part = p; number = 0; holds = number_holds d m p }
+
 abbrev pub asked_of : CellData → VModule → ShapePart → ℕ → ShapeTest
 asked_of d m p k = record { part = p; number = k + 1; holds = part_holds d m p k }
 
 abbrev pub asked : CellData → VModule → ShapePart → List ShapeTest
 asked d m p = map (asked_of d m p) (range_with_len 0 (part_count d p))
 
--- the question on a number of parts, or on the ports as a whole
-abbrev pub asked_once : ShapePart → Bool → ShapeTest
-asked_once p holds = record { part = p; number = 0; holds = holds }
+abbrev pub tests_of : CellData → VModule → ShapePart → List ShapeTest
+tests_of d m p = asked_once d m p ∷ asked d m p
 
 -- All questions on the shape, in the order in which they are asked.
+abbrev pub all_parts : List ShapePart
+all_parts =
+    part.Ports ∷ part.States ∷ part.StateInputs ∷ part.Checks ∷ part.Paths ∷ part.CheckInputs ∷ part.PathInputs ∷ part.Outputs ∷ []
+
 abbrev pub shape_tests : CellData → VModule → List ShapeTest
-shape_tests d m =
-    asked_once part.Ports (same_bits (port_inputs m) (cell_inputs d))
-    ∷ asked_once part.States (nat_eq (length (sequential_instances m)) (length d.groups))
-    ∷ asked d m part.StateInputs
-    ++ (asked_once part.Checks (nat_eq (length m.checks) (length d.checks)) ∷ asked d m part.Checks
-    ++ (asked_once part.Paths (nat_eq (length m.paths) (length d.arcs)) ∷ asked d m part.Paths
-    ++ (asked d m part.CheckInputs ++ (asked d m part.PathInputs ++ asked d m part.Outputs))))
+shape_tests d m = flat_map (tests_of d m) all_parts
 
 -- the first that does not hold, where there is one
-abbrev pub first_unlike : List ShapeTest → Option ShapeTest
-first_unlike tests = find (λ (t : ShapeTest). not t.holds) tests
+abbrev pub is_amiss : ShapeTest → Bool
+is_amiss t = not t.holds
+
+abbrev pub first_amiss : List ShapeTest → Option ShapeTest
+first_amiss tests = find is_amiss tests

@@ -1,6 +1,6 @@
 -- What the tables of a module and the functions of a cell give for the same arguments, and all arguments in the order in which they
 -- are compared. (What a table gives: IEEE 1364-2005, clause 8. The arguments and their order are this project's rule.)
-use Rattle.std.specs.Prelude.{ℕ, ◌+◌, Bool, true, false, not, List, [], ◌∷◌, ◌++◌, length, map, filter, flat_map, find, position, Option, Some, None, unwrap_or, slice_get, slice_set, slice_index_or}
+use Rattle.std.specs.Prelude.{ℕ, ◌+◌, Bool, true, false, not, List, [], ◌∷◌, ◌++◌, length, map, flat_map, find, position, Option, Some, None, unwrap_or, slice_get, slice_set, slice_index_or, if◌then◌else◌}
 use Rattle.std.specs.List.{range_with_len}
 use Rattle.std.specs.Option.{option_map_or}
 use Rattle.trit_cubes.specs.declared.trits.Trit.{Trit}
@@ -118,12 +118,9 @@ note_after Unknown = Zero
 note_after Zero = One
 note_after One = Zero
 
--- whether place p of a list has another value than this, and the lists of n values, in their order, of which it has
+-- whether place p of a list has another value than this
 abbrev pub changes_at : ℕ → Trit → List Trit → Bool
 changes_at p old values = not (same old (slice_index_or values p Unknown))
-
-abbrev pub lists_changed : ℕ → ℕ → Trit → List (List Trit)
-lists_changed n p old = filter (changes_at p old) (cubes_of n)
 
 -- A change of a pin of a group.
 abbrev pub step_compared : CellData → VModule → ℕ → ℕ → Trit → List Trit → Trit → Option Trit → Difference
@@ -140,15 +137,19 @@ step_compared d m g p old values s note =
       of_model = model_step d m g p old values (unwrap_or note Unknown) s;
     }
 
--- All changes of pins of a group: by the place that changes, the value before, the values after, the state and the register.
+-- All changes of pins of a group: by the place that changes, the value before, the values after, the state and the register. Values
+-- that are those before are no change.
 abbrev pub steps_by_note : CellData → VModule → ℕ → ℕ → Trit → List Trit → Trit → List Difference
 steps_by_note d m g p old values s = map (step_compared d m g p old values s) (notes (has_notifier d))
 
 abbrev pub steps_by_state : CellData → VModule → ℕ → ℕ → Trit → List Trit → List Difference
 steps_by_state d m g p old values = flat_map (steps_by_note d m g p old values) all_trits
 
+abbrev pub steps_where_changed : CellData → VModule → ℕ → ℕ → Trit → List Trit → List Difference
+steps_where_changed d m g p old values = if changes_at p old values then steps_by_state d m g p old values else []
+
 abbrev pub steps_by_list : CellData → VModule → ℕ → ℕ → Trit → List Difference
-steps_by_list d m g p old = flat_map (steps_by_state d m g p old) (lists_changed (length (support_at d g)) p old)
+steps_by_list d m g p old = flat_map (steps_where_changed d m g p old) (cubes_of (length (support_at d g)))
 
 abbrev pub steps_by_old : CellData → VModule → ℕ → ℕ → List Difference
 steps_by_old d m g p = flat_map (steps_by_list d m g p) all_trits
@@ -181,10 +182,6 @@ notes_by_old d m g old = flat_map (notes_by_list d m g old) (cubes_of (length (s
 abbrev pub notes_compared : CellData → VModule → ℕ → List Difference
 notes_compared d m g = flat_map (notes_by_old d m g) notes_before
 
-abbrev pub notes_compared_by : Bool → CellData → VModule → ℕ → List Difference
-notes_compared_by false d m g = []
-notes_compared_by true d m g = notes_compared d m g
-
 -- A value that has no state: of the part with this number, for these values of its support.
 abbrev pub value_compared : AuditPart → ℕ → (List Trit → Trit) → (List Trit → Trit) → List Trit → Difference
 value_compared p number of_cell of_model values =
@@ -211,16 +208,36 @@ abbrev pub outputs_compared : CellData → VModule → ℕ → List Difference
 outputs_compared d m o =
     map (value_compared part.Output (o + 1) (cell_output d o) (model_output d m o)) (cubes_of (length (sources_at d o)))
 
--- All arguments in the order in which they are compared: the states of all groups, what the register makes of them, the conditions
--- of checks, those of paths, and the outputs.
+-- All values of the condition of check j, and of arc a.
+abbrev pub checks_compared : CellData → VModule → ℕ → List Difference
+checks_compared d m j = conditions_compared d m part.Check (j + 1) (check_gating d m j)
+
+abbrev pub paths_compared : CellData → VModule → ℕ → List Difference
+paths_compared d m a = conditions_compared d m part.Path (a + 1) (path_gating d m a)
+
+-- All arguments in the order in which they are compared: the states of all groups and what the register makes of them, the
+-- conditions of checks and those of paths, and the outputs.
+abbrev pub all_notes_compared : Bool → CellData → VModule → List Difference
+all_notes_compared false d m = []
+all_notes_compared true d m = flat_map (notes_compared d m) (range_with_len 0 (length d.groups))
+
+abbrev pub states_compared : CellData → VModule → List Difference
+states_compared d m =
+    flat_map (steps_compared d m) (range_with_len 0 (length d.groups)) ++ all_notes_compared (has_notifier d) d m
+
+abbrev pub all_conditions_compared : CellData → VModule → List Difference
+all_conditions_compared d m =
+    flat_map (checks_compared d m) (range_with_len 0 (length d.checks))
+    ++ flat_map (paths_compared d m) (range_with_len 0 (length d.arcs))
+
 abbrev pub compared : CellData → VModule → List Difference
 compared d m =
-    flat_map (steps_compared d m) (range_with_len 0 (length d.groups))
-    ++ (flat_map (notes_compared_by (has_notifier d) d m) (range_with_len 0 (length d.groups))
-    ++ (flat_map (λ j. conditions_compared d m part.Check (j + 1) (check_gating d m j)) (range_with_len 0 (length d.checks))
-    ++ (flat_map (λ a. conditions_compared d m part.Path (a + 1) (path_gating d m a)) (range_with_len 0 (length d.arcs))
-    ++ flat_map (outputs_compared d m) (range_with_len 0 (length d.outputs)))))
+    states_compared d m
+    ++ (all_conditions_compared d m ++ flat_map (outputs_compared d m) (range_with_len 0 (length d.outputs)))
 
 -- the first with two values that are not the same, where there is one
+abbrev pub is_unlike : Difference → Bool
+is_unlike c = not (same c.of_cell c.of_model)
+
 abbrev pub first_difference : List Difference → Option Difference
-first_difference arguments = find (λ (c : Difference). not (same c.of_cell c.of_model)) arguments
+first_difference arguments = find is_unlike arguments

@@ -16,6 +16,7 @@ use Rattle.specify_blocks.specs.declared.model.Instance.{Instance}
 use Rattle.specify_blocks.specs.declared.model.Instance.TheVariants as instance
 use Rattle.specify_blocks.specs.declared.model.VModule.{VModule}
 use Rattle.specify_blocks.specs.Nets.{same_net, net_driven, has_state, is_sequential}
+use Rattle.specify_blocks.specs.Sound.{IsInstance}
 use Rattle.specify_blocks.specs.Generated.{pin_net, notifier_nets}
 
 -- the instances of primitives with a state, in their order
@@ -25,6 +26,10 @@ sequential_instances m = filter (has_state m.udps) m.instances
 -- the instance that drives a net, where there is one; in a sound module there is no other
 abbrev pub driving : VModule → VNet → Option Instance
 driving m n = find (λ i. same_net (net_driven i) n) m.instances
+
+-- an instance that may stand in the module, behind some others
+abbrev pub StandsIn : VModule → Instance → Type 0
+StandsIn m i = (earlier : List Instance) × IsInstance m earlier i
 
 -- the nets that feed an instance
 abbrev pub nets_feeding : Instance → List VNet

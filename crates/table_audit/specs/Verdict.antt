@@ -6,7 +6,7 @@ use Rattle.table_audit.specs.declared.verdicts.Difference.{Difference}
 use Rattle.table_audit.specs.declared.verdicts.Verdict.{Verdict}
 use Rattle.table_audit.specs.declared.verdicts.Verdict.TheVariants.{Same, Shape, Differs}
 use Rattle.table_audit.specs.declared.shape.ShapeTest.{ShapeTest}
-use Rattle.table_audit.specs.Shape.{shape_tests, first_unlike}
+use Rattle.table_audit.specs.Shape.{shape_tests, first_amiss}
 use Rattle.table_audit.specs.Tables.{compared, first_difference}
 
 -- by the first difference of the tables
@@ -22,4 +22,4 @@ by_shape (Some t) otherwise = Shape t.part t.number
 -- The verdict on a module as a model of a cell: the first part whose shape is not the cell's; else the first arguments at which a
 -- table gives another value than the cell; else that they are the same.
 abbrev pub verdict_of : CellData → VModule → Verdict
-verdict_of d m = by_shape (first_unlike (shape_tests d m)) (by_tables (first_difference (compared d m)))
+verdict_of d m = by_shape (first_amiss (shape_tests d m)) (by_tables (first_difference (compared d m)))

@@ -1,12 +1,139 @@
 //! The comparison of a module with a cell.
-ghost use Rattle.std.specs.Prelude.{◌≡◌};
+ghost use Rattle.std.specs.Prelude.{◌≡◌, ◌+◌, flat_map, length};
+ghost use Rattle.std.specs.List.{range_with_len};
 ghost use Rattle.cell_machine.specs.CellData.{data_of};
 ghost use Rattle.specify_blocks.specs.Sound.{IsSound};
+ghost use Rattle.table_audit.specs.Matches.{HasShape};
+ghost use Rattle.table_audit.specs.Tables.{steps_compared, notes_compared, states_compared, checks_compared, paths_compared, all_conditions_compared, outputs_compared, compared, first_difference};
 ghost use Rattle.table_audit.specs.Verdict.{verdict_of};
 
-use crate::verdicts::Verdict;
+use crate::shape::first_amiss;
+use crate::states::GroupTables;
+use crate::terminals::has_notifier;
+use crate::values::{of_check, of_output, of_path};
+use crate::verdicts::{Difference, Verdict};
 use cell_machine::Cell;
 use specify_blocks::VModule;
+
+/// The first difference of the states at changes of pins.
+#[tactic(auto, using(crate::proofs::Firsts::turn, crate::proofs::Firsts::done))]
+fn first_of_steps(cell: &Cell, model: &VModule) -> Option<Difference>
+    requires sound { IsSound model.now }
+    requires shape { HasShape (data_of cell.now) model.now }
+    ensures { result ≡ first_difference (flat_map (steps_compared (data_of cell.now) model.now) (range_with_len 0 (length cell.now.groups))) }
+{
+    for group in 0..cell.groups.len() {
+        let tables = GroupTables::of(cell, model, group);
+        if let Some(found) = tables.steps() {
+            return Some(found);
+        }
+    }
+    None
+}
+
+/// The first difference of what the register of the checks makes of the states, where there is one.
+#[tactic(auto, using(crate::proofs::Firsts::turn, crate::proofs::Firsts::done))]
+fn first_of_notes(cell: &Cell, model: &VModule) -> Option<Difference>
+    requires sound { IsSound model.now }
+    requires shape { HasShape (data_of cell.now) model.now }
+    ensures { result ≡ first_difference (flat_map (notes_compared (data_of cell.now) model.now) (range_with_len 0 (length cell.now.groups))) }
+{
+    for group in 0..cell.groups.len() {
+        let tables = GroupTables::of(cell, model, group);
+        if let Some(found) = tables.notes() {
+            return Some(found);
+        }
+    }
+    None
+}
+
+/// The first difference of the conditions of checks.
+#[tactic(auto, using(crate::proofs::Firsts::turn, crate::proofs::Firsts::done, crate::proofs::Gatings::check_fed))]
+fn first_of_checks(cell: &Cell, model: &VModule) -> Option<Difference>
+    requires sound { IsSound model.now }
+    requires shape { HasShape (data_of cell.now) model.now }
+    ensures { result ≡ first_difference (flat_map (checks_compared (data_of cell.now) model.now) (range_with_len 0 (length cell.now.checks))) }
+{
+    for check in 0..cell.checks.len() {
+        if let Some(found) = of_check(cell, model, check) {
+            return Some(found);
+        }
+    }
+    None
+}
+
+/// The first difference of the conditions of paths.
+#[tactic(auto, using(crate::proofs::Firsts::turn, crate::proofs::Firsts::done, crate::proofs::Gatings::path_fed))]
+fn first_of_paths(cell: &Cell, model: &VModule) -> Option<Difference>
+    requires sound { IsSound model.now }
+    requires shape { HasShape (data_of cell.now) model.now }
+    ensures { result ≡ first_difference (flat_map (paths_compared (data_of cell.now) model.now) (range_with_len 0 (length cell.now.arcs))) }
+{
+    for arc in 0..cell.arcs.len() {
+        if let Some(found) = of_path(cell, model, arc) {
+            return Some(found);
+        }
+    }
+    None
+}
+
+/// The first difference of the outputs.
+#[tactic(auto, using(crate::proofs::Firsts::turn, crate::proofs::Firsts::done))]
+fn first_of_outputs(cell: &Cell, model: &VModule) -> Option<Difference>
+    requires sound { IsSound model.now }
+    requires shape { HasShape (data_of cell.now) model.now }
+    ensures { result ≡ first_difference (flat_map (outputs_compared (data_of cell.now) model.now) (range_with_len 0 (length cell.now.outputs))) }
+{
+    for output in 0..cell.outputs.len() {
+        if let Some(found) = of_output(cell, model, output) {
+            return Some(found);
+        }
+    }
+    None
+}
+
+/// The first difference of the states: at changes of pins, then at changes of the register of the checks, where there is one.
+#[tactic(auto, using(crate::proofs::Firsts::first_of_both))]
+fn first_of_states(cell: &Cell, model: &VModule) -> Option<Difference>
+    requires sound { IsSound model.now }
+    requires shape { HasShape (data_of cell.now) model.now }
+    ensures { result ≡ first_difference (states_compared (data_of cell.now) model.now) }
+{
+    match first_of_steps(cell, model) {
+        Some(found) => Some(found),
+        None if has_notifier(cell) => first_of_notes(cell, model),
+        None => None,
+    }
+}
+
+/// The first difference of the conditions: of checks, then of paths.
+#[tactic(auto, using(crate::proofs::Firsts::first_of_both))]
+fn first_of_conditions(cell: &Cell, model: &VModule) -> Option<Difference>
+    requires sound { IsSound model.now }
+    requires shape { HasShape (data_of cell.now) model.now }
+    ensures { result ≡ first_difference (all_conditions_compared (data_of cell.now) model.now) }
+{
+    match first_of_checks(cell, model) {
+        Some(found) => Some(found),
+        None => first_of_paths(cell, model),
+    }
+}
+
+/// The first difference of the tables: of states, conditions and outputs.
+#[tactic(auto, using(crate::proofs::Firsts::first_of_both))]
+fn first_of_tables(cell: &Cell, model: &VModule) -> Option<Difference>
+    requires sound { IsSound model.now }
+    requires shape { HasShape (data_of cell.now) model.now }
+    ensures { result ≡ first_difference (compared (data_of cell.now) model.now) }
+{
+    if let Some(found) = first_of_states(cell, model) {
+        return Some(found);
+    }
+    match first_of_conditions(cell, model) {
+        Some(found) => Some(found),
+        None => first_of_outputs(cell, model),
+    }
+}
 
 /// Whether a module has the shape and the tables of a cell; else the first part whose shape is another, or the first arguments
 /// at which a table gives another value. It searches no states and takes no memory.
@@ -23,5 +150,14 @@ pub fn audit(cell: &Cell, model: &VModule) -> Verdict
     requires { IsSound model.now }
     ensures { result ≡ verdict_of (data_of cell.now) model.now }
 {
-    Verdict::Same
+    if let Some(test) = first_amiss(cell, model) {
+        return Verdict::Shape {
+            part: test.part,
+            number: test.number,
+        };
+    }
+    match first_of_tables(cell, model) {
+        Some(difference) => Verdict::Differs(difference),
+        None => Verdict::Same,
+    }
 }

@@ -2,9 +2,17 @@
 //! other is this project's rule.)
 #![tactic(auto)]
 
+mod cell_values;
 mod comparison;
 mod laws;
+mod lists;
+mod model_tables;
+mod resolved;
 mod shape;
+mod states;
+mod supports;
+mod terminals;
+mod values;
 mod verdicts;
 
 pub use comparison::audit;

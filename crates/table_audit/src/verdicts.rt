@@ -1,4 +1,7 @@
 //! What the comparison of a module with a cell answers.
+ghost use Rattle.std.specs.Prelude.{◌≡◌, [], ◌∷◌};
+ghost use Rattle.table_audit.specs.Tables.{first_difference};
+
 use trit_cubes::{Cube, Trit};
 
 /// What a module is made of, as it is compared with a cell before any table is.
@@ -75,4 +78,17 @@ pub enum Verdict {
     },
     /// The shape is the cell's; these are the first arguments at which a table gives another value than the cell.
     Differs(Difference),
+}
+
+impl Difference {
+    /// This, where its two values are not the same.
+    pub(crate) fn found(self) -> Option<Difference>
+        ensures { result ≡ first_difference (self ∷ []) }
+    {
+        if self.of_cell == self.of_model {
+            None
+        } else {
+            Some(self)
+        }
+    }
 }

@@ -1,0 +1,74 @@
+-- The conditions of checks and paths, and what the shape of a module gives for their wires.
+use Rattle.std.proofs.Common.{◌≡◌, ℕ, ◌≤◌, Bool, List, ◌∷◌, [], not, ◌&&◌, length, Option, None, Some, slice_get, nat_lt, nat_le, IsTrue, refl, sym, ◌∙◌, ap, leb-true}
+use Rattle.std.specs.List.{list_all}
+use Rattle.std.proofs.lemmas.Bool.{and_parts}
+use Rattle.bool_functions.specs.declared.tree.Node.{Node}
+use Rattle.bool_functions.specs.Support.{support_of}
+use Rattle.cell_machine.specs.declared.pins.Pin.{Pin}
+use Rattle.cell_machine.specs.declared.checks.Check.{Check}
+use Rattle.cell_machine.specs.declared.arcs.Arc.{Arc}
+use Rattle.cell_machine.specs.declared.cells.Cell.{Cell}
+use Rattle.cell_machine.specs.CellData.{CellData}
+use Rattle.cell_machine.specs.Names.{has}
+use Rattle.cell_machine.specs.CellRules.{is_input_pin, is_condition, is_check, is_arc}
+use Rattle.cell_machine.proofs.RuleLemmas.{checks_hold, arcs_hold, check_parts, arc_condition}
+use Rattle.cell_machine.proofs.OutputFacts.{all-at}
+use Rattle.udp_tables.specs.declared.timing_checks.TimingCheck.{TimingCheck}
+use Rattle.specify_blocks.specs.declared.model.VPath.{VPath}
+use Rattle.specify_blocks.specs.declared.model.VModule.{VModule}
+use Rattle.table_audit.specs.Shape.{HasFewNames, gate_wire, gating, gating_of, check_gating, path_gating, feeds_gating}
+use Rattle.table_audit.specs.Matches.{HasShape}
+use Rattle.table_audit.proofs.ShapeLaws.{at-feeds}
+
+few-names : (pins : List Pin) (apart : List ℕ) (o : Option Node) → IsTrue (is_condition pins apart o) → HasFewNames o
+few-names pins apart None h = tt
+few-names pins apart (Some f) h =
+    let rules : Bool = list_all (λ i. is_input_pin pins i && not (has apart i)) (support_of f) in
+    let one = and_parts (nat_lt 0 (length (support_of f))) (nat_le (length (support_of f)) 10 && rules) h in
+    leb-true (length (support_of f)) 10 (and_parts (nat_le (length (support_of f)) 10) rules one.1).0
+
+pub check_few : (cell : Cell) (i : ℕ) (k : Check) → slice_get cell.checks i ≡ Some k → HasFewNames k.condition
+check_few cell i k e =
+    few-names cell.pins (k.first.pin ∷ k.second.pin ∷ []) k.condition
+    (check_parts cell.pins k (all-at (is_check cell.pins) cell.checks i k (checks_hold cell) e)).enabled
+
+pub arc_few : (cell : Cell) (i : ℕ) (arc : Arc) → slice_get cell.arcs i ≡ Some arc → HasFewNames arc.condition
+arc_few cell i arc e =
+    few-names cell.pins (arc.from ∷ []) arc.condition
+    (arc_condition cell.pins arc (all-at (is_arc cell.pins) cell.arcs i arc (arcs_hold cell) e))
+
+pub check_gating_is :
+    (d : CellData) (m : VModule) (i : ℕ) (k : Check) (t : TimingCheck)
+    → slice_get d.checks i ≡ Some k → slice_get m.checks i ≡ Some t → check_gating d m i ≡ gating k.condition t.condition
+check_gating_is d m i k t e f =
+    λ j. gating_of (λ (k : Check). k.condition) (λ (k : TimingCheck). k.condition) (e j) (f j)
+
+pub path_gating_is :
+    (d : CellData) (m : VModule) (i : ℕ) (arc : Arc) (path : VPath)
+    → slice_get d.arcs i ≡ Some arc → slice_get m.paths i ≡ Some path → path_gating d m i ≡ gating arc.condition (gate_wire path.gate)
+path_gating_is d m i arc path e f =
+    λ j. gating_of (λ (arc : Arc). arc.condition) (λ (path : VPath). gate_wire path.gate) (e j) (f j)
+
+-- where a list of the module ends no condition is compared
+pub check_gating_none : (d : CellData) (m : VModule) (i : ℕ) → slice_get m.checks i ≡ None → check_gating d m i ≡ None
+check_gating_none d m i f =
+    (λ j. gating_of (λ (k : Check). k.condition) (λ (k : TimingCheck). k.condition) (slice_get d.checks i) (f j)) ∙ none (slice_get d.checks i)
+  where
+    none : (o : Option Check) → gating_of (λ (k : Check). k.condition) (λ (k : TimingCheck). k.condition) o None ≡ None
+    none None = refl
+    none (Some k) = refl
+
+pub path_gating_none : (d : CellData) (m : VModule) (i : ℕ) → slice_get m.paths i ≡ None → path_gating d m i ≡ None
+path_gating_none d m i f =
+    (λ j. gating_of (λ (arc : Arc). arc.condition) (λ (path : VPath). gate_wire path.gate) (slice_get d.arcs i) (f j)) ∙ none (slice_get d.arcs i)
+  where
+    none : (o : Option Arc) → gating_of (λ (arc : Arc). arc.condition) (λ (path : VPath). gate_wire path.gate) o None ≡ None
+    none None = refl
+    none (Some k) = refl
+
+-- the wires of a module of the cell's shape stand for the conditions
+pub check_fed : (d : CellData) (m : VModule) (i : ℕ) → HasShape d m → IsTrue (feeds_gating d m (check_gating d m i))
+check_fed d m i s = at-feeds d m (check_gating d m i) (s.check_inputs i)
+
+pub path_fed : (d : CellData) (m : VModule) (i : ℕ) → HasShape d m → IsTrue (feeds_gating d m (path_gating d m i))
+path_fed d m i s = at-feeds d m (path_gating d m i) (s.path_inputs i)

@@ -1,0 +1,9 @@
+pub mod ListNumbers
+pub mod Firsts
+pub mod SoundInstances
+pub mod Names
+pub mod Searches
+pub mod ShapeLaws
+pub mod TableLaws
+pub mod VerdictLaws
+pub mod Gatings

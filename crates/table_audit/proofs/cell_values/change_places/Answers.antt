@@ -1,0 +1,22 @@
+use Rattle.std.proofs.Common.{◌≡◌, ◌+◌, List, [], ◌∷◌, ◌++◌, take, drop, slice_index_or, ap, ◌∙◌}
+use Rattle.std.proofs.lemmas.List.{get_or_default}
+use Rattle.trit_cubes.specs.declared.trits.Trit.{Trit}
+use Rattle.trit_cubes.specs.declared.trits.Trit.TheVariants as trit
+use Rattle.table_audit.proofs.ListNumbers.{without-parts}
+use Rattle.table_audit.proofs.cell_values.change_places.Goals as goal
+
+pub returns : goal.returns
+returns c =
+    let values : List Trit = c.args.change.values.now in
+    let p = c.args.change.place in
+    let s = c.args.state in
+    let value = slice_index_or values p trit.Zero in
+    let same : value ≡ slice_index_or values p trit.Unknown = get_or_default values p trit.Zero trit.Unknown c.requires.place in
+    c.push-3.ensures
+    ∙ ap (λ xs. xs ++ s ∷ [])
+    (c.add_trits-2.ensures
+    ∙ ap (λ xs. xs ++ drop (p + 1) values)
+    (c.add_trits.ensures
+    ∙ ap (λ xs. xs ++ take p values)
+    (c.push-2.ensures ∙ ap (λ xs. xs ++ value ∷ []) (c.push.ensures ∙ ap (λ xs. xs ++ c.args.change.old ∷ []) c.new-places.ensures))))
+    ∙ (λ i. c.args.change.old ∷ same i ∷ without-parts p values c.requires.place i ++ s ∷ [])

@@ -1,0 +1,13 @@
+use Rattle.std.proofs.Common.{◌+◌}
+use Rattle.cell_machine.specs.CellData.{data_of}
+use Rattle.table_audit.specs.declared.verdicts.AuditPart.TheVariants as part
+use Rattle.table_audit.specs.Tables.{cell_output, model_output, value_compared}
+use Rattle.table_audit.proofs.Firsts.{values-from}
+use Rattle.table_audit.proofs.values.of_output.Goals as goal
+
+pub loop-k-init : goal.loop-k-init
+loop-k-init c =
+    values-from
+    (value_compared part.Output (c.args.output + 1) (cell_output (data_of c.args.cell.now) c.args.output)
+    (model_output (data_of c.args.cell.now) c.args.model.now c.args.output))
+    c.source_count-places.result _ c.list_count-count.result c.list_count-count.ensures.count c.source_count-places.ensures.value

@@ -1,0 +1,15 @@
+use Rattle.std.proofs.Common.{◌≡◌, ◌-◌, true, [], ◌∷◌, flat_map, map, length}
+use Rattle.std.specs.List.{range_with_len}
+use Rattle.cell_machine.specs.CellData.{data_of}
+use Rattle.cell_machine.specs.CellTrace.{support_at, sources_at}
+use Rattle.std.specs.Prelude.{◌+◌}
+use Rattle.table_audit.specs.declared.verdicts.AuditPart.TheVariants as part
+use Rattle.table_audit.specs.Lists.{list_numbered}
+use Rattle.table_audit.specs.Tables.{cell_output, model_output, value_compared, outputs_compared, first_difference}
+use Rattle.table_audit.proofs.values.of_output.Given as goal
+
+-- the first one is among the rest
+abbrev pub invariant-loop-k : goal.invariant-loop-k
+invariant-loop-k l =
+    first_difference (flat_map (λ k. value_compared part.Output (l.output + 1) (cell_output (data_of l.cell) l.output) (model_output (data_of l.cell) l.model l.output) (list_numbered l.places k) ∷ []) (range_with_len l.k (l.count - l.k)))
+    ≡ first_difference (outputs_compared (data_of l.cell) l.model l.output)

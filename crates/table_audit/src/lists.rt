@@ -1,0 +1,64 @@
+//! Lists of trits by their numbers.
+ghost use Rattle.std.specs.Prelude.{◌≡◌, ◌+◌, ◌<◌, ◌≤◌, ◌^◌, ◌++◌, length};
+ghost use Rattle.table_audit.specs.Lists.{trit_numbered, list_numbered};
+
+use cell_machine::Few;
+use trit_cubes::{Cube, Trit};
+
+/// The value with this number, from 0: 0, 1, unknown.
+pub(crate) fn trit_numbered(number: usize) -> Trit
+    ensures { result ≡ trit_numbered number }
+{
+    match number {
+        0 => Trit::Zero,
+        1 => Trit::One,
+        _ => Trit::Unknown,
+    }
+}
+
+/// How many lists of `n` values there are.
+pub(crate) fn list_count(n: usize) -> usize
+    requires { n ≤ 10 }
+    ensures count { result ≡ 3 ^ n }
+    ensures some { 0 < result }
+    ensures few { result ≤ 59049 }
+{
+    if n == 0 {
+        return 1;
+    }
+    3 * list_count(n - 1)
+}
+
+/// Adds the list of `n` values with this number.
+fn add_list(values: &mut Few<Trit, 10>, n: usize, number: usize)
+    requires { length values.old + n ≤ 10 }
+    ensures { values.new ≡ values.old ++ list_numbered n number }
+{
+    if n == 0 {
+        return;
+    }
+    let weight = list_count(n - 1);
+    values.push(trit_numbered(number / weight));
+    add_list(values, n - 1, number % weight);
+}
+
+/// The list of `n` values with this number, from 0, in their order from the left.
+pub(crate) fn list_numbered(n: usize, number: usize) -> Few<Trit, 10>
+    requires { n ≤ 10 }
+    ensures { result ≡ list_numbered n number }
+{
+    let mut values = Few::new(Trit::Unknown);
+    add_list(&mut values, n, number);
+    values
+}
+
+/// The list as a cube.
+pub(crate) fn cube_of(values: &[Trit]) -> Cube
+    requires { length values.now ≤ 10 }
+    ensures { result ≡ values.now }
+{
+    match Cube::new(values) {
+        Some(cube) => cube,
+        None => Cube::empty(),
+    }
+}

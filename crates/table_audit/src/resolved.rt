@@ -1,0 +1,39 @@
+//! The resolution of functions of points.
+ghost use Rattle.std.specs.Prelude.{◌≡◌, ◌≤◌, Bool, List, length};
+ghost use Rattle.std.specs.Fn.{FnReturnsAt};
+ghost use Rattle.trit_cubes.specs.declared.trits.Trit.{Trit};
+ghost use Rattle.trit_cubes.specs.Resolution.{res};
+ghost use Rattle.trit_cubes.specs.Sets.{Gives, point_of};
+
+use trit_cubes::{Trit, resolve};
+
+/// The point of ten places with this number, in which place i weighs 2 to the power i.
+fn point_of(number: u16) -> [bool; 10]
+    ensures { result ≡ point_of 10 number }
+{
+    let mut point = [false; 10];
+    for i in 0..10u16 {
+        point[i as usize] = (number >> i) & 1 == 1;
+    }
+    point
+}
+
+/// The value of a function at the point with this number.
+fn at_number<F: Fn(&[bool]) -> Trit>(function: &F, places: usize, number: u16) -> Trit
+    requires callable { F.IsAlwaysCallable function.now }
+    requires few { places ≤ 10 }
+    ensures { (f : List Bool → Trit) → Gives (λ p t. FnReturnsAt F.Fn function.now p t) places f → result ≡ f (point_of places number) }
+{
+    let point = point_of(number);
+    function(&point[..places])
+}
+
+/// The value that a function of points gives on every filling of the places, else unknown.
+pub(crate) fn resolved<F: Fn(&[bool]) -> Trit>(places: &[Trit], function: &F) -> Trit
+    requires callable { F.IsAlwaysCallable function.now }
+    requires few { length places.now ≤ 10 }
+    ensures { (f : List Bool → Trit) → Gives (λ p t. FnReturnsAt F.Fn function.now p t) (length places.now) f → result ≡ res f places.now }
+{
+    let count = places.len();
+    resolve(places, &|number: u16| { at_number(function, count, number) })
+}

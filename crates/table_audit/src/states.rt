@@ -1,0 +1,344 @@
+//! The comparison of the tables of states.
+ghost use Rattle.std.specs.Prelude.{◌≡◌, ◌<◌, ◌≤◌, [], ◌∷◌, true, map, length, IsTrue};
+ghost use Rattle.cell_machine.specs.CellData.{data_of};
+ghost use Rattle.cell_machine.specs.CellTrace.{support_at};
+ghost use Rattle.udp_tables.specs.Sequential.{noted};
+ghost use Rattle.specify_blocks.specs.Sound.{IsSound};
+ghost use Rattle.table_audit.specs.Terminals.{group_nets};
+ghost use Rattle.table_audit.specs.Shape.{feeds_group};
+ghost use Rattle.table_audit.specs.Tables.{group_next, place_net, cell_step, model_step, cell_forced, note_after, notes, step_compared, steps_by_note, steps_by_state, steps_where_changed, steps_by_list, steps_by_old, steps_compared, note_compared, notes_by_list, notes_by_old, notes_compared, first_difference};
+ghost use Rattle.table_audit.specs.Lists.{trit_before};
+
+use crate::cell_values::{PinChange, add_trits, step_value};
+use crate::lists::{cube_of, list_count, list_numbered, trit_numbered};
+use crate::model_tables::{NetChange, next_by};
+use crate::terminals::{group_nets, has_notifier, pin_net, sequential_instance};
+use crate::verdicts::{AuditPart, Difference};
+use cell_machine::{Cell, Few, forced};
+use specify_blocks::{VModule, VNet};
+use trit_cubes::Trit;
+
+/// The values with that of the register behind them, where there is one.
+fn noted(checks: bool, note: Trit, values: &[Trit]) -> Few<Trit, 10>
+    requires { length values.now < 10 }
+    ensures { result ≡ noted checks note values.now }
+{
+    let mut all = Few::new(Trit::Unknown);
+    add_trits(&mut all, values);
+    if checks {
+        all.push(note);
+    }
+    all
+}
+
+/// The value to which the register changes from this one.
+fn note_after(note: Trit) -> Trit
+    ensures { result ≡ note_after note }
+{
+    match note {
+        Trit::Unknown => Trit::Zero,
+        Trit::Zero => Trit::One,
+        Trit::One => Trit::Zero,
+    }
+}
+
+/// The value from which the register changes first, second and third.
+fn note_before(number: usize) -> Trit
+    ensures { result ≡ trit_before number }
+{
+    match number {
+        0 => Trit::Unknown,
+        1 => Trit::Zero,
+        _ => Trit::One,
+    }
+}
+
+/// A state group of a cell, and the instance of a module that stands for it.
+#[derive(Drop)]
+pub(crate) struct GroupTables<'a> {
+    cell: &'a Cell,
+    model: &'a VModule,
+    group: usize,
+    nets: Few<VNet, 10>,
+    ghost inside: { group < length cell.now.groups },
+    ghost fed: { IsTrue (feeds_group (data_of cell.now) model.now group) },
+    ghost are_nets: { nets ≡ group_nets (data_of cell.now) group },
+}
+
+impl<'a> GroupTables<'a> {
+    /// The group with this number.
+    pub(crate) fn of(cell: &'a Cell, model: &'a VModule, group: usize) -> GroupTables<'a>
+        requires inside { group < length cell.now.groups }
+        requires fed { IsTrue (feeds_group (data_of cell.now) model.now group) }
+        ensures cell { result.cell.now ≡ cell.now }
+        ensures model { result.model.now ≡ model.now }
+        ensures group { result.group ≡ group }
+    {
+        let nets = group_nets(cell, group);
+        GroupTables {
+            cell,
+            model,
+            group,
+            nets,
+        }
+    }
+
+    /// How many pins the support has.
+    fn pins(&self) -> usize
+        ensures value { result ≡ length (support_at (data_of self.now.cell.now) self.now.group) }
+        ensures few { result ≤ 8 }
+    {
+        self.cell.group(self.group).support.len()
+    }
+
+    /// The next state by the module at a change of one net, where the group's nets have these values after it.
+    fn next(&self, values: &[Trit], changed: VNet, old: Trit, state: Trit) -> Trit
+        requires sound { IsSound self.now.model.now }
+        ensures { result ≡ group_next (data_of self.now.cell.now) self.now.model.now self.now.group values.now changed old state }
+    {
+        let Some(instance) = sequential_instance(self.model, self.group) else {
+            return state;
+        };
+        let nets = self.nets.as_slice();
+        let change = NetChange {
+            nets,
+            values,
+            changed,
+            old,
+        };
+        next_by(self.model, instance, change, state)
+    }
+
+    /// The port of the pin at a place of the support.
+    fn place_net(&self, place: usize) -> VNet
+        requires { place < length (support_at (data_of self.now.cell.now) self.now.group) }
+        ensures { result ≡ place_net (data_of self.now.cell.now) self.now.group place }
+    {
+        let support = self.cell.group(self.group).support.as_slice();
+        pin_net(self.cell.pins.as_slice(), support[place])
+    }
+
+    /// The next state by the module at a change of a pin.
+    fn model_step(&self, change: PinChange<'_>, note: Trit, state: Trit) -> Trit
+        requires sound { IsSound self.now.model.now }
+        requires place { change.place < length change.values.now }
+        requires values { length change.values.now ≡ length (support_at (data_of self.now.cell.now) self.now.group) }
+        ensures { result ≡ model_step (data_of self.now.cell.now) self.now.model.now self.now.group change.entry.place change.entry.old change.entry.values.now note state }
+    {
+        let _few = self.pins();
+        let changed = self.place_net(change.place);
+        let values = noted(has_notifier(self.cell), note, change.values);
+        self.next(values.as_slice(), changed, change.old, state)
+    }
+
+    /// The difference at a change of a pin, where there is one; the cell gives `of_cell`.
+    fn step_difference(
+        &self,
+        change: PinChange<'_>,
+        state: Trit,
+        note: Option<Trit>,
+        of_cell: Trit,
+    ) -> Option<Difference>
+        requires sound { IsSound self.now.model.now }
+        requires place { change.place < length change.values.now }
+        requires values { length change.values.now ≡ length (support_at (data_of self.now.cell.now) self.now.group) }
+        requires of_cell { of_cell ≡ cell_step (data_of self.now.cell.now) self.now.group change.place change.old change.values.now state }
+        ensures { result ≡ first_difference (step_compared (data_of self.now.cell.now) self.now.model.now self.now.group change.entry.place change.entry.old change.entry.values.now state note ∷ []) }
+    {
+        let _few = self.pins();
+        let difference = Difference {
+            part: AuditPart::State,
+            number: self.group + 1,
+            places: cube_of(change.values),
+            changed: Some(change.place),
+            old: Some(change.old),
+            state: Some(state),
+            notifier: note,
+            of_cell,
+            of_model: self.model_step(change, note.unwrap_or(Trit::Unknown), state),
+        };
+        difference.found()
+    }
+
+    /// The first difference at a change of a pin from one state, over the values of the register.
+    fn over_notes(&self, change: PinChange<'_>, state: Trit) -> Option<Difference>
+        requires sound { IsSound self.now.model.now }
+        requires place { change.place < length change.values.now }
+        requires values { length change.values.now ≡ length (support_at (data_of self.now.cell.now) self.now.group) }
+        ensures { result ≡ first_difference (steps_by_note (data_of self.now.cell.now) self.now.model.now self.now.group change.entry.place change.entry.old change.entry.values.now state) }
+    {
+        let of_cell = step_value(self.cell, self.group, change, state);
+        if !has_notifier(self.cell) {
+            return self.step_difference(change, state, None, of_cell);
+        }
+        self.over_known_notes(change, state, of_cell)
+    }
+
+    /// The same, where there is a register; the cell gives `of_cell`.
+    #[tactic(auto, using(crate::proofs::Firsts::turn, crate::proofs::Firsts::done))]
+    fn over_known_notes(&self, change: PinChange<'_>, state: Trit, of_cell: Trit) -> Option<Difference>
+        requires sound { IsSound self.now.model.now }
+        requires place { change.place < length change.values.now }
+        requires values { length change.values.now ≡ length (support_at (data_of self.now.cell.now) self.now.group) }
+        requires of_cell { of_cell ≡ cell_step (data_of self.now.cell.now) self.now.group change.place change.old change.values.now state }
+        ensures { result ≡ first_difference (map (step_compared (data_of self.now.cell.now) self.now.model.now self.now.group change.entry.place change.entry.old change.entry.values.now state) (notes true)) }
+    {
+        for k in 0..3 {
+            let note = Some(trit_numbered(k));
+            if let Some(found) = self.step_difference(change, state, note, of_cell) {
+                return Some(found);
+            }
+        }
+        None
+    }
+
+    /// The first difference at a change of a pin, over the states.
+    #[tactic(auto, using(crate::proofs::Firsts::turn, crate::proofs::Firsts::done))]
+    fn over_states(&self, change: PinChange<'_>) -> Option<Difference>
+        requires sound { IsSound self.now.model.now }
+        requires place { change.place < length change.values.now }
+        requires values { length change.values.now ≡ length (support_at (data_of self.now.cell.now) self.now.group) }
+        ensures { result ≡ first_difference (steps_by_state (data_of self.now.cell.now) self.now.model.now self.now.group change.entry.place change.entry.old change.entry.values.now) }
+    {
+        for k in 0..3 {
+            if let Some(found) = self.over_notes(change, trit_numbered(k)) {
+                return Some(found);
+            }
+        }
+        None
+    }
+
+    /// The same, but none where the pin has the value that it had.
+    fn where_changed(&self, change: PinChange<'_>) -> Option<Difference>
+        requires sound { IsSound self.now.model.now }
+        requires place { change.place < length change.values.now }
+        requires values { length change.values.now ≡ length (support_at (data_of self.now.cell.now) self.now.group) }
+        ensures { result ≡ first_difference (steps_where_changed (data_of self.now.cell.now) self.now.model.now self.now.group change.entry.place change.entry.old change.entry.values.now) }
+    {
+        if change.old == change.values[change.place] {
+            return None;
+        }
+        self.over_states(change)
+    }
+
+    /// The first difference at a change of the pin at a place from one value, over the values after it.
+    #[tactic(auto, using(crate::proofs::Firsts::turn, crate::proofs::Firsts::done))]
+    fn over_lists(&self, place: usize, old: Trit) -> Option<Difference>
+        requires sound { IsSound self.now.model.now }
+        requires place { place < length (support_at (data_of self.now.cell.now) self.now.group) }
+        ensures { result ≡ first_difference (steps_by_list (data_of self.now.cell.now) self.now.model.now self.now.group place old) }
+    {
+        let pins = self.pins();
+        let count = list_count(pins);
+        for k in 0..count {
+            let list = list_numbered(pins, k);
+            let values = list.as_slice();
+            let change = PinChange { place, old, values };
+            if let Some(found) = self.where_changed(change) {
+                return Some(found);
+            }
+        }
+        None
+    }
+
+    /// The first difference at a change of the pin at a place, over the values before it.
+    #[tactic(auto, using(crate::proofs::Firsts::turn, crate::proofs::Firsts::done))]
+    fn over_olds(&self, place: usize) -> Option<Difference>
+        requires sound { IsSound self.now.model.now }
+        requires place { place < length (support_at (data_of self.now.cell.now) self.now.group) }
+        ensures { result ≡ first_difference (steps_by_old (data_of self.now.cell.now) self.now.model.now self.now.group place) }
+    {
+        for k in 0..3 {
+            if let Some(found) = self.over_lists(place, trit_numbered(k)) {
+                return Some(found);
+            }
+        }
+        None
+    }
+
+    /// The first difference at changes of the pins.
+    #[tactic(auto, using(crate::proofs::Firsts::turn, crate::proofs::Firsts::done))]
+    pub(crate) fn steps(&self) -> Option<Difference>
+        requires sound { IsSound self.now.model.now }
+        ensures { result ≡ first_difference (steps_compared (data_of self.now.cell.now) self.now.model.now self.now.group) }
+    {
+        let pins = self.pins();
+        for place in 0..pins {
+            if let Some(found) = self.over_olds(place) {
+                return Some(found);
+            }
+        }
+        None
+    }
+
+    /// The difference at a change of the register, where there is one; the cell gives `of_cell`.
+    fn note_difference(&self, old: Trit, values: &[Trit], state: Trit, of_cell: Trit) -> Option<Difference>
+        requires sound { IsSound self.now.model.now }
+        requires values { length values.now ≡ length (support_at (data_of self.now.cell.now) self.now.group) }
+        requires of_cell { of_cell ≡ cell_forced (data_of self.now.cell.now) self.now.group values.now }
+        ensures { result ≡ first_difference (note_compared (data_of self.now.cell.now) self.now.model.now self.now.group old values.now state ∷ []) }
+    {
+        let _few = self.pins();
+        let note = note_after(old);
+        let nets = noted(true, note, values);
+        let difference = Difference {
+            part: AuditPart::Notifier,
+            number: self.group + 1,
+            places: cube_of(values),
+            changed: None,
+            old: Some(old),
+            state: Some(state),
+            notifier: Some(note),
+            of_cell,
+            of_model: self.next(nets.as_slice(), VNet::Notifier, old, state),
+        };
+        difference.found()
+    }
+
+    /// The first difference at a change of the register, over the states.
+    #[tactic(auto, using(crate::proofs::Firsts::turn, crate::proofs::Firsts::done))]
+    fn notes_by_list(&self, old: Trit, values: &[Trit]) -> Option<Difference>
+        requires sound { IsSound self.now.model.now }
+        requires values { length values.now ≡ length (support_at (data_of self.now.cell.now) self.now.group) }
+        ensures { result ≡ first_difference (notes_by_list (data_of self.now.cell.now) self.now.model.now self.now.group old values.now) }
+    {
+        let of_cell = forced(self.cell, self.group, values);
+        for k in 0..3 {
+            if let Some(found) = self.note_difference(old, values, trit_numbered(k), of_cell) {
+                return Some(found);
+            }
+        }
+        None
+    }
+
+    /// The first difference at a change of the register from one value, over the values of the pins.
+    #[tactic(auto, using(crate::proofs::Firsts::turn, crate::proofs::Firsts::done))]
+    fn notes_by_old(&self, old: Trit) -> Option<Difference>
+        requires sound { IsSound self.now.model.now }
+        ensures { result ≡ first_difference (notes_by_old (data_of self.now.cell.now) self.now.model.now self.now.group old) }
+    {
+        let pins = self.pins();
+        let count = list_count(pins);
+        for k in 0..count {
+            let list = list_numbered(pins, k);
+            if let Some(found) = self.notes_by_list(old, list.as_slice()) {
+                return Some(found);
+            }
+        }
+        None
+    }
+
+    /// The first difference at changes of the register.
+    #[tactic(auto, using(crate::proofs::Firsts::turn, crate::proofs::Firsts::done))]
+    pub(crate) fn notes(&self) -> Option<Difference>
+        requires sound { IsSound self.now.model.now }
+        ensures { result ≡ first_difference (notes_compared (data_of self.now.cell.now) self.now.model.now self.now.group) }
+    {
+        for k in 0..3 {
+            if let Some(found) = self.notes_by_old(note_before(k)) {
+                return Some(found);
+            }
+        }
+        None
+    }
+}

@@ -116,3 +116,7 @@ filling-point ts p n h e = ap (λ k. point_of k (number p)) (e ∙ sym (filling-
 
 pub filling-wide : (ts : List Trit) (p : List Bool) → IsFilling ts p → length p ≡ length ts
 filling-wide = filling-long
+
+pub list_long : (n k : ℕ) → length (list_numbered n k) ≡ n
+list_long zero k = refl
+list_long (suc n) k = ap suc (list_long n (k % 3 ^ n))

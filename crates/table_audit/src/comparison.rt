@@ -48,7 +48,7 @@ fn first_of_notes(cell: &Cell, model: &VModule) -> Option<Difference>
 }
 
 /// The first difference of the conditions of checks.
-#[tactic(auto, using(crate::proofs::Firsts::turn, crate::proofs::Firsts::done, crate::proofs::Gatings::check_fed))]
+#[tactic(auto, using(crate::proofs::Firsts::turn, crate::proofs::Firsts::done))]
 fn first_of_checks(cell: &Cell, model: &VModule) -> Option<Difference>
     requires sound { IsSound model.now }
     requires shape { HasShape (data_of cell.now) model.now }
@@ -63,7 +63,7 @@ fn first_of_checks(cell: &Cell, model: &VModule) -> Option<Difference>
 }
 
 /// The first difference of the conditions of paths.
-#[tactic(auto, using(crate::proofs::Firsts::turn, crate::proofs::Firsts::done, crate::proofs::Gatings::path_fed))]
+#[tactic(auto, using(crate::proofs::Firsts::turn, crate::proofs::Firsts::done))]
 fn first_of_paths(cell: &Cell, model: &VModule) -> Option<Difference>
     requires sound { IsSound model.now }
     requires shape { HasShape (data_of cell.now) model.now }

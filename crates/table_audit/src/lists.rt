@@ -43,9 +43,11 @@ fn add_list(values: &mut Few<Trit, 10>, n: usize, number: usize)
 }
 
 /// The list of `n` values with this number, from 0, in their order from the left.
+#[tactic(auto, using(crate::proofs::ListNumbers::list_long))]
 pub(crate) fn list_numbered(n: usize, number: usize) -> Few<Trit, 10>
     requires { n ≤ 10 }
-    ensures { result ≡ list_numbered n number }
+    ensures list { result ≡ list_numbered n number }
+    ensures len { length result ≡ n }
 {
     let mut values = Few::new(Trit::Unknown);
     add_list(&mut values, n, number);

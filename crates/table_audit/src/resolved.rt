@@ -22,7 +22,7 @@ fn point_of(number: u16) -> [bool; 10]
 fn at_number<F: Fn(&[bool]) -> Trit>(function: &F, places: usize, number: u16) -> Trit
     requires callable { F.IsAlwaysCallable function.now }
     requires few { places ≤ 10 }
-    ensures { (f : List Bool → Trit) → Gives (λ p t. FnReturnsAt F.Fn function.now p t) places f → result ≡ f (point_of places number) }
+    ensures { (t : Trit) → t ≡ result → FnReturnsAt F.Fn function.now (point_of places number) t }
 {
     let point = point_of(number);
     function(&point[..places])

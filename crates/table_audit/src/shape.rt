@@ -15,7 +15,7 @@ use crate::terminals::{
 };
 use crate::verdicts::ShapePart;
 use bool_functions::Function;
-use cell_machine::{Arc, Cell, Check, CheckKind, Direction, Edge, Event, Pin};
+use cell_machine::{Arc, Cell, Check, CheckKind, Direction, Edge, Event, Pin, entry};
 use specify_blocks::{Gate, VModule, VPath};
 use udp_tables::{TimingCheck, VPort, event_of, is_port, port_number};
 
@@ -57,12 +57,22 @@ fn same_bit(one: bool, other: bool) -> bool
     if one { other } else { !other }
 }
 
+/// Whether there are no ports.
+fn no_ports(ports: &[VPort]) -> bool
+    ensures { result ≡ same_bits (map (λ (port : VPort). port.input) ports.now) [] }
+{
+    match ports.split_first() {
+        Some(_) => false,
+        None => true,
+    }
+}
+
 /// Whether ports have the directions of those pins that are ports.
 fn same_ports(ports: &[VPort], pins: &[Pin]) -> bool
     ensures { result ≡ same_bits (map (λ (port : VPort). port.input) ports.now) (map is_input_at (filter is_port pins.now)) }
 {
     let Some((pin, pins)) = pins.split_first() else {
-        return ports.is_empty();
+        return no_ports(ports);
     };
     if !is_port(pin) {
         return same_ports(ports, pins);
@@ -196,26 +206,28 @@ pub(crate) fn gate_wire(gate: Gate) -> Option<usize>
 }
 
 /// Whether the nets of the condition of a check feed the instance that drives its wire.
-#[tactic(auto, using(crate::proofs::Gatings::check_few, crate::proofs::Gatings::check_gating_is, crate::proofs::Gatings::check_gating_none))]
+#[tactic(auto, using(crate::proofs::Gatings::check_gating_past))]
 fn feeds_check(cell: &Cell, model: &VModule, check: usize) -> bool
     requires { check < length cell.now.checks }
     ensures { result ≡ feeds_gating (data_of cell.now) model.now (check_gating (data_of cell.now) model.now check) }
 {
-    let Some(timing) = model.checks.as_slice().get(check) else {
+    if check >= model.checks.len() {
         return true;
-    };
+    }
+    let timing = entry(&model.checks, check);
     feeds_gating(cell, model, &cell.check(check).condition, timing.condition)
 }
 
 /// Whether the nets of the condition of a path feed the instance that drives its wire.
-#[tactic(auto, using(crate::proofs::Gatings::arc_few, crate::proofs::Gatings::path_gating_is, crate::proofs::Gatings::path_gating_none))]
+#[tactic(auto, using(crate::proofs::Gatings::path_gating_past))]
 fn feeds_path(cell: &Cell, model: &VModule, arc: usize) -> bool
     requires { arc < length cell.now.arcs }
     ensures { result ≡ feeds_gating (data_of cell.now) model.now (path_gating (data_of cell.now) model.now arc) }
 {
-    let Some(path) = model.paths.as_slice().get(arc) else {
+    if arc >= model.paths.len() {
         return true;
-    };
+    }
+    let path = entry(&model.paths, arc);
     feeds_gating(cell, model, &cell.arc(arc).condition, gate_wire(path.gate))
 }
 

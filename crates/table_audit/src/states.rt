@@ -63,6 +63,7 @@ pub(crate) struct GroupTables<'a> {
     ghost inside: { group < length cell.now.groups },
     ghost fed: { IsTrue (feeds_group (data_of cell.now) model.now group) },
     ghost are_nets: { nets ≡ group_nets (data_of cell.now) group },
+    ghost few: { length nets ≤ 9 },
 }
 
 impl<'a> GroupTables<'a> {
@@ -215,7 +216,9 @@ impl<'a> GroupTables<'a> {
         requires values { length change.values.now ≡ length (support_at (data_of self.now.cell.now) self.now.group) }
         ensures { result ≡ first_difference (steps_where_changed (data_of self.now.cell.now) self.now.model.now self.now.group change.entry.place change.entry.old change.entry.values.now) }
     {
-        if change.old == change.values[change.place] {
+        let place = change.place;
+        let value = change.values[place];
+        if change.old == value {
             return None;
         }
         self.over_states(change)

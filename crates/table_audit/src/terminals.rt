@@ -116,7 +116,8 @@ fn add_pins(nets: &mut Few<VNet, 10>, pins: &[Pin], support: &[usize])
 /// The nets of a group: the ports of its pins, and behind them the register where the cell has checks.
 pub(crate) fn group_nets(cell: &Cell, group: usize) -> Few<VNet, 10>
     requires { group < length cell.now.groups }
-    ensures { result ≡ group_nets (data_of cell.now) group }
+    ensures nets { result ≡ group_nets (data_of cell.now) group }
+    ensures few { length result ≤ 9 }
 {
     let mut nets = Few::new(VNet::Notifier);
     let support = cell.group(group).support.as_slice();

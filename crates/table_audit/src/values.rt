@@ -19,7 +19,7 @@ use crate::shape::gate_wire;
 use crate::terminals::{output_net, output_nets, pin_nets};
 use crate::verdicts::{AuditPart, Difference};
 use bool_functions::Function;
-use cell_machine::{Cell, Few};
+use cell_machine::{Cell, Few, entry};
 use specify_blocks::{VModule, VNet};
 use trit_cubes::Trit;
 
@@ -147,31 +147,33 @@ fn of_gating(
 }
 
 /// The first difference of the condition of a check.
-#[tactic(auto, using(crate::proofs::Gatings::check_few, crate::proofs::Gatings::check_gating_is, crate::proofs::Gatings::check_gating_none))]
+#[tactic(auto, using(crate::proofs::Gatings::check_gating_past))]
 pub(crate) fn of_check(cell: &Cell, model: &VModule, check: usize) -> Option<Difference>
     requires sound { IsSound model.now }
     requires inside { check < length cell.now.checks }
     requires fed { IsTrue (feeds_gating (data_of cell.now) model.now (check_gating (data_of cell.now) model.now check)) }
     ensures { result ≡ first_difference (conditions_compared (data_of cell.now) model.now audit_part.Check (check + 1) (check_gating (data_of cell.now) model.now check)) }
 {
-    let Some(timing) = model.checks.as_slice().get(check) else {
+    if check >= model.checks.len() {
         return None;
-    };
+    }
+    let timing = entry(&model.checks, check);
     let condition = &cell.check(check).condition;
     of_gating(cell, model, AuditPart::Check, check + 1, condition, timing.condition)
 }
 
 /// The first difference of the condition of a path.
-#[tactic(auto, using(crate::proofs::Gatings::arc_few, crate::proofs::Gatings::path_gating_is, crate::proofs::Gatings::path_gating_none))]
+#[tactic(auto, using(crate::proofs::Gatings::path_gating_past))]
 pub(crate) fn of_path(cell: &Cell, model: &VModule, arc: usize) -> Option<Difference>
     requires sound { IsSound model.now }
     requires inside { arc < length cell.now.arcs }
     requires fed { IsTrue (feeds_gating (data_of cell.now) model.now (path_gating (data_of cell.now) model.now arc)) }
     ensures { result ≡ first_difference (conditions_compared (data_of cell.now) model.now audit_part.Path (arc + 1) (path_gating (data_of cell.now) model.now arc)) }
 {
-    let Some(path) = model.paths.as_slice().get(arc) else {
+    if arc >= model.paths.len() {
         return None;
-    };
+    }
+    let path = entry(&model.paths, arc);
     let condition = &cell.arc(arc).condition;
     of_gating(cell, model, AuditPart::Path, arc + 1, condition, gate_wire(path.gate))
 }

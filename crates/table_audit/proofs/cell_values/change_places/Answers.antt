@@ -1,5 +1,5 @@
-use Rattle.std.proofs.Common.{◌≡◌, ◌+◌, List, [], ◌∷◌, ◌++◌, take, drop, slice_index_or, ap, ◌∙◌}
-use Rattle.std.proofs.lemmas.List.{get_or_default}
+use Rattle.std.proofs.Common.{◌≡◌, ◌+◌, ◌-◌, length, List, [], ◌∷◌, ◌++◌, take, drop, slice_index_or, ap, ◌∙◌, arith}
+use Rattle.std.proofs.lemmas.List.{get_or_default, length-drop, take_all}
 use Rattle.trit_cubes.specs.declared.trits.Trit.{Trit}
 use Rattle.trit_cubes.specs.declared.trits.Trit.TheVariants as trit
 use Rattle.table_audit.proofs.ListNumbers.{without-parts}
@@ -15,6 +15,7 @@ returns c =
     c.push-3.ensures
     ∙ ap (λ xs. xs ++ s ∷ [])
     (c.add_trits-2.ensures
+    ∙ ap (λ xs. c.add_trits.new.all ++ xs) (take_all (length values - (p + 1)) (drop (p + 1) values) (omega (arith, length-drop (p + 1) values)))
     ∙ ap (λ xs. xs ++ drop (p + 1) values)
     (c.add_trits.ensures
     ∙ ap (λ xs. xs ++ take p values)

@@ -51,9 +51,9 @@ part n a t is before =
     ∙ map-shift (list_numbered (suc n)) (a * 3 ^ n) 0 (3 ^ n)
     ∙ map-below (λ k. list_numbered (suc n) (a * 3 ^ n + k)) (λ k. t ∷ list_numbered n k) 0 (3 ^ n)
     (λ k l.
-        let below : k < 3 ^ n = omega (arith, l) in
-        (λ i. trit_numbered (div-mul-add a (3 ^ n) k below i) ∷ list_numbered n (mod-mul-add a (3 ^ n) k below i))
-        ∙ ap (λ u. u ∷ list_numbered n k) is)
+    let below : k < 3 ^ n = omega (arith, l) in
+    (λ i. trit_numbered (div-mul-add a (3 ^ n) k below i) ∷ list_numbered n (mod-mul-add a (3 ^ n) k below i))
+    ∙ ap (λ u. u ∷ list_numbered n k) is)
     ∙ sym (map-map (λ c. t ∷ c) (list_numbered n) (range_with_len 0 (3 ^ n)))
     ∙ ap (map (λ c. t ∷ c)) (sym before)
 
@@ -71,8 +71,8 @@ cubes-numbered (suc n) =
     let split : map numbered (range_with_len 0 (whole + (whole + whole)))
     ≡ map numbered (range_with_len 0 whole) ++ (map numbered (range_with_len whole whole) ++ map numbered (range_with_len (whole + whole) whole))
     = ap (map numbered) (range-append 0 whole (whole + whole)
-      ∙ ap (λ k. range_with_len 0 whole ++ range_with_len k (whole + whole)) (zero-add whole)
-      ∙ ap (λ ks. range_with_len 0 whole ++ ks) (range-append whole whole whole))
+    ∙ ap (λ k. range_with_len 0 whole ++ range_with_len k (whole + whole)) (zero-add whole)
+    ∙ ap (λ ks. range_with_len 0 whole ++ ks) (range-append whole whole whole))
     ∙ map-append numbered (range_with_len 0 whole) (range_with_len whole whole ++ range_with_len (whole + whole) whole)
     ∙ ap (λ xs. map numbered (range_with_len 0 whole) ++ xs) (map-append numbered (range_with_len whole whole) (range_with_len (whole + whole) whole)) in
     append_assoc (map (λ c. Zero ∷ c) (cubes_of n)) (map (λ c. One ∷ c) (cubes_of n)) (map (λ c. Unknown ∷ c) (cubes_of n))

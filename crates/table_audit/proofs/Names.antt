@@ -84,11 +84,11 @@ among-range [] a (suc n) up low high =
 among-range (x ∷ xs) a (suc n) up low high =
     here-or-later x xs a n [] (cases_lt a x) (low x (contains_here x xs)) up.0
     (λ below. among-range (x ∷ xs) (a + 1) n up
-      (λ y c. above-has a (x ∷ xs) y (below, above-trans a x xs below up.0) c)
-      (λ y c. omega (arith, high y c)))
+    (λ y c. above-has a (x ∷ xs) y (below, above-trans a x xs below up.0) c)
+    (λ y c. omega (arith, high y c)))
     (λ is. among-range xs (a + 1) n up.1
-      (λ y c. omega (arith, above-has x xs y up.0 c, is))
-      (λ y c. omega (arith, high y (contains_later x xs y c))))
+    (λ y c. omega (arith, above-has x xs y up.0 c, is))
+    (λ y c. omega (arith, high y (contains_later x xs y c))))
 
 -- The names of a condition among the numbers below a bound that is above them all.
 pub names-among :

@@ -136,8 +136,8 @@ steps-from d m g h p old values note s long inside apart =
 from-steps :
     (d : CellData) (m : VModule) (g : ℕ)
     → ((p : ℕ) (old : Trit) (values : List Trit) (note s : Trit)
-      → length values ≡ length (support_at d g) → p < length values → old ≢ slice_index_or values p Unknown
-      → model_step d m g p old values note s ≡ cell_step d g p old values s)
+    → length values ≡ length (support_at d g) → p < length values → old ≢ slice_index_or values p Unknown
+    → model_step d m g p old values note s ≡ cell_step d g p old values s)
     → find is_unlike (steps_compared d m g) ≡ None
 from-steps d m g h =
     let n = length (support_at d g) in
@@ -164,7 +164,7 @@ notes-from d m g h old values s long =
 from-notes :
     (d : CellData) (m : VModule) (g : ℕ)
     → ((old : Trit) (values : List Trit) (s : Trit)
-      → length values ≡ length (support_at d g) → model_notified d m g old (note_after old) values s ≡ cell_forced d g values)
+    → length values ≡ length (support_at d g) → model_notified d m g old (note_after old) values s ≡ cell_forced d g values)
     → find is_unlike (notes_compared d m g) ≡ None
 from-notes d m g h =
     let n = length (support_at d g) in
@@ -209,7 +209,7 @@ gating-from d m p number o u h e =
 from-gating :
     (d : CellData) (m : VModule) (p : AuditPart) (number : ℕ) (o : Option Gating)
     → ((u : Gating) (values : List Trit) → o ≡ Some u → length values ≡ length (support_of u.condition)
-      → model_condition d m u values ≡ cell_condition u.condition values)
+    → model_condition d m u values ≡ cell_condition u.condition values)
     → find is_unlike (conditions_compared d m p number o) ≡ None
 from-gating d m p number None h = refl
 from-gating d m p number (Some u) h =

@@ -120,7 +120,10 @@ pub(crate) fn step_value(cell: &Cell, group: usize, change: PinChange<'_>, state
 {
     let places = change_places(change, state);
     let place = change.place;
-    resolved(places.as_slice(), &|point: &[bool]| { edge_value_at(cell, group, place, point) })
+    resolved(
+        places.as_slice(),
+        &|point: &[bool]| { edge_value_at(cell, group, place, point) },
+    )
 }
 
 /// The value of a condition at a point of its names.
@@ -141,7 +144,10 @@ pub(crate) fn condition_value(condition: &Function, names: &[usize], values: &[T
     requires values { length values.now ≡ length names.now }
     ensures { result ≡ res (condition_at names.now condition.now) values.now }
 {
-    resolved(values, &|point: &[bool]| { condition_at(condition, names, point) })
+    resolved(
+        values,
+        &|point: &[bool]| { condition_at(condition, names, point) },
+    )
 }
 
 /// The value of an output at a point of its support.
@@ -162,5 +168,8 @@ pub(crate) fn output_value(cell: &Cell, output: usize, values: &[Trit]) -> Trit
     requires values { length values.now ≡ length (sources_at (data_of cell.now) output) }
     ensures { result ≡ res (output_value_at (data_of cell.now) output) values.now }
 {
-    resolved(values, &|point: &[bool]| { output_at_point(cell, output, point) })
+    resolved(
+        values,
+        &|point: &[bool]| { output_at_point(cell, output, point) },
+    )
 }

@@ -5,7 +5,7 @@ ghost use Rattle.cell_machine.specs.CellData.{data_of};
 ghost use Rattle.specify_blocks.specs.Sound.{IsSound};
 ghost use Rattle.table_audit.specs.Matches.{HasShape};
 ghost use Rattle.table_audit.specs.Tables.{steps_compared, notes_compared, states_compared, checks_compared, paths_compared, all_conditions_compared, outputs_compared, compared, first_difference};
-ghost use Rattle.table_audit.specs.Verdict.{verdict_of};
+ghost use Rattle.table_audit.specs.Verdict.{by_tables, verdict_of};
 
 use crate::shape::first_amiss;
 use crate::states::GroupTables;
@@ -135,6 +135,18 @@ fn first_of_tables(cell: &Cell, model: &VModule) -> Option<Difference>
     }
 }
 
+/// The verdict on a module of the cell's shape.
+fn by_tables(cell: &Cell, model: &VModule) -> Verdict
+    requires sound { IsSound model.now }
+    requires shape { HasShape (data_of cell.now) model.now }
+    ensures { result ≡ by_tables (first_difference (compared (data_of cell.now) model.now)) }
+{
+    match first_of_tables(cell, model) {
+        Some(difference) => Verdict::Differs(difference),
+        None => Verdict::Same,
+    }
+}
+
 /// Whether a module has the shape and the tables of a cell; else the first part whose shape is another, or the first arguments
 /// at which a table gives another value. It searches no states and takes no memory.
 ///
@@ -150,14 +162,11 @@ pub fn audit(cell: &Cell, model: &VModule) -> Verdict
     requires { IsSound model.now }
     ensures { result ≡ verdict_of (data_of cell.now) model.now }
 {
-    if let Some(test) = first_amiss(cell, model) {
-        return Verdict::Shape {
+    match first_amiss(cell, model) {
+        Some(test) => Verdict::Shape {
             part: test.part,
             number: test.number,
-        };
-    }
-    match first_of_tables(cell, model) {
-        Some(difference) => Verdict::Differs(difference),
-        None => Verdict::Same,
+        },
+        None => by_tables(cell, model),
     }
 }

@@ -64,7 +64,12 @@ pub(crate) struct NetChange<'a> {
 }
 
 /// The next state of an instance of a primitive with a state at a change of one net.
-pub(crate) fn next_by(model: &VModule, instance: &Instance, change: NetChange<'_>, state: Trit) -> Trit
+pub(crate) fn next_by(
+    model: &VModule,
+    instance: &Instance,
+    change: NetChange<'_>,
+    state: Trit,
+) -> Trit
     requires sound { IsSound model.now }
     requires stands { StandsIn model.now instance.now }
     requires few { length (nets_feeding instance.now) ≤ 10 }

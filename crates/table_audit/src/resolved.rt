@@ -35,5 +35,8 @@ pub(crate) fn resolved<F: Fn(&[bool]) -> Trit>(places: &[Trit], function: &F) ->
     ensures { (f : List Bool → Trit) → Gives (λ p t. FnReturnsAt F.Fn function.now p t) (length places.now) f → result ≡ res f places.now }
 {
     let count = places.len();
-    resolve(places, &|number: u16| { at_number(function, count, number) })
+    resolve(
+        places,
+        &|number: u16| { at_number(function, count, number) },
+    )
 }

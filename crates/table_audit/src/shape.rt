@@ -10,8 +10,8 @@ ghost use Rattle.table_audit.specs.Shape.{same_bit, same_bits, feeds_group, both
 
 use crate::supports::feeds_gating;
 use crate::terminals::{
-    drives_value, group_nets, nets_feeding, output_net, output_nets, same_nets, sequential_instance,
-    state_count,
+    drives_value, group_nets, nets_feeding, output_net, output_nets, same_nets,
+    sequential_instance, state_count,
 };
 use crate::verdicts::ShapePart;
 use bool_functions::Function;
@@ -180,7 +180,11 @@ fn same_path(cell: &Cell, arc: &Arc, path: VPath) -> bool
         && path.to == port_number(pins, arc.to)
         && path.rise == arc.rise
         && path.fall == arc.fall
-        && gated_by(is_beside(cell.arcs.as_slice(), arc), &arc.condition, path.gate)
+        && gated_by(
+            is_beside(cell.arcs.as_slice(), arc),
+            &arc.condition,
+            path.gate,
+        )
 }
 
 /// The same of the arc with this number.

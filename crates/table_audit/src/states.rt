@@ -168,6 +168,7 @@ impl<'a> GroupTables<'a> {
         requires values { length change.values.now ≡ length (support_at (data_of self.now.cell.now) self.now.group) }
         ensures { result ≡ first_difference (steps_by_note (data_of self.now.cell.now) self.now.model.now self.now.group change.entry.place change.entry.old change.entry.values.now state) }
     {
+        let _few = self.pins();
         let of_cell = step_value(self.cell, self.group, change, state);
         if !has_notifier(self.cell) {
             return self.step_difference(change, state, None, of_cell);
@@ -177,7 +178,12 @@ impl<'a> GroupTables<'a> {
 
     /// The same, where there is a register; the cell gives `of_cell`.
     #[tactic(auto, using(crate::proofs::Firsts::turn, crate::proofs::Firsts::done))]
-    fn over_known_notes(&self, change: PinChange<'_>, state: Trit, of_cell: Trit) -> Option<Difference>
+    fn over_known_notes(
+        &self,
+        change: PinChange<'_>,
+        state: Trit,
+        of_cell: Trit,
+    ) -> Option<Difference>
         requires sound { IsSound self.now.model.now }
         requires place { change.place < length change.values.now }
         requires values { length change.values.now ≡ length (support_at (data_of self.now.cell.now) self.now.group) }
@@ -275,7 +281,13 @@ impl<'a> GroupTables<'a> {
     }
 
     /// The difference at a change of the register, where there is one; the cell gives `of_cell`.
-    fn note_difference(&self, old: Trit, values: &[Trit], state: Trit, of_cell: Trit) -> Option<Difference>
+    fn note_difference(
+        &self,
+        old: Trit,
+        values: &[Trit],
+        state: Trit,
+        of_cell: Trit,
+    ) -> Option<Difference>
         requires sound { IsSound self.now.model.now }
         requires values { length values.now ≡ length (support_at (data_of self.now.cell.now) self.now.group) }
         requires of_cell { of_cell ≡ cell_forced (data_of self.now.cell.now) self.now.group values.now }

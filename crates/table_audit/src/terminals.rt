@@ -51,7 +51,10 @@ pub(crate) fn state_count(model: &VModule) -> usize
     ensures { result ≡ length (sequential_instances model.now) }
 {
     let instances = model.instances.as_slice();
-    instances.iter().filter(|instance| has_state(model, instance)).count()
+    instances
+        .iter()
+        .filter(|instance| has_state(model, instance))
+        .count()
 }
 
 /// The instance of a primitive with a state that has this number, from 0, among them.

@@ -14,8 +14,8 @@ ghost use Rattle.table_audit.specs.Tables.{value_compared, cell_condition, model
 use crate::cell_values::{condition_value, output_value};
 use crate::lists::{cube_of, list_count, list_numbered};
 use crate::model_tables::driven_value;
-use crate::supports::{MOST_NAMES, support_of};
 use crate::shape::gate_wire;
+use crate::supports::{MOST_NAMES, support_of};
 use crate::terminals::{output_net, output_nets, pin_nets};
 use crate::verdicts::{AuditPart, Difference};
 use bool_functions::Function;
@@ -24,7 +24,13 @@ use specify_blocks::{VModule, VNet};
 use trit_cubes::Trit;
 
 /// The arguments at which two values without a state are compared, where these are not the same.
-fn compared(part: AuditPart, number: usize, values: &[Trit], of_cell: Trit, of_model: Trit) -> Option<Difference>
+fn compared(
+    part: AuditPart,
+    number: usize,
+    values: &[Trit],
+    of_cell: Trit,
+    of_model: Trit,
+) -> Option<Difference>
     requires { length values.now ≤ 10 }
     ensures { result ≡ first_difference (value_compared part number (λ _. of_cell) (λ _. of_model) values.now ∷ []) }
 {
@@ -60,7 +66,12 @@ struct ConditionTables<'a> {
 
 impl<'a> ConditionTables<'a> {
     /// The condition with this wire.
-    fn of(cell: &'a Cell, model: &'a VModule, condition: &'a Function, wire: usize) -> ConditionTables<'a>
+    fn of(
+        cell: &'a Cell,
+        model: &'a VModule,
+        condition: &'a Function,
+        wire: usize,
+    ) -> ConditionTables<'a>
         requires bounded { name_bound condition.now ≤ 96 }
         requires few { length (support_of condition.now) ≤ 10 }
         requires fed { IsTrue (feeds_condition (data_of cell.now) model.now (record { condition = condition.now; wire = wire })) }
@@ -94,7 +105,12 @@ impl<'a> ConditionTables<'a> {
         requires { IsSound self.now.model.now }
         ensures { result ≡ model_condition (data_of self.now.cell.now) self.now.model.now (record { condition = self.now.condition.now; wire = self.now.wire }) values.now }
     {
-        driven_value(self.model, self.nets.as_slice(), values, VNet::Wire(self.wire))
+        driven_value(
+            self.model,
+            self.nets.as_slice(),
+            values,
+            VNet::Wire(self.wire),
+        )
     }
 
     /// How many names the condition has.
@@ -116,7 +132,13 @@ impl<'a> ConditionTables<'a> {
         for k in 0..count {
             let list = list_numbered(places, k);
             let values = list.as_slice();
-            if let Some(found) = compared(part, number, values, self.of_cell(values), self.of_model(values)) {
+            if let Some(found) = compared(
+                part,
+                number,
+                values,
+                self.of_cell(values),
+                self.of_model(values),
+            ) {
                 return Some(found);
             }
         }
@@ -159,7 +181,14 @@ pub(crate) fn of_check(cell: &Cell, model: &VModule, check: usize) -> Option<Dif
     }
     let timing = entry(&model.checks, check);
     let condition = &cell.check(check).condition;
-    of_gating(cell, model, AuditPart::Check, check + 1, condition, timing.condition)
+    of_gating(
+        cell,
+        model,
+        AuditPart::Check,
+        check + 1,
+        condition,
+        timing.condition,
+    )
 }
 
 /// The first difference of the condition of a path.
@@ -175,7 +204,14 @@ pub(crate) fn of_path(cell: &Cell, model: &VModule, arc: usize) -> Option<Differ
     }
     let path = entry(&model.paths, arc);
     let condition = &cell.arc(arc).condition;
-    of_gating(cell, model, AuditPart::Path, arc + 1, condition, gate_wire(path.gate))
+    of_gating(
+        cell,
+        model,
+        AuditPart::Path,
+        arc + 1,
+        condition,
+        gate_wire(path.gate),
+    )
 }
 
 /// How many pins and states an output depends on.

@@ -1,5 +1,6 @@
-use Rattle.std.proofs.Common.{◌+◌}
+use Rattle.std.proofs.Common.{◌+◌, arith}
 use Rattle.cell_machine.specs.CellData.{data_of}
+use Rattle.specify_blocks.proofs.OutputPins.{few_outputs}
 use Rattle.table_audit.specs.declared.verdicts.AuditPart.TheVariants as part
 use Rattle.table_audit.specs.Tables.{cell_output, model_output, value_compared}
 use Rattle.table_audit.proofs.Firsts.{values-from}
@@ -11,3 +12,6 @@ loop-k-init c =
     (value_compared part.Output (c.args.output + 1) (cell_output (data_of c.args.cell.now) c.args.output)
     (model_output (data_of c.args.cell.now) c.args.model.now c.args.output))
     c.source_count-places.result _ c.list_count-count.result c.list_count-count.ensures.count c.source_count-places.ensures.value
+
+pub overflow_add-output : goal.overflow_add-output
+overflow_add-output c = omega (arith, c.requires.inside, few_outputs c.args.cell.now)

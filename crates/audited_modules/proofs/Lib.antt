@@ -1,0 +1,15 @@
+pub mod ListLemmas
+pub mod NetLemmas
+pub mod PortSides
+pub mod GroupFits
+pub mod StateWires
+pub mod PartValues
+pub mod ConditionFits
+pub mod PathFits
+pub mod OutputFits
+pub mod MatchingModules
+pub mod ApartNets
+pub mod GeneratedParts
+pub mod GeneratedShape
+pub mod GeneratedValues
+pub mod AuditedModules

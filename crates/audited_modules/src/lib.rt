@@ -4,4 +4,7 @@
 
 mod laws;
 
-pub use laws::{generated_modules_match, matching_modules_fit};
+pub use laws::{
+    audited_modules_agree, generated_modules_are_same, generated_modules_match,
+    matching_modules_fit,
+};

@@ -13,3 +13,4 @@ pub mod GeneratedParts
 pub mod GeneratedShape
 pub mod GeneratedValues
 pub mod AuditedModules
+pub mod Differences

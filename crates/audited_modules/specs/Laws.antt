@@ -1,5 +1,5 @@
 -- What a module shows that matches a cell, and which module does.
-use Rattle.std.specs.Prelude.{◌≡◌, List, [], IsTrue}
+use Rattle.std.specs.Prelude.{◌≡◌, ◌≢◌, List, [], Contains, IsTrue}
 use Rattle.cell_machine.specs.declared.changes.Change.{Change}
 use Rattle.cell_machine.specs.CellData.{CellData}
 use Rattle.cell_machine.specs.CellRules.{is_cell}
@@ -12,8 +12,10 @@ use Rattle.model_traces.specs.ModuleRun.{run_after}
 use Rattle.model_traces.specs.ModuleTrace.{module_trace}
 use Rattle.model_traces.specs.SequentialStates.{sequential_states}
 use Rattle.model_traces.specs.ModuleFits.{ModuleFits}
-use Rattle.table_audit.specs.declared.verdicts.Verdict.TheVariants.{Same}
-use Rattle.table_audit.specs.Matches.{Matches}
+use Rattle.table_audit.specs.declared.verdicts.Difference.{Difference}
+use Rattle.table_audit.specs.declared.verdicts.Verdict.TheVariants.{Same, Differs}
+use Rattle.table_audit.specs.Tables.{compared}
+use Rattle.table_audit.specs.Matches.{HasShape, Matches}
 use Rattle.table_audit.specs.Verdict.{verdict_of}
 
 -- A sound module that matches data which keep the rules of cells fits them.
@@ -40,3 +42,10 @@ GeneratedModulesMatch =
 abbrev pub GeneratedModulesAreSame : Type 0
 GeneratedModulesAreSame =
     (d : CellData) → IsTrue (is_cell d.name d.pins d.groups d.outputs d.checks d.arcs) → verdict_of d (module_of d) ≡ Same
+
+-- Arguments that the comparison answers are among all that are compared, where the module has the cell's shape, and the values that
+-- the cell and the module give there are unlike.
+abbrev pub DifferencesAreUnlike : Type 0
+DifferencesAreUnlike =
+    (d : CellData) (m : VModule) (c : Difference)
+    → verdict_of d m ≡ Differs c → HasShape d m × Contains (compared d m) c × (c.of_cell ≢ c.of_model)

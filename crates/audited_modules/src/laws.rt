@@ -1,6 +1,6 @@
 //! Theorems on the definitions, for the proofs of other crates. The functions do nothing.
 
-ghost use Rattle.audited_modules.specs.Laws.{MatchingModulesFit, AuditedModulesAgree, GeneratedModulesMatch, GeneratedModulesAreSame};
+ghost use Rattle.audited_modules.specs.Laws.{MatchingModulesFit, AuditedModulesAgree, GeneratedModulesMatch, GeneratedModulesAreSame, DifferencesAreUnlike};
 
 /// A sound module that matches a cell fits it.
 pub fn matching_modules_fit()
@@ -21,4 +21,10 @@ pub fn generated_modules_match()
 /// The comparison of a cell with the module that is generated for it finds them the same.
 pub fn generated_modules_are_same()
     ensures { GeneratedModulesAreSame }
+{}
+
+/// Where the comparison answers a difference, the module has the cell's shape, and the cell and the module give unlike values for
+/// arguments that are compared, as the difference says.
+pub fn differences_are_unlike()
+    ensures { DifferencesAreUnlike }
 {}

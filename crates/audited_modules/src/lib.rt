@@ -5,6 +5,6 @@
 mod laws;
 
 pub use laws::{
-    audited_modules_agree, generated_modules_are_same, generated_modules_match,
-    matching_modules_fit,
+    audited_modules_agree, differences_are_unlike, generated_modules_are_same,
+    generated_modules_match, matching_modules_fit,
 };

@@ -37,7 +37,8 @@ is-among (k ∷ nets) n (inr m) = or_right (same_net n k) (is_among nets n) (is-
 all-among : (nets more : List VNet) → ((n : VNet) → Among n more → Among n nets) → list_all (is_among nets) more ≡ true
 all-among nets [] h = refl
 all-among nets (n ∷ more) h =
-    and_from (is_among nets n) (list_all (is_among nets) more) (is-among nets n (h n (inl refl))) (all-among nets more (λ k m. h k (inr m)))
+    and_from (is_among nets n) (list_all (is_among nets) more) (is-among nets n (h n (inl refl)))
+    (all-among nets more (λ k m. h k (inr m)))
 
 -- a list has the nets of itself
 pub same-nets : (nets : List VNet) → same_nets nets nets ≡ true
@@ -69,14 +70,16 @@ first-found k (m ∷ nets) (suc p) n h e =
         absurd (both_ways (list_any (same_net m) nets) (not-true (list_any (same_net m) nets) none) twice)
     by false f found none = found
 
-pub own-place : (nets : List VNet) (p : ℕ) (n : VNet) → IsTrue (are_apart nets) → slice_get nets p ≡ Some n → position (same_net n) nets ≡ Some p
+pub own-place : (nets : List VNet) (p : ℕ) (n : VNet) → IsTrue (are_apart nets) → slice_get nets p ≡ Some n
+    → position (same_net n) nets ≡ Some p
 own-place nets p n h e =
     let here : 0 + p ≡ p = omega arith in
     position-from (same_net n) nets ∙ first-found 0 nets p n h e ∙ ap Some here
 
 -- the values of the nets of a list in its own order
 pub own-values :
-    (nets : List VNet) (values : List Trit) → IsTrue (are_apart nets) → length values ≡ length nets → arranged nets values nets ≡ values
+    (nets : List VNet) (values : List Trit) → IsTrue (are_apart nets) → length values ≡ length nets
+    → arranged nets values nets ≡ values
 own-values nets values h long =
     let many : length (arranged nets values nets) ≡ length nets = length-map nets (value_among nets values) in
     ext_get_or Unknown (arranged nets values nets) values (many ∙ sym long)

@@ -38,11 +38,13 @@ module _ (d : CellData) (m : VModule) where
   -- the value of the wire of a condition
   pub condition-net :
       port_inputs m ≡ cell_inputs d → (u : Gating) → IsTrue (feeds_condition d m u)
-      → ((values : List Trit) → length values ≡ length (support_of u.condition) → model_condition d m u values ≡ cell_condition u.condition values)
+      → ((values : List Trit) → length values ≡ length (support_of u.condition)
+      → model_condition d m u values ≡ cell_condition u.condition values)
       → (v states : List Trit) → net_value m v states (net.Wire u.wire) ≡ condition_value d.pins v u.condition
   condition-net ports u fed same v states =
       let support : List ℕ = support_of u.condition in
-      part-value m v states (condition_nets d u.condition) (pin_values d.pins v support) (pins-read ports v states support) (net.Wire u.wire) fed
+      part-value m v states (condition_nets d u.condition) (pin_values d.pins v support) (pins-read ports v states support)
+      (net.Wire u.wire) fed
       ∙ same (pin_values d.pins v support) (length-map support (pin_value d.pins v))
 
   module _ (shape : HasShape d m) (values : HasValues d m) where
@@ -54,7 +56,8 @@ module _ (d : CellData) (m : VModule) where
     check-gated i k j at beside f w has wire v states =
         let u : Gating = record { condition = f; wire = w } in
         let is : check_gating d m i ≡ Some u =
-        (λ n. gating_of (λ (k : Check). k.condition) (λ (k : TimingCheck). k.condition) (at n) (beside n)) ∙ (λ n. gating (has n) (wire n)) in
+        (λ n. gating_of (λ (k : Check). k.condition) (λ (k : TimingCheck). k.condition) (at n) (beside n))
+        ∙ (λ n. gating (has n) (wire n)) in
         condition-net shape.ports u (shape.check_inputs i u is) (λ xs long. values.checks i u xs is long) v states
 
     event-tied : (e : Event) → input_event m.ports (event_of d.pins e) ≡ cell.input_event d.pins e

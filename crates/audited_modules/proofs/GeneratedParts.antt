@@ -62,13 +62,15 @@ module _ (d : CellData) (sound : IsSound (module_of d)) where
 
   -- the instance of a group
   pub group-at :
-      (g : ℕ) (group : StateGroup) → slice_get d.groups g ≡ Some group → slice_get (sequential_instances m) g ≡ Some (group_instance d g group)
+      (g : ℕ) (group : StateGroup) → slice_get d.groups g ≡ Some group
+      → slice_get (sequential_instances m) g ≡ Some (group_instance d g group)
   group-at g group e =
       let within = get-within d.groups g group e in
       let long = length-each (group_instance d) 0 d.groups in
       ap (λ is. slice_get is g) (sequential-are d sound)
       ∙ sym (get-left (each_from (group_instance d) 0 d.groups)
-      (each_from (condition_instance d) 0 (conditions_of d) ++ output_instances d (length d.groups + condition_count d) d.outputs) g
+      (each_from (condition_instance d) 0 (conditions_of d) ++ output_instances d
+      (length d.groups + condition_count d) d.outputs) g
       (omega (arith, within, long)))
       ∙ group-instance-at d sound g group e
 
@@ -90,8 +92,10 @@ module _ (d : CellData) (sound : IsSound (module_of d)) where
   -- no net stands twice among the nets of a group
   pub group-apart : (g : ℕ) (group : StateGroup) → slice_get d.groups g ≡ Some group → IsTrue (are_apart (group_nets d g))
   group-apart g group e =
-      let own = (instance-at m [] (instances_of d) g (group_instance d g group) sound.instances (group-instance-at d sound g group e)).1 in
-      subst (λ ns. IsTrue (are_apart ns)) (group-feeds g group e) (and_parts _ (are_apart (nets_feeding (group_instance d g group))) ((own.2).apart)).1
+      let own = (instance-at m [] (instances_of d) g (group_instance d g group) sound.instances
+      (group-instance-at d sound g group e)).1 in
+      subst (λ ns. IsTrue (are_apart ns)) (group-feeds g group e)
+      (and_parts _ (are_apart (nets_feeding (group_instance d g group))) ((own.2).apart)).1
 
   module _ (f : Node) (used : IsUsed d f) where
     abbrev pub place : ℕ
@@ -111,12 +115,14 @@ module _ (d : CellData) (sound : IsSound (module_of d)) where
         ap (λ o. option_map_or (λ (udp : Udp). udp.sequential) o false) (condition_primitive-at d place used.numbered) in
         let many : length (condition_nets d f) ≡ length (support_of f) = length-map (support_of f) (pin_net d.pins) in
         ap (λ o. option_map_or (stands_for m (condition_nets d f)) o false) condition-driving
-        ∙ stands m (condition_nets d f) (condition_wire d place) (net.Wire (condition_wire d place)) (omega (arith, many, used.some)) stateless
+        ∙ stands m (condition_nets d f) (condition_wire d place) (net.Wire (condition_wire d place))
+        (omega (arith, many, used.some)) stateless
 
     -- no net stands twice among the nets of a condition
     pub condition-apart : IsTrue (are_apart (condition_nets d f))
     condition-apart =
-        let own = (instance-at m [] (instances_of d) (condition_wire d place) (condition_instance d place f) sound.instances (condition-instance-at d sound place f condition-at)).1 in
+        let own = (instance-at m [] (instances_of d) (condition_wire d place) (condition_instance d place f) sound.instances
+        (condition-instance-at d sound place f condition-at)).1 in
         (and_parts _ (are_apart (condition_nets d f)) ((own.2).apart)).1
 
   -- the nets of sources, as the comparison and as the module names them
@@ -166,7 +172,9 @@ module _ (d : CellData) (sound : IsSound (module_of d)) where
         by :
             (j : ℕ) (b : Bool) → has_sources output ≡ b
             → (has_sources output ≡ true → slice_get (primitives_of d) j ≡ Some (output_primitive d k))
-            → stands_for m (output_nets d m k) (if b then instance.Primitive j (pin_net d.pins output.pin) (map (generated.source_net d.pins) output.support) else instance.Constant (pin_net d.pins output.pin) (value_of no_values output.function))
+            → stands_for m (output_nets d m k) (if b then instance.Primitive j (pin_net d.pins output.pin)
+            (map (generated.source_net d.pins) output.support) else instance.Constant (pin_net d.pins output.pin)
+            (value_of no_values output.function))
             ≡ true
         by j true some primitive =
             let stateless : is_sequential (primitives_of d) j ≡ false =

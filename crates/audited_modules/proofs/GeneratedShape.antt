@@ -45,7 +45,8 @@ module _ (d : CellData) (rules : HoldsRules d.name d.pins d.groups d.outputs d.c
   condition-some : (apart : List ℕ) (f : Node) → IsTrue (is_condition d.pins apart (Some f)) → 0 < length (support_of f)
   condition-some apart f h = ltb-true 0 (length (support_of f)) (and_parts (nat_lt 0 (length (support_of f))) _ h).0
 
-  check-condition : (k : Check) → IsTrue (is_check d.pins k) → IsTrue (is_condition d.pins (k.first.pin ∷ k.second.pin ∷ []) k.condition)
+  check-condition : (k : Check) → IsTrue (is_check d.pins k)
+      → IsTrue (is_condition d.pins (k.first.pin ∷ k.second.pin ∷ []) k.condition)
   check-condition k h =
       let second = (and_parts (is_input_pin d.pins k.first.pin) _ h).1 in
       let events = (and_parts (is_input_pin d.pins k.second.pin) _ second).1 in
@@ -62,9 +63,11 @@ module _ (d : CellData) (rules : HoldsRules d.name d.pins d.groups d.outputs d.c
 
   check-used : (k : Check) → Among k d.checks → (f : Node) → k.condition ≡ Some f → IsUsed d f
   check-used k among f e =
-      let checks-hold : IsTrue (list_all (is_check d.pins) d.checks) = (and_parts _ (list_all (is_check d.pins) d.checks) rules.of_checks).1 in
+      let checks-hold : IsTrue (list_all (is_check d.pins) d.checks) =
+      (and_parts _ (list_all (is_check d.pins) d.checks) rules.of_checks).1 in
       record {
-        numbered = check-place conditions_are_numbered-lem d k f among (subst (λ o. Among f (condition_list o)) (sym e) (inl refl));
+        numbered = check-place conditions_are_numbered-lem d k f among
+            (subst (λ o. Among f (condition_list o)) (sym e) (inl refl));
         some =
             condition-some (k.first.pin ∷ k.second.pin ∷ []) f
             (subst (λ o. IsTrue (is_condition d.pins (k.first.pin ∷ k.second.pin ∷ []) o)) e
@@ -75,7 +78,8 @@ module _ (d : CellData) (rules : HoldsRules d.name d.pins d.groups d.outputs d.c
   arc-used arc among f e =
       let arcs-hold : IsTrue (list_all (is_arc d.pins) d.arcs) = (and_parts _ _ (and_parts _ _ rules.of_arcs).1).0 in
       record {
-        numbered = arc-place conditions_are_numbered-lem d arc f among (subst (λ o. Among f (conditions_by d.arcs arc o)) (sym e) (inl refl));
+        numbered = arc-place conditions_are_numbered-lem d arc f among
+            (subst (λ o. Among f (conditions_by d.arcs arc o)) (sym e) (inl refl));
         some =
             condition-some (arc.from ∷ []) f
             (subst (λ o. IsTrue (is_condition d.pins (arc.from ∷ []) o)) e
@@ -84,29 +88,39 @@ module _ (d : CellData) (rules : HoldsRules d.name d.pins d.groups d.outputs d.c
 
   pub check-gates : (i : ℕ) (u : Gating) → check_gating d (module_of d) i ≡ Some u → IsGating d u
   check-gates i u h =
-      by (slice_get d.checks i) refl (ap (gating_of (λ (k : Check). k.condition) (λ (k : TimingCheck). k.condition) (slice_get d.checks i)) (sym (slice_get-map (check_of d) d.checks i)) ∙ h)
+      by (slice_get d.checks i) refl (ap (gating_of (λ (k : Check). k.condition) (λ (k : TimingCheck). k.condition)
+      (slice_get d.checks i)) (sym (slice_get-map (check_of d) d.checks i)) ∙ h)
     where
-      gates : (o : Option Node) → gating o (option_map (wire_of d) o) ≡ Some u → ((f : Node) → o ≡ Some f → IsUsed d f) → IsGating d u
+      gates : (o : Option Node) → gating o (option_map (wire_of d) o) ≡ Some u → ((f : Node) → o ≡ Some f → IsUsed d f)
+          → IsGating d u
       gates None e used = absurd cc
-      gates (Some f) e used = let is : record { condition = f; wire = wire_of d f } ≡ u = cc in record { names = f; used = used f refl; is = is }
+      gates (Some f) e used =
+          let is : record { condition = f; wire = wire_of d f } ≡ u = cc in
+          record { names = f; used = used f refl; is = is }
 
       by :
           (o : Option Check) → slice_get d.checks i ≡ o
-          → gating_of (λ (k : Check). k.condition) (λ (k : TimingCheck). k.condition) o (option_map (check_of d) o) ≡ Some u → IsGating d u
+          → gating_of (λ (k : Check). k.condition) (λ (k : TimingCheck). k.condition) o (option_map (check_of d) o) ≡ Some u
+          → IsGating d u
       by None at e = absurd cc
       by (Some k) at e = gates k.condition e (check-used k (among-place d.checks i k at))
 
   pub path-gates : (i : ℕ) (u : Gating) → path_gating d (module_of d) i ≡ Some u → IsGating d u
   path-gates i u h =
-      by (slice_get d.arcs i) refl (ap (gating_of (λ (arc : Arc). arc.condition) (λ (path : VPath). gate_wire path.gate) (slice_get d.arcs i)) (sym (slice_get-map (path_of d) d.arcs i)) ∙ h)
+      by (slice_get d.arcs i) refl (ap (gating_of (λ (arc : Arc). arc.condition) (λ (path : VPath). gate_wire path.gate)
+      (slice_get d.arcs i)) (sym (slice_get-map (path_of d) d.arcs i)) ∙ h)
     where
-      gates : (arc : Arc) (o : Option Node) → gating o (gate_wire (gate_by d arc o)) ≡ Some u → ((f : Node) → o ≡ Some f → IsUsed d f) → IsGating d u
+      gates : (arc : Arc) (o : Option Node) → gating o (gate_wire (gate_by d arc o)) ≡ Some u
+          → ((f : Node) → o ≡ Some f → IsUsed d f) → IsGating d u
       gates arc None e used = absurd cc
-      gates arc (Some f) e used = let is : record { condition = f; wire = wire_of d f } ≡ u = cc in record { names = f; used = used f refl; is = is }
+      gates arc (Some f) e used =
+          let is : record { condition = f; wire = wire_of d f } ≡ u = cc in
+          record { names = f; used = used f refl; is = is }
 
       by :
           (o : Option Arc) → slice_get d.arcs i ≡ o
-          → gating_of (λ (arc : Arc). arc.condition) (λ (path : VPath). gate_wire path.gate) o (option_map (path_of d) o) ≡ Some u → IsGating d u
+          → gating_of (λ (arc : Arc). arc.condition) (λ (path : VPath). gate_wire path.gate) o (option_map (path_of d) o)
+          ≡ Some u → IsGating d u
       by None at e = absurd cc
       by (Some arc) at e = gates arc arc.condition e (arc-used arc (among-place d.arcs i arc at))
 
@@ -148,4 +162,5 @@ module _ (d : CellData) (rules : HoldsRules d.name d.pins d.groups d.outputs d.c
       }
     where
       fed : (u : Gating) → IsGating d u → IsTrue (feeds_condition d (module_of d) u)
-      fed u gates = subst (λ u. IsTrue (feeds_condition d (module_of d) u)) gates.is (feeds-condition d sound gates.names gates.used)
+      fed u gates = subst (λ u. IsTrue (feeds_condition d (module_of d) u)) gates.is
+          (feeds-condition d sound gates.names gates.used)

@@ -49,7 +49,8 @@ use Rattle.audited_modules.proofs.GeneratedParts.{IsUsed, group-at, group-feeds,
 use Rattle.audited_modules.proofs.GeneratedShape.{IsGating, check-gates, path-gates}
 
 -- a written place before the register
-noted-set : {X : Type 0} (b : Bool) (note : X) (xs : List X) (i : ℕ) (x : X) → i < length xs → set (noted b note xs) i x ≡ noted b note (set xs i x)
+noted-set : {X : Type 0} (b : Bool) (note : X) (xs : List X) (i : ℕ) (x : X) → i < length xs
+    → set (noted b note xs) i x ≡ noted b note (set xs i x)
 noted-set false note xs i x h = refl
 noted-set true note xs i x h = set-append_left xs (note ∷ []) i x h
 
@@ -72,7 +73,8 @@ differs Zero = λ e. absurd cc
 differs One = λ e. absurd cc
 differs Unknown = λ e. absurd cc
 
-module _ (d : CellData) (rules : HoldsRules d.name d.pins d.groups d.outputs d.checks d.arcs) (sound : IsSound (module_of d)) where
+module _ (d : CellData) (rules : HoldsRules d.name d.pins d.groups d.outputs d.checks d.arcs)
+    (sound : IsSound (module_of d)) where
   abbrev m : VModule
   m = module_of d
 
@@ -92,9 +94,12 @@ module _ (d : CellData) (rules : HoldsRules d.name d.pins d.groups d.outputs d.c
         noted-length b note xs (map (pin_net d.pins) (support_at d g)) (long ∙ sym (length-map (support_at d g) (pin_net d.pins)))
         ∙ ap (λ c. length (map (pin_net d.pins) (support_at d g) ++ notifier_nets c)) (sym checks) in
         ap (λ o. option_map_or (next_by m (group_nets d g) ys changed old s) o s) (group-at d sound g there.0 there.1)
-        ∙ ap (λ ns. option_map_or (λ udp. next_at (position (same_net changed) ns) udp (arranged (group_nets d g) ys ns) old s) (slice_get (primitives_of d) g) s) feeds
-        ∙ ap (λ o. option_map_or (λ udp. next_at (position (same_net changed) (group_nets d g)) udp (arranged (group_nets d g) ys (group_nets d g)) old s) o s) (group_primitive-at d g within)
-        ∙ (λ i. next_at (own-place (group_nets d g) p changed own at i) (group_primitive d g) (own-values (group_nets d g) ys own many i) old s)
+        ∙ ap (λ ns. option_map_or (λ udp. next_at (position (same_net changed) ns) udp (arranged (group_nets d g) ys ns) old s)
+        (slice_get (primitives_of d) g) s) feeds
+        ∙ ap (λ o. option_map_or (λ udp. next_at (position (same_net changed) (group_nets d g)) udp
+        (arranged (group_nets d g) ys (group_nets d g)) old s) o s) (group_primitive-at d g within)
+        ∙ (λ i. next_at (own-place (group_nets d g) p changed own at i) (group_primitive d g)
+        (own-values (group_nets d g) ys own many i) old s)
 
     pin-at :
         (p : ℕ) → p < length (support_at d g) → slice_get (group_nets d g) p ≡ Some (place_net d g p)
@@ -110,7 +115,8 @@ module _ (d : CellData) (rules : HoldsRules d.name d.pins d.groups d.outputs d.c
         → model_step d m g p old xs note s ≡ cell_step d g p old xs s
     steps p old xs note s long inside other =
         group-next (has_notifier d) refl note xs long (place_net d g p) p (pin-at p (omega (arith, inside, long))) old s
-        ∙ ap (λ before. udp_next (group_primitive d g).rows before (noted (has_notifier d) note xs) s) (noted-set (has_notifier d) note xs p old inside)
+        ∙ ap (λ before. udp_next (group_primitive d g).rows before (noted (has_notifier d) note xs) s)
+        (noted-set (has_notifier d) note xs p old inside)
         ∙ groups_are_machines-lem d g p old xs note s long inside other
 
     pub forces :
@@ -139,7 +145,8 @@ module _ (d : CellData) (rules : HoldsRules d.name d.pins d.groups d.outputs d.c
       let tree : condition_tree d i ≡ f = get_or_from_slice_get (conditions_of d) i f node.Zero (condition-at d sound f used) in
       let many : length xs ≡ length nets = long ∙ sym (length-map (support_of f) (pin_net d.pins)) in
       ap (λ o. option_map_or (value_by m nets xs) o Unknown) (condition-driving d sound f used)
-      ∙ ap (λ o. option_map_or (λ (udp : Udp). level_output udp.rows (arranged nets xs nets)) o Unknown) (condition_primitive-at d i used.numbered)
+      ∙ ap (λ o. option_map_or (λ (udp : Udp). level_output udp.rows (arranged nets xs nets)) o Unknown)
+      (condition_primitive-at d i used.numbered)
       ∙ ap (level_output (condition_primitive d i).rows) (own-values nets xs (condition-apart d sound f used) many)
       ∙ parts_resolve-lem d (part.Condition i) xs (long ∙ ap (λ t. length (support_of t)) (sym tree))
       ∙ ap (λ t. res (condition_at (support_of t) t) xs) tree
@@ -148,7 +155,8 @@ module _ (d : CellData) (rules : HoldsRules d.name d.pins d.groups d.outputs d.c
       (u : Gating) → IsGating d u → (xs : List Trit) → length xs ≡ length (support_of u.condition)
       → model_condition d m u xs ≡ cell_condition u.condition xs
   gating-value u gates =
-      subst (λ (u : Gating). (xs : List Trit) → length xs ≡ length (support_of u.condition) → model_condition d m u xs ≡ cell_condition u.condition xs)
+      subst (λ (u : Gating). (xs : List Trit) → length xs ≡ length (support_of u.condition)
+      → model_condition d m u xs ≡ cell_condition u.condition xs)
       gates.is (condition-value gates.names gates.used)
 
   -- the value of an output
@@ -161,15 +169,20 @@ module _ (d : CellData) (rules : HoldsRules d.name d.pins d.groups d.outputs d.c
         by :
             (j : ℕ) (b : Bool) → has_sources output ≡ b
             → slice_get (instances_of d) (length d.groups + (condition_count d + k))
-            ≡ Some (if b then instance.Primitive j (pin_net d.pins output.pin) (map (generated.source_net d.pins) output.support) else instance.Constant (pin_net d.pins output.pin) (value_of no_values output.function))
+            ≡ Some (if b then instance.Primitive j (pin_net d.pins output.pin)
+            (map (generated.source_net d.pins) output.support) else instance.Constant (pin_net d.pins output.pin)
+            (value_of no_values output.function))
             → IsTrue (are_apart (output_nets d m k))
         by j true some there =
-            let own = (instance-at m [] (instances_of d) (length d.groups + (condition_count d + k)) (instance.Primitive j (pin_net d.pins output.pin) (map (generated.source_net d.pins) output.support)) sound.instances there).1 in
+            let own = (instance-at m [] (instances_of d) (length d.groups + (condition_count d + k))
+            (instance.Primitive j (pin_net d.pins output.pin) (map (generated.source_net d.pins) output.support))
+            sound.instances there).1 in
             subst (λ ns. IsTrue (are_apart ns)) (output-feeds d sound k output at is)
             (and_parts _ (are_apart (map (generated.source_net d.pins) output.support)) ((own.2).apart)).1
         by j false some there =
             let none : output.support ≡ [] = no-sources output.support some in
-            subst (λ ns. IsTrue (are_apart ns)) (ap (map (generated.source_net d.pins)) (sym none) ∙ output-feeds d sound k output at is) refl
+            subst (λ ns. IsTrue (are_apart ns)) (ap (map (generated.source_net d.pins)) (sym none)
+            ∙ output-feeds d sound k output at is) refl
 
     pub output-value :
         (xs : List Trit) → length xs ≡ length (sources_at d k) → model_output d m k xs ≡ cell_output d k xs
@@ -181,22 +194,27 @@ module _ (d : CellData) (rules : HoldsRules d.name d.pins d.groups d.outputs d.c
         by :
             (j : ℕ) (b : Bool) → has_sources output ≡ b
             → (has_sources output ≡ true → slice_get (primitives_of d) j ≡ Some (output_primitive d k))
-            → value_by m (output_nets d m k) xs (if b then instance.Primitive j (pin_net d.pins output.pin) (map (generated.source_net d.pins) output.support) else instance.Constant (pin_net d.pins output.pin) (value_of no_values output.function))
+            → value_by m (output_nets d m k) xs (if b then instance.Primitive j (pin_net d.pins output.pin)
+            (map (generated.source_net d.pins) output.support) else instance.Constant (pin_net d.pins output.pin)
+            (value_of no_values output.function))
             ≡ cell_output d k xs
         by j true some primitive =
             let nets : List VNet = output_nets d m k in
             let many : length xs ≡ length nets = long ∙ sym (length-map (sources_at d k) (source_net d m)) in
-            ap (λ ns. option_map_or (λ (udp : Udp). level_output udp.rows (arranged nets xs ns)) (slice_get (primitives_of d) j) Unknown) (output-feeds d sound k output at is)
+            ap (λ ns. option_map_or (λ (udp : Udp). level_output udp.rows (arranged nets xs ns))
+            (slice_get (primitives_of d) j) Unknown) (output-feeds d sound k output at is)
             ∙ ap (λ o. option_map_or (λ (udp : Udp). level_output udp.rows (arranged nets xs nets)) o Unknown) (primitive some)
             ∙ ap (level_output (output_primitive d k).rows) (own-values nets xs output-apart many)
             ∙ parts_resolve-lem d (part.Output k) xs long
         by j false some primitive =
             let none : output.support ≡ [] = no-sources output.support some in
             let empty : xs ≡ [] = no-values xs (long ∙ ap length (output-support d sound k output at is ∙ none)) in
-            let made : List Source → OutputPin = λ sources. record { pin = output.pin; function = output.function; support = sources } in
+            let made : List Source → OutputPin = λ sources.
+            record { pin = output.pin; function = output.function; support = sources } in
             ap (λ sources. res (output_at (length d.pins) d.groups (made sources)) []) (sym none)
             ∙ ap (res (output_at (length d.pins) d.groups output)) (sym empty)
-            ∙ ap (λ o. res (λ point. option_map_or (λ (x : OutputPin). output_at (length d.pins) d.groups x point) o Unknown) xs) (sym at)
+            ∙ ap (λ o. res (λ point. option_map_or (λ (x : OutputPin). output_at (length d.pins) d.groups x point) o Unknown)
+            xs) (sym at)
 
   pub has-values : HasValues d m
   has-values =

@@ -55,7 +55,8 @@ noted-nets f make false (x ∷ xs) = ap (λ r. f (make x) ∷ r) (noted-nets f m
 noted-nets f make true (x ∷ xs) = ap (λ r. f (make x) ∷ r) (noted-nets f make true xs)
 
 -- both definitions of the next state say the same
-next-same : (o : Option ℕ) (udp : Udp) (values : List Trit) (old s : Trit) → primitives.next_at o udp values old s ≡ tables.next_at o udp values old s
+next-same : (o : Option ℕ) (udp : Udp) (values : List Trit) (old s : Trit)
+    → primitives.next_at o udp values old s ≡ tables.next_at o udp values old s
 next-same None udp values old s = refl
 next-same (Some k) udp values old s = refl
 
@@ -103,12 +104,14 @@ module _ (d : CellData) (m : VModule) (ports : port_inputs m ≡ cell_inputs d) 
       ≡ tables.next_at (position (same_net changed) nets) udp (arranged (group_nets d g) xs nets) old s
   compared xs changed old s =
       ap (λ o. option_map_or (next_by m (group_nets d g) xs changed old s) o s) at
-      ∙ ap (λ o. option_map_or (λ u. tables.next_at (position (same_net changed) nets) u (arranged (group_nets d g) xs nets) old s) o s) has
+      ∙ ap (λ o. option_map_or (λ u. tables.next_at (position (same_net changed) nets) u
+      (arranged (group_nets d g) xs nets) old s) o s) has
 
   -- the values of the inputs in a run, by those of the support
   entries :
       (v : List Trit) (note : Trit)
-      → map (entry_value m.ports v note) nets ≡ arranged (group_nets d g) (noted (has_notifier d) note (pin_values d.pins v qs)) nets
+      → map (entry_value m.ports v note) nets ≡ arranged (group_nets d g)
+      (noted (has_notifier d) note (pin_values d.pins v qs)) nets
   entries v note =
       sym (arranged-values (entry_value m.ports v note) (group_nets d g) nets (nets-among nets (group_nets d g) fed))
       ∙ ap (λ xs. arranged (group_nets d g) xs nets)
@@ -154,7 +157,8 @@ module _ (d : CellData) (m : VModule) (ports : port_inputs m ≡ cell_inputs d) 
       → position (is_turned m.ports (turned.Input c.pin)) nets ≡ position (same_net (pin_net d.pins p)) nets
   one-turned c p here e =
       position-from (is_turned m.ports (turned.Input c.pin)) nets
-      ∙ same-place (is_turned m.ports (turned.Input c.pin)) (same_net (pin_net d.pins p)) 0 nets (λ n among. by n (fed-by n among))
+      ∙ same-place (is_turned m.ports (turned.Input c.pin)) (same_net (pin_net d.pins p)) 0 nets
+      (λ n among. by n (fed-by n among))
       ∙ sym (position-from (same_net (pin_net d.pins p)) nets)
     where
       alike :
@@ -186,10 +190,12 @@ module _ (d : CellData) (m : VModule) (ports : port_inputs m ≡ cell_inputs d) 
       (v : List Trit) (c : Change) (note s : Trit)
       → length v ≡ inputs_of d → c.pin < inputs_of d → is_event v c ≡ true
       → (place : Option ℕ) → place_in d.pins qs c ≡ place
-      → tables.next_at (position (is_turned m.ports (turned.Input c.pin)) nets) udp (map (entry_value m.ports (set v c.pin c.to) note) nets) (value_before v c) s
+      → tables.next_at (position (is_turned m.ports (turned.Input c.pin)) nets) udp
+      (map (entry_value m.ports (set v c.pin c.to) note) nets) (value_before v c) s
       ≡ moved_at place group (pin_values d.pins (set v c.pin c.to) qs) (value_before v c) c.to s
   stepped v c note s long inside event None e =
-      ap (λ o. tables.next_at o udp (map (entry_value m.ports (set v c.pin c.to) note) nets) (value_before v c) s) (none-turned c e)
+      ap (λ o. tables.next_at o udp (map (entry_value m.ports (set v c.pin c.to) note) nets) (value_before v c) s)
+      (none-turned c e)
   stepped v c note s long inside event (Some p) e =
       let old : Trit = value_before v c in
       let xs : List Trit = pin_values d.pins (set v c.pin c.to) qs in
@@ -219,7 +225,8 @@ module _ (d : CellData) (m : VModule) (ports : port_inputs m ≡ cell_inputs d) 
   -- the next state at a change of the register
   shaken :
       (v : List Trit) (note s : Trit) → has_notifier d ≡ true
-      → tables.next_at (position (is_turned m.ports turned.Notifier) nets) udp (map (entry_value m.ports v (toggled note)) nets) note s
+      → tables.next_at (position (is_turned m.ports turned.Notifier) nets) udp
+      (map (entry_value m.ports v (toggled note)) nets) note s
       ≡ violated d.pins group v
   shaken v note s some =
       let xs : List Trit = pin_values d.pins v qs in
@@ -230,7 +237,8 @@ module _ (d : CellData) (m : VModule) (ports : port_inputs m ≡ cell_inputs d) 
       ∙ same-place (is_turned m.ports turned.Notifier) (same_net net.Notifier) 0 nets (λ n among. notifier-turned m n)
       ∙ sym (position-from (same_net net.Notifier) nets) in
       (λ i. tables.next_at (place i) udp (entries v (toggled note) i) note s)
-      ∙ (λ i. tables.next_at (position (same_net net.Notifier) nets) udp (arranged (group_nets d g) (noted (some i) (toggled-same note i) xs) nets) note s)
+      ∙ (λ i. tables.next_at (position (same_net net.Notifier) nets) udp
+      (arranged (group_nets d g) (noted (some i) (toggled-same note i) xs) nets) note s)
       ∙ sym (compared (noted true (note_after note) xs) net.Notifier note s)
       ∙ values.forces g note xs s some within many
       ∙ ap (λ step. forced step xs) (step-is d g group named)

@@ -45,12 +45,14 @@ same-place p q k [] h = refl
 same-place p q k (x ∷ xs) h = λ i. cond (h x (inl refl) i) (Some k) (same-place p q (k + 1) xs (λ y m. h y (inr m)) i)
 
 -- a test that no entry passes finds no place, and one that finds none is passed by no entry
-pub no-place : {X : Type 0} (p : X → Bool) (k : ℕ) (xs : List X) → ((x : X) → Among x xs → p x ≡ false) → position_from p k xs ≡ None
+pub no-place : {X : Type 0} (p : X → Bool) (k : ℕ) (xs : List X) → ((x : X) → Among x xs → p x ≡ false)
+    → position_from p k xs ≡ None
 no-place p k [] h = refl
 no-place p k (x ∷ xs) h =
     ap (λ b. cond b (Some k) (position_from p (k + 1) xs)) (h x (inl refl)) ∙ no-place p (k + 1) xs (λ y m. h y (inr m))
 
-pub none-passes : {X : Type 0} (p : X → Bool) (k : ℕ) (xs : List X) → position_from p k xs ≡ None → (x : X) → Among x xs → p x ≡ false
+pub none-passes : {X : Type 0} (p : X → Bool) (k : ℕ) (xs : List X) → position_from p k xs ≡ None → (x : X) → Among x xs
+    → p x ≡ false
 none-passes p k [] e x m = absurd m
 none-passes p k (y ∷ ys) e x m = by (p y) refl e m (λ none more. none-passes p (k + 1) ys none x more)
   where
@@ -62,7 +64,8 @@ none-passes p k (y ∷ ys) e x m = by (p y) refl e m (λ none more. none-passes 
     by false f none (inr more) again = again none more
 
 -- a test that some entry passes finds a place
-pub some-place : {X : Type 0} (p : X → Bool) (k : ℕ) (xs : List X) → list_any p xs ≡ true → (i : ℕ) × (position_from p k xs ≡ Some i)
+pub some-place : {X : Type 0} (p : X → Bool) (k : ℕ) (xs : List X) → list_any p xs ≡ true
+    → (i : ℕ) × (position_from p k xs ≡ Some i)
 some-place p k [] h = absurd cc
 some-place p k (x ∷ xs) h = by (p x) h (λ rest. some-place p (k + 1) xs rest)
   where

@@ -73,7 +73,8 @@ module _ (d : CellData) (m : VModule) (rules : HoldsRules d.name d.pins d.groups
       record {
         inputs = count d m shape.ports;
         groups =
-            fit-places (FitsGroup d m) (named_groups d) (sequential_instances m) (shape.states ∙ sym (length-named (length d.pins) d.groups))
+            fit-places (FitsGroup d m) (named_groups d) (sequential_instances m)
+            (shape.states ∙ sym (length-named (length d.pins) d.groups))
             fits-group;
         checks = fit-places (FitsCheck d m) d.checks m.checks shape.check_count (fits-check d m shape values);
         outputs = subst (FitOutputs d m d.outputs) (sym (outputs-are d m shape.ports rules)) outputs-fit;

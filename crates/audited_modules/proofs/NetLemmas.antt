@@ -34,7 +34,8 @@ itself (net.Wire w) = eq-eqb w w refl
 itself net.Notifier = refl
 
 -- a net that is among these stands at some place
-net-place : (nets : List VNet) (n : VNet) → IsTrue (is_among nets n) → (k : ℕ) × (position (same_net n) nets ≡ Some k) × (slice_get nets k ≡ Some n)
+net-place : (nets : List VNet) (n : VNet) → IsTrue (is_among nets n)
+    → (k : ℕ) × (position (same_net n) nets ≡ Some k) × (slice_get nets k ≡ Some n)
 net-place nets n h =
     let there = some-place (same_net n) 0 nets h in
     let found = placed (same_net n) 0 nets there.0 there.1 in
@@ -51,7 +52,8 @@ value-among f nets n h =
 
 -- the values of some of these nets, in any order
 pub arranged-values :
-    (f : VNet → Trit) (nets inputs : List VNet) → IsTrue (list_all (is_among nets) inputs) → arranged nets (map f nets) inputs ≡ map f inputs
+    (f : VNet → Trit) (nets inputs : List VNet) → IsTrue (list_all (is_among nets) inputs)
+    → arranged nets (map f nets) inputs ≡ map f inputs
 arranged-values f nets [] h = refl
 arranged-values f nets (n ∷ inputs) h =
     let parts = and_parts (is_among nets n) (list_all (is_among nets) inputs) h in
@@ -60,11 +62,13 @@ arranged-values f nets (n ∷ inputs) h =
 -- the nets of the first list are among those of the second
 pub nets-among : (ms ns : List VNet) → IsTrue (same_nets ms ns) → IsTrue (list_all (is_among ns) ms)
 nets-among ms ns h =
-    (and_parts (list_all (is_among ns) ms) (list_all (is_among ms) ns) (and_parts _ (list_all (is_among ns) ms && list_all (is_among ms) ns) h).1).0
+    (and_parts (list_all (is_among ns) ms) (list_all (is_among ms) ns)
+    (and_parts _ (list_all (is_among ns) ms && list_all (is_among ms) ns) h).1).0
 
 pub nets-back : (ms ns : List VNet) → IsTrue (same_nets ms ns) → IsTrue (list_all (is_among ms) ns)
 nets-back ms ns h =
-    (and_parts (list_all (is_among ns) ms) (list_all (is_among ms) ns) (and_parts _ (list_all (is_among ns) ms && list_all (is_among ms) ns) h).1).1
+    (and_parts (list_all (is_among ns) ms) (list_all (is_among ms) ns)
+    (and_parts _ (list_all (is_among ns) ms && list_all (is_among ms) ns) h).1).1
 
 -- Of the nets of pins, with the register of the checks behind them or not, each is the port of one of the pins, or that register.
 abbrev pub PinOrNotifier : List Pin → List ℕ → VNet → Type 0

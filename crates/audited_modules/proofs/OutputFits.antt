@@ -39,7 +39,8 @@ module _ (d : CellData) (m : VModule) (sound : IsSound m) (shape : HasShape d m)
   -- the values of the nets of an output's support
   sources-read :
       (v states : List Trit) (sources : List Source) → IsTrue (list_all (is_source d.pins d.groups) sources)
-      → map (source_value m v states) (map (source_net d m) sources) ≡ map (cell.source_value d.pins v (states_among m states)) sources
+      → map (source_value m v states) (map (source_net d m) sources)
+      ≡ map (cell.source_value d.pins v (states_among m states)) sources
   sources-read v states [] h = refl
   sources-read v states (source.Pin p ∷ sources) h =
       let parts = and_parts (is_input_pin d.pins p) (list_all (is_source d.pins d.groups) sources) h in
@@ -68,10 +69,14 @@ module _ (d : CellData) (m : VModule) (sound : IsSound m) (shape : HasShape d m)
           let within = get-within d.outputs k output e in
           let read : List Source → List Trit = map (cell.source_value d.pins v (states_among m states)) in
           let support : sources_at d k ≡ output.support = ap (λ o. option_map_or (λ (x : OutputPin). x.support) o []) e in
-          let port : output_net d k ≡ pin_net d.pins output.pin = ap (λ o. pin_net d.pins (option_map_or (λ (x : OutputPin). x.pin) o 0)) e in
+          let port : output_net d k ≡ pin_net d.pins output.pin =
+          ap (λ o. pin_net d.pins (option_map_or (λ (x : OutputPin). x.pin) o 0)) e in
           let sources : IsTrue (list_all (is_source d.pins d.groups) (sources_at d k)) =
           subst (λ ss. IsTrue (list_all (is_source d.pins d.groups) ss)) (sym support) is.sources in
           ap (net_value m v states) (sym port)
-          ∙ part-value m v states (output_nets d m k) (read (sources_at d k)) (sources-read v states (sources_at d k) sources) (output_net d k) (shape.outputs k within)
-          ∙ values.outputs k (read (sources_at d k)) within (length-map (sources_at d k) (cell.source_value d.pins v (states_among m states)))
-          ∙ (λ i. res (λ point. option_map_or (λ (x : OutputPin). output_at (length d.pins) d.groups x point) (e i) Unknown) (read (support i)))
+          ∙ part-value m v states (output_nets d m k) (read (sources_at d k)) (sources-read v states (sources_at d k) sources)
+          (output_net d k) (shape.outputs k within)
+          ∙ values.outputs k (read (sources_at d k)) within
+          (length-map (sources_at d k) (cell.source_value d.pins v (states_among m states)))
+          ∙ (λ i. res (λ point. option_map_or (λ (x : OutputPin). output_at (length d.pins) d.groups x point) (e i) Unknown)
+          (read (support i)))

@@ -19,12 +19,14 @@ use Rattle.audited_modules.proofs.ListLemmas.{found-place}
 use Rattle.audited_modules.proofs.NetLemmas.{arranged-values, nets-among}
 
 -- The values of a module's nets at values of its inputs and states, and these nets with their values.
-module _ (m : VModule) (v states : List Trit) (nets : List VNet) (values : List Trit) (are : map (source_value m v states) nets ≡ values) where
+module _ (m : VModule) (v states : List Trit) (nets : List VNet) (values : List Trit)
+    (are : map (source_value m v states) nets ≡ values) where
   -- what an instance drives that these nets feed
   fed-value :
       (number : ℕ) (output : VNet) (inputs : List VNet) (s : Trit)
       → is_sequential m.udps number ≡ false → IsTrue (same_nets inputs nets)
-      → instance_value m v states s (instance.Primitive number output inputs) ≡ value_by m nets values (instance.Primitive number output inputs)
+      → instance_value m v states s (instance.Primitive number output inputs)
+      ≡ value_by m nets values (instance.Primitive number output inputs)
   fed-value number output inputs s stateless same = by (slice_get m.udps number) stateless
     where
       read : map (source_value m v states) inputs ≡ arranged nets values inputs

@@ -55,7 +55,8 @@ record IsBeside (d : CellData) (m : VModule) (arc : Arc) (path : VPath) : Type 0
       (f : Node) (w : ℕ) → arc.condition ≡ Some f → path.gate ≡ gate.If w
       → (v states : List Trit) → net_value m v states (net.Wire w) ≡ condition_value d.pins v f
 
-module _ (d : CellData) (m : VModule) (shape : HasShape d m) (values : HasValues d m) (arcs-hold : IsTrue (list_all (is_arc d.pins) d.arcs)) where
+module _ (d : CellData) (m : VModule) (shape : HasShape d m) (values : HasValues d m)
+    (arcs-hold : IsTrue (list_all (is_arc d.pins) d.arcs)) where
   -- the condition of an arc
   path-gated :
       (i : ℕ) (arc : Arc) (path : VPath) → slice_get d.arcs i ≡ Some arc → slice_get m.paths i ≡ Some path
@@ -80,12 +81,14 @@ module _ (d : CellData) (m : VModule) (shape : HasShape d m) (values : HasValues
 
   from-port : (arc : Arc) → Among arc d.arcs → IsTrue (is_port_pin d.pins arc.from)
   from-port arc among =
-      input-pin-port d.pins arc.from (and_parts (is_input_pin d.pins arc.from) _ (all-passes (is_arc d.pins) d.arcs arc arcs-hold among)).0
+      input-pin-port d.pins arc.from (and_parts (is_input_pin d.pins arc.from) _
+      (all-passes (is_arc d.pins) d.arcs arc arcs-hold among)).0
 
   to-port : (arc : Arc) → Among arc d.arcs → IsTrue (is_port_pin d.pins arc.to)
   to-port arc among =
       output-pin-port d.pins arc.to
-      (and_parts (is_output_pin d.pins arc.to) _ (and_parts (is_input_pin d.pins arc.from) _ (all-passes (is_arc d.pins) d.arcs arc arcs-hold among)).1).0
+      (and_parts (is_output_pin d.pins arc.to) _
+      (and_parts (is_input_pin d.pins arc.from) _ (all-passes (is_arc d.pins) d.arcs arc arcs-hold among)).1).0
 
   off-same :
       (v states : List Trit) (arc : Arc) (path : VPath) → IsBeside d m arc path
@@ -94,7 +97,8 @@ module _ (d : CellData) (m : VModule) (shape : HasShape d m) (values : HasValues
     where
       by :
           (b : Bool) (o : Option Node) (g : Gate) → IsTrue (gated_by b o g)
-          → ((f : Node) (w : ℕ) → o ≡ Some f → g ≡ gate.If w → (v states : List Trit) → net_value m v states (net.Wire w) ≡ condition_value d.pins v f)
+          → ((f : Node) (w : ℕ) → o ≡ Some f → g ≡ gate.If w → (v states : List Trit)
+          → net_value m v states (net.Wire w) ≡ condition_value d.pins v f)
           → is_off m v states g ≡ cell.is_off d.pins v o
       by b (Some f) (gate.If w) t gated = ap is_zero (gated f w refl refl v states)
       by b (Some f) gate.Always t gated = absurd cc
@@ -108,7 +112,8 @@ module _ (d : CellData) (m : VModule) (shape : HasShape d m) (values : HasValues
       (v states : List Trit) (arc other : Arc) (path beside : VPath) → IsBeside d m arc path → IsBeside d m other beside
       → is_quiet m v states path beside ≡ cell.is_quiet d.pins v arc other
   quiet-same v states arc other path beside is near =
-      (λ i. not (nat_eq (is.same.from i) (near.same.from i) && nat_eq (is.same.to i) (near.same.to i)) || off-same v states other beside near i)
+      (λ i. not (nat_eq (is.same.from i) (near.same.from i) && nat_eq (is.same.to i) (near.same.to i))
+      || off-same v states other beside near i)
       ∙ (λ i.
       not (same-port d.pins arc.from other.from (from-port arc is.among) (from-port other near.among) i
       && same-port d.pins arc.to other.to (to-port arc is.among) (to-port other near.among) i)
@@ -132,7 +137,8 @@ module _ (d : CellData) (m : VModule) (shape : HasShape d m) (values : HasValues
     where
       by :
           (b : Bool) → list_any (is_conditional arc) d.arcs ≡ b → (o : Option Node) (g : Gate) → IsTrue (gated_by b o g)
-          → ((f : Node) (w : ℕ) → o ≡ Some f → g ≡ gate.If w → (v states : List Trit) → net_value m v states (net.Wire w) ≡ condition_value d.pins v f)
+          → ((f : Node) (w : ℕ) → o ≡ Some f → g ≡ gate.If w → (v states : List Trit)
+          → net_value m v states (net.Wire w) ≡ condition_value d.pins v f)
           → is_active m v states path g ≡ cell.is_active d.pins d.arcs v arc o
       by b e (Some f) (gate.If w) t gated = ap (λ x. not (is_zero x)) (gated f w refl refl v states)
       by b e (Some f) gate.Always t gated = absurd cc
@@ -164,7 +170,8 @@ module _ (d : CellData) (m : VModule) (shape : HasShape d m) (values : HasValues
       let active = active-same v states arc path is in
       ap (λ b. map (path_at m v states) (cond b (path ∷ others) others)) between
       ∙ elim (cell.is_between d.pins input p arc) as (λ b.
-      map (path_at m v states) (cond b (path ∷ others) others) ≡ map (cell.path_of d.pins d.arcs v) (cond b (arc ∷ arcs_left) arcs_left)) [
+      map (path_at m v states) (cond b (path ∷ others) others)
+      ≡ map (cell.path_of d.pins d.arcs v) (cond b (arc ∷ arcs_left) arcs_left)) [
         | true ↦ λ i. record { active = active i; rise = is.same.rise i; fall = is.same.fall i } ∷ rest i
         | false ↦ rest
       ]

@@ -26,7 +26,8 @@ use Rattle.table_audit.specs.Shape.{cell_inputs, port_inputs}
 pub sides-are : (pins : List Pin) → map is_input_at (filter is_port pins) ≡ sides pins
 sides-are [] = refl
 sides-are (pin ∷ pins) =
-    elim (is_port pin) as (λ b. map is_input_at (cond b (pin ∷ filter is_port pins) (filter is_port pins)) ≡ cond b (is_input_at pin ∷ sides pins) (sides pins)) [
+    elim (is_port pin) as (λ b. map is_input_at (cond b (pin ∷ filter is_port pins) (filter is_port pins))
+    ≡ cond b (is_input_at pin ∷ sides pins) (sides pins)) [
       | true ↦ ap (λ r. is_input_at pin ∷ r) (sides-are pins)
       | false ↦ sides-are pins
     ]
@@ -47,7 +48,8 @@ module _ (d : CellData) (m : VModule) (ports : port_inputs m ≡ cell_inputs d) 
   pub is-input : (p : ℕ) → IsTrue (is_input_pin d.pins p) → is_input_port m.ports (port_number d.pins p) ≡ true
   is-input p h =
       input-side m.ports (port_number d.pins p)
-      ∙ ap (λ bs. option_map_or (λ (b : Bool). b) (slice_get bs (port_number d.pins p)) false) (are ∙ sym (ports-sides [] [] d.pins))
+      ∙ ap (λ bs. option_map_or (λ (b : Bool). b) (slice_get bs (port_number d.pins p)) false)
+      (are ∙ sym (ports-sides [] [] d.pins))
       ∙ sym (input-side (vital_ports [] d.pins) (port_number d.pins p))
       ∙ input_port [] d.pins p h
 
@@ -57,7 +59,8 @@ module _ (d : CellData) (m : VModule) (ports : port_inputs m ≡ cell_inputs d) 
   outputs-are rules =
       outputs-by-sides 0 m.ports
       ∙ ap (vital.outputs_from 0) are
-      ∙ sym (entity_output_ports [] d.pins ∙ outputs-sides 0 (vital_ports [] d.pins) ∙ ap (vital.outputs_from 0) (ports-sides [] [] d.pins))
+      ∙ sym (entity_output_ports [] d.pins ∙ outputs-sides 0 (vital_ports [] d.pins)
+      ∙ ap (vital.outputs_from 0) (ports-sides [] [] d.pins))
       ∙ ap (map (port_number d.pins)) (sym (outputs_are_pins d.pins d.groups d.outputs rules.of_outputs))
 
 -- Of two pins that pass a test, as many before one as before the other pass it only where they are one pin.

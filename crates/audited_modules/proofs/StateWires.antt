@@ -57,7 +57,8 @@ wire-driven m net.Notifier h = absurd cc
 -- what an instance with a state drives
 state-wire :
     (m : VModule) (before : List Instance) (x : Instance)
-    → IsInstance m before x → has_state m.udps x ≡ true → (w : ℕ) × (net_driven x ≡ net.Wire w) × IsTrue (is_driven m (net_driven x))
+    → IsInstance m before x → has_state m.udps x ≡ true
+    → (w : ℕ) × (net_driven x ≡ net.Wire w) × IsTrue (is_driven m (net_driven x))
 state-wire m before (instance.Constant output one) is h = absurd cc
 state-wire m before (instance.Primitive number output nets) is h =
     let sequential : (is.0).sequential ≡ true =
@@ -77,7 +78,8 @@ module _ (m : VModule) (sound : IsSound m) where
       let here : 0 + placed.0 ≡ placed.0 = omega arith in
       let driven : driver m.instances (net_driven x) ≡ Some placed.0 =
       position-from (λ y. same_net (net_driven y) (net_driven x)) m.instances
-      ∙ only-place (λ y. same_net (net_driven y) (net_driven x)) 0 m.instances placed.0 x (sound.driven (net_driven x) wire.2) placed.1 (itself (net_driven x))
+      ∙ only-place (λ y. same_net (net_driven y) (net_driven x)) 0 m.instances placed.0 x
+      (sound.driven (net_driven x) wire.2) placed.1 (itself (net_driven x))
       ∙ ap Some here in
       ap (source_value m v states) (ap (λ o. option_map_or net_driven o net.Notifier) at)
       ∙ ap (source_value m v states) wire.1

@@ -1,4 +1,4 @@
--- What a module shows that matches a cell, and which module does.
+-- What a module shows that matches a cell, which module does, and what the comparison tells of one that does not.
 use Rattle.std.specs.Prelude.{◌≡◌, ◌≢◌, List, [], Contains, IsTrue}
 use Rattle.cell_machine.specs.declared.changes.Change.{Change}
 use Rattle.cell_machine.specs.CellData.{CellData}
@@ -25,7 +25,7 @@ MatchingModulesFit =
     → IsTrue (is_cell d.name d.pins d.groups d.outputs d.checks d.arcs) → IsSound m → Matches d m → ModuleFits d m
 
 -- A sound module that the comparison finds the same as a cell has the cell's trace for every list of changes of inputs at rising
--- times, and so are the states of its primitives after each change.
+-- times, and the states of its primitives after each change are the cell's.
 abbrev pub AuditedModulesAgree : Type 0
 AuditedModulesAgree =
     (d : CellData) (m : VModule)
@@ -38,13 +38,13 @@ abbrev pub GeneratedModulesMatch : Type 0
 GeneratedModulesMatch =
     (d : CellData) → IsTrue (is_cell d.name d.pins d.groups d.outputs d.checks d.arcs) → Matches d (module_of d)
 
--- The comparison finds it the same.
+-- The comparison finds the module of such data the same.
 abbrev pub GeneratedModulesAreSame : Type 0
 GeneratedModulesAreSame =
     (d : CellData) → IsTrue (is_cell d.name d.pins d.groups d.outputs d.checks d.arcs) → verdict_of d (module_of d) ≡ Same
 
--- Arguments that the comparison answers are among all that are compared, where the module has the cell's shape, and the values that
--- the cell and the module give there are unlike.
+-- Where the comparison answers a difference, the module has the cell's shape, the difference is among all arguments that are compared,
+-- and the values of the cell and of the module that it tells are unlike.
 abbrev pub DifferencesAreUnlike : Type 0
 DifferencesAreUnlike =
     (d : CellData) (m : VModule) (c : Difference)

@@ -1,6 +1,7 @@
 //! Theorems on the definitions, for the proofs of other crates. The functions do nothing.
 
-ghost use Rattle.audited_modules.specs.Laws.{MatchingModulesFit, AuditedModulesAgree, GeneratedModulesMatch, GeneratedModulesAreSame, DifferencesAreUnlike};
+ghost use Rattle.audited_modules.specs.Laws.{MatchingModulesFit, AuditedModulesAgree, DifferencesAreUnlike};
+ghost use Rattle.audited_modules.specs.Laws.{GeneratedModulesMatch, GeneratedModulesAreSame};
 
 /// A sound module that matches a cell fits it.
 pub fn matching_modules_fit()
@@ -23,8 +24,8 @@ pub fn generated_modules_are_same()
     ensures { GeneratedModulesAreSame }
 {}
 
-/// Where the comparison answers a difference, the module has the cell's shape, and the cell and the module give unlike values for
-/// arguments that are compared, as the difference says.
+/// Where the comparison answers a difference, the module has the cell's shape, and the difference is one of the arguments that are
+/// compared, with what the cell and the module give there, which are unlike.
 pub fn differences_are_unlike()
     ensures { DifferencesAreUnlike }
 {}

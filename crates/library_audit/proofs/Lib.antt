@@ -1,0 +1,6 @@
+mod ListedValues
+pub mod WholeAudits
+mod Matching
+mod ReadFiles
+mod ModuleNames
+mod PrintedCells

@@ -1,0 +1,115 @@
+-- The two files of a comparison, one after the other.
+use Rattle.std.proofs.Common.{◌≡◌, ℕ, Bool, true, false, List, [], ◌∷◌, Result, Ok, Err, IfOk, Contains, refl, sym, ap, subst, ◌∙◌, arith}
+use Rattle.std.specs.Prelude.{All}
+use Rattle.std.proofs.lemmas.List.{append-nil}
+use Rattle.text_io.specs.declared.slots.InSlot.TheVariants.{Library, Verilog}
+use Rattle.text_io.specs.declared.slots.Slot.TheVariants.{Input}
+use Rattle.text_io.specs.declared.stop.Stop.{Stop}
+use Rattle.text_io.specs.declared.stop.Stop.TheVariants as stops
+use Rattle.text_io.specs.Plan.{plan}
+use Rattle.text_io.specs.Desk.{DeskState, Folder, StopsWithCause}
+use Rattle.library_items.specs.LibraryCells.{CellEntry}
+use Rattle.specify_blocks.specs.declared.model.VModule.{VModule}
+use Rattle.specify_blocks.specs.Sound.{IsSound}
+use Rattle.specify_blocks.specs.WellFormed.{IsWellFormedModule}
+use Rattle.section_runs.specs.Writes.{WritesTrace}
+use Rattle.command_outcomes.specs.declared.status.Status.{Status}
+use Rattle.command_outcomes.specs.declared.status.Status.TheVariants as status
+use Rattle.command_outcomes.specs.Status.{is_decided}
+use Rattle.command_outcomes.specs.Binding.{Files, bytes_at}
+use Rattle.command_outcomes.specs.Outcome.{Outcome}
+use Rattle.command_outcomes.specs.Runs.{RunsAs, StopsWithStatus}
+use Rattle.command_outcomes.specs.FileSteps.{FileIsTaken, FileEndsRun}
+use Rattle.command_outcomes.specs.FilesRead.{HasRead}
+use Rattle.command_outcomes.proofs.FileLaws.{words_before}
+use Rattle.command_outcomes.proofs.FilesReadLaws.{nothing_read, one_more, ends_there, stops_between, reports_all}
+use Rattle.command_outcomes.proofs.FailureLaws.{IsPlain, ends_by_call}
+use Rattle.library_file.specs.LibraryAnswer.{library_answer}
+use Rattle.model_files.specs.ModelAnswer.{model_answer}
+use Rattle.model_languages.specs.Verilog.{verilog}
+use Rattle.library_audit.specs.Audits.{audits_text, any_differs}
+use Rattle.library_audit.specs.Outcome.{audit_files, status_where, printed_status, audits_outcome, behind_cells, audit_of}
+
+-- the library alone
+abbrev one_file : Files
+one_file = (Input Library, 1) ∷ []
+
+-- what the run comes to behind the cells
+abbrev pub after_cells : List (List ℕ) → List CellEntry → Folder → Outcome
+after_cells words cells folder = behind_cells cells (bytes_at words folder 2)
+
+-- the library was read, and the run goes on behind its cells
+abbrev pub HasCells : DeskState → DeskState → List CellEntry → Type 0
+HasCells old now cells = HasRead audit_files one_file (audit_of old.words) (after_cells old.words cells) old now
+
+-- both files were read, and the run goes on behind the modules
+abbrev pub HasModules : DeskState → DeskState → List CellEntry → List VModule → Type 0
+HasModules old now cells modules = HasRead audit_files audit_files (audit_of old.words) (λ _. audits_outcome cells modules) old now
+
+-- the Verilog file is still among those that the words name
+pub verilog_planned : (old now : DeskState) (cells : List CellEntry) → HasCells old now cells → plan old.words ≡ audit_files → Contains (plan now.words) (Input Verilog, 2)
+verilog_planned old now cells r planned =
+    subst (λ words. Contains (plan words) (Input Verilog, 2)) (sym (words_before old now one_file r.bytes r.taken r.state))
+    (subst (λ files. Contains files (Input Verilog, 2)) (sym planned) (1, omega arith, refl))
+
+-- The files that are read.
+
+pub cells_read : (old now : DeskState) (cells : List CellEntry) → FileIsTaken library_answer old now Library 1 cells → HasCells old now cells
+cells_read old now cells t =
+    one_more audit_files [] (audit_of old.words) library_answer (after_cells old.words) old old now Library 1 1 cells
+    (nothing_read audit_files (audit_of old.words) old) refl ((Input Verilog, 2) ∷ [], refl) t
+
+pub modules_read : (old now new : DeskState) (cells : List CellEntry) (modules : List VModule) → HasCells old now cells
+    → FileIsTaken (model_answer verilog) now new Verilog 2 modules → HasModules old new cells modules
+modules_read old now new cells modules r t =
+    one_more audit_files one_file (audit_of old.words) (model_answer verilog) (λ found _. audits_outcome cells found) old now new Verilog 2 2 modules
+    r refl ([], refl) t
+
+pub modules_sound : (modules : List VModule) → All IsWellFormedModule modules → All IsSound modules
+modules_sound modules h = λ k d below. (h k d below).sound
+
+-- The file that ends the run.
+
+pub library_ends : (old new : DeskState) (result : Status) → FileEndsRun library_answer old new Library 1 result → RunsAs audit_files (audit_of old.words) old new result
+library_ends old new result f =
+    ends_there audit_files [] (audit_of old.words) library_answer (after_cells old.words) old old new Library 1 1 result
+    (nothing_read audit_files (audit_of old.words) old) refl ((Input Verilog, 2) ∷ [], refl) refl refl f
+
+pub verilog_ends : (old now new : DeskState) (cells : List CellEntry) (result : Status) → HasCells old now cells
+    → FileEndsRun (model_answer verilog) now new Verilog 2 result → RunsAs audit_files (audit_of old.words) old new result
+verilog_ends old now new cells result r f =
+    ends_there audit_files one_file (audit_of old.words) (model_answer verilog) (λ found _. audits_outcome cells found) old now new Verilog 2 2 result
+    r refl ([], refl) refl refl f
+
+-- want of memory behind the modules
+pub no_memory : (old now : DeskState) (cells : List CellEntry) (modules : List VModule) (result : Status) → HasModules old now cells modules → result ≡ status.Memory
+    → RunsAs audit_files (audit_of old.words) old now result
+no_memory old now cells modules result r is =
+    stops_between audit_files audit_files (audit_of old.words) (λ _. audits_outcome cells modules) old now result r (ap is_decided is)
+
+-- The lines are printed.
+
+pub printed_runs : (old now new : DeskState) (cells : List CellEntry) (modules : List VModule) (printed : Result Bool Stop) (result : Status) → HasModules old now cells modules
+    → WritesTrace now new (audits_text modules cells) printed → IfOk printed (λ differ. differ ≡ any_differs modules cells) → result ≡ printed_status printed
+    → RunsAs audit_files (audit_of old.words) old new result
+printed_runs old now new cells modules (Ok differ) result r w d is =
+    let text = audits_text modules cells in
+    let ends = status_where (any_differs modules cells) in
+    let same : result ≡ ends = is ∙ ap status_where d in
+    reports_all audit_files (audit_of old.words) old now new ends result text text r refl w.whole ([], append-nil text) (λ _. (same, refl))
+printed_runs old now new cells modules (Err stops.Failed) result r w d is =
+    let ends = status_where (any_differs modules cells) in
+    reports_all audit_files (audit_of old.words) old now new ends result w.part.part (audits_text modules cells) r refl w.part.state w.part.front (λ k. absurd (let h = rw is at k in cc))
+printed_runs old now new cells modules (Err stops.Memory) result r w d is =
+    let ends = status_where (any_differs modules cells) in
+    reports_all audit_files (audit_of old.words) old now new ends result w.part.part (audits_text modules cells) r refl w.part.state w.part.front (λ k. absurd (let h = rw is at k in cc))
+
+-- A run whose lines were printed so counts its faults as its status tells.
+
+printed_plain : (differ : Bool) → IsPlain (status_where differ)
+printed_plain true = record { no_failure = λ e. absurd cc; has_reading = λ e. absurd cc }
+printed_plain false = record { no_failure = λ e. absurd cc; has_reading = λ e. absurd cc }
+
+pub printed_stops : (before now after : ℕ) (printed : Result Bool Stop) (result : Status) → now ≡ before → StopsWithCause now after printed → result ≡ printed_status printed
+    → StopsWithStatus before after result
+printed_stops before now after printed result kept h is = ends_by_call status_where before now after printed result printed_plain kept h is

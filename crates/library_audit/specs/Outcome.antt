@@ -1,0 +1,49 @@
+-- What comparing a library with a Verilog file comes to: both files are read one after another, the first of them that ends the run
+-- decides, and behind them the line of each accepted cell is printed. This project's rule.
+use Rattle.std.specs.Prelude.{ℕ, Bool, List, [], ◌∷◌, Result, if◌then◌else◌}
+use Rattle.text_io.specs.declared.slots.InSlot.TheVariants.{Library, Verilog}
+use Rattle.text_io.specs.declared.slots.Slot.TheVariants.{Input}
+use Rattle.text_io.specs.declared.stop.Stop.{Stop}
+use Rattle.text_io.specs.Desk.{Folder}
+use Rattle.library_items.specs.LibraryCells.{CellEntry}
+use Rattle.specify_blocks.specs.declared.model.VModule.{VModule}
+use Rattle.command_outcomes.specs.declared.status.Status.{Status}
+use Rattle.command_outcomes.specs.declared.status.Status.TheVariants as status
+use Rattle.command_outcomes.specs.Status.{status_by}
+use Rattle.command_outcomes.specs.Written.{in_report}
+use Rattle.command_outcomes.specs.Binding.{Files, bytes_at}
+use Rattle.command_outcomes.specs.Outcome.{Outcome}
+use Rattle.command_outcomes.specs.FileSteps.{outcome_by}
+use Rattle.library_file.specs.LibraryAnswer.{library_answer}
+use Rattle.model_files.specs.ModelAnswer.{model_answer}
+use Rattle.model_languages.specs.Verilog.{verilog}
+use Rattle.library_audit.specs.Audits.{audits_text, any_differs}
+
+-- the files of `audit`: the library and the Verilog file
+abbrev pub audit_files : Files
+audit_files = (Input Library, 1) ∷ (Input Verilog, 2) ∷ []
+
+-- how a run ends whose lines were printed: by whether some cell has no module that is the same
+abbrev pub status_where : Bool → Status
+status_where some_differ = if some_differ then status.Differ else status.Done
+
+-- the status of a run whose lines were printed so
+abbrev pub printed_status : Result Bool Stop → Status
+printed_status printed = status_by status_where printed
+
+-- what the cells come to beside these modules; both files are bound then
+abbrev pub audits_outcome : List CellEntry → List VModule → Outcome
+audits_outcome cells modules =
+    record { status = status_where (any_differs modules cells); binds = 2; text = in_report (audits_text modules cells); faults = [] }
+
+-- behind the cells, by the Verilog file
+abbrev pub behind_cells : List CellEntry → List ℕ → Outcome
+behind_cells cells text = outcome_by 2 (model_answer verilog text) (λ modules. audits_outcome cells modules)
+
+-- What these bytes of a library and of a Verilog file come to. The Verilog file is bound only behind a library that is read.
+abbrev pub audit_outcome : List ℕ → List ℕ → Outcome
+audit_outcome library text = outcome_by 1 (library_answer library) (λ cells. behind_cells cells text)
+
+-- what the words of the command come to, with these files
+abbrev pub audit_of : List (List ℕ) → Folder → Outcome
+audit_of words folder = audit_outcome (bytes_at words folder 1) (bytes_at words folder 2)

@@ -1,0 +1,82 @@
+//! The lines of a library's cells, each beside its module.
+ghost use Rattle.std.specs.Prelude.{◌≡◌, IfOk};
+ghost use Rattle.text_io.specs.Desk.{StopsWithCause};
+ghost use Rattle.section_runs.specs.Writes.{WritesTrace};
+ghost use Rattle.cell_machine.specs.CellData.{data_of};
+ghost use Rattle.library_items.specs.LibraryCells.{described, all_described};
+ghost use Rattle.library_audit.specs.Lines.{audit_line};
+ghost use Rattle.library_audit.specs.Audits.{verdict_in, audit_text, audits_text, is_other as is_other_of, differs, any_differs};
+ghost use Rattle.library_audit.specs.Reads.{AreReady};
+
+use crate::files::AuditFiles;
+use crate::lines::write_audit;
+use crate::modules::NamedModules;
+use cell_machine::Cell;
+use library_items::LibraryCell;
+use std::alloc::Global;
+use table_audit::Verdict;
+use text_io::{Desk, Stop};
+
+/// Whether a cell has no module that is the same.
+fn is_other(found: &Option<Verdict>) -> bool
+    ensures { result ≡ is_other_of found.now }
+{
+    !matches!(found, Some(Verdict::Same))
+}
+
+/// Appends to the report the line of an accepted cell, and answers whether it has no module that is the same. After a fault a prefix of
+/// the line was appended.
+fn write_accepted<D: Desk>(
+    alloc: Global,
+    desk: &mut D,
+    named: &NamedModules,
+    cell: &Cell,
+) -> Result<bool, Stop>
+    requires { AreReady named.now }
+    ensures text { WritesTrace (D.state desk.old) (D.state desk.new) (audit_line cell.now.number cell.now.name (verdict_in named.now.modules (data_of cell.now))) result }
+    ensures other { IfOk result (λ other. other ≡ is_other_of (verdict_in named.now.modules (data_of cell.now))) }
+    ensures cause { StopsWithCause (D.faults desk.old) (D.faults desk.new) result }
+{
+    let found = named.verdict(alloc, cell)?;
+    write_audit(desk, cell.number, cell.name.as_slice(), &found)?;
+    Ok(is_other(&found))
+}
+
+/// Appends to the report the line of a cell, where it is accepted, and answers whether it then has no module that is the same. After a
+/// fault a prefix of the line was appended.
+fn write_cell<D: Desk>(
+    alloc: Global,
+    desk: &mut D,
+    named: &NamedModules,
+    cell: &LibraryCell,
+) -> Result<bool, Stop>
+    requires { AreReady named.now }
+    ensures text { WritesTrace (D.state desk.old) (D.state desk.new) (audit_text named.now.modules (described cell.now)) result }
+    ensures differs { IfOk result (λ other. other ≡ differs named.now.modules (described cell.now)) }
+    ensures cause { StopsWithCause (D.faults desk.old) (D.faults desk.new) result }
+{
+    match cell {
+        LibraryCell::Accepted { cell, .. } => write_accepted(alloc, desk, named, cell),
+        LibraryCell::Refused { .. } => Ok(false),
+    }
+}
+
+/// Appends to the report the lines of the accepted cells, in order, and answers whether some of them has no module that is the same.
+/// After a fault a prefix of the lines was appended. `Failed` comes only where a write failed.
+pub(crate) fn write_cells<D: Desk>(
+    alloc: Global,
+    desk: &mut D,
+    files: &AuditFiles,
+) -> Result<bool, Stop>
+    requires { AreReady files.now.named }
+    ensures text { WritesTrace (D.state desk.old) (D.state desk.new) (audits_text files.now.named.modules (all_described files.now.cells)) result }
+    ensures differs { IfOk result (λ some_differ. some_differ ≡ any_differs files.now.named.modules (all_described files.now.cells)) }
+    ensures cause { StopsWithCause (D.faults desk.old) (D.faults desk.new) result }
+{
+    let mut some_differ = false;
+    for cell in files.cells.as_slice() {
+        let cell_differs = write_cell(alloc, desk, &files.named, cell)?;
+        some_differ = some_differ || cell_differs;
+    }
+    Ok(some_differ)
+}

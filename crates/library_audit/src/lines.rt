@@ -1,0 +1,115 @@
+//! The line of a cell that is compared with its module.
+ghost use Rattle.text_io.specs.declared.slots.OutSlot.TheVariants.{Report};
+ghost use Rattle.text_io.specs.Desk.{HasCause, WritesText};
+ghost use Rattle.library_audit.specs.Lines.{shape_text, values_text, arguments_text, difference_text, verdict_text, audit_line};
+
+use crate::words::{Known, Place, ShapeWord, TableWord, Value, Values};
+use table_audit::{Difference, ShapePart, Verdict};
+use text_io::{Desk, Failed, Line, OutSlot};
+use text_parts::{Bytes, Decimal, Part, Put, parts, write_part};
+use trit_cubes::Trit;
+
+/// Another shape: the first part that has one, and its number.
+#[derive(Drop)]
+struct OtherShape(ShapePart, usize);
+
+impl Part for OtherShape {
+    ghost text = { λ s. shape_text s.0 s.1 };
+
+    #[tactic(auto, unfolding(crate::specs::Lines::shape_text))]
+    fn put<D: Desk>(&self, line: &mut Line, desk: &mut D, slot: OutSlot) -> Put {
+        let number = parts!(Bytes(b" "), Decimal(self.1 as u128), Bytes(b"\n"));
+        parts!(Bytes(b" shape "), ShapeWord(self.0), number).put(line, desk, slot)
+    }
+}
+
+/// The values of a cell and of its module.
+#[derive(Drop)]
+struct BothValues(Trit, Trit);
+
+impl Part for BothValues {
+    ghost text = { λ v. values_text v.0 v.1 };
+
+    #[tactic(auto, unfolding(crate::specs::Lines::values_text))]
+    fn put<D: Desk>(&self, line: &mut Line, desk: &mut D, slot: OutSlot) -> Put {
+        let model = parts!(Bytes(b" model "), Value(self.1), Bytes(b"\n"));
+        parts!(Bytes(b" cell "), Value(self.0), model).put(line, desk, slot)
+    }
+}
+
+/// Where a table has another value than the cell.
+#[derive(Drop)]
+struct Arguments<'a>(&'a Difference);
+
+impl Part for Arguments<'_> {
+    ghost text = { λ a. arguments_text a.0.now };
+
+    #[tactic(auto, unfolding(crate::specs::Lines::arguments_text))]
+    fn put<D: Desk>(&self, line: &mut Line, desk: &mut D, slot: OutSlot) -> Put {
+        let stored = parts!(
+            Bytes(b" state "),
+            Known(self.0.state),
+            Bytes(b" notifier "),
+            Known(self.0.notifier)
+        );
+        let places = parts!(Bytes(b" new"), Values(self.0.places), stored);
+        let old = parts!(Bytes(b" old "), Known(self.0.old), places);
+        parts!(Bytes(b" place "), Place(self.0.changed), old).put(line, desk, slot)
+    }
+}
+
+/// A table with another value than the cell.
+#[derive(Drop)]
+struct OtherTable<'a>(&'a Difference);
+
+impl Part for OtherTable<'_> {
+    ghost text = { λ t. difference_text t.0.now };
+
+    #[tactic(auto, unfolding(crate::specs::Lines::difference_text))]
+    fn put<D: Desk>(&self, line: &mut Line, desk: &mut D, slot: OutSlot) -> Put {
+        let values = BothValues(self.0.of_cell, self.0.of_model);
+        let number = parts!(
+            Bytes(b" "),
+            Decimal(self.0.number as u128),
+            Arguments(self.0),
+            values
+        );
+        parts!(Bytes(b" differs "), TableWord(self.0.part), number).put(line, desk, slot)
+    }
+}
+
+/// What is said of a cell, where a module has its name.
+#[derive(Drop)]
+struct Found<'a>(&'a Option<Verdict>);
+
+impl Part for Found<'_> {
+    ghost text = { λ f. verdict_text f.0.now };
+
+    fn put<D: Desk>(&self, line: &mut Line, desk: &mut D, slot: OutSlot) -> Put {
+        let Some(verdict) = self.0 else {
+            return Bytes(b" absent\n").put(line, desk, slot);
+        };
+        match verdict {
+            Verdict::Same => Bytes(b" same\n").put(line, desk, slot),
+            Verdict::Shape { part, number } => OtherShape(*part, *number).put(line, desk, slot),
+            Verdict::Differs(difference) => OtherTable(difference).put(line, desk, slot),
+        }
+    }
+}
+
+/// Reports what comparing a cell with its module came to: the cell's number, from 1 among all cells of the library, its name, and the
+/// verdict, or that no module has its name. After `Failed`, which comes only where a write failed, a prefix of the line was appended.
+#[tactic(auto, unfolding(crate::specs::Lines::audit_line))]
+pub(crate) fn write_audit<D: Desk>(
+    desk: &mut D,
+    number: usize,
+    name: &[u8],
+    found: &Option<Verdict>,
+) -> Result<(), Failed>
+    ensures text { WritesText (D.state desk.old) (D.state desk.new) Report (audit_line number name.now found.now) result }
+    ensures cause { HasCause (D.faults desk.old) (D.faults desk.new) result }
+{
+    let verdict = parts!(Bytes(b" "), Bytes(name), Found(found));
+    let line = parts!(Bytes(b"audit "), Decimal(number as u128), verdict);
+    write_part(desk, OutSlot::Report, &line)
+}

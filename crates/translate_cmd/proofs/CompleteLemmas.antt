@@ -3,7 +3,7 @@ use Rattle.std.proofs.Common.{◌≡◌, ◌≤◌, ℕ, Bool, true, false, List
 use Rattle.std.proofs.lemmas.List.{take_all}
 use Rattle.std.proofs.lemmas.Bool.Decides.{nat_tests}
 use Rattle.text_io.specs.declared.file_commands.FileCommand.{FileCommand}
-use Rattle.text_io.specs.declared.file_commands.FileCommand.TheVariants.{Translate, Simulate, ReplayVerilog, ReplayVital}
+use Rattle.text_io.specs.declared.file_commands.FileCommand.TheVariants.{Translate, Simulate, ReplayVerilog, ReplayVital, Audit}
 use Rattle.text_io.specs.declared.slots.OutSlot.TheVariants.{Faults}
 use Rattle.text_io.specs.Desk.{DeskState, Folder, wrote}
 use Rattle.text_io.specs.Plan.{planned_files}
@@ -25,7 +25,7 @@ use Rattle.library_items.specs.Endings.{library_limit, ending_of}
 use Rattle.library_translation.specs.Library.{outcome_at}
 use Rattle.translate_cmd.specs.Outcome.{files_of, file_outcome, outcome_of, outcome}
 use Rattle.translate_cmd.specs.Runs.{Runs}
-use Rattle.translate_cmd.specs.Complete.{IsWholeLibrary, CanBeSimulated, FilesCanBeDone, CanBeDone, IsAllDone, Completes}
+use Rattle.translate_cmd.specs.Complete.{IsWholeLibrary, CanBeSimulated, CanBeAudited, FilesCanBeDone, CanBeDone, IsAllDone, Completes}
 use Rattle.library_items.specs.KeptCells.{kept_cells, cells_by}
 use Rattle.library_items.specs.Progress.{no_progress}
 use Rattle.simulation_catalog.specs.Catalog.{cells_named}
@@ -35,6 +35,9 @@ use Rattle.library_file.specs.LibraryAnswer.{answer_by}
 use Rattle.model_simulation.specs.Simulate.{simulate_files, simulate_outcome}
 use Rattle.model_files.proofs.WholeAnswers.{model_whole, stimulus_whole}
 use Rattle.model_simulation.proofs.WholeSimulations.{simulated_whole}
+use Rattle.library_audit.specs.Audits as audits
+use Rattle.library_audit.specs.Outcome.{audit_files, audit_outcome, audits_outcome}
+use Rattle.library_audit.proofs.WholeAudits.{audited_whole}
 use Rattle.simulation_catalog.specs.FaultLines.{cause_stop}
 use Rattle.model_files.specs.Languages.{Language}
 use Rattle.model_replay.specs.Outcome.{replay_files, replay_outcome}
@@ -114,6 +117,19 @@ simulation_is_good library text vhdl stimulus can =
     subst (IsGoodOf simulate_files) (sym (simulation_comes_to library text vhdl stimulus can))
     (record { good = record { status = differ_or_done (any_differs cells can.modules can.entities can.sections) _ refl; faults = refl }; binds = refl })
 
+-- what comparing a library with a Verilog file that is not refused comes to
+pub audit_comes_to : (library text : List ℕ) (can : CanBeAudited library text)
+    → audit_outcome library text ≡ audits_outcome (kept_cells no_progress (items_within library_limit library)) can.modules
+audit_comes_to library text can =
+    let cells = kept_cells no_progress (items_within library_limit library) in
+    audited_whole library text cells can.modules (ap (λ end. answer_by (cells_by end cells)) (ends_whole library can.whole)) (model_whole verilog text can.modules can.text_within can.verilog)
+
+audit_is_good : (library text : List ℕ) → CanBeAudited library text → IsGoodOf audit_files (audit_outcome library text)
+audit_is_good library text can =
+    let cells = kept_cells no_progress (items_within library_limit library) in
+    subst (IsGoodOf audit_files) (sym (audit_comes_to library text can))
+    (record { good = record { status = differ_or_done (audits.any_differs can.modules cells) _ refl; faults = refl }; binds = refl })
+
 files_are_good : (asked : FileCommand) (words : List (List ℕ)) (folder : Folder) → FilesCanBeDone asked words folder → IsGoodOf (planned_files (Some asked)) (file_outcome asked words folder)
 unfolding outcome_at
 files_are_good Translate words folder can =
@@ -122,6 +138,7 @@ files_are_good Translate words folder can =
 files_are_good Simulate words folder can = simulation_is_good (bytes_at words folder 1) (bytes_at words folder 2) (bytes_at words folder 3) (bytes_at words folder 4) can
 files_are_good ReplayVerilog words folder can = replay_is_good verilog (bytes_at words folder 1) (bytes_at words folder 2) can
 files_are_good ReplayVital words folder can = replay_is_good vital (bytes_at words folder 1) (bytes_at words folder 2) can
+files_are_good Audit words folder can = audit_is_good (bytes_at words folder 1) (bytes_at words folder 2) can
 
 can_is_good : (asked : Command) (words : List (List ℕ)) (folder : Folder) → CanBeDone asked words folder → IsGoodOf (files_of asked) (outcome_of asked words folder)
 can_is_good (command.Udp udp) words folder can = record { good = record { status = inl refl; faults = refl }; binds = refl }

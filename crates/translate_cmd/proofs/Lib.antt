@@ -11,3 +11,4 @@ pub mod KeptModels
 pub mod Agreement
 pub mod OwnEnds
 pub mod AgreementRuns
+pub mod AuditRuns

@@ -3,7 +3,7 @@ use Rattle.std.specs.Prelude.{◌≡◌, ◌≤◌, ◌⊎◌, ℕ, List, length
 use Rattle.liberty_groups.specs.declared.read.End.TheVariants.{Whole}
 use Rattle.liberty_groups.specs.Answer.{end_of_bytes}
 use Rattle.text_io.specs.declared.file_commands.FileCommand.{FileCommand}
-use Rattle.text_io.specs.declared.file_commands.FileCommand.TheVariants.{Translate, Simulate, ReplayVerilog, ReplayVital}
+use Rattle.text_io.specs.declared.file_commands.FileCommand.TheVariants.{Translate, Simulate, ReplayVerilog, ReplayVital, Audit}
 use Rattle.text_io.specs.declared.slots.InSlot.{InSlot}
 use Rattle.text_io.specs.Desk.{DeskState, Folder}
 use Rattle.command_outcomes.specs.declared.status.Status.{Status}
@@ -50,13 +50,22 @@ pub record CanBeSimulated (library text vhdl stimulus : List ℕ) : Type 0 where
   pub sections : List Section
   pub lines : stimulus_of (listed (cells_named (kept_cells no_progress (items_within library_limit library)) modules entities)) stimulus ≡ Ok sections
 
+-- a whole library and a Verilog file that is not refused, each within its limit
+pub record CanBeAudited (library text : List ℕ) : Type 0 where
+  pub whole : IsWholeLibrary library
+  pub text_within : length text ≤ model_limit
+  pub modules : List VModule
+  pub verilog : verilog_text text ≡ Ok modules
+
 -- A command of files can be done with these words and files: a whole library be translated, its cells be simulated beside the models
--- of files that are not refused, under a stimulus that is not, and a Verilog or VHDL file be replayed so.
+-- of files that are not refused, under a stimulus that is not, a Verilog or VHDL file be replayed so, and the cells be compared with the
+-- modules of a Verilog file that is not refused.
 abbrev pub FilesCanBeDone : FileCommand → List (List ℕ) → Folder → Type 0
 FilesCanBeDone Translate words folder = IsWholeLibrary (bytes_at words folder 1)
 FilesCanBeDone Simulate words folder = CanBeSimulated (bytes_at words folder 1) (bytes_at words folder 2) (bytes_at words folder 3) (bytes_at words folder 4)
 FilesCanBeDone ReplayVerilog words folder = CanBeReplayed verilog (bytes_at words folder 1) (bytes_at words folder 2)
 FilesCanBeDone ReplayVital words folder = CanBeReplayed vital (bytes_at words folder 1) (bytes_at words folder 2)
+FilesCanBeDone Audit words folder = CanBeAudited (bytes_at words folder 1) (bytes_at words folder 2)
 
 -- The command can be done: a primitive can always be printed, and a run on test cells be made. Words without a reading ask for nothing.
 abbrev pub CanBeDone : Command → List (List ℕ) → Folder → Type 0
@@ -66,7 +75,7 @@ CanBeDone (command.Selftest cells) words folder = Unit {0}
 CanBeDone command.Usage words folder = ⊥
 
 -- All was done: the files of the command were bound, all that the outcome appends was appended, and nothing was told as a
--- fault. Cells of a library may have been refused, and traces that are compared may differ.
+-- fault. Cells of a library may have been refused, and traces or tables that are compared may differ.
 pub record IsAllDone (old new : DeskState) (folder : Folder) (result : Status) : Type 0 where
   pub good : (result ≡ status.Done) ⊎ ((result ≡ status.Cells) ⊎ (result ≡ status.Differ))
   pub same_status : result ≡ (outcome old.words folder).status

@@ -6,3 +6,4 @@ pub mod TranslatedModels
 pub mod TranslatedLaws
 pub mod Agreement
 pub mod AgreementRuns
+pub mod AuditRuns

@@ -1,7 +1,7 @@
 -- What a run of a command comes to: its status, and the bytes of its outputs. This project's rule.
 use Rattle.std.specs.Prelude.{List, [], ℕ, Some, codes}
 use Rattle.text_io.specs.declared.file_commands.FileCommand.{FileCommand}
-use Rattle.text_io.specs.declared.file_commands.FileCommand.TheVariants.{Translate, Simulate, ReplayVerilog, ReplayVital}
+use Rattle.text_io.specs.declared.file_commands.FileCommand.TheVariants.{Translate, Simulate, ReplayVerilog, ReplayVital, Audit}
 use Rattle.text_io.specs.Desk.{Folder}
 use Rattle.text_io.specs.Plan.{planned_files}
 use Rattle.verilog_writer.specs.Primitive.{primitive_text}
@@ -19,6 +19,7 @@ use Rattle.command_words.specs.declared.commands.Command.TheVariants as command
 use Rattle.command_words.specs.Reading.{reading}
 use Rattle.library_translation.specs.Runs.{translate_of}
 use Rattle.model_simulation.specs.Simulate.{simulate_of}
+use Rattle.library_audit.specs.Outcome.{audit_of}
 
 -- the files that a command names
 abbrev pub files_of : Command → Files
@@ -33,6 +34,7 @@ file_outcome Translate words folder = translate_of words folder
 file_outcome Simulate words folder = simulate_of words folder
 file_outcome ReplayVerilog words folder = replay_of verilog words folder
 file_outcome ReplayVital words folder = replay_of vital words folder
+file_outcome Audit words folder = audit_of words folder
 
 -- what a run on so many test cells comes to: its report on what is counted of them
 abbrev pub selftest_outcome : ℕ → Outcome

@@ -11,10 +11,12 @@ ghost use Rattle.translate_cmd.specs.Runs.{Runs};
 ghost use Rattle.translate_cmd.specs.Complete.{Completes};
 ghost use Rattle.translate_cmd.specs.Selftests.{SelftestsEnd};
 ghost use Rattle.translate_cmd.specs.AgreementRuns.{OwnModelsEndInAgreement};
+ghost use Rattle.translate_cmd.specs.AuditRuns.{DoneWhereAllMatch};
 
 use crate::commands::{selftest, work_on_files};
 use command_outcomes::{Status, ended};
 use command_words::{Command, Memory, asked};
+use library_audit::done_is_match;
 use std::alloc::Global;
 use text_io::{Desk, GatedDesk, OutSlot, SureDesk, write_whole};
 use verilog_writer::write_udp;
@@ -25,8 +27,10 @@ const USAGE: &[u8] = b"lib2sim: usage\n";
 /// Runs the command that the desk's words ask for: `udp` prints a primitive, `translate` writes the Verilog and VHDL models
 /// of a library's cells and a report of them, `simulate` prints the traces of a library's cells, of their modules in a Verilog
 /// file and of their entities in a VHDL file under a stimulus and whether they are equal, `replay-verilog` prints the traces of a
-/// Verilog file's modules under a stimulus, `replay-vital` those of a VHDL file's entities, `selftest` makes test cells, runs them
-/// beside their models and damaged models, and reports what it counted, and words without a reading are `Usage`.
+/// Verilog file's modules under a stimulus, `replay-vital` those of a VHDL file's entities, `audit` prints for each accepted cell of a
+/// library whether the module of its name in a Verilog file has the cell's parts and, at all arguments of its tables, the cell's values,
+/// `selftest` makes test cells, runs them beside their models and damaged models, and reports what it counted, and words without a reading
+/// are `Usage`.
 ///
 /// It ends with the status of the outcome of the words and the desk's files, and all that the outcome appends was appended,
 /// or with one of two others: `Outside`, only where a call on the desk failed in this call, and `Memory`, where there was
@@ -43,12 +47,16 @@ const USAGE: &[u8] = b"lib2sim: usage\n";
 /// bytes, its cells refused or not, to `Done`, `Cells` or `Memory`, and a Verilog or VHDL file of at most as many bytes and a
 /// stimulus of at most 16,777,216, neither refused, to `Done` or `Memory`. A whole library, a Verilog file and a VHDL file that
 /// are not refused, and a stimulus without a bad line, each within its limit, are simulated to `Done`, where all traces are equal,
-/// to `Differ`, where some are not, or to `Memory`. Cells that are refused count there only where the stimulus names them.
+/// to `Differ`, where some are not, or to `Memory`. Cells that are refused count there only where the stimulus names them. A whole library
+/// and a Verilog file that is not refused, each within its limit, are compared to `Done`, `Differ` or `Memory`.
 ///
 /// Where `simulate` names a library and, as its Verilog and VHDL files, the texts that `translate` writes for this library, it ends
 /// neither with `Model` nor with `Differ`, whatever the library and the stimulus are. Where the library is whole, no line of the
 /// stimulus is bad, no file is over its limit and no call failed, it ends with `Done` or `Memory`. With `Done` the report is the
 /// sections of the stimulus, each of which says that the traces of the cell, of its module and of its entity are equal.
+///
+/// Where no call failed and memory was found, `audit` ends with `Done` exactly where both files are read and each accepted cell of the
+/// library has a module with its name that matches it: its parts are the cell's, and its tables give the cell's values for all arguments.
 ///
 /// Nothing is bound but what the words name. Of a command that reads files all this is said where the desk tells its folder
 /// and what is left of its files.
@@ -60,8 +68,10 @@ pub fn run<D: Desk>(alloc: Global, desk: &mut D) -> Status
     ensures kept { IsTrue (is_unfailed result) → D.faults desk.new ≡ D.faults desk.old }
     ensures complete { (Rose (D.faults desk.old) (D.faults desk.new) → ⊥) → Completes (D.state desk.old) (D.state desk.new) result }
     ensures agree { OwnModelsEndInAgreement (D.state desk.old) (D.state desk.new) result }
+    ensures audit { DoneWhereAllMatch (D.state desk.old) result }
     ensures selftest { SelftestsEnd (D.state desk.old) result }
 {
+    done_is_match();
     carry_out(alloc, desk)
 }
 
@@ -89,6 +99,7 @@ pub fn run_sure(alloc: Global, desk: &mut SureDesk) -> Status
     ensures usage { IsTrue (is_decided result) → (result ≡ Status.Usage ↔ reading (sure_state desk.old).words ≡ command.Usage) }
     ensures complete { Completes (sure_state desk.old) (sure_state desk.new) result }
     ensures agree { OwnModelsEndInAgreement (sure_state desk.old) (sure_state desk.new) result }
+    ensures audit { DoneWhereAllMatch (sure_state desk.old) result }
     ensures selftest { SelftestsEnd (sure_state desk.old) result }
 {
     run(alloc, desk)

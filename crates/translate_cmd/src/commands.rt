@@ -6,6 +6,7 @@ ghost use Rattle.command_words.specs.Reading.{reading};
 ghost use Rattle.translate_cmd.specs.Runs.{Runs};
 
 use command_outcomes::{Status, ended};
+use library_audit::audit_library;
 use library_translation::translate_library;
 use model_languages::{Verilog, Vital};
 use model_replay::replay_models;
@@ -16,8 +17,9 @@ use text_io::{Desk, FileCommand};
 
 /// Carries out a command on the files that the words name: writes the Verilog and VHDL models of the cells of a library, and its report;
 /// prints the traces of the cells of a library, of their modules and of their entities, section by section of a stimulus, and whether the
-/// three of each section are equal; or prints the traces of the models of a file, section by section of a stimulus. No trace is printed
-/// before all files are read.
+/// three of each section are equal; prints the traces of the models of a file, section by section of a stimulus; or prints of each accepted
+/// cell of a library whether its module in a Verilog file is there and is the same. No trace is printed, and no such line, before all files
+/// are read.
 pub(crate) fn work_on_files<D: Desk>(alloc: Global, desk: &mut D, asked: FileCommand) -> Status
     requires { reading (D.state desk.old).words ≡ command.Files asked }
     ensures writes { Runs (D.state desk.old) (D.state desk.new) result }
@@ -28,6 +30,7 @@ pub(crate) fn work_on_files<D: Desk>(alloc: Global, desk: &mut D, asked: FileCom
         FileCommand::Simulate => simulate_library(alloc, desk),
         FileCommand::ReplayVerilog => replay_models::<D, Verilog>(alloc, desk),
         FileCommand::ReplayVital => replay_models::<D, Vital>(alloc, desk),
+        FileCommand::Audit => audit_library(alloc, desk),
     }
 }
 

@@ -24,3 +24,9 @@ returns-in-ReplayVerilog-clause-writes g c = files_run _ _ _ _ _ (λ same. cc) c
 
 pub returns-in-ReplayVital-clause-writes : goal.returns-in-ReplayVital-clause-writes
 returns-in-ReplayVital-clause-writes g c = files_run _ _ _ _ _ (λ same. cc) c.requires c.in-ReplayVital.is c.replay_models-in-ReplayVital.ensures.writes
+
+pub audit_library-requires : goal.audit_library-requires
+audit_library-requires g c = named_files (g.D.Desk.state c.args.desk.now).words _ _ c.requires c.in-Audit.is
+
+pub returns-in-Audit-clause-writes : goal.returns-in-Audit-clause-writes
+returns-in-Audit-clause-writes g c = files_run _ _ _ _ _ (λ same. cc) c.requires c.in-Audit.is c.audit_library.ensures.writes

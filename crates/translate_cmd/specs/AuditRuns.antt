@@ -1,0 +1,19 @@
+-- How a comparison of a library with a Verilog file ends. This project's promise.
+use Rattle.std.specs.Prelude.{◌≡◌, ◌↔◌, IsTrue}
+use Rattle.text_io.specs.declared.file_commands.FileCommand.TheVariants.{Audit}
+use Rattle.text_io.specs.Desk.{DeskState, Folder}
+use Rattle.command_outcomes.specs.declared.status.Status.{Status}
+use Rattle.command_outcomes.specs.declared.status.Status.TheVariants.{Done}
+use Rattle.command_outcomes.specs.Status.{is_decided}
+use Rattle.command_outcomes.specs.Binding.{Tells, bytes_at}
+use Rattle.command_words.specs.declared.commands.Command.TheVariants as command
+use Rattle.command_words.specs.Reading.{reading}
+use Rattle.library_audit.specs.Outcome.{audit_files}
+use Rattle.library_audit.specs.Laws.{AllMatch}
+
+-- Where the words ask for one, the desk tells the files, no call failed and memory was found, the run is done exactly where both files
+-- are read and each accepted cell of the library has a module that matches it.
+abbrev pub DoneWhereAllMatch : DeskState → Status → Type 0
+DoneWhereAllMatch old result =
+    reading old.words ≡ command.Files Audit → (folder : Folder) → Tells audit_files old folder → IsTrue (is_decided result)
+    → (result ≡ Done) ↔ AllMatch (bytes_at old.words folder 1) (bytes_at old.words folder 2)

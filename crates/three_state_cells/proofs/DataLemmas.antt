@@ -1,0 +1,139 @@
+-- What is read of a cell, as data.
+use Rattle.std.proofs.Common.{◌≡◌, ℕ, List, [], ◌∷◌, ◌==◌, ◌∙◌, length, true, false, map, refl, sym, ap, arith}
+use Rattle.std.proofs.lemmas.Bool.{eqb-true}
+use Rattle.std.specs.Prelude.{Option}
+use Rattle.liberty_text.specs.declared.time.Unit.{Unit}
+use Rattle.liberty_groups.specs.declared.tree.Group.{Group}
+use Rattle.cell_machine.specs.declared.cells.Cell.{Cell}
+use Rattle.cell_machine.specs.declared.pins.Pin.{Pin}
+use Rattle.cell_machine.specs.CellData.{CellData, data_of}
+use Rattle.cell_parts.specs.Groups.{cell_name, pin_groups}
+use Rattle.cell_parts.specs.Pins.{pins_of}
+use Rattle.cell_reader.specs.declared.left_out.LeftOut.{LeftOut}
+use Rattle.cell_reader.specs.declared.read.ReadCell.{ReadCell}
+use Rattle.cell_reader.specs.CellTexts.{subject_of, IsCellOf}
+use Rattle.cell_reader.specs.Refusals.{left_out_of, refusal_of}
+use Rattle.three_state_cells.specs.declared.driven_cell.DrivenCell.{DrivenCell}
+use Rattle.three_state_cells.specs.declared.drivers.Drivers.{Drivers}
+use Rattle.three_state_cells.specs.declared.outputs.CellPins.{CellPins}
+use Rattle.three_state_cells.specs.declared.outputs.ThreeStateOutput.{ThreeStateOutput as HeldOutput}
+use Rattle.three_state_cells.specs.Outputs.{ThreeStateOutput, shown, three_state_outputs, ArePins}
+use Rattle.three_state_cells.specs.Refusals.{floating_refusal, refusal_by, driven_refusal}
+use Rattle.three_state_cells.specs.CoreGroups.{core_group}
+use Rattle.three_state_cells.specs.Timing.{driven_of, paths_from, all_left_out, in_pin_order}
+use Rattle.three_state_cells.specs.DrivenCells.{driven_data_of, cell_data, core_name, floating_of, plain_of, data_by, driven_data}
+
+-- a cell that a group describes, as data
+pub data_as :
+    (unit : Option Unit) (number : ℕ) (group : Group) (cell : Cell)
+    → IsCellOf (subject_of unit group) number group cell → data_of cell ≡ cell_data unit (cell_name group) number group
+data_as unit number group cell h = λ i. record {
+  name = h.same_name i;
+  number = h.same_number i;
+  pins = h.same_pins i;
+  groups = h.same_groups i;
+  outputs = h.same_outputs i;
+  checks = h.same_checks i;
+  arcs = h.same_arcs i;
+}
+
+-- the parts of a cell whose outputs float
+pub record IsFloating (read : ReadCell) (drivers : Drivers) (number : ℕ) (cell : DrivenCell) : Type 0 where
+  pub core : data_of cell.core ≡ record (data_of read.cell) { name = core_name number }
+  pub name : cell.name ≡ read.cell.name
+  pub driven : cell.driven ≡ drivers.driven
+  pub paths : cell.paths ≡ drivers.paths
+  pub left_out : cell.left_out ≡ in_pin_order 0 read.cell.pins read.left_out drivers.left_out
+
+pub record AreDrivers (unit : Option Unit) (core : Group) (outputs : List ThreeStateOutput) (drivers : Drivers) : Type 0 where
+  pub driven : drivers.driven ≡ driven_of (pins_of core) outputs
+  pub paths : drivers.paths ≡ paths_from (subject_of unit core) 0 outputs
+  pub left_out : drivers.left_out ≡ all_left_out (subject_of unit core) outputs
+
+lines_are :
+    (unit : Option Unit) (core : Group) (outputs : List ThreeStateOutput) (read : ReadCell) (lines : List LeftOut)
+    → read.cell.pins ≡ pins_of core → read.left_out ≡ left_out_of (subject_of unit core) core → lines ≡ all_left_out (subject_of unit core) outputs
+    → in_pin_order 0 read.cell.pins read.left_out lines
+    ≡ in_pin_order 0 (pins_of core) (left_out_of (subject_of unit core) core) (all_left_out (subject_of unit core) outputs)
+lines_are unit core outputs read lines p l e =
+    ap (λ (pins : List Pin). in_pin_order 0 pins read.left_out lines) p
+    ∙ (ap (λ (one : List LeftOut). in_pin_order 0 (pins_of core) one lines) l
+    ∙ ap (in_pin_order 0 (pins_of core) (left_out_of (subject_of unit core) core)) e)
+
+pub floating_as :
+    (unit : Option Unit) (number : ℕ) (core : Group) (outputs : List ThreeStateOutput) (read : ReadCell) (drivers : Drivers) (cell : DrivenCell)
+    → IsCellOf (subject_of unit core) number core read.cell → read.left_out ≡ left_out_of (subject_of unit core) core
+    → AreDrivers unit core outputs drivers → IsFloating read drivers number cell → driven_data_of cell ≡ floating_of unit number core outputs
+floating_as unit number core outputs read drivers cell h l d f =
+    let renamed : data_of cell.core ≡ cell_data unit (core_name number) number core =
+    f.core ∙ ap (λ (cell_of : CellData). record cell_of { name = core_name number }) (data_as unit number core read.cell h) in
+    let lines = lines_are unit core outputs read drivers.left_out h.same_pins l d.left_out in
+    λ i. record {
+      core = renamed i;
+      name = (f.name ∙ h.same_name) i;
+      driven = (f.driven ∙ d.driven) i;
+      paths = (f.paths ∙ d.paths) i;
+      left_out = (f.left_out ∙ lines) i;
+    }
+
+-- A cell without three-state outputs, and one with some.
+
+pub empty_is : {A : Type 0} (xs : List A) → (length xs == 0) ≡ true → xs ≡ []
+empty_is [] h = refl
+empty_is (x ∷ xs) h = let none : length (x ∷ xs) ≡ 0 = eqb-true (length (x ∷ xs)) 0 h in absurd (omega arith)
+
+pub some_are : {A : Type 0} (xs : List A) → (length xs == 0) ≡ false → xs ≡ [] → ⊥
+some_are [] h e = absurd cc
+some_are (x ∷ xs) h e = absurd cc
+
+pub no_outputs : (cell : Group) (pins : CellPins) → ArePins cell pins → pins.outputs.items ≡ [] → three_state_outputs cell ≡ []
+no_outputs cell pins h e = sym h.of_outputs ∙ ap (map shown) e
+
+pub plain_as :
+    (unit : Option Unit) (number : ℕ) (cell : Group) (read : ReadCell) (driven : DrivenCell)
+    → three_state_outputs cell ≡ [] → IsCellOf (subject_of unit cell) number cell read.cell → read.left_out ≡ left_out_of (subject_of unit cell) cell
+    → driven_data_of driven ≡ plain_of (data_of read.cell) read.left_out → driven_data_of driven ≡ driven_data unit number cell
+plain_as unit number cell read driven none h l e =
+    e
+    ∙ (ap (λ (core : CellData). plain_of core read.left_out) (data_as unit number cell read.cell h)
+    ∙ (ap (plain_of (cell_data unit (cell_name cell) number cell)) l
+    ∙ ap (data_by unit number cell) (sym none)))
+
+pub plain_refusal :
+    (unit : Option Unit) (earlier : List (List ℕ)) (cell : Group) → three_state_outputs cell ≡ []
+    → refusal_of (subject_of unit cell) earlier cell ≡ driven_refusal unit earlier cell
+plain_refusal unit earlier cell none = ap (refusal_by unit earlier cell) (sym none)
+
+some_data :
+    (unit : Option Unit) (number : ℕ) (cell : Group) (outputs : List ThreeStateOutput)
+    → (outputs ≡ [] → ⊥) → floating_of unit number (core_group cell) outputs ≡ data_by unit number cell outputs
+some_data unit number cell [] h = absurd (h refl)
+some_data unit number cell (output ∷ outputs) h = refl
+
+some_refusal :
+    (unit : Option Unit) (earlier : List (List ℕ)) (cell : Group) (outputs : List ThreeStateOutput)
+    → (outputs ≡ [] → ⊥) → floating_refusal unit earlier (core_group cell) (pin_groups cell) ≡ refusal_by unit earlier cell outputs
+some_refusal unit earlier cell [] h = absurd (h refl)
+some_refusal unit earlier cell (output ∷ outputs) h = refl
+
+none_shown : (outputs : List HeldOutput) → map shown outputs ≡ [] → outputs ≡ []
+none_shown [] h = refl
+none_shown (output ∷ outputs) h = absurd cc
+
+pub floating_data_is :
+    (unit : Option Unit) (number : ℕ) (cell core : Group) (pins : CellPins) → ArePins cell pins → (pins.outputs.items ≡ [] → ⊥) → core ≡ core_group cell
+    → floating_of unit number core (map shown pins.outputs.items) ≡ driven_data unit number cell
+floating_data_is unit number cell core pins h some e =
+    ap (λ (group : Group). floating_of unit number group (map shown pins.outputs.items)) e
+    ∙ (some_data unit number cell (map shown pins.outputs.items) (λ none. some (none_shown pins.outputs.items none))
+    ∙ ap (data_by unit number cell) h.of_outputs)
+
+pub floating_refusal_is :
+    (unit : Option Unit) (earlier : List (List ℕ)) (cell core : Group) (pins : CellPins) → ArePins cell pins → (pins.outputs.items ≡ [] → ⊥)
+    → core ≡ core_group cell
+    → floating_refusal unit earlier core (map (λ group. group.now) pins.groups.items) ≡ driven_refusal unit earlier cell
+floating_refusal_is unit earlier cell core pins h some e =
+    ap (λ (group : Group). floating_refusal unit earlier group (map (λ group. group.now) pins.groups.items)) e
+    ∙ (ap (floating_refusal unit earlier (core_group cell)) h.of_groups
+    ∙ (some_refusal unit earlier cell (map shown pins.outputs.items) (λ none. some (none_shown pins.outputs.items none))
+    ∙ ap (refusal_by unit earlier cell) h.of_outputs))

@@ -1,0 +1,6 @@
+pub mod Outputs
+pub mod CoreGroups
+pub mod DriverGroups
+pub mod Refusals
+pub mod Timing
+pub mod DrivenCells

@@ -21,16 +21,13 @@ use Rattle.cell_reader.specs.declared.refusal.Reason.TheVariants as reason
 use Rattle.cell_reader.specs.PinTimings.{Answer}
 use Rattle.cell_reader.specs.Refusals.{refused_or}
 use Rattle.three_state_cells.specs.DriverGroups.{has_type, is_no_type, read_items, driver_timing, driver_item, driver_pin}
+use Rattle.three_state_cells.proofs.Statements.{not_false, attributes_kept}
 use Rattle.three_state_cells.specs.Refusals.{wrong_told, wrong_delays}
 
 -- A statement of the type is none of the condition.
 
 type_is_no_when : (name : List ℕ) → bytes_eq name (codes "timing_type") ≡ true → bytes_eq name (codes "when") ≡ false
 type_is_no_when name h = rw ((bytes_eq-Decides name (codes "timing_type")).0 h) refl
-
-not_false : (b : Bool) → not b ≡ false → b ≡ true
-not_false true h = refl
-not_false false h = absurd cc
 
 typed_is_no_when : (one : Item-F Item Group) → is_no_type one ≡ false → simple_named (codes "when") one ≡ None
 typed_is_no_when (layer.Simple name value at) h = rw (type_is_no_when name (not_false (bytes_eq name (codes "timing_type")) h)) refl
@@ -39,14 +36,7 @@ typed_is_no_when (layer.Inner group) h = refl
 
 -- the conditions among all statements but those of the type
 untyped_when : (items : List Item) → attributes_named (codes "when") (filter (λ item. is_no_type (out-Item item)) items) ≡ attributes_named (codes "when") items
-untyped_when [] = refl
-untyped_when (one ∷ items) = by (is_no_type (out-Item one)) refl (untyped_when items)
-  where
-    by : (b : Bool) → is_no_type (out-Item one) ≡ b
-        → attributes_named (codes "when") (filter (λ item. is_no_type (out-Item item)) items) ≡ attributes_named (codes "when") items
-        → attributes_named (codes "when") (filter (λ item. is_no_type (out-Item item)) (one ∷ items)) ≡ attributes_named (codes "when") (one ∷ items)
-    by true e h = rw e (ap (cons_option (simple_named (codes "when") (out-Item one))) h)
-    by false e h = rw e (rw (typed_is_no_when (out-Item one) e) h)
+untyped_when items = attributes_kept (codes "when") is_no_type typed_is_no_when items
 
 -- No timing group has a condition as it is read.
 

@@ -184,10 +184,19 @@ below_pins pins (arc ∷ arcs) h q e =
     by true same input later = subst (λ (n : ℕ). n < length pins) (sym (eqb-true q arc.from same)) (input-below pins arc.from input)
     by false other input later = later (rw other at e)
 
+narrow : (subject : Subject) (pin : Group) (timing : PinTiming) → reading_answer subject (driver_pin pin) ≡ Ok timing → timing.wide ≡ None
+narrow subject pin timing e = sym (ap (λ (t : PinTiming). t.wide) (timing_read subject (driver_pin pin) timing e)) ∙ ap least (no_wide subject pin)
+
+-- the arcs of a three-state output keep the rules of arcs
+pub driver_arcs_are_sound :
+    (subject : Subject) (pin : Group) (answer : Answer) → reading_answer subject (driver_pin pin) ≡ answer
+    → list_all (is_arc subject.pins) (arcs_answered answer) ≡ true
+driver_arcs_are_sound subject pin (Ok timing) e = arcs_are_sound subject (driver_pin pin) timing e (narrow subject pin timing e)
+driver_arcs_are_sound subject pin (Err wrong) e = refl
+
 few_arcs : (subject : Subject) (pin : Group) (timing : PinTiming) → reading_answer subject (driver_pin pin) ≡ Ok timing → length timing.arcs ≤ length subject.pins
 few_arcs subject pin timing e =
     let is : timing_of subject (driver_pin pin) ≡ timing = timing_read subject (driver_pin pin) timing e in
-    let narrow : timing.wide ≡ None = sym (ap (λ (t : PinTiming). t.wide) is) ∙ ap least (no_wide subject pin) in
     let free : list_all is_free timing.arcs ≡ true =
     subst (λ (t : PinTiming). list_all is_free t.arcs ≡ true) is
     (merged_free (placed_arcs subject (driver_pin pin)) (firsts (placed_arcs subject (driver_pin pin)))
@@ -196,7 +205,7 @@ few_arcs subject pin timing e =
     let count : length (map from_of timing.arcs) ≤ length subject.pins =
     length-le_from_distinct_below (map from_of timing.arcs) (length subject.pins)
     (distinct_starts subject.place timing.arcs (arcs_are_apart subject (driver_pin pin) timing e) plain)
-    (below_pins subject.pins timing.arcs (arcs_are_sound subject (driver_pin pin) timing e narrow)) in
+    (below_pins subject.pins timing.arcs (arcs_are_sound subject (driver_pin pin) timing e (narrow subject pin timing e))) in
     simp length-map at count
 
 -- All arcs and all left-out groups are held.

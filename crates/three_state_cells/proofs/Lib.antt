@@ -4,3 +4,6 @@ pub mod DriverReads
 pub mod FewArcs
 pub mod Turns
 pub mod DataLemmas
+pub mod Statements
+pub mod CorePins
+pub mod Soundness

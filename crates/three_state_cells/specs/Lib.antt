@@ -4,3 +4,4 @@ pub mod DriverGroups
 pub mod Refusals
 pub mod Timing
 pub mod DrivenCells
+pub mod Laws

@@ -8,10 +8,12 @@ mod driver_groups;
 mod driver_refusals;
 mod drivers;
 mod enable_pins;
+mod laws;
 mod left_out;
 mod outputs;
 mod read;
 mod subjects;
 
 pub use driven_cell::{DrivePath, DrivenCell};
+pub use laws::{core_pins_are, driven_cells_are_sound};
 pub use read::read_driven;

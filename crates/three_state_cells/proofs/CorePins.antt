@@ -1,5 +1,5 @@
 -- The pins of a core are those of its cell and behind them one output for each three-state output.
-use Rattle.std.proofs.Common.{◌≡◌, ℕ, ◌+◌, Bool, true, false, not, ◌&&◌, ◌==◌, List, [], ◌∷◌, ◌++◌, length, refl, sym, ap, ◌∙◌, subst, append_assoc, map, filter, codes, decimal, Option, Some, None, is_some, unwrap_or}
+use Rattle.std.proofs.Common.{◌≡◌, ℕ, ◌+◌, Bool, true, false, not, ◌&&◌, ◌==◌, List, [], ◌∷◌, ◌++◌, length, refl, sym, ap, ◌∙◌, append_assoc, map, filter, codes, decimal, Option, Some, None, is_some, unwrap_or}
 use Rattle.std.specs.Prelude.{flat_map, bytes_eq, if◌then◌else◌}
 use Rattle.std.specs.List.{cons_option}
 use Rattle.std.proofs.lemmas.Bool.{and_parts}

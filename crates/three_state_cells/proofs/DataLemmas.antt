@@ -20,8 +20,8 @@ use Rattle.three_state_cells.specs.declared.outputs.ThreeStateOutput.{ThreeState
 use Rattle.three_state_cells.specs.Outputs.{ThreeStateOutput, shown, three_state_outputs, ArePins}
 use Rattle.three_state_cells.specs.Refusals.{floating_refusal, refusal_by, driven_refusal}
 use Rattle.three_state_cells.specs.CoreGroups.{core_group}
-use Rattle.three_state_cells.specs.Timing.{driven_of, paths_from, all_left_out, in_pin_order}
-use Rattle.three_state_cells.specs.DrivenCells.{driven_data_of, cell_data, core_name, floating_of, plain_of, data_by, driven_data}
+use Rattle.three_state_cells.specs.Timing.{all_left_out, in_pin_order}
+use Rattle.three_state_cells.specs.DrivenCells.{AreDrivers, IsFloating, driven_data_of, cell_data, core_name, floating_of, plain_of, data_by, driven_data}
 
 -- a cell that a group describes, as data
 pub data_as :
@@ -36,19 +36,6 @@ data_as unit number group cell h = λ i. record {
   checks = h.same_checks i;
   arcs = h.same_arcs i;
 }
-
--- the parts of a cell whose outputs float
-pub record IsFloating (read : ReadCell) (drivers : Drivers) (number : ℕ) (cell : DrivenCell) : Type 0 where
-  pub core : data_of cell.core ≡ record (data_of read.cell) { name = core_name number }
-  pub name : cell.name ≡ read.cell.name
-  pub driven : cell.driven ≡ drivers.driven
-  pub paths : cell.paths ≡ drivers.paths
-  pub left_out : cell.left_out ≡ in_pin_order 0 read.cell.pins read.left_out drivers.left_out
-
-pub record AreDrivers (unit : Option Unit) (core : Group) (outputs : List ThreeStateOutput) (drivers : Drivers) : Type 0 where
-  pub driven : drivers.driven ≡ driven_of (pins_of core) outputs
-  pub paths : drivers.paths ≡ paths_from (subject_of unit core) 0 outputs
-  pub left_out : drivers.left_out ≡ all_left_out (subject_of unit core) outputs
 
 lines_are :
     (unit : Option Unit) (core : Group) (outputs : List ThreeStateOutput) (read : ReadCell) (lines : List LeftOut)

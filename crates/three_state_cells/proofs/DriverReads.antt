@@ -1,5 +1,5 @@
 -- What is read of the delays of three-state outputs: no condition, so that nothing is wrong in one.
-use Rattle.std.proofs.Common.{◌≡◌, ℕ, Bool, true, false, not, List, [], ◌∷◌, refl, sym, ◌∙◌, ap, subst, map, filter, codes, Option, Some, None}
+use Rattle.std.proofs.Common.{◌≡◌, ℕ, Bool, true, false, List, [], ◌∷◌, refl, sym, ◌∙◌, ap, subst, map, filter, codes, Option, Some, None}
 use Rattle.std.specs.Prelude.{flat_map, bytes_eq, if◌then◌else◌, Ok, Err}
 use Rattle.std.specs.List.{cons_option, list_all}
 use Rattle.std.proofs.lemmas.Bool.{and_from}

@@ -4,7 +4,7 @@ use Rattle.std.proofs.Common.{◌≡◌, ℕ, ◌+◌, ◌-◌, ◌<◌, ◌≤�
 use Rattle.std.specs.Prelude.{flat_map, if◌then◌else◌, count_by}
 use Rattle.std.specs.List.{list_all, take-map}
 use Rattle.std.proofs.Math.Seq.{take-append_seam}
-use Rattle.std.proofs.lemmas.Bool.{and_parts, and_from, le-leb, lt-ltb, leb-true, ltb-true}
+use Rattle.std.proofs.lemmas.Bool.{and_parts, and_from, le-leb, lt-ltb, leb-true}
 use Rattle.std.proofs.lemmas.List.{map-append}
 use Rattle.std.proofs.lemmas.List.Folds.{list_all-append}
 use Rattle.std.proofs.lemmas.List.Recursion.{is_count_by}
@@ -28,10 +28,9 @@ use Rattle.cell_reader.specs.CellTexts.{subject_of}
 use Rattle.three_state_cells.specs.declared.driven_cell.DrivePath.{DrivePath}
 use Rattle.three_state_cells.specs.Outputs.{ThreeStateOutput, three_state_of, is_three_state, outputs_from, three_state_outputs}
 use Rattle.three_state_cells.specs.CoreGroups.{core_group}
-use Rattle.three_state_cells.specs.DriverGroups.{driver_pin}
 use Rattle.three_state_cells.specs.Timing.{is_output_at, output_number, driven_of, answer_of, path_of, paths_from}
-use Rattle.three_state_cells.specs.DrivenCells.{floating_of, data_by, driven_data}
-use Rattle.three_state_cells.specs.Laws.{enable_outputs, own_outputs, IsDriven, DrivenCellsAreSound}
+use Rattle.three_state_cells.specs.DrivenCells.{floating_of, data_by}
+use Rattle.three_state_cells.specs.Laws.{enable_outputs, IsDriven, DrivenCellsAreSound}
 use Rattle.three_state_cells.proofs.CorePins.{core_pins_are}
 use Rattle.three_state_cells.proofs.FewArcs.{driver_arcs_are_sound}
 

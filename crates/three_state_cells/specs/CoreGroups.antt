@@ -1,6 +1,7 @@
 -- The core of a cell with three-state outputs: a cell without Z that has, for each of them, the output as if it never floated,
 -- and one more output that is 1 where it does not float (this project's form of `three_state`).
-use Rattle.std.specs.Prelude.{ℕ, ◌+◌, Bool, true, not, List, [], ◌∷◌, ◌++◌, map, filter, codes, bytes_eq, decimal, Option, Some, None, is_ok, if◌then◌else◌}
+use Rattle.std.specs.Prelude.{ℕ, ◌+◌, Bool, true, not, List, [], ◌∷◌, ◌++◌}
+use Rattle.std.specs.Prelude.{map, filter, codes, bytes_eq, decimal, Option, Some, None, is_ok, if◌then◌else◌}
 use Rattle.bool_functions.specs.FunctionText.{free_names, reading_of}
 use Rattle.liberty_groups.specs.declared.tree.Value.{Value}
 use Rattle.liberty_groups.specs.declared.tree.Item.{Item, out-Item}

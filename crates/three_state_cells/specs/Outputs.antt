@@ -1,9 +1,10 @@
 -- The three-state outputs of a cell (Liberty Reference Manual, `three_state`).
-use Rattle.std.specs.Prelude.{◌≡◌, ℕ, ◌+◌, ◌<◌, ◌^◌, Bool, ◌&&◌, List, [], ◌∷◌, ◌++◌, length, map, codes, Option, is_some, if◌then◌else◌}
+use Rattle.std.specs.Prelude.{◌≡◌, ℕ, ◌+◌, ◌<◌, ◌^◌, Bool, ◌&&◌, List, [], ◌∷◌, ◌++◌, length, map, flat_map, codes}
+use Rattle.std.specs.Prelude.{Option, is_some, if◌then◌else◌}
 use Rattle.liberty_groups.specs.declared.tree.Group.{Group}
 use Rattle.liberty_groups.specs.Attributes.{Attribute, attribute_of}
 use Rattle.cell_parts.specs.Groups.{is_pin, pin_groups}
-use Rattle.cell_parts.specs.Pins.{direction_of, owners_of}
+use Rattle.cell_parts.specs.Pins.{direction_of, owners_in, owners_of}
 use Rattle.cell_parts.specs.Scans.{is_output_group}
 use Rattle.three_state_cells.specs.declared.outputs.ThreeStateOutput.{ThreeStateOutput as HeldOutput}
 use Rattle.three_state_cells.specs.declared.outputs.CellPins.{CellPins}
@@ -36,8 +37,19 @@ outputs_from pin (group ∷ groups) =
 abbrev pub three_state_outputs : Group → List ThreeStateOutput
 three_state_outputs cell = outputs_from 0 (owners_of cell)
 
+-- Whether the pins that these groups make can be numbered.
+abbrev pub CanBeNumbered : List Group → Type 0
+CanBeNumbered groups = length (flat_map owners_in groups) < 2 ^ 64
+
+-- What stands behind the references that are held.
+abbrev pub groups_shown : CellPins → List Group
+groups_shown pins = map (λ group. group.now) pins.groups.items
+
+abbrev pub outputs_shown : CellPins → List ThreeStateOutput
+outputs_shown pins = map shown pins.outputs.items
+
 -- What is held are the pin groups and the three-state outputs of a cell, whose pins can be numbered.
 pub record ArePins (cell : Group) (pins : CellPins) : Type 0 where
-  pub of_groups : map (λ group. group.now) pins.groups.items ≡ pin_groups cell
-  pub of_outputs : map shown pins.outputs.items ≡ three_state_outputs cell
-  pub few : length (owners_of cell) < 2 ^ 64
+  pub of_groups : groups_shown pins ≡ pin_groups cell
+  pub of_outputs : outputs_shown pins ≡ three_state_outputs cell
+  pub few : CanBeNumbered (pin_groups cell)

@@ -1,5 +1,6 @@
 -- Why a cell with three-state outputs is refused.
-use Rattle.std.specs.Prelude.{◌≡◌, ℕ, ◌+◌, Bool, ◌&&◌, ◌||◌, ◌==◌, nat_lt, nat_le, List, [], ◌∷◌, length, Option, Some, None, Ok, Err, if◌then◌else◌}
+use Rattle.std.specs.Prelude.{◌≡◌, ℕ, ◌+◌, Bool, ◌&&◌, ◌||◌, ◌==◌, nat_lt, nat_le}
+use Rattle.std.specs.Prelude.{List, [], ◌∷◌, length, Option, Some, None, Ok, Err, if◌then◌else◌}
 use Rattle.liberty_text.specs.declared.time.Unit.{Unit}
 use Rattle.liberty_groups.specs.declared.tree.Group.{Group}
 use Rattle.timing_arcs.specs.declared.subject.Subject.{Subject}
@@ -32,7 +33,9 @@ first_of_two (Some one) (Some other) = Some (if decides one other then one else 
 abbrev pub wrong_delays : Subject → Group → Option Refusal
 wrong_delays subject group =
     first_refusal
-    (met reason.UnknownName (unknown_names_at subject (driver_pin group)) ∷ met reason.Number (numbers_at subject (driver_pin group)) ∷ [])
+    (met reason.UnknownName (unknown_names_at subject (driver_pin group))
+    ∷ met reason.Number (numbers_at subject (driver_pin group))
+    ∷ [])
 
 -- what an answer of reading them tells of that
 abbrev pub wrong_told : Answer → Option Refusal

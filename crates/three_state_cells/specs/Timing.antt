@@ -32,11 +32,15 @@ answer_of core output = reading_answer (subject_at core output.pin) (driver_pin 
 abbrev pub path_of : List Pin → ℕ → Arc → DrivePath
 path_of pins drive arc = record { from = input_number pins arc.from; drive = drive; rise = arc.rise; fall = arc.fall }
 
+-- The paths of the three-state output with this number.
+abbrev pub paths_of : Subject → ℕ → ThreeStateOutput → List DrivePath
+paths_of core drive output = map (path_of core.pins drive) (arcs_in (answer_of core output))
+
 -- The paths of some three-state outputs, in order, where the first has this number.
 abbrev pub paths_from : Subject → ℕ → List ThreeStateOutput → List DrivePath
 paths_from core drive [] = []
 paths_from core drive (output ∷ outputs) =
-    map (path_of core.pins drive) (arcs_in (answer_of core output)) ++ paths_from core (drive + 1) outputs
+    paths_of core drive output ++ paths_from core (drive + 1) outputs
 
 -- The timing group at this place among those of an output, by its type as it is written.
 abbrev pub left_out_as : ThreeStateOutput → ℕ → LeftOut

@@ -2,7 +2,8 @@
 ghost use Rattle.std.specs.Prelude.{◌≡◌, ◌++◌, ◌∷◌, [], IfOk, OnOk, filter, map};
 ghost use Rattle.liberty_groups.specs.declared.tree.Item.{out-Item};
 ghost use Rattle.three_state_cells.specs.Outputs.{shown, three_state_outputs as three_state_outputs_of};
-ghost use Rattle.three_state_cells.specs.CoreGroups.{stays_in_core as stays_in_core_of, core_pin as core_pin_of, core_statement as core_statement_of, core_group as core_group_of};
+ghost use Rattle.three_state_cells.specs.CoreGroups.{stays_in_core as stays_in_core_of, core_pin as core_pin_of};
+ghost use Rattle.three_state_cells.specs.CoreGroups.{core_statement as core_statement_of, core_group as core_group_of};
 
 use crate::copies::{copy_bytes, copy_item, copy_values};
 use crate::enable_pins::add_enable_pins;

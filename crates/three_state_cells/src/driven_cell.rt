@@ -16,9 +16,9 @@ pub struct DrivePath {
     pub fall: u64,
 }
 
-/// A cell whose outputs may float: a core without Z, and what drives its three-state outputs. Behind the outputs of the cell the core
-/// has one more output for each of these, in their order, which is 1 where that is driven and 0 where it floats. A cell without
-/// three-state outputs is its own core.
+/// A cell whose outputs may float: a core without Z, and what drives its three-state outputs. Behind the outputs of the cell the
+/// core has one more output for each of these, in their order, which is 1 where that is driven and 0 where it floats. A cell
+/// without three-state outputs is its own core.
 #[derive(Debug, Drop)]
 pub struct DrivenCell {
     pub core: Cell,

@@ -2,7 +2,10 @@
 ghost use Rattle.std.specs.Prelude.{◌≡◌, ◌++◌, ◌∷◌, [], IfOk, OnOk, filter, map};
 ghost use Rattle.liberty_groups.specs.declared.tree.Item.{out-Item};
 ghost use Rattle.timing_arcs.specs.Timing.{timing_groups as timing_groups_of};
-ghost use Rattle.three_state_cells.specs.DriverGroups.{has_type as has_type_of, is_unread as is_unread_of, is_no_type as is_no_type_of, read_items as read_items_of, driver_timing as driver_timing_of, driver_item as driver_item_of, driver_pin as driver_pin_of};
+ghost use Rattle.three_state_cells.specs.DriverGroups.{has_type as has_type_of, is_unread as is_unread_of};
+ghost use Rattle.three_state_cells.specs.DriverGroups.{is_no_type as is_no_type_of, read_items as read_items_of};
+ghost use Rattle.three_state_cells.specs.DriverGroups.{driver_timing as driver_timing_of, driver_item as driver_item_of};
+ghost use Rattle.three_state_cells.specs.DriverGroups.{driver_pin as driver_pin_of};
 
 use crate::copies::{copy_bytes, copy_item, copy_items, copy_values};
 use cell_parts::groups::is_missing;

@@ -1,9 +1,10 @@
 //! What is wrong in the delays of three-state outputs.
-ghost use Rattle.std.specs.Prelude.{◌≡◌, Some, ◌<◌, ◌^◌, IfOk, OnOk, length, map, flat_map};
-ghost use Rattle.cell_parts.specs.Pins.{owners_in};
+ghost use Rattle.std.specs.Prelude.{◌≡◌, Some, IfOk, OnOk, map};
 ghost use Rattle.cell_reader.specs.PinTimings.{subject_at};
-ghost use Rattle.three_state_cells.specs.DriverGroups.{driver_pin as driver_pin_of};
-ghost use Rattle.three_state_cells.specs.Refusals.{decides as decides_of, first_of_two as first_of_two_of, wrong_told as wrong_told_of, wrong_delays as wrong_delays_of, wrong_group as wrong_group_of, driver_refusal as driver_refusal_of};
+ghost use Rattle.three_state_cells.specs.Outputs.{CanBeNumbered};
+ghost use Rattle.three_state_cells.specs.Refusals.{decides as decides_of, first_of_two as first_of_two_of};
+ghost use Rattle.three_state_cells.specs.Refusals.{wrong_told as wrong_told_of, wrong_delays as wrong_delays_of};
+ghost use Rattle.three_state_cells.specs.Refusals.{wrong_group as wrong_group_of, driver_refusal as driver_refusal_of};
 
 use crate::driver_groups::driver_pin;
 use crate::outputs::is_three_state;
@@ -91,13 +92,14 @@ fn wrong_group(
     wrong_delays(alloc, subject, group)
 }
 
-/// What decides of all that is wrong in the delays of the outputs of these pin groups of a cell, where these are the pins of its core.
+/// What decides of all that is wrong in the delays of the outputs of these pin groups of a cell, where these are the pins of its
+/// core.
 pub(crate) fn driver_refusal(
     alloc: Global,
     core: &mut Subject,
     groups: &[&Group],
 ) -> Result<Option<Refusal>, AllocError>
-    requires { length (flat_map owners_in (map (λ group. group.now) groups.now)) < 2 ^ 64 }
+    requires { CanBeNumbered (map (λ group. group.now) groups.now) }
     ensures refusal { IfOk result (λ refusal. refusal ≡ driver_refusal_of core.old (map (λ group. group.now) groups.now)) }
     ensures core { OnOk result (core.new ≡ subject_at core.old 0) }
 {

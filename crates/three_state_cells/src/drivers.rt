@@ -5,7 +5,8 @@ ghost use Rattle.three_state_cells.specs.Outputs.{shown};
 ghost use Rattle.timing_arcs.specs.Timing.{reading_answer};
 ghost use Rattle.cell_reader.specs.PinTimings.{subject_at, arcs_in};
 ghost use Rattle.three_state_cells.specs.DriverGroups.{driver_pin as driver_pin_of};
-ghost use Rattle.three_state_cells.specs.Timing.{output_number as output_number_of, driven_of, path_of as path_of_arc, places_in, answer_of as answer_of_output, left_out_of, all_left_out, paths_from};
+ghost use Rattle.three_state_cells.specs.Timing.{output_number as output_number_of, driven_of, path_of as path_of_arc, places_in};
+ghost use Rattle.three_state_cells.specs.Timing.{left_out_of, all_left_out, paths_of, paths_from};
 
 use crate::driven_cell::DrivePath;
 use crate::driver_groups::driver_pin;
@@ -59,8 +60,8 @@ fn add_paths(
     Ok(())
 }
 
-/// What reading the delays of a three-state output of this group answers, where the subject is its pin. There are no checks, and no
-/// more arcs than pins, since no two of them start at one pin.
+/// What reading the delays of a three-state output of this group answers, where the subject is its pin. There are no checks, and
+/// no more arcs than pins, since no two of them start at one pin.
 fn answer_of(
     alloc: Global,
     core: &Subject,
@@ -98,7 +99,8 @@ impl Drivers {
         output: ThreeStateOutput<'_>,
     ) -> Result<(), AllocError>
         ensures driven { OnOk result (self.new.driven ≡ self.old.driven ++ output_number_of core.old.pins output.entry.pin ∷ []) }
-        ensures paths { OnOk result (self.new.paths ≡ self.old.paths ++ map (path_of_arc core.old.pins (length self.old.driven)) (arcs_in (answer_of_output core.old (shown output.entry)))) }
+        ensures paths { OnOk result
+            (self.new.paths ≡ self.old.paths ++ paths_of core.old (length self.old.driven) (shown output.entry)) }
         ensures left_out { OnOk result (self.new.left_out ≡ self.old.left_out ++ left_out_of core.old (shown output.entry)) }
         ensures core { OnOk result (core.new ≡ subject_at core.old output.entry.pin) }
     {

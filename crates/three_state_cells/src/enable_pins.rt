@@ -2,7 +2,10 @@
 ghost use Rattle.std.specs.Prelude.{◌≡◌, ◌+◌, ◌<◌, ◌^◌, ◌++◌, IfOk, OnOk, map};
 ghost use Rattle.liberty_groups.specs.Attributes.{shown as shown_attribute};
 ghost use Rattle.three_state_cells.specs.Outputs.{shown, three_state_of};
-ghost use Rattle.three_state_cells.specs.CoreGroups.{reads_alone as reads_alone_of, enable_function as enable_function_of, one_value as one_value_of, enable_statements as enable_statements_of, enable_pin as enable_pin_as, enable_pin_of, enable_pins};
+ghost use Rattle.three_state_cells.specs.CoreGroups.{reads_alone as reads_alone_of, enable_function as enable_function_of};
+ghost use Rattle.three_state_cells.specs.CoreGroups.{one_value as one_value_of, enable_statements as enable_statements_of};
+ghost use Rattle.three_state_cells.specs.CoreGroups.{enable_pin as enable_pin_as, enable_pin_of};
+ghost use Rattle.three_state_cells.specs.CoreGroups.{enable_pins};
 
 use crate::copies::copy_bytes;
 use crate::outputs::ThreeStateOutput;

@@ -7,8 +7,8 @@ pub fn core_pins_are()
     ensures { CorePinsAre }
 {}
 
-/// The law that the three-state outputs of every cell are among its outputs, in order and each once, and each path leads from an input to
-/// one of them.
+/// The law that the three-state outputs of every cell are among its outputs, in order and each once, and each path leads from an
+/// input to one of them.
 pub fn driven_cells_are_sound()
     ensures { DrivenCellsAreSound }
 {}

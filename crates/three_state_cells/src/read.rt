@@ -1,13 +1,15 @@
 //! A cell's group to the cell whose outputs may float.
-ghost use Rattle.std.specs.Prelude.{◌≡◌, ◌<◌, ◌^◌, IfOk, IfErr, IsTrue, None, Some, length, map, flat_map};
+ghost use Rattle.std.specs.Prelude.{◌≡◌, IfOk, IfErr, IsTrue, None, Some};
 ghost use Rattle.cell_machine.specs.CellData.{data_of};
 ghost use Rattle.cell_machine.specs.CellRules.{is_name, are_distinct};
-ghost use Rattle.cell_parts.specs.Pins.{pin_names, owners_in, pins_of as pins_of_group};
+ghost use Rattle.cell_parts.specs.Pins.{pin_names, pins_of as pins_of_group};
 ghost use Rattle.cell_reader.specs.CellTexts.{subject_of as subject_of_cell, Tells, IsEarlyUnmet};
-ghost use Rattle.three_state_cells.specs.Outputs.{shown};
-ghost use Rattle.three_state_cells.specs.Timing.{driven_of, paths_from, all_left_out, in_pin_order as in_pin_order_of};
-ghost use Rattle.three_state_cells.specs.Refusals.{first_of_two, driver_refusal as driver_refusal_of, floating_refusal, driven_refusal, IsRefusedCore};
+ghost use Rattle.three_state_cells.specs.Outputs.{groups_shown, outputs_shown, CanBeNumbered};
+ghost use Rattle.three_state_cells.specs.Timing.{in_pin_order as in_pin_order_of};
+ghost use Rattle.three_state_cells.specs.Refusals.{first_of_two, driver_refusal as driver_refusal_of, floating_refusal};
+ghost use Rattle.three_state_cells.specs.Refusals.{driven_refusal, IsRefusedCore};
 ghost use Rattle.three_state_cells.specs.DrivenCells.{driven_data, driven_data_of, core_name, plain_of, floating_of};
+ghost use Rattle.three_state_cells.specs.DrivenCells.{AreDrivers, IsFloating};
 
 use crate::copies::copy_bytes;
 use crate::core_group::core_group;
@@ -88,12 +90,10 @@ fn core_drivers(
     pins: &CellPins<'_>,
 ) -> Result<Drivers, CellFault>
     requires early { IsEarlyUnmet core.now }
-    requires few { length (flat_map owners_in (map (λ group. group.now) pins.now.groups.items)) < 2 ^ 64 }
-    ensures driven { IfOk result (λ drivers. drivers.driven ≡ driven_of (pins_of_group core.now) (map shown pins.now.outputs.items)) }
-    ensures paths { IfOk result (λ drivers. drivers.paths ≡ paths_from (subject_of_cell unit core.now) 0 (map shown pins.now.outputs.items)) }
-    ensures left_out { IfOk result (λ drivers. drivers.left_out ≡ all_left_out (subject_of_cell unit core.now) (map shown pins.now.outputs.items)) }
-    ensures accepted { IfOk result (λ _. driver_refusal_of (subject_of_cell unit core.now) (map (λ group. group.now) pins.now.groups.items) ≡ None) }
-    ensures refused { IfErr result (Tells (driver_refusal_of (subject_of_cell unit core.now) (map (λ group. group.now) pins.now.groups.items))) }
+    requires few { CanBeNumbered (groups_shown pins.now) }
+    ensures drivers { IfOk result (λ drivers. AreDrivers unit core.now (outputs_shown pins.now) drivers) }
+    ensures accepted { IfOk result (λ _. driver_refusal_of (subject_of_cell unit core.now) (groups_shown pins.now) ≡ None) }
+    ensures refused { IfErr result (Tells (driver_refusal_of (subject_of_cell unit core.now) (groups_shown pins.now))) }
 {
     let mut subject = subject_of(alloc, core, unit)?;
     if let Some(refusal) = driver_refusal(alloc, &mut subject, &pins.groups)? {
@@ -102,8 +102,8 @@ fn core_drivers(
     Ok(drivers_of(alloc, &mut subject, &pins.outputs)?)
 }
 
-/// What decides of a refusal of the core and of what is wrong in the delays of the three-state outputs. The delays are not looked at
-/// where a reason with a lesser number is met.
+/// What decides of a refusal of the core and of what is wrong in the delays of the three-state outputs. The delays are not looked
+/// at where a reason with a lesser number is met.
 fn decided(
     alloc: Global,
     core: &Group,
@@ -112,8 +112,10 @@ fn decided(
     refusal: Refusal,
 ) -> Result<Refusal, AllocError>
     requires told { IsRefusedCore unit core.now refusal }
-    requires few { length (flat_map owners_in (map (λ group. group.now) pins.now.groups.items)) < 2 ^ 64 }
-    ensures { IfOk result (λ refused. Some refused ≡ first_of_two (Some refusal) (driver_refusal_of (subject_of_cell unit core.now) (map (λ group. group.now) pins.now.groups.items))) }
+    requires few { CanBeNumbered (groups_shown pins.now) }
+    ensures { IfOk result
+        (λ refused. Some refused
+        ≡ first_of_two (Some refusal) (driver_refusal_of (subject_of_cell unit core.now) (groups_shown pins.now))) }
 {
     if refusal.reason.number() < Reason::UnknownName.number() {
         return Ok(refusal);
@@ -140,7 +142,8 @@ fn made_anew(
 ) -> Result<Made, AllocError>
     ensures core_name { IfOk result (λ made. made.core_name ≡ core_name number) }
     ensures name { IfOk result (λ made. made.name ≡ read.now.cell.name) }
-    ensures left_out { IfOk result (λ made. made.left_out ≡ in_pin_order_of 0 read.now.cell.pins read.now.left_out drivers.now.left_out) }
+    ensures left_out { IfOk result
+        (λ made. made.left_out ≡ in_pin_order_of 0 read.now.cell.pins read.now.left_out drivers.now.left_out) }
 {
     let pins = read.cell.pins.as_slice();
     Ok(Made {
@@ -162,11 +165,7 @@ fn floating_cell(
     drivers: Drivers,
     number: usize,
 ) -> Result<DrivenCell, AllocError>
-    ensures core { IfOk result (λ cell. data_of cell.core ≡ record (data_of read.cell) { name = core_name number }) }
-    ensures name { IfOk result (λ cell. cell.name ≡ read.cell.name) }
-    ensures driven { IfOk result (λ cell. cell.driven ≡ drivers.driven) }
-    ensures paths { IfOk result (λ cell. cell.paths ≡ drivers.paths) }
-    ensures left_out { IfOk result (λ cell. cell.left_out ≡ in_pin_order_of 0 read.cell.pins read.left_out drivers.left_out) }
+    ensures { IfOk result (λ cell. IsFloating read drivers number cell) }
 {
     let made = made_anew(alloc, &read, &drivers, number)?;
     Ok(DrivenCell {
@@ -192,8 +191,8 @@ fn plain_cell(alloc: Global, read: ReadCell) -> Result<DrivenCell, AllocError>
     })
 }
 
-/// The cell with this number that a group describes, where these are its pin groups and its three-state outputs, and this is the group
-/// of its core.
+/// The cell with this number that a group describes, where these are its pin groups and its three-state outputs, and this is the
+/// group of its core.
 fn read_floating(
     alloc: Global,
     core: &Group,
@@ -202,10 +201,10 @@ fn read_floating(
     unit: Option<Unit>,
     earlier: &Names,
 ) -> Result<DrivenCell, CellFault>
-    requires few { length (flat_map owners_in (map (λ group. group.now) pins.now.groups.items)) < 2 ^ 64 }
-    ensures cell { IfOk result (λ driven. driven_data_of driven ≡ floating_of unit number core.now (map shown pins.now.outputs.items)) }
-    ensures accepted { IfOk result (λ _. floating_refusal unit earlier.now core.now (map (λ group. group.now) pins.now.groups.items) ≡ None) }
-    ensures refused { IfErr result (Tells (floating_refusal unit earlier.now core.now (map (λ group. group.now) pins.now.groups.items))) }
+    requires few { CanBeNumbered (groups_shown pins.now) }
+    ensures cell { IfOk result (λ driven. driven_data_of driven ≡ floating_of unit number core.now (outputs_shown pins.now)) }
+    ensures accepted { IfOk result (λ _. floating_refusal unit earlier.now core.now (groups_shown pins.now) ≡ None) }
+    ensures refused { IfErr result (Tells (floating_refusal unit earlier.now core.now (groups_shown pins.now))) }
 {
     match read_cell(alloc, core, number, unit, earlier) {
         Ok(read) => {
@@ -220,14 +219,14 @@ fn read_floating(
     }
 }
 
-/// The cell with this number in its library that a group describes, where `unit` is the library's time unit, if it is a known one, and
-/// `earlier` are the names of the cells before it. Its outputs may float (Liberty Reference Manual, `three_state`): then it is a core
-/// without Z, whose name is `-z` and the number, and what drives the three-state outputs. A cell without three-state outputs is its own
-/// core.
+/// The cell with this number in its library that a group describes, where `unit` is the library's time unit, if it is a known
+/// one, and `earlier` are the names of the cells before it. Its outputs may float (Liberty Reference Manual, `three_state`): then
+/// it is a core without Z, whose name is `-z` and the number, and what drives the three-state outputs. A cell without three-state
+/// outputs is its own core.
 ///
 /// A cell is refused exactly where its core meets one of the fourteen reasons, or a related pin or a time of the delays of its
-/// three-state outputs is none: by the reason with the least number of these, at the least offset at which it is met. The name that is
-/// judged is the cell's own. `Memory` comes only where memory is wanting.
+/// three-state outputs is none: by the reason with the least number of these, at the least offset at which it is met. The name
+/// that is judged is the cell's own. `Memory` comes only where memory is wanting.
 pub fn read_driven(
     alloc: Global,
     cell: &Group,

@@ -1,7 +1,6 @@
 -- No question on the shape fails exactly where the module has the cell's shape.
-use Rattle.std.proofs.Common.{◌≡◌, ℕ, zero, suc, ◌+◌, ◌<◌, ◌≤◌, Bool, true, false, not, ◌&&◌, List, [], ◌∷◌, ◌++◌, map, find, length, Option, None, Some, slice_get, nat_eq, IsTrue, refl, sym, ◌∙◌, ap, subst, arith, eqb-true, eq-eqb, inl, inr}
+use Rattle.std.proofs.Common.{◌≡◌, ℕ, zero, suc, ◌<◌, Bool, true, false, not, List, [], ◌∷◌, find, length, Option, None, Some, slice_get, nat_eq, refl, sym, ◌∙◌, ap, subst, arith, eqb-true, eq-eqb, inl, inr}
 use Rattle.std.specs.List.{list_any, range_with_len}
-use Rattle.std.specs.Option.{option_map_or}
 use Rattle.std.proofs.lemmas.Bool.{true≢false, and_parts, and_from}
 use Rattle.trit_cubes.proofs.ListLemmas.{Among}
 use Rattle.bool_functions.specs.declared.tree.Node.{Node}
@@ -19,11 +18,10 @@ use Rattle.udp_tables.specs.Ports.{port_number, event_of}
 use Rattle.specify_blocks.specs.declared.model.VPath.{VPath}
 use Rattle.specify_blocks.specs.declared.model.VModule.{VModule}
 use Rattle.specify_blocks.specs.Generated.{is_conditional}
-use Rattle.table_audit.specs.declared.shape.ShapeTest.{ShapeTest}
 use Rattle.table_audit.specs.declared.verdicts.ShapePart.{ShapePart}
 use Rattle.table_audit.specs.declared.verdicts.ShapePart.TheVariants as part
 use Rattle.table_audit.specs.Terminals.{sequential_instances}
-use Rattle.table_audit.specs.Shape.{cell_inputs, port_inputs, same_bit, same_bits, feeds_group, both, both_or_neither, same_kind, same_edge, same_event, same_check, same_check_at, gated_by, same_path, same_path_at, Gating, gate_wire, gating_of, check_gating, path_gating, feeds_condition, feeds_gating, feeds_output, number_holds, part_count, part_holds, asked_of, asked, asked_once, tests_of, all_parts, shape_tests, is_amiss, first_amiss}
+use Rattle.table_audit.specs.Shape.{cell_inputs, port_inputs, same_bit, same_bits, both, both_or_neither, same_kind, same_edge, same_event, same_check, gated_by, same_path, Gating, gate_wire, gating_of, check_gating, path_gating, feeds_condition, feeds_gating, number_holds, part_count, part_holds, asked_of, asked, asked_once, tests_of, all_parts, shape_tests, is_amiss, first_amiss}
 use Rattle.table_audit.specs.Matches.{SameCheck, SamePath, HasShape}
 use Rattle.table_audit.proofs.Searches.{cons-none, none-cons, flat-none, none-flat, map-none, none-map, in-range, range-in, get-below}
 

@@ -1,14 +1,11 @@
 -- The verdict is Same exactly where the module matches the cell.
-use Rattle.std.proofs.Common.{◌≡◌, Option, None, Some, refl, sym, ◌∙◌, ap}
-use Rattle.cell_machine.specs.CellData.{CellData}
-use Rattle.specify_blocks.specs.declared.model.VModule.{VModule}
+use Rattle.std.proofs.Common.{◌≡◌, Option, None, Some, refl, ◌∙◌, ap}
 use Rattle.table_audit.specs.declared.shape.ShapeTest.{ShapeTest}
 use Rattle.table_audit.specs.declared.verdicts.Difference.{Difference}
-use Rattle.table_audit.specs.declared.verdicts.Verdict.{Verdict}
-use Rattle.table_audit.specs.declared.verdicts.Verdict.TheVariants.{Same, Shape, Differs}
+use Rattle.table_audit.specs.declared.verdicts.Verdict.TheVariants.{Same}
 use Rattle.table_audit.specs.Shape.{shape_tests, first_amiss}
 use Rattle.table_audit.specs.Tables.{compared, first_difference}
-use Rattle.table_audit.specs.Verdict.{by_tables, by_shape, verdict_of}
+use Rattle.table_audit.specs.Verdict.{by_tables, by_shape}
 use Rattle.table_audit.specs.Laws.{SameIsMatching}
 use Rattle.table_audit.proofs.ShapeLaws.{shape-from, from-shape}
 use Rattle.table_audit.proofs.TableLaws.{tables-from, from-tables}

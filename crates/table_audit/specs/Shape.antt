@@ -1,5 +1,5 @@
 -- Whether the parts of a module are those of a cell, apart from the values of its tables.
-use Rattle.std.specs.Prelude.{⊤, ℕ, ◌+◌, ◌≤◌, Bool, true, false, not, ◌&&◌, List, [], ◌∷◌, ◌++◌, length, map, filter, find, flat_map, nat_eq, Option, Some, None, slice_get}
+use Rattle.std.specs.Prelude.{⊤, ℕ, ◌+◌, ◌≤◌, Bool, true, false, not, ◌&&◌, List, [], ◌∷◌, length, map, filter, find, flat_map, nat_eq, Option, Some, None, slice_get}
 use Rattle.std.specs.List.{list_any, range_with_len}
 use Rattle.std.specs.Option.{option_map_or}
 use Rattle.bool_functions.specs.declared.tree.Node.{Node}

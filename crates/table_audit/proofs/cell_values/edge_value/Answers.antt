@@ -1,9 +1,7 @@
-use Rattle.std.proofs.Common.{◌≡◌, ◌≤◌, ◌-◌, suc, List, Bool, false, [], ◌∷◌, ◌++◌, length, take, drop, get_or, slice_index_or, ◌∙◌, ap, arith}
-use Rattle.std.proofs.lemmas.List.{length-append}
-use Rattle.trit_cubes.specs.declared.trits.Trit.TheVariants.{Unknown}
+use Rattle.std.proofs.Common.{◌≡◌, ◌≤◌, ◌-◌, List, Bool, false, length, take, drop, get_or, ◌∙◌, ap, arith}
 use Rattle.cell_machine.specs.Machine.{insert}
 use Rattle.cell_machine.specs.CellData.{data_of}
-use Rattle.cell_machine.specs.CellTrace.{step_at, support_at}
+use Rattle.cell_machine.specs.CellTrace.{step_at}
 use Rattle.udp_tables.proofs.ColumnLemmas.{length-insert}
 use Rattle.udp_tables.proofs.GroupLemmas.{edge_value-parts, length-others}
 use Rattle.table_audit.proofs.cell_values.edge_value.Goals as goal

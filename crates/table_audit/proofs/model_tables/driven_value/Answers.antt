@@ -1,4 +1,4 @@
-use Rattle.std.proofs.Common.{◌≡◌, Some, sym, ◌∙◌, arith}
+use Rattle.std.proofs.Common.{◌≡◌, Some, sym, arith}
 use Rattle.table_audit.specs.Terminals.{driving}
 use Rattle.table_audit.proofs.SoundInstances.{driving-stands, driven-standing}
 use Rattle.table_audit.proofs.model_tables.driven_value.Goals as goal

@@ -1,4 +1,4 @@
-use Rattle.std.proofs.Common.{◌≡◌, Bool, List, length, refl, subst, rules, of_calls}
+use Rattle.std.proofs.Common.{length, refl, subst, rules, of_calls}
 use Rattle.std.specs.Fn.{FnReturnsAt}
 use Rattle.trit_cubes.specs.Filling.{number}
 use Rattle.trit_cubes.specs.Sets.{point_of}

@@ -1,4 +1,4 @@
-use Rattle.std.proofs.Common.{◌∷◌, flat_map, sym, ap, ◌∙◌}
+use Rattle.std.proofs.Common.{flat_map, sym, ap, ◌∙◌}
 use Rattle.std.specs.Option.{option_or}
 use Rattle.cell_machine.specs.CellData.{data_of}
 use Rattle.table_audit.specs.Shape.{tests_of, first_amiss}

@@ -1,4 +1,4 @@
-use Rattle.std.proofs.Common.{◌≡◌, sym, ap, ◌∙◌}
+use Rattle.std.proofs.Common.{sym, ap, ◌∙◌}
 use Rattle.cell_machine.specs.CellData.{data_of}
 use Rattle.table_audit.specs.Shape.{feeds_gating}
 use Rattle.table_audit.proofs.Gatings.{check_few, check_gating_is}

@@ -1,6 +1,6 @@
 use Rattle.std.proofs.Common.{◌≡◌, ◌++◌, map, drop, length}
 use Rattle.cell_machine.specs.CellData.{data_of}
-use Rattle.table_audit.specs.Terminals.{source_net, output_nets}
+use Rattle.table_audit.specs.Terminals.{source_net}
 use Rattle.table_audit.proofs.terminals.output_nets.Given as goal
 
 abbrev pub invariant-loop-source : goal.invariant-loop-source

@@ -1,4 +1,4 @@
-use Rattle.std.proofs.Common.{◌≡◌, ◌+◌, IsTrue, sym, ap, subst, ◌∙◌}
+use Rattle.std.proofs.Common.{◌+◌, IsTrue, sym, ap, subst, ◌∙◌}
 use Rattle.cell_machine.specs.CellData.{data_of}
 use Rattle.table_audit.specs.declared.verdicts.AuditPart.TheVariants as audit_part
 use Rattle.table_audit.specs.Shape.{feeds_gating}

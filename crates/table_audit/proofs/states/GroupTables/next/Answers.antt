@@ -1,4 +1,4 @@
-use Rattle.std.proofs.Common.{◌≡◌, ap, length, sym, arith}
+use Rattle.std.proofs.Common.{ap, length, sym, arith}
 use Rattle.cell_machine.specs.CellData.{data_of}
 use Rattle.table_audit.proofs.SoundInstances.{sequential-stands, fed-count}
 use Rattle.table_audit.proofs.states.GroupTables.next.Goals as goal

@@ -1,7 +1,6 @@
-use Rattle.std.proofs.Common.{◌≡◌, ◌-◌, true, [], ◌∷◌, flat_map, map, length}
+use Rattle.std.proofs.Common.{◌≡◌, ◌-◌, true, [], ◌∷◌, flat_map, map}
 use Rattle.std.specs.List.{range_with_len}
 use Rattle.cell_machine.specs.CellData.{data_of}
-use Rattle.cell_machine.specs.CellTrace.{support_at, sources_at}
 use Rattle.std.specs.Prelude.{Some}
 use Rattle.table_audit.specs.Lists.{trit_numbered}
 use Rattle.table_audit.specs.Tables.{step_compared, notes, first_difference}

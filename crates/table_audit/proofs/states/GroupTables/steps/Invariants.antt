@@ -1,7 +1,6 @@
-use Rattle.std.proofs.Common.{◌≡◌, ◌-◌, true, [], ◌∷◌, flat_map, map, length}
+use Rattle.std.proofs.Common.{◌≡◌, ◌-◌, flat_map}
 use Rattle.std.specs.List.{range_with_len}
 use Rattle.cell_machine.specs.CellData.{data_of}
-use Rattle.cell_machine.specs.CellTrace.{support_at, sources_at}
 use Rattle.table_audit.specs.Tables.{steps_by_old, steps_compared, first_difference}
 use Rattle.table_audit.proofs.states.GroupTables.steps.Given as goal
 

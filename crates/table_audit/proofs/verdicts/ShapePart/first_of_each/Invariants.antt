@@ -1,7 +1,6 @@
-use Rattle.std.proofs.Common.{◌≡◌, ◌-◌, true, [], ◌∷◌, flat_map, map, length}
+use Rattle.std.proofs.Common.{◌≡◌, ◌-◌, map}
 use Rattle.std.specs.List.{range_with_len}
 use Rattle.cell_machine.specs.CellData.{data_of}
-use Rattle.cell_machine.specs.CellTrace.{support_at, sources_at}
 use Rattle.table_audit.specs.Shape.{asked_of, asked, first_amiss}
 use Rattle.table_audit.proofs.verdicts.ShapePart.first_of_each.Given as goal
 

@@ -1,4 +1,5 @@
 //! The tests, and what they share.
+mod audits;
 mod cut_libraries;
 mod failing_calls;
 mod far_reading;

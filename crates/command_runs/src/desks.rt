@@ -16,6 +16,9 @@ pub const REPLAY_VERILOG: [&str; 3] = ["replay-verilog", "in.v", "in.stim"];
 /// Words that replay the VHDL file.
 pub const REPLAY_VITAL: [&str; 3] = ["replay-vital", "in.vhd", "in.stim"];
 
+/// Words that compare the library with the Verilog file.
+pub const AUDIT: [&str; 3] = ["audit", "in.lib", "in.v"];
+
 /// The bytes of the files that those words name.
 #[derive(Copy, Clone)]
 pub struct Files<'a> {

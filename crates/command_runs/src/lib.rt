@@ -10,7 +10,7 @@ mod three_cells;
 mod timed_flip_flops;
 
 pub use desks::{
-    Files, Left, Limits, PIECES, REPLAY_VERILOG, REPLAY_VITAL, SIMULATE, TRANSLATE, desk_of,
+    AUDIT, Files, Left, Limits, PIECES, REPLAY_VERILOG, REPLAY_VITAL, SIMULATE, TRANSLATE, desk_of,
     library_alone, ran, ran_without_files, simulated, simulated_beside_its_own, translated,
     words_of,
 };

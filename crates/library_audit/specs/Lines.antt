@@ -1,7 +1,7 @@
 -- The lines of the report on cells that are compared with their modules (this project's format).
 use Rattle.std.specs.Prelude.{ℕ, ◌+◌, List, [], ◌∷◌, ◌++◌, codes, decimal, flat_map, Option, Some, None}
 use Rattle.trit_cubes.specs.declared.trits.Trit.{Trit}
-use Rattle.stimulus.specs.TraceLine.{value_text}
+use Rattle.trit_cubes.specs.declared.trits.Trit.TheVariants.{Zero, One, Unknown}
 use Rattle.table_audit.specs.declared.verdicts.AuditPart.{AuditPart}
 use Rattle.table_audit.specs.declared.verdicts.AuditPart.TheVariants as table
 use Rattle.table_audit.specs.declared.verdicts.Difference.{Difference}
@@ -28,6 +28,12 @@ table_word table.Notifier = codes "notifier"
 table_word table.Check = codes "check"
 table_word table.Path = codes "path"
 table_word table.Output = codes "output"
+
+-- a value
+abbrev pub value_text : Trit → List ℕ
+value_text Zero = codes "0"
+value_text One = codes "1"
+value_text Unknown = codes "x"
 
 -- a value, a dash where there is none
 abbrev pub known_text : Option Trit → List ℕ

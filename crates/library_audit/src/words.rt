@@ -1,7 +1,6 @@
 //! The words and values of a line on a cell that is compared with its module.
 ghost use Rattle.std.specs.Prelude.{◌≡◌, flat_map};
-ghost use Rattle.stimulus.specs.TraceLine.{value_text as value_text_of};
-ghost use Rattle.library_audit.specs.Lines.{shape_word as shape_word_of, table_word as table_word_of, known_text as known_text_of, place_text, listed_value, listed_text};
+ghost use Rattle.library_audit.specs.Lines.{shape_word as shape_word_of, table_word as table_word_of, value_text as value_text_of, known_text as known_text_of, place_text, listed_value, listed_text};
 
 use table_audit::{AuditPart, ShapePart};
 use text_io::{Desk, Line, OutSlot};

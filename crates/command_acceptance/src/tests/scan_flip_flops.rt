@@ -79,7 +79,7 @@ macro_rules! scan_library {
 }
 
 /// With the plain flip-flop in the test cell.
-const SCAN_FLIP_FLOP: &str = scan_library!("signal_type : test_scan_enable;", "D");
+pub(crate) const SCAN_FLIP_FLOP: &str = scan_library!("signal_type : test_scan_enable;", "D");
 
 /// With one that takes the other value.
 const OTHER_NEXT: &str = scan_library!("signal_type : test_scan_enable;", "!D");

@@ -69,7 +69,7 @@ fn has_all_rows(alloc: Global, function: &str) -> Result<bool, Fail> {
 }
 
 /// Whether words have no reading.
-fn is_usage(alloc: Global, words: &[&str]) -> Result<bool, Fail> {
+pub(crate) fn is_usage(alloc: Global, words: &[&str]) -> Result<bool, Fail> {
     let left = ran_without_files(alloc, words)?;
     Ok(left.is(Status::Usage, "", "lib2sim: usage\n"))
 }

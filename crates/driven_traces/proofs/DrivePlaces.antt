@@ -1,6 +1,6 @@
 -- The number of a driven output, found in the list of them, which ascends.
 use Rattle.std.proofs.Common.{◌≡◌, ℕ, zero, suc, ◌<◌, ◌≤◌, false, cond, inl, inr, List, [], ◌∷◌, length, get_or, sym, ap, ◌∙◌, Some, None, Ok, Err, arith}
-use Rattle.std.specs.Prelude.{nat_eq, nat_lt, position, Result}
+use Rattle.std.specs.Prelude.{nat_eq, nat_lt, position}
 use Rattle.std.specs.List.{position_or_len}
 use Rattle.std.specs.Ordering.{nat_cmp}
 use Rattle.std.specs.List.Sorted.{IsBinarySearchResult}

@@ -1,5 +1,5 @@
 -- What the driven outputs show, as a simulator keeps it.
-use Rattle.std.proofs.Common.{◌≡◌, ℕ, ◌+◌, ◌<◌, List, [], ◌∷◌, length, map, get_or, refl, sym, ap, ◌∙◌, Option, Some, None, arith}
+use Rattle.std.proofs.Common.{◌≡◌, ℕ, ◌<◌, List, [], ◌∷◌, length, map, get_or, refl, sym, ap, ◌∙◌, Some, None, arith}
 use Rattle.std.specs.Prelude.{slice_get, nat_eq}
 use Rattle.std.specs.List.{range_with_len}
 use Rattle.std.proofs.lemmas.List.FromFn.{get_or-map-range_with_len, get_or-range_with_len, length-range_with_len}
@@ -9,12 +9,11 @@ use Rattle.cell_machine.specs.declared.changes.Change.{Change}
 use Rattle.cell_machine.specs.Each.{each}
 use Rattle.cell_machine.specs.Lines.{Line}
 use Rattle.cell_machine.proofs.EachLemmas.{each-map}
-use Rattle.stimulus.specs.declared.drives.Drive.{Drive}
 use Rattle.stimulus.specs.declared.drives.Drive.TheVariants.{Unknown}
 use Rattle.driven_traces.specs.declared.drivers.Driver.{Driver}
 use Rattle.driven_traces.specs.declared.driven_sim.DriveShown.{DriveShown}
 use Rattle.driven_traces.specs.Drivers.{number_of}
-use Rattle.driven_traces.specs.DrivenLines.{driven_value, driven_delay, value_by, delay_by, driven_line}
+use Rattle.driven_traces.specs.DrivenLines.{driven_value, value_by, delay_by, driven_line}
 use Rattle.driven_traces.specs.DrivenStands.{numbers, next_shown, shown_after}
 
 -- each number stands at its own place among the numbers

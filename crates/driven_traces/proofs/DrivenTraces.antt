@@ -1,14 +1,14 @@
 -- Driven traces of two cores, and of a core where nothing is driven.
-use Rattle.std.proofs.Common.{◌≡◌, ℕ, List, [], ◌∷◌, length, map, get_or, refl, sym, ◌∙◌, ◌<◌, Option, None, arith}
+use Rattle.std.proofs.Common.{◌≡◌, ℕ, List, [], ◌∷◌, length, map, get_or, refl, sym, ◌∙◌, Option, None, arith}
 use Rattle.std.proofs.lemmas.List.{get_or-map, length-map}
 use Rattle.std.proofs.lemmas.List.FromFn.{fill_by_all}
 use Rattle.trit_cubes.specs.declared.trits.Trit.{Trit}
 use Rattle.trit_cubes.specs.declared.trits.Trit.TheVariants.{Unknown}
 use Rattle.cell_machine.specs.declared.changes.Change.{Change}
 use Rattle.cell_machine.specs.Inputs.{numbered_value}
-use Rattle.cell_machine.specs.Lines.{Line, lines_from, trace, Machine, IsSized}
+use Rattle.cell_machine.specs.Lines.{Line, lines_from, Machine, IsSized}
 use Rattle.stimulus.specs.declared.drives.Drive.TheVariants as drives
-use Rattle.stimulus.specs.DriveLines.{drive_of, lines_after, lines_along, drive_line}
+use Rattle.stimulus.specs.DriveLines.{drive_of, lines_after, drive_line}
 use Rattle.driven_traces.specs.declared.drivers.Driver.{Driver}
 use Rattle.driven_traces.specs.Drivers.{plain}
 use Rattle.driven_traces.specs.DrivenLines.{driven_value, driven_delay, places, line_with, first_line, next_line, driven_line}

@@ -1,6 +1,6 @@
 -- The driven trace: what is shown of a core's trace behind the drivers of its outputs. A driven output shows what its driver
 -- drives of the core's value under its enable, and its delay and change are judged on that. All else is the core's trace.
-use Rattle.std.specs.Prelude.{ℕ, ◌+◌, List, [], ◌∷◌, length, map, Option, Some, None, slice_index_or, if◌then◌else◌}
+use Rattle.std.specs.Prelude.{ℕ, ◌+◌, List, [], ◌∷◌, map, Option, Some, None, slice_index_or, if◌then◌else◌}
 use Rattle.std.specs.List.{range_with_len}
 use Rattle.trit_cubes.specs.declared.trits.Trit.{Trit}
 use Rattle.cell_machine.specs.declared.changes.Change.{Change}

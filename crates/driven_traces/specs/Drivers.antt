@@ -1,5 +1,5 @@
 -- The drivers at the outputs of a core: which outputs are driven, and under which enables. This project's rule.
-use Rattle.std.specs.Prelude.{◌≡◌, ℕ, ◌+◌, ◌<◌, All, IsTrue, List, [], length, nat_eq, position, Option, slice_index_or}
+use Rattle.std.specs.Prelude.{◌≡◌, ℕ, ◌+◌, ◌<◌, All, IsTrue, [], length, nat_eq, position, Option, slice_index_or}
 use Rattle.cell_machine.specs.CellRules.{is_ascending}
 use Rattle.cell_machine.specs.Lines.{Machine}
 use Rattle.driven_traces.specs.declared.delays.DrivePath.{DrivePath}

@@ -105,7 +105,13 @@ fn driven_value<S: CellSim>(core: &S, driver: &Driver, number: usize) -> Drive
 }
 
 /// The delay of the driven output with this number at a change of an input, before which it showed `was`.
-fn driven_delay(driver: &Driver, input: usize, number: usize, was: Drive, value: Drive) -> Option<u64>
+fn driven_delay(
+    driver: &Driver,
+    input: usize,
+    number: usize,
+    was: Drive,
+    value: Drive,
+) -> Option<u64>
     ensures { result ≡ driven_delay driver.now input number was value }
 {
     if was == value {

@@ -1,5 +1,6 @@
 //! The tests, and what they share.
 mod cubes;
+mod driven_outputs;
 mod pin_timings;
 mod port_names;
 mod primitives;

@@ -11,7 +11,7 @@ use stimulus::{
 use trit_cubes::Trit;
 
 /// A list of one name.
-fn one(alloc: Global, name: &[u8]) -> Result<Names, AllocError> {
+pub fn one(alloc: Global, name: &[u8]) -> Result<Names, AllocError> {
     let mut names = Names::new(alloc);
     names.add(name)?;
     Ok(names)

@@ -1,5 +1,6 @@
 use Rattle.std.proofs.Common.{◌<◌, ◌≤◌, ap, sym, ◌∙◌, length, get_or, arith, None}
 use Rattle.std.proofs.Math.ListN.{length-set}
+use Rattle.cell_machine.specs.Each.{each}
 use Rattle.cell_machine.proofs.EachLemmas.{each-kept, each-done}
 use Rattle.stimulus.specs.declared.drives.Drive.TheVariants.{Zero}
 use Rattle.driven_traces.specs.DrivenLines.{driven_delay}
@@ -18,6 +19,7 @@ loop-number-preserved g c =
           let values = ((g.S.CellSim.machine c.args.core.now).line h).values in
           let value = c.driven_value-value.ensures h s in
           each-kept (λ number was. next_shown driver c.args.input values was.value number) (numbers driver) c.loop-number.shown at (record { value = Zero; delay = None })
+          {whole = each (λ number was. next_shown driver c.args.input values was.value number) (numbers driver) c.args.shown.now}
           (number_at (length driver.drives) at inside) many
           (λ i. record {
             value = value i;

@@ -4,3 +4,4 @@ mod libraries;
 mod limits;
 mod refusals;
 mod scan_flip_flops;
+mod three_state_outputs;

@@ -1,6 +1,6 @@
 //! Cells of Liberty texts.
 use bool_functions::Names;
-use cell_reader::{CellFault, ReadCell, read_cell};
+use cell_reader::{CellFault, LeftOut, ReadCell, read_cell};
 use liberty_groups::{Group, read_library};
 use liberty_text::Unit;
 use std::alloc::Global;
@@ -45,7 +45,7 @@ pub fn last_answer(alloc: Global, text: &[u8], unit: Option<Unit>) -> Result<Ans
 }
 
 /// A text without its mark `@`, and the place of the mark.
-fn unmarked(alloc: Global, text: &str) -> Result<(String, usize), Fail> {
+pub fn unmarked(alloc: Global, text: &str) -> Result<(String, usize), Fail> {
     let (before, after) = text.split_once("@").ok_or("no mark")?;
     Ok((format!(in alloc; "{before}{after}")?, before.len()))
 }
@@ -84,4 +84,14 @@ pub fn accepts(alloc: Global, libraries: &[&str]) -> Result<bool, Fail> {
         }
     }
     Ok(true)
+}
+
+/// Whether these are the timing groups that are left out: the number of the pin that has each, and its type.
+pub fn leaves_out(left_out: &[LeftOut], wanted: &[(usize, &str)]) -> bool {
+    for (group, (pin, kind)) in left_out.iter().zip(wanted.iter()) {
+        if group.pin != *pin || group.kind.as_slice() != kind.as_bytes() {
+            return false;
+        }
+    }
+    left_out.len() == wanted.len()
 }

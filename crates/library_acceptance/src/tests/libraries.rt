@@ -1,5 +1,5 @@
 //! Cells of libraries, as they are read.
-use super::liberty::{Answer, answers, last_answer};
+use super::liberty::{Answer, answers, last_answer, leaves_out};
 use cell_machine::{Arc, Cell, CheckKind, Edge, Event};
 use cell_reader::ReadCell;
 use liberty_text::Unit;
@@ -200,16 +200,6 @@ const LEFT_OUT: [(usize, &str); 10] = [
 const TABLES: &str =
     "cell_rise (t) { values (0.001); } cell_fall (t) { values (0.002); } rise_constraint (t) { values (0.003); } fall_constraint (t) { values (0.004); }";
 
-/// Whether these timing groups are left out.
-fn leaves_out(read: &ReadCell, wanted: &[(usize, &str)]) -> bool {
-    for (left_out, (pin, kind)) in read.left_out.as_slice().iter().zip(wanted.iter()) {
-        if left_out.pin != *pin || left_out.kind.as_slice() != kind.as_bytes() {
-            return false;
-        }
-    }
-    read.left_out.len() == wanted.len()
-}
-
 /// Timing groups of these types that are related to A.
 fn groups_of(alloc: Global, types: &str) -> Result<String, Fail> {
     let mut groups = String::new(alloc);
@@ -234,7 +224,11 @@ fn all_types(alloc: Global) -> Result<String, Fail> {
 fn reads_every_type(alloc: Global, tables: &str) -> Result<bool, Fail> {
     let text = all_types(alloc)?.replace(alloc, "TABLES", tables)?;
     let read = only_cell(alloc, text.as_bytes())?;
-    Ok(read.cell.checks.len() == 14 && read.cell.arcs.len() == 8 && leaves_out(&read, &LEFT_OUT))
+    Ok(
+        read.cell.checks.len() == 14
+            && read.cell.arcs.len() == 8
+            && leaves_out(read.left_out.as_slice(), &LEFT_OUT),
+    )
 }
 
 #[test]

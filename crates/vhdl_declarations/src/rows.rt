@@ -1,7 +1,8 @@
 //! Rows of tables, of any kind. (IEEE 1076.4-2000, the VITAL table types.)
 
+ghost use Rattle.std.specs.Prelude.{[], ◌∷◌, ◌++◌};
 ghost use Rattle.rule_readers.specs.declared.refusal.Refusal.TheVariants.{Syntax};
-ghost use Rattle.rule_readers.specs.Reading.{read, Token, Reads};
+ghost use Rattle.rule_readers.specs.Reading.{read, Token, Reads, ReadsAs};
 ghost use Rattle.vhdl_text.specs.VhdlTables as tables;
 ghost use Rattle.vhdl_declarations.specs.Rows as spec;
 
@@ -58,6 +59,16 @@ fn row_end<R: TableRow>(cursor: &mut Cursor<'_>, rows: &[R], row: Option<R>) -> 
     Ok(row)
 }
 
+/// A row of a table, behind these rows.
+fn a_row<R: TableRow>(cursor: &mut Cursor<'_>, alloc: Global, rows: &[R]) -> Read<R>
+    ensures { ReadsAs (λ row. rows.now ++ row ∷ []) (spec.row R.entries R.row_of R.is_as_long rows.now cursor.old) result cursor.new }
+{
+    cursor.expect(b"(")?;
+    let entries = R::entries(cursor, alloc)?;
+    let row = R::row_of(alloc, entries.as_slice())?;
+    row_end(cursor, rows, row)
+}
+
 /// A row of a table.
 #[derive(Drop)]
 pub struct NextRow<R> {
@@ -81,11 +92,8 @@ impl<R: TableRow> RepeatedPart<Vhdl> for NextRow<R> {
     ghost reading = { λ _ rows s. spec.row R.entries R.row_of R.is_as_long rows s };
 
     fn next(&self, cursor: &mut Cursor<'_>, mut rows: Items<R>) -> Read<Items<R>> {
-        cursor.expect(b"(")?;
-        let entries = R::entries(cursor, self.alloc)?;
-        let row = R::row_of(self.alloc, entries.as_slice())?;
-        let whole = row_end(cursor, rows.as_slice(), row)?;
-        rows.push(whole)?;
+        let row = a_row(cursor, self.alloc, rows.as_slice())?;
+        rows.push(row)?;
         Ok(rows)
     }
 }

@@ -1,7 +1,6 @@
 -- The fields of an entity's simulator at the start and after a change.
 use Rattle.std.proofs.Common.{◌≡◌, ℕ, suc, ◌<◌, Bool, true, false, ◌&&◌, List, [], ◌∷◌, length, map, replicate, get_or, set, refl, ap, sym, ◌∙◌, subst, arith, if◌then◌else◌}
 use Rattle.trit_cubes.specs.declared.trits.Trit.{Trit}
-use Rattle.trit_cubes.specs.declared.trits.Trit.TheVariants.{Unknown}
 use Rattle.cell_machine.specs.declared.changes.Change.{Change}
 use Rattle.cell_machine.specs.Each.{each}
 use Rattle.cell_machine.specs.History.{inputs_after, value_before, is_event}
@@ -10,10 +9,8 @@ use Rattle.cell_machine.proofs.EachLemmas.{each-map}
 use Rattle.udp_tables.specs.declared.timing_checks.TimingCheck.{TimingCheck}
 use Rattle.vital_models.specs.declared.model.VEntity.{VEntity}
 use Rattle.vital_models.specs.Sound.{IsCheck, IsSound}
-use Rattle.cell_machine.specs.declared.times.Times.{Times}
 use Rattle.model_traces.specs.PortNumbers.{input_count, input_event}
 use Rattle.model_traces.specs.CheckTimes.{stamped, reports_where}
-use Rattle.cell_machine.specs.Times.{no_times}
 use Rattle.model_traces.specs.Laws.{last_stamps}
 use Rattle.model_traces.specs.SignalTimes.{check_reports}
 use Rattle.model_traces.specs.ProcessLaws.{last_times}
@@ -23,7 +20,7 @@ use Rattle.model_traces.proofs.RunLemmas.{start-stamps, still-stamps, opened-las
 use Rattle.model_traces.proofs.ProcessLemmas.{looked-each, process-inputs, process-times, later-second, earlier-first}
 use Rattle.table_interpreters.specs.declared.shown.Shown.{Shown}
 use Rattle.table_interpreters.specs.declared.process_run.ProcessState.{ProcessState}
-use Rattle.table_interpreters.specs.EntitySteps.{next_by, event_reports, event_step, state_step, change_reports, output_step, output_first, output_shown, IsTied, EntityStands}
+use Rattle.table_interpreters.specs.EntitySteps.{start_state, next_by, event_reports, event_step, state_step, change_reports, output_step, output_first, output_shown, IsTied, EntityStands}
 
 -- a check with the events of its kind reports as the process says
 report-same :
@@ -50,26 +47,23 @@ reports-same e n h inputs a c (k ∷ ks) are =
 
 -- Before any change.
 pub entity-starts :
-    (e : VEntity) (inputs before states : List Trit) (stamps : List Times) (reports : List Bool) (shown : List Shown)
-    → inputs ≡ replicate (input_count e.ports) Unknown
-    → before ≡ replicate (input_count e.ports) Unknown
-    → states ≡ replicate (length e.states) Unknown
-    → stamps ≡ replicate (length e.checks) no_times
+    (e : VEntity) (run : ProcessState) (reports : List Bool) (shown : List Shown)
+    → run ≡ start_state e
     → reports ≡ replicate (length e.checks) false
-    → shown ≡ map (output_first e inputs states) e.outputs
-    → EntityStands e (record { inputs = inputs; before = before; states = states; violation = Unknown; stamps = stamps }) reports shown []
-entity-starts e inputs before states stamps reports shown i b s k r o =
+    → shown ≡ map (output_first e run.inputs run.states) e.outputs
+    → EntityStands e run reports shown []
+entity-starts e run reports shown s r o =
     record {
       tied =
           record {
-            inputs_are = i;
-            before_are = b;
-            states_are = s;
-            columns_are = ap (all_columns e Unknown) (sym b);
+            inputs_are = λ j. (s j).inputs;
+            before_are = λ j. (s j).before;
+            states_are = λ j. (s j).states;
+            columns_are = λ j. all_columns e (sym s j).violation (sym s j).before;
           };
-      stamps_are = k ∙ start-stamps e.ports (input_count e.ports) e.checks;
+      stamps_are = (λ j. (s j).stamps) ∙ start-stamps e.ports (input_count e.ports) e.checks;
       reports_are = r;
-      shown_are = o ∙ (λ j. map (output_first e (i j) (s j)) e.outputs);
+      shown_are = o ∙ (λ j. map (output_first e (s j).inputs (s j).states) e.outputs);
     }
 
 module _ (e : VEntity) (sound : IsSound e) (run : ProcessState) (reports : List Bool) (shown : List Shown) (h : List Change)

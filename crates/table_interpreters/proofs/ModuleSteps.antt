@@ -1,7 +1,5 @@
 -- The fields of a module's simulator at the start and after a change.
 use Rattle.std.proofs.Common.{◌≡◌, ℕ, suc, ◌+◌, Bool, true, false, List, [], ◌∷◌, ◌++◌, append_assoc, length, map, replicate, drop, refl, sym, ap, ◌∙◌, add-one, Some, slice_get, if◌then◌else◌}
-use Rattle.trit_cubes.specs.declared.trits.Trit.{Trit}
-use Rattle.trit_cubes.specs.declared.trits.Trit.TheVariants.{Unknown}
 use Rattle.cell_machine.specs.declared.changes.Change.{Change}
 use Rattle.cell_machine.specs.History.{is_event}
 use Rattle.std.proofs.lemmas.List.{map-append}
@@ -9,12 +7,10 @@ use Rattle.std.proofs.lemmas.Simd.{map-map}
 use Rattle.cell_machine.proofs.ArcDelays.{drop-at}
 use Rattle.udp_tables.specs.declared.models.VPort.{VPort}
 use Rattle.specify_blocks.specs.declared.model.VModule.{VModule}
-use Rattle.cell_machine.specs.declared.times.Times.{Times}
 use Rattle.model_traces.specs.declared.module_run.ModuleRun.{ModuleRun}
 use Rattle.table_interpreters.specs.declared.shown.Shown.{Shown}
-use Rattle.model_traces.specs.PortNumbers.{input_count, output_by, outputs_from, output_ports}
-use Rattle.cell_machine.specs.Times.{no_times}
-use Rattle.model_traces.specs.ModuleRun.{shaken, reports_at, happened, run_step, step_reports, run_after}
+use Rattle.model_traces.specs.PortNumbers.{output_by, outputs_from, output_ports}
+use Rattle.model_traces.specs.ModuleRun.{start_run, shaken, reports_at, happened, run_step, step_reports, run_after}
 use Rattle.table_interpreters.specs.ShownPorts.{shown_first, shown_step}
 use Rattle.table_interpreters.specs.ModuleStands.{shown_after, Stands}
 
@@ -52,18 +48,16 @@ outputs-step f ports i port old new e is =
 
 -- Before any change.
 pub start-stands :
-    (m : VModule) (inputs states : List Trit) (stamps : List Times) (reports : List Bool) (shown : List Shown)
-    → inputs ≡ replicate (input_count m.ports) Unknown
-    → states ≡ replicate (length m.instances) Unknown
-    → stamps ≡ replicate (length m.checks) no_times
+    (m : VModule) (run : ModuleRun) (reports : List Bool) (shown : List Shown)
+    → run ≡ start_run m
     → reports ≡ replicate (length m.checks) false
-    → shown ≡ map (shown_first m inputs states) (output_ports m.ports)
-    → Stands m (record { inputs = inputs; states = states; notifier = Unknown; stamps = stamps }) reports shown []
-start-stands m inputs states stamps reports shown i s k r o =
+    → shown ≡ map (shown_first m run.inputs run.states) (output_ports m.ports)
+    → Stands m run reports shown []
+start-stands m run reports shown s r o =
     record {
-      run_is = λ j. record { inputs = i j; states = s j; notifier = Unknown; stamps = k j };
+      run_is = s;
       reports_are = r;
-      shown_are = o ∙ (λ j. map (shown_first m (i j) (s j)) (output_ports m.ports));
+      shown_are = o ∙ (λ j. map (shown_first m (s j).inputs (s j).states) (output_ports m.ports));
     }
 
 -- After a change.

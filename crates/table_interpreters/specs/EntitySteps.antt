@@ -2,10 +2,12 @@
 -- a part, and in place of the columns of the last event their inputs and the violation are kept.
 use Rattle.std.specs.Prelude.{◌≡◌, ◌<◌, ℕ, Bool, false, List, length, map, replicate, slice_set, None, if◌then◌else◌}
 use Rattle.trit_cubes.specs.declared.trits.Trit.{Trit}
+use Rattle.trit_cubes.specs.declared.trits.Trit.TheVariants.{Unknown}
 use Rattle.cell_machine.specs.declared.changes.Change.{Change}
 use Rattle.cell_machine.specs.Each.{each}
 use Rattle.cell_machine.specs.History.{value_before, is_event}
 use Rattle.cell_machine.specs.Report.{any_true}
+use Rattle.cell_machine.specs.Times.{no_times}
 use Rattle.vital_models.specs.declared.model.VState.{VState}
 use Rattle.vital_models.specs.declared.model.VOutput.{VOutput}
 use Rattle.vital_models.specs.declared.model.VEntity.{VEntity}
@@ -23,6 +25,17 @@ use Rattle.table_interpreters.specs.EntityRooms.{IsSound, HasRoom}
 pub use Rattle.model_traces.specs.ProcessRun.{violation_by}
 pub use Rattle.model_traces.specs.EntityTrace.{entity_machine}
 pub use Rattle.table_interpreters.specs.EntitySized.{entity_sized}
+
+-- before any change: all inputs, states and the violation are X, and no time is kept
+abbrev pub start_state : VEntity → ProcessState
+start_state e =
+    record {
+      inputs = replicate (input_count e.ports) Unknown;
+      before = replicate (input_count e.ports) Unknown;
+      states = replicate (length e.states) Unknown;
+      violation = Unknown;
+      stamps = replicate (length e.checks) no_times;
+    }
 
 -- the next state, where the violation and the inputs were these before and are those now
 abbrev pub next_by : VEntity → Trit → List Trit → Trit → List Trit → VState → Trit → Trit

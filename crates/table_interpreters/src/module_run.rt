@@ -1,19 +1,42 @@
 //! How a change of an input takes the run of a module on. `room` has place for the values of the nets that feed one instance.
-ghost use Rattle.std.specs.Prelude.{◌≡◌, ◌<◌, [], ◌∷◌, length, IsTrue};
+ghost use Rattle.std.specs.Prelude.{◌≡◌, ◌<◌, [], ◌∷◌, length, IsTrue, IfOk};
 ghost use Rattle.table_interpreters.specs.Wiring.{is_wired};
 ghost use Rattle.table_interpreters.specs.ModuleStands.{IsReady};
 ghost use Rattle.cell_machine.specs.History.{value_before};
 ghost use Rattle.model_traces.specs.Primitives.{next_states};
-ghost use Rattle.model_traces.specs.ModuleRun.{toggled, entered, notified, shaken, reports_at, happened, step_reports, run_step, HasEach};
+ghost use Rattle.model_traces.specs.PortNumbers.{input_count};
+ghost use Rattle.model_traces.specs.ModuleRun.{start_run, toggled, entered, notified, shaken, reports_at, happened, step_reports, run_step, HasEach};
 
 use crate::checks::{InputChange, clear, compare_all, stamp_all};
 use crate::module_tables::ModuleTables;
 use crate::module_values::ModuleValues;
+use crate::ports::input_count;
 use crate::primitives::step_states;
+use crate::starts::{no_times, unknown_values};
 use cell_machine::Change;
 use model_traces::{ModuleRun, Turn, Turned};
+use specify_blocks::VModule;
 use sqlite_items::Items;
+use std::alloc::{AllocError, Global};
 use trit_cubes::Trit;
+
+/// The run of a module before any change.
+pub(crate) fn start_run(alloc: Global, model: &VModule) -> Result<ModuleRun, AllocError>
+    ensures run { IfOk result (λ run. run ≡ start_run model.now) }
+    ensures each_input { IfOk result (λ run. length run.inputs ≡ input_count model.now.ports) }
+    ensures one_each { IfOk result (λ run. HasEach model.now run) }
+{
+    let count = input_count(model.ports.as_slice());
+    let inputs = unknown_values(alloc, count)?;
+    let states = unknown_values(alloc, model.instances.len())?;
+    let stamps = no_times(alloc, model.checks.len())?;
+    Ok(ModuleRun {
+        inputs,
+        states,
+        notifier: Trit::Unknown,
+        stamps,
+    })
+}
 
 /// What the register of the checks becomes at a violation.
 fn toggled(notifier: Trit) -> Trit

@@ -1,16 +1,21 @@
 //! How a change of an input takes the run of a process on.
-ghost use Rattle.std.specs.Prelude.{◌≡◌, ◌<◌, length};
+ghost use Rattle.std.specs.Prelude.{◌≡◌, ◌<◌, length, IfOk};
 ghost use Rattle.cell_machine.specs.History.{value_before};
 ghost use Rattle.cell_machine.specs.Report.{any_true};
-ghost use Rattle.table_interpreters.specs.EntitySteps.{violation_by, event_reports, event_step, state_step, change_reports, IsReady, CanTake};
+ghost use Rattle.model_traces.specs.PortNumbers.{input_count};
+ghost use Rattle.table_interpreters.specs.EntitySteps.{HasParts, start_state, violation_by, event_reports, event_step, state_step, change_reports, IsReady, CanTake};
 
 use crate::checks::{InputChange, clear, compare_all, stamp_all};
 use crate::entity_tables::EntityTables;
 use crate::entity_values::EntityValues;
+use crate::ports::input_count;
 use crate::process_states::step_entity;
+use crate::starts::{no_times, unknown_values};
 use cell_machine::{Change, Times};
 use sqlite_items::Items;
+use std::alloc::{AllocError, Global};
 use trit_cubes::Trit;
+use vital_models::VEntity;
 
 /// What a run of a process holds.
 #[derive(Drop)]
@@ -25,6 +30,26 @@ pub struct ProcessState {
     pub violation: Trit,
     /// For each check the times that it keeps.
     pub stamps: Items<Times>,
+}
+
+/// The run of a process before any change.
+pub(crate) fn start_state(alloc: Global, model: &VEntity) -> Result<ProcessState, AllocError>
+    ensures run { IfOk result (λ run. run ≡ start_state model.now) }
+    ensures each_input { IfOk result (λ run. length run.inputs ≡ input_count model.now.ports) }
+    ensures one_each { IfOk result (λ run. HasParts model.now run) }
+{
+    let count = input_count(model.ports.as_slice());
+    let inputs = unknown_values(alloc, count)?;
+    let before = unknown_values(alloc, count)?;
+    let states = unknown_values(alloc, model.states.len())?;
+    let stamps = no_times(alloc, model.checks.len())?;
+    Ok(ProcessState {
+        inputs,
+        before,
+        states,
+        violation: Trit::Unknown,
+        stamps,
+    })
 }
 
 /// Whether some check reported.

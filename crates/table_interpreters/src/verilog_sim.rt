@@ -6,12 +6,11 @@ ghost use Rattle.table_interpreters.specs.ModuleIndexed.{IsModuleIndex};
 ghost use Rattle.table_interpreters.specs.ModuleStands.{IsReady, Stands, module_machine, module_sized};
 
 use crate::module_index::ModuleIndex;
-use crate::module_run::change;
+use crate::module_run::{change, start_run};
 use crate::module_tables::ModuleTables;
 use crate::module_values::ModuleValues;
-use crate::ports::input_count;
 use crate::shown::{Shown, first_shown, show_all};
-use crate::starts::{no_reports, no_times, unknown_values};
+use crate::starts::{no_reports, unknown_values};
 use crate::wiring::most_nets;
 use cell_machine::{CellSim, Change, Sizes};
 use model_traces::ModuleRun;
@@ -42,10 +41,7 @@ impl<'a> VerilogSim<'a> {
         ensures stands { IfOk result (λ sim. ⟦<VerilogSim<'a> as CellSim>⟧.stands sim []) }
     {
         let mut room = unknown_values(alloc, most_nets(model))?;
-        let count = input_count(model.ports.as_slice());
-        let inputs = unknown_values(alloc, count)?;
-        let states = unknown_values(alloc, model.instances.len())?;
-        let stamps = no_times(alloc, model.checks.len())?;
+        let run = start_run(alloc, model)?;
         let reports = no_reports(alloc, model.checks.len())?;
         let index = ModuleIndex::of(alloc, model)?;
         let tables = ModuleTables {
@@ -55,16 +51,10 @@ impl<'a> VerilogSim<'a> {
         let shown = first_shown(
             alloc,
             &tables,
-            inputs.as_slice(),
-            states.as_slice(),
+            run.inputs.as_slice(),
+            run.states.as_slice(),
             &mut room,
         )?;
-        let run = ModuleRun {
-            inputs,
-            states,
-            notifier: Trit::Unknown,
-            stamps,
-        };
         Ok(VerilogSim {
             model,
             index,

@@ -9,12 +9,11 @@ ghost use Rattle.table_interpreters.specs.EntitySteps.{IsReady, EntityStands, en
 use crate::entity_index::EntityIndex;
 use crate::entity_tables::EntityTables;
 use crate::entity_values::EntityValues;
-use crate::ports::input_count;
 use crate::process_rooms::most_columns;
-use crate::process_run::{ProcessState, take};
+use crate::process_run::{ProcessState, start_state, take};
 use crate::process_shown::{show_entity, show_first};
 use crate::shown::Shown;
-use crate::starts::{no_reports, no_times, unknown_values};
+use crate::starts::{no_reports, unknown_values};
 use cell_machine::{CellSim, Change, Sizes};
 use sqlite_items::Items;
 use std::alloc::{AllocError, Global};
@@ -47,11 +46,7 @@ impl<'a> VitalSim<'a> {
         let most = most_columns(model);
         let earlier = unknown_values(alloc, most)?;
         let mut room = unknown_values(alloc, most)?;
-        let count = input_count(model.ports.as_slice());
-        let inputs = unknown_values(alloc, count)?;
-        let before = unknown_values(alloc, count)?;
-        let states = unknown_values(alloc, model.states.len())?;
-        let stamps = no_times(alloc, model.checks.len())?;
+        let run = start_state(alloc, model)?;
         let reports = no_reports(alloc, model.checks.len())?;
         let index = EntityIndex::of(alloc, model)?;
         let tables = EntityTables {
@@ -61,17 +56,10 @@ impl<'a> VitalSim<'a> {
         let shown = show_first(
             alloc,
             &tables,
-            inputs.as_slice(),
-            states.as_slice(),
+            run.inputs.as_slice(),
+            run.states.as_slice(),
             &mut room,
         )?;
-        let run = ProcessState {
-            inputs,
-            before,
-            states,
-            violation: Trit::Unknown,
-            stamps,
-        };
         Ok(VitalSim {
             model,
             index,

@@ -295,8 +295,8 @@ def entity_paths(n):
         ports,
         ["11", "00"],
         ports[:1],
-        'VitalPathDelay01 (OutSignal => Y, GlitchData => g_1, OutSignalName => "Y", OutTemp => z_1, Paths => (%s), Mode => VitalTransport)'
-        % entries,
+        'VitalPathDelay01 (OutSignal => Y, GlitchData => g_1, OutSignalName => "Y", OutTemp => z_1, '
+        "Paths => (%s), Mode => VitalTransport)" % entries,
     )
 
 

@@ -23,3 +23,4 @@ pub use timed_flip_flops::{
     GUARDED_FLIP_FLOP, PLAIN_FLIP_FLOP_MODULE, TIMED_FLIP_FLOP, TIMED_FLIP_FLOP_ENTITY,
     TIMED_FLIP_FLOP_MODULE,
 };
+pub use translate_cmd::{Status, run, run_gated, run_sure};

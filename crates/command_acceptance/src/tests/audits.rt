@@ -2,13 +2,12 @@
 use super::scan_flip_flops::SCAN_FLIP_FLOP;
 use super::words_and_udp::is_usage;
 use command_runs::{
-    AUDIT, FLIP_FLOP, Files, Left, NO_MODULE, THREE_CELLS, Whole, leaves_fronts_in_pieces, ran,
-    translated,
+    AUDIT, FLIP_FLOP, Files, Left, NO_MODULE, Status, THREE_CELLS, Whole, leaves_fronts_in_pieces,
+    ran, translated,
 };
 use std::alloc::Global;
 use std::test::Fail;
 use text_io::OutSlot;
-use translate_cmd::Status;
 
 /// A library and a Verilog file.
 fn two_files<'a>(library: &'a str, verilog: &'a str) -> Files<'a> {

@@ -3,14 +3,13 @@
 use super::runs_on_test_cells::TWO_CELLS;
 use super::words_and_udp::AND;
 use command_runs::{
-    FIRST_ENTITY, FIRST_MODULE, Limits, THIRD_ENTITY, THIRD_MODULE, THREE_CELLS, THREE_LINES,
-    TRANSLATE, Whole, desk_of, done, leaves_fronts, leaves_fronts_in_pieces, leaves_nothing,
-    library_alone,
+    FIRST_ENTITY, FIRST_MODULE, Limits, Status, THIRD_ENTITY, THIRD_MODULE, THREE_CELLS,
+    THREE_LINES, TRANSLATE, Whole, desk_of, done, leaves_fronts, leaves_fronts_in_pieces,
+    leaves_nothing, library_alone, run_gated,
 };
 use std::alloc::Global;
 use std::test::Fail;
 use text_io::GatedDesk;
-use translate_cmd::{Status, run_gated};
 
 /// The library of three cells, translated.
 const THREE_TRANSLATED: Whole = Whole {

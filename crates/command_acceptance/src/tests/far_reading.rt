@@ -1,12 +1,11 @@
 //! A library with much behind its cells: their models are written before all of it is read.
 use command_runs::{
-    FIRST_ENTITY, FIRST_MODULE, Left, THIRD_ENTITY, THIRD_MODULE, THREE_CELLS, THREE_LINES,
+    FIRST_ENTITY, FIRST_MODULE, Left, Status, THIRD_ENTITY, THIRD_MODULE, THREE_CELLS, THREE_LINES,
     TRANSLATE, library_alone, ran,
 };
 use std::alloc::{AllocError, Global};
 use std::test::Fail;
 use text_io::OutSlot;
-use translate_cmd::Status;
 
 /// The library of three cells, with 200,000 spaces behind it.
 fn spaced(alloc: Global) -> Result<String, AllocError> {

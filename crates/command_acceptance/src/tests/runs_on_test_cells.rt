@@ -1,8 +1,7 @@
 //! Runs of `selftest`.
-use command_runs::ran_without_files;
+use command_runs::{Status, ran_without_files};
 use std::alloc::Global;
 use std::test::Fail;
-use translate_cmd::Status;
 
 /// The report on two test cells.
 pub(crate) const TWO_CELLS: &str = "cells 2

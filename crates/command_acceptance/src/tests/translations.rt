@@ -3,14 +3,13 @@ use super::tied_models::{
     LONE_TIE_ENTITY, LONE_TIE_MODULE, PORTS_ENTITY, PORTS_MODULE, TIE_ENTITY, TIE_MODULE,
 };
 use command_runs::{
-    CLOCK_GATE, FIRST_ENTITY, FIRST_MODULE, FLIP_FLOP, NO_MODULE, THIRD_ENTITY, THIRD_MODULE,
-    THREE_CELLS, THREE_LINES, TIE, TIMED_FLIP_FLOP, TIMED_FLIP_FLOP_ENTITY, TIMED_FLIP_FLOP_MODULE,
-    translated,
+    CLOCK_GATE, FIRST_ENTITY, FIRST_MODULE, FLIP_FLOP, NO_MODULE, Status, THIRD_ENTITY,
+    THIRD_MODULE, THREE_CELLS, THREE_LINES, TIE, TIMED_FLIP_FLOP, TIMED_FLIP_FLOP_ENTITY,
+    TIMED_FLIP_FLOP_MODULE, translated,
 };
 use std::alloc::Global;
 use std::test::Fail;
 use text_io::OutSlot;
-use translate_cmd::Status;
 
 /// Four ports, of which each language keeps some names.
 const PORTS: &str = "library (L) { cell (P) {

@@ -1,9 +1,10 @@
 //! Runs of `udp` and of words without a reading.
-use command_runs::{Limits, desk_of, library_alone, ran_without_files, words_of};
+use command_runs::{
+    Limits, Status, desk_of, library_alone, ran_without_files, run, run_sure, words_of,
+};
 use std::alloc::Global;
 use std::test::Fail;
 use text_io::{MemoryDesk, OutSlot, SureDesk};
-use translate_cmd::{Status, run, run_sure};
 
 /// The primitive of a conjunction.
 pub(crate) const AND: &str = "primitive AND2 (q, i1, i2);

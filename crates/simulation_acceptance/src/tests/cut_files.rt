@@ -1,10 +1,9 @@
 //! Each of the files of a simulation and of a replay cut at each of its bytes, and a stimulus of one byte.
 use super::cuts::{Cut, File, Outcome, is_each_cut_well};
 use super::inverter::{REPORT, START, VERILOG_REPORT, VITAL_REPORT, four_files};
-use command_runs::{Files, REPLAY_VERILOG, REPLAY_VITAL, SIMULATE, ran};
+use command_runs::{Files, REPLAY_VERILOG, REPLAY_VITAL, SIMULATE, Status, ran};
 use std::alloc::Global;
 use std::test::Fail;
-use translate_cmd::Status;
 
 /// What the whole files come to: of a simulation, and of replays of the module and of the entity.
 const SIMULATED: Outcome = (Status::Done, REPORT, "");

@@ -1,8 +1,7 @@
 //! Files that are cut at each of their bytes.
-use command_runs::{Files, ran};
+use command_runs::{Files, Status, ran};
 use std::alloc::Global;
 use std::test::Fail;
-use translate_cmd::Status;
 
 /// Which of the files is cut.
 #[derive(Copy, Clone)]

@@ -1,9 +1,8 @@
 //! A section on which a flip-flop and its module differ.
-use command_runs::{FLIP_FLOP, Files, simulated, translated};
+use command_runs::{FLIP_FLOP, Files, Status, simulated, translated};
 use std::alloc::Global;
 use std::test::Fail;
 use text_io::OutSlot;
-use translate_cmd::Status;
 
 /// A section of eight changes.
 const STIMULUS: &str = "cell DFF

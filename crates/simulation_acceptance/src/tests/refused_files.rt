@@ -1,10 +1,9 @@
 //! Simulations that end at one of the four files. The first that is refused decides.
 use super::libraries::INVERTER;
-use command_runs::{FLIP_FLOP, Files, simulated, simulated_beside_its_own, translated};
+use command_runs::{FLIP_FLOP, Files, Status, simulated, simulated_beside_its_own, translated};
 use std::alloc::Global;
 use std::test::Fail;
 use text_io::OutSlot;
-use translate_cmd::Status;
 
 /// An inverter with its ports in another order.
 const ANOTHER_ORDER: &str = "library (L) {

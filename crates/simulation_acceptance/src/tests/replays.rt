@@ -1,11 +1,10 @@
 //! Runs of `replay-verilog` and `replay-vital`.
 use command_runs::{
-    FIRST_MODULE, Files, Left, REPLAY_VERILOG, REPLAY_VITAL, THIRD_MODULE, TIMED_FLIP_FLOP_MODULE,
-    ran,
+    FIRST_MODULE, Files, Left, REPLAY_VERILOG, REPLAY_VITAL, Status, THIRD_MODULE,
+    TIMED_FLIP_FLOP_MODULE, ran,
 };
 use std::alloc::Global;
 use std::test::Fail;
-use translate_cmd::Status;
 
 /// Replays a file of models, in either language, under a stimulus.
 fn replayed(alloc: Global, words: &[&str], models: &str, stimulus: &str) -> Result<Left, Fail> {

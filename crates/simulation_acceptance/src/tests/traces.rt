@@ -3,12 +3,11 @@ use super::inverter::START;
 use super::libraries::INVERTER;
 use super::sections::{SECTIONS, Section};
 use command_runs::{
-    Files, PLAIN_FLIP_FLOP_MODULE, TIMED_FLIP_FLOP, TIMED_FLIP_FLOP_ENTITY, TIMED_FLIP_FLOP_MODULE,
-    simulated, simulated_beside_its_own,
+    Files, PLAIN_FLIP_FLOP_MODULE, Status, TIMED_FLIP_FLOP, TIMED_FLIP_FLOP_ENTITY,
+    TIMED_FLIP_FLOP_MODULE, simulated, simulated_beside_its_own,
 };
 use std::alloc::Global;
 use std::test::Fail;
-use translate_cmd::Status;
 
 /// Rises of the clock behind a change of the data at 100, and what the flip-flop with a setup time of 50 shows then.
 const RISES: [(&str, &str); 3] = [

@@ -98,12 +98,6 @@ code_names [] = []
 code_names (code.Name i ∷ cs) = i ∷ code_names cs
 code_names (c ∷ cs) = code_names cs
 
--- an operator over two trees
-abbrev pub operator : Pair → Node → Node → Node
-operator pair.Xor f g = node.Xor f g
-operator pair.And f g = node.And f g
-operator pair.Or f g = node.Or f g
-
 -- whether two codes are equal
 abbrev pub same_code : Code → Code → Bool
 same_code code.Zero code.Zero = true

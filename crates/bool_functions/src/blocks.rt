@@ -15,7 +15,7 @@ const MOST_POINTS: usize = 1024;
 const POINTS: usize = 64;
 
 /// The values of a name at the points of a block, as the bits of a word.
-#[derive(Clone, Copy, Debug)]
+#[derive(Clone, Copy)]
 struct NameWord {
     name: usize,
     word: u64,

@@ -2,14 +2,12 @@
 ghost use Rattle.std.specs.Prelude.{◌≡◌, ◌≤◌, ◌-◌, false, true, nat_lt, [], length, IfOk, OnOk, MatchOption};
 ghost use Rattle.std.specs.List.{list_any};
 ghost use Rattle.bool_functions.specs.declared.codes.Code.TheVariants as code;
-ghost use Rattle.bool_functions.specs.declared.tree.Node.TheVariants as tree;
 ghost use Rattle.bool_functions.specs.Support.{insert_all};
-ghost use Rattle.bool_functions.specs.Code.{code_names, code_of, is_name_code, is_small, operator, same_code, same_codes, AreHalves, IsValue, IsTree, Adds, AddsCode, Closes};
+ghost use Rattle.bool_functions.specs.Code.{code_names, code_of, is_name_code, is_small, same_code, same_codes, AreHalves, IsValue, IsTree, Adds, AddsCode, Closes};
 
 use crate::ascending::insert;
 use crate::kept_values::bit_at;
-use crate::tree::Node;
-use sqlite_items::Boxed;
+use crate::tree::{Node, both, boxed};
 use std::alloc::{AllocError, Global};
 
 /// The least number that a code has no room for.
@@ -29,7 +27,7 @@ pub(crate) enum Code {
 }
 
 /// An operator of two parts.
-#[derive(Clone, Copy, Debug)]
+#[derive(Clone, Copy)]
 enum Pair {
     Xor,
     And,
@@ -176,48 +174,25 @@ pub(crate) fn tree(codes: &[Code], alloc: Global) -> Result<Node, AllocError>
         Code::One => Ok(Node::One),
         Code::Name(i) => Ok(Node::Name(usize::from(*i))),
         Code::Not => {
-            let part = tree(before, alloc)?;
-            inverted(alloc, part)
+            let part = boxed(alloc, tree(before, alloc))?;
+            Ok(Node::Not(part))
         }
         Code::Xor(size) => {
             let (first, second) = halves(before, *size);
-            let left = tree(first, alloc)?;
-            let right = tree(second, alloc)?;
-            joined(alloc, Pair::Xor, left, right)
+            let parts = both(alloc, tree(first, alloc), tree(second, alloc))?;
+            Ok(Node::Xor(parts.left, parts.right))
         }
         Code::And(size) => {
             let (first, second) = halves(before, *size);
-            let left = tree(first, alloc)?;
-            let right = tree(second, alloc)?;
-            joined(alloc, Pair::And, left, right)
+            let parts = both(alloc, tree(first, alloc), tree(second, alloc))?;
+            Ok(Node::And(parts.left, parts.right))
         }
         Code::Or(size) => {
             let (first, second) = halves(before, *size);
-            let left = tree(first, alloc)?;
-            let right = tree(second, alloc)?;
-            joined(alloc, Pair::Or, left, right)
+            let parts = both(alloc, tree(first, alloc), tree(second, alloc))?;
+            Ok(Node::Or(parts.left, parts.right))
         }
     }
-}
-
-/// The inversion of a tree.
-fn inverted(alloc: Global, part: Node) -> Result<Node, AllocError>
-    ensures { IfOk result (λ f. f ≡ tree.Not part) }
-{
-    Ok(Node::Not(Boxed::new(alloc, part)?))
-}
-
-/// An operator over two trees.
-fn joined(alloc: Global, pair: Pair, left: Node, right: Node) -> Result<Node, AllocError>
-    ensures { IfOk result (λ f. f ≡ operator pair left right) }
-{
-    let left = Boxed::new(alloc, left)?;
-    let right = Boxed::new(alloc, right)?;
-    Ok(match pair {
-        Pair::Xor => Node::Xor(left, right),
-        Pair::And => Node::And(left, right),
-        Pair::Or => Node::Or(left, right),
-    })
 }
 
 /// Whether two codes are equal.

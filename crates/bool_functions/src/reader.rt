@@ -25,12 +25,12 @@ const XOR: u8 = 3;
 const INVERSION: u8 = 4;
 
 /// What waits for its right side: an open group, an inversion, or an operator with its left side.
-#[derive(Debug, Drop)]
+#[derive(Drop)]
 pub(crate) enum Pending {
     Group,
-    Or(Node),
-    And(Node),
-    Xor(Node),
+    Or(Boxed<Node>),
+    And(Boxed<Node>),
+    Xor(Boxed<Node>),
     Not,
 }
 
@@ -75,12 +75,17 @@ impl Pile {
     }
 
     /// Gives the operand to all that binds at least so tightly, for its right side.
-    fn settle(&mut self, alloc: Global, least: u8, operand: Node) -> Result<Node, AllocError>
+    fn settle(
+        &mut self,
+        alloc: Global,
+        least: u8,
+        operand: Boxed<Node>,
+    ) -> Result<Boxed<Node>, AllocError>
         ensures { IfOk result (λ whole. settled least self.old operand ≡ (self.new, whole)) }
     {
         let mut whole = operand;
         while let Some(top) = self.pop_from(least) {
-            whole = top.joined(alloc, whole)?;
+            whole = Boxed::new(alloc, top.joined(whole))?;
         }
         Ok(whole)
     }
@@ -115,17 +120,16 @@ impl Pending {
     }
 
     /// Takes its right side.
-    fn joined(self, alloc: Global, right: Node) -> Result<Node, AllocError>
-        ensures { IfOk result (λ f. f ≡ joined self right) }
+    fn joined(self, right: Boxed<Node>) -> Node
+        ensures { result ≡ joined self right }
     {
-        let right = Boxed::new(alloc, right)?;
-        Ok(match self {
+        match self {
             Pending::Group => right.into_inner(),
-            Pending::Or(left) => Node::Or(Boxed::new(alloc, left)?, right),
-            Pending::And(left) => Node::And(Boxed::new(alloc, left)?, right),
-            Pending::Xor(left) => Node::Xor(Boxed::new(alloc, left)?, right),
+            Pending::Or(left) => Node::Or(left, right),
+            Pending::And(left) => Node::And(left, right),
+            Pending::Xor(left) => Node::Xor(left, right),
             Pending::Not => Node::Not(right),
-        })
+        }
     }
 }
 
@@ -134,7 +138,7 @@ impl Pending {
 struct Reader {
     alloc: Global,
     pile: Pile,
-    operand: Option<Node>,
+    operand: Option<Boxed<Node>>,
 }
 
 impl Reader {
@@ -156,9 +160,9 @@ impl Reader {
         ensures { IfOk result (λ fits. Steps (begin self.old.pile symbol) fits (state_of self.new)) }
     {
         match symbol {
-            Symbol::Name(i) => self.operand = Some(Node::Name(i)),
-            Symbol::Zero => self.operand = Some(Node::Zero),
-            Symbol::One => self.operand = Some(Node::One),
+            Symbol::Name(i) => self.put(Node::Name(i))?,
+            Symbol::Zero => self.put(Node::Zero)?,
+            Symbol::One => self.put(Node::One)?,
             Symbol::Bang => self.pile.push(Pending::Not)?,
             Symbol::Open => self.pile.push(Pending::Group)?,
             _ => return Ok(false),
@@ -167,12 +171,12 @@ impl Reader {
     }
 
     /// Goes on after an operand, where the symbol can.
-    fn go_on(&mut self, operand: Node, symbol: Symbol) -> Result<bool, AllocError>
+    fn go_on(&mut self, operand: Boxed<Node>, symbol: Symbol) -> Result<bool, AllocError>
         requires { self.old.operand ≡ None }
         ensures { IfOk result (λ fits. Steps (go_on self.old.pile operand symbol) fits (state_of self.new)) }
     {
         match symbol {
-            Symbol::Quote => self.operand = Some(Node::Not(Boxed::new(self.alloc, operand)?)),
+            Symbol::Quote => self.put(Node::Not(operand))?,
             Symbol::Caret => {
                 let left = self.pile.settle(self.alloc, XOR, operand)?;
                 self.pile.push(Pending::Xor(left))?;
@@ -198,8 +202,17 @@ impl Reader {
         Ok(true)
     }
 
+    /// Lets a tree be the operand.
+    fn put(&mut self, tree: Node) -> Result<(), AllocError>
+        ensures operand { OnOk result (self.new.operand ≡ Some tree) }
+        ensures pile { self.new.pile ≡ self.old.pile }
+    {
+        self.operand = Some(Boxed::new(self.alloc, tree)?);
+        Ok(())
+    }
+
     /// Lets the operand wait as the left side of an and.
-    fn hold_and(&mut self, operand: Node) -> Result<(), AllocError>
+    fn hold_and(&mut self, operand: Boxed<Node>) -> Result<(), AllocError>
         ensures held { OnOk result (self.new.pile ≡ held pending.And (settled 2 self.old.pile operand)) }
         ensures operand { self.new.operand ≡ self.old.operand }
     {
@@ -208,7 +221,7 @@ impl Reader {
     }
 
     /// The tree, where the symbols were a whole function text.
-    fn finish(self) -> Result<Option<Node>, AllocError>
+    fn finish(self) -> Result<Option<Boxed<Node>>, AllocError>
         ensures { IfOk result (λ tree. tree ≡ finished (state_of self)) }
     {
         let Reader {
@@ -229,7 +242,10 @@ impl Reader {
 }
 
 /// The tree of the symbols, or the place, from 0, of the first with which no function text goes on.
-pub(crate) fn run(alloc: Global, symbols: &[Symbol]) -> Result<Result<Node, usize>, AllocError>
+pub(crate) fn run(
+    alloc: Global,
+    symbols: &[Symbol],
+) -> Result<Result<Boxed<Node>, usize>, AllocError>
     ensures { IfOk result (λ read. Gives read symbols.now (run start symbols.now)) }
 {
     let mut reader = Reader {

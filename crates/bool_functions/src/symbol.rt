@@ -6,7 +6,7 @@ use crate::name_list::Names;
 use crate::tokens::is_word_byte;
 
 /// A token by its meaning. `Stray` is a byte or a run with which no function text goes on.
-#[derive(Clone, Copy, Debug)]
+#[derive(Clone, Copy)]
 pub(crate) enum Symbol {
     Name(usize),
     Zero,

@@ -13,6 +13,7 @@ use crate::symbol::{Symbol, symbol_of};
 use crate::tokens::{Span, spans};
 use crate::tree::Node;
 use crate::words::{bytes_at, first_unknown, names_in};
+use sqlite_items::Boxed;
 use std::alloc::{AllocError, Global};
 
 /// The greatest number of bytes of a function text.
@@ -67,7 +68,7 @@ fn read_over(
     };
     match first_unknown(text, &tokens, names) {
         Some(at) => Ok(Err(FunctionFault::UnknownName(at))),
-        None => Ok(Ok(Function::new(alloc, tree)?)),
+        None => Ok(Ok(Function::new(alloc, tree.into_inner())?)),
     }
 }
 
@@ -85,7 +86,7 @@ fn read_own(
     let names = names_in(alloc, text, &tokens)?;
     match read_tree(alloc, text, &tokens, &names)? {
         Ok(tree) => {
-            let function = Function::new(alloc, tree)?;
+            let function = Function::new(alloc, tree.into_inner())?;
             Ok(Ok((function, names)))
         }
         Err(at) => Ok(Err(FunctionFault::Malformed(at))),
@@ -99,7 +100,7 @@ fn read_tree(
     text: &[u8],
     tokens: &[Span],
     names: &Names,
-) -> Result<Result<Node, usize>, AllocError>
+) -> Result<Result<Boxed<Node>, usize>, AllocError>
     requires { tokens.now ≡ spans text.now }
     ensures { IfOk result (λ read. TreeOf names.now text.now read) }
 {

@@ -5,7 +5,7 @@ ghost use Rattle.bool_functions.specs.Token.{is_blank, is_word_byte, spans, run_
 use std::alloc::{AllocError, Global};
 
 /// A token, by the offset of its first byte and the offset after its last.
-#[derive(Clone, Copy, Debug)]
+#[derive(Clone, Copy)]
 pub(crate) struct Span {
     pub(crate) start: usize,
     pub(crate) end: usize,

@@ -1,5 +1,5 @@
 //! A function as the tree of its operators.
-ghost use Rattle.std.specs.Prelude.{◌≡◌, ◌≤◌, ◌==◌, ℕ, IsTrue, IfOk, length, slice_get, ◌↔◌};
+ghost use Rattle.std.specs.Prelude.{◌≡◌, ◌≤◌, ◌==◌, ℕ, Ok, IsTrue, IfOk, length, slice_get, ◌↔◌};
 ghost use Rattle.std.specs.List.{list_any};
 ghost use Rattle.bool_functions.specs.Tree.{value_of, name_bound, names_of, renamed_by};
 ghost use Rattle.bool_functions.specs.Code.{room_after};
@@ -70,6 +70,37 @@ pub(crate) fn has(node: &Node, i: usize) -> bool
     }
 }
 
+/// The parts of an operator.
+#[derive(Drop)]
+pub(crate) struct Parts {
+    pub left: Boxed<Node>,
+    pub right: Boxed<Node>,
+}
+
+/// A tree in a box, where it was made.
+pub(crate) fn boxed(
+    alloc: Global,
+    made: Result<Node, AllocError>,
+) -> Result<Boxed<Node>, AllocError>
+    ensures { IfOk result (λ tree. made ≡ Ok tree) }
+{
+    Ok(Boxed::new(alloc, made?)?)
+}
+
+/// Two trees as the parts of an operator, where both were made.
+pub(crate) fn both(
+    alloc: Global,
+    left: Result<Node, AllocError>,
+    right: Result<Node, AllocError>,
+) -> Result<Parts, AllocError>
+    ensures left { IfOk result (λ parts. left ≡ Ok parts.left) }
+    ensures right { IfOk result (λ parts. right ≡ Ok parts.right) }
+{
+    let left = boxed(alloc, left)?;
+    let right = boxed(alloc, right)?;
+    Ok(Parts { left, right })
+}
+
 /// The same tree in boxes of its own.
 pub(crate) fn copied(node: &Node, alloc: Global) -> Result<Node, AllocError>
     ensures { IfOk result (λ f. f ≡ node.now) }
@@ -78,19 +109,19 @@ pub(crate) fn copied(node: &Node, alloc: Global) -> Result<Node, AllocError>
         Node::Zero => Node::Zero,
         Node::One => Node::One,
         Node::Name(i) => Node::Name(*i),
-        Node::Not(part) => Node::Not(Boxed::new(alloc, copied(part.get(), alloc)?)?),
-        Node::Xor(left, right) => Node::Xor(
-            Boxed::new(alloc, copied(left.get(), alloc)?)?,
-            Boxed::new(alloc, copied(right.get(), alloc)?)?,
-        ),
-        Node::And(left, right) => Node::And(
-            Boxed::new(alloc, copied(left.get(), alloc)?)?,
-            Boxed::new(alloc, copied(right.get(), alloc)?)?,
-        ),
-        Node::Or(left, right) => Node::Or(
-            Boxed::new(alloc, copied(left.get(), alloc)?)?,
-            Boxed::new(alloc, copied(right.get(), alloc)?)?,
-        ),
+        Node::Not(part) => Node::Not(boxed(alloc, copied(part.get(), alloc))?),
+        Node::Xor(left, right) => {
+            let parts = both(alloc, copied(left.get(), alloc), copied(right.get(), alloc))?;
+            Node::Xor(parts.left, parts.right)
+        }
+        Node::And(left, right) => {
+            let parts = both(alloc, copied(left.get(), alloc), copied(right.get(), alloc))?;
+            Node::And(parts.left, parts.right)
+        }
+        Node::Or(left, right) => {
+            let parts = both(alloc, copied(left.get(), alloc), copied(right.get(), alloc))?;
+            Node::Or(parts.left, parts.right)
+        }
     })
 }
 
@@ -103,19 +134,31 @@ pub(crate) fn renamed(node: &Node, alloc: Global, to: &[usize]) -> Result<Node, 
         Node::Zero => Node::Zero,
         Node::One => Node::One,
         Node::Name(i) => Node::Name(to[*i]),
-        Node::Not(part) => Node::Not(Boxed::new(alloc, renamed(part.get(), alloc, to)?)?),
-        Node::Xor(left, right) => Node::Xor(
-            Boxed::new(alloc, renamed(left.get(), alloc, to)?)?,
-            Boxed::new(alloc, renamed(right.get(), alloc, to)?)?,
-        ),
-        Node::And(left, right) => Node::And(
-            Boxed::new(alloc, renamed(left.get(), alloc, to)?)?,
-            Boxed::new(alloc, renamed(right.get(), alloc, to)?)?,
-        ),
-        Node::Or(left, right) => Node::Or(
-            Boxed::new(alloc, renamed(left.get(), alloc, to)?)?,
-            Boxed::new(alloc, renamed(right.get(), alloc, to)?)?,
-        ),
+        Node::Not(part) => Node::Not(boxed(alloc, renamed(part.get(), alloc, to))?),
+        Node::Xor(left, right) => {
+            let parts = both(
+                alloc,
+                renamed(left.get(), alloc, to),
+                renamed(right.get(), alloc, to),
+            )?;
+            Node::Xor(parts.left, parts.right)
+        }
+        Node::And(left, right) => {
+            let parts = both(
+                alloc,
+                renamed(left.get(), alloc, to),
+                renamed(right.get(), alloc, to),
+            )?;
+            Node::And(parts.left, parts.right)
+        }
+        Node::Or(left, right) => {
+            let parts = both(
+                alloc,
+                renamed(left.get(), alloc, to),
+                renamed(right.get(), alloc, to),
+            )?;
+            Node::Or(parts.left, parts.right)
+        }
     })
 }
 

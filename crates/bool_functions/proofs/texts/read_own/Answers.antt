@@ -12,7 +12,7 @@ pub returns-in-Ok : goal.returns-in-Ok
 returns-in-Ok c =
     let own : c.in_ok-names.names ≡ free_names c.args.text.now = c.in_ok-names.ensures ∙ ap (λ ts. first_appearances (words_of c.args.text.now ts)) (c.deref.ensures.value ∙ c.in_ok-tokens.ensures) in
     let tree = subst (TreeOf c.in_ok-names.names c.args.text.now) c.in-Ok.is c.in_ok-tree.ensures in
-    (own, own_tree c.in_ok-names.names c.args.text.now c.in-Ok.tree own c.if-text-gt-MAX_LEN.false tree ∙ ap Ok (sym c.in_ok-function-in-Ok.ensures))
+    (own, own_tree c.in_ok-names.names c.args.text.now c.in-Ok.tree own c.if-text-gt-MAX_LEN.false tree ∙ ap Ok (sym (c.in_ok-function-in-Ok.ensures ∙ c.into_inner.ensures)))
 
 pub returns : goal.returns
 returns c =

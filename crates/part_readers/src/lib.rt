@@ -1,5 +1,5 @@
-//! Parts of texts, in any language: parts that repeat, each read from what was found before it, and what a part gives where the rest
-//! behind it was read.
+//! Parts of texts, in any language: parts that repeat, each read from what was found before it, and what a part gives where the
+//! rest behind it was read.
 #![tactic(auto)]
 
 mod parts;

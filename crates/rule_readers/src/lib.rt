@@ -5,7 +5,6 @@
 mod cursor;
 mod language;
 mod refusal;
-mod repeated;
 mod word_values;
 mod words;
 

@@ -11,4 +11,5 @@ pub mod KeptModels
 pub mod Agreement
 pub mod OwnEnds
 pub mod AgreementRuns
+pub mod Audits
 pub mod AuditRuns

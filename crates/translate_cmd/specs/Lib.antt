@@ -6,4 +6,5 @@ pub mod TranslatedModels
 pub mod TranslatedLaws
 pub mod Agreement
 pub mod AgreementRuns
+pub mod Audits
 pub mod AuditRuns

@@ -14,6 +14,7 @@ ghost use Rattle.translate_cmd.specs.AgreementRuns.{OwnModelsEndInAgreement};
 ghost use Rattle.translate_cmd.specs.AuditRuns.{DoneWhereAllMatch};
 
 use crate::commands::{selftest, work_on_files};
+use crate::laws::audited_cells_agree;
 use command_outcomes::{Status, ended};
 use command_words::{Command, Memory, asked};
 use library_audit::done_is_match;
@@ -57,6 +58,8 @@ const USAGE: &[u8] = b"lib2sim: usage\n";
 ///
 /// Where no call failed and memory was found, `audit` ends with `Done` exactly where both files are read and each accepted cell of the
 /// library has a module with its name that matches it: its parts are the cell's, and its tables give the cell's values for all arguments.
+/// With `Done` each accepted cell and this module have equal traces for every list of changes of inputs at rising times, and equal states
+/// after each change.
 ///
 /// Nothing is bound but what the words name. Of a command that reads files all this is said where the desk tells its folder
 /// and what is left of its files.
@@ -72,6 +75,7 @@ pub fn run<D: Desk>(alloc: Global, desk: &mut D) -> Status
     ensures selftest { SelftestsEnd (D.state desk.old) result }
 {
     done_is_match();
+    audited_cells_agree();
     carry_out(alloc, desk)
 }
 

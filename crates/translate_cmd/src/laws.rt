@@ -1,7 +1,12 @@
-//! Theorems on the definitions. The functions do nothing.
+//! Theorems on the definitions. The functions do nothing of their own.
 
 ghost use Rattle.translate_cmd.specs.TranslatedLaws.{ModulesAreWellFormed, EntitiesAreWellFormed, VerilogIsOfModules, VitalIsOfEntities, LibrariesReadBack};
 ghost use Rattle.translate_cmd.specs.Agreement.{OwnModelsAgree};
+ghost use Rattle.translate_cmd.specs.Audits.{AuditedCellsAgree};
+
+use audited_modules::matching_modules_fit;
+use library_audit::{done_is_match, same_line_is_match};
+use model_traces::fitting_modules_agree;
 
 /// For every library the list of the modules of its accepted cells is well formed: each is sound, its names are identifiers and
 /// no words, and no two of all their primitives and modules share a name.
@@ -38,3 +43,16 @@ pub fn libraries_read_back()
 pub fn own_models_agree()
     ensures { OwnModelsAgree }
 {}
+
+/// Whatever a library and a Verilog file are, where both are read: each accepted cell of which `audit` says `same` has a module
+/// with its name that has the cell's trace for every list of changes of inputs at rising times, and its states after each change
+/// are the cell's. Where the comparison is done, that holds of every accepted cell of the library. (IEEE 1364-2005, clauses 8, 14
+/// and 15.)
+pub fn audited_cells_agree()
+    ensures { AuditedCellsAgree }
+{
+    matching_modules_fit();
+    fitting_modules_agree();
+    same_line_is_match();
+    done_is_match();
+}

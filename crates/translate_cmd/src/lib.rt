@@ -8,6 +8,6 @@ mod laws;
 pub use command::{run, run_gated, run_sure};
 pub use command_outcomes::Status;
 pub use laws::{
-    entities_are_well_formed, libraries_read_back, modules_are_well_formed, own_models_agree,
-    verilog_is_of_modules, vital_is_of_entities,
+    audited_cells_agree, entities_are_well_formed, libraries_read_back, modules_are_well_formed,
+    own_models_agree, verilog_is_of_modules, vital_is_of_entities,
 };

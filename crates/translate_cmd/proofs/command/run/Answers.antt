@@ -14,4 +14,4 @@ pub returns-clause-selftest : goal.returns-clause-selftest
 returns-clause-selftest g c = selftests_end _ _ _ c.carry_out.ensures.writes
 
 pub returns-clause-audit : goal.returns-clause-audit
-returns-clause-audit g c = done_where_all_match c.done_is_match.ensures _ _ _ c.carry_out.ensures.writes
+returns-clause-audit g c = done_where_all_match c.done_is_match.ensures c.audited_cells_agree.ensures _ _ _ c.carry_out.ensures.writes

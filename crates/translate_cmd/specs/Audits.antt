@@ -1,0 +1,62 @@
+-- What a line `same` of a comparison of a library with a Verilog file promises. This project's promise.
+use Rattle.std.specs.Prelude.{◌≡◌, List, [], ℕ, All, Some, Ok}
+use Rattle.cell_machine.specs.declared.changes.Change.{Change}
+use Rattle.cell_machine.specs.CellData.{CellData}
+use Rattle.cell_machine.specs.History.{IsProper, IsProperFrom}
+use Rattle.cell_machine.specs.CellTrace.{inputs_of, states_after, cell_trace}
+use Rattle.specify_blocks.specs.declared.model.VModule.{VModule}
+use Rattle.model_traces.specs.ModuleRun.{run_after}
+use Rattle.model_traces.specs.ModuleTrace.{module_trace}
+use Rattle.model_traces.specs.SequentialStates.{sequential_states}
+use Rattle.library_items.specs.LibraryCells.{CellEntry, Accepted, Refused}
+use Rattle.command_outcomes.specs.declared.status.Status.TheVariants.{Done}
+use Rattle.library_file.specs.LibraryAnswer.{library_answer}
+use Rattle.model_files.specs.ModelAnswer.{model_answer}
+use Rattle.model_languages.specs.Verilog.{verilog}
+use Rattle.library_audit.specs.Audits.{module_for, audit_text}
+use Rattle.library_audit.specs.Outcome.{audit_outcome}
+use Rattle.library_audit.specs.Laws.{same_line}
+
+-- A cell has a module with its name among these, and the module shows what the cell shows: its trace is the cell's for every list
+-- of changes of inputs at rising times, and the states of its primitives after each change are the cell's.
+pub record AgreesWithModule (modules : List VModule) (cell : CellData) : Type 0 where
+  pub model : VModule
+  pub found : module_for modules cell ≡ Some model
+  pub traces :
+      (changes : List Change)
+      → IsProperFrom (inputs_of cell) [] changes → module_trace model changes ≡ cell_trace cell changes
+  pub states :
+      (history : List Change)
+      → IsProper (inputs_of cell) history
+      → sequential_states model (run_after model history) ≡ states_after cell history
+
+-- so an accepted cell does whose line says that its module is the same
+abbrev pub AgreesWhereSame : List VModule → CellEntry → Type 0
+AgreesWhereSame modules (Accepted cell entity) =
+    audit_text modules (Accepted cell entity) ≡ same_line cell.number cell.name → AgreesWithModule modules cell
+AgreesWhereSame modules (Refused name refusal) = Unit {0}
+
+-- so a cell does that is accepted
+abbrev pub AgreesOrIsRefused : List VModule → CellEntry → Type 0
+AgreesOrIsRefused modules (Accepted cell entity) = AgreesWithModule modules cell
+AgreesOrIsRefused modules (Refused name refusal) = Unit {0}
+
+-- The library and the Verilog file are read, and each accepted cell agrees with its module.
+pub record AllAgree (library text : List ℕ) : Type 0 where
+  pub cells : List CellEntry
+  pub are_cells : library_answer library ≡ Ok cells
+  pub modules : List VModule
+  pub are_modules : model_answer verilog text ≡ Ok modules
+  pub agree_all : All (AgreesOrIsRefused modules) cells
+
+-- Where a library is read as these cells and a Verilog file as these modules, each accepted cell whose line says `same` agrees
+-- with its module. Where the comparison is done, each accepted cell does.
+pub record AuditIsTrue (library text : List ℕ) : Type 0 where
+  pub lines :
+      (cells : List CellEntry) (modules : List VModule)
+      → library_answer library ≡ Ok cells → model_answer verilog text ≡ Ok modules → All (AgreesWhereSame modules) cells
+  pub done : (audit_outcome library text).status ≡ Done → AllAgree library text
+
+-- So it is for the bytes of every library and of every Verilog file.
+abbrev pub AuditedCellsAgree : Type 0
+AuditedCellsAgree = (library text : List ℕ) → AuditIsTrue library text

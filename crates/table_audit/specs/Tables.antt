@@ -1,16 +1,17 @@
 -- What the tables of a module and the functions of a cell give for the same arguments, and all arguments in the order in which they
 -- are compared. (What a table gives: IEEE 1364-2005, clause 8. The arguments and their order are this project's rule.)
-use Rattle.std.specs.Prelude.{ℕ, ◌+◌, Bool, true, false, not, List, [], ◌∷◌, ◌++◌, length, map, flat_map, find, position, Option, Some, None, unwrap_or, slice_get, slice_set, slice_index_or, if◌then◌else◌}
+use Rattle.std.specs.Prelude.{ℕ, suc, ◌+◌, Bool, true, false, not, List, [], ◌∷◌, ◌++◌, length, map, flat_map, find, position, Option, Some, None, unwrap_or, slice_get, slice_set, slice_index_or, if◌then◌else◌}
 use Rattle.std.specs.List.{range_with_len}
 use Rattle.std.specs.Option.{option_map_or}
 use Rattle.trit_cubes.specs.declared.trits.Trit.{Trit}
 use Rattle.trit_cubes.specs.declared.trits.Trit.TheVariants.{Zero, One, Unknown}
 use Rattle.trit_cubes.specs.Filling.{trit_of, same}
 use Rattle.trit_cubes.specs.Resolution.{res}
+use Rattle.trit_cubes.specs.Sets.{AreValuesOf}
 use Rattle.trit_cubes.specs.Prime.{cubes_of}
 use Rattle.bool_functions.specs.declared.tree.Node.{Node}
 use Rattle.bool_functions.specs.Support.{support_of}
-use Rattle.cell_machine.specs.Machine.{without, machine_step, forced}
+use Rattle.cell_machine.specs.Machine.{without, edge_value, machine_step, forced}
 use Rattle.cell_machine.specs.Outputs.{condition_at}
 use Rattle.cell_machine.specs.CellData.{CellData}
 use Rattle.cell_machine.specs.CellTrace.{support_at, step_at, sources_at, output_value_at}
@@ -69,6 +70,10 @@ driven_value m nets values n = option_map_or (value_by m nets values) (driving m
 -- that by the module.
 abbrev pub cell_step : CellData → ℕ → ℕ → Trit → List Trit → Trit → Trit
 cell_step d g p old values s = machine_step (step_at d g) p old (slice_index_or values p Unknown) (without p values) s
+
+-- the values of the step of group g at changes of the pin at place p, by the numbers of the points
+abbrev pub AreSteps : CellData → ℕ → ℕ → List Trit → Type 0
+AreSteps d g p values = AreValuesOf (suc (suc (length (support_at d g)))) (edge_value (step_at d g) p) values
 
 -- the port of the pin at a place of a support
 abbrev pub place_net : CellData → ℕ → ℕ → VNet

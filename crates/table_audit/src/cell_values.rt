@@ -8,12 +8,12 @@ ghost use Rattle.cell_machine.specs.Machine.{insert, edge_value, without};
 ghost use Rattle.cell_machine.specs.Outputs.{condition_at};
 ghost use Rattle.cell_machine.specs.CellData.{data_of};
 ghost use Rattle.cell_machine.specs.CellTrace.{support_at, step_at, sources_at, output_value_at};
-ghost use Rattle.table_audit.specs.Tables.{cell_step};
+ghost use Rattle.table_audit.specs.Tables.{AreSteps, cell_step};
 
-use crate::resolved::resolved;
+use crate::resolved::{point_of, resolved};
 use bool_functions::Function;
-use cell_machine::{Cell, Few, Values, boolean_step, output_at};
-use trit_cubes::Trit;
+use cell_machine::{Cell, Few, Values, boolean_step, numbered_value, output_at};
+use trit_cubes::{Trit, resolve};
 
 /// Adds more values at the end.
 fn add_bits(all: &mut Few<bool, 8>, more: &[bool])
@@ -84,6 +84,32 @@ fn edge_value_at(cell: &Cell, group: usize, place: usize, point: &[bool]) -> Tri
     edge_value(cell, group, place, point)
 }
 
+/// The values of a group's step at changes of the pin at a place, by the numbers of the points, which have so many places.
+fn values_at_points(cell: &Cell, group: usize, place: usize, places: usize) -> Few<Trit, 1024>
+    requires group { group < length cell.now.groups }
+    requires place { place < length (support_at (data_of cell.now) group) }
+    requires places { places ≡ length (support_at (data_of cell.now) group) + 2 }
+    requires few { places ≤ 10 }
+    ensures { AreSteps (data_of cell.now) group place result }
+{
+    let mut values = Few::new(Trit::Unknown);
+    for number in 0..1u16 << places {
+        let point = point_of(number);
+        values.push(edge_value_at(cell, group, place, &point[..places]));
+    }
+    values
+}
+
+/// The values of a group's step at changes of the pin at a place, by the numbers of the points.
+pub(crate) fn edge_values(cell: &Cell, group: usize, place: usize) -> Few<Trit, 1024>
+    requires group { group < length cell.now.groups }
+    requires place { place < length (support_at (data_of cell.now) group) }
+    ensures { AreSteps (data_of cell.now) group place result }
+{
+    let pins = cell.group(group).support.len();
+    values_at_points(cell, group, place, pins + 2)
+}
+
 /// A change of the pin at a place of the support of a group.
 #[derive(Clone, Copy)]
 pub(crate) struct PinChange<'a> {
@@ -93,6 +119,8 @@ pub(crate) struct PinChange<'a> {
     pub old: Trit,
     /// The values of the support after.
     pub values: &'a [Trit],
+    /// The values of the group's step at changes of this pin, by the numbers of the points.
+    pub steps: &'a [Trit],
 }
 
 /// The places of a change: the value before and after of the pin that changes, the other pins and the state.
@@ -112,18 +140,15 @@ fn change_places(change: PinChange<'_>, state: Trit) -> Few<Trit, 10>
 
 /// The next state of a group at a change of a pin of its support. (Unknown values are resolved by this project's rule.)
 pub(crate) fn step_value(cell: &Cell, group: usize, change: PinChange<'_>, state: Trit) -> Trit
-    requires group { group < length cell.now.groups }
     requires values { length change.values.now ≡ length (support_at (data_of cell.now) group) }
     requires place { change.place < length change.values.now }
     requires few { length change.values.now ≤ 8 }
+    requires steps { AreSteps (data_of cell.now) group change.place change.steps.now }
     ensures { result ≡ cell_step (data_of cell.now) group change.entry.place change.entry.old change.entry.values.now state }
 {
     let places = change_places(change, state);
-    let place = change.place;
-    resolved(
-        places.as_slice(),
-        &|point: &[bool]| { edge_value_at(cell, group, place, point) },
-    )
+    let steps = change.steps;
+    resolve(places.as_slice(), &|number: u16| { numbered_value(steps, usize::from(number)) })
 }
 
 /// The value of a condition at a point of its names.

@@ -8,7 +8,7 @@ ghost use Rattle.trit_cubes.specs.Sets.{Gives, point_of};
 use trit_cubes::{Trit, resolve};
 
 /// The point of ten places with this number, in which place i weighs 2 to the power i.
-fn point_of(number: u16) -> [bool; 10]
+pub(crate) fn point_of(number: u16) -> [bool; 10]
     ensures { result ≡ point_of 10 number }
 {
     let mut point = [false; 10];

@@ -6,10 +6,10 @@ ghost use Rattle.udp_tables.specs.Sequential.{noted};
 ghost use Rattle.specify_blocks.specs.Sound.{IsSound};
 ghost use Rattle.table_audit.specs.Terminals.{group_nets};
 ghost use Rattle.table_audit.specs.Shape.{feeds_group};
-ghost use Rattle.table_audit.specs.Tables.{group_next, place_net, cell_step, model_step, cell_forced, note_after, notes, step_compared, steps_by_note, steps_by_state, steps_where_changed, steps_by_list, steps_by_old, steps_compared, note_compared, notes_by_list, notes_by_old, notes_compared, first_difference};
+ghost use Rattle.table_audit.specs.Tables.{AreSteps, group_next, place_net, cell_step, model_step, cell_forced, note_after, notes, step_compared, steps_by_note, steps_by_state, steps_where_changed, steps_by_list, steps_by_old, steps_compared, note_compared, notes_by_list, notes_by_old, notes_compared, first_difference};
 ghost use Rattle.table_audit.specs.Lists.{trit_before};
 
-use crate::cell_values::{PinChange, add_trits, step_value};
+use crate::cell_values::{PinChange, add_trits, edge_values, step_value};
 use crate::lists::{cube_of, list_count, list_numbered, trit_numbered};
 use crate::model_tables::{NetChange, next_by};
 use crate::terminals::{group_nets, has_notifier, pin_net, sequential_instance};
@@ -166,6 +166,7 @@ impl<'a> GroupTables<'a> {
         requires sound { IsSound self.now.model.now }
         requires place { change.place < length change.values.now }
         requires values { length change.values.now ≡ length (support_at (data_of self.now.cell.now) self.now.group) }
+        requires steps { AreSteps (data_of self.now.cell.now) self.now.group change.place change.steps.now }
         ensures { result ≡ first_difference (steps_by_note (data_of self.now.cell.now) self.now.model.now self.now.group change.entry.place change.entry.old change.entry.values.now state) }
     {
         let _few = self.pins();
@@ -205,6 +206,7 @@ impl<'a> GroupTables<'a> {
         requires sound { IsSound self.now.model.now }
         requires place { change.place < length change.values.now }
         requires values { length change.values.now ≡ length (support_at (data_of self.now.cell.now) self.now.group) }
+        requires steps { AreSteps (data_of self.now.cell.now) self.now.group change.place change.steps.now }
         ensures { result ≡ first_difference (steps_by_state (data_of self.now.cell.now) self.now.model.now self.now.group change.entry.place change.entry.old change.entry.values.now) }
     {
         for k in 0..3 {
@@ -220,6 +222,7 @@ impl<'a> GroupTables<'a> {
         requires sound { IsSound self.now.model.now }
         requires place { change.place < length change.values.now }
         requires values { length change.values.now ≡ length (support_at (data_of self.now.cell.now) self.now.group) }
+        requires steps { AreSteps (data_of self.now.cell.now) self.now.group change.place change.steps.now }
         ensures { result ≡ first_difference (steps_where_changed (data_of self.now.cell.now) self.now.model.now self.now.group change.entry.place change.entry.old change.entry.values.now) }
     {
         let place = change.place;
@@ -232,8 +235,9 @@ impl<'a> GroupTables<'a> {
 
     /// The first difference at a change of the pin at a place from one value, over the values after it.
     #[tactic(auto, using(crate::proofs::Firsts::turn, crate::proofs::Firsts::done))]
-    fn over_lists(&self, place: usize, old: Trit) -> Option<Difference>
+    fn over_lists(&self, place: usize, old: Trit, steps: &[Trit]) -> Option<Difference>
         requires sound { IsSound self.now.model.now }
+        requires steps { AreSteps (data_of self.now.cell.now) self.now.group place steps.now }
         requires place { place < length (support_at (data_of self.now.cell.now) self.now.group) }
         ensures { result ≡ first_difference (steps_by_list (data_of self.now.cell.now) self.now.model.now self.now.group place old) }
     {
@@ -242,7 +246,12 @@ impl<'a> GroupTables<'a> {
         for k in 0..count {
             let list = list_numbered(pins, k);
             let values = list.as_slice();
-            let change = PinChange { place, old, values };
+            let change = PinChange {
+                place,
+                old,
+                values,
+                steps,
+            };
             if let Some(found) = self.where_changed(change) {
                 return Some(found);
             }
@@ -257,8 +266,10 @@ impl<'a> GroupTables<'a> {
         requires place { place < length (support_at (data_of self.now.cell.now) self.now.group) }
         ensures { result ≡ first_difference (steps_by_old (data_of self.now.cell.now) self.now.model.now self.now.group place) }
     {
+        let table = edge_values(self.cell, self.group, place);
+        let steps = table.as_slice();
         for k in 0..3 {
-            if let Some(found) = self.over_lists(place, trit_numbered(k)) {
+            if let Some(found) = self.over_lists(place, trit_numbered(k), steps) {
                 return Some(found);
             }
         }

@@ -19,8 +19,8 @@ use Rattle.table_audit.specs.Terminals.{sequential_instances}
 use Rattle.table_audit.specs.Shape.{cell_inputs, port_inputs, feeds_group, both_or_neither, gated_by, Gating, check_gating, path_gating, feeds_condition, feeds_output}
 use Rattle.table_audit.specs.Tables.{note_after, cell_step, model_step, cell_forced, model_notified, cell_condition, model_condition, cell_output, model_output}
 
--- A timing check of a module is this one of a cell with these pins: of its kind, with its events and its limit, and with a condition
--- exactly where that has one.
+-- A timing check of a module is this one of a cell with these pins: of its kind, with its events and its limit, and with a
+-- condition exactly where that has one.
 pub record SameCheck (pins : List Pin) (k : Check) (j : TimingCheck) : Type 0 where
   pub kind : j.kind ≡ k.kind
   pub first : j.first ≡ event_of pins k.first
@@ -36,8 +36,8 @@ pub record SamePath (d : CellData) (arc : Arc) (path : VPath) : Type 0 where
   pub fall : path.fall ≡ arc.fall
   pub gate : IsTrue (gated_by (list_any (is_conditional arc) d.arcs) arc.condition path.gate)
 
--- The parts of a module are those of a cell. Ports, timing checks, paths and instances of primitives with a state stand for those of
--- the cell in their order; each instance is fed by the nets that stand for the support of its part, in any order.
+-- The parts of a module are those of a cell. Ports, timing checks, paths and instances of primitives with a state stand for
+-- those of the cell in their order; each instance is fed by the nets that stand for the support of its part, in any order.
 pub record HasShape (d : CellData) (m : VModule) : Type 0 where
   pub ports : port_inputs m ≡ cell_inputs d
   pub states : length (sequential_instances m) ≡ length d.groups

@@ -1,5 +1,5 @@
--- What the tables of a module and the functions of a cell give for the same arguments, and all arguments in the order in which they
--- are compared. (What a table gives: IEEE 1364-2005, clause 8. The arguments and their order are this project's rule.)
+-- What the tables of a module and the functions of a cell give for the same arguments, and all arguments in the order in which
+-- they are compared. (What a table gives: IEEE 1364-2005, clause 8. The arguments and their order are this project's rule.)
 use Rattle.std.specs.Prelude.{ℕ, suc, ◌+◌, Bool, true, false, not, List, [], ◌∷◌, ◌++◌, length, map, flat_map, find, position, Option, Some, None, unwrap_or, slice_get, slice_set, slice_index_or, if◌then◌else◌}
 use Rattle.std.specs.List.{range_with_len}
 use Rattle.std.specs.Option.{option_map_or}
@@ -39,8 +39,8 @@ value_among nets values n = option_map_or (λ k. slice_index_or values k Unknown
 abbrev pub arranged : List VNet → List Trit → List VNet → List Trit
 arranged nets values inputs = map (value_among nets values) inputs
 
--- The next state of a primitive with these inputs at a change of one net from an old value, where these nets have these values after
--- it. The state stays where the net is none of the inputs. (IEEE 1364-2005, clause 8.)
+-- The next state of a primitive with these inputs at a change of one net from an old value, where these nets have these values
+-- after it. The state stays where the net is none of the inputs. (IEEE 1364-2005, clause 8.)
 abbrev pub next_at : Option ℕ → Udp → List Trit → Trit → Trit → Trit
 next_at None udp values old s = s
 next_at (Some k) udp values old s = udp_next udp.rows (slice_set values k old) values s
@@ -66,8 +66,8 @@ value_by m nets values (instance.Constant output one) = trit_of one
 abbrev pub driven_value : VModule → List VNet → List Trit → VNet → Trit
 driven_value m nets values n = option_map_or (value_by m nets values) (driving m n) Unknown
 
--- A change of the pin at place p of the support of group g, from an old value to that in the list: the next state by the cell, and
--- that by the module.
+-- A change of the pin at place p of the support of group g, from an old value to that in the list: the next state by the cell,
+-- and that by the module.
 abbrev pub cell_step : CellData → ℕ → ℕ → Trit → List Trit → Trit → Trit
 cell_step d g p old values s = machine_step (step_at d g) p old (slice_index_or values p Unknown) (without p values) s
 
@@ -142,8 +142,8 @@ step_compared d m g p old values s note =
       of_model = model_step d m g p old values (unwrap_or note Unknown) s;
     }
 
--- All changes of pins of a group: by the place that changes, the value before, the values after, the state and the register. Values
--- that are those before are no change.
+-- All changes of pins of a group: by the place that changes, the value before, the values after, the state and the register.
+-- Values that are those before are no change.
 abbrev pub steps_by_note : CellData → VModule → ℕ → ℕ → Trit → List Trit → Trit → List Difference
 steps_by_note d m g p old values s = map (step_compared d m g p old values s) (notes (has_notifier d))
 

@@ -1,5 +1,5 @@
--- Which nets and instances of a module stand for the parts of a cell. Ports stand for pins, and the instances of primitives with a
--- state, in their order, for the groups (this project's rule; IEEE 1364-2005, clauses 8 and 12).
+-- Which nets and instances of a module stand for the parts of a cell. Ports stand for pins, and the instances of primitives
+-- with a state, in their order, for the groups (this project's rule; IEEE 1364-2005, clauses 8 and 12).
 use Rattle.std.specs.Prelude.{ℕ, Bool, true, false, not, ◌&&◌, List, [], ◌∷◌, ◌++◌, length, map, filter, find, nat_eq, Option, slice_get}
 use Rattle.std.specs.List.{list_all, list_any}
 use Rattle.std.specs.Option.{option_map_or}
@@ -36,15 +36,16 @@ abbrev pub nets_feeding : Instance → List VNet
 nets_feeding (instance.Primitive udp output inputs) = inputs
 nets_feeding (instance.Constant output one) = []
 
--- Whether two lists have the same nets, in any order. No net stands twice among the terminals of an instance, so the lists have as
--- many.
+-- Whether two lists have the same nets, in any order. No net stands twice among the terminals of an instance, so the lists have
+-- as many.
 abbrev pub is_among : List VNet → VNet → Bool
 is_among nets n = list_any (same_net n) nets
 
 abbrev pub same_nets : List VNet → List VNet → Bool
 same_nets ms ns = nat_eq (length ms) (length ns) && (list_all (is_among ns) ms && list_all (is_among ms) ns)
 
--- The nets of group g, in the order of its support: the ports of its pins, and behind them the register where the cell has checks.
+-- The nets of group g, in the order of its support: the ports of its pins, and behind them the register where the cell has
+-- checks.
 abbrev pub group_nets : CellData → ℕ → List VNet
 group_nets d g = map (pin_net d.pins) (support_at d g) ++ notifier_nets (has_notifier d)
 

@@ -148,7 +148,10 @@ pub(crate) fn step_value(cell: &Cell, group: usize, change: PinChange<'_>, state
 {
     let places = change_places(change, state);
     let steps = change.steps;
-    resolve(places.as_slice(), &|number: u16| { numbered_value(steps, usize::from(number)) })
+    resolve(
+        places.as_slice(),
+        &|number: u16| { numbered_value(steps, usize::from(number)) },
+    )
 }
 
 /// The value of a condition at a point of its names.

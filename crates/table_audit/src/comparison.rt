@@ -154,10 +154,10 @@ fn by_tables(cell: &Cell, model: &VModule) -> Verdict
 /// the cell's in their order. The nets that feed an instance are compared as a set. Names are not compared, and parts of the
 /// module that stand for nothing in the cell are not looked at.
 ///
-/// The parts go in the order of `ShapePart` and of `AuditPart`, then by their numbers. Lists of values are ordered from the left, 0
-/// before 1 before unknown. A change of a pin goes by its place in the support, the value before, the values after, the state and
-/// the register of the checks; a change of the register goes from unknown to 0, from 0 to 1 and from 1 to 0, then by the values
-/// and the state.
+/// The parts go in the order of `ShapePart` and of `AuditPart`, then by their numbers. Lists of values are ordered from the
+/// left, 0 before 1 before unknown. A change of a pin goes by its place in the support, the value before, the values after, the
+/// state and the register of the checks; a change of the register goes from unknown to 0, from 0 to 1 and from 1 to 0, then by
+/// the values and the state.
 pub fn audit(cell: &Cell, model: &VModule) -> Verdict
     requires { IsSound model.now }
     ensures { result ≡ verdict_of (data_of cell.now) model.now }

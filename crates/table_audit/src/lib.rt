@@ -1,5 +1,5 @@
-//! The comparison of a Verilog module with a cell, table by table. (IEEE 1364-2005, clauses 8, 14 and 15; how parts stand for each
-//! other is this project's rule.)
+//! The comparison of a Verilog module with a cell, table by table. (IEEE 1364-2005, clauses 8, 14 and 15; how parts stand for
+//! each other is this project's rule.)
 #![tactic(auto)]
 
 mod cell_values;

@@ -146,7 +146,8 @@ impl<'a> ConditionTables<'a> {
     }
 }
 
-/// The first difference of a condition that may be absent and of the wire that stands for it, as one of the part with this number.
+/// The first difference of a condition that may be absent and of the wire that stands for it, as one of the part with this
+/// number.
 fn of_gating(
     cell: &Cell,
     model: &VModule,

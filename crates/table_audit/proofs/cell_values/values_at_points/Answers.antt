@@ -1,4 +1,4 @@
-use Rattle.std.proofs.Common.{◌≡◌, ℕ, ◌+◌, ◌^◌, ◌≤◌, suc, List, [], ◌∷◌, ◌++◌, map, take, length, slice_index_or, sym, ap, subst, ◌∙◌, arith}
+use Rattle.std.proofs.Common.{◌≡◌, ℕ, ◌^◌, ◌≤◌, suc, [], ◌∷◌, ◌++◌, map, take, length, slice_index_or, sym, ap, subst, ◌∙◌, arith}
 use Rattle.std.proofs.Math.Pow.{pow_mono}
 use Rattle.std.proofs.lemmas.List.FromFn.{length-map-range_with_len, get_or-map-range_with_len, map-range_with_len_more}
 use Rattle.std.specs.List.{range_with_len}
@@ -48,5 +48,5 @@ returns c =
     (values-points places f c.loop-number.values
     (ap length c.loop-number.invariant ∙ length-map-range_with_len value 0 number ∙ all)
     (λ j l.
-        ap (λ vs. slice_index_or vs j Unknown) c.loop-number.invariant
-        ∙ get_or-map-range_with_len value 0 number j j Unknown (omega (arith, all, l)) (omega arith)))
+    ap (λ vs. slice_index_or vs j Unknown) c.loop-number.invariant
+    ∙ get_or-map-range_with_len value 0 number j j Unknown (omega (arith, all, l)) (omega arith)))

@@ -1,11 +1,11 @@
 -- A tree as a list of codes, one for each node, each after those of its parts.
-use Rattle.std.specs.Prelude.{◌≡◌, ℕ, ◌-◌, ◌==◌, ◌&&◌, nat_lt, Bool, true, false, List, [], ◌∷◌, ◌++◌, length, Result, IfOk}
+use Rattle.std.specs.Prelude.{◌≡◌, ℕ, ◌-◌, ◌==◌, ◌&&◌, nat_lt, Bool, true, false, List, [], ◌∷◌, ◌++◌, length, Result, Ok, Err, IfOk}
 use Rattle.std.specs.List.{list_all}
 use Rattle.bool_functions.specs.Tree.{value_of}
 use Rattle.bool_functions.specs.declared.codes.Code.{Code}
 use Rattle.bool_functions.specs.declared.codes.Code.TheVariants as code
-use Rattle.bool_functions.specs.declared.codes.Pair.{Pair}
-use Rattle.bool_functions.specs.declared.codes.Pair.TheVariants as pair
+use Rattle.bool_functions.specs.declared.tree.Pair.{Pair}
+use Rattle.bool_functions.specs.declared.tree.Pair.TheVariants as pair
 use Rattle.bool_functions.specs.declared.tree.Node.{Node}
 use Rattle.bool_functions.specs.declared.tree.Node.TheVariants as node
 use Rattle.bool_functions.specs.declared.tree.Node.TheOpen.{Node-F}
@@ -49,10 +49,13 @@ abbrev pub AddsCode : Bool → List Code → List Code → Code → Type 0
 AddsCode true old new c = (new ≡ old ++ c ∷ []) × (is_small c ≡ true)
 AddsCode false old new c = is_small c ≡ false
 
--- the same where all before it had room
-abbrev pub Closes : Bool → Bool → List Code → List Code → Code → Type 0
-Closes true fits old new c = AddsCode fits old new c
-Closes false fits old new c = fits ≡ false
+-- the same behind those of two parts, where they were added and had room
+abbrev pub Closes : {E : Type 0} → Result Bool E → Result Bool E → Bool → List Code → List Code → Code → Type 0
+Closes (Ok true) (Ok true) fits old new c = AddsCode fits old new c
+Closes (Ok true) (Ok false) fits old new c = fits ≡ false
+Closes (Ok false) second fits old new c = fits ≡ false
+Closes (Ok true) (Err e) fits old new c = ⊥
+Closes (Err e) second fits old new c = ⊥
 
 -- a tree's codes come to a list, where they fit
 abbrev pub Adds : Bool → List Code → List Code → Node → Type 0

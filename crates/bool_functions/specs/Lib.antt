@@ -1,4 +1,5 @@
 pub mod Tree
+pub mod Pair
 pub mod Support
 pub mod Point
 pub mod Block

@@ -2,6 +2,8 @@
 use Rattle.std.specs.Prelude.{◌≡◌, ℕ, ◌<◌, ◌≤◌, Bool, true, false, nat_lt, List, [], ◌∷◌, length, drop, Option, None, Some, Result, Ok, Err, if◌then◌else◌}
 use Rattle.bool_functions.specs.declared.symbol.Symbol.{Symbol}
 use Rattle.bool_functions.specs.declared.symbol.Symbol.TheVariants as symbol
+use Rattle.bool_functions.specs.declared.tree.Pair.{Pair}
+use Rattle.bool_functions.specs.declared.tree.Pair.TheVariants as pair
 use Rattle.bool_functions.specs.declared.tree.Node.{Node}
 use Rattle.bool_functions.specs.declared.tree.Node.TheVariants as node
 use Rattle.bool_functions.specs.declared.reader.Pending.{Pending}
@@ -14,6 +16,18 @@ binds (pending.Or f) = 1
 binds (pending.And f) = 2
 binds (pending.Xor f) = 3
 binds pending.Not = 4
+
+-- how tightly an operator of two parts binds
+abbrev pub binding : Pair → ℕ
+binding pair.Or = 1
+binding pair.And = 2
+binding pair.Xor = 3
+
+-- an operator of two parts that waits for its right side
+abbrev pub waiting : Pair → Node → Pending
+waiting pair.Or f = pending.Or f
+waiting pair.And f = pending.And f
+waiting pair.Xor f = pending.Xor f
 
 -- what waits, with its right side
 abbrev pub joined : Pending → Node → Node

@@ -7,7 +7,7 @@ ghost use Rattle.bool_functions.specs.Code.{code_names, code_of, is_name_code, i
 
 use crate::ascending::insert;
 use crate::kept_values::bit_at;
-use crate::tree::{Node, both, boxed};
+use crate::tree::{Node, Pair, boxed, joined};
 use std::alloc::{AllocError, Global};
 
 /// The least number that a code has no room for.
@@ -15,7 +15,7 @@ const LIMIT: usize = 65536;
 
 /// A node of a tree. The codes of an operator's parts stand before its own, and an operator of two parts tells how many
 /// codes the second one has.
-#[derive(Clone, Copy, Debug)]
+#[derive(Clone, Copy)]
 pub(crate) enum Code {
     Zero,
     One,
@@ -24,14 +24,6 @@ pub(crate) enum Code {
     Xor(u16),
     And(u16),
     Or(u16),
-}
-
-/// An operator of two parts.
-#[derive(Clone, Copy)]
-enum Pair {
-    Xor,
-    And,
-    Or,
 }
 
 /// The code of an operator, whose second part has so many codes.
@@ -76,12 +68,18 @@ fn add_name(codes: &mut Vec<Code>, i: usize) -> Result<bool, AllocError>
     Ok(true)
 }
 
-/// Adds an operator whose second part's codes begin at `start`, and answers whether their number has room. Where not all
-/// of the parts' codes had, it adds nothing.
-fn close(codes: &mut Vec<Code>, fits: bool, pair: Pair, start: usize) -> Result<bool, AllocError>
-    ensures { IfOk result (λ all. Closes fits all codes.old.items codes.new.items (code_of pair (length codes.old.items - start))) }
+/// Adds an operator behind the codes of its parts, of which the second's begin at `start`, where the parts' were added, and
+/// answers whether all numbers have room. Where not all of the parts' had, it adds nothing.
+fn close(
+    codes: &mut Vec<Code>,
+    first: Result<bool, AllocError>,
+    second: Result<bool, AllocError>,
+    pair: Pair,
+    start: usize,
+) -> Result<bool, AllocError>
+    ensures { IfOk result (λ all. Closes first second all codes.old.items codes.new.items (code_of pair (length codes.old.items - start))) }
 {
-    if !fits {
+    if !(first? && second?) {
         return Ok(false);
     }
     let Some(size) = small(codes.len().saturating_sub(start)) else {
@@ -106,22 +104,22 @@ pub(crate) fn add_codes(node: &Node, codes: &mut Vec<Code>) -> Result<bool, Allo
             add_plain(codes, Code::Not)
         }
         Node::Xor(left, right) => {
-            let first = add_codes(left.get(), codes)?;
+            let first = add_codes(left.get(), codes);
             let start = codes.len();
-            let second = add_codes(right.get(), codes)?;
-            close(codes, first && second, Pair::Xor, start)
+            let second = add_codes(right.get(), codes);
+            close(codes, first, second, Pair::Xor, start)
         }
         Node::And(left, right) => {
-            let first = add_codes(left.get(), codes)?;
+            let first = add_codes(left.get(), codes);
             let start = codes.len();
-            let second = add_codes(right.get(), codes)?;
-            close(codes, first && second, Pair::And, start)
+            let second = add_codes(right.get(), codes);
+            close(codes, first, second, Pair::And, start)
         }
         Node::Or(left, right) => {
-            let first = add_codes(left.get(), codes)?;
+            let first = add_codes(left.get(), codes);
             let start = codes.len();
-            let second = add_codes(right.get(), codes)?;
-            close(codes, first && second, Pair::Or, start)
+            let second = add_codes(right.get(), codes);
+            close(codes, first, second, Pair::Or, start)
         }
     }
 }
@@ -173,24 +171,18 @@ pub(crate) fn tree(codes: &[Code], alloc: Global) -> Result<Node, AllocError>
         Code::Zero => Ok(Node::Zero),
         Code::One => Ok(Node::One),
         Code::Name(i) => Ok(Node::Name(usize::from(*i))),
-        Code::Not => {
-            let part = boxed(alloc, tree(before, alloc))?;
-            Ok(Node::Not(part))
-        }
+        Code::Not => Ok(Node::Not(boxed(alloc, tree(before, alloc))?)),
         Code::Xor(size) => {
             let (first, second) = halves(before, *size);
-            let parts = both(alloc, tree(first, alloc), tree(second, alloc))?;
-            Ok(Node::Xor(parts.left, parts.right))
+            joined(alloc, Pair::Xor, tree(first, alloc), tree(second, alloc))
         }
         Code::And(size) => {
             let (first, second) = halves(before, *size);
-            let parts = both(alloc, tree(first, alloc), tree(second, alloc))?;
-            Ok(Node::And(parts.left, parts.right))
+            joined(alloc, Pair::And, tree(first, alloc), tree(second, alloc))
         }
         Code::Or(size) => {
             let (first, second) = halves(before, *size);
-            let parts = both(alloc, tree(first, alloc), tree(second, alloc))?;
-            Ok(Node::Or(parts.left, parts.right))
+            joined(alloc, Pair::Or, tree(first, alloc), tree(second, alloc))
         }
     }
 }

@@ -1,5 +1,5 @@
 //! Functions of numbered names: a short one as its tree, a long one as its codes.
-ghost use Rattle.std.specs.Prelude.{◌≡◌, ◌≤◌, ◌^◌, ◌↔◌, ℕ, false, IsTrue, IfOk, Contains, length};
+ghost use Rattle.std.specs.Prelude.{◌≡◌, ◌≤◌, ◌^◌, ◌↔◌, ℕ, false, IsTrue, IfOk, MatchOption, Contains, length};
 ghost use Rattle.std.specs.List.Sorted.{IsStrictlyIncreasing};
 ghost use Rattle.bool_functions.specs.Tree.{value_of, name_bound, Has, renamed_by};
 ghost use Rattle.bool_functions.specs.Support.{support_of};
@@ -22,7 +22,7 @@ use std::marker::Model;
 const LONG: usize = 16;
 
 /// A tree, short or long.
-#[derive(Debug, Drop)]
+#[derive(Drop)]
 enum Form {
     Short(Node),
     Long(Postfix),
@@ -55,7 +55,7 @@ impl Form {
 }
 
 /// A function of numbered names, which contracts see as its tree.
-#[derive(Debug, Drop)]
+#[derive(Drop)]
 pub struct Function {
     form: Form,
     /// The number of the tree, by which most unlike trees are told apart.
@@ -94,18 +94,28 @@ impl Function {
         }
     }
 
+    /// The function of a tree that is long, held as its codes.
+    fn long(alloc: Global, node: &Node) -> Result<Option<Function>, AllocError>
+        ensures { IfOk result (λ long. MatchOption long (is_long node.now ≡ false) (λ f. f ≡ node.now)) }
+    {
+        if room(node, LONG) > 0 {
+            return Ok(None);
+        }
+        let Some(codes) = Postfix::new(alloc, node)? else {
+            return Ok(None);
+        };
+        Ok(Some(Function {
+            form: Form::Long(codes),
+            key: key(node),
+        }))
+    }
+
     /// The function of a tree.
     pub(crate) fn new(alloc: Global, node: Node) -> Result<Function, AllocError>
         ensures { IfOk result (λ f. f ≡ node) }
     {
-        if room(&node, LONG) > 0 {
-            return Ok(Function::short(node));
-        }
-        match Postfix::new(alloc, &node)? {
-            Some(codes) => Ok(Function {
-                form: Form::Long(codes),
-                key: key(&node),
-            }),
+        match Function::long(alloc, &node)? {
+            Some(long) => Ok(long),
             None => Ok(Function::short(node)),
         }
     }

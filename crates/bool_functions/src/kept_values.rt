@@ -14,7 +14,7 @@ use std::alloc::{AllocError, Global};
 const MOST_NAMES: usize = 10;
 
 /// Some names, and a value for each point over them, at the point's number.
-#[derive(Debug, Drop)]
+#[derive(Drop)]
 pub(crate) struct KeptValues {
     /// The numbers of the names.
     pub names: Vec<usize>,

@@ -13,7 +13,7 @@ use std::alloc::{AllocError, Global};
 use std::marker::Model;
 
 /// A tree as its codes, with its values where it names few names. Contracts see the tree.
-#[derive(Debug, Drop)]
+#[derive(Drop)]
 pub(crate) struct Postfix {
     spelled: Vec<Code>,
     kept: Option<KeptValues>,

@@ -1,10 +1,9 @@
 //! The tree of a list of symbols, read from left to right with a pile in place of recursion.
 ghost use Rattle.std.specs.Prelude.{◌≡◌, ◌≤◌, ◌↔◌, [], ◌∷◌, Ok, None, Some, IsTrue, IfOk, OnOk, MatchOption, MatchBool};
-ghost use Rattle.bool_functions.specs.declared.reader.Pending.TheVariants as pending;
-ghost use Rattle.bool_functions.specs.Machine.{held, binds, joined, settled, begin, go_on, step, finished, run, start, Gives, Steps, Holds, IsClosed};
+ghost use Rattle.bool_functions.specs.Machine.{held, binds, binding, waiting, joined, settled, begin, closed, go_on, step, finished, run, start, Gives, Steps, Holds, IsClosed};
 
 use crate::symbol::Symbol;
-use crate::tree::Node;
+use crate::tree::{Node, Pair};
 use sqlite_items::Boxed;
 use std::alloc::{AllocError, Global};
 use std::marker::Model;
@@ -133,6 +132,28 @@ impl Pending {
     }
 }
 
+/// How tightly an operator of two parts binds.
+fn binding(pair: Pair) -> u8
+    ensures { result ≡ binding pair }
+{
+    match pair {
+        Pair::Or => OR,
+        Pair::And => AND,
+        Pair::Xor => XOR,
+    }
+}
+
+/// An operator that waits for its right side.
+fn waiting(pair: Pair, left: Boxed<Node>) -> Pending
+    ensures { result ≡ waiting pair left }
+{
+    match pair {
+        Pair::Or => Pending::Or(left),
+        Pair::And => Pending::And(left),
+        Pair::Xor => Pending::Xor(left),
+    }
+}
+
 /// What is on the pile, and the operand that stands before the next symbol.
 #[derive(Drop)]
 struct Reader {
@@ -177,25 +198,13 @@ impl Reader {
     {
         match symbol {
             Symbol::Quote => self.put(Node::Not(operand))?,
-            Symbol::Caret => {
-                let left = self.pile.settle(self.alloc, XOR, operand)?;
-                self.pile.push(Pending::Xor(left))?;
-            }
-            Symbol::Times => self.hold_and(operand)?,
-            Symbol::Plus => {
-                let left = self.pile.settle(self.alloc, OR, operand)?;
-                self.pile.push(Pending::Or(left))?;
-            }
-            Symbol::Close => {
-                let inner = self.pile.settle(self.alloc, OR, operand)?;
-                if !self.pile.close() {
-                    return Ok(false);
-                }
-                self.operand = Some(inner);
-            }
+            Symbol::Caret => self.hold(Pair::Xor, operand)?,
+            Symbol::Times => self.hold(Pair::And, operand)?,
+            Symbol::Plus => self.hold(Pair::Or, operand)?,
+            Symbol::Close => return self.close(operand),
             Symbol::Stray => return Ok(false),
             _ => {
-                self.hold_and(operand)?;
+                self.hold(Pair::And, operand)?;
                 return self.begin(symbol);
             }
         }
@@ -211,13 +220,26 @@ impl Reader {
         Ok(())
     }
 
-    /// Lets the operand wait as the left side of an and.
-    fn hold_and(&mut self, operand: Boxed<Node>) -> Result<(), AllocError>
-        ensures held { OnOk result (self.new.pile ≡ held pending.And (settled 2 self.old.pile operand)) }
+    /// Lets the operand wait as the left side of an operator.
+    fn hold(&mut self, pair: Pair, operand: Boxed<Node>) -> Result<(), AllocError>
+        ensures held { OnOk result (self.new.pile ≡ held (waiting pair) (settled (binding pair) self.old.pile operand)) }
         ensures operand { self.new.operand ≡ self.old.operand }
     {
-        let left = self.pile.settle(self.alloc, AND, operand)?;
-        self.pile.push(Pending::And(left))
+        let left = self.pile.settle(self.alloc, binding(pair), operand)?;
+        self.pile.push(waiting(pair, left))
+    }
+
+    /// Closes the innermost open group, where one is open.
+    fn close(&mut self, operand: Boxed<Node>) -> Result<bool, AllocError>
+        requires { self.old.operand ≡ None }
+        ensures { IfOk result (λ fits. Steps (closed (settled 1 self.old.pile operand)) fits (state_of self.new)) }
+    {
+        let inner = self.pile.settle(self.alloc, OR, operand)?;
+        let is_open = self.pile.close();
+        if is_open {
+            self.operand = Some(inner);
+        }
+        Ok(is_open)
     }
 
     /// The tree, where the symbols were a whole function text.

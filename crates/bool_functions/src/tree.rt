@@ -3,6 +3,7 @@ ghost use Rattle.std.specs.Prelude.{◌≡◌, ◌≤◌, ◌==◌, ℕ, Ok, IsT
 ghost use Rattle.std.specs.List.{list_any};
 ghost use Rattle.bool_functions.specs.Tree.{value_of, name_bound, names_of, renamed_by};
 ghost use Rattle.bool_functions.specs.Code.{room_after};
+ghost use Rattle.bool_functions.specs.Pair.{Joins};
 
 use sqlite_items::Boxed;
 use std::alloc::{AllocError, Global};
@@ -11,7 +12,7 @@ use std::alloc::{AllocError, Global};
 ///
 /// A text has at most 4,096 bytes, so its tree has at most 4,096 levels. What goes down a tree, as `value` or its
 /// drop, calls itself once a level, and so at most 4,096 deep.
-#[derive(Debug, Drop)]
+#[derive(Drop)]
 pub enum Node {
     Zero,
     One,
@@ -70,11 +71,12 @@ pub(crate) fn has(node: &Node, i: usize) -> bool
     }
 }
 
-/// The parts of an operator.
-#[derive(Drop)]
-pub(crate) struct Parts {
-    pub left: Boxed<Node>,
-    pub right: Boxed<Node>,
+/// An operator of two parts.
+#[derive(Clone, Copy)]
+pub(crate) enum Pair {
+    Xor,
+    And,
+    Or,
 }
 
 /// A tree in a box, where it was made.
@@ -87,42 +89,52 @@ pub(crate) fn boxed(
     Ok(Boxed::new(alloc, made?)?)
 }
 
-/// Two trees as the parts of an operator, where both were made.
-pub(crate) fn both(
+/// An operator over two trees, where both were made.
+pub(crate) fn joined(
     alloc: Global,
+    pair: Pair,
     left: Result<Node, AllocError>,
     right: Result<Node, AllocError>,
-) -> Result<Parts, AllocError>
-    ensures left { IfOk result (λ parts. left ≡ Ok parts.left) }
-    ensures right { IfOk result (λ parts. right ≡ Ok parts.right) }
+) -> Result<Node, AllocError>
+    ensures { IfOk result (Joins pair left right) }
 {
     let left = boxed(alloc, left)?;
     let right = boxed(alloc, right)?;
-    Ok(Parts { left, right })
+    Ok(match pair {
+        Pair::Xor => Node::Xor(left, right),
+        Pair::And => Node::And(left, right),
+        Pair::Or => Node::Or(left, right),
+    })
 }
 
 /// The same tree in boxes of its own.
 pub(crate) fn copied(node: &Node, alloc: Global) -> Result<Node, AllocError>
     ensures { IfOk result (λ f. f ≡ node.now) }
 {
-    Ok(match node {
-        Node::Zero => Node::Zero,
-        Node::One => Node::One,
-        Node::Name(i) => Node::Name(*i),
-        Node::Not(part) => Node::Not(boxed(alloc, copied(part.get(), alloc))?),
-        Node::Xor(left, right) => {
-            let parts = both(alloc, copied(left.get(), alloc), copied(right.get(), alloc))?;
-            Node::Xor(parts.left, parts.right)
-        }
-        Node::And(left, right) => {
-            let parts = both(alloc, copied(left.get(), alloc), copied(right.get(), alloc))?;
-            Node::And(parts.left, parts.right)
-        }
-        Node::Or(left, right) => {
-            let parts = both(alloc, copied(left.get(), alloc), copied(right.get(), alloc))?;
-            Node::Or(parts.left, parts.right)
-        }
-    })
+    match node {
+        Node::Zero => Ok(Node::Zero),
+        Node::One => Ok(Node::One),
+        Node::Name(i) => Ok(Node::Name(*i)),
+        Node::Not(part) => Ok(Node::Not(boxed(alloc, copied(part.get(), alloc))?)),
+        Node::Xor(left, right) => joined(
+            alloc,
+            Pair::Xor,
+            copied(left.get(), alloc),
+            copied(right.get(), alloc),
+        ),
+        Node::And(left, right) => joined(
+            alloc,
+            Pair::And,
+            copied(left.get(), alloc),
+            copied(right.get(), alloc),
+        ),
+        Node::Or(left, right) => joined(
+            alloc,
+            Pair::Or,
+            copied(left.get(), alloc),
+            copied(right.get(), alloc),
+        ),
+    }
 }
 
 /// A copy of a tree with other numbers for its names.
@@ -130,36 +142,30 @@ pub(crate) fn renamed(node: &Node, alloc: Global, to: &[usize]) -> Result<Node, 
     requires { name_bound node.now ≤ length to.now }
     ensures { IfOk result (λ f. f ≡ renamed_by to.now node.now) }
 {
-    Ok(match node {
-        Node::Zero => Node::Zero,
-        Node::One => Node::One,
-        Node::Name(i) => Node::Name(to[*i]),
-        Node::Not(part) => Node::Not(boxed(alloc, renamed(part.get(), alloc, to))?),
-        Node::Xor(left, right) => {
-            let parts = both(
-                alloc,
-                renamed(left.get(), alloc, to),
-                renamed(right.get(), alloc, to),
-            )?;
-            Node::Xor(parts.left, parts.right)
-        }
-        Node::And(left, right) => {
-            let parts = both(
-                alloc,
-                renamed(left.get(), alloc, to),
-                renamed(right.get(), alloc, to),
-            )?;
-            Node::And(parts.left, parts.right)
-        }
-        Node::Or(left, right) => {
-            let parts = both(
-                alloc,
-                renamed(left.get(), alloc, to),
-                renamed(right.get(), alloc, to),
-            )?;
-            Node::Or(parts.left, parts.right)
-        }
-    })
+    match node {
+        Node::Zero => Ok(Node::Zero),
+        Node::One => Ok(Node::One),
+        Node::Name(i) => Ok(Node::Name(to[*i])),
+        Node::Not(part) => Ok(Node::Not(boxed(alloc, renamed(part.get(), alloc, to))?)),
+        Node::Xor(left, right) => joined(
+            alloc,
+            Pair::Xor,
+            renamed(left.get(), alloc, to),
+            renamed(right.get(), alloc, to),
+        ),
+        Node::And(left, right) => joined(
+            alloc,
+            Pair::And,
+            renamed(left.get(), alloc, to),
+            renamed(right.get(), alloc, to),
+        ),
+        Node::Or(left, right) => joined(
+            alloc,
+            Pair::Or,
+            renamed(left.get(), alloc, to),
+            renamed(right.get(), alloc, to),
+        ),
+    }
 }
 
 /// What is left of so many nodes after those of a tree.

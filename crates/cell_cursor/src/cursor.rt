@@ -10,7 +10,7 @@ use liberty_groups::LibraryFault;
 use std::alloc::Global;
 
 /// What is answered from now on.
-#[derive(Clone, Copy, Debug, PartialEq, Eq)]
+#[derive(Clone, Copy)]
 pub(crate) enum Answer {
     /// More bytes than the limit.
     Over,

@@ -8,7 +8,7 @@ use liberty_groups::{Group, Item, UnitLine, one_text};
 use std::alloc::Global;
 
 /// What is read of a library: an item.
-#[derive(Debug, Drop)]
+#[derive(Drop)]
 pub enum LibraryItem {
     /// A group `cell`.
     Cell(Group),
@@ -19,7 +19,7 @@ pub enum LibraryItem {
 }
 
 /// What comes next in a library.
-#[derive(Debug, Drop)]
+#[derive(Drop)]
 pub enum Next {
     /// A group `cell`.
     Cell(Group),

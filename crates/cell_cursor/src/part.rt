@@ -14,7 +14,7 @@ use std::alloc::{AllocError, Global};
 use std::marker::Model;
 
 /// How far the library has come at the beginning of a part.
-#[derive(Clone, Copy, Debug, PartialEq, Eq)]
+#[derive(Clone, Copy)]
 pub(crate) enum Place {
     /// Before the name of the library.
     Start,
@@ -25,7 +25,7 @@ pub(crate) enum Place {
 }
 
 /// How many bytes were scanned at once, up to one with which a token ended.
-#[derive(Clone, Copy, Debug, PartialEq, Eq)]
+#[derive(Clone, Copy)]
 pub(crate) struct Run {
     pub(crate) count: usize,
     /// Whether a statement may have ended with the last of them.

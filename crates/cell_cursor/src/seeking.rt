@@ -19,7 +19,7 @@ use std::alloc::{AllocError, Global};
 use text_io::{Desk, InSlot};
 
 /// Why scanning went no further.
-#[derive(Clone, Copy, Debug, PartialEq, Eq)]
+#[derive(Clone, Copy)]
 pub(crate) enum Scanned {
     /// All that was read is scanned.
     All,

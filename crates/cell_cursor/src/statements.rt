@@ -21,7 +21,7 @@ use liberty_text::{Token, TokenKind};
 use std::alloc::{AllocError, Global};
 
 /// What the tokens of a part come to, whatever follows them.
-#[derive(Clone, Copy, Debug, PartialEq, Eq)]
+#[derive(Clone, Copy)]
 pub(crate) enum Reached {
     /// All of them are used, and what follows begins here.
     To(Place),

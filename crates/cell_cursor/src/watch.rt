@@ -4,7 +4,7 @@ use liberty_groups::{Standing, next_standing};
 use liberty_text::{Kept, Token};
 
 /// What the tokens of a part tell that ended last.
-#[derive(Clone, Copy, Debug, PartialEq, Eq)]
+#[derive(Clone, Copy)]
 pub(crate) enum Sight {
     /// Nothing of use.
     Nothing,
@@ -15,7 +15,7 @@ pub(crate) enum Sight {
 }
 
 /// A watch over the tokens of a part.
-#[derive(Clone, Copy, Debug, PartialEq, Eq)]
+#[derive(Clone, Copy)]
 pub(crate) struct Watch {
     /// Where the next token stands, as long as each token before it could stand in a library.
     standing: Option<Standing>,

@@ -81,6 +81,22 @@ impl OutputReader<'_, '_> {
         Ok(())
     }
 
+    /// Adds an output pin with the function that its group tells.
+    fn add_output(
+        &self,
+        outputs: &mut Items<OutputPin>,
+        pin: usize,
+        owner: &Group,
+    ) -> Result<(), AllocError>
+        requires { IsWithin self.now }
+        ensures { OnOk result
+            (outputs.new ≡ outputs.old ++ output_pin_of self.now.pins self.now.groups.now self.now.to.now pin
+            (pin_text_of (shown_vocabulary self.now.vocabulary.now) owner.now) ∷ []) }
+    {
+        let text = pin_text(self.alloc, self.vocabulary, owner)?;
+        self.add_text(outputs, pin, &text)
+    }
+
     /// Adds a pin, where its group makes outputs.
     fn add(
         &self,
@@ -94,8 +110,7 @@ impl OutputReader<'_, '_> {
         if direction_of(owner) != Some(Direction::Output) {
             return Ok(());
         }
-        let text = pin_text(self.alloc, self.vocabulary, owner)?;
-        self.add_text(outputs, pin, &text)
+        self.add_output(outputs, pin, owner)
     }
 
     /// The outputs, from the groups of the pins.

@@ -2,7 +2,7 @@
 use bool_functions::Function;
 
 /// The delay from an input pin to an output pin.
-#[derive(Debug, Drop)]
+#[derive(Drop)]
 pub struct Arc {
     /// The number of the input pin where it starts.
     pub from: usize,

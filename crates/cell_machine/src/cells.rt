@@ -14,7 +14,7 @@ use sqlite_items::Items;
 ///
 /// The names of its functions are numbered. With P pins the name i below P is pin i, the name P + 2g is the state of
 /// group g, and P + 2g + 1 is the group's second variable. An internal pin stands as the state that it names.
-#[derive(Debug, Drop)]
+#[derive(Drop)]
 pub struct Cell {
     /// The name, in bytes.
     pub name: Items<u8>,

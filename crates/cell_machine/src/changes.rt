@@ -2,7 +2,7 @@
 use trit_cubes::Trit;
 
 /// An input takes a value.
-#[derive(Clone, Copy, Debug, PartialEq, Eq)]
+#[derive(Clone, Copy, PartialEq, Eq)]
 pub struct Change {
     /// When, in picoseconds.
     pub at: u64,

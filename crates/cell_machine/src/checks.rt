@@ -2,7 +2,7 @@
 use bool_functions::Function;
 
 /// The kind of a timing check.
-#[derive(Clone, Copy, Debug, PartialEq, Eq)]
+#[derive(Clone, Copy, PartialEq, Eq)]
 pub enum CheckKind {
     /// Data has to be stable before a clock edge.
     Setup,
@@ -19,7 +19,7 @@ pub enum CheckKind {
 }
 
 /// Which events of a pin count.
-#[derive(Clone, Copy, Debug, PartialEq, Eq)]
+#[derive(Clone, Copy, PartialEq, Eq)]
 pub enum Edge {
     /// Each.
     Any,
@@ -30,7 +30,7 @@ pub enum Edge {
 }
 
 /// An event of a pin, of one kind.
-#[derive(Clone, Copy, Debug, PartialEq, Eq)]
+#[derive(Clone, Copy)]
 pub struct Event {
     /// The number of the pin.
     pub pin: usize,
@@ -39,7 +39,7 @@ pub struct Event {
 }
 
 /// A timing check: its second event may not come nearer than `limit` after the last first event.
-#[derive(Debug, Drop)]
+#[derive(Drop)]
 pub struct Check {
     /// What is checked.
     pub kind: CheckKind,

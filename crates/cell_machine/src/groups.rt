@@ -11,7 +11,7 @@ use trit_cubes::Trit;
 
 /// What a variable of an `ff` or `latch` group becomes where `clear` and `preset` are both 1. (Liberty Reference
 /// Manual, `clear_preset_var1` and `clear_preset_var2`.)
-#[derive(Clone, Copy, Debug, PartialEq, Eq)]
+#[derive(Clone, Copy)]
 pub enum Both {
     /// `L`: 0.
     Low,
@@ -24,7 +24,7 @@ pub enum Both {
 }
 
 /// An `ff` group. (Liberty Reference Manual, `ff` group.)
-#[derive(Debug, Drop)]
+#[derive(Drop)]
 pub struct Clocked {
     /// The state after a rise of `clocked_on`.
     pub next_state: Function,
@@ -68,7 +68,7 @@ impl Clocked {
 }
 
 /// A `latch` group. (Liberty Reference Manual, `latch` group.)
-#[derive(Debug, Drop)]
+#[derive(Drop)]
 pub struct Gated {
     /// The state while `enable` is 1. There exactly where `enable` is.
     pub data_in: Option<Function>,
@@ -112,7 +112,7 @@ impl Gated {
 }
 
 /// How the state of a group is made.
-#[derive(Debug, Drop)]
+#[derive(Drop)]
 pub enum GroupKind {
     /// An `ff` group.
     Ff(Clocked),
@@ -130,7 +130,7 @@ pub enum GroupKind {
 }
 
 /// A group of a cell that holds one state. The state is the first variable of an `ff` or `latch`, or the node.
-#[derive(Debug, Drop)]
+#[derive(Drop)]
 pub struct StateGroup {
     /// How the state is made.
     pub kind: GroupKind,

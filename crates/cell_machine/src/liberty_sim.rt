@@ -1,5 +1,8 @@
 //! The simulator of a cell.
-ghost use Rattle.std.specs.Prelude.{◌≡◌, [], length, IfOk};
+ghost use Rattle.std.specs.Prelude.{◌≡◌, [], false, length, replicate, IfOk};
+ghost use Rattle.trit_cubes.specs.declared.trits.Trit.TheVariants.{Unknown};
+ghost use Rattle.cell_machine.specs.Inputs.{input_number};
+ghost use Rattle.cell_machine.specs.Times.{no_times};
 ghost use Rattle.cell_machine.specs.Report.{any_true};
 ghost use Rattle.cell_machine.specs.CellData.{data_of};
 ghost use Rattle.cell_machine.specs.CellTrace.{inputs_of, cell_machine_of};
@@ -37,6 +40,37 @@ pub struct LibertySim<'a> {
     ghost each_output: { length shown ≡ length cell.now.outputs },
 }
 
+/// What a cell's simulator keeps beside what its outputs show, before any change.
+#[derive(Drop)]
+struct StartValues {
+    inputs: Items<Trit>,
+    times: Items<Times>,
+    states: Items<Trit>,
+    reports: Items<bool>,
+}
+
+impl StartValues {
+    /// Those of a cell: all inputs and all states are unknown, there was no event, and no check reports.
+    fn of(alloc: Global, cell: &Cell) -> Result<StartValues, AllocError>
+        ensures inputs { IfOk result (λ start. start.inputs ≡ replicate (input_number cell.now.pins (length cell.now.pins)) Unknown) }
+        ensures times { IfOk result (λ start. start.times ≡ replicate (input_number cell.now.pins (length cell.now.pins)) no_times) }
+        ensures states { IfOk result (λ start. start.states ≡ replicate (length cell.now.groups) Unknown) }
+        ensures reports { IfOk result (λ start. start.reports ≡ replicate (length cell.now.checks) false) }
+    {
+        let count = input_number(cell.pins.as_slice(), cell.pins.len());
+        let inputs = vec![in alloc; Trit::Unknown; count]?;
+        let times = vec![in alloc; Times::none(); count]?;
+        let states = vec![in alloc; Trit::Unknown; cell.groups.len()]?;
+        let reports = vec![in alloc; false; cell.checks.len()]?;
+        Ok(StartValues {
+            inputs: Items::from_vec(inputs),
+            times: Items::from_vec(times),
+            states: Items::from_vec(states),
+            reports: Items::from_vec(reports),
+        })
+    }
+}
+
 impl<'a> LibertySim<'a> {
     /// The simulator of a cell before any change: all inputs and all states are unknown.
     pub fn start(alloc: Global, cell: &'a Cell) -> Result<LibertySim<'a>, AllocError>
@@ -45,20 +79,21 @@ impl<'a> LibertySim<'a> {
     {
         let check_names = check_names(alloc, cell)?;
         let arc_names = arc_names(alloc, cell)?;
-        let count = input_number(cell.pins.as_slice(), cell.pins.len());
-        let inputs = Items::from_vec(vec![in alloc; Trit::Unknown; count]?);
-        let times = Items::from_vec(vec![in alloc; Times::none(); count]?);
-        let states = Items::from_vec(vec![in alloc; Trit::Unknown; cell.groups.len()]?);
-        let reports = Items::from_vec(vec![in alloc; false; cell.checks.len()]?);
-        let shown = show_start(alloc, cell, inputs.as_slice(), states.as_slice())?;
+        let start = StartValues::of(alloc, cell)?;
+        let shown = show_start(
+            alloc,
+            cell,
+            start.inputs.as_slice(),
+            start.states.as_slice(),
+        )?;
         Ok(LibertySim {
             cell,
             check_names,
             arc_names,
-            inputs,
-            times,
-            states,
-            reports,
+            inputs: start.inputs,
+            times: start.times,
+            states: start.states,
+            reports: start.reports,
             shown,
         })
     }

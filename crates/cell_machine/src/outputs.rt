@@ -3,7 +3,7 @@ use bool_functions::Function;
 use sqlite_items::Items;
 
 /// What an output depends on.
-#[derive(Clone, Copy, Debug, PartialEq, Eq)]
+#[derive(Clone, Copy)]
 pub enum Source {
     /// The input pin with this number.
     Pin(usize),
@@ -12,7 +12,7 @@ pub enum Source {
 }
 
 /// An output pin and its function.
-#[derive(Debug, Drop)]
+#[derive(Drop)]
 pub struct OutputPin {
     /// The number of the pin.
     pub pin: usize,

@@ -2,7 +2,7 @@
 use sqlite_items::Items;
 
 /// Where the signal of a pin comes from. (Liberty Reference Manual, `direction`.)
-#[derive(Clone, Copy, Debug, PartialEq, Eq)]
+#[derive(Clone, Copy, PartialEq, Eq)]
 pub enum Direction {
     /// From outside: the pin is a port that the cell reads.
     Input,
@@ -13,7 +13,7 @@ pub enum Direction {
 }
 
 /// A pin of a cell. Pins are numbered from 0 in their order in the cell.
-#[derive(Debug, Drop)]
+#[derive(Drop)]
 pub struct Pin {
     /// The name, in bytes.
     pub name: Items<u8>,

@@ -13,3 +13,4 @@ pub mod TextFaults
 pub mod Building
 pub mod Limits
 pub mod CellLaws
+pub mod Held

@@ -17,6 +17,8 @@ use Rattle.cell_parts.specs.declared.texts.Use.{Use}
 use Rattle.cell_parts.specs.declared.texts.Use.TheVariants as use_
 use Rattle.cell_parts.specs.declared.texts.Scope.{Scope}
 use Rattle.cell_parts.specs.declared.texts.Scope.TheVariants as scope
+use Rattle.cell_parts.specs.declared.texts.WrongNames.{WrongNames}
+use Rattle.cell_parts.specs.declared.texts.WrongNames.TheVariants as wrong
 use Rattle.cell_parts.specs.declared.texts.Text.{Text}
 use Rattle.cell_parts.specs.declared.texts.Text.TheVariants as text
 use Rattle.cell_parts.specs.Vocabulary.{Vocabulary}
@@ -83,11 +85,11 @@ judged_tree classes scope at f =
     if has_unknown classes scope f then text.Unknown at
     else (if has_coupled classes scope f then text.Coupled at else text.Reads f at)
 
--- What a text with this tree is, where the worst of its names is this to it.
-abbrev pub used_as : Use → ℕ → Tree → Text
-used_as use_.Allowed at f = text.Reads f at
-used_as use_.Unknown at f = text.Unknown at
-used_as use_.Coupled at f = text.Coupled at
+-- What a text with this tree is, where this is wrong with its names.
+abbrev pub text_with : Option WrongNames → ℕ → Tree → Text
+text_with None at f = text.Reads f at
+text_with (Some wrong.Unknown) at f = text.Unknown at
+text_with (Some wrong.Coupled) at f = text.Coupled at
 
 -- What a text with this reading is, in a statement at this offset.
 abbrev pub judged : List Class → Scope → ℕ → Result Tree FunctionFault → Text

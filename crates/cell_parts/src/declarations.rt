@@ -19,7 +19,7 @@ use liberty_groups::{Group, last_attribute};
 use std::alloc::{AllocError, Global};
 
 /// What a declared name is.
-#[derive(Clone, Copy, Debug, PartialEq, Eq)]
+#[derive(Clone, Copy)]
 pub enum Role {
     /// An internal pin with the name of the node that it names.
     Bearer,
@@ -30,7 +30,7 @@ pub enum Role {
 }
 
 /// A name that the cell declares.
-#[derive(Clone, Copy, Debug)]
+#[derive(Clone, Copy)]
 pub struct Declared<'a> {
     pub name: &'a [u8],
     pub role: Role,
@@ -119,17 +119,30 @@ fn declare_states<'a>(
     Ok(())
 }
 
+/// Adds the names that a group declares.
+fn declare_group<'a>(
+    alloc: Global,
+    declared: &mut Vec<Declared<'a>>,
+    group: &'a Group,
+) -> Result<(), AllocError>
+    ensures { OnOk result (map shown_name declared.new.items ≡ map shown_name declared.old.items ++ declared_in_of group.now) }
+{
+    if is_pin(group) {
+        declare_pins(declared, group)
+    } else if is_state(group) {
+        declare_states(alloc, declared, group)
+    } else {
+        Ok(())
+    }
+}
+
 /// The names that the groups of a cell declare, in order.
 pub fn declared_of<'a>(alloc: Global, groups: &[&'a Group]) -> Result<Vec<Declared<'a>>, AllocError>
     ensures { IfOk result (λ declared. map shown_name declared.items ≡ flat_map declared_in_of (map (λ group. group.now) groups.now)) }
 {
     let mut declared = Vec::new(alloc);
     for group in groups {
-        if is_pin(group) {
-            declare_pins(&mut declared, group)?;
-        } else if is_state(group) {
-            declare_states(alloc, &mut declared, group)?;
-        }
+        declare_group(alloc, &mut declared, group)?;
     }
     Ok(declared)
 }

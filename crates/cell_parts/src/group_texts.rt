@@ -1,5 +1,5 @@
 //! The texts of an `ff` or `latch`.
-ghost use Rattle.std.specs.Prelude.{◌≡◌, Ok, IfOk, codes};
+ghost use Rattle.std.specs.Prelude.{◌≡◌, IfOk, codes};
 ghost use Rattle.std.specs.Option.{option_map};
 ghost use Rattle.liberty_groups.specs.Attributes.{attribute_of};
 ghost use Rattle.cell_parts.specs.declared.texts.Scope.TheVariants as scope_of;
@@ -8,6 +8,7 @@ ghost use Rattle.cell_parts.specs.StateReadings.{own_scope as own_scope_of};
 ghost use Rattle.cell_parts.specs.Texts.{text_as as text_as_of};
 ghost use Rattle.cell_parts.specs.Shown.{shown_vocabulary, shown_arguments};
 
+use crate::held::both_made;
 use crate::states::{Arguments, arguments_of};
 use crate::texts::{Scope, Text, text_as};
 use crate::vocabulary::Vocabulary;
@@ -52,36 +53,15 @@ pub(crate) struct DrivingNames {
     pub(crate) control: &'static [u8],
 }
 
-/// What is read of the four attributes of an `ff` or `latch` that have a function text.
+/// The texts of the four attributes of an `ff` or `latch` that have a function text.
 #[derive(Drop)]
-pub(crate) struct GroupTexts<T> {
+pub(crate) struct GroupTexts {
     /// `next_state` or `data_in`.
-    pub(crate) data_text: T,
+    pub(crate) data_text: Text,
     /// `clocked_on` or `enable`.
-    pub(crate) control: T,
-    pub(crate) clear: T,
-    pub(crate) preset: T,
-}
-
-/// What is read of the four attributes, where each was read. It is a function of any type, so that what the others own is let go at
-/// one place where one was not.
-fn all_read<T: Drop>(
-    data_text: Result<T, AllocError>,
-    control: Result<T, AllocError>,
-    clear: Result<T, AllocError>,
-    preset: Result<T, AllocError>,
-) -> Result<GroupTexts<T>, AllocError>
-    ensures data_text { IfOk result (λ texts. data_text ≡ Ok texts.data_text) }
-    ensures control { IfOk result (λ texts. control ≡ Ok texts.control) }
-    ensures clear { IfOk result (λ texts. clear ≡ Ok texts.clear) }
-    ensures preset { IfOk result (λ texts. preset ≡ Ok texts.preset) }
-{
-    Ok(GroupTexts {
-        data_text: data_text?,
-        control: control?,
-        clear: clear?,
-        preset: preset?,
-    })
+    pub(crate) control: Text,
+    pub(crate) clear: Text,
+    pub(crate) preset: Text,
 }
 
 /// The texts of a group, where the attributes of these names drive its state.
@@ -90,7 +70,7 @@ pub(crate) fn group_texts(
     vocabulary: &Vocabulary<'_>,
     group: &Group,
     names: DrivingNames,
-) -> Result<GroupTexts<Text>, AllocError>
+) -> Result<GroupTexts, AllocError>
     ensures data_text { IfOk result (λ texts. texts.data_text ≡ text_as_of (shown_vocabulary vocabulary.now) (own_scope_of (shown_vocabulary vocabulary.now) (arguments_of_group group.now)) (attribute_of group.now names.data.now)) }
     ensures control { IfOk result (λ texts. texts.control ≡ text_as_of (shown_vocabulary vocabulary.now) scope_of.Control (attribute_of group.now names.control.now)) }
     ensures clear { IfOk result (λ texts. texts.clear ≡ text_as_of (shown_vocabulary vocabulary.now) scope_of.Control (attribute_of group.now (codes "clear"))) }
@@ -101,5 +81,13 @@ pub(crate) fn group_texts(
     let control = named_text(alloc, vocabulary, Scope::Control, group, names.control);
     let clear = named_text(alloc, vocabulary, Scope::Control, group, b"clear");
     let preset = named_text(alloc, vocabulary, Scope::Control, group, b"preset");
-    all_read(data_text, control, clear, preset)
+    let driving = both_made(data_text, control);
+    let forcing = both_made(clear, preset);
+    let ((data_text, control), (clear, preset)) = both_made(driving, forcing)?;
+    Ok(GroupTexts {
+        data_text,
+        control,
+        clear,
+        preset,
+    })
 }

@@ -5,10 +5,10 @@ ghost use Rattle.cell_parts.specs.Shown.{shown_vocabulary};
 
 use crate::group_texts::{DrivingNames, group_texts};
 use crate::groups::{is_called, is_missing};
-use crate::held::held_with;
+use crate::held::{both_made, held_with};
 use crate::states::{arguments_of, is_table, states_in};
 use crate::supports::{pins_among, support_of};
-use crate::table_inputs::{has_coupled_word, has_unknown_word, input_words, numbers_of};
+use crate::table_inputs::table_inputs;
 use crate::table_texts::table_with;
 use crate::texts::Text;
 use crate::vocabulary::Vocabulary;
@@ -17,7 +17,7 @@ use sqlite_items::Items;
 use std::alloc::{AllocError, Global};
 
 /// What a group that holds states says.
-#[derive(Debug, Drop)]
+#[derive(Drop)]
 pub struct StateReading {
     /// The offset of the group.
     pub at: usize,
@@ -153,21 +153,22 @@ impl Readings<'_, '_> {
     {
         let holds = holds_state(self.alloc, group)?;
         let arguments = arguments_of(group);
-        let words = input_words(self.alloc, arguments)?;
-        let numbers = numbers_of(self.alloc, self.vocabulary, &words)?;
-        let support = pins_among(self.alloc, self.pins, &numbers)?;
-        let data_text = table_with(self.alloc, arguments, last_attribute(group, b"table"))?;
+        let inputs = table_inputs(self.alloc, self.vocabulary, arguments)?;
+        let support = pins_among(self.alloc, self.pins, &inputs.numbers);
+        let data_text = table_with(self.alloc, arguments, last_attribute(group, b"table"));
+        let (inputs, made) = held_with(inputs, both_made(support, data_text))?;
+        let (support, data_text) = made;
         Ok(StateReading {
             at: group.at,
             holds,
             malformed: group_malformed(group),
-            unknown: place_if(has_unknown_word(self.vocabulary, &words), group.at),
-            coupled: place_if(has_coupled_word(self.vocabulary, &words), group.at),
+            unknown: place_if(inputs.unknown, group.at),
+            coupled: place_if(inputs.coupled, group.at),
             data_text,
             control: Text::Absent,
             clear: Text::Absent,
             preset: Text::Absent,
-            inputs: Items::from_vec(numbers),
+            inputs: Items::from_vec(inputs.numbers),
             support,
         })
     }

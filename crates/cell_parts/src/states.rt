@@ -11,14 +11,14 @@ use liberty_groups::Group;
 use std::alloc::{AllocError, Global};
 
 /// A state: its name, and of an `ff` or `latch` the name of the second variable.
-#[derive(Clone, Copy, Debug)]
+#[derive(Clone, Copy)]
 pub struct StateName<'a> {
     pub first: &'a [u8],
     pub second: Option<&'a [u8]>,
 }
 
 /// The two arguments of a group.
-#[derive(Clone, Copy, Debug)]
+#[derive(Clone, Copy)]
 pub struct Arguments<'a> {
     pub first: &'a [u8],
     pub second: &'a [u8],

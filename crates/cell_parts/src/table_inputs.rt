@@ -10,10 +10,7 @@ use crate::vocabulary::Vocabulary;
 use std::alloc::{AllocError, Global};
 
 /// The names of the inputs of a table.
-pub(crate) fn input_words(
-    alloc: Global,
-    arguments: Option<Arguments<'_>>,
-) -> Result<Vec<&[u8]>, AllocError>
+fn input_words(alloc: Global, arguments: Option<Arguments<'_>>) -> Result<Vec<&[u8]>, AllocError>
     ensures { IfOk result (λ words. map (λ word. word.now) words.items ≡ input_words_of (option_map shown_arguments arguments.entry)) }
 {
     match arguments {
@@ -46,14 +43,14 @@ macro_rules! any_word {
 }
 
 /// Whether a word among the inputs of a table names nothing.
-pub(crate) fn has_unknown_word(vocabulary: &Vocabulary<'_>, words: &[&[u8]]) -> bool
+fn has_unknown_word(vocabulary: &Vocabulary<'_>, words: &[&[u8]]) -> bool
     ensures { result ≡ has_unknown_word_of (shown_vocabulary vocabulary.now) (map (λ word. word.now) words.now) }
 {
     any_word!(vocabulary, words, is_unknown)
 }
 
 /// Whether a word among the inputs of a table is a variable or node.
-pub(crate) fn has_coupled_word(vocabulary: &Vocabulary<'_>, words: &[&[u8]]) -> bool
+fn has_coupled_word(vocabulary: &Vocabulary<'_>, words: &[&[u8]]) -> bool
     ensures { result ≡ has_coupled_word_of (shown_vocabulary vocabulary.now) (map (λ word. word.now) words.now) }
 {
     any_word!(vocabulary, words, is_coupled)
@@ -68,7 +65,7 @@ fn number_in(vocabulary: &Vocabulary<'_>, word: &[u8]) -> Option<usize>
 }
 
 /// The numbers of words that are names.
-pub(crate) fn numbers_of(
+fn numbers_of(
     alloc: Global,
     vocabulary: &Vocabulary<'_>,
     words: &[&[u8]],
@@ -82,4 +79,34 @@ pub(crate) fn numbers_of(
         }
     }
     Ok(numbers)
+}
+
+/// What the names of the inputs of a table are.
+#[derive(Drop)]
+pub(crate) struct TableInputs {
+    /// Their numbers.
+    pub(crate) numbers: Vec<usize>,
+    /// Whether one names nothing.
+    pub(crate) unknown: bool,
+    /// Whether one is a variable or node.
+    pub(crate) coupled: bool,
+}
+
+/// What the names of the inputs of a table are.
+pub(crate) fn table_inputs(
+    alloc: Global,
+    vocabulary: &Vocabulary<'_>,
+    arguments: Option<Arguments<'_>>,
+) -> Result<TableInputs, AllocError>
+    ensures numbers { IfOk result (λ inputs. inputs.numbers.items ≡ numbers_of_words (shown_vocabulary vocabulary.now) (input_words_of (option_map shown_arguments arguments.entry))) }
+    ensures unknown { IfOk result (λ inputs. inputs.unknown ≡ has_unknown_word_of (shown_vocabulary vocabulary.now) (input_words_of (option_map shown_arguments arguments.entry))) }
+    ensures coupled { IfOk result (λ inputs. inputs.coupled ≡ has_coupled_word_of (shown_vocabulary vocabulary.now) (input_words_of (option_map shown_arguments arguments.entry))) }
+{
+    let words = input_words(alloc, arguments)?;
+    let numbers = numbers_of(alloc, vocabulary, &words)?;
+    Ok(TableInputs {
+        numbers,
+        unknown: has_unknown_word(vocabulary, &words),
+        coupled: has_coupled_word(vocabulary, &words),
+    })
 }

@@ -4,16 +4,17 @@ ghost use Rattle.std.specs.List.{list_any};
 ghost use Rattle.std.specs.Option.{option_map};
 ghost use Rattle.cell_machine.specs.Delay.{least};
 ghost use Rattle.liberty_groups.specs.Attributes.{shown};
-ghost use Rattle.cell_parts.specs.Texts.{control_use as control_use_of, own_use as own_use_of, function_use as function_use_of, state_function_use as state_function_use_of, use_of as use_of_name, use_at as use_at_place, is_unknown as is_unknown_use, is_coupled as is_coupled_use, class_at as class_at_place, is_number as is_number_of, used_as, judged_tree, text_as as text_of, is_node_class as is_node_class_of, node_text as node_text_of, malformed_at as malformed_at_of, unknown_at as unknown_at_of, coupled_at as coupled_at_of};
+ghost use Rattle.cell_parts.specs.Texts.{control_use as control_use_of, own_use as own_use_of, function_use as function_use_of, state_function_use as state_function_use_of, use_of as use_of_name, use_at as use_at_place, is_unknown as is_unknown_use, is_coupled as is_coupled_use, class_at as class_at_place, is_number as is_number_of, text_with, judged_tree, text_as as text_of, is_node_class as is_node_class_of, node_text as node_text_of, malformed_at as malformed_at_of, unknown_at as unknown_at_of, coupled_at as coupled_at_of};
 ghost use Rattle.cell_parts.specs.Shown.{shown_vocabulary};
 
+use crate::held::kept_unless;
 use crate::vocabulary::{Class, Vocabulary};
 use bool_functions::{Function, FunctionFault, read_function};
 use liberty_groups::Attribute;
 use std::alloc::{AllocError, Global};
 
 /// What a name is to a text that has it.
-#[derive(Clone, Copy, Debug, PartialEq, Eq)]
+#[derive(Clone, Copy)]
 pub enum Use {
     /// It may be named.
     Allowed,
@@ -46,7 +47,7 @@ impl Use {
 }
 
 /// What a text may name.
-#[derive(Clone, Copy, Debug)]
+#[derive(Clone, Copy)]
 pub enum Scope {
     /// A text of a state group that names input pins alone.
     Control,
@@ -62,7 +63,7 @@ pub enum Scope {
 }
 
 /// A function text of a cell. The offsets are those of its statement.
-#[derive(Debug, Drop)]
+#[derive(Drop)]
 pub enum Text {
     /// It is not written.
     Absent,
@@ -178,22 +179,31 @@ fn has_coupled(classes: &[Class], scope: Scope, support: &[usize]) -> bool
         .any(|i| use_at(classes, scope, *i).is_coupled())
 }
 
-/// What the worst of a function's names is to a text of this scope: unknown names are worse than coupled ones.
-fn worst_use(
+/// What is wrong with the names of a function text.
+#[derive(Clone, Copy)]
+enum WrongNames {
+    /// One is nothing that the text may name.
+    Unknown,
+    /// One would make one state hang on another one.
+    Coupled,
+}
+
+/// What is wrong with the names of a function in a text of this scope: unknown names are worse than coupled ones.
+fn wrong_names(
     alloc: Global,
     classes: &[Class],
     scope: Scope,
     function: &Function,
-) -> Result<Use, AllocError>
-    ensures { IfOk result (λ worst. (at : ℕ) → used_as worst at function.now ≡ judged_tree classes.now scope at function.now) }
+) -> Result<Option<WrongNames>, AllocError>
+    ensures { IfOk result (λ wrong. (at : ℕ) → text_with wrong at function.now ≡ judged_tree classes.now scope at function.now) }
 {
     let support = function.support(alloc)?;
     if has_unknown(classes, scope, &support) {
-        Ok(Use::Unknown)
+        Ok(Some(WrongNames::Unknown))
     } else if has_coupled(classes, scope, &support) {
-        Ok(Use::Coupled)
+        Ok(Some(WrongNames::Coupled))
     } else {
-        Ok(Use::Allowed)
+        Ok(None)
     }
 }
 
@@ -207,10 +217,11 @@ fn judge(
 ) -> Result<Text, AllocError>
     ensures { IfOk result (λ text. text ≡ judged_tree classes.now scope at function) }
 {
-    match worst_use(alloc, classes, scope, &function)? {
-        Use::Allowed => Ok(Text::Reads { function, at }),
-        Use::Unknown => Ok(Text::Unknown(at)),
-        Use::Coupled => Ok(Text::Coupled(at)),
+    let wrong = wrong_names(alloc, classes, scope, &function);
+    match kept_unless(function, wrong)? {
+        Ok(function) => Ok(Text::Reads { function, at }),
+        Err(WrongNames::Unknown) => Ok(Text::Unknown(at)),
+        Err(WrongNames::Coupled) => Ok(Text::Coupled(at)),
     }
 }
 

@@ -14,7 +14,7 @@ use liberty_groups::{Attribute, Group, last_attribute};
 use std::alloc::{AllocError, Global};
 
 /// What a name is, to the function texts of its cell.
-#[derive(Clone, Copy, Debug, PartialEq, Eq)]
+#[derive(Clone, Copy)]
 pub enum Class {
     /// An input pin.
     Input,
@@ -31,7 +31,7 @@ pub enum Class {
 }
 
 /// A name, and what it is.
-#[derive(Clone, Copy, Debug)]
+#[derive(Clone, Copy)]
 pub struct Entry<'a> {
     pub name: &'a [u8],
     pub class: Class,

@@ -9,7 +9,7 @@ use std::alloc::{AllocError, Global};
 use timing_arcs::{PinTiming, TimingFault};
 
 /// A timing group that makes no check and no arc of its type.
-#[derive(Debug, Drop)]
+#[derive(Drop)]
 pub struct LeftOut {
     /// The number of the pin that has it.
     pub pin: usize,
@@ -17,8 +17,8 @@ pub struct LeftOut {
     pub kind: Items<u8>,
 }
 
-/// The type of a timing group.
-fn type_text(group: Option<&Group>) -> &[u8]
+/// The type of a timing group as it is written, `combinational` where there is none.
+pub fn type_text(group: Option<&Group>) -> &[u8]
     ensures { result.now ≡ type_text_of (option_copied group.entry) }
 {
     let Some(group) = group else {

@@ -23,6 +23,7 @@ pub use fault::CellFault;
 pub use laws::{
     accepted_cells_are_sound, accepted_meets_none, accepted_pins_are_sound, accepted_states_are_few,
 };
-pub use left_out::LeftOut;
+pub use left_out::{LeftOut, type_text};
+pub use parts::names_of;
 pub use read::{ReadCell, read_cell};
 pub use refusal::{Reason, Refusal};

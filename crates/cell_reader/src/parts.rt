@@ -54,7 +54,7 @@ pub struct Parts<'a> {
 }
 
 /// The names of the pins of a cell, which are distinct.
-fn names_of(alloc: Global, pins: &[Pin]) -> Result<Names, AllocError>
+pub fn names_of(alloc: Global, pins: &[Pin]) -> Result<Names, AllocError>
     requires { IsTrue (are_distinct (pin_names pins.now)) }
     ensures { IfOk result (λ names. names ≡ pin_names pins.now) }
 {

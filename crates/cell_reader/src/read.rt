@@ -24,7 +24,7 @@ use sqlite_items::Items;
 use std::alloc::{AllocError, Global};
 
 /// A cell, and what of its group it leaves out.
-#[derive(Debug, Drop)]
+#[derive(Drop)]
 pub struct ReadCell {
     pub cell: Cell,
     /// The timing groups that make no check and no arc of their types, in the order of the pins and their statements.

@@ -1,7 +1,7 @@
 //! Why a cell is refused.
 
 /// A reason to refuse a cell. Of several that are met the first in this order is answered.
-#[derive(Clone, Copy, Debug, PartialEq, Eq)]
+#[derive(Clone, Copy, Debug)]
 pub enum Reason {
     /// A pin's direction is absent, or none of input, output and internal.
     Direction,
@@ -83,7 +83,7 @@ impl Reason {
 }
 
 /// Why a cell is refused, and the offset from 0 of the first statement or group at which the reason is met.
-#[derive(Clone, Copy, Debug, PartialEq, Eq)]
+#[derive(Clone, Copy, Debug)]
 pub struct Refusal {
     pub reason: Reason,
     pub at: usize,

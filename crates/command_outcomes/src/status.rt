@@ -7,7 +7,7 @@ use std::alloc::AllocError;
 use text_io::{Failed, Stop};
 
 /// How a run of a command ended.
-#[derive(Clone, Copy, Debug, PartialEq, Eq)]
+#[derive(Clone, Copy)]
 pub enum Status {
     /// The command did all its work.
     Done,

@@ -1,6 +1,6 @@
 -- The delay of a driven output's change. (IEEE 1364-2005, clause 14.3, and IEEE 1076.4-2000, VitalPathDelay01, as this project
 -- reads them for outputs that may float.)
-use Rattle.std.specs.Prelude.{ℕ, min, max, Bool, ◌&&◌, nat_eq, List, map, filter, Option, Some, None, unwrap_or, if◌then◌else◌}
+use Rattle.std.specs.Prelude.{ℕ, min, max, Bool, ◌&&◌, nat_eq, List, map, filter, unwrap_or}
 use Rattle.cell_machine.specs.Delay.{least}
 use Rattle.stimulus.specs.declared.drives.Drive.{Drive}
 use Rattle.stimulus.specs.declared.drives.Drive.TheVariants.{Zero, One, Unknown, Floating}
@@ -27,7 +27,3 @@ leading_delays change paths = map (drive_delay change.from change.to) (filter (l
 -- The delay of a change: the least over the paths from the changed input to the output, 0 where there is none.
 abbrev pub least_delay : DriveChange → List DrivePath → ℕ
 least_delay change paths = unwrap_or (least (leading_delays change paths)) 0
-
--- the delay that one path gives, as the code looks for the least of them
-abbrev pub leading_delay : DriveChange → DrivePath → Option ℕ
-leading_delay change path = if leads change path then Some (drive_delay change.from change.to path) else None

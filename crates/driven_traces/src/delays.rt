@@ -1,12 +1,13 @@
 //! The delays of driven outputs.
-ghost use Rattle.std.specs.Prelude.{◌≡◌};
-ghost use Rattle.driven_traces.specs.DriveDelays.{drive_delay, leading_delay, least_delay};
+ghost use Rattle.std.specs.Prelude.{◌≡◌, ◌∷◌, []};
+ghost use Rattle.cell_machine.specs.Delay.{least};
+ghost use Rattle.driven_traces.specs.DriveDelays.{drive_delay, leading_delays, least_delay};
 
 use cell_machine::lesser;
 use stimulus::Drive;
 
 /// The delay from an input to a driven output.
-#[derive(Clone, Copy, Debug, PartialEq, Eq)]
+#[derive(Clone, Copy, PartialEq, Eq)]
 pub struct DrivePath {
     /// The number of the input where it starts, from 0 among the inputs.
     pub from: usize,
@@ -50,7 +51,7 @@ pub(crate) struct DriveChange {
 
 /// A path's delay of a change, there where the path leads from the input to the output.
 fn leading_delay(path: &DrivePath, change: &DriveChange) -> Option<u64>
-    ensures { result ≡ leading_delay change.now path.now }
+    ensures { result ≡ least (leading_delays change.now (path.now ∷ [])) }
 {
     if path.from == change.input && path.drive == change.number {
         Some(path.delay(change.from, change.to))

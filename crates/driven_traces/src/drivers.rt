@@ -1,14 +1,14 @@
 //! The drivers of a cell's three-state outputs.
-ghost use Rattle.std.specs.Prelude.{◌≡◌};
+ghost use Rattle.std.specs.Prelude.{◌≡◌, IfOk};
 ghost use Rattle.driven_traces.specs.Drivers.{IsSound, number_of, plain};
 
 use crate::delays::DrivePath;
 use sqlite_items::Items;
-use std::alloc::Global;
+use std::alloc::{AllocError, Global};
 
 /// The three-state drivers at the outputs of a core. The core has these inputs, these outputs, and behind them one more
 /// output for each driven output: its enable.
-#[derive(Debug, Drop)]
+#[derive(Drop)]
 pub struct Driver {
     /// The number of inputs.
     pub inputs: usize,
@@ -32,6 +32,18 @@ impl Driver {
             drives: Items::new(alloc),
             paths: Items::new(alloc),
         }
+    }
+
+    /// A copy.
+    pub fn copied(&self, alloc: Global) -> Result<Driver, AllocError>
+        ensures { IfOk result (λ copy. copy ≡ self.now) }
+    {
+        Ok(Driver {
+            inputs: self.inputs,
+            outputs: self.outputs,
+            drives: Items::from_slice(alloc, self.drives.as_slice())?,
+            paths: Items::from_slice(alloc, self.paths.as_slice())?,
+        })
     }
 
     /// The number of an output among the driven ones, where it is driven.

@@ -66,7 +66,7 @@ fn more_ports<'a>(
 
 /// The ports of a header.
 #[tactic(auto, unfolding(specify_blocks::specs::VerilogModules::some_ports), using(crate::proofs::Headers::choose_port, crate::proofs::Headers::choose_no_port))]
-fn some_ports(cursor: &mut Cursor, alloc: Global) -> Read<Items<VPort>>
+pub fn some_ports(cursor: &mut Cursor, alloc: Global) -> Read<Items<VPort>>
     ensures { Reads (read spec.some_ports cursor.old) result cursor.new }
 {
     let mut ports = Items::new(alloc);
@@ -138,7 +138,7 @@ fn module_input(cursor: &mut Cursor, alloc: Global, found: Inputs) -> Read<Input
 
 /// All declared inputs.
 #[tactic(auto, unfolding(specify_blocks::specs::VerilogModules::declared_inputs), using(rule_readers::proofs::Repeats::turns))]
-fn module_inputs(cursor: &mut Cursor, alloc: Global, mut found: Inputs) -> Read<Inputs>
+pub fn module_inputs(cursor: &mut Cursor, alloc: Global, mut found: Inputs) -> Read<Inputs>
     ensures { ReadsAs inputs_of (read (spec.declared_inputs (inputs_of found)) cursor.old) result cursor.new }
 {
     for _turn in 0..cursor.left() {
@@ -176,7 +176,7 @@ impl RepeatedPart<Verilog> for DeclaredOutput<'_> {
 
 /// The declarations of all outputs.
 #[tactic(auto, unfolding(specify_blocks::specs::VerilogModules::declared_outputs))]
-fn module_outputs(cursor: &mut Cursor, ports: &[VPort]) -> Read<()>
+pub fn module_outputs(cursor: &mut Cursor, ports: &[VPort]) -> Read<()>
     ensures { Reads (read (spec.declared_outputs ports.now) cursor.old) result cursor.new }
 {
     let from = while_next(cursor, b"output", &DeclaredOutput(ports), 0)?;

@@ -6,4 +6,4 @@ mod declarations;
 mod ports;
 mod wires;
 
-pub use declarations::module_declarations;
+pub use declarations::{Inputs, module_declarations, module_inputs, module_outputs, some_ports};

@@ -10,7 +10,7 @@ use std::alloc::Global;
 
 /// A time unit of a library: the text of a simple attribute `time_unit`, which is that of its one
 /// value, and empty with no value or with several. `at` is the offset of the statement.
-#[derive(Debug, Drop)]
+#[derive(Drop)]
 pub struct UnitLine {
     pub value: Items<u8>,
     pub at: usize,

@@ -114,7 +114,7 @@ pub fn lexical_fault(stop: TextStop) -> Option<LibraryFault>
 }
 
 /// Why a token, or the end of the tokens, is refused at its place.
-#[derive(Clone, Copy, Debug, PartialEq, Eq)]
+#[derive(Clone, Copy)]
 pub enum Refusal {
     Syntax(Expected),
     TooDeep,
@@ -122,7 +122,7 @@ pub enum Refusal {
 }
 
 /// Why a reading stopped before its end.
-#[derive(Clone, Copy, Debug, PartialEq, Eq)]
+#[derive(Clone, Copy)]
 pub enum Stop {
     /// At the next token, or at the end of the tokens.
     Refused(Refusal),

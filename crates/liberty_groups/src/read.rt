@@ -17,7 +17,7 @@ use liberty_text::{Kept, KeptScan, Stop as TextStop, TokenKind, scan_kept};
 use std::alloc::{AllocError, Global};
 
 /// What is kept of a library text.
-#[derive(Debug, Drop)]
+#[derive(Drop)]
 pub struct Reading {
     /// The groups `cell` of the library that ended before the place of the fault, in order.
     pub cells: Vec<Group>,
@@ -29,7 +29,7 @@ pub struct Reading {
 }
 
 /// How a reading ended.
-#[derive(Clone, Copy, Debug, PartialEq, Eq)]
+#[derive(Clone, Copy, PartialEq, Eq)]
 pub enum End {
     /// The bytes are a library text.
     Whole,
@@ -39,7 +39,7 @@ pub enum End {
 }
 
 /// Where the tokens of a library halt.
-#[derive(Clone, Copy, Debug, PartialEq, Eq)]
+#[derive(Clone, Copy)]
 pub enum Halt {
     /// They are a library.
     Whole,

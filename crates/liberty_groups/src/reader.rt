@@ -14,7 +14,7 @@ use sqlite_items::Items;
 use std::alloc::{AllocError, Global};
 
 /// Where a list of values stands.
-#[derive(Clone, Copy, Debug, PartialEq, Eq)]
+#[derive(Clone, Copy)]
 pub enum Place {
     /// In the brackets of a statement.
     Arguments,
@@ -25,7 +25,7 @@ pub enum Place {
 }
 
 /// A mark of one byte.
-#[derive(Clone, Copy, Debug, PartialEq, Eq)]
+#[derive(Clone, Copy)]
 pub enum Mark {
     Open,
     Close,
@@ -35,7 +35,7 @@ pub enum Mark {
 }
 
 /// What a token begins among the statements of a group.
-#[derive(Clone, Copy, Debug, PartialEq, Eq)]
+#[derive(Clone, Copy)]
 pub enum Start {
     /// A statement, by its name.
     Named,

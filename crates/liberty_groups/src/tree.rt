@@ -3,7 +3,7 @@
 use sqlite_items::Items;
 
 /// A value of a statement or an argument: a Word, or what a quoted text stands for.
-#[derive(Debug, Drop)]
+#[derive(Drop)]
 pub struct Value {
     pub bytes: Items<u8>,
     /// Whether it stood between double quotes.
@@ -12,7 +12,7 @@ pub struct Value {
 
 /// A group, `name (arguments) { items }`.
 #[cycle(group)]
-#[derive(Debug, Drop)]
+#[derive(Drop)]
 pub struct Group {
     pub name: Items<u8>,
     pub arguments: Items<Value>,
@@ -24,7 +24,7 @@ pub struct Group {
 
 /// A statement of a group. `at` is the offset of the first byte of its name.
 #[cycle(group)]
-#[derive(Debug, Drop)]
+#[derive(Drop)]
 pub enum Item {
     /// A simple attribute, `name : value`. Of the value the Words and texts are kept.
     Simple {

@@ -6,7 +6,7 @@ ghost use Rattle.liberty_text.specs.Scanner.{class_of};
 use crate::token::TokenKind;
 
 /// What a byte is outside texts and comments.
-#[derive(Clone, Copy, Debug, PartialEq, Eq)]
+#[derive(Clone, Copy, PartialEq, Eq)]
 pub enum Class {
     LineEnd,
     Blank,

@@ -3,7 +3,7 @@
 use thiserror::Error;
 
 /// A number as a mantissa and an exponent of ten: `mantissa` times 10 to the `exponent`.
-#[derive(Clone, Copy, Debug, PartialEq, Eq)]
+#[derive(Clone, Copy, PartialEq, Eq)]
 pub struct Fixed {
     pub mantissa: i64,
     pub exponent: i8,

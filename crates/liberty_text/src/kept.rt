@@ -15,7 +15,7 @@ const FARTHEST: usize = 4_294_967_295;
 const LONGEST: usize = 268_435_455;
 
 /// A token as it is kept, in eight bytes. Contracts see the token.
-#[derive(Debug, Drop)]
+#[derive(Drop)]
 pub struct Kept {
     at: u32,
     /// Whether a line ends before it, the code of its kind, and its length or the byte of a brace.
@@ -32,7 +32,7 @@ impl Model for Kept {
 }
 
 /// The tokens before the place where a reading stopped, in eight bytes each, and what stopped it.
-#[derive(Debug, Drop)]
+#[derive(Drop)]
 pub struct KeptScan {
     pub tokens: Vec<Kept>,
     pub stop: Stop,

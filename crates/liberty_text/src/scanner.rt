@@ -14,7 +14,7 @@ use crate::token::{Stop, TokenKind};
 use std::alloc::{AllocError, Global};
 
 /// What stands open at a place of the text. `line_before` is that of the token to come.
-#[derive(Clone, Copy, Debug, PartialEq, Eq)]
+#[derive(Clone, Copy)]
 pub enum Mode {
     Between {
         line_before: bool,

@@ -6,7 +6,7 @@ ghost use Rattle.liberty_text.specs.Time.{IsRoundedUp, IsTooLong, picoseconds_of
 use crate::decimal::Fixed;
 
 /// A library's unit of time.
-#[derive(Clone, Copy, Debug, PartialEq, Eq)]
+#[derive(Clone, Copy)]
 pub enum Unit {
     /// 1 picosecond.
     Ps1,

@@ -3,7 +3,7 @@
 use thiserror::Error;
 
 /// What a token is.
-#[derive(Clone, Copy, Debug, PartialEq, Eq)]
+#[derive(Clone, Copy, PartialEq, Eq)]
 pub enum TokenKind {
     /// A run of printable ASCII bytes that are no space, mark, double quote or backslash.
     Word,
@@ -17,7 +17,7 @@ pub enum TokenKind {
 }
 
 /// A token of a Liberty text: its bytes are those from offset `at` up to, but not including, `end`.
-#[derive(Clone, Copy, Debug, PartialEq, Eq)]
+#[derive(Clone, Copy, PartialEq, Eq)]
 pub struct Token {
     pub kind: TokenKind,
     pub at: usize,
@@ -27,7 +27,7 @@ pub struct Token {
 }
 
 /// Where a reading of tokens stops. An offset counts bytes from 0.
-#[derive(Clone, Copy, Debug, PartialEq, Eq)]
+#[derive(Clone, Copy, PartialEq, Eq)]
 pub enum Stop {
     /// All bytes were read. A Word that ends where they end may be half a Word.
     End,
@@ -43,7 +43,7 @@ pub enum Stop {
 }
 
 /// The tokens before the place where a reading stopped, and what stopped it.
-#[derive(Debug, Drop)]
+#[derive(Drop)]
 pub struct Scan {
     pub tokens: Vec<Token>,
     pub stop: Stop,

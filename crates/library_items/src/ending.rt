@@ -7,7 +7,7 @@ use thiserror::Error;
 pub const LIBRARY_LIMIT: usize = 67_108_864;
 
 /// How a library ends.
-#[derive(Clone, Copy, Debug, PartialEq, Eq)]
+#[derive(Clone, Copy)]
 pub enum Ending {
     /// It is a library text.
     Whole,

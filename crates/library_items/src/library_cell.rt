@@ -7,7 +7,7 @@ use cell_reader::Refusal;
 use sqlite_items::Items;
 
 /// A cell of a library, with what its models need beside its group, or why it has none.
-#[derive(Debug, Drop)]
+#[derive(Drop)]
 pub enum LibraryCell {
     /// A cell that is accepted.
     Accepted {

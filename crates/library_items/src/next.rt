@@ -14,7 +14,7 @@ use text_io::Stop;
 use vital_models::entity_name;
 
 /// The next cell of a library, or why it is refused.
-#[derive(Debug, Drop)]
+#[derive(Drop)]
 pub enum NextCell {
     /// A cell that is accepted.
     Accepted {

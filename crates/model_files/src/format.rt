@@ -5,7 +5,7 @@ ghost use Rattle.model_files.specs.Formats.{slot_of, word_of_format};
 use text_io::InSlot;
 
 /// The format of a file of models.
-#[derive(Clone, Copy, Debug, PartialEq, Eq)]
+#[derive(Clone, Copy)]
 pub enum ModelFormat {
     /// Modules and primitives of Verilog. (IEEE 1364-2005.)
     Verilog,

@@ -6,7 +6,7 @@ ghost use Rattle.rule_readers.specs.declared.refusal.Stop.TheVariants.{Memory as
 use std::alloc::{AllocError, AllocFailed};
 
 /// Why no text goes on with a token (`Syntax`, `Undefined`), or which strict rule the token breaks (the others).
-#[derive(Clone, Copy, Debug, PartialEq, Eq)]
+#[derive(Clone, Copy)]
 pub enum Refusal {
     Syntax,
     TwoEdges,
@@ -18,7 +18,7 @@ pub enum Refusal {
 }
 
 /// Why a reading stopped before its end.
-#[derive(Clone, Copy, Debug, PartialEq, Eq)]
+#[derive(Clone, Copy)]
 pub enum Stop {
     /// At the next token, or at the end of the tokens.
     Refused(Refusal),

@@ -10,6 +10,7 @@ use Rattle.cell_parts.specs.CellLaws.{groups_of, outputs_of}
 use Rattle.cell_reader.specs.CellTexts.{subject_of}
 use Rattle.cell_reader.specs.Refusals.{refusal_of, checks_of, arcs_of}
 use Rattle.scan_cells.specs.declared.enables.Enable.{Enable}
+use Rattle.scan_cells.specs.declared.functional.EnabledPins.{EnabledPins}
 use Rattle.scan_cells.specs.TestGroup.{view_group}
 use Rattle.scan_cells.specs.Enables.{first_enable}
 use Rattle.scan_cells.specs.Views.{ViewData, is_among, numbers_of, same_outline}
@@ -29,6 +30,10 @@ read_group number group =
 abbrev pub view_with : CellData → CellData → Enable → ViewData
 view_with cell view enable =
     record { cell = view; pins = numbers_of cell.pins view.pins; enable = enable.pin; active = enable.active }
+
+-- the view with these pins, of which one is the scan enable
+abbrev pub enabled_view : CellData → EnabledPins → ViewData
+enabled_view view found = record { cell = view; pins = found.pins; enable = found.enable.pin; active = found.enable.active }
 
 -- The view of a cell that a group describes, by the cell that is read of it.
 abbrev pub view_by : CellData → Group → Option CellData → Option ViewData

@@ -2,7 +2,7 @@
 use trit_cubes::Trit;
 
 /// Whether a test view does what its scan cell does while the scan enable is inactive.
-#[derive(Clone, Copy, Debug)]
+#[derive(Clone, Copy)]
 pub enum Agreement {
     /// At every point.
     Same,
@@ -25,7 +25,7 @@ pub enum Agreement {
 }
 
 /// A difference of a cell and its view.
-#[derive(Clone, Copy, Debug)]
+#[derive(Clone, Copy)]
 pub struct Difference {
     /// The state group or the output, from 1: the groups come before the outputs.
     pub part: usize,

@@ -5,7 +5,7 @@ ghost use Rattle.scan_cells.specs.Enables.{active_named as active_named_of, acti
 use liberty_groups::{Group, last_attribute};
 
 /// A pin that lets a cell scan. (Liberty Reference Manual, `signal_type`.)
-#[derive(Clone, Copy, Debug)]
+#[derive(Clone, Copy)]
 pub struct Enable {
     /// The number of the pin.
     pub pin: usize,

@@ -3,7 +3,7 @@ use cell_machine::Cell;
 use sqlite_items::Items;
 
 /// A test cell read as a cell, beside the scan cell in which it stands. (Liberty Reference Manual, `test_cell` group.)
-#[derive(Debug, Drop)]
+#[derive(Drop)]
 pub struct View {
     /// The cell that the test cell describes.
     pub cell: Cell,

@@ -1,3 +1,4 @@
 pub mod Writable
 pub mod LibraryText
+pub mod CellTexts
 pub mod ReadingLemmas

@@ -8,23 +8,29 @@ use Rattle.liberty_groups.specs.declared.tree.Item.TheOpen.{Item-F, Group-F}
 use Rattle.liberty_groups.specs.declared.tree.Item.TheFolds.{map-Item}
 use Rattle.liberty_groups.specs.declared.tree.Item.TheVariants as item
 use Rattle.liberty_groups.specs.declared.tree.Group.{Group, out-roll-Group}
-use Rattle.liberty_groups.specs.Writing.{simple_text, head_text, item_step, group_step, item_text, items_text, group_text}
+use Rattle.liberty_groups.specs.Writing.{simple_text, complex_text, head_text, item_step, group_step, item_text, items_text, group_text}
 use Rattle.liberty_groups.proofs.Texts.{group_text_is}
 use Rattle.selftest_library.specs.Statements.{text, simple, group}
 use Rattle.selftest_library.specs.Library.{items_by, cell_group, cells, library, front_text, library_text}
 use Rattle.selftest_library.specs.Reading.{end_text, text_behind}
 
-inner_text : (g : Group) → item_text (item.Inner g) ≡ group_text g
+pub inner_text : (g : Group) → item_text (item.Inner g) ≡ group_text g
 inner_text g =
     fold_out-Item (List ℕ) (List ℕ) item_step group_step (item.Inner g)
     ∙ ap (λ (z : Item-F Item Group). item_step (map-Item Item Group (List ℕ) (List ℕ) item_text group_text z)) (item.outs-Inner g)
 
-statement_text : (name : List ℕ) (value : List Value) (at : ℕ) → item_text (item.Simple name value at) ≡ simple_text name value
+pub statement_text : (name : List ℕ) (value : List Value) (at : ℕ) → item_text (item.Simple name value at) ≡ simple_text name value
 statement_text name value at =
     fold_out-Item (List ℕ) (List ℕ) item_step group_step (item.Simple name value at)
     ∙ ap (λ (z : Item-F Item Group). item_step (map-Item Item Group (List ℕ) (List ℕ) item_text group_text z)) (item.outs-Simple name value at)
 
-text_of_group :
+pub complex_statement_text :
+    (name : List ℕ) (arguments : List Value) (at : ℕ) → item_text (item.Complex name arguments at) ≡ complex_text name arguments
+complex_statement_text name arguments at =
+    fold_out-Item (List ℕ) (List ℕ) item_step group_step (item.Complex name arguments at)
+    ∙ ap (λ (z : Item-F Item Group). item_step (map-Item Item Group (List ℕ) (List ℕ) item_text group_text z)) (item.outs-Complex name arguments at)
+
+pub text_of_group :
     (name : List ℕ) (arguments : List Value) (items : List Item)
     → group_text (group name arguments items) ≡ head_text name arguments ++ items_text items ++ 125 ∷ 10 ∷ []
 text_of_group name arguments items =

@@ -6,7 +6,7 @@ use Rattle.std.proofs.lemmas.Bool.{ne_eqb, and_parts, and_from}
 use Rattle.std.proofs.lemmas.Fmt.{decimal_is_IsNumeral}
 use Rattle.std.proofs.lemmas.List.Folds.{list_all-append}
 use Rattle.std.proofs.lemmas.Str.Parse.{digit_from_value}
-use Rattle.liberty_text.specs.TextValue.{ends_in_backslash}
+use Rattle.liberty_text.specs.TextValue.{quoted, ends_in_backslash}
 use Rattle.liberty_groups.specs.declared.tree.Item.{Item}
 use Rattle.liberty_groups.specs.declared.tree.Item.TheVariants as item
 use Rattle.liberty_groups.specs.declared.tree.Value.{Value}
@@ -17,20 +17,21 @@ use Rattle.selftest_library.specs.Statements.{text, simple, complex, group, inne
 use Rattle.selftest_library.specs.Sums.{literal, product, bits_from, plus, sum_below, or_zero, function_text}
 use Rattle.selftest_library.specs.Library.{input, function_items, setup, arc, flip_flop, flip_flop_items, latch, latch_items, state_rows, state_table, clock_gate_items, items_by, cell_group, cells, library}
 
--- neither a line feed nor a backslash
+-- neither a line feed nor a backslash, and no quote
 abbrev is_plain : ℕ → Bool
-is_plain b = not (b == 10) && not (b == 92)
+is_plain b = not (b == 10) && (not (b == 92) && not (b == 34))
 
 abbrev are_plain : List ℕ → Bool
 are_plain = list_all is_plain
 
-plain_parts : (b : ℕ) → IsTrue (is_plain b) → (b == 10) ≡ false × (b == 92) ≡ false
-plain_parts b h = by (b == 10) (b == 92) h
+plain_parts : (b : ℕ) → IsTrue (is_plain b) → (b == 10) ≡ false × (b == 92) ≡ false × (b == 34) ≡ false
+plain_parts b h = by (b == 10) (b == 92) (b == 34) h
   where
-    by : (line back : Bool) → IsTrue (not line && not back) → (line ≡ false) × (back ≡ false)
-    by true back h = absurd cc
-    by false true h = absurd cc
-    by false false h = (refl, refl)
+    by : (line back quote : Bool) → IsTrue (not line && (not back && not quote)) → (line ≡ false) × (back ≡ false) × (quote ≡ false)
+    by true back quote h = absurd cc
+    by false true quote h = absurd cc
+    by false false true h = absurd cc
+    by false false false h = (refl, refl, refl)
 
 no_line : (bs : List ℕ) → IsTrue (are_plain bs) → list_any (λ b. b == 10) bs ≡ false
 no_line [] h = refl
@@ -44,6 +45,13 @@ no_backslash before (b ∷ bs) e h =
     let parts = and_parts (is_plain b) (are_plain bs) h in
     no_backslash (b == 92) bs (plain_parts b parts.0).1 parts.1
 
+-- such bytes stand for themselves between quotes
+plain_quoted : (bs : List ℕ) → IsTrue (are_plain bs) → quoted bs ≡ bs
+plain_quoted [] h = refl
+plain_quoted (b ∷ bs) h =
+    let parts = and_parts (is_plain b) (are_plain bs) h in
+    rw (plain_parts b parts.0).2 (ap (λ (t : List ℕ). b ∷ t) (plain_quoted bs parts.1))
+
 plain_quotable : (bs : List ℕ) → IsTrue (are_plain bs) → is_quotable (text bs) ≡ true
 plain_quotable bs h = rw (no_line bs h) (rw (no_backslash false bs refl h) refl)
 
@@ -55,7 +63,8 @@ digits_plain [] h = refl
 digits_plain (d ∷ ds) h =
     let bounds = digit_from_value d h.0 in
     and_from (is_plain d) (are_plain ds)
-    (rw (ne_eqb d 10 (λ e. omega (arith, bounds, e))) (rw (ne_eqb d 92 (λ e. omega (arith, bounds, e))) refl))
+    (rw (ne_eqb d 10 (λ e. omega (arith, bounds, e)))
+    (rw (ne_eqb d 92 (λ e. omega (arith, bounds, e))) (rw (ne_eqb d 34 (λ e. omega (arith, bounds, e))) refl)))
     (digits_plain ds h.1)
 
 name_plain : (n : ℕ) → n < 2 ^ 64 → IsTrue (are_plain (codes "G" ++ decimal n))
@@ -95,6 +104,12 @@ or_zero_plain (b ∷ bs) h = h
 function_plain : (number : ℕ) → IsTrue (are_plain (function_text number))
 unfolding function_text
 function_plain number = or_zero_plain (sum_below number 8) (sum_plain number 8)
+
+pub quoted_function : (number : ℕ) → quoted (function_text number) ≡ function_text number
+quoted_function number = plain_quoted (function_text number) (function_plain number)
+
+pub quoted_name : (n : ℕ) → n < 2 ^ 64 → quoted (codes "G" ++ decimal n) ≡ codes "G" ++ decimal n
+quoted_name n h = plain_quoted (codes "G" ++ decimal n) (name_plain n h)
 
 -- a statement, a group and a pin that can be written
 simple_writable : (l : ℕ) (name value : List ℕ) → is_name name ≡ true → is_quotable (text value) ≡ true → item_is_writable l (simple name value) ≡ true

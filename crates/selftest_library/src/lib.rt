@@ -4,7 +4,6 @@
 mod draws;
 mod library;
 mod own_library;
-mod statements;
 mod sums;
 
 pub use draws::{next, pick};

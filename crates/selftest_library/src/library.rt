@@ -1,219 +1,172 @@
-//! The cells that a run makes for itself, as groups of a library.
-ghost use Rattle.std.specs.Prelude.{◌≡◌, [], ◌∷◌, ◌++◌, codes, decimal, IfOk};
+//! The texts of the cells that a run makes for itself.
+ghost use Rattle.std.specs.Prelude.{◌≡◌, ◌++◌, IfOk, OnOk};
+ghost use Rattle.liberty_groups.specs.Writing.{group_text, items_text};
+ghost use Rattle.selftest_library.specs.Library.{function_items, flip_flop_items, latch_items, clock_gate_items, items_by, cell_group, front_text, AreWritable};
 ghost use Rattle.selftest_library.specs.Draws.{next as next_of, pick as pick_of};
-ghost use Rattle.selftest_library.specs.Statements.{text as text_of, simple as simple_of, inner as inner_of};
 ghost use Rattle.selftest_library.specs.Sums.{function_text as function_text_of};
-ghost use Rattle.selftest_library.specs.Library.{input as input_of, output as output_of, function_items as function_items_of, setup as the_setup, arc as the_arc, flip_flop as the_flip_flop, flip_flop_items as the_flip_flop_items, latch as the_latch, latch_items as the_latch_items, state_rows as the_state_rows, state_table as the_state_table, clock_gate_items as the_clock_gate_items, items_by as items_by_of, cell_group as cell_group_of, front_text, AreWritable};
-ghost use Rattle.liberty_groups.specs.Writing.{group_text};
 
 use crate::draws::{next, pick};
-use crate::statements::{Statements, alone, group, one, table, timing, two};
 use crate::sums::function_text;
 use itoa::Buffer;
-use liberty_groups::{Group, Item, write_group};
-use sqlite_items::Items;
 use std::alloc::{AllocError, Global};
 
-impl Statements {
-    /// These, and an input pin with what more stands in it.
-    fn input(self, name: &[u8], more: Items<Item>) -> Result<Statements, AllocError>
-        ensures { IfOk result (λ all. all.items ≡ self.items ++ input_of name.now more ∷ []) }
-    {
-        self.pin(name, b"input", more)
-    }
-
-    /// These, and an input pin alone.
-    fn plain_input(self, name: &[u8]) -> Result<Statements, AllocError>
-        ensures { IfOk result (λ all. all.items ≡ self.items ++ input_of name.now [] ∷ []) }
-    {
-        self.plain_pin(name, b"input")
-    }
-
-    /// These, and an output pin with what more stands in it.
-    fn output(self, name: &[u8], more: Items<Item>) -> Result<Statements, AllocError>
-        ensures { IfOk result (λ all. all.items ≡ self.items ++ output_of name.now more ∷ []) }
-    {
-        self.pin(name, b"output", more)
-    }
-}
-
-/// The statements of a cell with a function of three inputs.
-#[tactic(auto, unfolding(crate::specs::Library::function_items))]
-fn function_items(alloc: Global, function: &[u8]) -> Result<Items<Item>, AllocError>
-    ensures { IfOk result (λ items. items ≡ function_items_of function.now) }
+/// The statements of a cell with a flip-flop that has a clear, a setup time and delays.
+fn flip_flop() -> &'static [u8]
+    ensures { result.now ≡ items_text flip_flop_items }
 {
-    let inputs = Statements::new(alloc)
-        .plain_input(b"A")?
-        .plain_input(b"B")?
-        .plain_input(b"C")?;
-    let all = inputs.output(b"Y", alone(alloc, b"function", function)?)?;
-    Ok(all.into_items())
+    b"ff (\"IQ\", \"IQN\") {
+next_state : \"D\";
+clocked_on : \"CK\";
+clear : \"R\";
+}
+pin (\"CK\") {
+direction : \"input\";
+}
+pin (\"D\") {
+direction : \"input\";
+timing () {
+related_pin : \"CK\";
+timing_type : \"setup_rising\";
+rise_constraint (\"scalar\") {
+values (\"20\");
+}
+fall_constraint (\"scalar\") {
+values (\"20\");
+}
+}
+}
+pin (\"R\") {
+direction : \"input\";
+}
+pin (\"Q\") {
+direction : \"output\";
+function : \"IQ\";
+timing () {
+related_pin : \"CK\";
+timing_type : \"rising_edge\";
+cell_rise (\"scalar\") {
+values (\"5\");
+}
+cell_fall (\"scalar\") {
+values (\"7\");
+}
+}
+}
+"
 }
 
-/// A group of the state IQ and its inverse.
-fn states(alloc: Global, name: &[u8], items: Items<Item>) -> Result<Item, AllocError>
-    ensures { IfOk result (λ item. item ≡ inner_of name.now (text_of (codes "IQ") ∷ text_of (codes "IQN") ∷ []) items) }
+/// The statements of a cell with a latch that has a least pulse width.
+fn latch() -> &'static [u8]
+    ensures { result.now ≡ items_text latch_items }
 {
-    let names = two(alloc, b"IQ", b"IQN")?;
-    Ok(Item::Inner(group(alloc, name, names, items)?))
+    b"latch (\"IQ\", \"IQN\") {
+data_in : \"D\";
+enable : \"EN\";
+}
+pin (\"EN\") {
+direction : \"input\";
+min_pulse_width_high : \"15\";
+}
+pin (\"D\") {
+direction : \"input\";
+}
+pin (\"Q\") {
+direction : \"output\";
+function : \"IQ\";
+}
+"
 }
 
-/// The flip-flop, with a clear.
-#[tactic(auto, unfolding(crate::specs::Library::flip_flop))]
-fn flip_flop(alloc: Global) -> Result<Item, AllocError>
-    ensures { IfOk result (λ item. item ≡ the_flip_flop) }
+/// The statements of a cell with a clock gate by a state table.
+fn clock_gate() -> &'static [u8]
+    ensures { result.now ≡ items_text clock_gate_items }
 {
-    let items = Statements::new(alloc)
-        .simple(b"next_state", b"D")?
-        .simple(b"clocked_on", b"CK")?
-        .simple(b"clear", b"R")?;
-    Ok(states(alloc, b"ff", items.into_items())?)
+    b"statetable (\"CK E SE\", \"IQ\") {
+table : \"L L L : - : L, L L H : - : H, L H L : - : H, L H H : - : H, H - - : - : N\";
+}
+pin (\"CK\") {
+direction : \"input\";
+}
+pin (\"E\") {
+direction : \"input\";
+}
+pin (\"SE\") {
+direction : \"input\";
+}
+pin (\"IQ\") {
+direction : \"internal\";
+internal_node : \"IQ\";
+}
+pin (\"GCK\") {
+direction : \"output\";
+state_function : \"CK * IQ\";
+}
+"
 }
 
-/// What stands in the flip-flop's data: its setup time.
-#[tactic(auto, unfolding(crate::specs::Library::setup))]
-fn setup_alone(alloc: Global) -> Result<Items<Item>, AllocError>
-    ensures { IfOk result (λ items. items ≡ the_setup ∷ []) }
+/// What stands before the function of a cell with a function of three inputs.
+const BEFORE_FUNCTION: &[u8] = b"pin (\"A\") {
+direction : \"input\";
+}
+pin (\"B\") {
+direction : \"input\";
+}
+pin (\"C\") {
+direction : \"input\";
+}
+pin (\"Y\") {
+direction : \"output\";
+function : \"";
+
+/// The function text that is drawn from a cell's number.
+fn drawn_function(alloc: Global, number: u64) -> Result<Vec<u8>, AllocError>
+    ensures { IfOk result (λ text. text.items ≡ function_text_of (pick_of (next_of number) 256)) }
 {
-    let rise = table(alloc, b"rise_constraint", b"20")?;
-    let fall = table(alloc, b"fall_constraint", b"20")?;
-    let setup = timing(alloc, b"CK", b"setup_rising", rise, fall)?;
-    let only = Statements::new(alloc).and(setup)?;
-    Ok(only.into_items())
+    function_text(alloc, pick(next(number), 256))
 }
 
-/// What stands in the flip-flop's output: its function, and its delays.
-#[tactic(auto, unfolding(crate::specs::Library::arc))]
-fn delayed_state(alloc: Global) -> Result<Items<Item>, AllocError>
-    ensures { IfOk result (λ items. items ≡ simple_of (codes "function") (codes "IQ") ∷ the_arc ∷ []) }
+/// Appends the statements of a cell with a function that is drawn from its number.
+fn push_function(alloc: Global, text: &mut Vec<u8>, number: u64) -> Result<(), AllocError>
+    ensures { OnOk result (text.new.items
+        ≡ text.old.items ++ items_text (function_items (function_text_of (pick_of (next_of number) 256)))) }
 {
-    let rise = table(alloc, b"cell_rise", b"5")?;
-    let fall = table(alloc, b"cell_fall", b"7")?;
-    let arc = timing(alloc, b"CK", b"rising_edge", rise, fall)?;
-    let both = Statements::new(alloc).simple(b"function", b"IQ")?.and(arc)?;
-    Ok(both.into_items())
+    let function = drawn_function(alloc, number)?;
+    text.extend_from_slice(BEFORE_FUNCTION)?;
+    text.extend_from_slice(function.as_slice())?;
+    text.extend_from_slice(b"\";\n}\n")?;
+    Ok(())
 }
 
-/// The statements of a cell with a flip-flop.
-#[tactic(auto, unfolding(crate::specs::Library::flip_flop_items))]
-fn flip_flop_items(alloc: Global) -> Result<Items<Item>, AllocError>
-    ensures { IfOk result (λ items. items ≡ the_flip_flop_items) }
-{
-    let all = Statements::new(alloc)
-        .and(flip_flop(alloc)?)?
-        .plain_input(b"CK")?
-        .input(b"D", setup_alone(alloc)?)?
-        .plain_input(b"R")?
-        .output(b"Q", delayed_state(alloc)?)?;
-    Ok(all.into_items())
-}
-
-/// The latch.
-#[tactic(auto, unfolding(crate::specs::Library::latch))]
-fn latch(alloc: Global) -> Result<Item, AllocError>
-    ensures { IfOk result (λ item. item ≡ the_latch) }
-{
-    let items = Statements::new(alloc)
-        .simple(b"data_in", b"D")?
-        .simple(b"enable", b"EN")?;
-    Ok(states(alloc, b"latch", items.into_items())?)
-}
-
-/// The statements of a cell with a latch.
-#[tactic(auto, unfolding(crate::specs::Library::latch_items))]
-fn latch_items(alloc: Global) -> Result<Items<Item>, AllocError>
-    ensures { IfOk result (λ items. items ≡ the_latch_items) }
-{
-    let all = Statements::new(alloc)
-        .and(latch(alloc)?)?
-        .input(b"EN", alone(alloc, b"min_pulse_width_high", b"15")?)?
-        .plain_input(b"D")?
-        .output(b"Q", alone(alloc, b"function", b"IQ")?)?;
-    Ok(all.into_items())
-}
-
-/// The rows of the clock gate's state table.
-#[tactic(auto, unfolding(crate::specs::Library::state_rows))]
-fn state_rows(alloc: Global) -> Result<Items<u8>, AllocError>
-    ensures { IfOk result (λ text. text ≡ the_state_rows) }
-{
-    let mut text = Vec::from_slice(alloc, b"L L L : - : L, L L H : - : H, ")?;
-    text.extend_from_slice(b"L H L : - : H, L H H : - : H, ")?;
-    text.extend_from_slice(b"H - - : - : N")?;
-    Ok(Items::from_vec(text))
-}
-
-/// The state table of the clock gate.
-fn state_table(alloc: Global) -> Result<Item, AllocError>
-    ensures { IfOk result (λ item. item ≡ the_state_table) }
-{
-    let rows = state_rows(alloc)?;
-    let items = alone(alloc, b"table", rows.as_slice())?;
-    let names = two(alloc, b"CK E SE", b"IQ")?;
-    Ok(Item::Inner(group(alloc, b"statetable", names, items)?))
-}
-
-/// The statements of a cell with a clock gate.
-#[tactic(auto, unfolding(crate::specs::Library::clock_gate_items))]
-fn clock_gate_items(alloc: Global) -> Result<Items<Item>, AllocError>
-    ensures { IfOk result (λ items. items ≡ the_clock_gate_items) }
-{
-    let all = Statements::new(alloc)
-        .and(state_table(alloc)?)?
-        .plain_input(b"CK")?
-        .plain_input(b"E")?
-        .plain_input(b"SE")?
-        .pin(b"IQ", b"internal", alone(alloc, b"internal_node", b"IQ")?)?
-        .output(b"GCK", alone(alloc, b"state_function", b"CK * IQ")?)?;
-    Ok(all.into_items())
-}
-
-/// The statements of a cell with a function that is drawn from its number.
-fn drawn_items(alloc: Global, number: u64) -> Result<Items<Item>, AllocError>
-    ensures { IfOk result (λ items. items ≡ function_items_of (function_text_of (pick_of (next_of number) 256))) }
-{
-    let function = function_text(alloc, pick(next(number), 256))?;
-    Ok(function_items(alloc, function.as_slice())?)
-}
-
-/// The name of the cell with a number.
-fn cell_name(alloc: Global, number: u64) -> Result<Vec<u8>, AllocError>
-    ensures { IfOk result (λ name. name.items ≡ codes "G" ++ decimal number) }
-{
-    let mut buffer = Buffer::new();
-    let mut name = Vec::from_slice(alloc, b"G")?;
-    name.extend_from_slice(buffer.format(number).as_bytes())?;
-    Ok(name)
-}
-
-/// The statements of a cell whose number has this remainder.
-fn cell_items(alloc: Global, kind: u64, number: u64) -> Result<Items<Item>, AllocError>
-    ensures { IfOk result (λ items. items ≡ items_by_of kind number) }
+/// Appends the statements of a cell whose number has this remainder.
+fn push_statements(
+    alloc: Global,
+    text: &mut Vec<u8>,
+    kind: u64,
+    number: u64,
+) -> Result<(), AllocError>
+    ensures { OnOk result (text.new.items ≡ text.old.items ++ items_text (items_by kind number)) }
 {
     match kind {
-        0 => drawn_items(alloc, number),
-        1 => flip_flop_items(alloc),
-        2 => latch_items(alloc),
-        _ => clock_gate_items(alloc),
+        0 => push_function(alloc, text, number)?,
+        1 => text.extend_from_slice(flip_flop())?,
+        2 => text.extend_from_slice(latch())?,
+        _ => text.extend_from_slice(clock_gate())?,
     }
-}
-
-/// The cell with a number, from 1 on, as a group.
-#[tactic(auto, unfolding(crate::specs::Library::cell_group))]
-fn cell_group(alloc: Global, number: u64) -> Result<Group, AllocError>
-    ensures { IfOk result (λ group. group ≡ cell_group_of number) }
-{
-    let name = cell_name(alloc, number)?;
-    let items = cell_items(alloc, number % 4, number)?;
-    Ok(group(alloc, b"cell", one(alloc, name.as_slice())?, items)?)
+    Ok(())
 }
 
 /// The text of the cell with a number, from 1 on. An `Err` comes only where memory is wanting.
+#[tactic(auto, using(crate::proofs::CellTexts::text_of_cell))]
 pub(crate) fn cell_text(alloc: Global, number: u64) -> Result<Vec<u8>, AllocError>
-    ensures { IfOk result (λ text. text.items ≡ group_text (cell_group_of number)) }
+    ensures { IfOk result (λ text. text.items ≡ group_text (cell_group number)) }
 {
-    let group = cell_group(alloc, number)?;
-    Ok(write_group(alloc, &group)?)
+    let mut buffer = Buffer::new();
+    let mut text = Vec::from_slice(alloc, b"cell (\"G")?;
+    text.extend_from_slice(buffer.format(number).as_bytes())?;
+    text.extend_from_slice(b"\") {\n")?;
+    push_statements(alloc, &mut text, number % 4, number)?;
+    text.extend_from_slice(b"}\n")?;
+    Ok(text)
 }
 
 /// What stands before the cells in the text of the library. An `Err` comes only where memory is wanting.

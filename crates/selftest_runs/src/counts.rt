@@ -11,7 +11,7 @@ use std::alloc::AllocError;
 use trit_cubes::Trit;
 
 /// What is counted of cells that are run beside their damaged models.
-#[derive(Clone, Copy, Debug, PartialEq, Eq)]
+#[derive(Clone, Copy)]
 pub struct Counts {
     /// How many output values of the cells after the changes are 0 or 1.
     pub known: u64,

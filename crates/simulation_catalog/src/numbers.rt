@@ -5,7 +5,7 @@ ghost use Rattle.simulation_catalog.specs.Standings.{standing_by, numbers_by};
 use stimulus::Standing;
 
 /// The models that stand for a cell.
-#[derive(Clone, Copy, Debug, PartialEq, Eq)]
+#[derive(Clone, Copy)]
 pub struct ModelNumbers {
     /// The number of its module, from 0 among those of the Verilog file.
     pub verilog: usize,

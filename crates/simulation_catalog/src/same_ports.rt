@@ -7,7 +7,7 @@ use udp_tables::VPort;
 use vhdl_names::is_same;
 
 /// When two names are the same.
-#[derive(Clone, Copy, Debug, PartialEq, Eq)]
+#[derive(Clone, Copy)]
 pub(crate) enum Spelling {
     /// Where they are byte for byte, as in Verilog.
     Exact,

@@ -1,5 +1,5 @@
 //! The module of a cell.
-ghost use Rattle.std.specs.Prelude.{◌≡◌, IfOk};
+ghost use Rattle.std.specs.Prelude.{◌≡◌, Ok, IfOk};
 ghost use Rattle.cell_machine.specs.CellData.{data_of};
 ghost use Rattle.specify_blocks.specs.Generated.{wires_of, notifier_of, condition_count, module_of};
 
@@ -22,16 +22,39 @@ pub fn verilog_model(alloc: Global, cell: &Cell) -> Result<VModule, AllocError>
 {
     let conditions = conditions(alloc, cell)?;
     let from = ModelSource::new(alloc, cell, &conditions);
+    let ports = all_made(
+        module_name(alloc, cell.number, cell.name.as_slice()),
+        verilog_ports(alloc, cell.pins.as_slice()),
+    );
+    let nets = all_made(
+        wires_of(alloc, cell, conditions.len()),
+        notifier_of(alloc, cell),
+    );
+    let tables = all_made(primitives_of(&from), instances_of(&from));
+    let timing = all_made(paths_of(&from), module_checks(&from));
+    let (outside, inside) = all_made(all_made(ports, nets), all_made(tables, timing))?;
+    let ((name, ports), (wires, notifier)) = outside;
+    let ((udps, instances), (paths, checks)) = inside;
     Ok(VModule {
-        name: module_name(alloc, cell.number, cell.name.as_slice())?,
-        ports: verilog_ports(alloc, cell.pins.as_slice())?,
-        wires: wires_of(alloc, cell, conditions.len())?,
-        notifier: notifier_of(alloc, cell)?,
-        udps: primitives_of(&from)?,
-        instances: instances_of(&from)?,
-        paths: paths_of(&from)?,
-        checks: module_checks(&from)?,
+        name,
+        ports,
+        wires,
+        notifier,
+        udps,
+        instances,
+        paths,
+        checks,
     })
+}
+
+/// Both values, where each was made. It is a function of any types, so that what is owned is let go at one place.
+fn all_made<A: Drop, B: Drop>(
+    first: Result<A, AllocError>,
+    second: Result<B, AllocError>,
+) -> Result<(A, B), AllocError>
+    ensures { IfOk result (λ both. (first ≡ Ok both.0) × (second ≡ Ok both.1)) }
+{
+    Ok((first?, second?))
 }
 
 /// The names of the wires, where the cell has so many conditions: the states, then the conditions.

@@ -4,7 +4,7 @@ use udp_tables::{TimingCheck, Udp, VPort};
 
 /// A module: primitives joined by nets, with a specify block of delays and timing checks. (IEEE 1364-2005, clauses 8, 12,
 /// 14 and 15.) Ports, wires and primitives are numbered from 0, each in their own order.
-#[derive(Debug, Drop)]
+#[derive(Drop)]
 pub struct VModule {
     /// The module's name, in bytes.
     pub name: Items<u8>,
@@ -25,7 +25,7 @@ pub struct VModule {
 }
 
 /// What carries a value in a module.
-#[derive(Clone, Copy, Debug, PartialEq, Eq)]
+#[derive(Clone, Copy)]
 pub enum VNet {
     /// The port with this number.
     Port(usize),
@@ -53,7 +53,7 @@ impl VNet {
 }
 
 /// An instance: what drives one net.
-#[derive(Debug, Drop)]
+#[derive(Drop)]
 pub enum Instance {
     /// An instance of a primitive.
     Primitive {
@@ -89,7 +89,7 @@ impl Instance {
 }
 
 /// When a path counts. (IEEE 1364-2005, 14.2.4, state-dependent paths.)
-#[derive(Clone, Copy, Debug, PartialEq, Eq)]
+#[derive(Clone, Copy)]
 pub enum Gate {
     /// Always.
     Always,
@@ -100,7 +100,7 @@ pub enum Gate {
 }
 
 /// A path from an input to an output, with its delays.
-#[derive(Clone, Copy, Debug, PartialEq, Eq)]
+#[derive(Clone, Copy)]
 pub struct VPath {
     /// The number of the input port where it starts.
     pub from: usize,

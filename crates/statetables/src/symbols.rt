@@ -3,7 +3,7 @@ ghost use Rattle.std.specs.Prelude.{◌≡◌};
 ghost use Rattle.statetables.specs.Symbols.{matches_in, matches_now, next_value};
 
 /// The symbol of an input: which value before a change and which after it the row takes.
-#[derive(Clone, Copy, Debug, PartialEq, Eq)]
+#[derive(Clone, Copy)]
 pub enum InSymbol {
     /// `L`: 0 after the change.
     Low,
@@ -22,7 +22,7 @@ pub enum InSymbol {
 }
 
 /// The symbol of a node's present state: which states the row takes.
-#[derive(Clone, Copy, Debug, PartialEq, Eq)]
+#[derive(Clone, Copy)]
 pub enum CurrentSymbol {
     /// `L`: 0.
     Low,
@@ -33,7 +33,7 @@ pub enum CurrentSymbol {
 }
 
 /// The symbol of a node's next state.
-#[derive(Clone, Copy, Debug, PartialEq, Eq)]
+#[derive(Clone, Copy)]
 pub enum NextSymbol {
     /// `L`: 0.
     Low,

@@ -6,7 +6,7 @@ use crate::symbols::{CurrentSymbol, InSymbol, NextSymbol};
 use sqlite_items::Items;
 
 /// A row of a state table. A row that was written with `L/H` or `H/L` stands here as two rows.
-#[derive(Debug, Drop)]
+#[derive(Drop)]
 pub struct TableRow {
     /// A symbol for each input of the table, in the table's order.
     pub inputs: Items<InSymbol>,
@@ -41,7 +41,7 @@ impl TableRow {
 }
 
 /// A state table of a Liberty cell: rows over inputs and nodes, of which the first one that matches counts.
-#[derive(Debug, Drop)]
+#[derive(Drop)]
 pub struct StateTable {
     /// How many inputs it has.
     pub inputs: usize,

@@ -10,7 +10,7 @@ use sqlite_items::Items;
 use std::alloc::{AllocError, Global};
 
 /// A symbol as it is written.
-#[derive(Clone, Copy, Debug)]
+#[derive(Clone, Copy)]
 pub enum Written<S> {
     /// One symbol, for one row.
     Whole(S),
@@ -19,7 +19,7 @@ pub enum Written<S> {
 }
 
 /// Which half of a halved symbol.
-#[derive(Clone, Copy, Debug)]
+#[derive(Clone, Copy)]
 pub enum Half {
     /// The one in front of the slash.
     First,
@@ -28,7 +28,7 @@ pub enum Half {
 }
 
 /// A row as it is written.
-#[derive(Debug, Drop)]
+#[derive(Drop)]
 pub struct WrittenRow {
     /// A symbol for each input.
     pub inputs: Items<Written<InSymbol>>,

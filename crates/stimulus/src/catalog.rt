@@ -3,7 +3,7 @@ ghost use Rattle.std.specs.Prelude.{◌≡◌};
 ghost use Rattle.stimulus.specs.Catalog.{Listing, cell_found, pin_found};
 
 /// What a catalog answers to the name of a cell. A number is the catalog's own, and each stands for one cell.
-#[derive(Clone, Copy, Debug, PartialEq, Eq)]
+#[derive(Clone, Copy)]
 pub enum CellFound {
     /// The cell with this number, which may be given changes.
     Cell(usize),
@@ -18,7 +18,7 @@ pub enum CellFound {
 }
 
 /// What a catalog answers to the name of a pin.
-#[derive(Clone, Copy, Debug, PartialEq, Eq)]
+#[derive(Clone, Copy)]
 pub enum PinFound {
     /// The input with this number, from 0 among the inputs of its cell.
     Input(usize),

@@ -5,7 +5,7 @@ ghost use Rattle.stimulus.specs.Context.{after as after_of, start};
 use cell_machine::Change;
 
 /// What a line says.
-#[derive(Clone, Copy, Debug)]
+#[derive(Clone, Copy)]
 pub(crate) enum Said {
     /// Nothing.
     Nothing,
@@ -16,7 +16,7 @@ pub(crate) enum Said {
 }
 
 /// What the lines so far leave to be known.
-#[derive(Clone, Copy, Debug)]
+#[derive(Clone, Copy)]
 pub(crate) struct Context {
     /// The cell of the section that the last of them stands in, if a section has begun.
     pub cell: Option<usize>,

@@ -5,7 +5,7 @@ ghost use Rattle.stimulus.specs.DriveLines.{drive_of};
 use trit_cubes::Trit;
 
 /// What an output shows. (IEEE 1364-2005, clause 4.1, the value set; IEEE 1164, `'0'`, `'1'`, `'X'` and `'Z'`.)
-#[derive(Clone, Copy, Debug, PartialEq, Eq)]
+#[derive(Clone, Copy)]
 pub enum Drive {
     /// 0.
     Zero,

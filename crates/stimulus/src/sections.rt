@@ -9,7 +9,7 @@ use sqlite_items::Items;
 use std::alloc::{AllocError, Global};
 
 /// The changes that a cell is given from its start on.
-#[derive(Debug, Drop)]
+#[derive(Drop)]
 pub struct Section {
     /// The number of the cell in the catalog.
     pub cell: usize,

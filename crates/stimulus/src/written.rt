@@ -6,7 +6,7 @@ ghost use Rattle.stimulus.specs.Written.{written_in as written_in_of, written_wo
 use crate::lines::first_word;
 
 /// What is written in a line, before anything is said of its names and numbers.
-#[derive(Clone, Copy, Debug)]
+#[derive(Clone, Copy)]
 pub(crate) enum Written<'a> {
     /// Nothing: the line has no words or is a comment.
     Nothing,

@@ -20,7 +20,7 @@ use specify_blocks::{Gate, VModule, VPath};
 use udp_tables::{TimingCheck, VPort, event_of, is_port, port_number};
 
 /// A question on the shape of a module.
-#[derive(Clone, Copy, Debug)]
+#[derive(Clone, Copy)]
 pub struct ShapeTest {
     /// The part that it is on.
     pub part: ShapePart,

@@ -5,7 +5,7 @@ ghost use Rattle.table_audit.specs.Tables.{first_difference};
 use trit_cubes::{Cube, Trit};
 
 /// What a module is made of, as it is compared with a cell before any table is.
-#[derive(Clone, Copy, Debug, PartialEq, Eq)]
+#[derive(Clone, Copy)]
 pub enum ShapePart {
     /// The ports: their number and their directions.
     Ports,
@@ -26,7 +26,7 @@ pub enum ShapePart {
 }
 
 /// What of a module has values that are compared with the cell's.
-#[derive(Clone, Copy, Debug, PartialEq, Eq)]
+#[derive(Clone, Copy)]
 pub enum AuditPart {
     /// The next state of a primitive at a change of one of its pins.
     State,
@@ -41,7 +41,7 @@ pub enum AuditPart {
 }
 
 /// Arguments of a table, with what the cell and the model give there.
-#[derive(Clone, Copy, Debug)]
+#[derive(Clone, Copy)]
 pub struct Difference {
     /// What is compared.
     pub part: AuditPart,
@@ -65,7 +65,7 @@ pub struct Difference {
 }
 
 /// Whether a module has the shape and the tables of a cell.
-#[derive(Clone, Copy, Debug)]
+#[derive(Clone, Copy)]
 pub enum Verdict {
     /// In all parts, for all arguments.
     Same,

@@ -6,14 +6,14 @@ ghost use Rattle.text_io.specs.Desk.{file_of};
 ghost use Rattle.text_io.specs.NamedFiles.{folder_of, file_at, rest_of};
 
 /// A file of a desk over memory: its name, and its bytes.
-#[derive(Debug, Drop)]
+#[derive(Drop)]
 pub struct NamedFile {
     pub name: String,
     pub bytes: Vec<u8>,
 }
 
 /// Where reading goes on: the file's place in the folder, and how many of its bytes were read.
-#[derive(Clone, Copy, Debug, PartialEq, Eq)]
+#[derive(Clone, Copy)]
 pub(crate) struct Place {
     pub(crate) file: usize,
     pub(crate) offset: usize,

@@ -11,7 +11,7 @@ use crate::stop::Stop;
 use std::alloc::Global;
 
 /// The first bytes of a file.
-#[derive(Debug, Drop)]
+#[derive(Drop)]
 pub struct Taken {
     pub bytes: Vec<u8>,
     /// Whether at least one more byte came after them.

@@ -18,7 +18,7 @@ const TABLE_BYTES: usize = 4096;
 const FILE_SIZE: &str = "Max file size";
 
 /// The limit on the size of files, where there is one and the system tells it.
-#[derive(Clone, Copy, Debug)]
+#[derive(Clone, Copy)]
 pub(crate) struct SizeLimit {
     bytes: Option<u64>,
 }

@@ -1,7 +1,7 @@
 //! The slots for files that a command reads and writes.
 
 /// What a command reads: a Liberty library, a Verilog file, a VHDL file, a stimulus.
-#[derive(Clone, Copy, Debug, PartialEq, Eq)]
+#[derive(Clone, Copy)]
 pub enum InSlot {
     Library,
     Verilog,
@@ -10,7 +10,7 @@ pub enum InSlot {
 }
 
 /// What a command writes: the Verilog models, the VHDL models, its report, and the line of its fault.
-#[derive(Clone, Copy, Debug, PartialEq, Eq)]
+#[derive(Clone, Copy)]
 pub enum OutSlot {
     VerilogText,
     VitalText,
@@ -19,7 +19,7 @@ pub enum OutSlot {
 }
 
 /// A place at which a file can be bound, for reading or for writing.
-#[derive(Clone, Copy, Debug, PartialEq, Eq)]
+#[derive(Clone, Copy)]
 pub enum Slot {
     Input(InSlot),
     Output(OutSlot),

@@ -4,7 +4,7 @@ use cell_reader::LeftOut;
 use sqlite_items::Items;
 
 /// A delay of a three-state output from an input.
-#[derive(Clone, Copy, Debug, PartialEq, Eq)]
+#[derive(Clone, Copy, PartialEq, Eq)]
 pub struct DrivePath {
     /// The number of the input pin among the input pins.
     pub from: usize,
@@ -19,7 +19,7 @@ pub struct DrivePath {
 /// A cell whose outputs may float: a core without Z, and what drives its three-state outputs. Behind the outputs of the cell the
 /// core has one more output for each of these, in their order, which is 1 where that is driven and 0 where it floats. A cell
 /// without three-state outputs is its own core.
-#[derive(Debug, Drop)]
+#[derive(Drop)]
 pub struct DrivenCell {
     pub core: Cell,
     /// The name of the cell in its library, in bytes.

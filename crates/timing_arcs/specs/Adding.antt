@@ -12,6 +12,7 @@ use Rattle.cell_machine.specs.declared.arcs.Arc.{Arc}
 use Rattle.timing_arcs.specs.declared.fault.TimingFault.{TimingFault}
 use Rattle.timing_arcs.specs.declared.fault.TimingFault.TheVariants as fault
 use Rattle.timing_arcs.specs.declared.found.Found.{Found}
+use Rattle.timing_arcs.specs.declared.offsets.Offsets.{Offsets}
 use Rattle.timing_arcs.specs.declared.subject.Subject.{Subject}
 use Rattle.timing_arcs.specs.declared.subject.PinTiming.{PinTiming}
 use Rattle.timing_arcs.specs.declared.subject.Room.{Room}
@@ -133,10 +134,13 @@ timing_found found = record {
   wide = found.offsets.wide;
 }
 
+-- what was read, unless something is wrong
+abbrev pub unless_wrong : {A : Type 0} → Offsets → A → Result A TimingFault
+unless_wrong offsets read =
+    unless_at fault.Malformed offsets.malformed
+    (unless_at fault.UnknownName offsets.unknown_name
+    (unless_at fault.OwnCondition offsets.own_condition (unless_at fault.Number offsets.number (Ok read))))
+
 -- the answer on what was found
 abbrev pub answer_found : Found → Result PinTiming TimingFault
-answer_found found =
-    unless_at fault.Malformed found.offsets.malformed
-    (unless_at fault.UnknownName found.offsets.unknown_name
-    (unless_at fault.OwnCondition found.offsets.own_condition
-    (unless_at fault.Number found.offsets.number (Ok (timing_found found)))))
+answer_found found = unless_wrong found.offsets (timing_found found)

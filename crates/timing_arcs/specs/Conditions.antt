@@ -1,5 +1,5 @@
 -- The condition of a timing group (Liberty Reference Manual, `when`).
-use Rattle.std.specs.Prelude.{ℕ, Bool, true, false, ◌==◌, nat_lt, List, [], length, codes, Option, Some, None, Result, Ok, Err, if◌then◌else◌}
+use Rattle.std.specs.Prelude.{◌≡◌, ℕ, Bool, true, false, ◌==◌, nat_lt, List, [], length, codes, Option, Some, None, Result, Ok, Err, if◌then◌else◌}
 use Rattle.std.specs.Option.{option_map_or}
 use Rattle.std.specs.List.{list_any, list_all}
 use Rattle.bool_functions.specs.declared.tree.Node.{Node}
@@ -13,6 +13,8 @@ use Rattle.cell_machine.specs.CellRules.{is_input_pin}
 use Rattle.cell_machine.specs.Names.{has}
 use Rattle.timing_arcs.specs.declared.condition.Condition.{Condition}
 use Rattle.timing_arcs.specs.declared.condition.Condition.TheVariants.{Always, Never, Where, Malformed, Unknown}
+use Rattle.timing_arcs.specs.declared.condition.Plain.{Plain}
+use Rattle.timing_arcs.specs.declared.condition.Plain.TheVariants as plain
 use Rattle.timing_arcs.specs.declared.subject.Subject.{Subject}
 use Rattle.liberty_groups.specs.Attributes.{Attribute, attribute_of}
 
@@ -24,6 +26,22 @@ constant_or f = if length (support_of f) == 0 then (if value_of [] f then Always
 -- The condition of a tree. It may name input pins alone. (This project's rule.)
 abbrev pub condition_of_tree : Subject → Node → Condition
 condition_of_tree subject f = if list_all (is_input_pin subject.pins) (support_of f) then constant_or f else Unknown
+
+-- a value, or what stands in its place
+abbrev pub IsKept : {A P E : Type 0} → A → Result (Option P) E → Result A P → Type 0
+IsKept x instead (Ok y) = (instead ≡ Ok None) × (y ≡ x)
+IsKept x instead (Err p) = instead ≡ Ok (Some p)
+
+-- a condition without a function
+abbrev pub plain_condition : Plain → Condition
+plain_condition plain.Always = Always
+plain_condition plain.Never = Never
+plain_condition plain.Unknown = Unknown
+
+-- the condition with this function, or the one in its place
+abbrev pub condition_by : Option Plain → Node → Condition
+condition_by None f = Where f
+condition_by (Some p) f = plain_condition p
 
 -- The condition of a text that reads so. One that is too long is malformed.
 abbrev pub condition_as : Subject → Result Node FunctionFault → Condition

@@ -164,8 +164,8 @@ timing_of subject pin = record {
   wide = least (wide_at subject pin);
 }
 
--- A timing, unless something is wrong: the first kind that there is decides, and of it the least offset.
-abbrev pub unless_at : (ℕ → TimingFault) → Option ℕ → Result PinTiming TimingFault → Result PinTiming TimingFault
+-- What was read, unless something is wrong: the first kind that there is decides, and of it the least offset.
+abbrev pub unless_at : {A : Type 0} → (ℕ → TimingFault) → Option ℕ → Result A TimingFault → Result A TimingFault
 unless_at wrong None answer = answer
 unless_at wrong (Some at) answer = Err (wrong at)
 

@@ -87,6 +87,16 @@ fn join(arcs: &mut [Arc], path: &Path<'_>) -> bool
     found
 }
 
+/// Adds one at the end of a list, where fewer than so many are there.
+fn push_within<T: Drop>(items: &mut Vec<T>, room: usize, item: T) -> Result<(), AllocError>
+    ensures { OnOk result (items.new.items ≡ pushed room items.old.items item) }
+{
+    if items.len() < room {
+        items.push(item)?;
+    }
+    Ok(())
+}
+
 impl ArcList {
     /// No arcs.
     pub(crate) fn new(alloc: Global) -> ArcList
@@ -116,10 +126,7 @@ impl ArcList {
     pub(crate) fn push_within(&mut self, room: usize, arc: Arc) -> Result<(), AllocError>
         ensures { OnOk result (self.new ≡ pushed room self.old arc) }
     {
-        if self.arcs.len() < room {
-            self.arcs.push(arc)?;
-        }
-        Ok(())
+        push_within(&mut self.arcs, room, arc)
     }
 
     /// The arcs in their order.

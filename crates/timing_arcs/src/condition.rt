@@ -4,7 +4,7 @@ ghost use Rattle.std.specs.List.{list_all};
 ghost use Rattle.std.specs.Option.{option_copied};
 ghost use Rattle.bool_functions.specs.Tree.{name_bound};
 ghost use Rattle.cell_machine.specs.CellRules.{is_input_pin};
-ghost use Rattle.timing_arcs.specs.Conditions.{condition_of_tree, condition_in, tree_of, may_hold, is_malformed, has_unknown, named_pins};
+ghost use Rattle.timing_arcs.specs.Conditions.{IsKept, plain_condition, condition_by, condition_of_tree, condition_in, tree_of, may_hold, is_malformed, has_unknown, named_pins};
 
 use crate::subject::Subject;
 use crate::timing_type::is_input_pin;
@@ -35,6 +35,63 @@ fn are_inputs(pins: &[Pin], numbers: &[usize]) -> bool
     numbers.iter().all(|number| is_input_pin(pins, *number))
 }
 
+/// A value, or what stands in its place. It is a function of any types, so that what the value owns is let go at one place.
+fn kept_unless<T: Drop, P: Drop>(
+    value: T,
+    instead: Result<Option<P>, AllocError>,
+) -> Result<Result<T, P>, AllocError>
+    ensures { IfOk result (λ kept. IsKept value instead kept) }
+{
+    match instead? {
+        Some(instead) => Ok(Err(instead)),
+        None => Ok(Ok(value)),
+    }
+}
+
+/// A condition without a function.
+#[derive(Clone, Copy)]
+enum Plain {
+    Always,
+    Never,
+    Unknown,
+}
+
+impl Plain {
+    /// The one that stands in the place of a function, where one does.
+    fn of(
+        alloc: Global,
+        subject: &Subject,
+        function: &Function,
+    ) -> Result<Option<Plain>, AllocError>
+        ensures { IfOk result (λ plain. condition_by plain function.now ≡ condition_of_tree subject.now function.now) }
+    {
+        let support = function.support(alloc)?;
+        if !are_inputs(subject.pins.as_slice(), &support) {
+            return Ok(Some(Plain::Unknown));
+        }
+        if !support.is_empty() {
+            return Ok(None);
+        }
+        bound_is_least();
+        Ok(Some(if function.value(&[]) {
+            Plain::Always
+        } else {
+            Plain::Never
+        }))
+    }
+
+    /// It as a condition.
+    fn condition(self) -> Condition
+        ensures { result ≡ plain_condition self }
+    {
+        match self {
+            Plain::Always => Condition::Always,
+            Plain::Never => Condition::Never,
+            Plain::Unknown => Condition::Unknown,
+        }
+    }
+}
+
 impl Condition {
     /// The condition that a function is.
     fn of_function(
@@ -44,19 +101,11 @@ impl Condition {
     ) -> Result<Condition, AllocError>
         ensures { IfOk result (λ condition. condition ≡ condition_of_tree subject.now function) }
     {
-        let support = function.support(alloc)?;
-        if !are_inputs(subject.pins.as_slice(), &support) {
-            return Ok(Condition::Unknown);
+        let plain = Plain::of(alloc, subject, &function);
+        match kept_unless(function, plain)? {
+            Ok(function) => Ok(Condition::Where(function)),
+            Err(plain) => Ok(plain.condition()),
         }
-        if !support.is_empty() {
-            return Ok(Condition::Where(function));
-        }
-        bound_is_least();
-        Ok(if function.value(&[]) {
-            Condition::Always
-        } else {
-            Condition::Never
-        })
     }
 
     /// The condition that a text stands for.

@@ -68,11 +68,13 @@ impl Found {
     pub(crate) fn add_check(&mut self, at: usize, check: Check) -> Result<(), AllocError>
         ensures { OnOk result (self.new ≡ with_check at self.old check) }
     {
-        if check.limit == 0 {
-            return Ok(());
-        }
-        push_within(&mut self.checks, self.room.checks, check)?;
-        push_within(&mut self.check_at, self.room.checks, at)
+        let room = if check.limit == 0 {
+            0
+        } else {
+            self.room.checks
+        };
+        push_within(&mut self.checks, room, check)?;
+        push_within(&mut self.check_at, room, at)
     }
 
     /// Whether one more arc is held.
@@ -127,26 +129,13 @@ impl Found {
     pub(crate) fn finish(self) -> Result<PinTiming, TimingFault>
         ensures { result ≡ answer_found self }
     {
-        let offsets = self.offsets;
-        if let Some(at) = offsets.malformed {
-            return Err(TimingFault::Malformed(at));
-        }
-        if let Some(at) = offsets.unknown_name {
-            return Err(TimingFault::UnknownName(at));
-        }
-        if let Some(at) = offsets.own_condition {
-            return Err(TimingFault::OwnCondition(at));
-        }
-        if let Some(at) = offsets.number {
-            return Err(TimingFault::Number(at));
-        }
-        Ok(PinTiming {
+        self.offsets.unless_wrong(PinTiming {
             checks: self.checks,
             arcs: self.arcs.into_items(),
             left_out: self.left_out,
             check_at: self.check_at,
             arc_at: self.arc_at,
-            wide: offsets.wide,
+            wide: self.offsets.wide,
         })
     }
 }

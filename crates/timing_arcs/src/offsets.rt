@@ -1,7 +1,10 @@
 //! The least offsets of what is noted in timing groups.
 ghost use Rattle.std.specs.Prelude.{◌≡◌};
 ghost use Rattle.cell_machine.specs.Delay.{lesser};
+ghost use Rattle.timing_arcs.specs.Adding.{unless_wrong};
 ghost use Rattle.timing_arcs.specs.Readings.{joined, no_offsets, where_so};
+
+use crate::fault::TimingFault;
 
 /// The least offsets of what is wrong, kind by kind, and of what is over a limit.
 #[derive(Clone, Copy)]
@@ -61,5 +64,25 @@ impl Offsets {
             number: lesser(self.number, other.number),
             wide: lesser(self.wide, other.wide),
         }
+    }
+
+    /// What was read, unless something is wrong: the first kind that there is decides. It is a function of any type, so that
+    /// what was read is let go by one call.
+    pub(crate) fn unless_wrong<T: Drop>(self, read: T) -> Result<T, TimingFault>
+        ensures { result ≡ unless_wrong self read }
+    {
+        if let Some(at) = self.malformed {
+            return Err(TimingFault::Malformed(at));
+        }
+        if let Some(at) = self.unknown_name {
+            return Err(TimingFault::UnknownName(at));
+        }
+        if let Some(at) = self.own_condition {
+            return Err(TimingFault::OwnCondition(at));
+        }
+        if let Some(at) = self.number {
+            return Err(TimingFault::Number(at));
+        }
+        Ok(read)
     }
 }

@@ -18,7 +18,7 @@ pub struct Subject {
 }
 
 /// How much of the timing of a pin is held. What is over a limit refuses a cell, so no more than one over it is wanted.
-#[derive(Clone, Copy, Debug)]
+#[derive(Clone, Copy)]
 pub struct Room {
     /// The most checks.
     pub checks: usize,
@@ -29,7 +29,7 @@ pub struct Room {
 }
 
 /// The timing of a pin.
-#[derive(Debug, Drop)]
+#[derive(Drop)]
 pub struct PinTiming {
     /// The checks: of the timing groups in order, then those of the high pulse, the low pulse and the period of the pin's
     /// attributes.

@@ -1,7 +1,7 @@
 //! What a scan of a text gives.
 
 /// Where a token stands: its bytes are those from offset `at` up to, but not including, `end`.
-#[derive(Clone, Copy, Debug, PartialEq, Eq)]
+#[derive(Clone, Copy)]
 pub struct Span {
     /// Counted in bytes from 0.
     pub at: usize,
@@ -10,7 +10,7 @@ pub struct Span {
 }
 
 /// The tokens of a text before its lexical fault, and the offset of the fault, if there is one.
-#[derive(Debug, Drop)]
+#[derive(Drop)]
 pub struct Scan {
     /// In the order of their offsets.
     pub tokens: Vec<Span>,

@@ -7,7 +7,7 @@ use crate::trits::Trit;
 use std::marker::Model;
 
 /// A list of at most ten trits, as two words: which places are fixed, and their values.
-#[derive(Clone, Copy, Debug, PartialEq, Eq)]
+#[derive(Clone, Copy)]
 pub struct Cube {
     len: usize,
     fixed: u16,

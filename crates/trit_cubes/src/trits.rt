@@ -6,7 +6,7 @@ ghost use Rattle.trit_cubes.specs.Resolution.{agreed};
 ghost use Rattle.trit_cubes.specs.Words.{fixed_bit, value_bit};
 
 /// A truth value of a pin or a state.
-#[derive(Clone, Copy, Debug, PartialEq, Eq)]
+#[derive(Clone, Copy, PartialEq, Eq)]
 pub enum Trit {
     /// 0.
     Zero,

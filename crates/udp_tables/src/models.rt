@@ -7,7 +7,7 @@ use std::alloc::{AllocError, AllocFailed};
 use thiserror::Error;
 
 /// A port of a model.
-#[derive(Debug, Drop)]
+#[derive(Drop)]
 pub struct VPort {
     /// The name, in bytes.
     pub name: Items<u8>,

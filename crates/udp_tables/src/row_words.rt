@@ -7,7 +7,7 @@ use crate::table::Level;
 use trit_cubes::Trit;
 
 /// Which bits of the word of the values a row asks for, and what these have to be.
-#[derive(Clone, Copy, Debug, PartialEq, Eq)]
+#[derive(Clone, Copy)]
 pub struct RowWords {
     /// The bits that the row asks for.
     pub asked: u64,

@@ -3,7 +3,7 @@ use sqlite_items::Items;
 
 /// A user-defined primitive, by IEEE 1364-2005, clause 8: one output, its inputs in the order of the header, and a
 /// table.
-#[derive(Debug, Drop)]
+#[derive(Drop)]
 pub struct Udp {
     /// The primitive's name, in bytes.
     pub name: Items<u8>,
@@ -18,7 +18,7 @@ pub struct Udp {
 }
 
 /// A row of a primitive's table.
-#[derive(Debug, Drop)]
+#[derive(Drop)]
 pub struct UdpRow {
     /// An entry for each input.
     pub inputs: Items<Entry>,
@@ -29,7 +29,7 @@ pub struct UdpRow {
 }
 
 /// A level symbol: which values it matches.
-#[derive(Clone, Copy, Debug, PartialEq, Eq)]
+#[derive(Clone, Copy, PartialEq, Eq)]
 pub enum Level {
     /// `0`.
     Zero,
@@ -44,7 +44,7 @@ pub enum Level {
 }
 
 /// The entry of one input in a row.
-#[derive(Clone, Copy, Debug, PartialEq, Eq)]
+#[derive(Clone, Copy, PartialEq, Eq)]
 pub enum Entry {
     /// The input has one of the values of the level.
     Level(Level),
@@ -63,7 +63,7 @@ pub enum Entry {
 }
 
 /// What a row gives.
-#[derive(Clone, Copy, Debug, PartialEq, Eq)]
+#[derive(Clone, Copy)]
 pub enum Next {
     /// `0`.
     Zero,

@@ -13,7 +13,7 @@ use std::alloc::AllocError;
 
 /// A timing check of a model. (IEEE 1364-2005, clause 15; IEEE 1076.4-2000, VitalSetupHoldCheck, VitalRecoveryRemovalCheck and
 /// VitalPeriodPulseCheck.) In a Verilog text a `Period` stands for two checks, of its rises and of its falls.
-#[derive(Clone, Copy, Debug, PartialEq, Eq)]
+#[derive(Clone, Copy)]
 pub struct TimingCheck {
     /// What is checked.
     pub kind: CheckKind,

@@ -19,14 +19,15 @@ gate_text m gate.Always = codes "    "
 gate_text m (gate.If w) = codes "    if (" ++ (wire_at m w ++ codes ") ")
 gate_text m gate.IfNone = codes "    ifnone "
 
--- the ports of a path, and its delays of a rise and of a fall
-unfoldable pub delays_text : VModule → VPath → List ℕ
-delays_text m path =
+-- a path between ports of these names, and its delays of a rise and of a fall
+abbrev pub path_line : List ℕ → List ℕ → ℕ → ℕ → List ℕ
+path_line from to rise fall =
     codes "("
-    ++ (port_at m path.from
-    ++ (codes " => "
-    ++ (port_at m path.to
-    ++ (codes ") = (" ++ (decimal path.rise ++ (codes ", " ++ (decimal path.fall ++ codes ");\n")))))))
+    ++ (from ++ (codes " => " ++ (to ++ (codes ") = (" ++ (decimal rise ++ (codes ", " ++ (decimal fall ++ codes ");\n")))))))
+
+-- the ports of a path, and its delays
+unfoldable pub delays_text : VModule → VPath → List ℕ
+delays_text m path = path_line (port_at m path.from) (port_at m path.to) path.rise path.fall
 
 -- a path's line
 unfoldable pub path_text : VModule → VPath → List ℕ

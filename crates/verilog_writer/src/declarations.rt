@@ -10,7 +10,7 @@ use udp_tables::VPort;
 
 /// The ports in the header.
 #[derive(Drop)]
-pub(crate) struct Ports<'a>(pub(crate) &'a [VPort]);
+pub struct Ports<'a>(pub &'a [VPort]);
 
 impl Part for Ports<'_> {
     ghost text = { λ m. ports_text m.0.now };
@@ -29,7 +29,7 @@ impl Part for Ports<'_> {
 
 /// The declarations of the inputs among ports, or else of the outputs.
 #[derive(Drop)]
-pub(crate) struct PortLines(pub(crate) bool);
+pub struct PortLines(pub bool);
 
 impl ItemText<VPort> for PortLines {
     ghost text = { λ m port. if m.0 then input_port_text port else output_port_text port };

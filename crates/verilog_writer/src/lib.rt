@@ -12,5 +12,7 @@ mod primitive;
 mod symbols;
 mod table;
 
+pub use declarations::{PortLines, Ports};
 pub use models::{write_model, write_prelude};
+pub use paths::PathDelays;
 pub use primitive::write_udp;

@@ -1,5 +1,5 @@
 //! The lines of paths in a specify block.
-ghost use Rattle.verilog_writer.specs.Timing.{gate_text, path_text};
+ghost use Rattle.verilog_writer.specs.Timing.{gate_text, path_line, path_text};
 
 use crate::nets::{port_at, wire_at};
 use specify_blocks::{Gate, VModule, VPath};
@@ -26,6 +26,38 @@ impl Part for PathGate<'_> {
     }
 }
 
+/// A path between ports of these names, behind what stands before it: the rest of its line.
+#[derive(Drop)]
+pub struct PathDelays<'a> {
+    /// The name of the input where it starts.
+    pub from: &'a [u8],
+    /// The name of the output where it ends.
+    pub to: &'a [u8],
+    /// The delay of a rise of the output, in picoseconds.
+    pub rise: u64,
+    /// The delay of a fall, in picoseconds.
+    pub fall: u64,
+}
+
+impl Part for PathDelays<'_> {
+    ghost text = { λ p. path_line p.from.now p.to.now p.rise p.fall };
+
+    fn put<D: Desk>(&self, line: &mut Line, desk: &mut D, slot: OutSlot) -> Put {
+        parts!(
+            Bytes(b"("),
+            Bytes(self.from),
+            Bytes(b" => "),
+            Bytes(self.to),
+            Bytes(b") = ("),
+            Decimal(self.rise as u128),
+            Bytes(b", "),
+            Decimal(self.fall as u128),
+            Bytes(b");\n")
+        )
+        .put(line, desk, slot)
+    }
+}
+
 /// Lines of paths: what stands before a path, and its ports with its delays.
 #[derive(Drop)]
 pub(crate) struct PathLines<'a>(pub(crate) &'a VModule);
@@ -35,18 +67,12 @@ impl ItemText<VPath> for PathLines<'_> {
 
     #[tactic(auto, unfolding(crate::specs::Timing::path_text, crate::specs::Timing::delays_text))]
     fn put<D: Desk>(&self, path: &VPath, line: &mut Line, desk: &mut D, slot: OutSlot) -> Put {
-        parts!(
-            PathGate(self.0, path.gate),
-            Bytes(b"("),
-            Bytes(port_at(self.0, path.from)),
-            Bytes(b" => "),
-            Bytes(port_at(self.0, path.to)),
-            Bytes(b") = ("),
-            Decimal(path.rise as u128),
-            Bytes(b", "),
-            Decimal(path.fall as u128),
-            Bytes(b");\n")
-        )
-        .put(line, desk, slot)
+        let delays = PathDelays {
+            from: port_at(self.0, path.from),
+            to: port_at(self.0, path.to),
+            rise: path.rise,
+            fall: path.fall,
+        };
+        parts!(PathGate(self.0, path.gate), delays).put(line, desk, slot)
     }
 }

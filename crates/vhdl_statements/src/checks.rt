@@ -17,7 +17,7 @@ use vhdl_tokens::is_same;
 use vhdl_words::{Cursor, Declarations, Uses, either_word, expect_all};
 
 /// The checks so far, and the lists of the conditions that were looked up.
-#[derive(Debug, Drop)]
+#[derive(Drop)]
 pub struct Checks {
     /// In order.
     pub checks: Items<TimingCheck>,

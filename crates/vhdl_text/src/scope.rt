@@ -5,7 +5,7 @@ use udp_tables::VPort;
 use vital_models::{TruthTable, VStateTable};
 
 /// The tables that the constants of an architecture hold, each kind in order.
-#[derive(Debug, Drop)]
+#[derive(Drop)]
 pub struct Tables {
     /// The tables of the states.
     pub states: Items<VStateTable>,
@@ -16,7 +16,7 @@ pub struct Tables {
 }
 
 /// The variables that a process declares.
-#[derive(Debug, Drop)]
+#[derive(Drop)]
 pub struct Variables {
     /// Of each check, whether its data are those of a pulse or of a period.
     pub periods: Items<bool>,
@@ -29,7 +29,7 @@ pub struct Variables {
 }
 
 /// The declarations of an entity and of its architecture.
-#[derive(Debug, Drop)]
+#[derive(Drop)]
 pub struct Scope {
     /// The entity's name, in bytes.
     pub name: Items<u8>,
@@ -42,7 +42,7 @@ pub struct Scope {
 }
 
 /// The input columns of the table of a state.
-#[derive(Debug, Drop)]
+#[derive(Drop)]
 pub struct Columns {
     /// Whether the violation comes first.
     pub violation: bool,
@@ -51,7 +51,7 @@ pub struct Columns {
 }
 
 /// What is assigned to the variable of an output.
-#[derive(Debug, Drop)]
+#[derive(Drop)]
 pub enum Assigned {
     /// A constant: whether it is 1.
     Constant(bool),

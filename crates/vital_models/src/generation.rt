@@ -1,5 +1,5 @@
 //! The entity of a cell.
-ghost use Rattle.std.specs.Prelude.{◌≡◌, ◌<◌, ◌≤◌, ◌++◌, map, length, slice_get, slice_index_or, Some, IfOk, OnOk};
+ghost use Rattle.std.specs.Prelude.{◌≡◌, ◌<◌, ◌≤◌, ◌++◌, map, length, slice_get, slice_index_or, Ok, Some, IfOk, OnOk};
 ghost use Rattle.bool_functions.specs.Tree.{name_bound};
 ghost use Rattle.cell_machine.specs.CellData.{data_of};
 ghost use Rattle.udp_tables.specs.Conditions.{conditions_of};
@@ -24,14 +24,33 @@ pub fn vital_model(alloc: Global, cell: &Cell, name: &[u8]) -> Result<VEntity, A
 {
     let conditions = conditions(alloc, cell)?;
     let from = ModelSource::new(alloc, cell, &conditions);
+    let ports = all_made(
+        Items::from_slice(alloc, name),
+        vital_ports(alloc, cell.pins.as_slice(), name),
+    );
+    let tables = all_made(states_of(alloc, cell), conditions_of(&from));
+    let ends = all_made(outputs_of(&from), entity_checks(&from));
+    let ((name, ports), (tables, ends)) = all_made(ports, all_made(tables, ends))?;
+    let (states, conditions) = tables;
+    let (outputs, checks) = ends;
     Ok(VEntity {
-        name: Items::from_slice(alloc, name)?,
-        ports: vital_ports(alloc, cell.pins.as_slice(), name)?,
-        states: states_of(alloc, cell)?,
-        conditions: conditions_of(&from)?,
-        outputs: outputs_of(&from)?,
-        checks: entity_checks(&from)?,
+        name,
+        ports,
+        states,
+        conditions,
+        outputs,
+        checks,
     })
+}
+
+/// Both values, where each was made. It is a function of any types, so that what is owned is let go at one place.
+fn all_made<A: Drop, B: Drop>(
+    first: Result<A, AllocError>,
+    second: Result<B, AllocError>,
+) -> Result<(A, B), AllocError>
+    ensures { IfOk result (λ both. (first ≡ Ok both.0) × (second ≡ Ok both.1)) }
+{
+    Ok((first?, second?))
 }
 
 /// The states of the groups.

@@ -7,7 +7,7 @@ use udp_tables::{TimingCheck, VPort};
 /// A VHDL entity with its architecture of one process: timing checks, state tables, truth tables and path delays. (IEEE
 /// 1076.4-2000.) Ports, states and conditions are numbered from 0, each in their own order; pins of events, paths and inputs are
 /// numbers of ports.
-#[derive(Debug, Drop)]
+#[derive(Drop)]
 pub struct VEntity {
     /// The entity's name, in bytes.
     pub name: Items<u8>,
@@ -24,7 +24,7 @@ pub struct VEntity {
 }
 
 /// A state.
-#[derive(Debug, Drop)]
+#[derive(Drop)]
 pub struct VState {
     /// Its table.
     pub table: VStateTable,
@@ -35,7 +35,7 @@ pub struct VState {
 }
 
 /// A truth table of input ports.
-#[derive(Debug, Drop)]
+#[derive(Drop)]
 pub struct VTruth {
     /// The table.
     pub table: TruthTable,
@@ -44,7 +44,7 @@ pub struct VTruth {
 }
 
 /// What drives an output port.
-#[derive(Debug, Drop)]
+#[derive(Drop)]
 pub struct VOutput {
     /// The number of the port.
     pub port: usize,
@@ -55,7 +55,7 @@ pub struct VOutput {
 }
 
 /// The value of an output port.
-#[derive(Debug, Drop)]
+#[derive(Drop)]
 pub enum OutValue {
     /// A constant: whether it is 1.
     Constant(bool),
@@ -69,7 +69,7 @@ pub enum OutValue {
 }
 
 /// A path from an input port, with its delays. (IEEE 1076.4-2000, VitalPathDelay01.)
-#[derive(Debug, Drop)]
+#[derive(Drop)]
 pub struct HPath {
     /// The number of the input port where it starts.
     pub from: usize,
@@ -82,7 +82,7 @@ pub struct HPath {
 }
 
 /// When a path counts.
-#[derive(Debug, Drop)]
+#[derive(Drop)]
 pub enum HGate {
     /// Always.
     Always,

@@ -3,7 +3,7 @@ use sqlite_items::Items;
 use trit_cubes::Trit;
 
 /// Which values a level of a table stands for. (IEEE 1076.4-2000, VITAL table symbols.)
-#[derive(Clone, Copy, Debug, PartialEq, Eq)]
+#[derive(Clone, Copy)]
 pub enum Trits {
     /// `'0'`.
     Zero,
@@ -18,14 +18,14 @@ pub enum Trits {
 }
 
 /// A truth table. (IEEE 1076.4-2000, VitalTruthTable.)
-#[derive(Debug, Drop)]
+#[derive(Drop)]
 pub struct TruthTable {
     /// The rows, in order.
     pub rows: Items<TruthRow>,
 }
 
 /// A row of a truth table.
-#[derive(Debug, Drop)]
+#[derive(Drop)]
 pub struct TruthRow {
     /// A level for each input.
     pub inputs: Items<Trits>,
@@ -34,14 +34,14 @@ pub struct TruthRow {
 }
 
 /// A state table of one state. (IEEE 1076.4-2000, VitalStateTable.)
-#[derive(Debug, Drop)]
+#[derive(Drop)]
 pub struct VStateTable {
     /// The rows, in order.
     pub rows: Items<VStateRow>,
 }
 
 /// A row of a state table.
-#[derive(Debug, Drop)]
+#[derive(Drop)]
 pub struct VStateRow {
     /// A symbol for each input column.
     pub inputs: Items<VSymbol>,
@@ -52,7 +52,7 @@ pub struct VStateRow {
 }
 
 /// The symbol of one input column in a row of a state table. (IEEE 1076.4-2000, VITAL table symbols.)
-#[derive(Clone, Copy, Debug, PartialEq, Eq)]
+#[derive(Clone, Copy)]
 pub enum VSymbol {
     /// The column has one of the values of the level.
     Level(Trits),
@@ -75,7 +75,7 @@ pub enum VSymbol {
 }
 
 /// What a row of a state table gives.
-#[derive(Clone, Copy, Debug, PartialEq, Eq)]
+#[derive(Clone, Copy)]
 pub enum VNext {
     /// `'0'`.
     Zero,

@@ -1,9 +1,10 @@
 //! The tables of a cell: of its groups, conditions and outputs.
-ghost use Rattle.std.specs.Prelude.{◌≡◌, ◌<◌, map, length, replicate, slice_get, Some, IfOk};
+ghost use Rattle.std.specs.Prelude.{◌≡◌, ◌<◌, ◌++◌, [], ◌∷◌, map, length, replicate, slice_get, Some, IfOk};
 ghost use Rattle.cell_machine.specs.CellData.{data_of};
 ghost use Rattle.udp_tables.specs.Conditions.{conditions_of};
 ghost use Rattle.udp_tables.specs.CellPrimitives.{condition_tree};
 ghost use Rattle.vital_models.specs.Rows.{violated, steady_row, closing_row};
+ghost use Rattle.vital_models.specs.Translation.{state_rows_from};
 ghost use Rattle.vital_models.specs.Generated.{has_violation, state_table, condition_table, output_table};
 
 use crate::table::{Trits, TruthTable, VNext, VStateRow, VStateTable, VSymbol};
@@ -11,7 +12,7 @@ use crate::translation::{add_state_rows, truth_rows_from};
 use cell_machine::{Cell, OutputPin};
 use sqlite_items::Items;
 use std::alloc::{AllocError, Global};
-use udp_tables::{ModelSource, Part, part_udp, sequential_udp};
+use udp_tables::{ModelSource, Part, UdpRow, part_udp, sequential_udp};
 
 /// Whether state tables have a column of the violation: the cell has checks.
 pub(crate) fn has_violation(cell: &Cell) -> bool
@@ -32,11 +33,25 @@ pub(crate) fn state_table(
     let violation = has_violation(cell);
     let pins = cell.group(group).support.len();
     let udp = sequential_udp(alloc, cell, group)?;
+    let rows = state_rows(alloc, violation, pins, udp.rows.as_slice());
+    Ok(VStateTable { rows: rows? })
+}
+
+/// The rows of a state table that these rows of a primitive become, behind the one that keeps the state and before the one that makes
+/// it unknown.
+fn state_rows(
+    alloc: Global,
+    violation: bool,
+    pins: usize,
+    udp_rows: &[UdpRow],
+) -> Result<Items<VStateRow>, AllocError>
+    ensures { IfOk result (λ rows. rows ≡ steady_row violation pins ∷ (state_rows_from violation udp_rows.now ++ closing_row violation pins ∷ [])) }
+{
     let mut rows = Items::new(alloc);
     rows.push(steady_row(alloc, violation, pins)?)?;
-    add_state_rows(alloc, &mut rows, violation, udp.rows.as_slice())?;
+    add_state_rows(alloc, &mut rows, violation, udp_rows)?;
     rows.push(closing_row(alloc, violation, pins)?)?;
-    Ok(VStateTable { rows })
+    Ok(rows)
 }
 
 /// The row that keeps the state where there is no violation and no pin changes.

@@ -1,140 +1,163 @@
 //! Examples from outside: texts with the trees and the faults that Liberty's syntax gives them.
-ghost use Rattle.std.specs.Prelude.{◌≤◌, IfOk};
+ghost use Rattle.std.specs.Prelude.{◌≤◌, IfSome};
 ghost use Rattle.bool_functions.specs.Tree.{name_bound};
 
 use bool_functions::{Function, FunctionFault, MAX_LEN, Names, read_free, read_function};
-use std::alloc::Global;
+use std::alloc::{AllocError, Global};
 use std::test::Fail;
-
-/// The function of a text, and its names.
-#[derive(Drop)]
-struct ReadText {
-    function: Function,
-    names: Names,
-}
+use table_tests::{Row, all_hold};
 
 /// The function of a text, where it reads.
-fn read(alloc: Global, text: &[u8]) -> Option<ReadText> {
+fn read(alloc: Global, text: &[u8]) -> Option<Function> {
     match read_free(alloc, text) {
-        Ok((function, names)) => Some(ReadText { function, names }),
+        Ok((function, _)) => Some(function),
         Err(_) => None,
     }
 }
 
-/// Whether two texts read, as one tree.
-fn have_one_tree(one: &Option<ReadText>, other: &Option<ReadText>) -> bool {
-    match (one, other) {
-        (Some(one), Some(other)) => one.function.same(&other.function),
+/// Whether two texts are read as one tree.
+fn have_one_tree(alloc: Global, one: &[u8], other: &[u8]) -> Option<bool> {
+    let one = read(alloc, one)?;
+    let other = read(alloc, other)?;
+    Some(one.same(&other))
+}
+
+/// A text, and the one with all brackets as which it is read.
+struct BracketedText(&'static [u8], &'static [u8]);
+
+impl Row for BracketedText {
+    fn holds(&self, alloc: Global) -> bool {
+        have_one_tree(alloc, self.0, self.1) == Some(true)
+    }
+}
+
+const BRACKETED: [BracketedText; 10] = [
+    BracketedText(b"A*B", b"(A*B)"),
+    BracketedText(b"A B'", b"(A*(!B))"),
+    BracketedText(b"A&B|C", b"((A*B)+C)"),
+    BracketedText(b"A+B*C", b"(A+(B*C))"),
+    BracketedText(b"A+B+A", b"((A+B)+A)"),
+    BracketedText(b"!(A+B)^C", b"((!(A+B))^C)"),
+    BracketedText(b"A ^ B C", b"((A^B)*C)"),
+    BracketedText(b"A B^C", b"(A*(B^C))"),
+    BracketedText(b"!A'", b"(!(!A))"),
+    BracketedText(b"\t1\n( b_0)", b"(1*b_0)"),
+];
+
+#[test]
+fn reads_as_with_all_brackets(rt: HostRuntime) -> Result<(), Fail> {
+    all_hold(rt.alloc(), &BRACKETED)
+}
+
+/// How a text is at fault, and at which offset.
+#[derive(Copy, Clone)]
+enum Fault {
+    Malformed(usize),
+    Unknown(usize),
+    TooLong,
+}
+
+/// Whether a fault is of this kind and at this offset.
+fn is_fault(found: &FunctionFault, wanted: Fault) -> bool {
+    match (found, wanted) {
+        (FunctionFault::Malformed(found), Fault::Malformed(wanted)) => *found == wanted,
+        (FunctionFault::UnknownName(found), Fault::Unknown(wanted)) => *found == wanted,
+        (FunctionFault::TooLong, Fault::TooLong) => true,
         _ => false,
     }
 }
 
-/// Whether a text is read as another one, with all brackets.
-fn reads_as(alloc: Global, text: &[u8], bracketed: &[u8]) -> bool {
-    have_one_tree(&read(alloc, text), &read(alloc, bracketed))
-}
-
-#[test]
-fn reads_as_with_all_brackets(rt: HostRuntime) {
-    let alloc = rt.alloc();
-    assert!(rt; reads_as(alloc, b"A*B", b"(A*B)"));
-    assert!(rt; reads_as(alloc, b"A B'", b"(A*(!B))"));
-    assert!(rt; reads_as(alloc, b"A&B|C", b"((A*B)+C)"));
-    assert!(rt; reads_as(alloc, b"A+B*C", b"(A+(B*C))"));
-    assert!(rt; reads_as(alloc, b"A+B+A", b"((A+B)+A)"));
-    assert!(rt; reads_as(alloc, b"!(A+B)^C", b"((!(A+B))^C)"));
-    assert!(rt; reads_as(alloc, b"A ^ B C", b"((A^B)*C)"));
-    assert!(rt; reads_as(alloc, b"A B^C", b"(A*(B^C))"));
-    assert!(rt; reads_as(alloc, b"!A'", b"(!(!A))"));
-    assert!(rt; reads_as(alloc, b"\t1\n( b_0)", b"(1*b_0)"));
-}
-
-/// Names to be read with.
-fn two_names(alloc: Global) -> Result<Names, Fail> {
-    let mut names = Names::new(alloc);
-    names.add(b"A")?;
-    names.add(b"B")?;
-    Ok(names)
-}
-
-/// Whether a text stops being a function at this offset.
-fn is_malformed(alloc: Global, text: &[u8], names: &Names, at: usize) -> bool {
-    match read_function(alloc, text, names) {
-        Err(FunctionFault::Malformed(found)) => found == at,
-        _ => false,
+/// The names A and B.
+fn two_names(alloc: Global) -> Option<Names> {
+    match read_free(alloc, b"A B") {
+        Ok((_, names)) => Some(names),
+        Err(_) => None,
     }
 }
 
-#[test]
-fn finds_where_a_text_is_malformed(rt: HostRuntime) -> Result<(), Fail> {
-    let alloc = rt.alloc();
+/// The fault of a text over the names A and B.
+fn fault_of(alloc: Global, text: &[u8]) -> Option<FunctionFault> {
     let names = two_names(alloc)?;
-    assert!(rt; is_malformed(alloc, b"A+", &names, 2));
-    assert!(rt; is_malformed(alloc, b"(A", &names, 2));
-    assert!(rt; is_malformed(alloc, b"A&&B", &names, 2));
-    assert!(rt; is_malformed(alloc, b"a b 23", &names, 4));
-    assert!(rt; is_malformed(alloc, b"A 1B", &names, 2));
-    assert!(rt; is_malformed(alloc, b"A\rB", &names, 1));
-    assert!(rt; is_malformed(alloc, b"A)", &names, 1));
-    assert!(rt; is_malformed(alloc, b"", &names, 0));
-    assert!(rt; is_malformed(alloc, b"C+", &names, 2));
+    read_function(alloc, text, &names).err()
+}
+
+/// Whether a text over the names A and B has this fault.
+fn has_fault(alloc: Global, text: &[u8], wanted: Fault) -> bool {
+    match &fault_of(alloc, text) {
+        Some(found) => is_fault(found, wanted),
+        None => false,
+    }
+}
+
+/// A text over the names A and B, and its fault.
+struct FaultyText(&'static [u8], Fault);
+
+impl Row for FaultyText {
+    fn holds(&self, alloc: Global) -> bool {
+        has_fault(alloc, self.0, self.1)
+    }
+}
+
+const FAULTY: [FaultyText; 10] = [
+    FaultyText(b"A+", Fault::Malformed(2)),
+    FaultyText(b"(A", Fault::Malformed(2)),
+    FaultyText(b"A&&B", Fault::Malformed(2)),
+    FaultyText(b"a b 23", Fault::Malformed(4)),
+    FaultyText(b"A 1B", Fault::Malformed(2)),
+    FaultyText(b"A\rB", Fault::Malformed(1)),
+    FaultyText(b"A)", Fault::Malformed(1)),
+    FaultyText(b"", Fault::Malformed(0)),
+    FaultyText(b"C+", Fault::Malformed(2)),
+    FaultyText(b"A*C", Fault::Unknown(2)),
+];
+
+#[test]
+fn finds_where_a_text_is_at_fault(rt: HostRuntime) -> Result<(), Fail> {
+    all_hold(rt.alloc(), &FAULTY)?;
+    let long = vec![in rt.alloc(); b'A'; MAX_LEN + 1]?;
+    assert!(rt; has_fault(rt.alloc(), &long, Fault::TooLong));
     Ok(())
 }
 
-/// Whether the name at this offset of a text is unknown.
-fn is_unknown(alloc: Global, text: &[u8], names: &Names, at: usize) -> bool {
-    match read_function(alloc, text, names) {
-        Err(FunctionFault::UnknownName(found)) => found == at,
-        _ => false,
+/// Whether a function depends on the names of these numbers.
+fn depends_on(alloc: Global, function: &Function, names: &[usize]) -> bool {
+    match function.support(alloc) {
+        Ok(found) => found.as_slice() == names,
+        Err(_) => false,
     }
 }
 
-/// Whether a text is refused for its length.
-fn is_too_long(alloc: Global, text: &[u8], names: &Names) -> bool {
-    matches!(
-        read_function(alloc, text, names),
-        Err(FunctionFault::TooLong)
-    )
+/// Whether a text is read as a function of one name.
+fn has_one_name(alloc: Global, text: &[u8]) -> bool {
+    match read(alloc, text) {
+        Some(function) => depends_on(alloc, &function, &[0]),
+        None => false,
+    }
 }
 
-/// Whether a text of one name, one byte longer than a text may be, is refused for its length.
-fn refuses_long_text(alloc: Global, names: &Names) -> Result<bool, Fail> {
-    let long = vec![in alloc; b'A'; MAX_LEN + 1]?;
-    Ok(is_too_long(alloc, &long, names))
-}
-
-#[test]
-fn finds_other_faults(rt: HostRuntime) -> Result<(), Fail> {
-    let alloc = rt.alloc();
-    let names = two_names(alloc)?;
-    assert!(rt; is_unknown(alloc, b"A*C", &names, 2));
-    assert!(rt; refuses_long_text(alloc, &names)?);
+/// Adds a byte so many times.
+fn push_all(text: &mut Vec<u8>, byte: u8, count: usize) -> Result<(), AllocError> {
+    for _ in 0..count {
+        text.push(byte)?;
+    }
     Ok(())
-}
-
-/// Whether a text has one name.
-fn has_one_name(alloc: Global, text: &[u8]) -> Result<bool, Fail> {
-    let Some(read) = read(alloc, text) else {
-        return Ok(false);
-    };
-    Ok(read.function.support(alloc)?.len() == 1)
 }
 
 /// Whether a name behind so many signs of inversion is read.
-fn reads_inversions(alloc: Global, count: usize) -> Result<bool, Fail> {
-    let mut text = vec![in alloc; b'!'; count]?;
+fn reads_inversions(alloc: Global, count: usize) -> Result<bool, AllocError> {
+    let mut text = Vec::new(alloc);
+    push_all(&mut text, b'!', count)?;
     text.push(b'A')?;
-    has_one_name(alloc, &text)
+    Ok(has_one_name(alloc, &text))
 }
 
 /// Whether a name within so many brackets is read.
-fn reads_brackets(alloc: Global, count: usize) -> Result<bool, Fail> {
-    let mut text = vec![in alloc; b'('; count]?;
+fn reads_brackets(alloc: Global, count: usize) -> Result<bool, AllocError> {
+    let mut text = Vec::new(alloc);
+    push_all(&mut text, b'(', count)?;
     text.push(b'A')?;
-    for _ in 0..count {
-        text.push(b')')?;
-    }
-    Ok(reads_as(alloc, &text, b"A"))
+    push_all(&mut text, b')', count)?;
+    Ok(have_one_tree(alloc, &text, b"A") == Some(true))
 }
 
 #[test]
@@ -144,25 +167,32 @@ fn reads_deep_texts(rt: HostRuntime) -> Result<(), Fail> {
     Ok(())
 }
 
+/// The function of a text, and its names.
+#[derive(Drop)]
+struct ReadText {
+    function: Function,
+    names: Names,
+}
+
 /// The function of a text with two names, and the names.
-fn read_two(alloc: Global, text: &[u8]) -> Result<ReadText, Fail>
-    ensures { IfOk result (λ read. name_bound read.function ≤ 2) }
+fn read_two(alloc: Global, text: &[u8]) -> Option<ReadText>
+    ensures { IfSome result (λ read. name_bound read.function ≤ 2) }
 {
-    let (function, names) = read_free(alloc, text)?;
-    let read = ReadText { function, names };
-    if read.names.len() == 2 {
-        Ok(read)
-    } else {
-        Err("not two names".into())
+    let (function, names) = read_free(alloc, text).ok()?;
+    if names.len() != 2 {
+        return None;
     }
+    Some(ReadText { function, names })
 }
 
 /// Whether a function of two names has these values, where the first name's value changes first.
-fn has_table(alloc: Global, function: &Function, wanted: &[bool]) -> Result<bool, Fail>
+fn has_table(alloc: Global, function: &Function, wanted: &[bool]) -> bool
     requires { name_bound function.now ≤ 2 }
 {
-    let table = function.table(alloc, &[0, 1])?;
-    Ok(table.as_slice() == wanted)
+    match function.table(alloc, &[0, 1]) {
+        Ok(table) => table.as_slice() == wanted,
+        Err(_) => false,
+    }
 }
 
 /// Whether the names of a function of two names have these numbers, and a third name has none.
@@ -175,12 +205,13 @@ fn are_numbered(read: &ReadText, first: &[u8], second: &[u8], third: &[u8]) -> b
 }
 
 /// Whether a function of two names has other names where they are changed.
-fn is_renamed(alloc: Global, function: &Function) -> Result<bool, Fail>
+fn is_renamed(alloc: Global, function: &Function) -> bool
     requires { name_bound function.now ≤ 2 }
 {
-    let other = function.renamed(alloc, &[5, 3])?;
-    let support = other.support(alloc)?;
-    Ok(support.as_slice() == [3, 5].as_slice() && !other.same(function))
+    match function.renamed(alloc, &[5, 3]) {
+        Ok(other) => depends_on(alloc, &other, &[3, 5]) && !other.same(function),
+        Err(_) => false,
+    }
 }
 
 /// Whether a function of two names is true where the first is, and not where the second is.
@@ -190,13 +221,20 @@ fn has_value_of_first(function: &Function) -> bool
     function.value(&[true, false]) && !function.value(&[false, true])
 }
 
+/// Whether the function of a text of the names C and A is true where C is.
+fn is_first_of_two(alloc: Global, text: &[u8]) -> bool {
+    match read_two(alloc, text) {
+        Some(read) => {
+            are_numbered(&read, b"C", b"A", b"B")
+                && has_table(alloc, &read.function, &[false, true, false, true])
+                && is_renamed(alloc, &read.function)
+                && has_value_of_first(&read.function)
+        }
+        None => false,
+    }
+}
+
 #[test]
-fn answers_with_ample_memory(rt: HostRuntime) -> Result<(), Fail> {
-    let alloc = rt.alloc();
-    let read = read_two(alloc, b"C*A+C")?;
-    assert!(rt; are_numbered(&read, b"C", b"A", b"B"));
-    assert!(rt; has_table(alloc, &read.function, &[false, true, false, true])?);
-    assert!(rt; is_renamed(alloc, &read.function)?);
-    assert!(rt; has_value_of_first(&read.function));
-    Ok(())
+fn answers_with_ample_memory(rt: HostRuntime) {
+    assert!(rt; is_first_of_two(rt.alloc(), b"C*A+C"));
 }

@@ -3,6 +3,7 @@
 use liberty_groups::{End, Expected, LibraryFault, Reading, read_library};
 use std::alloc::Global;
 use std::test::Fail;
+use table_tests::{Row, all_hold};
 
 /// Three cells, of which the second has an output that is driven or not.
 pub(crate) const THREE_CELLS: &[u8] = b"library (L) {
@@ -12,9 +13,12 @@ cell (BUF) { pin (A) { direction : input; } pin (Y) { direction : output; functi
 }
 ";
 
-/// Whether the reading of a front of the three cells has so many cells, and is whole or not.
-fn has_cells(read: &Reading, cells: usize, is_whole: bool) -> bool {
-    read.cells.len() == cells && (read.end == End::Whole) == is_whole
+/// How many cells a text has, whole or cut, and how it ends; nothing where memory is short.
+fn told(alloc: Global, text: &[u8], is_whole: bool) -> Option<(usize, End)> {
+    match read_library(alloc, text, is_whole) {
+        Ok(read) => Some((read.cells.len(), read.end)),
+        Err(_) => None,
+    }
 }
 
 /// How many cells have ended in the first bytes of the three, so many.
@@ -24,83 +28,99 @@ fn ended(len: usize) -> usize {
 
 /// Whether these bytes have so many cells, as a whole text and as a cut one, and are a whole library or not.
 fn is_front(alloc: Global, front: &[u8], cells: usize, is_whole: bool) -> bool {
-    match (
-        read_library(alloc, front, true),
-        read_library(alloc, front, false),
-    ) {
-        (Ok(whole), Ok(cut)) => {
-            has_cells(&whole, cells, is_whole)
-                && has_cells(&cut, cells, false)
-                && cut.end == End::Cut
-        }
-        _ => false,
-    }
+    let Some((count, end)) = told(alloc, front, true) else {
+        return false;
+    };
+    count == cells
+        && (end == End::Whole) == is_whole
+        && told(alloc, front, false) == Some((cells, End::Cut))
 }
 
-/// Whether each front of a library has the cells that have ended in it.
-fn is_each_front(alloc: Global, library: &[u8]) -> Result<bool, Fail> {
+/// The first length of a front of a library that has not the cells which have ended in it.
+fn first_wrong_front(alloc: Global, library: &[u8]) -> Option<usize> {
     for len in 0..=library.len() {
-        let front = library.get(..len).ok_or("too short")?;
+        let front = library.get(..len)?;
         if !is_front(alloc, front, ended(len), len >= 316) {
-            return Ok(false);
+            return Some(len);
         }
     }
-    Ok(true)
+    None
 }
 
 #[test]
-fn a_library_cut_at_every_length(rt: HostRuntime) -> Result<(), Fail> {
-    assert!(rt; is_each_front(rt.alloc(), THREE_CELLS)?);
-    Ok(())
+fn a_library_cut_at_every_length(rt: HostRuntime) {
+    assert_eq!(rt; first_wrong_front(rt.alloc(), THREE_CELLS), None);
 }
 
-/// Whether a whole text ends so.
-fn ends(alloc: Global, text: &[u8], end: End) -> bool {
-    match read_library(alloc, text, true) {
-        Ok(read) => read.end == end,
-        Err(_) => false,
+/// A whole text, and its end.
+#[derive(Drop)]
+struct WholeText<'a>(&'a [u8], End);
+
+impl Row for WholeText<'_> {
+    fn holds(&self, alloc: Global) -> bool {
+        matches!(told(alloc, self.0, true), Some((_, end)) if end == self.1)
     }
 }
 
 /// A fault at this offset, where something else was expected.
-fn syntax(at: usize, expected: Expected) -> End {
-    End::Fault(LibraryFault::Syntax { at, expected })
+macro_rules! syntax {
+    ($at:literal, $expected:expr) => {
+        End::Fault(LibraryFault::Syntax {
+            at: $at,
+            expected: $expected,
+        })
+    };
 }
 
-#[test]
-fn faults(rt: HostRuntime) {
-    let alloc = rt.alloc();
-    let open = b"library (L) { cell (A) { area : \"1";
-    assert!(rt; ends(alloc, open, End::Fault(LibraryFault::OpenText(32))));
-    assert!(rt; ends(alloc, b"", End::Fault(LibraryFault::NotLibrary(0))));
-    let unit = b"library (L) { time_unit : \"1ps\"\n direction : input }";
-    assert!(rt; ends(alloc, unit, End::Whole));
-    let no_value = b"library (L) { a : \n { }";
-    assert!(rt; ends(alloc, no_value, syntax(20, Expected::Value)));
-    let no_end = b"library (L) { a : b\n { }";
-    assert!(rt; ends(alloc, no_end, syntax(21, Expected::Statement)));
-}
+const WHOLE_TEXTS: [WholeText<'static>; 5] = [
+    WholeText(
+        b"library (L) { cell (A) { area : \"1",
+        End::Fault(LibraryFault::OpenText(32)),
+    ),
+    WholeText(b"", End::Fault(LibraryFault::NotLibrary(0))),
+    WholeText(
+        b"library (L) { time_unit : \"1ps\"\n direction : input }",
+        End::Whole,
+    ),
+    WholeText(b"library (L) { a : \n { }", syntax!(20, Expected::Value)),
+    WholeText(
+        b"library (L) { a : b\n { }",
+        syntax!(21, Expected::Statement),
+    ),
+];
 
 /// Whether the three cells, cut to this length, have this fault.
-fn is_cut_told(alloc: Global, len: usize, end: End) -> Result<bool, Fail> {
-    let cut = THREE_CELLS.get(..len).ok_or("too short")?;
-    Ok(ends(alloc, cut, end))
+fn is_cut_told(alloc: Global, len: usize, end: End) -> bool {
+    match THREE_CELLS.get(..len) {
+        Some(cut) => WholeText(cut, end).holds(alloc),
+        None => false,
+    }
 }
 
 #[test]
-fn the_fault_of_a_cut_library(rt: HostRuntime) -> Result<(), Fail> {
-    assert!(rt; is_cut_told(rt.alloc(), 200, syntax(200, Expected::Statement))?);
-    Ok(())
+fn faults(rt: HostRuntime) -> Result<(), Fail> {
+    assert!(rt; is_cut_told(rt.alloc(), 200, syntax!(200, Expected::Statement)));
+    all_hold(rt.alloc(), &WHOLE_TEXTS)
+}
+
+/// Whether what was read of a whole library is no cell and one time unit, this value at this offset.
+fn is_unit_alone(read: &Reading, value: &[u8], at: usize) -> bool {
+    match read.units.as_slice() {
+        [unit] => {
+            read.cells.len() == 0
+                && read.end == End::Whole
+                && unit.value.as_slice() == value
+                && unit.at == at
+        }
+        _ => false,
+    }
 }
 
 /// Whether a library has no cell and one time unit, this value at this offset.
 fn has_unit(alloc: Global, text: &[u8], value: &[u8], at: usize) -> bool {
-    let Ok(read) = read_library(alloc, text, true) else {
-        return false;
-    };
-    match read.units.as_slice() {
-        [unit] => has_cells(&read, 0, true) && unit.value.as_slice() == value && unit.at == at,
-        _ => false,
+    match read_library(alloc, text, true) {
+        Ok(read) => is_unit_alone(&read, value, at),
+        Err(_) => false,
     }
 }
 

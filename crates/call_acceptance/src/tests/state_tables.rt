@@ -5,21 +5,30 @@ ghost use Rattle.statetables.specs.Step.{IsRectangular};
 use statetables::{StateTable, TableFault, read_table};
 use std::alloc::Global;
 use std::test::Fail;
+use table_tests::{Row, all_hold};
 
-/// Whether a text is no table of one input and one node, for this fault, or is one.
-fn has_fault(alloc: Global, text: &[u8], fault: Option<TableFault>) -> bool {
-    read_table(alloc, text, 1, 1).err() == fault
+/// A text that is no table of one input and one node, for this fault, or is one.
+struct TableText(&'static [u8], Option<TableFault>);
+
+impl Row for TableText {
+    fn holds(&self, alloc: Global) -> bool {
+        read_table(alloc, self.0, 1, 1).err() == self.1
+    }
 }
 
+const TABLE_TEXTS: [TableText; 4] = [
+    TableText(b"L : - : H, R L : - : N", Some(TableFault::RowWidth(2))),
+    TableText(
+        b"L : - : Q",
+        Some(TableFault::BadSymbol { row: 1, column: 3 }),
+    ),
+    TableText(b",", Some(TableFault::RowWidth(1))),
+    TableText(b"L : - : H ,\t", None),
+];
+
 #[test]
-fn faults(rt: HostRuntime) {
-    let alloc = rt.alloc();
-    let width = Some(TableFault::RowWidth(2));
-    assert!(rt; has_fault(alloc, b"L : - : H, R L : - : N", width));
-    let symbol = Some(TableFault::BadSymbol { row: 1, column: 3 });
-    assert!(rt; has_fault(alloc, b"L : - : Q", symbol));
-    assert!(rt; has_fault(alloc, b",", Some(TableFault::RowWidth(1))));
-    assert!(rt; has_fault(alloc, b"L : - : H ,\t", None));
+fn faults(rt: HostRuntime) -> Result<(), Fail> {
+    all_hold(rt.alloc(), &TABLE_TEXTS)
 }
 
 /// The table of a text, of one node.

@@ -1,93 +1,177 @@
-//! Cells of Liberty texts.
+//! Cells of Liberty texts, as they are read or refused.
 use bool_functions::Names;
 use cell_reader::{CellFault, LeftOut, ReadCell, read_cell};
 use liberty_groups::{Group, read_library};
 use liberty_text::Unit;
-use std::alloc::Global;
-use std::test::Fail;
+use std::alloc::{AllocError, Global};
+use table_tests::Row;
+use three_state_cells::{DrivenCell, read_driven};
 
-/// What is read of a cell: the cell, or the number and the offset of its refusal.
-pub type Answer = Result<ReadCell, (u8, usize)>;
+/// A reading of cells.
+pub(crate) trait CellReading {
+    /// What is read of an accepted cell.
+    type Cell: Drop;
 
-/// The cell of a group, or the number and the offset of its refusal.
-fn answer(
-    alloc: Global,
-    group: &Group,
-    number: usize,
-    unit: Option<Unit>,
-    earlier: &Names,
-) -> Result<Answer, Fail> {
-    match read_cell(alloc, group, number, unit, earlier) {
-        Ok(read) => Ok(Ok(read)),
-        Err(CellFault::Refused(refusal)) => Ok(Err((refusal.reason.number(), refusal.at))),
-        Err(CellFault::Memory) => Err("no memory".into()),
+    /// Reads the cell of this number, behind cells of these names.
+    fn read(
+        alloc: Global,
+        group: &Group,
+        number: usize,
+        unit: Option<Unit>,
+        earlier: &Names,
+    ) -> Result<Self::Cell, CellFault>;
+}
+
+/// That of cells without three-state outputs.
+pub(crate) struct Plain;
+
+impl CellReading for Plain {
+    type Cell = ReadCell;
+
+    fn read(
+        alloc: Global,
+        group: &Group,
+        number: usize,
+        unit: Option<Unit>,
+        earlier: &Names,
+    ) -> Result<ReadCell, CellFault> {
+        read_cell(alloc, group, number, unit, earlier)
     }
 }
 
-/// What is read of each cell of a library.
-pub fn answers(alloc: Global, text: &[u8], unit: Option<Unit>) -> Result<Vec<Answer>, Fail> {
-    let reading = read_library(alloc, text, true)?;
-    let mut earlier = Names::new(alloc);
-    let mut found = Vec::new(alloc);
-    for (number, group) in reading.cells.iter().enumerate() {
-        found.push(answer(alloc, group, number, unit, &earlier)?)?;
-        if let Some(name) = group.arguments.get(0) {
-            earlier.add(name.bytes.as_slice())?;
+/// That of cells whose outputs may float.
+pub(crate) struct Driven;
+
+impl CellReading for Driven {
+    type Cell = DrivenCell;
+
+    fn read(
+        alloc: Global,
+        group: &Group,
+        number: usize,
+        unit: Option<Unit>,
+        earlier: &Names,
+    ) -> Result<DrivenCell, CellFault> {
+        read_driven(alloc, group, number, unit, earlier)
+    }
+}
+
+/// The names of cells.
+fn names_of(alloc: Global, cells: &[Group]) -> Result<Names, AllocError> {
+    let mut names = Names::new(alloc);
+    for cell in cells {
+        if let Some(name) = cell.arguments.get(0) {
+            names.add(name.bytes.as_slice())?;
         }
     }
-    Ok(found)
+    Ok(names)
+}
+
+/// What is read of the last of these cells.
+fn last_of<R: CellReading>(
+    alloc: Global,
+    cells: &[Group],
+    unit: Option<Unit>,
+) -> Option<Result<R::Cell, CellFault>> {
+    let (last, earlier) = cells.split_last()?;
+    let names = names_of(alloc, earlier).ok()?;
+    Some(R::read(alloc, last, earlier.len(), unit, &names))
 }
 
 /// What is read of the last cell of a library.
-pub fn last_answer(alloc: Global, text: &[u8], unit: Option<Unit>) -> Result<Answer, Fail> {
-    let mut found = answers(alloc, text, unit)?;
-    Ok(found.pop().ok_or("no cell")?)
+fn read_last<R: CellReading>(
+    alloc: Global,
+    text: &[u8],
+    unit: Option<Unit>,
+) -> Option<Result<R::Cell, CellFault>> {
+    let reading = read_library(alloc, text, true).ok()?;
+    last_of::<R>(alloc, &reading.cells, unit)
 }
 
-/// A text without its mark `@`, and the place of the mark.
-pub fn unmarked(alloc: Global, text: &str) -> Result<(String, usize), Fail> {
-    let (before, after) = text.split_once("@").ok_or("no mark")?;
-    Ok((format!(in alloc; "{before}{after}")?, before.len()))
+/// The number and the offset of a refusal, where a cell is refused.
+pub(crate) type Verdict = Option<(u8, usize)>;
+
+/// What is told of a cell; nothing where memory was short.
+fn verdict_of<T: Drop>(read: Result<T, CellFault>) -> Option<Verdict> {
+    match read {
+        Ok(_) => Some(None),
+        Err(CellFault::Refused(refusal)) => Some(Some((refusal.reason.number(), refusal.at))),
+        Err(CellFault::Memory) => None,
+    }
 }
 
-/// Whether the last cell of a library with these statements is refused by this number at the mark `@`.
-pub fn refuses_with(
+/// What is told of the last of the first cells of a library, so many.
+pub(crate) fn verdict_among(
+    alloc: Global,
+    text: &str,
+    unit: Option<Unit>,
+    count: usize,
+) -> Option<Verdict> {
+    let reading = read_library(alloc, text.as_bytes(), true).ok()?;
+    let cells = reading.cells.get(..count)?;
+    verdict_of(last_of::<Plain>(alloc, cells, unit)?)
+}
+
+/// The last cell of a library, where it is accepted.
+pub(crate) fn accepted<R: CellReading>(
+    alloc: Global,
+    text: &str,
+    unit: Option<Unit>,
+) -> Option<R::Cell> {
+    read_last::<R>(alloc, text.as_bytes(), unit)?.ok()
+}
+
+/// A text without its mark `@`.
+fn unmarked(alloc: Global, text: &str) -> Result<String, AllocError> {
+    text.replace(alloc, "@", "")
+}
+
+/// The place of the mark in a text, where it has one.
+fn mark(text: &str) -> Option<usize> {
+    match text.split_once("@") {
+        Some((before, _)) => Some(before.len()),
+        None => None,
+    }
+}
+
+/// What is told of the last cell of a library with these statements.
+fn verdict_on_last<R: CellReading>(
+    alloc: Global,
+    unit: Option<Unit>,
+    library: &str,
+) -> Option<Verdict> {
+    let text = unmarked(alloc, library).ok()?;
+    verdict_of(read_last::<R>(alloc, text.as_bytes(), unit)?)
+}
+
+/// Whether the last cell of a library with these statements is refused by this number at the mark `@`, or accepted where there is
+/// none.
+pub(crate) fn is_told<R: CellReading>(
     alloc: Global,
     unit: Option<Unit>,
     number: u8,
     statements: &str,
-) -> Result<bool, Fail> {
-    let marked = format!(in alloc; "library (L) {{ {statements} }}")?;
-    let (text, at) = unmarked(alloc, marked.as_str())?;
-    Ok(match last_answer(alloc, text.as_bytes(), unit)? {
-        Ok(_) => false,
-        Err(refusal) => refusal == (number, at),
+) -> Option<bool> {
+    let library = format!(in alloc; "library (L) {{ {statements} }}").ok()?;
+    let told = verdict_on_last::<R>(alloc, unit, library.as_str())?;
+    Some(match mark(library.as_str()) {
+        Some(at) => told == Some((number, at)),
+        None => told.is_none(),
     })
 }
 
-/// Whether the last cell of each of these libraries in picoseconds is refused so.
-pub fn refuses(alloc: Global, number: u8, libraries: &[&str]) -> Result<bool, Fail> {
-    for statements in libraries {
-        if !refuses_with(alloc, Some(Unit::Ps1), number, statements)? {
-            return Ok(false);
-        }
-    }
-    Ok(true)
-}
+/// The number of a refusal, and the statements of a library in picoseconds whose last cell is refused so.
+#[derive(Drop)]
+pub(crate) struct RefusedCell<'a>(pub u8, pub &'a str);
 
-/// Whether the last cell of each of these libraries in picoseconds is accepted.
-pub fn accepts(alloc: Global, libraries: &[&str]) -> Result<bool, Fail> {
-    for statements in libraries {
-        let text = format!(in alloc; "library (L) {{ {statements} }}")?;
-        if last_answer(alloc, text.as_bytes(), Some(Unit::Ps1))?.is_err() {
-            return Ok(false);
-        }
+impl Row for RefusedCell<'_> {
+    fn holds(&self, alloc: Global) -> bool {
+        is_told::<Plain>(alloc, Some(Unit::Ps1), self.0, self.1) == Some(true)
     }
-    Ok(true)
 }
 
 /// Whether these are the timing groups that are left out: the number of the pin that has each, and its type.
-pub fn leaves_out(left_out: &[LeftOut], wanted: &[(usize, &str)]) -> bool {
+pub(crate) fn leaves_out(left_out: &[LeftOut], wanted: &[(usize, &str)]) -> bool {
     for (group, (pin, kind)) in left_out.iter().zip(wanted.iter()) {
         if group.pin != *pin || group.kind.as_slice() != kind.as_bytes() {
             return false;

@@ -1,18 +1,11 @@
 //! Cells of libraries, as they are read.
-use super::liberty::{Answer, answers, last_answer, leaves_out};
+use super::liberty::{Plain, Verdict, accepted, leaves_out, verdict_among};
 use cell_machine::{Arc, Cell, CheckKind, Edge, Event};
 use cell_reader::ReadCell;
 use liberty_text::Unit;
-use std::alloc::Global;
+use std::alloc::{AllocError, Global};
 use std::test::Fail;
-
-/// What a refused cell is refused by.
-fn refusal(answer: &Answer) -> Option<(u8, usize)> {
-    match answer {
-        Ok(_) => None,
-        Err(refusal) => Some(*refusal),
-    }
-}
+use table_tests::{Row, all_hold};
 
 /// A library of three cells, of which the second is refused.
 const THREE_CELLS: &str = "library (L) {
@@ -22,33 +15,21 @@ cell (BUF) { pin (A) { direction : input; } pin (Y) { direction : output; functi
 }
 ";
 
-/// Whether the cells of a library are refused by these numbers at these offsets, or accepted where there are none.
-fn refuses_each(
-    alloc: Global,
-    library: &str,
-    wanted: &[Option<(u8, usize)>],
-) -> Result<bool, Fail> {
-    let found = answers(alloc, library.as_bytes(), Some(Unit::Ns1))?;
-    for (answer, want) in found.iter().zip(wanted.iter()) {
-        if refusal(answer) != *want {
-            return Ok(false);
-        }
+/// The number of a cell, from 1, and what it is refused by.
+struct Answer(usize, Verdict);
+
+impl Row for Answer {
+    fn holds(&self, alloc: Global) -> bool {
+        verdict_among(alloc, THREE_CELLS, Some(Unit::Ns1), self.0) == Some(self.1)
     }
-    Ok(found.len() == wanted.len())
 }
+
+const ANSWERS: [Answer; 3] = [Answer(1, None), Answer(2, Some((2, 182))), Answer(3, None)];
 
 #[test]
 fn a_refused_cell_leaves_the_others(rt: HostRuntime) -> Result<(), Fail> {
-    assert!(rt; refuses_each(rt.alloc(), THREE_CELLS, &[None, Some((2, 182)), None])?);
-    Ok(())
-}
-
-/// The cell of a library that has one, read in nanoseconds.
-fn only_cell(alloc: Global, text: &[u8]) -> Result<ReadCell, Fail> {
-    match last_answer(alloc, text, Some(Unit::Ns1))? {
-        Ok(read) => Ok(read),
-        Err(_) => Err("refused".into()),
-    }
+    assert!(rt; verdict_among(rt.alloc(), THREE_CELLS, Some(Unit::Ns1), 4).is_none());
+    all_hold(rt.alloc(), &ANSWERS)
 }
 
 /// A scan flip-flop with a reset.
@@ -131,21 +112,25 @@ fn is_at(event: Event, pin: usize, edge: Edge) -> bool {
     event.pin == pin && event.edge == edge
 }
 
-/// Whether the scan flip-flop is read.
-fn reads_scan_flip_flop(alloc: Global) -> Result<bool, Fail> {
-    let read = only_cell(alloc, SCAN_FLIP_FLOP.as_bytes())?;
-    Ok(
-        has_parts(&read.cell, 6, 1, 1, 1)
-            && has_arcs(&read.cell, &SCAN_ARCS)
-            && has_setup(&read.cell)
-            && read.left_out.len() == 0,
-    )
+/// Whether a cell is the scan flip-flop, and nothing of it is left out.
+fn is_scan_flip_flop(read: &ReadCell) -> bool {
+    has_parts(&read.cell, 6, 1, 1, 1)
+        && has_arcs(&read.cell, &SCAN_ARCS)
+        && has_setup(&read.cell)
+        && read.left_out.len() == 0
+}
+
+/// Whether a library is read as the scan flip-flop.
+fn reads_scan_flip_flop(alloc: Global, library: &str) -> bool {
+    match accepted::<Plain>(alloc, library, Some(Unit::Ns1)) {
+        Some(read) => is_scan_flip_flop(&read),
+        None => false,
+    }
 }
 
 #[test]
-fn a_scan_flip_flop(rt: HostRuntime) -> Result<(), Fail> {
-    assert!(rt; reads_scan_flip_flop(rt.alloc())?);
-    Ok(())
+fn a_scan_flip_flop(rt: HostRuntime) {
+    assert!(rt; reads_scan_flip_flop(rt.alloc(), SCAN_FLIP_FLOP));
 }
 
 /// The types of checks between two pins.
@@ -200,39 +185,51 @@ const LEFT_OUT: [(usize, &str); 10] = [
 const TABLES: &str =
     "cell_rise (t) { values (0.001); } cell_fall (t) { values (0.002); } rise_constraint (t) { values (0.003); } fall_constraint (t) { values (0.004); }";
 
+/// Adds a timing group of this type that is related to A.
+fn push_group(alloc: Global, text: &mut String, kind: &str) -> Result<(), AllocError> {
+    let group = format!(in alloc;
+        "timing () {{ timing_type : {kind}; related_pin : A; TABLES }} "
+    )?;
+    text.push_str(group.as_str())
+}
+
 /// Timing groups of these types that are related to A.
-fn groups_of(alloc: Global, types: &str) -> Result<String, Fail> {
+fn groups_of(alloc: Global, types: &str) -> Result<String, AllocError> {
     let mut groups = String::new(alloc);
     for kind in types.split_whitespace() {
-        let group = format!(in alloc;
-            "timing () {{ timing_type : {kind}; related_pin : A; TABLES }} "
-        )?;
-        groups.push_str(group.as_str())?;
+        push_group(alloc, &mut groups, kind)?;
     }
     Ok(groups)
 }
 
-/// The library with groups of every type.
-fn all_types(alloc: Global) -> Result<String, Fail> {
-    let checks = groups_of(alloc, CHECKS)?;
-    let others = groups_of(alloc, OTHERS)?;
-    let text = ALL_TYPES.replace(alloc, "CHECKS", checks.as_str())?;
-    Ok(text.replace(alloc, "OTHERS", others.as_str())?)
+/// A text with groups of these types in the place of a word.
+fn with_groups(alloc: Global, text: &str, word: &str, types: &str) -> Result<String, AllocError> {
+    let groups = groups_of(alloc, types)?;
+    text.replace(alloc, word, groups.as_str())
 }
 
-/// Whether the cell with these tables in place of `TABLES` has 14 checks, 8 arcs and the left-out groups.
-fn reads_every_type(alloc: Global, tables: &str) -> Result<bool, Fail> {
-    let text = all_types(alloc)?.replace(alloc, "TABLES", tables)?;
-    let read = only_cell(alloc, text.as_bytes())?;
-    Ok(
-        read.cell.checks.len() == 14
-            && read.cell.arcs.len() == 8
-            && leaves_out(read.left_out.as_slice(), &LEFT_OUT),
-    )
+/// The library with groups of every type, and these tables in place of `TABLES`.
+fn all_types(alloc: Global, tables: &str) -> Result<String, AllocError> {
+    let checks = with_groups(alloc, ALL_TYPES, "CHECKS", CHECKS)?;
+    let all = with_groups(alloc, checks.as_str(), "OTHERS", OTHERS)?;
+    all.replace(alloc, "TABLES", tables)
+}
+
+/// Whether a cell has 14 checks, 8 arcs and the left-out groups.
+fn has_every_type(read: &ReadCell) -> bool {
+    read.cell.checks.len() == 14
+        && read.cell.arcs.len() == 8
+        && leaves_out(read.left_out.as_slice(), &LEFT_OUT)
+}
+
+/// Whether the cell with these tables is read so.
+fn reads_every_type(alloc: Global, tables: &str) -> Option<bool> {
+    let text = all_types(alloc, tables).ok()?;
+    let read = accepted::<Plain>(alloc, text.as_str(), Some(Unit::Ns1))?;
+    Some(has_every_type(&read))
 }
 
 #[test]
-fn timing_of_every_type(rt: HostRuntime) -> Result<(), Fail> {
-    assert!(rt; reads_every_type(rt.alloc(), TABLES)?);
-    Ok(())
+fn timing_of_every_type(rt: HostRuntime) {
+    assert!(rt; reads_every_type(rt.alloc(), TABLES) == Some(true));
 }

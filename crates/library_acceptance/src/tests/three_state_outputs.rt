@@ -1,164 +1,128 @@
 //! Cells whose outputs may float, as they are read. The mark `@` stands at the offset of a refusal.
-use super::liberty::{leaves_out, unmarked};
-use bool_functions::Names;
-use cell_reader::CellFault;
-use liberty_groups::{Group, read_library};
+use super::liberty::{Driven, accepted, is_told, leaves_out};
 use liberty_text::Unit;
 use std::alloc::Global;
 use std::test::Fail;
-use three_state_cells::{DrivePath, DrivenCell, read_driven};
+use table_tests::{Row, all_hold};
+use three_state_cells::{DrivePath, DrivenCell};
 
-/// What is read of a cell: the cell, or the number and the offset of its refusal.
-type Answer = Result<DrivenCell, (u8, usize)>;
+/// The number of a refusal, and the statements of a library in picoseconds whose last cell is refused so.
+struct Floating(u8, &'static str);
 
-/// The cell of a group of a library in picoseconds, or the number and the offset of its refusal.
-fn answer(alloc: Global, group: &Group, number: usize, earlier: &Names) -> Result<Answer, Fail> {
-    match read_driven(alloc, group, number, Some(Unit::Ps1), earlier) {
-        Ok(cell) => Ok(Ok(cell)),
-        Err(CellFault::Refused(refusal)) => Ok(Err((refusal.reason.number(), refusal.at))),
-        Err(CellFault::Memory) => Err("no memory".into()),
-    }
-}
-
-/// What is read of the last cell of a library with these statements.
-fn last_answer(alloc: Global, text: &[u8]) -> Result<Answer, Fail> {
-    let reading = read_library(alloc, text, true)?;
-    let mut earlier = Names::new(alloc);
-    let mut found = Err((0, 0));
-    for (number, group) in reading.cells.iter().enumerate() {
-        found = answer(alloc, group, number, &earlier)?;
-        if let Some(name) = group.arguments.get(0) {
-            earlier.add(name.bytes.as_slice())?;
-        }
-    }
-    Ok(found)
-}
-
-/// Whether the last cell of a library with these statements is refused by this number at the mark `@`.
-fn refuses(alloc: Global, number: u8, statements: &str) -> Result<bool, Fail> {
-    let marked = format!(in alloc; "library (L) {{ {statements} }}")?;
-    let (text, at) = unmarked(alloc, marked.as_str())?;
-    Ok(match last_answer(alloc, text.as_bytes())? {
-        Ok(_) => false,
-        Err(refusal) => refusal == (number, at),
-    })
-}
-
-/// The last cell of a library with these statements.
-fn accepted(alloc: Global, statements: &str) -> Result<DrivenCell, Fail> {
-    let text = format!(in alloc; "library (L) {{ {statements} }}")?;
-    match last_answer(alloc, text.as_bytes())? {
-        Ok(cell) => Ok(cell),
-        Err(_) => Err("refused".into()),
+impl Row for Floating {
+    fn holds(&self, alloc: Global) -> bool {
+        is_told::<Driven>(alloc, Some(Unit::Ps1), self.0, self.1) == Some(true)
     }
 }
 
 /// Numbers of refusals, and the statements of a library whose last cell is refused so.
-const REFUSED: [(u8, &str); 22] = [
-    (
+const REFUSED: [Floating; 22] = [
+    Floating(
         1,
         "cell (C) { pin (A) { direction : input; } pin (Y) { @direction : inout; three_state : \"A\"; } }",
     ),
-    (
+    Floating(
         2,
         "cell (C) { pin (A) { direction : input; @three_state : \"A\"; } pin (Y) { direction : output; three_state : \"A\"; function : \"A\"; } }",
     ),
-    (
+    Floating(
         6,
         "cell (C) { pin (A) { direction : input; } pin (\"-e1\") { direction : input; } pin (Y) { direction : output; function : \"A\"; @three_state : \"A\"; } }",
     ),
-    (
+    Floating(
         6,
         "cell (C) { pin (A) { direction : input; } pin (Y Z) { direction : output; function : \"A\"; three_state : \"1\"; @three_state : \"A\"; } pin (\"-e2\") { direction : input; } }",
     ),
-    (
+    Floating(
         6,
         "cell (C) { } @cell (C) { pin (A) { direction : input; } pin (Y) { direction : output; function : \"A\"; three_state : \"A\"; } }",
     ),
-    (
+    Floating(
         7,
         "cell (C) { pin (A) { direction : input; } pin (Y) { direction : output; function : \"A\"; @three_state : \"A) + (A\"; } }",
     ),
-    (
+    Floating(
         7,
         "cell (C) { pin (A) { direction : input; } pin (Y) { direction : output; function : \"A\"; three_state : \"A\"; @three_state : ; } }",
     ),
-    (
+    Floating(
         8,
         "cell (C) { pin (A) { direction : input; } pin (Y) { direction : output; function : \"A\"; @three_state : \"B\"; } }",
     ),
-    (
+    Floating(
         8,
         "cell (C) { pin (A) { direction : input; } pin (Y) { direction : output; function : \"A\"; @three_state : \"Y\"; } }",
     ),
-    (
+    Floating(
         10,
         "cell (C) { pin (A) { direction : input; } @pin (Y) { direction : output; three_state : \"A\"; } }",
     ),
-    (
+    Floating(
         8,
         "cell (C) { pin (A) { direction : input; } pin (Y) { direction : output; three_state : \"A\"; timing () { @related_pin : \"B\"; cell_rise (t) { values (\"1\"); } } } }",
     ),
-    (
+    Floating(
         8,
         "cell (C) { pin (A) { direction : input; } pin (Y) { direction : output; function : \"A\"; three_state : \"A\"; timing () { related_pin : \"A\"; cell_rise (t) { values (\"q\"); } } } pin (Z) { direction : output; @function : \"B\"; } }",
     ),
-    (
+    Floating(
         8,
         "cell (C) { pin (A) { direction : input; } pin (Y) { direction : output; function : \"A\"; three_state : \"A\"; timing () { @related_pin : \"B\"; cell_rise (t) { values (\"q\"); } } } pin (Z) { direction : output; function : \"B\"; } }",
     ),
-    (
+    Floating(
         9,
         "cell (C) { pin (A) { direction : input; } ff (P, PN) { @next_state : \"Q\"; clocked_on : \"A\"; } ff (Q, QN) { next_state : \"A\"; clocked_on : \"A\"; } pin (Y) { direction : output; function : \"A\"; three_state : \"A\"; timing () { related_pin : \"A\"; cell_rise (t) { values (\"q\"); } } } }",
     ),
-    (
+    Floating(
         12,
         "cell (C) { pin (A) { direction : input; } pin (Y) { direction : output; function : \"A\"; three_state : \"A\"; timing () { related_pin : \"A\"; cell_rise (t) { @values (\"q\"); } } } }",
     ),
-    (
+    Floating(
         12,
         "cell (C) { pin (A) { direction : input; } pin (Y) { direction : output; function : \"A\"; three_state : \"A\"; timing () { related_pin : \"A\"; timing_type : three_state_enable; cell_rise (t) { @values (\"q\"); } } timing () { related_pin : \"A\"; cell_rise (t) { values (\"r\"); } } } }",
     ),
-    (
+    Floating(
         12,
         "cell (C) { pin (A) { direction : input; } pin (Y) { direction : output; function : \"A\"; timing () { related_pin : \"A\"; cell_rise (t) { @values (\"q\"); } } } pin (Z) { direction : output; function : \"A\"; three_state : \"A\"; timing () { related_pin : \"A\"; cell_rise (t) { values (\"q\"); } } } }",
     ),
-    (
+    Floating(
         12,
         "cell (C) { pin (A) { direction : input; } pin (Z) { direction : output; function : \"A\"; three_state : \"A\"; timing () { related_pin : \"A\"; cell_rise (t) { @values (\"q\"); } } } pin (Y) { direction : output; function : \"A\"; timing () { related_pin : \"A\"; cell_rise (t) { values (\"q\"); } } } }",
     ),
-    (
+    Floating(
         12,
         "cell (\"C D\") { pin (A) { direction : input; } pin (Z) { direction : output; function : \"A\"; three_state : \"A\"; timing () { related_pin : \"A\"; cell_rise (t) { @values (\"q\"); } } } }",
     ),
-    (
+    Floating(
         13,
         "@cell (\"C D\") { pin (A) { direction : input; } pin (Z) { direction : output; function : \"A\"; three_state : \"A\"; timing () { related_pin : \"A\"; cell_rise (t) { values (\"1\"); } } } }",
     ),
-    (
+    Floating(
         14,
         "cell (C) { pin (A B C D E F G H I J K) { direction : input; } pin (Z) { direction : output; function : \"A\"; @three_state : \"A B C D E F G H I J K\"; } }",
     ),
-    (
+    Floating(
         2,
         "cell (C) { pin (A) { direction : input; @three_state : \"A\"; } }",
     ),
 ];
 
-/// Whether all of these are refused so.
-fn refuses_all(alloc: Global) -> Result<bool, Fail> {
-    for (number, statements) in REFUSED {
-        if !refuses(alloc, number, statements)? {
-            return Ok(false);
-        }
-    }
-    Ok(true)
-}
-
 #[test]
 fn refused_cells(rt: HostRuntime) -> Result<(), Fail> {
-    assert!(rt; refuses_all(rt.alloc())?);
-    Ok(())
+    all_hold(rt.alloc(), &REFUSED)
+}
+
+/// The statements of a library in picoseconds, and what is read of its last cell: its name, that of its core, how many pins the core has, and
+/// the numbers and names of those that are made, which three-state outputs it has, their paths and the timing groups that it leaves out.
+struct FloatingCell {
+    statements: &'static str,
+    name: &'static [u8],
+    core: &'static [u8],
+    pins: usize,
+    made: &'static [(usize, &'static [u8])],
+    driven: &'static [usize],
+    paths: &'static [DrivePath],
+    left_out: &'static [(usize, &'static str)],
 }
 
 /// Whether the pin with this number has this name.
@@ -169,14 +133,52 @@ fn has_pin(cell: &DrivenCell, pin: usize, name: &[u8]) -> bool {
     }
 }
 
-/// A path.
-const fn path(from: usize, drive: usize, rise: u64, fall: u64) -> DrivePath {
-    DrivePath {
-        from,
-        drive,
-        rise,
-        fall,
+/// Whether the pins with these numbers have these names.
+fn has_pins(cell: &DrivenCell, pins: &[(usize, &[u8])]) -> bool {
+    for (pin, name) in pins {
+        if !has_pin(cell, *pin, name) {
+            return false;
+        }
     }
+    true
+}
+
+/// Whether a cell is read so.
+fn is_read(cell: &DrivenCell, row: &FloatingCell) -> bool {
+    cell.name.as_slice() == row.name
+        && cell.core.name.as_slice() == row.core
+        && cell.core.pins.len() == row.pins
+        && has_pins(cell, row.made)
+        && cell.driven.as_slice() == row.driven
+        && cell.paths.as_slice() == row.paths
+        && leaves_out(cell.left_out.as_slice(), row.left_out)
+}
+
+/// The last cell of a library in picoseconds with these statements.
+fn last_cell(alloc: Global, statements: &str) -> Option<DrivenCell> {
+    let text = format!(in alloc; "library (L) {{ {statements} }}").ok()?;
+    accepted::<Driven>(alloc, text.as_str(), Some(Unit::Ps1))
+}
+
+impl Row for FloatingCell {
+    fn holds(&self, alloc: Global) -> bool {
+        match last_cell(alloc, self.statements) {
+            Some(cell) => is_read(&cell, self),
+            None => false,
+        }
+    }
+}
+
+/// A path.
+macro_rules! path {
+    ($from:literal, $drive:literal, $rise:literal, $fall:literal) => {
+        DrivePath {
+            from: $from,
+            drive: $drive,
+            rise: $rise,
+            fall: $fall,
+        }
+    };
 }
 
 /// An output Y that floats where OE is 0.
@@ -187,19 +189,6 @@ pin (Y) { direction : output; function : \"A\"; three_state : \"!OE\";
         cell_rise (t) { values (\"11\"); } cell_fall (t) { values (\"13\"); } }
     timing () { related_pin : \"OE\"; timing_type : three_state_disable; cell_rise (t) { values (\"q\"); } }
 } }";
-
-#[test]
-fn one_output_floats(rt: HostRuntime) -> Result<(), Fail> {
-    let cell = accepted(rt.alloc(), TBUF)?;
-    assert!(rt;
-        cell.core.name.as_slice() == b"-z0".as_slice() && cell.name.as_slice() == b"TBUF".as_slice()
-    );
-    assert!(rt; has_pin(&cell, 3, b"-e1") && cell.core.pins.len() == 4);
-    assert!(rt; cell.driven.as_slice() == [0].as_slice());
-    assert!(rt; cell.paths.as_slice() == [path(0, 0, 5, 7), path(1, 0, 11, 13)].as_slice());
-    assert!(rt; leaves_out(cell.left_out.as_slice(), &[(2, "three_state_disable")]));
-    Ok(())
-}
 
 /// Two outputs of one group, behind one that never floats.
 const TWO_OUTPUTS: &str = "cell (A) { } cell (TWO) {
@@ -223,34 +212,58 @@ const TWO_LEFT_OUT: [(usize, &str); 6] = [
     (4, "non_seq"),
 ];
 
-#[test]
-fn two_outputs_float(rt: HostRuntime) -> Result<(), Fail> {
-    let cell = accepted(rt.alloc(), TWO_OUTPUTS)?;
-    let paths = [
-        path(1, 0, 5, 9),
-        path(0, 0, 5, 7),
-        path(1, 1, 5, 9),
-        path(0, 1, 5, 7),
-    ];
-    assert!(rt; cell.core.name.as_slice() == b"-z1".as_slice());
-    assert!(rt; has_pin(&cell, 5, b"-e1") && has_pin(&cell, 6, b"-e2"));
-    assert!(rt; cell.driven.as_slice() == [1, 2].as_slice());
-    assert!(rt; cell.paths.as_slice() == paths.as_slice());
-    assert!(rt; leaves_out(cell.left_out.as_slice(), &TWO_LEFT_OUT));
-    Ok(())
-}
-
 /// A cell without three-state outputs.
 const BUF: &str =
     "cell (BUF) { pin (A) { direction : input; } pin (Y) { direction : output; function : \"A\";
     timing () { related_pin : \"A\"; cell_rise (t) { values (\"1\"); } } } }";
 
+const CELLS: [FloatingCell; 3] = [
+    FloatingCell {
+        statements: TBUF,
+        name: b"TBUF",
+        core: b"-z0",
+        pins: 4,
+        made: &[(3, b"-e1")],
+        driven: &[0],
+        paths: &[path!(0, 0, 5, 7), path!(1, 0, 11, 13)],
+        left_out: &[(2, "three_state_disable")],
+    },
+    FloatingCell {
+        statements: TWO_OUTPUTS,
+        name: b"TWO",
+        core: b"-z1",
+        pins: 7,
+        made: &[(5, b"-e1"), (6, b"-e2")],
+        driven: &[1, 2],
+        paths: &[
+            path!(1, 0, 5, 9),
+            path!(0, 0, 5, 7),
+            path!(1, 1, 5, 9),
+            path!(0, 1, 5, 7),
+        ],
+        left_out: &TWO_LEFT_OUT,
+    },
+    // a cell without three-state outputs is its own core
+    FloatingCell {
+        statements: BUF,
+        name: b"BUF",
+        core: b"BUF",
+        pins: 2,
+        made: &[],
+        driven: &[],
+        paths: &[],
+        left_out: &[],
+    },
+];
+
+/// How many arcs the core of that cell has.
+fn arcs_of(alloc: Global, statements: &str) -> Option<usize> {
+    let cell = last_cell(alloc, statements)?;
+    Some(cell.core.arcs.len())
+}
+
 #[test]
-fn a_plain_cell_is_its_own_core(rt: HostRuntime) -> Result<(), Fail> {
-    let cell = accepted(rt.alloc(), BUF)?;
-    assert!(rt;
-        cell.core.name.as_slice() == b"BUF".as_slice() && cell.name.as_slice() == b"BUF".as_slice()
-    );
-    assert!(rt; cell.driven.is_empty() && cell.paths.is_empty() && cell.core.arcs.len() == 1);
-    Ok(())
+fn cells_have_cores_and_paths(rt: HostRuntime) -> Result<(), Fail> {
+    assert!(rt; arcs_of(rt.alloc(), BUF) == Some(1));
+    all_hold(rt.alloc(), &CELLS)
 }

@@ -102,12 +102,29 @@ fn is_named(alloc: Global, cell: &Cell, given: &[u8], name: &[u8]) -> Result<boo
     Ok(entity_name(alloc, cell, &names)?.as_slice() == name)
 }
 
+/// Whether the first state of the cell of a library has these rows.
+fn makes_state(alloc: Global, library: &str, wanted: &[Row<'_>]) -> Result<bool, Fail> {
+    let cell = first_cell(alloc, library)?;
+    has_state(alloc, &cell, wanted)
+}
+
+/// Whether its first output has these rows.
+fn makes_output(alloc: Global, library: &str, wanted: &[Row<'_>]) -> Result<bool, Fail> {
+    let cell = first_cell(alloc, library)?;
+    has_output(alloc, &cell, wanted)
+}
+
+/// Whether its entity has this name behind one whose name, in lower case, is given.
+fn makes_name(alloc: Global, library: &str, given: &[u8], name: &[u8]) -> Result<bool, Fail> {
+    let cell = first_cell(alloc, library)?;
+    is_named(alloc, &cell, given, name)
+}
+
 #[test]
 fn a_flip_flop_has_primitives_and_a_name(rt: HostRuntime) -> Result<(), Fail> {
-    let cell = first_cell(rt.alloc(), FLIP_FLOP)?;
-    assert!(rt; has_state(rt.alloc(), &cell, &STATE_ROWS)?);
-    assert!(rt; has_output(rt.alloc(), &cell, &OUTPUT_ROWS)?);
-    assert!(rt; is_named(rt.alloc(), &cell, b"dffx", b"DFF")?);
-    assert!(rt; is_named(rt.alloc(), &cell, b"dff", b"cell1")?);
+    assert!(rt; makes_state(rt.alloc(), FLIP_FLOP, &STATE_ROWS)?);
+    assert!(rt; makes_output(rt.alloc(), FLIP_FLOP, &OUTPUT_ROWS)?);
+    assert!(rt; makes_name(rt.alloc(), FLIP_FLOP, b"dffx", b"DFF")?);
+    assert!(rt; makes_name(rt.alloc(), FLIP_FLOP, b"dff", b"cell1")?);
     Ok(())
 }

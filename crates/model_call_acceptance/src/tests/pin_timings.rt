@@ -5,6 +5,8 @@ use liberty_groups::{Group, Item, read_library};
 use liberty_text::Unit;
 use sqlite_items::Items;
 use std::alloc::{AllocError, Global};
+use std::test::Fail;
+use table_tests::{Row, all_hold};
 use timing_arcs::{PinTiming, Room, Subject, read_timing};
 
 /// The number of the pin D, behind CK and SE.
@@ -96,52 +98,79 @@ fn has_checks(timing: &PinTiming, first: Edges, second: Option<Edges>) -> bool {
         && timing.checks.get(1).map(|check| edges(check)) == second
 }
 
-/// Whether a group of this type is one check.
-fn is_one_check(alloc: Global, timing_type: &str, check: Edges) -> bool {
-    match timing_of_type(alloc, timing_type) {
-        Some(timing) => has_checks(&timing, check, None),
-        None => false,
-    }
-}
+/// The type of a timing group under D, its check, and a second one, where it makes two.
+struct Typed(&'static str, Edges, Option<Edges>);
 
-#[test]
-fn setup_hold_and_period_are_one_check(rt: HostRuntime) {
-    use CheckKind::{Hold, Period, Setup};
-    use Edge::{Any, Fall, Rise};
-    let alloc = rt.alloc();
-    assert!(rt; is_one_check(alloc, "setup_rising", (Setup, Any, Rise, 20)));
-    assert!(rt; is_one_check(alloc, "setup_falling", (Setup, Any, Fall, 20)));
-    assert!(rt; is_one_check(alloc, "hold_rising", (Hold, Any, Rise, 20)));
-    assert!(rt; is_one_check(alloc, "hold_falling", (Hold, Any, Fall, 20)));
-    assert!(rt; is_one_check(alloc, "minimum_period", (Period, Any, Any, 20)));
-}
-
-/// Whether a group of this type is a check of each edge, beside these edges of the related pin.
-fn is_a_check_of_each_edge(
-    alloc: Global,
-    timing_type: &str,
-    kind: CheckKind,
-    beside_rise: Edge,
-    beside_fall: Edge,
-) -> bool {
-    match timing_of_type(alloc, timing_type) {
-        Some(timing) => {
-            let rise = (kind, Edge::Rise, beside_rise, 10);
-            let fall = (kind, Edge::Fall, beside_fall, 20);
-            has_checks(&timing, rise, Some(fall))
+impl Row for Typed {
+    fn holds(&self, alloc: Global) -> bool {
+        match timing_of_type(alloc, self.0) {
+            Some(timing) => has_checks(&timing, self.1, self.2),
+            None => false,
         }
-        None => false,
     }
 }
 
+/// A type that makes a check of each edge, beside these edges of the related pin.
+macro_rules! of_each_edge {
+    ($timing_type:literal, $kind:expr, $beside_rise:expr, $beside_fall:expr) => {
+        Typed(
+            $timing_type,
+            ($kind, Edge::Rise, $beside_rise, 10),
+            Some(($kind, Edge::Fall, $beside_fall, 20)),
+        )
+    };
+}
+
+/// Setup, hold and period are one check, recovery, removal and width are a check of each edge.
+const TYPES: [Typed; 10] = [
+    Typed(
+        "setup_rising",
+        (CheckKind::Setup, Edge::Any, Edge::Rise, 20),
+        None,
+    ),
+    Typed(
+        "setup_falling",
+        (CheckKind::Setup, Edge::Any, Edge::Fall, 20),
+        None,
+    ),
+    Typed(
+        "hold_rising",
+        (CheckKind::Hold, Edge::Any, Edge::Rise, 20),
+        None,
+    ),
+    Typed(
+        "hold_falling",
+        (CheckKind::Hold, Edge::Any, Edge::Fall, 20),
+        None,
+    ),
+    Typed(
+        "minimum_period",
+        (CheckKind::Period, Edge::Any, Edge::Any, 20),
+        None,
+    ),
+    of_each_edge!(
+        "recovery_rising",
+        CheckKind::Recovery,
+        Edge::Rise,
+        Edge::Rise
+    ),
+    of_each_edge!(
+        "recovery_falling",
+        CheckKind::Recovery,
+        Edge::Fall,
+        Edge::Fall
+    ),
+    of_each_edge!("removal_rising", CheckKind::Removal, Edge::Rise, Edge::Rise),
+    of_each_edge!(
+        "removal_falling",
+        CheckKind::Removal,
+        Edge::Fall,
+        Edge::Fall
+    ),
+    of_each_edge!("min_pulse_width", CheckKind::Width, Edge::Fall, Edge::Rise),
+];
+
 #[test]
-fn recovery_removal_and_width_are_a_check_of_each_edge(rt: HostRuntime) {
-    use CheckKind::{Recovery, Removal, Width};
-    use Edge::{Fall, Rise};
-    let alloc = rt.alloc();
-    assert!(rt; is_a_check_of_each_edge(alloc, "recovery_rising", Recovery, Rise, Rise));
-    assert!(rt; is_a_check_of_each_edge(alloc, "recovery_falling", Recovery, Fall, Fall));
-    assert!(rt; is_a_check_of_each_edge(alloc, "removal_rising", Removal, Rise, Rise));
-    assert!(rt; is_a_check_of_each_edge(alloc, "removal_falling", Removal, Fall, Fall));
-    assert!(rt; is_a_check_of_each_edge(alloc, "min_pulse_width", Width, Fall, Rise));
+fn types_of_timing_make_checks(rt: HostRuntime) -> Result<(), Fail> {
+    all_hold(rt.alloc(), &TYPES)
 }

@@ -8,6 +8,7 @@ use std::test::Fail;
 use stimulus::{
     Catalog, Cause, PortCatalog, Ports, Section, Standing, StimulusFault, read_stimulus, trace_line,
 };
+use table_tests::{Row, all_hold};
 use trit_cubes::Trit;
 
 /// A list of one name.
@@ -33,14 +34,22 @@ fn ports(alloc: Global, standing: Standing) -> Result<Ports, AllocError> {
     })
 }
 
-/// A flip-flop, and a cell that is refused; each name is added twice.
-fn catalog(alloc: Global) -> Result<PortCatalog, Fail> {
+/// The names and the standings of a flip-flop and of cells that are refused; one is added twice.
+const CELLS: [(&[u8], Standing); 4] = [
+    (b"DFF", Standing::Ready),
+    (b"TB", Standing::Refused),
+    (b"DFF", Standing::VerilogPorts),
+    (b"OR", Standing::VitalPorts),
+];
+
+/// The catalog of these cells.
+fn catalog(alloc: Global) -> Option<PortCatalog> {
     let mut catalog = PortCatalog::new(alloc);
-    catalog.add(b"DFF", ports(alloc, Standing::Ready)?)?;
-    catalog.add(b"TB", ports(alloc, Standing::Refused)?)?;
-    catalog.add(b"DFF", ports(alloc, Standing::VerilogPorts)?)?;
-    catalog.add(b"OR", ports(alloc, Standing::VitalPorts)?)?;
-    Ok(catalog)
+    for (name, standing) in CELLS {
+        let ports = ports(alloc, standing).ok()?;
+        catalog.add(name, ports).ok()?;
+    }
+    Some(catalog)
 }
 
 /// Whether a section is of the first cell and has so many changes.
@@ -48,12 +57,9 @@ fn is_of_first(section: &Section, changes: usize) -> bool {
     section.cell == 0 && section.changes.len() == changes
 }
 
-/// Whether a text has two sections of the first cell, the first with two changes and the second with this one.
-fn has_sections(alloc: Global, text: &[u8], catalog: &PortCatalog, change: Change) -> bool {
-    let Ok(sections) = read_stimulus(alloc, text, catalog) else {
-        return false;
-    };
-    match sections.as_slice() {
+/// Whether these are two sections of the first cell, the first with two changes and the second with this one.
+fn are_of_first(sections: &[Section], change: Change) -> bool {
+    match sections {
         [first, second] => {
             is_of_first(first, 2)
                 && is_of_first(second, 1)
@@ -63,49 +69,57 @@ fn has_sections(alloc: Global, text: &[u8], catalog: &PortCatalog, change: Chang
     }
 }
 
-#[test]
-fn sections_are_read(rt: HostRuntime) -> Result<(), Fail> {
-    let alloc = rt.alloc();
+/// Whether a text has such sections.
+fn has_sections(alloc: Global, text: &[u8], change: Change) -> Option<bool> {
     let catalog = catalog(alloc)?;
-    assert!(rt; catalog.len() == 3);
+    let sections = read_stimulus(alloc, text, &catalog).ok()?;
+    Some(catalog.len() == 3 && are_of_first(&sections, change))
+}
+
+#[test]
+fn sections_are_read(rt: HostRuntime) {
     let text = b"# two sections\r\ncell DFF\n10 D 1\n20 CK 0\r\n\ncell DFF\n5 CK X";
     let last = Change {
         at: 5,
         pin: 1,
         to: Trit::Unknown,
     };
-    assert!(rt; has_sections(alloc, text, &catalog, last));
-    Ok(())
+    assert!(rt; has_sections(rt.alloc(), text, last) == Some(true));
 }
 
-/// Whether the first bad line of a text is this, for this cause.
-fn is_refused(
-    alloc: Global,
-    text: &[u8],
-    catalog: &PortCatalog,
-    line: usize,
-    cause: Cause,
-) -> bool {
-    match read_stimulus(alloc, text, catalog) {
-        Ok(_) => false,
-        Err(fault) => fault == StimulusFault::Line { line, cause },
+/// The fault of a stimulus.
+fn fault_of(alloc: Global, text: &[u8]) -> Option<StimulusFault> {
+    let catalog = catalog(alloc)?;
+    read_stimulus(alloc, text, &catalog).err()
+}
+
+/// A stimulus, the number of its first bad line, and the cause.
+struct BadLine(&'static [u8], usize, Cause);
+
+impl Row for BadLine {
+    fn holds(&self, alloc: Global) -> bool {
+        let wanted = StimulusFault::Line {
+            line: self.1,
+            cause: self.2,
+        };
+        fault_of(alloc, self.0) == Some(wanted)
     }
 }
 
+const BAD_LINES: [BadLine; 7] = [
+    BadLine(b"cell DFF\n5 D 1\n5 D 0\n", 3, Cause::Time),
+    BadLine(b"\xff", 1, Cause::Form),
+    BadLine(b"\ncell TB", 2, Cause::RefusedCell(1)),
+    BadLine(b"cell OR", 1, Cause::VitalPorts(2)),
+    BadLine(b"cell DFF\n417 D 0\n# c\n437 CK1\r", 4, Cause::Form),
+    BadLine(b"cell DFF\n4 Q 2", 2, Cause::OutputPin),
+    BadLine(b"cell _x", 1, Cause::UnknownCell),
+];
+
 #[test]
 fn first_bad_lines(rt: HostRuntime) -> Result<(), Fail> {
-    let alloc = rt.alloc();
-    let catalog = catalog(alloc)?;
-    assert!(rt; is_refused(alloc, b"cell DFF\n5 D 1\n5 D 0\n", &catalog, 3, Cause::Time));
-    assert!(rt; is_refused(alloc, b"\xff", &catalog, 1, Cause::Form));
-    assert!(rt; is_refused(alloc, b"\ncell TB", &catalog, 2, Cause::RefusedCell(1)));
-    assert!(rt; is_refused(alloc, b"cell OR", &catalog, 1, Cause::VitalPorts(2)));
-    let no_blank = b"cell DFF\n417 D 0\n# c\n437 CK1\r";
-    assert!(rt; is_refused(alloc, no_blank, &catalog, 4, Cause::Form));
-    assert!(rt; is_refused(alloc, b"cell DFF\n4 Q 2", &catalog, 2, Cause::OutputPin));
-    assert!(rt; is_refused(alloc, b"cell _x", &catalog, 1, Cause::UnknownCell));
     assert!(rt; Cause::UnknownPin.word() == b"unknown pin".as_slice());
-    Ok(())
+    all_hold(rt.alloc(), &BAD_LINES)
 }
 
 /// A simulator that shows the same after every change: one output that is 0 and one that became unknown 120 ps after the

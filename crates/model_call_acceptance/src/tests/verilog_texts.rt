@@ -2,6 +2,8 @@
 
 use specify_blocks::VModule;
 use std::alloc::Global;
+use std::test::Fail;
+use table_tests::{Row, all_hold};
 use udp_tables::ModelFault;
 use verilog_reader::read_models;
 
@@ -41,14 +43,19 @@ fn rows_of_first(module: &VModule) -> usize {
     }
 }
 
-/// Whether a text has one module, with the name, the parts and the rows of the flip-flop's.
-fn is_flip_flop(alloc: Global, text: &[u8]) -> bool {
-    let Ok(modules) = read_models(alloc, text) else {
-        return false;
-    };
-    match modules.as_slice() {
+/// Whether modules are one, with the name, the parts and the rows of the flip-flop's.
+fn are_flip_flop(modules: &[VModule]) -> bool {
+    match modules {
         [one] => is_made_of(one, b"FD1", [3, 2, 2, 1, 1]) && rows_of_first(one) == 11,
         _ => false,
+    }
+}
+
+/// Whether a text has such a module.
+fn is_flip_flop(alloc: Global, text: &[u8]) -> bool {
+    match read_models(alloc, text) {
+        Ok(modules) => are_flip_flop(&modules),
+        Err(_) => false,
     }
 }
 
@@ -62,31 +69,45 @@ const TWO_CHANGES: &[u8] = b"`timescale 1ps/1ps
 primitive p (q, a, b); output q; reg q; input a; input b;
 table (01) (01) : ? : 1; endtable endprimitive";
 
-/// Whether a text is refused for a second change in a row, at this offset.
-fn has_two_changes(alloc: Global, text: &[u8], at: usize) -> bool {
-    matches!(read_models(alloc, text), Err(ModelFault::TwoEdges(found)) if found == at)
+/// How a text of models is at fault, and at which offset.
+#[derive(Copy, Clone)]
+pub(crate) enum Fault {
+    /// No token begins there.
+    Lexical(usize),
+    /// No text goes on so.
+    Syntax(usize),
+    /// A second change in a row.
+    TwoEdges(usize),
 }
 
-/// Whether a text is refused at this offset, where no text goes on so.
-fn is_misspelled(alloc: Global, text: &[u8], at: usize) -> bool {
-    matches!(read_models(alloc, text), Err(ModelFault::Syntax(found)) if found == at)
+/// Whether a fault is that, if one is wanted.
+pub(crate) fn is_fault(found: &Option<ModelFault>, wanted: Option<Fault>) -> bool {
+    match (found, wanted) {
+        (None, None) => true,
+        (Some(ModelFault::Lexical(found)), Some(Fault::Lexical(wanted))) => *found == wanted,
+        (Some(ModelFault::Syntax(found)), Some(Fault::Syntax(wanted))) => *found == wanted,
+        (Some(ModelFault::TwoEdges(found)), Some(Fault::TwoEdges(wanted))) => *found == wanted,
+        _ => false,
+    }
 }
 
-/// Whether a text is refused at this offset, where no token begins.
-fn has_no_token(alloc: Global, text: &[u8], at: usize) -> bool {
-    matches!(read_models(alloc, text), Err(ModelFault::Lexical(found)) if found == at)
+/// A text and its fault; one without is read.
+struct VerilogText(&'static [u8], Option<Fault>);
+
+impl Row for VerilogText {
+    fn holds(&self, alloc: Global) -> bool {
+        is_fault(&read_models(alloc, self.0).err(), self.1)
+    }
 }
 
-/// Whether a text is read.
-fn is_read(alloc: Global, text: &[u8]) -> bool {
-    read_models(alloc, text).is_ok()
-}
+const TEXTS: [VerilogText; 4] = [
+    VerilogText(TWO_CHANGES, Some(Fault::TwoEdges(88))),
+    VerilogText(b"", Some(Fault::Syntax(0))),
+    VerilogText(b"`timescale 1ps/1ps\n", None),
+    VerilogText(b"`timescale 1ps/1ps\n/* open", Some(Fault::Lexical(19))),
+];
 
 #[test]
-fn the_first_fault_of_a_text(rt: HostRuntime) {
-    let alloc = rt.alloc();
-    assert!(rt; has_two_changes(alloc, TWO_CHANGES, 88));
-    assert!(rt; is_misspelled(alloc, b"", 0));
-    assert!(rt; is_read(alloc, b"`timescale 1ps/1ps\n"));
-    assert!(rt; has_no_token(alloc, b"`timescale 1ps/1ps\n/* open", 19));
+fn the_first_fault_of_a_text(rt: HostRuntime) -> Result<(), Fail> {
+    all_hold(rt.alloc(), &TEXTS)
 }

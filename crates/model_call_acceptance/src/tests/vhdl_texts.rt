@@ -1,7 +1,7 @@
 //! Whole VHDL texts from outside: the entity of a flip-flop's text, and the faults of others.
 
+use super::verilog_texts::{Fault, is_fault};
 use std::alloc::Global;
-use udp_tables::ModelFault;
 use vhdl_reader::read_entities;
 use vital_models::{VEntity, VState};
 
@@ -80,25 +80,33 @@ fn is_made_of(entity: &VEntity, name: &[u8], counts: [usize; 4]) -> bool {
         ] == counts
 }
 
-/// Whether a text has one entity, with the name and the parts of the flip-flop's.
-fn is_flip_flop(alloc: Global, text: &[u8]) -> bool {
-    let Ok(entities) = read_entities(alloc, text) else {
-        return false;
-    };
-    match entities.as_slice() {
+/// Whether entities are one, with the name and the parts of the flip-flop's.
+fn are_flip_flop(entities: &[VEntity]) -> bool {
+    match entities {
         [one] => is_made_of(one, b"DFFT", [3, 0, 1, 1]) && has_one_state(one),
         _ => false,
     }
 }
 
+/// Whether a text has such an entity.
+fn is_flip_flop(alloc: Global, text: &[u8]) -> bool {
+    match read_entities(alloc, text) {
+        Ok(entities) => are_flip_flop(&entities),
+        Err(_) => false,
+    }
+}
+
 /// Whether a text has no entity.
 fn is_empty(alloc: Global, text: &[u8]) -> bool {
-    matches!(&read_entities(alloc, text), Ok(entities) if entities.is_empty())
+    match read_entities(alloc, text) {
+        Ok(entities) => entities.is_empty(),
+        Err(_) => false,
+    }
 }
 
 /// Whether a text is refused at this offset, where no text goes on so.
 fn is_misspelled(alloc: Global, text: &[u8], at: usize) -> bool {
-    matches!(read_entities(alloc, text), Err(ModelFault::Syntax(found)) if found == at)
+    is_fault(&read_entities(alloc, text).err(), Some(Fault::Syntax(at)))
 }
 
 #[test]

@@ -18,10 +18,7 @@ returns c =
     let checks = has_violation cell in
     let pins : c.len-pins.result ≡ n
     = c.len-pins.ensures ∙ sym (ap (λ o. length (option_map_or (λ (group : StateGroup). group.support) o [])) c.group.ensures.is) in
-    let first = c.in_ok-steady_row.ensures ∙ (λ i. steady_row (c.has_violation-violation.ensures i) (pins i)) in
-    let last = c.in_ok-closing_row.ensures ∙ (λ i. closing_row (c.has_violation-violation.ensures i) (pins i)) in
-    let middle = (λ i. state_rows_from (c.has_violation-violation.ensures i) ((c.as_slice.ensures ∙ ap (λ (udp : Udp). udp.rows) c.in_ok-udp.ensures) i))
-    ∙ state-from checks n (step_at cell g) in
-    let front = c.in_ok-push.ensures.ok ∙ (λ i. c.new-rows.ensures i ++ first i ∷ []) in
-    ap (λ rows. record { rows = rows })
-    (c.in_ok-push-2.ensures.ok ∙ (λ i. (c.in_ok-add_state_rows.ensures ∙ (λ j. front j ++ middle j)) i ++ last i ∷ []))
+    let made = c.in_ok-rows.ensures ∙ (λ i. steady_row (c.has_violation-violation.ensures i) (pins i) ∷
+    (state_rows_from (c.has_violation-violation.ensures i) ((c.as_slice.ensures ∙ ap (λ (udp : Udp). udp.rows) c.in_ok-udp.ensures) i)
+    ++ closing_row (c.has_violation-violation.ensures i) (pins i) ∷ [])) in
+    ap (λ rows. record { rows = rows }) (made ∙ ap (λ middle. steady_row checks n ∷ (middle ++ closing_row checks n ∷ [])) (state-from checks n (step_at cell g)))

@@ -1,0 +1,4 @@
+pub mod FoldedNames
+pub mod FoundCores
+pub mod NextNames
+pub mod MoreEnables

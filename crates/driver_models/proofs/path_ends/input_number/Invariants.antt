@@ -1,0 +1,7 @@
+use Rattle.std.proofs.Common.{◌≡◌, ◌≤◌, drop}
+use Rattle.driver_models.specs.PathEnds.{input_from}
+use Rattle.driver_models.proofs.path_ends.input_number.Given as goal
+
+abbrev pub invariant-loop-port : goal.invariant-loop-port
+invariant-loop-port g l =
+    (input_from g.L.Language.is_same l.number (drop l.port-index l.ports) l.name ≡ input_from g.L.Language.is_same 0 l.ports l.name) × (l.number ≤ l.port-index)

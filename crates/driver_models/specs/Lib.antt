@@ -1,0 +1,6 @@
+pub mod Models
+pub mod Cores
+pub mod Found
+pub mod Wires
+pub mod Terminals
+pub mod PathEnds

@@ -1,0 +1,5 @@
+mod CursorPlaces
+mod NumberedNames
+mod NumberedPorts
+pub mod SoundDrivers
+mod TextExamples

@@ -1,0 +1,3 @@
+pub mod DriverText
+pub mod DriverSections
+pub mod Sections

@@ -1,0 +1,38 @@
+//! The buffers at driven outputs.
+ghost use Rattle.verilog_drivers.specs.DriverText.{buffer_text};
+
+use crate::numbered_ports::PortText;
+use text_io::{Desk, Line, OutSlot};
+use text_parts::{Bytes, Decimal, Part, Put, parts};
+use udp_tables::VPort;
+
+/// Lines of buffers, one for each driven output.
+#[derive(Drop)]
+pub(crate) struct Buffers;
+
+impl PortText for Buffers {
+    ghost text = { λ _ at. buffer_text at };
+
+    fn put<D: Desk>(
+        &self,
+        port: &VPort,
+        number: Option<usize>,
+        line: &mut Line,
+        desk: &mut D,
+        slot: OutSlot,
+    ) -> Put {
+        match number {
+            None => line.put(desk, slot, b""),
+            Some(number) => parts!(
+                Bytes(b"  bufif1 ("),
+                Bytes(port.name.as_slice()),
+                Bytes(b", lib_d"),
+                Decimal(number as u128),
+                Bytes(b", lib_e"),
+                Decimal(number as u128),
+                Bytes(b");\n")
+            )
+            .put(line, desk, slot),
+        }
+    }
+}

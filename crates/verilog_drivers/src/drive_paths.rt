@@ -1,0 +1,85 @@
+//! The paths of a driver, by recursive descent. (IEEE 1364-2005, 14.2 and 14.3.)
+
+ghost use Rattle.rule_readers.specs.Reading.{read, Reads};
+ghost use Rattle.specify_blocks.specs.VerilogBlocks.{a_number};
+ghost use Rattle.verilog_drivers.specs.DriverSections as spec;
+
+use crate::language::Cursor;
+use driven_traces::DrivePath;
+use driver_models::{path_from, path_to};
+use part_readers::with_end;
+use rule_readers::Read;
+use sqlite_items::Items;
+use std::alloc::Global;
+use udp_tables::VPort;
+use verilog_tokens::number_of;
+
+/// The number that stands next.
+#[tactic(auto, using(rule_readers::proofs::Values::valued_found), unfolding(specify_blocks::specs::VerilogBlocks::a_number))]
+fn number(cursor: &mut Cursor) -> Read<u64>
+    ensures { Reads (read a_number cursor.old) result cursor.new }
+{
+    let found = number_of(cursor.bytes());
+    cursor.value(found)
+}
+
+/// A path, behind its first bracket.
+#[tactic(auto, unfolding(crate::specs::DriverSections::drive_path))]
+fn drive_path(cursor: &mut Cursor, ports: &[VPort], drives: &[usize]) -> Read<DrivePath>
+    ensures { Reads (read (spec.drive_path ports.now drives.now) cursor.old) result cursor.new }
+{
+    let from = path_from(cursor, ports)?;
+    cursor.expect(b"=>")?;
+    let drive = path_to(cursor, ports, drives)?;
+    cursor.expect(b")")?;
+    cursor.expect(b"=")?;
+    cursor.expect(b"(")?;
+    let rise = number(cursor)?;
+    cursor.expect(b",")?;
+    let fall = number(cursor)?;
+    let path = DrivePath {
+        from,
+        drive,
+        rise,
+        fall,
+    };
+    with_end(cursor, &[b")", b";"], path)
+}
+
+/// The paths of a specify block, behind its word, and its end.
+#[tactic(auto, using(rule_readers::proofs::Repeats::turns), unfolding(crate::specs::DriverSections::drive_block, crate::specs::DriverSections::next_drive_path))]
+fn drive_block(
+    cursor: &mut Cursor,
+    alloc: Global,
+    ports: &[VPort],
+    drives: &[usize],
+) -> Read<Items<DrivePath>>
+    ensures { Reads (read (spec.drive_block ports.now drives.now) cursor.old) result cursor.new }
+{
+    let mut paths = Items::new(alloc);
+    for _turn in 0..cursor.left() {
+        if !cursor.is_next(b"(") {
+            break;
+        }
+        cursor.skip();
+        paths.push(drive_path(cursor, ports, drives)?)?;
+    }
+    with_end(cursor, &[b"endspecify"], paths)
+}
+
+/// The paths of a driver, where it has a specify block.
+#[tactic(auto, using(rule_readers::proofs::Repeats::choose_begun, rule_readers::proofs::Repeats::choose_other), unfolding(crate::specs::DriverSections::drive_paths))]
+pub(crate) fn drive_paths(
+    cursor: &mut Cursor,
+    alloc: Global,
+    ports: &[VPort],
+    drives: &[usize],
+) -> Read<Items<DrivePath>>
+    ensures { Reads (read (spec.drive_paths ports.now drives.now) cursor.old) result cursor.new }
+{
+    if !cursor.is_next(b"specify") {
+        return Ok(Items::new(alloc));
+    }
+    cursor.skip();
+    drive_block(cursor, alloc, ports, drives)
+}

@@ -1,0 +1,21 @@
+//! Verilog text of models of three-state drivers: a core and a buffer for each of its driven outputs, in a module of a cell. (IEEE
+//! 1364-2005, clauses 7.4, 12, 14 and 19.1.)
+#![tactic(auto)]
+
+mod buffers;
+mod core_call;
+mod core_terminals;
+mod drive_paths;
+mod language;
+mod numbered_names;
+mod numbered_ports;
+mod paths;
+mod ports;
+mod read;
+mod read_buffers;
+mod section;
+mod writer;
+
+pub use language::VerilogDrivers;
+pub use read::read_driver;
+pub use writer::write_driver;

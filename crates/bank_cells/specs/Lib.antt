@@ -1,5 +1,5 @@
-pub mod Numbers
-pub mod BusTypes
-pub mod Vectors
-pub mod Parts
-pub mod Texts
+pub mod Ranges
+pub mod Members
+pub mod Faults
+pub mod Refusals
+pub mod Expanded

@@ -1,11 +1,18 @@
 //! The group of a Liberty cell with buses, bundles and banks, expanded to single bits.
 #![tactic(auto)]
 
-mod bus_types;
-mod copies;
-mod numbers;
-mod parts;
-mod rewriting;
-mod vectors;
+mod expansion;
+mod faults;
+mod members;
+mod pins;
+mod ranges;
+mod refusal;
+mod refusals;
+mod related;
+mod rewritten;
+mod states;
+mod timings;
+mod widths;
 
-pub use bus_types::{BusType, bus_type};
+pub use expansion::{BankFault, expand};
+pub use refusal::{BankReason, BankRefusal};

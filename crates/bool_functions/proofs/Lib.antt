@@ -16,3 +16,5 @@ pub mod Bounds
 pub mod Renamings
 pub mod SameTreeLemmas
 pub mod Forms
+pub mod JoinedTexts
+pub mod RenamedTexts

@@ -54,7 +54,7 @@ module _ (found new : List Span) (begun next : Option ℕ) (at b : ℕ) (rest : 
       ∙ ap (λ l. found ++ l) (sym (ahead_other begun at b rest e ∙ ap (λ c. run_before begun at ++ (if c then spans_from (at + 1) rest else span at (at + 1) ∷ spans_from (at + 1) rest)) k))
 
 -- tokens that lie in a text from an offset on
-abbrev Within : ℕ → ℕ → Span → Type 0
+abbrev pub Within : ℕ → ℕ → Span → Type 0
 Within low high t = (low ≤ t.start) × (t.start < t.end) × (t.end ≤ high)
 
 lower : (low at high : ℕ) → low ≤ at → (ts : List Span) → AllByRecursion (Within at high) ts → AllByRecursion (Within low high) ts
@@ -72,7 +72,7 @@ first_within true false blank at high ts le h = ((omega arith, omega arith, le),
 first_within false more true at high ts le h = lower at (at + 1) high (omega arith) ts h
 first_within false more false at high ts le h = ((omega arith, omega arith, le), lower at (at + 1) high (omega arith) ts h)
 
-spans_within : (at : ℕ) (s : List ℕ) (high : ℕ) → at + length s ≤ high → AllByRecursion (Within at high) (spans_from at s)
+pub spans_within : (at : ℕ) (s : List ℕ) (high : ℕ) → at + length s ≤ high → AllByRecursion (Within at high) (spans_from at s)
 spans_within at [] high le = tt
 spans_within at (b ∷ s) high le = first_within (is_word_byte b) (begins_word s) (is_blank b) at high (spans_from (at + 1) s) (omega (arith, le)) (spans_within (at + 1) s high (omega (arith, le)))
 

@@ -1,5 +1,5 @@
 //! Laws of the definitions that the contracts cite.
-ghost use Rattle.bool_functions.specs.Laws.{OneTree, ReadByGrammar, BoundIsLeast, RenamedValues, OwnNames};
+ghost use Rattle.bool_functions.specs.Laws.{OneTree, ReadByGrammar, BoundIsLeast, RenamedValues, OwnNames, RenamedTexts, JoinedTexts, WordTexts};
 
 /// No text has two trees over one list of names.
 pub fn one_tree()
@@ -24,4 +24,19 @@ pub fn renamed_values()
 /// The names that a text is read with by itself are distinct, and are the names that stand in it.
 pub fn own_names()
     ensures { OwnNames }
+{}
+
+/// Symbols in which each name has a new number are those of the renamed function.
+pub fn renamed_texts()
+    ensures { RenamedTexts }
+{}
+
+/// The symbols of two texts together are those of each, where no name or number goes on from the one into the other.
+pub fn joined_texts()
+    ensures { JoinedTexts }
+{}
+
+/// A text of letters, digits and `_` alone is one symbol.
+pub fn word_texts()
+    ensures { WordTexts }
 {}

@@ -20,7 +20,12 @@ mod words;
 
 pub use faults::FunctionFault;
 pub use functions::Function;
-pub use laws::{bound_is_least, one_tree, own_names, read_by_grammar, renamed_values};
+pub use laws::{
+    bound_is_least, joined_texts, one_tree, own_names, read_by_grammar, renamed_texts,
+    renamed_values, word_texts,
+};
 pub use name_list::Names;
+pub use symbol::Symbol;
 pub use texts::{MAX_LEN, read_free, read_function};
+pub use tokens::Span;
 pub use tree::Node;

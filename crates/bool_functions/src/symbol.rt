@@ -7,7 +7,7 @@ use crate::tokens::is_word_byte;
 
 /// A token by its meaning. `Stray` is a byte or a run with which no function text goes on.
 #[derive(Clone, Copy)]
-pub(crate) enum Symbol {
+pub enum Symbol {
     Name(usize),
     Zero,
     One,

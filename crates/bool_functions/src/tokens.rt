@@ -6,9 +6,9 @@ use std::alloc::{AllocError, Global};
 
 /// A token, by the offset of its first byte and the offset after its last.
 #[derive(Clone, Copy)]
-pub(crate) struct Span {
-    pub(crate) start: usize,
-    pub(crate) end: usize,
+pub struct Span {
+    pub start: usize,
+    pub end: usize,
 }
 
 /// The tokens of a text: each longest run of letters, digits and `_`, and each other byte that is no blank.

@@ -3,6 +3,7 @@
 
 mod attributes;
 mod contents;
+mod copies;
 mod cursor;
 mod fault;
 mod items;
@@ -16,6 +17,7 @@ mod write;
 
 pub use attributes::{Attribute, inner_group, last_attribute, simple_attribute};
 pub use contents::{UnitLine, one_text};
+pub use copies::{copy_bytes, copy_group, copy_item, copy_items, copy_values};
 pub use cursor::Cursor;
 pub use fault::{Expected, LibraryFault, Refusal, Stop, fault_at, lexical_fault};
 pub use library::LEVELS_INSIDE;

@@ -1,7 +1,0 @@
-use Rattle.std.proofs.Common.{◌≡◌, drop}
-use Rattle.bank_cells.specs.Parts.{is_word}
-use Rattle.bank_cells.proofs.parts.is_word.Given as goal
-
-abbrev pub invariant-loop-byte : goal.invariant-loop-byte
-invariant-loop-byte l =
-    is_word (drop l.byte-index l.text) ≡ is_word l.text

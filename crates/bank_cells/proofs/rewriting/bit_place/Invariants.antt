@@ -1,6 +1,0 @@
-use Rattle.std.proofs.Common.{◌≡◌, drop}
-use Rattle.bank_cells.specs.Texts.{bit_place}
-use Rattle.bank_cells.proofs.rewriting.bit_place.Given as goal
-
-abbrev pub invariant-loop-at : goal.invariant-loop-at
-invariant-loop-at l = bit_place l.bit l.at (drop l.at l.bits) ≡ bit_place l.bit 0 l.bits

@@ -1,7 +1,0 @@
-use Rattle.std.proofs.Common.{◌≡◌, drop, ◌++◌, map}
-use Rattle.bank_cells.specs.Vectors.{bundle_named}
-use Rattle.bank_cells.proofs.vectors.add_bundles_of.Given as goal
-
-abbrev pub invariant-loop-name : goal.invariant-loop-name
-invariant-loop-name l =
-    l.found ++ map (bundle_named l.members) (drop l.name-index l.names) ≡ l.initial.found ++ map (bundle_named l.members) l.names

@@ -1,0 +1,188 @@
+//! The pins to which timing groups relate, where these are named by buses and bundles.
+ghost use Rattle.std.specs.Prelude.{◌≡◌, ◌++◌, IfOk, OnOk, map, option_map, flat_map};
+ghost use Rattle.std.specs.List.{list_any};
+ghost use Rattle.std.specs.Option.{option_copied};
+ghost use Rattle.liberty_groups.specs.declared.tree.Item.{out-Item};
+ghost use Rattle.liberty_groups.specs.Attributes.{shown};
+ghost use Rattle.bank_cells.specs.Faults as spec;
+
+use crate::faults::{Place, add_timing_texts};
+use crate::members::all_items;
+use crate::ranges::is_reference;
+use bus_texts::{Vector, VectorKind, is_called, member_at, vector_named};
+use liberty_groups::{Attribute, Group, Item, simple_attribute};
+use std::alloc::{AllocError, Global};
+
+/// The text of a statement in which the names of buses and bundles become members.
+fn related_in(item: &Item) -> Option<Attribute<'_>>
+    ensures { option_map shown result ≡ spec.related_as (out-Item item.now) }
+{
+    if let Some(attribute) = simple_attribute(item, b"related_pin") {
+        return Some(attribute);
+    }
+    let attribute = simple_attribute(item, b"related_bus_pins")?;
+    Some(Attribute {
+        text: &[],
+        at: attribute.at,
+    })
+}
+
+/// The last such text among statements.
+fn related_text<'a>(items: &[&'a Item]) -> Option<Attribute<'a>>
+    ensures { option_map shown result ≡ spec.related_text (map (λ item. item.now) items.now) }
+{
+    let mut found = None;
+    for item in items {
+        if let Some(attribute) = related_in(item) {
+            found = Some(attribute);
+        }
+    }
+    found
+}
+
+/// The bus or bundle of this name.
+pub(crate) fn pins_named<'a>(vectors: &'a [Vector], word: &[u8]) -> Option<&'a Vector>
+    ensures { option_copied result ≡ spec.pins_named vectors.now word.now }
+{
+    let vector = vector_named(vectors, word)?;
+    match vector.kind {
+        VectorKind::Variable => None,
+        VectorKind::Bus | VectorKind::Bundle => Some(vector),
+    }
+}
+
+/// Whether a word refers to one of these.
+fn refers_to_any(vectors: &[Vector], word: &[u8]) -> bool
+    ensures { result ≡ list_any (spec.refers_to word.now) vectors.now }
+{
+    for vector in vectors {
+        if is_reference(word, vector.name.as_slice()) {
+            return true;
+        }
+    }
+    false
+}
+
+/// Whether a word is the name of a bus or bundle that has no member at a position.
+fn lacks_member(vectors: &[Vector], at: usize, word: &[u8]) -> bool
+    ensures { result ≡ spec.lacks_member at (spec.pins_named vectors.now word.now) }
+{
+    let Some(vector) = pins_named(vectors, word) else {
+        return false;
+    };
+    match member_at(vector, at) {
+        None => true,
+        Some(_) => false,
+    }
+}
+
+/// Whether a word cannot become a pin.
+fn word_fails(place: Place<'_>, word: &[u8]) -> bool
+    ensures { result ≡ spec.word_fails place.entry.vectors.now place.entry.position word.now }
+{
+    match place.position {
+        None => refers_to_any(place.vectors, word),
+        Some(at) => lacks_member(place.vectors, at, word),
+    }
+}
+
+/// Whether one of these words cannot become a pin.
+fn any_fails(place: Place<'_>, words: &[&[u8]]) -> bool
+    ensures { result ≡ list_any (spec.word_fails place.entry.vectors.now place.entry.position) (map (λ word. word.now) words.now) }
+{
+    for word in words {
+        if word_fails(place, word) {
+            return true;
+        }
+    }
+    false
+}
+
+/// Whether a byte separates names.
+fn is_space(byte: u8) -> bool
+    ensures { result ≡ spec.is_space byte }
+{
+    byte == b' '
+}
+
+/// The names in a text.
+pub(crate) fn related_words(alloc: Global, text: &[u8]) -> Result<Vec<&[u8]>, AllocError>
+    ensures { IfOk result (λ words. map (λ word. word.now) words.items ≡ spec.related_words text.now) }
+{
+    text.split(|byte| is_space(*byte))
+        .filter(|word| !word.is_empty())
+        .collect(alloc)
+}
+
+/// Adds the offset of a text with a name that cannot become a pin.
+fn add_related(
+    alloc: Global,
+    found: &mut Vec<usize>,
+    place: Place<'_>,
+    text: Attribute<'_>,
+) -> Result<(), AllocError>
+    ensures { OnOk result
+        (found.new.items
+        ≡ found.old.items ++ spec.related_fault place.entry.vectors.now place.entry.position (Some (shown text.entry))) }
+{
+    let words = related_words(alloc, text.text)?;
+    if any_fails(place, &words) {
+        found.push(text.at)?;
+    }
+    Ok(())
+}
+
+/// Adds the offset of the text that tells the related pins, if it has a name that cannot become a pin.
+fn add_last_related(
+    alloc: Global,
+    found: &mut Vec<usize>,
+    place: Place<'_>,
+    items: &[&Item],
+) -> Result<(), AllocError>
+    ensures { OnOk result
+        (found.new.items
+        ≡ found.old.items
+        ++ spec.related_fault place.entry.vectors.now place.entry.position (spec.related_text (map (λ item. item.now) items.now))) }
+{
+    match related_text(items) {
+        None => Ok(()),
+        Some(text) => add_related(alloc, found, place, text),
+    }
+}
+
+/// Adds the faults of a timing group.
+fn add_timing_faults(
+    alloc: Global,
+    found: &mut Vec<usize>,
+    place: Place<'_>,
+    group: &Group,
+) -> Result<(), AllocError>
+    ensures { OnOk result
+        (found.new.items ≡ found.old.items ++ spec.timing_faults place.entry.vectors.now place.entry.position group.now.items) }
+{
+    let items = all_items(alloc, group.items.as_slice())?;
+    add_timing_texts(alloc, found, place, &items)?;
+    add_last_related(alloc, found, place, &items)
+}
+
+/// Adds the faults of all timing groups of a pin.
+pub(crate) fn add_all_timing_faults(
+    alloc: Global,
+    found: &mut Vec<usize>,
+    place: Place<'_>,
+    items: &[&Item],
+) -> Result<(), AllocError>
+    ensures { OnOk result
+        (found.new.items
+        ≡ found.old.items
+        ++ flat_map (spec.timing_faults_in place.entry.vectors.now place.entry.position) (map (λ item. item.now) items.now)) }
+{
+    for item in items {
+        if let Item::Inner(group) = item {
+            if is_called(group, b"timing") {
+                add_timing_faults(alloc, found, place, group)?;
+            }
+        }
+    }
+    Ok(())
+}

@@ -1,0 +1,93 @@
+//! The states of single bits that a bank becomes.
+ghost use Rattle.std.specs.Prelude.{◌≡◌, ◌++◌, ◌∷◌, [], IfOk, OnOk, map};
+ghost use Rattle.bus_texts.specs.Vectors.{shown_bank, positions as positions_of};
+ghost use Rattle.bank_cells.specs.Expanded as spec;
+
+use crate::faults::Place;
+use crate::rewritten::state_items;
+use bus_texts::{Bank, Vector, is_called, member_name, positions};
+use liberty_groups::{Group, Item, Value, copy_bytes};
+use sqlite_items::Items;
+use std::alloc::{AllocError, Global};
+
+/// The name of the state groups that a bank becomes.
+fn state_name(alloc: Global, group: &Group) -> Result<Items<u8>, AllocError>
+    ensures { IfOk result (λ name. name ≡ spec.state_name group.now) }
+{
+    if is_called(group, b"ff_bank") {
+        copy_bytes(alloc, b"ff")
+    } else {
+        copy_bytes(alloc, b"latch")
+    }
+}
+
+/// The name of a variable's bit.
+fn variable(alloc: Global, name: &[u8], bit: u16) -> Result<Value, AllocError>
+    ensures { IfOk result (λ value. value ≡ spec.variable_value name.now bit) }
+{
+    let bytes = member_name(alloc, name, bit)?;
+    let quoted = true;
+    Ok(Value { bytes, quoted })
+}
+
+/// The variables of a bank's state.
+fn variables(alloc: Global, bank: Bank<'_>, bit: u16) -> Result<Items<Value>, AllocError>
+    ensures { IfOk result (λ values. values ≡ spec.variables_at (shown_bank bank.entry) bit) }
+{
+    let mut values = Items::new(alloc);
+    values.push(variable(alloc, bank.first, bit)?)?;
+    values.push(variable(alloc, bank.second, bit)?)?;
+    Ok(values)
+}
+
+/// The state of a bank at a position.
+fn bank_state(
+    alloc: Global,
+    vectors: &[Vector],
+    group: &Group,
+    bank: Bank<'_>,
+    bit: u16,
+) -> Result<Group, AllocError>
+    ensures { IfOk result (λ state. state ≡ spec.bank_state vectors.now group.now (shown_bank bank.entry) bit) }
+{
+    let position = Some(usize::from(bit));
+    Ok(Group {
+        name: state_name(alloc, group)?,
+        arguments: variables(alloc, bank, bit)?,
+        items: state_items(alloc, Place { vectors, position }, group)?,
+        at: group.at,
+    })
+}
+
+/// Adds the states of a bank at these positions.
+fn add_states(
+    alloc: Global,
+    found: &mut Items<Item>,
+    vectors: &[Vector],
+    group: &Group,
+    bank: Bank<'_>,
+    bits: &[u16],
+) -> Result<(), AllocError>
+    ensures { OnOk result (found.new ≡ found.old ++ map (spec.bank_item vectors.now group.now (shown_bank bank.entry)) bits.now) }
+{
+    for bit in bits {
+        found.push(Item::Inner(bank_state(alloc, vectors, group, bank, *bit)?))?;
+    }
+    Ok(())
+}
+
+/// Adds all states of a bank.
+pub(crate) fn add_bank(
+    alloc: Global,
+    found: &mut Items<Item>,
+    vectors: &[Vector],
+    group: &Group,
+    bank: Bank<'_>,
+) -> Result<(), AllocError>
+    ensures { OnOk result
+        (found.new
+        ≡ found.old ++ map (spec.bank_item vectors.now group.now (shown_bank bank.entry)) (positions_of bank.entry.width)) }
+{
+    let bits = positions(alloc, bank.width)?;
+    add_states(alloc, found, vectors, group, bank, bits.as_slice())
+}

@@ -1,0 +1,3 @@
+pub mod LoopLemmas
+pub mod PartLemmas
+pub mod RewrittenTexts

@@ -1,0 +1,18 @@
+//! Names of several bits in a Liberty cell, which buses, bundles and banks make, and the texts over them.
+#![tactic(auto)]
+
+mod bus_types;
+mod laws;
+mod numbers;
+mod parts;
+mod rewriting;
+mod vectors;
+
+pub use bus_types::{BusType, bus_type, type_of};
+pub use laws::{rewritten_symbols, rewritten_tree};
+pub use numbers::digits_number;
+pub use rewriting::{member_at, text_fails, text_for};
+pub use vectors::{
+    Bank, Vector, VectorKind, bank_of, bundle_members, cell_vectors, is_bank, is_called,
+    member_name, pin_vectors, positions, vector_named,
+};

@@ -1,0 +1,75 @@
+//! Copies of groups.
+ghost use Rattle.std.specs.Prelude.{◌≡◌, IfOk};
+
+use crate::tree::{Group, Item, Value};
+use sqlite_items::Items;
+use std::alloc::{AllocError, Global};
+
+/// A copy of some bytes. An `Err` comes only where memory is wanting.
+pub fn copy_bytes(alloc: Global, bytes: &[u8]) -> Result<Items<u8>, AllocError>
+    ensures { IfOk result (λ copy. copy ≡ bytes.now) }
+{
+    Ok(Items::from_slice(alloc, bytes)?)
+}
+
+/// A copy of some values. An `Err` comes only where memory is wanting.
+pub fn copy_values(alloc: Global, values: &[Value]) -> Result<Items<Value>, AllocError>
+    ensures { IfOk result (λ copy. copy ≡ values.now) }
+{
+    let mut copy = Items::new(alloc);
+    for value in values {
+        let bytes = copy_bytes(alloc, value.bytes.as_slice())?;
+        let quoted = value.quoted;
+        copy.push(Value { bytes, quoted })?;
+    }
+    Ok(copy)
+}
+
+/// A copy of a statement with all that stands in it. An `Err` comes only where memory is wanting.
+#[cycle(copying)]
+pub fn copy_item(alloc: Global, item: &Item) -> Result<Item, AllocError>
+    ensures { IfOk result (λ copy. copy ≡ item.now) }
+{
+    match item {
+        Item::Simple { name, value, at } => Ok(Item::Simple {
+            name: copy_bytes(alloc, name.as_slice())?,
+            value: copy_values(alloc, value.as_slice())?,
+            at: *at,
+        }),
+        Item::Complex {
+            name,
+            arguments,
+            at,
+        } => Ok(Item::Complex {
+            name: copy_bytes(alloc, name.as_slice())?,
+            arguments: copy_values(alloc, arguments.as_slice())?,
+            at: *at,
+        }),
+        Item::Inner(group) => Ok(Item::Inner(copy_group(alloc, group)?)),
+    }
+}
+
+/// Copies of statements, in order. An `Err` comes only where memory is wanting.
+#[cycle(copying)]
+pub fn copy_items(alloc: Global, items: &[Item]) -> Result<Items<Item>, AllocError>
+    ensures { IfOk result (λ copy. copy ≡ items.now) }
+{
+    let mut copy = Items::new(alloc);
+    for item in items {
+        copy.push(copy_item(alloc, item)?)?;
+    }
+    Ok(copy)
+}
+
+/// A copy of a group with all that stands in it. An `Err` comes only where memory is wanting.
+#[cycle(copying)]
+pub fn copy_group(alloc: Global, group: &Group) -> Result<Group, AllocError>
+    ensures { IfOk result (λ copy. copy ≡ group.now) }
+{
+    Ok(Group {
+        name: copy_bytes(alloc, group.name.as_slice())?,
+        arguments: copy_values(alloc, group.arguments.as_slice())?,
+        items: copy_items(alloc, group.items.as_slice())?,
+        at: group.at,
+    })
+}

@@ -7,3 +7,4 @@ pub mod ShapeLaws
 pub mod TableLaws
 pub mod VerdictLaws
 pub mod Gatings
+pub mod NetOrder

@@ -1,6 +1,7 @@
 pub mod Lists
 pub mod Terminals
 pub mod Shape
+pub mod ChangeInputs
 pub mod Tables
 pub mod Matches
 pub mod Verdict

@@ -4,15 +4,16 @@ ghost use Rattle.trit_cubes.specs.declared.trits.Trit.TheVariants as trit;
 ghost use Rattle.trit_cubes.specs.Resolution.{res};
 ghost use Rattle.bool_functions.specs.Tree.{name_bound};
 ghost use Rattle.bool_functions.specs.Support.{support_of};
-ghost use Rattle.cell_machine.specs.Machine.{insert, edge_value, without};
+ghost use Rattle.cell_machine.specs.Machine.{insert, edge_value, forced_at, without};
 ghost use Rattle.cell_machine.specs.Outputs.{condition_at};
 ghost use Rattle.cell_machine.specs.CellData.{data_of};
 ghost use Rattle.cell_machine.specs.CellTrace.{support_at, step_at, sources_at, output_value_at};
-ghost use Rattle.table_audit.specs.Tables.{AreSteps, cell_step};
+ghost use Rattle.table_audit.specs.Tables.{AreSteps, AreForces, cell_step, cell_forced};
 
-use crate::resolved::{point_of, resolved};
+use crate::net_rows::NetRows;
+use crate::resolved::{resolved, values_at};
 use bool_functions::Function;
-use cell_machine::{Cell, Few, Values, boolean_step, numbered_value, output_at};
+use cell_machine::{Cell, Few, Values, boolean_step, forced, numbered_value, output_at};
 use trit_cubes::{Trit, resolve};
 
 /// Adds more values at the end.
@@ -84,22 +85,6 @@ fn edge_value_at(cell: &Cell, group: usize, place: usize, point: &[bool]) -> Tri
     edge_value(cell, group, place, point)
 }
 
-/// The values of a group's step at changes of the pin at a place, by the numbers of the points, which have so many places.
-fn values_at_points(cell: &Cell, group: usize, place: usize, places: usize) -> Few<Trit, 1024>
-    requires group { group < length cell.now.groups }
-    requires place { place < length (support_at (data_of cell.now) group) }
-    requires places { places ≡ length (support_at (data_of cell.now) group) + 2 }
-    requires few { places ≤ 10 }
-    ensures { AreSteps (data_of cell.now) group place result }
-{
-    let mut values = Few::new(Trit::Unknown);
-    for number in 0..1u16 << places {
-        let point = point_of(number);
-        values.push(edge_value_at(cell, group, place, &point[..places]));
-    }
-    values
-}
-
 /// The values of a group's step at changes of the pin at a place, by the numbers of the points.
 pub(crate) fn edge_values(cell: &Cell, group: usize, place: usize) -> Few<Trit, 1024>
     requires group { group < length cell.now.groups }
@@ -107,7 +92,59 @@ pub(crate) fn edge_values(cell: &Cell, group: usize, place: usize) -> Few<Trit, 
     ensures { AreSteps (data_of cell.now) group place result }
 {
     let pins = cell.group(group).support.len();
-    values_at_points(cell, group, place, pins + 2)
+    values_at(
+        pins + 2,
+        &|point: &[bool]| { edge_value_at(cell, group, place, point) },
+    )
+}
+
+/// The value to which each change to this point and no change force the state of a group, else unknown.
+fn forced_at(cell: &Cell, group: usize, point: &[bool]) -> Trit
+    requires { group < length cell.now.groups }
+    ensures { length point.now ≡ length (support_at (data_of cell.now) group) → result ≡ forced_at (step_at (data_of cell.now) group) point.now }
+{
+    let pins = cell.group(group).support.len();
+    if point.len() != pins {
+        return Trit::Unknown;
+    }
+    forced_value(cell, group, point)
+}
+
+/// The value to which a point forces the state of a group.
+fn forced_value(cell: &Cell, group: usize, point: &[bool]) -> Trit
+    requires group { group < length cell.now.groups }
+    requires point { length point.now ≡ length (support_at (data_of cell.now) group) }
+    requires few { length point.now ≤ 8 }
+    ensures { result ≡ forced_at (step_at (data_of cell.now) group) point.now }
+{
+    let mut trits = [Trit::Unknown; 8];
+    for i in 0..point.len() {
+        trits[i] = Trit::from(point[i]);
+    }
+    forced(cell, group, &trits[..point.len()])
+}
+
+/// The values to which points of its pins force the state of a group, by the numbers of the points.
+pub(crate) fn forces(cell: &Cell, group: usize) -> Few<Trit, 1024>
+    requires { group < length cell.now.groups }
+    ensures { AreForces (data_of cell.now) group result }
+{
+    let pins = cell.group(group).support.len();
+    values_at(pins, &|point: &[bool]| { forced_at(cell, group, point) })
+}
+
+/// The value to which the pins force the state of a group.
+pub(crate) fn forced_by(cell: &Cell, group: usize, forces: &[Trit], values: &[Trit]) -> Trit
+    requires group { group < length cell.now.groups }
+    requires values { length values.now ≡ length (support_at (data_of cell.now) group) }
+    requires forces { AreForces (data_of cell.now) group forces.now }
+    ensures { result ≡ cell_forced (data_of cell.now) group values.now }
+{
+    let _few = cell.group(group).support.len();
+    resolve(
+        values,
+        &|number: u16| { numbered_value(forces, usize::from(number)) },
+    )
 }
 
 /// A change of the pin at a place of the support of a group.
@@ -121,6 +158,8 @@ pub(crate) struct PinChange<'a> {
     pub values: &'a [Trit],
     /// The values of the group's step at changes of this pin, by the numbers of the points.
     pub steps: &'a [Trit],
+    /// The rows of the instance that may match.
+    pub rows: &'a NetRows<'a>,
 }
 
 /// The places of a change: the value before and after of the pin that changes, the other pins and the state.

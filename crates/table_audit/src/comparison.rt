@@ -1,95 +1,64 @@
 //! The comparison of a module with a cell.
-ghost use Rattle.std.specs.Prelude.{◌≡◌, ◌+◌, flat_map, length};
-ghost use Rattle.std.specs.List.{range_with_len};
+ghost use Rattle.std.specs.Prelude.{◌≡◌, ◌<◌};
 ghost use Rattle.cell_machine.specs.CellData.{data_of};
 ghost use Rattle.specify_blocks.specs.Sound.{IsSound};
 ghost use Rattle.table_audit.specs.Matches.{HasShape};
-ghost use Rattle.table_audit.specs.Tables.{steps_compared, notes_compared, states_compared, checks_compared, paths_compared, all_conditions_compared, outputs_compared, compared, first_difference};
+ghost use Rattle.table_audit.specs.Tables.{compared_count, compared_at, part_compared, states_compared, all_conditions_compared, compared, first_difference};
 ghost use Rattle.table_audit.specs.Verdict.{by_tables, verdict_of};
 
 use crate::shape::first_amiss;
 use crate::states::GroupTables;
 use crate::terminals::has_notifier;
 use crate::values::{of_check, of_output, of_path};
-use crate::verdicts::{Difference, Verdict};
+use crate::verdicts::{AuditPart, Difference, Verdict};
 use cell_machine::Cell;
 use specify_blocks::VModule;
 
-/// The first difference of the states at changes of pins.
-#[tactic(auto, using(crate::proofs::Firsts::turn, crate::proofs::Firsts::done))]
-fn first_of_steps(cell: &Cell, model: &VModule) -> Option<Difference>
-    requires sound { IsSound model.now }
-    requires shape { HasShape (data_of cell.now) model.now }
-    ensures { result ≡ first_difference (flat_map (steps_compared (data_of cell.now) model.now) (range_with_len 0 (length cell.now.groups))) }
-{
-    for group in 0..cell.groups.len() {
-        let tables = GroupTables::of(cell, model, group);
-        if let Some(found) = tables.steps() {
-            return Some(found);
+impl AuditPart {
+    /// How many of this part a cell has.
+    fn count(self, cell: &Cell) -> usize
+        ensures { result ≡ compared_count (data_of cell.now) self }
+    {
+        match self {
+            AuditPart::State => cell.groups.len(),
+            AuditPart::Notifier => cell.groups.len(),
+            AuditPart::Check => cell.checks.len(),
+            AuditPart::Path => cell.arcs.len(),
+            AuditPart::Output => cell.outputs.len(),
         }
     }
-    None
-}
 
-/// The first difference of what the register of the checks makes of the states, where there is one.
-#[tactic(auto, using(crate::proofs::Firsts::turn, crate::proofs::Firsts::done))]
-fn first_of_notes(cell: &Cell, model: &VModule) -> Option<Difference>
-    requires sound { IsSound model.now }
-    requires shape { HasShape (data_of cell.now) model.now }
-    ensures { result ≡ first_difference (flat_map (notes_compared (data_of cell.now) model.now) (range_with_len 0 (length cell.now.groups))) }
-{
-    for group in 0..cell.groups.len() {
-        let tables = GroupTables::of(cell, model, group);
-        if let Some(found) = tables.notes() {
-            return Some(found);
+    /// The first difference of the one of this part that has this number, from 0.
+    fn first_at(self, cell: &Cell, model: &VModule, number: usize) -> Option<Difference>
+        requires sound { IsSound model.now }
+        requires shape { HasShape (data_of cell.now) model.now }
+        requires inside { number < compared_count (data_of cell.now) self }
+        ensures { result ≡ first_difference (compared_at (data_of cell.now) model.now self number) }
+    {
+        match self {
+            AuditPart::State => GroupTables::of(cell, model, number).steps(),
+            AuditPart::Notifier => GroupTables::of(cell, model, number).notes(),
+            AuditPart::Check => of_check(cell, model, number),
+            AuditPart::Path => of_path(cell, model, number),
+            AuditPart::Output => of_output(cell, model, number),
         }
     }
-    None
-}
 
-/// The first difference of the conditions of checks.
-#[tactic(auto, using(crate::proofs::Firsts::turn, crate::proofs::Firsts::done))]
-fn first_of_checks(cell: &Cell, model: &VModule) -> Option<Difference>
-    requires sound { IsSound model.now }
-    requires shape { HasShape (data_of cell.now) model.now }
-    ensures { result ≡ first_difference (flat_map (checks_compared (data_of cell.now) model.now) (range_with_len 0 (length cell.now.checks))) }
-{
-    for check in 0..cell.checks.len() {
-        if let Some(found) = of_check(cell, model, check) {
-            return Some(found);
+    /// The first difference of this part.
+    #[tactic(auto, using(crate::proofs::Firsts::turn, crate::proofs::Firsts::done))]
+    fn first(self, cell: &Cell, model: &VModule) -> Option<Difference>
+        requires sound { IsSound model.now }
+        requires shape { HasShape (data_of cell.now) model.now }
+        ensures { result ≡ first_difference (part_compared (data_of cell.now) model.now self) }
+    {
+        let count = self.count(cell);
+        for number in 0..count {
+            if let Some(found) = self.first_at(cell, model, number) {
+                return Some(found);
+            }
         }
+        None
     }
-    None
-}
-
-/// The first difference of the conditions of paths.
-#[tactic(auto, using(crate::proofs::Firsts::turn, crate::proofs::Firsts::done))]
-fn first_of_paths(cell: &Cell, model: &VModule) -> Option<Difference>
-    requires sound { IsSound model.now }
-    requires shape { HasShape (data_of cell.now) model.now }
-    ensures { result ≡ first_difference (flat_map (paths_compared (data_of cell.now) model.now) (range_with_len 0 (length cell.now.arcs))) }
-{
-    for arc in 0..cell.arcs.len() {
-        if let Some(found) = of_path(cell, model, arc) {
-            return Some(found);
-        }
-    }
-    None
-}
-
-/// The first difference of the outputs.
-#[tactic(auto, using(crate::proofs::Firsts::turn, crate::proofs::Firsts::done))]
-fn first_of_outputs(cell: &Cell, model: &VModule) -> Option<Difference>
-    requires sound { IsSound model.now }
-    requires shape { HasShape (data_of cell.now) model.now }
-    ensures { result ≡ first_difference (flat_map (outputs_compared (data_of cell.now) model.now) (range_with_len 0 (length cell.now.outputs))) }
-{
-    for output in 0..cell.outputs.len() {
-        if let Some(found) = of_output(cell, model, output) {
-            return Some(found);
-        }
-    }
-    None
 }
 
 /// The first difference of the states: at changes of pins, then at changes of the register of the checks, where there is one.
@@ -99,9 +68,9 @@ fn first_of_states(cell: &Cell, model: &VModule) -> Option<Difference>
     requires shape { HasShape (data_of cell.now) model.now }
     ensures { result ≡ first_difference (states_compared (data_of cell.now) model.now) }
 {
-    match first_of_steps(cell, model) {
+    match AuditPart::State.first(cell, model) {
         Some(found) => Some(found),
-        None if has_notifier(cell) => first_of_notes(cell, model),
+        None if has_notifier(cell) => AuditPart::Notifier.first(cell, model),
         None => None,
     }
 }
@@ -113,9 +82,9 @@ fn first_of_conditions(cell: &Cell, model: &VModule) -> Option<Difference>
     requires shape { HasShape (data_of cell.now) model.now }
     ensures { result ≡ first_difference (all_conditions_compared (data_of cell.now) model.now) }
 {
-    match first_of_checks(cell, model) {
+    match AuditPart::Check.first(cell, model) {
         Some(found) => Some(found),
-        None => first_of_paths(cell, model),
+        None => AuditPart::Path.first(cell, model),
     }
 }
 
@@ -131,7 +100,7 @@ fn first_of_tables(cell: &Cell, model: &VModule) -> Option<Difference>
     }
     match first_of_conditions(cell, model) {
         Some(found) => Some(found),
-        None => first_of_outputs(cell, model),
+        None => AuditPart::Output.first(cell, model),
     }
 }
 

@@ -7,6 +7,7 @@ mod comparison;
 mod laws;
 mod lists;
 mod model_tables;
+mod net_rows;
 mod resolved;
 mod shape;
 mod states;

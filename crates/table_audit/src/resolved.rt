@@ -3,8 +3,9 @@ ghost use Rattle.std.specs.Prelude.{◌≡◌, ◌≤◌, Bool, List, length};
 ghost use Rattle.std.specs.Fn.{FnReturnsAt};
 ghost use Rattle.trit_cubes.specs.declared.trits.Trit.{Trit};
 ghost use Rattle.trit_cubes.specs.Resolution.{res};
-ghost use Rattle.trit_cubes.specs.Sets.{Gives, point_of};
+ghost use Rattle.trit_cubes.specs.Sets.{Gives, AreValuesOf, point_of};
 
+use cell_machine::Few;
 use trit_cubes::{Trit, resolve};
 
 /// The point of ten places with this number, in which place i weighs 2 to the power i.
@@ -26,6 +27,19 @@ fn at_number<F: Fn(&[bool]) -> Trit>(function: &F, places: usize, number: u16) -
 {
     let point = point_of(number);
     function(&point[..places])
+}
+
+/// The values of a function of points at all points of so many places, by their numbers.
+pub(crate) fn values_at<F: Fn(&[bool]) -> Trit>(places: usize, function: &F) -> Few<Trit, 1024>
+    requires callable { F.IsAlwaysCallable function.now }
+    requires few { places ≤ 10 }
+    ensures { (f : List Bool → Trit) → Gives (λ p t. FnReturnsAt F.Fn function.now p t) places f → AreValuesOf places f result }
+{
+    let mut values = Few::new(Trit::Unknown);
+    for number in 0..1u16 << places {
+        values.push(at_number(function, places, number));
+    }
+    values
 }
 
 /// The value that a function of points gives on every filling of the places, else unknown.

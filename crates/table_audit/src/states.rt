@@ -3,18 +3,19 @@ ghost use Rattle.std.specs.Prelude.{◌≡◌, ◌<◌, ◌≤◌, [], ◌∷◌
 ghost use Rattle.cell_machine.specs.CellData.{data_of};
 ghost use Rattle.cell_machine.specs.CellTrace.{support_at};
 ghost use Rattle.udp_tables.specs.Sequential.{noted};
+ghost use Rattle.specify_blocks.specs.declared.model.VNet.TheVariants as net;
 ghost use Rattle.specify_blocks.specs.Sound.{IsSound};
 ghost use Rattle.table_audit.specs.Terminals.{group_nets};
 ghost use Rattle.table_audit.specs.Shape.{feeds_group};
-ghost use Rattle.table_audit.specs.Tables.{AreSteps, group_next, place_net, cell_step, model_step, cell_forced, note_after, notes, step_compared, steps_by_note, steps_by_state, steps_where_changed, steps_by_list, steps_by_old, steps_compared, note_compared, notes_by_list, notes_by_old, notes_compared, first_difference};
+ghost use Rattle.table_audit.specs.Tables.{AreSteps, AreForces, LooksUp, place_net, cell_step, model_step, cell_forced, note_after, notes, step_compared, steps_by_note, steps_by_state, steps_where_changed, steps_by_list, steps_by_old, steps_compared, note_compared, notes_by_list, notes_by_old, notes_compared, first_difference};
 ghost use Rattle.table_audit.specs.Lists.{trit_before};
 
-use crate::cell_values::{PinChange, add_trits, edge_values, step_value};
+use crate::cell_values::{PinChange, add_trits, edge_values, forced_by, forces, step_value};
 use crate::lists::{cube_of, list_count, list_numbered, trit_numbered};
-use crate::model_tables::{NetChange, next_by};
+use crate::net_rows::NetRows;
 use crate::terminals::{group_nets, has_notifier, pin_net, sequential_instance};
 use crate::verdicts::{AuditPart, Difference};
-use cell_machine::{Cell, Few, forced};
+use cell_machine::{Cell, Few};
 use specify_blocks::{VModule, VNet};
 use trit_cubes::Trit;
 
@@ -51,6 +52,17 @@ fn note_before(number: usize) -> Trit
         1 => Trit::Zero,
         _ => Trit::One,
     }
+}
+
+/// A change of the register of the checks.
+#[derive(Clone, Copy)]
+struct NoteChange<'a> {
+    /// The value before.
+    old: Trit,
+    /// The rows of the instance that may match.
+    rows: &'a NetRows<'a>,
+    /// The values to which points force the state of the group, by their numbers.
+    forces: &'a [Trit],
 }
 
 /// A state group of a cell, and the instance of a module that stands for it.
@@ -92,22 +104,16 @@ impl<'a> GroupTables<'a> {
         self.cell.group(self.group).support.len()
     }
 
-    /// The next state by the module at a change of one net, where the group's nets have these values after it.
-    fn next(&self, values: &[Trit], changed: VNet, old: Trit, state: Trit) -> Trit
+    /// The instance at changes of one net from one value.
+    fn rows_at(&self, changed: VNet, old: Trit) -> NetRows<'a>
         requires sound { IsSound self.now.model.now }
-        ensures { result ≡ group_next (data_of self.now.cell.now) self.now.model.now self.now.group values.now changed old state }
+        ensures { LooksUp (data_of self.now.cell.now) self.now.model.now self.now.group changed old result }
     {
-        let Some(instance) = sequential_instance(self.model, self.group) else {
-            return state;
+        let model = self.model;
+        let Some(instance) = sequential_instance(model, self.group) else {
+            return NetRows::none();
         };
-        let nets = self.nets.as_slice();
-        let change = NetChange {
-            nets,
-            values,
-            changed,
-            old,
-        };
-        next_by(self.model, instance, change, state)
+        NetRows::of(model, instance, self.nets.as_slice(), changed, old)
     }
 
     /// The port of the pin at a place of the support.
@@ -120,16 +126,15 @@ impl<'a> GroupTables<'a> {
     }
 
     /// The next state by the module at a change of a pin.
+    #[tactic(auto, using(crate::proofs::NetOrder::noted_few))]
     fn model_step(&self, change: PinChange<'_>, note: Trit, state: Trit) -> Trit
-        requires sound { IsSound self.now.model.now }
-        requires place { change.place < length change.values.now }
+        requires rows { LooksUp (data_of self.now.cell.now) self.now.model.now self.now.group (place_net (data_of self.now.cell.now) self.now.group change.place) change.old change.rows.now }
         requires values { length change.values.now ≡ length (support_at (data_of self.now.cell.now) self.now.group) }
         ensures { result ≡ model_step (data_of self.now.cell.now) self.now.model.now self.now.group change.entry.place change.entry.old change.entry.values.now note state }
     {
         let _few = self.pins();
-        let changed = self.place_net(change.place);
         let values = noted(has_notifier(self.cell), note, change.values);
-        self.next(values.as_slice(), changed, change.old, state)
+        change.rows.next(values.as_slice(), state)
     }
 
     /// The difference at a change of a pin, where there is one; the cell gives `of_cell`.
@@ -140,7 +145,7 @@ impl<'a> GroupTables<'a> {
         note: Option<Trit>,
         of_cell: Trit,
     ) -> Option<Difference>
-        requires sound { IsSound self.now.model.now }
+        requires rows { LooksUp (data_of self.now.cell.now) self.now.model.now self.now.group (place_net (data_of self.now.cell.now) self.now.group change.place) change.old change.rows.now }
         requires place { change.place < length change.values.now }
         requires values { length change.values.now ≡ length (support_at (data_of self.now.cell.now) self.now.group) }
         requires of_cell { of_cell ≡ cell_step (data_of self.now.cell.now) self.now.group change.place change.old change.values.now state }
@@ -163,7 +168,7 @@ impl<'a> GroupTables<'a> {
 
     /// The first difference at a change of a pin from one state, over the values of the register.
     fn over_notes(&self, change: PinChange<'_>, state: Trit) -> Option<Difference>
-        requires sound { IsSound self.now.model.now }
+        requires rows { LooksUp (data_of self.now.cell.now) self.now.model.now self.now.group (place_net (data_of self.now.cell.now) self.now.group change.place) change.old change.rows.now }
         requires place { change.place < length change.values.now }
         requires values { length change.values.now ≡ length (support_at (data_of self.now.cell.now) self.now.group) }
         requires steps { AreSteps (data_of self.now.cell.now) self.now.group change.place change.steps.now }
@@ -185,7 +190,7 @@ impl<'a> GroupTables<'a> {
         state: Trit,
         of_cell: Trit,
     ) -> Option<Difference>
-        requires sound { IsSound self.now.model.now }
+        requires rows { LooksUp (data_of self.now.cell.now) self.now.model.now self.now.group (place_net (data_of self.now.cell.now) self.now.group change.place) change.old change.rows.now }
         requires place { change.place < length change.values.now }
         requires values { length change.values.now ≡ length (support_at (data_of self.now.cell.now) self.now.group) }
         requires of_cell { of_cell ≡ cell_step (data_of self.now.cell.now) self.now.group change.place change.old change.values.now state }
@@ -203,7 +208,7 @@ impl<'a> GroupTables<'a> {
     /// The first difference at a change of a pin, over the states.
     #[tactic(auto, using(crate::proofs::Firsts::turn, crate::proofs::Firsts::done))]
     fn over_states(&self, change: PinChange<'_>) -> Option<Difference>
-        requires sound { IsSound self.now.model.now }
+        requires rows { LooksUp (data_of self.now.cell.now) self.now.model.now self.now.group (place_net (data_of self.now.cell.now) self.now.group change.place) change.old change.rows.now }
         requires place { change.place < length change.values.now }
         requires values { length change.values.now ≡ length (support_at (data_of self.now.cell.now) self.now.group) }
         requires steps { AreSteps (data_of self.now.cell.now) self.now.group change.place change.steps.now }
@@ -219,7 +224,7 @@ impl<'a> GroupTables<'a> {
 
     /// The same, but none where the pin has the value that it had.
     fn where_changed(&self, change: PinChange<'_>) -> Option<Difference>
-        requires sound { IsSound self.now.model.now }
+        requires rows { LooksUp (data_of self.now.cell.now) self.now.model.now self.now.group (place_net (data_of self.now.cell.now) self.now.group change.place) change.old change.rows.now }
         requires place { change.place < length change.values.now }
         requires values { length change.values.now ≡ length (support_at (data_of self.now.cell.now) self.now.group) }
         requires steps { AreSteps (data_of self.now.cell.now) self.now.group change.place change.steps.now }
@@ -242,6 +247,7 @@ impl<'a> GroupTables<'a> {
         ensures { result ≡ first_difference (steps_by_list (data_of self.now.cell.now) self.now.model.now self.now.group place old) }
     {
         let pins = self.pins();
+        let rows = self.rows_at(self.place_net(place), old);
         let count = list_count(pins);
         for k in 0..count {
             let list = list_numbered(pins, k);
@@ -251,6 +257,7 @@ impl<'a> GroupTables<'a> {
                 old,
                 values,
                 steps,
+                rows: &rows,
             };
             if let Some(found) = self.where_changed(change) {
                 return Some(found);
@@ -292,45 +299,47 @@ impl<'a> GroupTables<'a> {
     }
 
     /// The difference at a change of the register, where there is one; the cell gives `of_cell`.
+    #[tactic(auto, using(crate::proofs::NetOrder::noted_few))]
     fn note_difference(
         &self,
-        old: Trit,
+        change: NoteChange<'_>,
         values: &[Trit],
         state: Trit,
         of_cell: Trit,
     ) -> Option<Difference>
-        requires sound { IsSound self.now.model.now }
+        requires rows { LooksUp (data_of self.now.cell.now) self.now.model.now self.now.group net.Notifier change.old change.rows.now }
         requires values { length values.now ≡ length (support_at (data_of self.now.cell.now) self.now.group) }
         requires of_cell { of_cell ≡ cell_forced (data_of self.now.cell.now) self.now.group values.now }
-        ensures { result ≡ first_difference (note_compared (data_of self.now.cell.now) self.now.model.now self.now.group old values.now state ∷ []) }
+        ensures { result ≡ first_difference (note_compared (data_of self.now.cell.now) self.now.model.now self.now.group change.entry.old values.now state ∷ []) }
     {
         let _few = self.pins();
-        let note = note_after(old);
+        let note = note_after(change.old);
         let nets = noted(true, note, values);
         let difference = Difference {
             part: AuditPart::Notifier,
             number: self.group + 1,
             places: cube_of(values),
             changed: None,
-            old: Some(old),
+            old: Some(change.old),
             state: Some(state),
             notifier: Some(note),
             of_cell,
-            of_model: self.next(nets.as_slice(), VNet::Notifier, old, state),
+            of_model: change.rows.next(nets.as_slice(), state),
         };
         difference.found()
     }
 
     /// The first difference at a change of the register, over the states.
     #[tactic(auto, using(crate::proofs::Firsts::turn, crate::proofs::Firsts::done))]
-    fn notes_by_list(&self, old: Trit, values: &[Trit]) -> Option<Difference>
-        requires sound { IsSound self.now.model.now }
+    fn notes_by_list(&self, change: NoteChange<'_>, values: &[Trit]) -> Option<Difference>
+        requires rows { LooksUp (data_of self.now.cell.now) self.now.model.now self.now.group net.Notifier change.old change.rows.now }
+        requires forces { AreForces (data_of self.now.cell.now) self.now.group change.forces.now }
         requires values { length values.now ≡ length (support_at (data_of self.now.cell.now) self.now.group) }
-        ensures { result ≡ first_difference (notes_by_list (data_of self.now.cell.now) self.now.model.now self.now.group old values.now) }
+        ensures { result ≡ first_difference (notes_by_list (data_of self.now.cell.now) self.now.model.now self.now.group change.entry.old values.now) }
     {
-        let of_cell = forced(self.cell, self.group, values);
+        let of_cell = forced_by(self.cell, self.group, change.forces, values);
         for k in 0..3 {
-            if let Some(found) = self.note_difference(old, values, trit_numbered(k), of_cell) {
+            if let Some(found) = self.note_difference(change, values, trit_numbered(k), of_cell) {
                 return Some(found);
             }
         }
@@ -339,15 +348,22 @@ impl<'a> GroupTables<'a> {
 
     /// The first difference at a change of the register from one value, over the values of the pins.
     #[tactic(auto, using(crate::proofs::Firsts::turn, crate::proofs::Firsts::done))]
-    fn notes_by_old(&self, old: Trit) -> Option<Difference>
+    fn notes_by_old(&self, old: Trit, forces: &[Trit]) -> Option<Difference>
         requires sound { IsSound self.now.model.now }
+        requires forces { AreForces (data_of self.now.cell.now) self.now.group forces.now }
         ensures { result ≡ first_difference (notes_by_old (data_of self.now.cell.now) self.now.model.now self.now.group old) }
     {
         let pins = self.pins();
+        let rows = self.rows_at(VNet::Notifier, old);
+        let change = NoteChange {
+            old,
+            rows: &rows,
+            forces,
+        };
         let count = list_count(pins);
         for k in 0..count {
             let list = list_numbered(pins, k);
-            if let Some(found) = self.notes_by_list(old, list.as_slice()) {
+            if let Some(found) = self.notes_by_list(change, list.as_slice()) {
                 return Some(found);
             }
         }
@@ -360,8 +376,10 @@ impl<'a> GroupTables<'a> {
         requires sound { IsSound self.now.model.now }
         ensures { result ≡ first_difference (notes_compared (data_of self.now.cell.now) self.now.model.now self.now.group) }
     {
+        let table = forces(self.cell, self.group);
+        let forces = table.as_slice();
         for k in 0..3 {
-            if let Some(found) = self.notes_by_old(note_before(k)) {
+            if let Some(found) = self.notes_by_old(note_before(k), forces) {
                 return Some(found);
             }
         }

@@ -44,16 +44,16 @@ use Rattle.model_simulation.proofs.OwnNames.{modules_apart, entities_apart}
 use Rattle.translate_cmd.proofs.ReadBack.{libraries-read-back}
 
 -- the cells that are kept of a library
-abbrev cells_of : List ℕ → List CellEntry
+abbrev pub cells_of : List ℕ → List CellEntry
 cells_of library = kept_cells no_progress (items_within library_limit library)
 
-modules_are : (library : List ℕ) → modules_of (cells_of library) ≡ modules_in library
+pub modules_are : (library : List ℕ) → modules_of (cells_of library) ≡ modules_in library
 modules_are library = kept_modules (items_within library_limit library) no_progress
 
 entities_are : (library : List ℕ) → entities_of (cells_of library) ≡ entities_in library
 entities_are library = kept_entities (items_within library_limit library) no_progress [] (λ name. refl)
 
-own_models : (library : List ℕ) → HaveOwnModels (cells_of library)
+pub own_models : (library : List ℕ) → HaveOwnModels (cells_of library)
 own_models library = record {
   modules = rw (modules_are library) (modules_apart (modules_in library) (modules-well-formed library));
   entities = rw (entities_are library) (entities_apart (entities_in library) (entities-well-formed library));
@@ -80,10 +80,10 @@ stopped : (library stimulus : List ℕ) (binds : ℕ) (stop : FileStop) → stop
 stopped library stimulus binds stop f g h = record { not_model = f; not_differ = g; done = λ e. absurd (h e) }
 
 -- a file of models is read as these, or is too long
-abbrev IsReadAs : {T : Type 0} → T → Result T FileStop → Type 0
+abbrev pub IsReadAs : {T : Type 0} → T → Result T FileStop → Type 0
 IsReadAs value answer = (answer ≡ Ok value) ⊎ ((stop : FileStop) × (answer ≡ Err stop) × (stop.status ≡ status.TooLong))
 
-read_as : {M : Type 0} (l : Language M) (text : List ℕ) (models : List M) → l.text text ≡ Ok models → IsReadAs models (model_answer l text)
+pub read_as : {M : Type 0} (l : Language M) (text : List ℕ) (models : List M) → l.text text ≡ Ok models → IsReadAs models (model_answer l text)
 unfolding model_answer
 read_as {M = M} l text models e = by (nat_lt model_limit (length text))
   where

@@ -13,3 +13,4 @@ pub mod OwnEnds
 pub mod AgreementRuns
 pub mod Audits
 pub mod AuditRuns
+pub mod OwnAudits

@@ -1,5 +1,5 @@
 -- What a line `same` of a comparison of a library with a Verilog file promises. This project's promise.
-use Rattle.std.specs.Prelude.{◌≡◌, List, [], ℕ, All, Some, Ok}
+use Rattle.std.specs.Prelude.{◌≡◌, ◌≢◌, List, [], ℕ, All, Some, Ok}
 use Rattle.cell_machine.specs.declared.changes.Change.{Change}
 use Rattle.cell_machine.specs.CellData.{CellData}
 use Rattle.cell_machine.specs.History.{IsProper, IsProperFrom}
@@ -9,8 +9,10 @@ use Rattle.model_traces.specs.ModuleRun.{run_after}
 use Rattle.model_traces.specs.ModuleTrace.{module_trace}
 use Rattle.model_traces.specs.SequentialStates.{sequential_states}
 use Rattle.library_items.specs.LibraryCells.{CellEntry, Accepted, Refused}
-use Rattle.command_outcomes.specs.declared.status.Status.TheVariants.{Done}
+use Rattle.command_outcomes.specs.declared.status.Status.TheVariants as status
+use Rattle.command_outcomes.specs.Outcome.{Outcome}
 use Rattle.library_file.specs.LibraryAnswer.{library_answer}
+use Rattle.library_translation.specs.Library.{translate_outcome}
 use Rattle.model_files.specs.ModelAnswer.{model_answer}
 use Rattle.model_languages.specs.Verilog.{verilog}
 use Rattle.library_audit.specs.Audits.{module_for, audit_text}
@@ -55,8 +57,31 @@ pub record AuditIsTrue (library text : List ℕ) : Type 0 where
   pub lines :
       (cells : List CellEntry) (modules : List VModule)
       → library_answer library ≡ Ok cells → model_answer verilog text ≡ Ok modules → All (AgreesWhereSame modules) cells
-  pub done : (audit_outcome library text).status ≡ Done → AllAgree library text
+  pub done : (audit_outcome library text).status ≡ status.Done → AllAgree library text
 
 -- So it is for the bytes of every library and of every Verilog file.
 abbrev pub AuditedCellsAgree : Type 0
 AuditedCellsAgree = (library text : List ℕ) → AuditIsTrue library text
+
+-- what comparing a library with the Verilog that translating it writes comes to
+abbrev pub own_audit : List ℕ → Outcome
+own_audit library = audit_outcome library (translate_outcome library).text.verilog
+
+-- the line of a cell, where it is accepted, says that its module is the same
+abbrev pub IsSameOrIsRefused : List VModule → CellEntry → Type 0
+IsSameOrIsRefused modules (Accepted cell entity) = audit_text modules (Accepted cell entity) ≡ same_line cell.number cell.name
+IsSameOrIsRefused modules (Refused name refusal) = Unit {0}
+
+-- A library compared with that Verilog ends neither for want of a module nor with one that differs. Where both are read, the line of
+-- each accepted cell says that its module is the same.
+pub record AuditsWell (library : List ℕ) : Type 0 where
+  pub not_model : (own_audit library).status ≢ status.Model
+  pub not_differ : (own_audit library).status ≢ status.Differ
+  pub lines :
+      (cells : List CellEntry) (modules : List VModule)
+      → library_answer library ≡ Ok cells → model_answer verilog (translate_outcome library).text.verilog ≡ Ok modules
+      → All (IsSameOrIsRefused modules) cells
+
+-- So it is for every library.
+abbrev pub OwnModulesAuditWell : Type 0
+OwnModulesAuditWell = (library : List ℕ) → AuditsWell library

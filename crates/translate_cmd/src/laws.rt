@@ -2,9 +2,9 @@
 
 ghost use Rattle.translate_cmd.specs.TranslatedLaws.{ModulesAreWellFormed, EntitiesAreWellFormed, VerilogIsOfModules, VitalIsOfEntities, LibrariesReadBack};
 ghost use Rattle.translate_cmd.specs.Agreement.{OwnModelsAgree};
-ghost use Rattle.translate_cmd.specs.Audits.{AuditedCellsAgree};
+ghost use Rattle.translate_cmd.specs.Audits.{AuditedCellsAgree, OwnModulesAuditWell};
 
-use audited_modules::matching_modules_fit;
+use audited_modules::{generated_modules_match, matching_modules_fit};
 use library_audit::{done_is_match, same_line_is_match};
 use model_traces::fitting_modules_agree;
 
@@ -53,6 +53,16 @@ pub fn audited_cells_agree()
 {
     matching_modules_fit();
     fitting_modules_agree();
+    same_line_is_match();
+    done_is_match();
+}
+
+/// Whatever a library is, comparing it with the Verilog that translating it writes ends neither for want of a module nor with one
+/// that differs. Where both are read, the line of each accepted cell says that its module is the same.
+pub fn own_modules_audit_well()
+    ensures { OwnModulesAuditWell }
+{
+    generated_modules_match();
     same_line_is_match();
     done_is_match();
 }

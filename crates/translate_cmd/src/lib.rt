@@ -9,5 +9,5 @@ pub use command::{run, run_gated, run_sure};
 pub use command_outcomes::Status;
 pub use laws::{
     audited_cells_agree, entities_are_well_formed, libraries_read_back, modules_are_well_formed,
-    own_models_agree, verilog_is_of_modules, vital_is_of_entities,
+    own_models_agree, own_modules_audit_well, verilog_is_of_modules, vital_is_of_entities,
 };

@@ -22,7 +22,7 @@ fn same(one: Trit, other: Trit) -> bool
 
 impl Entry {
     /// Whether the entry matches an input that goes from this value to that one, or keeps its value.
-    pub(crate) fn matches(self, old: Trit, new: Trit) -> bool
+    pub fn matches(self, old: Trit, new: Trit) -> bool
         ensures { result ≡ entry_matches self old new }
     {
         match self {
@@ -45,7 +45,7 @@ impl Entry {
     }
 
     /// Whether the entry is a level, and no change.
-    pub(crate) fn is_level(self) -> bool
+    pub fn is_level(self) -> bool
         ensures { result ≡ is_level self }
     {
         match self {
@@ -77,7 +77,7 @@ impl Level {
 
 impl Next {
     /// What a row gives in this state.
-    pub(crate) fn after(self, state: Trit) -> Trit
+    pub fn after(self, state: Trit) -> Trit
         ensures { result ≡ next_of state self }
     {
         match self {

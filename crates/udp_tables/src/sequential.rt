@@ -101,7 +101,7 @@ struct Seen<'a> {
 
 impl UdpRow {
     /// Whether the row has no change entry.
-    pub(crate) fn is_level(&self) -> bool
+    pub fn is_level(&self) -> bool
         ensures { result ≡ is_level_row self.now }
     {
         all_levels(self.inputs.as_slice())

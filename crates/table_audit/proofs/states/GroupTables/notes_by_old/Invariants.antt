@@ -8,5 +8,5 @@ use Rattle.table_audit.proofs.states.GroupTables.notes_by_old.Given as goal
 -- the first one is among the rest
 abbrev pub invariant-loop-k : goal.invariant-loop-k
 invariant-loop-k l =
-    first_difference (flat_map (λ k. notes_by_list (data_of l.self.cell.now) l.self.model.now l.self.group l.old (list_numbered l.pins k)) (range_with_len l.k (l.count - l.k)))
-    ≡ first_difference (notes_by_old (data_of l.self.cell.now) l.self.model.now l.self.group l.old)
+    first_difference (flat_map (λ k. notes_by_list (data_of l.self.cell.now) l.self.model.now l.self.group l.change.old (list_numbered l.pins k)) (range_with_len l.k (l.count - l.k)))
+    ≡ first_difference (notes_by_old (data_of l.self.cell.now) l.self.model.now l.self.group l.change.old)

@@ -1,0 +1,77 @@
+-- Values by where the nets of one list stand among those of another.
+use Rattle.std.proofs.Common.{◌≡◌, ℕ, zero, suc, ◌≤◌, Bool, true, false, List, [], ◌∷◌, map, length, Option, None, Some, unwrap_or, position, slice_get, slice_set, slice_index_or, refl, sym, ◌∙◌, ap, arith}
+use Rattle.std.specs.Option.{option_map_or}
+use Rattle.std.proofs.lemmas.List.{length-append}
+use Rattle.trit_cubes.specs.declared.trits.Trit.{Trit}
+use Rattle.trit_cubes.specs.declared.trits.Trit.TheVariants.{Unknown}
+use Rattle.cell_machine.specs.Inputs.{numbered_value}
+use Rattle.udp_tables.specs.declared.table.Udp.{Udp}
+use Rattle.udp_tables.specs.Sequential.{udp_next, noted}
+use Rattle.row_selection.specs.declared.change_rows.ChangeRows.{ChangeRows}
+use Rattle.specify_blocks.specs.declared.model.VNet.{VNet}
+use Rattle.specify_blocks.specs.declared.model.Instance.TheVariants as instance
+use Rattle.specify_blocks.specs.declared.model.VModule.{VModule}
+use Rattle.specify_blocks.specs.Nets.{same_net}
+use Rattle.table_audit.specs.Tables.{arranged, order_of, next_at, rows_next, GivesNext}
+
+-- behind its end a list has no value
+past : (xs : List Trit) (k : ℕ) → length xs ≤ k → slice_index_or xs k Unknown ≡ Unknown
+past [] zero h = refl
+past [] (suc k) h = refl
+past (x ∷ xs) zero h = absurd (omega arith)
+past (x ∷ xs) (suc k) h = past xs k (omega arith)
+
+-- the value of one net
+at-place :
+    (values : List Trit) (o : Option ℕ) → length values ≤ 10
+    → numbered_value values (unwrap_or o 10) ≡ option_map_or (λ k. slice_index_or values k Unknown) o Unknown
+at-place values None h = past values 10 h
+at-place values (Some k) h = refl
+
+pub in_order :
+    (nets inputs : List VNet) (values : List Trit)
+    → length values ≤ 10 → map (numbered_value values) (order_of nets inputs) ≡ arranged nets values inputs
+in_order nets [] values h = refl
+in_order nets (n ∷ inputs) values h = λ i. at-place values (position (same_net n) nets) h i ∷ in_order nets inputs values h i
+
+-- the values of a support and of the register are at most ten
+pub noted_few : (b : Bool) (note : Trit) (values : List Trit) → length values ≤ 8 → length (noted b note values) ≤ 10
+noted_few false note values h = omega (arith, h)
+noted_few true note values h = omega (arith, h, length-append values (note ∷ []))
+
+-- Rows of an instance: none where it is a constant, where it has no primitive, and where the net is none of its inputs.
+pub constant-stays : (m : VModule) (changed : VNet) (old : Trit) (output : VNet) (one : Bool) → GivesNext m changed old (instance.Constant output one) None
+constant-stays m changed old output one = record { next_is = λ nets values s. refl }
+
+pub unknown-stays :
+    (m : VModule) (changed : VNet) (old : Trit) (number : ℕ) (output : VNet) (inputs : List VNet)
+    → slice_get m.udps number ≡ None → GivesNext m changed old (instance.Primitive number output inputs) None
+unknown-stays m changed old number output inputs e = record {
+  next_is = λ nets values s.
+      sym (ap (λ o. option_map_or (λ (udp : Udp). next_at (position (same_net changed) inputs) udp (arranged nets values inputs) old s) o s) e);
+}
+
+same-stays : (o : Option Udp) (s : Trit) → option_map_or (λ (udp : Udp). s) o s ≡ s
+same-stays None s = refl
+same-stays (Some udp) s = refl
+
+pub other-stays :
+    (m : VModule) (changed : VNet) (old : Trit) (number : ℕ) (output : VNet) (inputs : List VNet)
+    → position (same_net changed) inputs ≡ None → GivesNext m changed old (instance.Primitive number output inputs) None
+other-stays m changed old number output inputs e = record {
+  next_is = λ nets values s.
+      sym
+      (ap (λ place. option_map_or (λ (udp : Udp). next_at place udp (arranged nets values inputs) old s) (slice_get m.udps number) s) e
+      ∙ same-stays (slice_get m.udps number) s);
+}
+
+pub input-goes :
+    (m : VModule) (changed : VNet) (old : Trit) (number : ℕ) (output : VNet) (inputs : List VNet) (udp : Udp) (place : ℕ) (r : ChangeRows)
+    → slice_get m.udps number ≡ Some udp → position (same_net changed) inputs ≡ Some place
+    → r.udp.now ≡ udp → r.place ≡ place → r.old ≡ old → GivesNext m changed old (instance.Primitive number output inputs) (Some r)
+input-goes m changed old number output inputs udp place r e f u p o = record {
+  next_is = λ nets values s.
+      let ts = arranged nets values inputs in
+      (λ i. udp_next (u i).rows (slice_set ts (p i) (o i)) ts s)
+      ∙ sym (λ i. option_map_or (λ (udp : Udp). next_at (f i) udp ts old s) (e i) s);
+}

@@ -1,5 +1,5 @@
 -- Names that are looked up by what they are folded to.
-use Rattle.std.proofs.Common.{◌≡◌, ℕ, Bool, true, false, ◌||◌, List, [], ◌∷◌, ◌++◌, map, Option, Some, None, refl, sym, ap, subst, ◌∙◌}
+use Rattle.std.proofs.Common.{◌≡◌, ℕ, Bool, true, false, ◌||◌, List, [], ◌∷◌, ◌++◌, map, Option, Some, None, refl, sym, ap, ◌∙◌}
 use Rattle.std.specs.List.{list_any, position, position_from}
 use Rattle.std.specs.Option.{is_some, option_and_then}
 use Rattle.std.specs.Str.{bytes_eq}
@@ -10,7 +10,7 @@ use Rattle.bool_functions.specs.NameList.{number_of, Adds}
 use Rattle.bool_functions.proofs.NameLists.{list_any-map, position-none, position-some}
 use Rattle.rule_readers.proofs.Tests.{there, not_there}
 use Rattle.rule_readers.specs.Words.{is_among}
-use Rattle.driver_models.specs.Cores.{Core, HaveSame, core_number, ports_at, core_ports}
+use Rattle.driver_models.specs.Cores.{Core, HaveSame, ports_at, core_ports}
 
 -- there is a place where the test holds exactly where it holds of one
 some_position : {X : Type 0} (p : X → Bool) (xs : List X) → is_some (position p xs) ≡ list_any p xs

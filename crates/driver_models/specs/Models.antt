@@ -1,10 +1,9 @@
 -- Models of drivers. (IEEE 1364-2005, 7.4, three-state gates; IEEE 1076.4-2000, VitalBUFIF1; that a driver is a model of its own is
 -- this project's form.)
-use Rattle.std.specs.Prelude.{◌≡◌, ℕ, ◌++◌, Bool, not, ◌&&◌, nat_eq, List, [], ◌∷◌, length, map, count_by, replicate, true, false}
+use Rattle.std.specs.Prelude.{◌≡◌, ℕ, ◌++◌, Bool, not, ◌&&◌, nat_eq, List, [], ◌∷◌, length, map, count_by, replicate, false}
 use Rattle.std.specs.List.{list_all}
 use Rattle.std.specs.Bool.{beq}
 use Rattle.udp_tables.specs.declared.models.VPort.{VPort}
-use Rattle.driven_traces.specs.declared.drivers.Driver.{Driver}
 use Rattle.driven_traces.specs.Drivers as drivers
 use Rattle.driver_models.specs.declared.model.DriverModel.{DriverModel}
 

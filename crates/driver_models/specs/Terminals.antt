@@ -3,7 +3,7 @@
 -- 4.3.2.2, positional association.)
 use Rattle.std.specs.Prelude.{ℕ, zero, suc, ◌+◌, Bool, true, false, nat_eq, if◌then◌else◌, List, [], ◌∷◌, ◌++◌, length, Option, Some, None, codes}
 use Rattle.grammar_rules.specs.Rule as r
-use Rattle.rule_readers.specs.Words.{Grammar, ◌>>=◌, expect, known, this_name, is_among}
+use Rattle.rule_readers.specs.Words.{Grammar, ◌>>=◌, expect, begins, known, this_name, is_among}
 use Rattle.udp_tables.specs.declared.models.VPort.{VPort}
 use Rattle.driver_models.specs.declared.terminals.Terminals.{Terminals}
 use Rattle.driver_models.specs.Wires.{numbered}
@@ -72,9 +72,14 @@ module _ (is_name : List ℕ → Bool) (is_same : List ℕ → List ℕ → Bool
   more_enables ready number (suc n) =
       expect is_same (codes ",") >>= λ _. this_name is_name is_same (enable_name ready number) >>= λ _. more_enables ready (number + 1) n
 
+  -- no further terminal: behind a "," no name is known
+  unfoldable pub no_terminal : Grammar (Unit {0})
+  no_terminal = r.Choice (begins is_same (codes ",")) (λ _. this_name is_name is_same None) (r.Gives tt)
+
   -- the terminals of a core with these ports: the places among its outputs that are driven
   unfoldable pub core_terminals : List VPort → Grammar (List ℕ)
   core_terminals ports = do
     found ← port_terminals ports
     _ ← more_enables (nat_eq (length found.drives) count) 1 count
+    _ ← no_terminal
     r.Gives found.drives

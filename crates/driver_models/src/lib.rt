@@ -5,6 +5,7 @@
 mod cores;
 mod known_names;
 mod language;
+mod laws;
 mod model;
 mod path_ends;
 mod terminals;
@@ -13,6 +14,7 @@ mod wires;
 pub use cores::{Core, Cores, core_name};
 pub use known_names::KnownNames;
 pub use language::DriverLanguage;
+pub use laws::core_ports_are_decided;
 pub use model::DriverModel;
 pub use path_ends::{path_from, path_to};
 pub use terminals::core_terminals;

@@ -1,6 +1,5 @@
 //! The terminals of the instance of a core.
-ghost use Rattle.std.specs.Prelude.{◌≡◌, length, true, IfOk, IfErr};
-ghost use Rattle.rule_readers.specs.Next.{next_bytes, is_next_name};
+ghost use Rattle.std.specs.Prelude.{◌≡◌, true, IfOk};
 ghost use Rattle.rule_readers.specs.Reading.{read, Reads};
 ghost use Rattle.rule_readers.specs.Words.{this_name, known};
 ghost use Rattle.driver_models.specs.Terminals as spec;
@@ -194,6 +193,18 @@ impl<L: DriverLanguage> Wired<L> {
         }
         Ok(())
     }
+
+    /// No further terminal.
+    #[tactic(auto, using(rule_readers::proofs::Repeats::choose_begun, rule_readers::proofs::Repeats::choose_other), unfolding(crate::specs::Terminals::no_terminal))]
+    fn no_terminal(&self, cursor: &mut Cursor<'_, L>) -> Read<()>
+        ensures { Reads (read (spec.no_terminal L.is_name L.is_same L.value L.enable self.now.count) cursor.old) result cursor.new }
+    {
+        if !cursor.is_next(b",") {
+            return Ok(());
+        }
+        cursor.skip();
+        Err(Stop::Refused(cursor.no_name()))
+    }
 }
 
 /// The terminals of a core, behind "(", by the ports of its driver and the number of wires to inputs of buffers, each of which stands
@@ -210,5 +221,6 @@ pub fn core_terminals<L: DriverLanguage>(
     let wired = Wired::<L>::new(alloc, count)?;
     let Terminals { drives, .. } = wired.port_terminals(cursor, ports)?;
     wired.enables(cursor, drives.len() == count)?;
+    wired.no_terminal(cursor)?;
     Ok(drives)
 }

@@ -1,5 +1,4 @@
-mod CursorPlaces
-mod NumberedNames
-mod NumberedPorts
+mod SectionReads
 pub mod SoundDrivers
+pub mod StandingDrivers
 mod TextExamples

@@ -1,7 +1,7 @@
 -- The grammar of a section of Verilog text that holds a driver: a module of a cell with an instance of its core and a buffer at each
 -- driven output. (IEEE 1364-2005, 7.4, three-state gates, 12.1 and 12.3, modules, their instances and ports, 14.2, paths, and 19.1,
 -- `celldefine. The form of the module, and the names of its wires and of the core's instance, are this project's.)
-use Rattle.std.specs.Prelude.{ℕ, ◌+◌, ◌==◌, Bool, List, [], ◌∷◌, ◌++◌, length, slice_get, Option, Some, None, Result, codes}
+use Rattle.std.specs.Prelude.{ℕ, ◌+◌, ◌==◌, List, [], ◌∷◌, ◌++◌, length, slice_get, Some, Result, codes}
 use Rattle.std.specs.Str.{bytes_eq}
 use Rattle.grammar_rules.specs.Rule.{Fits}
 use Rattle.grammar_rules.specs.Rule as r
@@ -23,7 +23,8 @@ use Rattle.driver_models.specs.Wires as wires
 use Rattle.driver_models.specs.Terminals as terminals
 use Rattle.driver_models.specs.Cores.{Core, core_name}
 use Rattle.driver_models.specs.PathEnds.{input_number, drive_number}
-use Rattle.verilog_drivers.specs.DriverText.{data_word, enable_word, numbered_ports, driven_names}
+use Rattle.driver_texts.specs.NumberedPorts.{numbered_ports, driven_names}
+use Rattle.verilog_drivers.specs.DriverText.{data_word, enable_word}
 
 -- a name stands next, and is not taken
 abbrev pub name_follows : Grammar (Unit {0})

@@ -1,3 +1,4 @@
 pub mod DriverText
 pub mod DriverSections
 pub mod Sections
+pub mod WellFormed

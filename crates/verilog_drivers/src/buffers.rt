@@ -1,7 +1,7 @@
 //! The buffers at driven outputs.
 ghost use Rattle.verilog_drivers.specs.DriverText.{buffer_text};
 
-use crate::numbered_ports::PortText;
+use driver_texts::PortText;
 use text_io::{Desk, Line, OutSlot};
 use text_parts::{Bytes, Decimal, Part, Put, parts};
 use udp_tables::VPort;

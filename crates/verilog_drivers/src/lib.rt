@@ -4,11 +4,8 @@
 
 mod buffers;
 mod core_call;
-mod core_terminals;
 mod drive_paths;
 mod language;
-mod numbered_names;
-mod numbered_ports;
 mod paths;
 mod ports;
 mod read;

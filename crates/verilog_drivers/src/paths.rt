@@ -1,45 +1,14 @@
 //! The paths to driven outputs.
 ghost use Rattle.std.specs.Prelude.{◌≡◌};
-ghost use Rattle.verilog_drivers.specs.DriverText.{inputs, outputs, name_at, driven_name, drive_path_text};
+ghost use Rattle.driver_texts.specs.PortNames.{driven_name};
+ghost use Rattle.verilog_drivers.specs.DriverText.{drive_path_text};
 
 use driven_traces::DrivePath;
 use driver_models::DriverModel;
+use driver_texts::{input_name, output_name};
 use text_io::{Desk, Line, OutSlot};
 use text_parts::{Bytes, ItemText, Part, Put, parts};
-use udp_tables::VPort;
 use verilog_writer::PathDelays;
-
-/// The name of the input with a number, none where there is no such input.
-fn input_name(ports: &[VPort], number: usize) -> &[u8]
-    ensures { result.now ≡ name_at (inputs ports.now) number }
-{
-    let mut left = number;
-    for port in ports {
-        if port.input {
-            if left == 0 {
-                return port.name.as_slice();
-            }
-            left -= 1;
-        }
-    }
-    b""
-}
-
-/// The name of the output with a number, none where there is no such output.
-fn output_name(ports: &[VPort], number: usize) -> &[u8]
-    ensures { result.now ≡ name_at (outputs ports.now) number }
-{
-    let mut left = number;
-    for port in ports {
-        if !port.input {
-            if left == 0 {
-                return port.name.as_slice();
-            }
-            left -= 1;
-        }
-    }
-    b""
-}
 
 /// The name of the driven output with a number, none where there is no such output.
 fn driven_name(model: &DriverModel, number: usize) -> &[u8]

@@ -10,20 +10,12 @@ ghost use Rattle.verilog_drivers.specs.Sections.{IsFaultOf};
 use crate::language::{Cursor, VerilogDrivers};
 use crate::section::{section_front, section_rest};
 use driver_models::{Cores, DriverModel, KnownNames};
+use driver_texts::cursor_before;
 use rule_readers::{Read, Stop};
 use std::alloc::Global;
 use token_spans::{Scan, Span};
 use udp_tables::{ModelFault, refusal_fault};
 use verilog_tokens::scan;
-
-/// A cursor before the last tokens of a text, so many.
-fn cursor_before<'a>(text: &'a [u8], tokens: &'a [Span], left: usize) -> Cursor<'a>
-    requires { LieInside text.now tokens.now }
-    ensures { result ≡ drop (length tokens.now - left) (spelled text.now tokens.now) }
-{
-    let first = tokens.len().saturating_sub(left);
-    Cursor::new(text, &tokens[first..])
-}
 
 /// What a section is read as, and a cursor where its reading stopped.
 #[derive(Drop)]
@@ -46,7 +38,7 @@ fn section<'a>(
 {
     let mut before = udp_reader::Cursor::new(text, tokens);
     let front = section_front(&mut before, alloc, names);
-    let mut left = cursor_before(text, tokens, before.left());
+    let mut left = cursor_before::<VerilogDrivers>(text, tokens, before.left());
     match front {
         Ok(front) => {
             let driver = section_rest(&mut left, alloc, cores, front);

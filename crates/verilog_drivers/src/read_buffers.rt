@@ -1,41 +1,15 @@
 //! The buffers of a driver, by recursive descent. (IEEE 1364-2005, 7.4.)
 
-ghost use Rattle.std.specs.Prelude.{◌≡◌, ◌<◌, IfOk};
+ghost use Rattle.std.specs.Prelude.{◌<◌};
 ghost use Rattle.rule_readers.specs.Reading.{read, Reads};
-ghost use Rattle.verilog_drivers.specs.DriverText.{driven_names, numbered_ports};
 ghost use Rattle.verilog_drivers.specs.DriverSections as spec;
 
 use crate::language::{Cursor, VerilogDrivers};
-use crate::numbered_ports::{Counts, counts_with, port_number};
 use part_readers::{RepeatedPart, while_next, with_end};
 use rule_readers::{Read, Stop};
 use sqlite_items::Items;
-use std::alloc::{AllocError, Global};
-use udp_tables::VPort;
+use std::alloc::Global;
 use vhdl_names::numbered_name;
-
-/// The names of the driven outputs among these ports.
-pub(crate) fn driven_names(
-    alloc: Global,
-    ports: &[VPort],
-    drives: &[usize],
-) -> Result<Items<Items<u8>>, AllocError>
-    ensures { IfOk result (λ names. names ≡ driven_names (numbered_ports drives.now 0 0 ports.now)) }
-{
-    let mut names = Items::new(alloc);
-    let mut before = Counts {
-        outputs: 0,
-        driven: 0,
-    };
-    for port in ports {
-        let number = port_number(drives, before, port);
-        if number.is_some() {
-            names.push(Items::from_slice(alloc, port.name.as_slice())?)?;
-        }
-        before = counts_with(before, port, number);
-    }
-    Ok(names)
-}
 
 /// The name of a word and a number.
 fn numbered(cursor: &mut Cursor, alloc: Global, word: &[u8], number: usize) -> Read<()>

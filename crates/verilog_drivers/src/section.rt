@@ -4,7 +4,6 @@ ghost use Rattle.std.specs.Prelude.{◌≡◌, IfOk};
 ghost use Rattle.udp_tables.specs.VerilogRules.{new_name};
 ghost use Rattle.token_spans.specs.Spans.{LieInside, spelled};
 ghost use Rattle.rule_readers.specs.Reading.{read, Reads, ReadsAs};
-ghost use Rattle.driver_models.specs.Models.{input_count, output_count};
 ghost use Rattle.verilog_drivers.specs.DriverSections as spec;
 ghost use Rattle.verilog_drivers.specs.Sections.{front_of, body_of};
 
@@ -12,9 +11,10 @@ use crate::core_call::{CoreCall, core_call, driver_wires};
 use crate::drive_paths::drive_paths;
 use crate::language::{Cursor, VerilogDrivers};
 use crate::ports::driver_ports;
-use crate::read_buffers::{buffers, driven_names};
+use crate::read_buffers::buffers;
 use driven_traces::{DrivePath, Driver};
 use driver_models::{Cores, DriverModel, KnownNames};
+use driver_texts::{driven_names, input_count, output_count};
 use rule_readers::{Read, Refusal, Stop};
 use sqlite_items::Items;
 use std::alloc::Global;
@@ -81,20 +81,6 @@ fn section_body(
     buffers(cursor, alloc, outputs.as_slice())?;
     let paths = drive_paths(cursor, alloc, ports, call.drives.as_slice())?;
     Ok(SectionBody { call, paths })
-}
-
-/// How many of these ports are inputs.
-fn input_count(ports: &[VPort]) -> usize
-    ensures { result ≡ input_count ports.now }
-{
-    ports.iter().filter(|port| port.input).count()
-}
-
-/// How many of these ports are outputs.
-fn output_count(ports: &[VPort]) -> usize
-    ensures { result ≡ output_count ports.now }
-{
-    ports.iter().filter(|port| !port.input).count()
 }
 
 /// The driver with this front and this body.

@@ -6,11 +6,9 @@ ghost use Rattle.text_io.specs.Desk.{is_bound, HasCause, WritesText};
 ghost use Rattle.verilog_drivers.specs.DriverText.{driver_header_text, driver_declarations_text, core_text, drive_paths_text, driver_text};
 
 use crate::buffers::Buffers;
-use crate::core_terminals::{Enables, NextTerminals};
-use crate::numbered_names::NumberedNames;
-use crate::numbered_ports::EachPort;
 use crate::paths::DrivePathLines;
 use driver_models::DriverModel;
+use driver_texts::{CoreTerminals, EachPort, NumberedNames};
 use text_io::{Desk, Failed, Line, OutSlot};
 use text_parts::{Bytes, Each, Part, Put, When, parts, write_part};
 use verilog_writer::{PortLines, Ports};
@@ -54,7 +52,7 @@ impl Part for Declarations<'_> {
     }
 }
 
-/// The line of the core: its terminals for the ports, and the enables.
+/// The line of the core.
 #[derive(Drop)]
 struct Core<'a>(&'a DriverModel);
 
@@ -64,16 +62,13 @@ impl Part for Core<'_> {
     #[tactic(auto, unfolding(crate::specs::DriverText::core_text))]
     fn put<D: Desk>(&self, line: &mut Line, desk: &mut D, slot: OutSlot) -> Put {
         let name = Bytes(self.0.core.as_slice());
-        let drives = self.0.driver.drives.as_slice();
-        let terminals = EachPort {
-            texts: NextTerminals,
-            drives,
-            ports: self.0.ports.as_slice(),
+        let terminals = CoreTerminals {
+            value: b"lib_d",
+            enable: b"lib_e",
+            model: self.0,
         };
-        let enables = Enables(drives.len());
         let start = Bytes(b" lib_u (");
-        let end = Bytes(b");\n");
-        parts!(Bytes(b"  "), name, start, terminals, enables, end).put(line, desk, slot)
+        parts!(Bytes(b"  "), name, start, terminals, Bytes(b");\n")).put(line, desk, slot)
     }
 }
 

@@ -134,7 +134,7 @@ fn ports_end<T: Drop>(cursor: &mut Cursor<'_>, ports: T) -> Read<T>
 
 /// The ports of this entity, behind their word.
 #[tactic(auto, unfolding(vhdl_text::specs::VhdlDeclarations::port_list, crate::specs::Tails::ports_end))]
-fn port_list(cursor: &mut Cursor<'_>, alloc: Global, entity: &[u8]) -> Read<Ports>
+pub fn port_list(cursor: &mut Cursor<'_>, alloc: Global, entity: &[u8]) -> Read<Ports>
     ensures { Reads (read (spec.port_list entity.now) cursor.old) result cursor.new }
 {
     cursor.expect(b"(")?;

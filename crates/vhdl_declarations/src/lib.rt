@@ -12,6 +12,8 @@ mod truth_rows;
 mod variable_names;
 mod variables;
 
-pub use header::packages;
-pub use process::input_names;
+pub use header::{packages, port_list};
+pub use process::{input_names, listed_names};
 pub use scope::scope_of;
+pub use variable_names::is_last_false;
+pub use variables::set_last;

@@ -45,7 +45,7 @@ impl RepeatedPart<Vhdl> for ListedName<'_> {
 
 /// All these names in order.
 #[tactic(auto, unfolding(vhdl_text::specs::VhdlDeclarations::listed_names))]
-fn listed_names(cursor: &mut Cursor<'_>, names: &[Items<u8>]) -> Read<()>
+pub fn listed_names(cursor: &mut Cursor<'_>, names: &[Items<u8>]) -> Read<()>
     ensures { Reads (read (spec.listed_names names.now) cursor.old) result cursor.new }
 {
     cursor.expect(b"(")?;

@@ -45,7 +45,7 @@ pub fn awaits_violation(variables: &Variables) -> bool
 }
 
 /// Whether the last of these is false.
-fn is_last_false(flags: &[bool]) -> bool
+pub fn is_last_false(flags: &[bool]) -> bool
     ensures { result ≡ spec.is_last_false flags.now }
 {
     match flags.split_last() {

@@ -89,7 +89,7 @@ fn state_variables(
 
 /// The last of these becomes true.
 #[tactic(auto, using(crate::proofs::NextVariable::last_true_append))]
-fn set_last(flags: &mut Items<bool>) -> Result<(), AllocError>
+pub fn set_last(flags: &mut Items<bool>) -> Result<(), AllocError>
     ensures { IfOk result (λ _. flags.new ≡ spec.last_true flags.old) }
 {
     match flags.pop() {

@@ -12,4 +12,5 @@ mod values;
 
 pub use lines::output_lines;
 pub use outputs::{Lines, output_ports};
+pub use paths::delays;
 pub use values::values_of;

@@ -90,7 +90,7 @@ fn gate_of(cursor: &mut Cursor, scope: &Declarations, uses: Uses) -> Read<(HGate
 
 /// The delays of a rise and of a fall.
 #[tactic(auto, unfolding(vhdl_text::specs::VhdlOutputs::delays))]
-fn delays(cursor: &mut Cursor) -> Read<(u64, u64)>
+pub fn delays(cursor: &mut Cursor) -> Read<(u64, u64)>
     ensures { Reads (read spec.delays cursor.old) result cursor.new }
 {
     cursor.expect(b"(")?;

@@ -41,7 +41,7 @@ no_character [] e = absurd cc
 no_character (b ∷ bs) e = letter_no_apostrophe b (first_true (is_ascii_alphabetic b) (not (is_vhdl_word (b ∷ bs))) e)
 
 -- so it is the same as another where both are one in lower case
-same_lowered : (x y : List ℕ) → is_name x ≡ true → is_same x y ≡ bytes_eq (lowered x) (lowered y)
+pub same_lowered : (x y : List ℕ) → is_name x ≡ true → is_same x y ≡ bytes_eq (lowered x) (lowered y)
 same_lowered x y e = ap (λ (b : Bool). if b then bytes_eq x y else str_eq_ignore_ascii_case x y) (no_character x e)
 
 among_lowered : (names : List (List ℕ)) (x : List ℕ) → is_name x ≡ true → is_among names x ≡ list_any (bytes_eq (lowered x)) (all_lowered names)

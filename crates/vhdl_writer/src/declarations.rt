@@ -1,6 +1,6 @@
 //! An entity with its ports, and the beginning of its process. (IEEE 1076-1993, 1.1, 1.2 and 9.2.)
 ghost use Rattle.std.specs.Prelude.{◌≡◌};
-ghost use Rattle.vhdl_writer.specs.Declarations.{direction_text, port_text, header_text, is_input, first_input, signal_start, signal_text, signals_end, process_text};
+ghost use Rattle.vhdl_writer.specs.Declarations.{direction_text, port_text, some_ports_text, header_text, is_input, first_input, signal_start, signal_text, signals_end, process_text};
 
 use crate::names::apart;
 use crate::parts::{At, Each, ItemText};
@@ -35,6 +35,20 @@ impl ItemText<VPort> for ListedPorts {
     }
 }
 
+/// A list of ports, behind the name of an entity. (IEEE 1076-1993, 1.1.1.2.)
+#[derive(Drop)]
+pub struct PortList<'a>(pub &'a [VPort]);
+
+impl Part for PortList<'_> {
+    ghost text = { λ l. some_ports_text l.0.now };
+
+    #[tactic(auto, unfolding(crate::specs::Declarations::some_ports_text))]
+    fn put<D: Desk>(&self, line: &mut Line, desk: &mut D, slot: OutSlot) -> Put {
+        let listed = Each(ListedPorts, self.0);
+        parts!(Bytes(b"  port ("), listed, Bytes(b");\n")).put(line, desk, slot)
+    }
+}
+
 /// The packages that an entity uses, and its header, with a list of ports where there are ports.
 #[derive(Drop)]
 pub(crate) struct Header<'a>(pub(crate) &'a VEntity);
@@ -42,18 +56,17 @@ pub(crate) struct Header<'a>(pub(crate) &'a VEntity);
 impl Part for Header<'_> {
     ghost text = { λ m. header_text m.0.now };
 
-    #[tactic(auto, unfolding(crate::specs::Declarations::header_text, crate::specs::Declarations::some_ports_text))]
+    #[tactic(auto, unfolding(crate::specs::Declarations::header_text))]
     fn put<D: Desk>(&self, line: &mut Line, desk: &mut D, slot: OutSlot) -> Put {
         let name = self.0.name.as_slice();
         let ports = self.0.ports.as_slice();
-        let listed = parts!(Bytes(b"  port ("), Each(ListedPorts, ports), Bytes(b");\n"));
         parts!(
             Bytes(
                 b"library IEEE;\nuse IEEE.std_logic_1164.all;\nuse IEEE.VITAL_Timing.all;\nuse IEEE.VITAL_Primitives.all;\nentity "
             ),
             Bytes(name),
             Bytes(b" is\n"),
-            When(ports.len() > 0, listed),
+            When(ports.len() > 0, PortList(ports)),
             Bytes(b"end "),
             Bytes(name),
             Bytes(b";\narchitecture vital of "),

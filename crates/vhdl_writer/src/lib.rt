@@ -12,4 +12,7 @@ mod symbols;
 mod tables;
 mod variables;
 
+pub use declarations::PortList;
 pub use entity::write_entity;
+pub use names::apart;
+pub use parts::{At, Each, ItemText};

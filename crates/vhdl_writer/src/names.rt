@@ -30,7 +30,7 @@ fn inputs_at(entity: &VEntity, condition: usize) -> &[usize]
 }
 
 /// What stands before the item with this number, from 1: nothing before the first one, and else what separates items.
-pub(crate) fn apart(separator: &[u8], number: usize) -> &[u8]
+pub fn apart(separator: &[u8], number: usize) -> &[u8]
     ensures { result.now ≡ apart_text separator.now number }
 {
     if number == 1 { b"" } else { separator }

@@ -13,16 +13,16 @@ use vital_models::VEntity;
 
 /// An item at its place in a list: its number, from 1, and the item.
 #[derive(Drop)]
-pub(crate) struct At<'a, T> {
-    pub(crate) number: usize,
-    pub(crate) item: &'a T,
+pub struct At<'a, T> {
+    pub number: usize,
+    pub item: &'a T,
 }
 
 /// A check at its place.
 pub(crate) type CheckAt<'a> = At<'a, TimingCheck>;
 
 /// What the items of a list are as text, where each has a number.
-pub(crate) trait ItemText<T> {
+pub trait ItemText<T> {
     ghost use Rattle.std.specs.Prelude.{ℕ, List};
 
     ghost text: { Self → ℕ → T → List ℕ };
@@ -41,7 +41,7 @@ pub(crate) struct Of<'a>(pub(crate) &'a VEntity);
 
 /// What each item of a list is as text, and the items, numbered from 1.
 #[derive(Drop)]
-pub(crate) struct Each<'a, M, T>(pub(crate) M, pub(crate) &'a [T]);
+pub struct Each<'a, M, T>(pub M, pub &'a [T]);
 
 impl<M: ItemText<T>, T> Part for Each<'_, M, T> {
     ghost text = { λ e. numbered_texts (M.text e.0) 1 e.1.now };

@@ -3,7 +3,7 @@ use Rattle.rule_readers.specs.Reading.{read, ReadsAs}
 use Rattle.verilog_drivers.specs.DriverSections.{section_front}
 use Rattle.token_spans.specs.Spans.{spelled}
 use Rattle.verilog_drivers.specs.Sections.{front_of}
-use Rattle.verilog_drivers.proofs.CursorPlaces.{section_read, section_refused}
+use Rattle.verilog_drivers.proofs.SectionReads.{section_read, section_refused}
 use Rattle.verilog_drivers.proofs.read.section.Goals as goal
 
 pub returns-in-Ok : goal.returns-in-Ok

@@ -1,0 +1,5 @@
+pub mod CursorPlaces
+mod NamesByPlaces
+mod NumberedPorts
+pub mod SoundCores
+pub mod StandingCores

@@ -1,0 +1,4 @@
+pub mod NumberedPorts
+pub mod PortNames
+pub mod NumberedNames
+pub mod CoreTerminals

@@ -1,0 +1,19 @@
+//! What the texts of models of three-state drivers have in common in both languages: which ports are driven, and by which
+//! numbers, and how lists of them are put and read. (The form of the texts is this project's.)
+#![tactic(auto)]
+
+mod core_terminals;
+mod counts;
+mod cursors;
+mod driven_outputs;
+mod numbered_names;
+mod numbered_ports;
+mod port_names;
+
+pub use core_terminals::CoreTerminals;
+pub use counts::{input_count, output_count};
+pub use cursors::cursor_before;
+pub use driven_outputs::driven_names;
+pub use numbered_names::{ListedNames, NumberedNames};
+pub use numbered_ports::{EachPort, PortText};
+pub use port_names::{input_name, output_name};

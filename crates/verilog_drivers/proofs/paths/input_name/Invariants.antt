@@ -1,6 +1,0 @@
-use Rattle.std.proofs.Common.{◌≡◌, drop}
-use Rattle.verilog_drivers.specs.DriverText.{inputs, name_at}
-use Rattle.verilog_drivers.proofs.paths.input_name.Given as goal
-
-abbrev pub invariant-loop-port : goal.invariant-loop-port
-invariant-loop-port l = name_at (inputs (drop l.port-index l.ports)) l.left ≡ name_at (inputs l.ports) l.number

@@ -1,6 +1,0 @@
-use Rattle.std.proofs.Common.{◌≡◌, drop}
-use Rattle.verilog_drivers.specs.DriverText.{outputs, name_at}
-use Rattle.verilog_drivers.proofs.paths.output_name.Given as goal
-
-abbrev pub invariant-loop-port : goal.invariant-loop-port
-invariant-loop-port l = name_at (outputs (drop l.port-index l.ports)) l.left ≡ name_at (outputs l.ports) l.number

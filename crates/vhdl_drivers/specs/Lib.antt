@@ -1,0 +1,5 @@
+pub mod DriverText
+pub mod DriverSection
+pub mod DriverSections
+pub mod Sections
+pub mod WellFormed

@@ -9,9 +9,9 @@ use crate::fronts::{is_open_after, separator_length, token_length};
 use std::alloc::{AllocError, Global};
 use token_spans::{Lexicon, Scan, TokenState};
 
-/// Whether a table is open.
+/// Whether a table is open: what the tokens so far say of those that follow.
 #[derive(Clone, Copy)]
-struct InTable(bool);
+pub struct InTable(bool);
 
 impl Lexicon for InTable {
     ghost use Rattle.verilog_tokens.specs.Tokens as spec;

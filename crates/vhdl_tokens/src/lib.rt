@@ -8,7 +8,7 @@ mod scanner;
 mod spelling;
 
 pub use laws::tokens_are_lawful;
-pub use scanner::scan;
+pub use scanner::{LastToken, scan};
 pub use spelling::{is_name, is_quoted, is_same, is_string};
 pub use token_spans::{is_number, number_of};
 

@@ -11,7 +11,7 @@ use token_spans::{Lexicon, Scan, TokenState, line_separator_length};
 
 /// The bytes of the last token, of which it is asked only at an apostrophe whether they are a name. None stand before the first.
 #[derive(Clone, Copy)]
-struct LastToken<'a>(&'a [u8]);
+pub struct LastToken<'a>(&'a [u8]);
 
 impl<'a> Lexicon for LastToken<'a> {
     ghost use Rattle.vhdl_tokens.specs.Tokens as spec;

@@ -1,0 +1,2 @@
+pub mod VerilogDrivers
+pub mod VitalDrivers

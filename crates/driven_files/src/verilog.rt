@@ -1,0 +1,94 @@
+//! Verilog as a language of models and of sections that hold drivers. (IEEE 1364-2005, 12.1 and 19.1.)
+ghost use Rattle.std.specs.Prelude.{◌≡◌, IfOk};
+ghost use Rattle.specify_blocks.specs.WellFormed.{outer_names};
+
+use driver_models::{Core, Cores, DriverModel, KnownNames};
+use driver_sections::{Ending, Marks, all_ends, find_sections};
+use sectioned_texts::SectionLanguage;
+use specify_blocks::VModule;
+use sqlite_items::Items;
+use std::alloc::{AllocError, Global};
+use token_spans::Span;
+use udp_tables::ModelFault;
+use verilog_drivers::{VerilogDrivers, read_driver};
+use verilog_reader::read_models;
+use verilog_tokens::InTable;
+
+/// How sections are marked.
+const MARKS: Marks<'static> = Marks {
+    beginning: &[b"`celldefine"],
+    ending: Ending {
+        words: &[b"`endcelldefine"],
+        closing: b"`endcelldefine",
+    },
+};
+
+/// How modules end.
+const MODULE_END: Ending<'static> = Ending {
+    words: &[b"endmodule"],
+    closing: b"endmodule",
+};
+
+/// Verilog, with sections that hold drivers.
+pub struct VerilogFiles;
+
+/// The names of the primitives of a module, and its own.
+fn names_of(alloc: Global, model: &VModule) -> Result<Items<Items<u8>>, AllocError>
+    ensures { IfOk result (λ names. names ≡ outer_names model.now) }
+{
+    let mut names = Items::new(alloc);
+    for udp in model.udps.as_slice() {
+        names.push(Items::from_slice(alloc, udp.name.as_slice())?)?;
+    }
+    names.push(Items::from_slice(alloc, model.name.as_slice())?)?;
+    Ok(names)
+}
+
+impl SectionLanguage for VerilogFiles {
+    ghost use Rattle.std.specs.Prelude.{◌≡◌};
+    ghost use Rattle.driver_models.specs.Found.{core_of};
+    ghost use Rattle.driven_files.specs.Verilog.{verilog_sections};
+    ghost use Rattle.verilog_drivers.proofs.StandingDrivers.{text_may_stand};
+
+    type Model = VModule;
+
+    type Drivers = VerilogDrivers;
+
+    ghost language = { verilog_sections };
+
+    fn sections(alloc: Global, text: &[u8]) -> Result<Vec<Span>, AllocError> {
+        find_sections::<VerilogDrivers, InTable>(alloc, text, &MARKS)
+    }
+
+    fn ends(alloc: Global, text: &[u8]) -> Result<Vec<usize>, AllocError> {
+        all_ends::<VerilogDrivers, InTable>(alloc, text, &MODULE_END)
+    }
+
+    fn read(alloc: Global, text: &[u8]) -> Result<Vec<VModule>, ModelFault> {
+        read_models(alloc, text)
+    }
+
+    fn names(alloc: Global, model: &VModule) -> Result<Items<Items<u8>>, AllocError> {
+        names_of(alloc, model)
+    }
+
+    fn core(model: &VModule) -> Core<'_>
+        ensures { core_of result ≡ verilog_sections.core model.now }
+    {
+        Core {
+            name: model.name.as_slice(),
+            ports: model.ports.as_slice(),
+        }
+    }
+
+    fn read_section(
+        alloc: Global,
+        text: &[u8],
+        names: &KnownNames<VerilogDrivers>,
+        cores: &Cores<'_, VerilogDrivers>,
+    ) -> Result<DriverModel, ModelFault> {
+        read_driver(alloc, text, names, cores)
+    }
+
+    ghost hold = { text_may_stand };
+}

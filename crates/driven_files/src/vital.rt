@@ -1,0 +1,82 @@
+//! VHDL by VITAL as a language of models and of sections that hold drivers. (IEEE 1076-1993, 1.1 and 1.2; IEEE 1076.4-2000.)
+
+use driver_models::{Core, Cores, DriverModel, KnownNames};
+use driver_sections::{Ending, Marks, all_ends, find_sections};
+use sectioned_texts::SectionLanguage;
+use sqlite_items::Items;
+use std::alloc::{AllocError, Global};
+use token_spans::Span;
+use udp_tables::ModelFault;
+use vhdl_drivers::{VitalDrivers, read_driver};
+use vhdl_reader::read_entities;
+use vhdl_tokens::LastToken;
+use vital_models::VEntity;
+
+/// How sections are marked.
+const MARKS: Marks<'static> = Marks {
+    beginning: &[b"use", b"work"],
+    ending: Ending {
+        words: &[b"end", b"driven"],
+        closing: b";",
+    },
+};
+
+/// How entities with their architectures end.
+const MODEL_END: Ending<'static> = Ending {
+    words: &[b"end", b"vital"],
+    closing: b";",
+};
+
+/// VHDL by VITAL, with sections that hold drivers.
+pub struct VitalFiles;
+
+impl SectionLanguage for VitalFiles {
+    ghost use Rattle.std.specs.Prelude.{◌≡◌};
+    ghost use Rattle.driver_models.specs.Found.{core_of};
+    ghost use Rattle.driven_files.specs.Vital.{vital_sections};
+    ghost use Rattle.vhdl_drivers.proofs.StandingDrivers.{text_may_stand};
+
+    type Model = VEntity;
+
+    type Drivers = VitalDrivers;
+
+    ghost language = { vital_sections };
+
+    fn sections(alloc: Global, text: &[u8]) -> Result<Vec<Span>, AllocError> {
+        find_sections::<VitalDrivers, LastToken<'_>>(alloc, text, &MARKS)
+    }
+
+    fn ends(alloc: Global, text: &[u8]) -> Result<Vec<usize>, AllocError> {
+        all_ends::<VitalDrivers, LastToken<'_>>(alloc, text, &MODEL_END)
+    }
+
+    fn read(alloc: Global, text: &[u8]) -> Result<Vec<VEntity>, ModelFault> {
+        read_entities(alloc, text)
+    }
+
+    fn names(alloc: Global, model: &VEntity) -> Result<Items<Items<u8>>, AllocError> {
+        let mut names = Items::new(alloc);
+        names.push(Items::from_slice(alloc, model.name.as_slice())?)?;
+        Ok(names)
+    }
+
+    fn core(model: &VEntity) -> Core<'_>
+        ensures { core_of result ≡ vital_sections.core model.now }
+    {
+        Core {
+            name: model.name.as_slice(),
+            ports: model.ports.as_slice(),
+        }
+    }
+
+    fn read_section(
+        alloc: Global,
+        text: &[u8],
+        names: &KnownNames<VitalDrivers>,
+        cores: &Cores<'_, VitalDrivers>,
+    ) -> Result<DriverModel, ModelFault> {
+        read_driver(alloc, text, names, cores)
+    }
+
+    ghost hold = { text_may_stand };
+}

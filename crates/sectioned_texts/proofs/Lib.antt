@@ -1,0 +1,4 @@
+pub mod TextLaws
+pub mod NextDrivers
+pub mod ToldFaults
+pub mod WrittenTexts

@@ -1,0 +1,4 @@
+pub mod DrivenModels
+pub mod Faults
+pub mod Drivers
+pub mod Laws

@@ -2,9 +2,18 @@
 use Rattle.std.specs.Prelude.{ℕ, zero, suc, List, [], ◌∷◌, ◌++◌, codes, decimal, if◌then◌else◌}
 use Rattle.verilog_tokens.specs.Kept.{is_kept_cell_name}
 
+-- a cell's name where Verilog text keeps it, else the other one
+abbrev pub kept_or : List ℕ → List ℕ → List ℕ
+kept_or other name = if is_kept_cell_name name then name else other
+
 -- The name of a module, of the cell with this number: the cell's, or `cell` and its number where that is not kept.
 abbrev pub module_name : ℕ → List ℕ → List ℕ
-module_name number name = if is_kept_cell_name name then name else codes "cell" ++ decimal number
+module_name number name = kept_or (codes "cell" ++ decimal number) name
+
+-- The name of the module of a cell's three-state drivers, of the cell with this number: the cell's, or `lib_`, its number and
+-- `_z` where that is not kept.
+abbrev pub driver_name : ℕ → List ℕ → List ℕ
+driver_name number name = kept_or (codes "lib_" ++ (decimal number ++ codes "_z")) name
 
 -- a word and the numbers from 1, n of them
 abbrev pub numbered : List ℕ → ℕ → List (List ℕ)

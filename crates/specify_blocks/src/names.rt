@@ -1,6 +1,6 @@
 //! The names in a module that are not the cell's own, and the names that take the place of those that are not kept.
 ghost use Rattle.std.specs.Prelude.{◌≡◌, ◌++◌, decimal, IfOk, OnOk};
-ghost use Rattle.specify_blocks.specs.Names.{module_name, numbered, notifier_name};
+ghost use Rattle.specify_blocks.specs.Names.{module_name, driver_name, numbered, notifier_name};
 
 use itoa::Buffer;
 use sqlite_items::Items;
@@ -17,6 +17,21 @@ pub fn module_name(alloc: Global, number: usize, name: &[u8]) -> Result<Items<u8
     } else {
         Ok(numbered_name(alloc, b"cell", number)?)
     }
+}
+
+/// The name of the module of the three-state drivers of a cell with this number and name: the cell's, or `lib_`, its number and
+/// `_z` where Verilog does not keep that. `AllocError` comes only where memory is wanting.
+pub fn driver_name(alloc: Global, number: usize, name: &[u8]) -> Result<Items<u8>, AllocError>
+    ensures { IfOk result (λ given. given ≡ driver_name number name.now) }
+{
+    if is_kept_cell_name(name) {
+        return Ok(Items::from_slice(alloc, name)?);
+    }
+    let mut buffer = Buffer::new();
+    let mut other = Vec::from_slice(alloc, b"lib_")?;
+    other.extend_from_slice(buffer.format(number).as_bytes())?;
+    other.extend_from_slice(b"_z")?;
+    Ok(Items::from_vec(other))
 }
 
 /// A word followed by a number.

@@ -1,5 +1,5 @@
 -- What is read of a cell, as data.
-use Rattle.std.proofs.Common.{◌≡◌, ℕ, List, [], ◌∷◌, ◌==◌, ◌∙◌, length, true, false, map, refl, sym, ap, arith}
+use Rattle.std.proofs.Common.{◌≡◌, ℕ, List, [], ◌∷◌, ◌==◌, ◌∙◌, length, true, false, map, refl, sym, ap, subst, arith, Result, Ok, Err, IsErrAnd, IfErr}
 use Rattle.std.proofs.lemmas.Bool.{eqb-true}
 use Rattle.std.specs.Prelude.{Option}
 use Rattle.liberty_text.specs.declared.time.Unit.{Unit}
@@ -51,6 +51,7 @@ pub floating_as :
     (unit : Option Unit) (number : ℕ) (core : Group) (outputs : List ThreeStateOutput) (read : ReadCell) (drivers : Drivers) (cell : DrivenCell)
     → IsCellOf (subject_of unit core) number core read.cell → read.left_out ≡ left_out_of (subject_of unit core) core
     → AreDrivers unit core outputs drivers → IsFloating read drivers number cell → driven_data_of cell ≡ floating_of unit number core outputs
+unfolding floating_of
 floating_as unit number core outputs read drivers cell h l d f =
     let renamed : data_of cell.core ≡ cell_data unit (core_name number) number core =
     f.core ∙ ap (λ (cell_of : CellData). record cell_of { name = core_name number }) (data_as unit number core read.cell h) in
@@ -58,8 +59,7 @@ floating_as unit number core outputs read drivers cell h l d f =
     λ i. record {
       core = renamed i;
       name = (f.name ∙ h.same_name) i;
-      driven = (f.driven ∙ d.driven) i;
-      paths = (f.paths ∙ d.paths) i;
+      driver = (f.driver ∙ d.driver) i;
       left_out = (f.left_out ∙ lines) i;
     }
 
@@ -80,6 +80,7 @@ pub plain_as :
     (unit : Option Unit) (number : ℕ) (cell : Group) (read : ReadCell) (driven : DrivenCell)
     → three_state_outputs cell ≡ [] → IsCellOf (subject_of unit cell) number cell read.cell → read.left_out ≡ left_out_of (subject_of unit cell) cell
     → driven_data_of driven ≡ plain_of (data_of read.cell) read.left_out → driven_data_of driven ≡ driven_data unit number cell
+unfolding driven_data
 plain_as unit number cell read driven none h l e =
     e
     ∙ (ap (λ (core : CellData). plain_of core read.left_out) (data_as unit number cell read.cell h)
@@ -89,6 +90,7 @@ plain_as unit number cell read driven none h l e =
 pub plain_refusal :
     (unit : Option Unit) (earlier : List (List ℕ)) (cell : Group) → three_state_outputs cell ≡ []
     → refusal_of (subject_of unit cell) earlier cell ≡ driven_refusal unit earlier cell
+unfolding driven_refusal
 plain_refusal unit earlier cell none = ap (refusal_by unit earlier cell) (sym none)
 
 some_data :
@@ -110,6 +112,7 @@ none_shown (output ∷ outputs) h = absurd cc
 pub floating_data_is :
     (unit : Option Unit) (number : ℕ) (cell core : Group) (pins : CellPins) → ArePins cell pins → (pins.outputs.items ≡ [] → ⊥) → core ≡ core_group cell
     → floating_of unit number core (map shown pins.outputs.items) ≡ driven_data unit number cell
+unfolding driven_data
 floating_data_is unit number cell core pins h some e =
     ap (λ (group : Group). floating_of unit number group (map shown pins.outputs.items)) e
     ∙ (some_data unit number cell (map shown pins.outputs.items) (λ none. some (none_shown pins.outputs.items none))
@@ -119,8 +122,14 @@ pub floating_refusal_is :
     (unit : Option Unit) (earlier : List (List ℕ)) (cell core : Group) (pins : CellPins) → ArePins cell pins → (pins.outputs.items ≡ [] → ⊥)
     → core ≡ core_group cell
     → floating_refusal unit earlier core (map (λ group. group.now) pins.groups.items) ≡ driven_refusal unit earlier cell
+unfolding driven_refusal
 floating_refusal_is unit earlier cell core pins h some e =
     ap (λ (group : Group). floating_refusal unit earlier group (map (λ group. group.now) pins.groups.items)) e
     ∙ (ap (floating_refusal unit earlier (core_group cell)) h.of_groups
     ∙ (some_refusal unit earlier cell (map shown pins.outputs.items) (λ none. some (none_shown pins.outputs.items none))
     ∙ ap (refusal_by unit earlier cell) h.of_outputs))
+
+-- what is told of an answer that is this fault
+pub err_told : {A E : Type 0} (answer : Result A E) (given : E) (Q : E → Type 0) → IsErrAnd answer (λ fault. fault ≡ given) → Q given → IfErr answer Q
+err_told (Ok x) given Q h k = absurd h
+err_told (Err fault) given Q h k = subst Q (sym h) k

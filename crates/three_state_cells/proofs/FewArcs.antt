@@ -208,6 +208,13 @@ few_arcs subject pin timing e =
     (below_pins subject.pins timing.arcs (arcs_are_sound subject (driver_pin pin) timing e (narrow subject pin timing e))) in
     simp length-map at count
 
+-- there are at most as many as pins
+pub driver_arcs_are_few :
+    (subject : Subject) (pin : Group) (answer : Answer) → reading_answer subject (driver_pin pin) ≡ answer
+    → length (arcs_answered answer) ≤ length subject.pins
+driver_arcs_are_few subject pin (Ok timing) e = few_arcs subject pin timing e
+driver_arcs_are_few subject pin (Err wrong) e = omega arith
+
 -- All arcs and all left-out groups are held.
 
 arcs_held_by :

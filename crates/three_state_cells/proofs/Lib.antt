@@ -6,4 +6,5 @@ pub mod Turns
 pub mod DataLemmas
 pub mod Statements
 pub mod CorePins
-pub mod Soundness
+pub mod CoreDrivers
+pub mod DriverLimits

@@ -1,20 +1,22 @@
 -- One more turn of the loops over the pins, the groups and the three-state outputs of a cell.
 use Rattle.std.proofs.Common.{◌≡◌, ℕ, ◌+◌, ◌<◌, List, [], ◌∷◌, ◌++◌, length, map, drop, get_or, sym, ap, ◌∙◌, arith, append_assoc, length-append}
-use Rattle.std.specs.Prelude.{Option, flat_map}
+use Rattle.std.specs.Prelude.{Option, count_by, flat_map}
+use Rattle.std.proofs.Math.Seq.{take-length}
 use Rattle.std.proofs.lemmas.List.{drop_more, length-map}
 use Rattle.liberty_groups.specs.declared.tree.Item.{Item}
 use Rattle.liberty_groups.specs.declared.tree.Group.{Group}
 use Rattle.cell_machine.specs.declared.pins.Pin.{Pin}
+use Rattle.cell_machine.specs.Inputs.{is_input_at, input_number}
 use Rattle.cell_parts.specs.Pins.{owners_in}
 use Rattle.timing_arcs.specs.declared.subject.Subject.{Subject}
 use Rattle.cell_reader.specs.declared.left_out.LeftOut.{LeftOut}
 use Rattle.cell_reader.specs.declared.refusal.Refusal.{Refusal}
 use Rattle.cell_reader.specs.PinTimings.{Answer, subject_at, arcs_in}
-use Rattle.three_state_cells.specs.declared.driven_cell.DrivePath.{DrivePath}
+use Rattle.driven_traces.specs.declared.delays.DrivePath.{DrivePath}
 use Rattle.three_state_cells.specs.Outputs.{ThreeStateOutput, three_state_of}
 use Rattle.three_state_cells.specs.CoreGroups.{enable_pin_of, enable_pins}
 use Rattle.three_state_cells.specs.Refusals.{first_of_two, wrong_group, refusal_with}
-use Rattle.three_state_cells.specs.Timing.{output_number, driven_of, answer_of, path_of, paths_from, left_out_as, places_in, left_out_of, all_left_out, of_pin, in_pin_order}
+use Rattle.three_state_cells.specs.Timing.{is_output_at, output_number, driven_of, answer_of, path_of, paths_from, left_out_as, places_in, left_out_of, all_left_out, of_pin, in_pin_order}
 
 pub pin_turn :
     (pins : List Pin) (i : ℕ) (one other found next last : List LeftOut)
@@ -106,3 +108,11 @@ pub same_turn :
 same_turn core now next pin s n =
     let same : next ≡ subject_at core pin = n ∙ ap (λ (subject : Subject). subject_at subject pin) s in
     same ∙ ap (subject_at core) (sym (ap (λ (subject : Subject). subject.place) same))
+
+-- how many input pins there are, and how many output pins
+
+pub all_inputs : (pins : List Pin) → input_number pins (length pins) ≡ count_by is_input_at pins
+all_inputs pins = ap (count_by is_input_at) (take-length pins)
+
+pub all_outputs : (pins : List Pin) → output_number pins (length pins) ≡ count_by is_output_at pins
+all_outputs pins = ap (count_by is_output_at) (take-length pins)

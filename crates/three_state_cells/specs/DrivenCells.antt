@@ -1,8 +1,9 @@
 -- A cell as it is read where its outputs may float: a core without Z, and what drives its three-state outputs.
-use Rattle.std.specs.Prelude.{◌≡◌, ℕ, List, [], ◌∷◌, ◌++◌, codes, decimal, Option}
+use Rattle.std.specs.Prelude.{◌≡◌, ℕ, List, [], ◌∷◌, ◌++◌, length, codes, decimal, Option}
 use Rattle.liberty_text.specs.declared.time.Unit.{Unit}
 use Rattle.liberty_groups.specs.declared.tree.Group.{Group}
 use Rattle.cell_machine.specs.CellData.{CellData, data_of}
+use Rattle.cell_machine.specs.CellTrace.{inputs_of}
 use Rattle.cell_parts.specs.Groups.{cell_name}
 use Rattle.cell_parts.specs.Pins.{pins_of}
 use Rattle.cell_parts.specs.CellLaws.{groups_of, outputs_of}
@@ -10,24 +11,24 @@ use Rattle.cell_reader.specs.declared.left_out.LeftOut.{LeftOut}
 use Rattle.cell_reader.specs.declared.read.ReadCell.{ReadCell}
 use Rattle.cell_reader.specs.CellTexts.{subject_of}
 use Rattle.cell_reader.specs.Refusals.{checks_of, arcs_of, left_out_of}
-use Rattle.three_state_cells.specs.declared.driven_cell.DrivePath.{DrivePath}
+use Rattle.driven_traces.specs.declared.drivers.Driver.{Driver}
+use Rattle.driven_traces.specs.Drivers.{plain}
 use Rattle.three_state_cells.specs.declared.driven_cell.DrivenCell.{DrivenCell}
 use Rattle.three_state_cells.specs.declared.drivers.Drivers.{Drivers}
-use Rattle.three_state_cells.specs.Outputs.{ThreeStateOutput, three_state_outputs}
+use Rattle.three_state_cells.specs.declared.outputs.CellPins.{CellPins}
+use Rattle.three_state_cells.specs.Outputs.{ThreeStateOutput, three_state_outputs, ArePins}
 use Rattle.three_state_cells.specs.CoreGroups.{core_group}
-use Rattle.three_state_cells.specs.Timing.{driven_of, paths_from, all_left_out, in_pin_order}
+use Rattle.three_state_cells.specs.Timing.{driver_of, all_left_out, in_pin_order}
 
 -- what is read of a cell, its core without the rules that a cell keeps
 pub record DrivenData : Type 0 where
   pub core : CellData
   pub name : List ℕ
-  pub driven : List ℕ
-  pub paths : List DrivePath
+  pub driver : Driver
   pub left_out : List LeftOut
 
 abbrev pub driven_data_of : DrivenCell → DrivenData
-driven_data_of cell =
-    record { core = data_of cell.core; name = cell.name; driven = cell.driven; paths = cell.paths; left_out = cell.left_out }
+driven_data_of cell = record { core = data_of cell.core; name = cell.name; driver = cell.driver; left_out = cell.left_out }
 
 -- the cell with this name and number that a group describes
 abbrev pub cell_data : Option Unit → List ℕ → ℕ → Group → CellData
@@ -47,33 +48,35 @@ core_name number = codes "-z" ++ decimal number
 
 -- What drives these three-state outputs, where this is the group of the core.
 pub record AreDrivers (unit : Option Unit) (core : Group) (outputs : List ThreeStateOutput) (drivers : Drivers) : Type 0 where
-  pub driven : drivers.driven ≡ driven_of (pins_of core) outputs
-  pub paths : drivers.paths ≡ paths_from (subject_of unit core) 0 outputs
+  pub driver : drivers.driver ≡ driver_of (subject_of unit core) outputs
   pub left_out : drivers.left_out ≡ all_left_out (subject_of unit core) outputs
+
+-- This is the group of the core of a cell with these pin groups and three-state outputs.
+abbrev pub IsCoreOfPins : Group → CellPins → Type 0
+IsCoreOfPins core pins = (cell : Group) × ((core ≡ core_group cell) × ArePins cell pins)
 
 -- The cell with this number whose core was read so, under another name, and whose three-state outputs these drive.
 pub record IsFloating (read : ReadCell) (drivers : Drivers) (number : ℕ) (cell : DrivenCell) : Type 0 where
   pub core : data_of cell.core ≡ record (data_of read.cell) { name = core_name number }
   pub name : cell.name ≡ read.cell.name
-  pub driven : cell.driven ≡ drivers.driven
-  pub paths : cell.paths ≡ drivers.paths
+  pub driver : cell.driver ≡ drivers.driver
   pub left_out : cell.left_out ≡ in_pin_order 0 read.cell.pins read.left_out drivers.left_out
 
 -- A cell with this core and these three-state outputs, of which there are some. Its own name is that of its core's group.
-abbrev pub floating_of : Option Unit → ℕ → Group → List ThreeStateOutput → DrivenData
+unfoldable pub floating_of : Option Unit → ℕ → Group → List ThreeStateOutput → DrivenData
 floating_of unit number core outputs =
     record {
       core = cell_data unit (core_name number) number core;
       name = cell_name core;
-      driven = driven_of (pins_of core) outputs;
-      paths = paths_from (subject_of unit core) 0 outputs;
+      driver = driver_of (subject_of unit core) outputs;
       left_out =
           in_pin_order 0 (pins_of core) (left_out_of (subject_of unit core) core) (all_left_out (subject_of unit core) outputs);
     }
 
 -- A cell that is its own core, with what it leaves out.
 abbrev pub plain_of : CellData → List LeftOut → DrivenData
-plain_of core left_out = record { core = core; name = core.name; driven = []; paths = []; left_out = left_out }
+plain_of core left_out =
+    record { core = core; name = core.name; driver = plain (inputs_of core) (length core.outputs); left_out = left_out }
 
 -- A cell without three-state outputs is its own core under its own name.
 abbrev pub data_by : Option Unit → ℕ → Group → List ThreeStateOutput → DrivenData
@@ -82,5 +85,5 @@ data_by unit number cell [] =
 data_by unit number cell (output ∷ outputs) = floating_of unit number (core_group cell) (output ∷ outputs)
 
 -- What is read of the cell with this number that a group describes, where its library has this time unit and nothing refuses it.
-abbrev pub driven_data : Option Unit → ℕ → Group → DrivenData
+unfoldable pub driven_data : Option Unit → ℕ → Group → DrivenData
 driven_data unit number cell = data_by unit number cell (three_state_outputs cell)

@@ -61,7 +61,7 @@ abbrev pub driver_refusal : Subject → List Group → Option Refusal
 driver_refusal core groups = refusal_with core None 0 groups
 
 -- Why a cell with this core and these pin groups is refused, where it is.
-abbrev pub floating_refusal : Option Unit → List (List ℕ) → Group → List Group → Option Refusal
+unfoldable pub floating_refusal : Option Unit → List (List ℕ) → Group → List Group → Option Refusal
 floating_refusal unit earlier core groups =
     first_of_two (refusal_of (subject_of unit core) earlier core) (driver_refusal (subject_of unit core) groups)
 
@@ -72,7 +72,7 @@ refusal_by unit earlier cell [] = refusal_of (subject_of unit cell) earlier cell
 refusal_by unit earlier cell (output ∷ outputs) = floating_refusal unit earlier (core_group cell) (pin_groups cell)
 
 -- Why a cell is refused, where it is, if its library has this time unit and these names of cells stand before it.
-abbrev pub driven_refusal : Option Unit → List (List ℕ) → Group → Option Refusal
+unfoldable pub driven_refusal : Option Unit → List (List ℕ) → Group → Option Refusal
 driven_refusal unit earlier cell = refusal_by unit earlier cell (three_state_outputs cell)
 
 -- This is why a cell is refused as one without Z, where some cells stand before it.

@@ -1,15 +1,16 @@
 -- The paths and the left-out timing groups of three-state outputs.
-use Rattle.std.specs.Prelude.{ℕ, ◌+◌, Bool, ◌==◌, List, [], ◌∷◌, ◌++◌, map, filter, flat_map, slice_get}
+use Rattle.std.specs.Prelude.{ℕ, ◌+◌, ◌-◌, Bool, ◌==◌, List, [], ◌∷◌, ◌++◌, length, count_by, map, filter, flat_map, slice_get}
 use Rattle.cell_machine.specs.declared.pins.Pin.{Pin}
 use Rattle.cell_machine.specs.declared.arcs.Arc.{Arc}
 use Rattle.cell_machine.specs.CellRules.{is_output}
-use Rattle.cell_machine.specs.Inputs.{input_number, number_among}
+use Rattle.cell_machine.specs.Inputs.{is_input_at, input_number, number_among}
+use Rattle.driven_traces.specs.declared.delays.DrivePath.{DrivePath}
+use Rattle.driven_traces.specs.declared.drivers.Driver.{Driver}
 use Rattle.timing_arcs.specs.declared.subject.Subject.{Subject}
 use Rattle.timing_arcs.specs.declared.subject.PinTiming.{PinTiming}
 use Rattle.timing_arcs.specs.Timing.{timing_groups, reading_answer}
 use Rattle.cell_reader.specs.declared.left_out.LeftOut.{LeftOut}
 use Rattle.cell_reader.specs.PinTimings.{Answer, subject_at, arcs_in, in_timing, type_text}
-use Rattle.three_state_cells.specs.declared.driven_cell.DrivePath.{DrivePath}
 use Rattle.three_state_cells.specs.Outputs.{ThreeStateOutput}
 use Rattle.three_state_cells.specs.DriverGroups.{driver_pin}
 
@@ -41,6 +42,16 @@ abbrev pub paths_from : Subject → ℕ → List ThreeStateOutput → List Drive
 paths_from core drive [] = []
 paths_from core drive (output ∷ outputs) =
     paths_of core drive output ++ paths_from core (drive + 1) outputs
+
+-- The driver of some three-state outputs, where these are the pins of the core: behind its other outputs the core has one more for
+-- each of them.
+unfoldable pub driver_of : Subject → List ThreeStateOutput → Driver
+driver_of core outputs = record {
+  inputs = count_by is_input_at core.pins;
+  outputs = count_by is_output_at core.pins - length outputs;
+  drives = driven_of core.pins outputs;
+  paths = paths_from core 0 outputs;
+}
 
 -- The timing group at this place among those of an output, by its type as it is written.
 abbrev pub left_out_as : ThreeStateOutput → ℕ → LeftOut

@@ -1,27 +1,27 @@
 //! What drives the three-state outputs of a cell.
-ghost use Rattle.std.specs.Prelude.{◌≡◌, [], ◌∷◌, ◌++◌, IfOk, OnOk, length, map};
-ghost use Rattle.cell_machine.specs.Inputs.{input_number as input_number_of};
+ghost use Rattle.std.specs.Prelude.{◌≡◌, ◌≤◌, ◌-◌, [], ◌∷◌, ◌++◌, IfOk, OnOk, length, count_by, map};
+ghost use Rattle.cell_machine.specs.Inputs.{is_input_at, input_number as input_number_of};
 ghost use Rattle.three_state_cells.specs.Outputs.{shown};
 ghost use Rattle.timing_arcs.specs.Timing.{reading_answer};
 ghost use Rattle.cell_reader.specs.PinTimings.{subject_at, arcs_in};
 ghost use Rattle.three_state_cells.specs.DriverGroups.{driver_pin as driver_pin_of};
-ghost use Rattle.three_state_cells.specs.Timing.{output_number as output_number_of, driven_of, path_of as path_of_arc, places_in};
-ghost use Rattle.three_state_cells.specs.Timing.{left_out_of, all_left_out, paths_of, paths_from};
+ghost use Rattle.three_state_cells.specs.Timing.{is_output_at, output_number as output_number_of, driven_of, path_of as path_of_arc};
+ghost use Rattle.three_state_cells.specs.Timing.{places_in, left_out_of, all_left_out, paths_of, paths_from, driver_of as driver_of_outputs};
 
-use crate::driven_cell::DrivePath;
 use crate::driver_groups::driver_pin;
 use crate::left_out::add_left_out;
 use crate::outputs::ThreeStateOutput;
 use crate::subjects::move_to;
 use cell_machine::{Arc, Direction, Pin};
 use cell_reader::LeftOut;
+use driven_traces::{DrivePath, Driver};
 use liberty_groups::Group;
 use sqlite_items::Items;
 use std::alloc::{AllocError, Global};
 use timing_arcs::{PinTiming, Room, Subject, TimingFault, read_timing};
 
 /// The number of a pin among the input pins: how many of these stand before it.
-fn input_number(pins: &[Pin], pin: usize) -> usize
+pub(crate) fn input_number(pins: &[Pin], pin: usize) -> usize
     ensures { result ≡ input_number_of pins.now pin }
 {
     pins.iter()
@@ -82,15 +82,34 @@ fn answer_of(
 /// What drives some three-state outputs.
 #[derive(Drop)]
 pub(crate) struct Drivers {
-    /// Their numbers among the outputs of the core, in order.
-    pub driven: Items<usize>,
-    /// Their paths.
-    pub paths: Items<DrivePath>,
+    /// Their driver.
+    pub driver: Driver,
     /// Their timing groups that make no path.
     pub left_out: Items<LeftOut>,
 }
 
 impl Drivers {
+    /// Those of no outputs so far, where these are the pins of a core that has so many enables.
+    #[tactic(auto, using(crate::proofs::Turns::all_inputs, crate::proofs::Turns::all_outputs))]
+    fn new(alloc: Global, pins: &[Pin], enables: usize) -> Drivers
+        requires { enables ≤ count_by is_output_at pins.now }
+        ensures inputs { result.driver.inputs ≡ count_by is_input_at pins.now }
+        ensures outputs { result.driver.outputs ≡ count_by is_output_at pins.now - enables }
+        ensures drives { result.driver.drives ≡ [] }
+        ensures paths { result.driver.paths ≡ [] }
+        ensures left_out { result.left_out ≡ [] }
+    {
+        Drivers {
+            driver: Driver {
+                inputs: input_number(pins, pins.len()),
+                outputs: output_number(pins, pins.len()) - enables,
+                drives: Items::new(alloc),
+                paths: Items::new(alloc),
+            },
+            left_out: Items::new(alloc),
+        }
+    }
+
     /// Adds what drives one more output, where these are the pins of the core.
     fn add(
         &mut self,
@@ -98,18 +117,20 @@ impl Drivers {
         core: &mut Subject,
         output: ThreeStateOutput<'_>,
     ) -> Result<(), AllocError>
-        ensures driven { OnOk result (self.new.driven ≡ self.old.driven ++ output_number_of core.old.pins output.entry.pin ∷ []) }
+        ensures inputs { OnOk result (self.new.driver.inputs ≡ self.old.driver.inputs) }
+        ensures outputs { OnOk result (self.new.driver.outputs ≡ self.old.driver.outputs) }
+        ensures drives { OnOk result (self.new.driver.drives ≡ self.old.driver.drives ++ output_number_of core.old.pins output.entry.pin ∷ []) }
         ensures paths { OnOk result
-            (self.new.paths ≡ self.old.paths ++ paths_of core.old (length self.old.driven) (shown output.entry)) }
+            (self.new.driver.paths ≡ self.old.driver.paths ++ paths_of core.old (length self.old.driver.drives) (shown output.entry)) }
         ensures left_out { OnOk result (self.new.left_out ≡ self.old.left_out ++ left_out_of core.old (shown output.entry)) }
         ensures core { OnOk result (core.new ≡ subject_at core.old output.entry.pin) }
     {
         move_to(core, output.pin);
-        let drive = self.driven.len();
+        let drive = self.driver.drives.len();
         let pins = core.pins.as_slice();
-        self.driven.push(output_number(pins, output.pin))?;
+        self.driver.drives.push(output_number(pins, output.pin))?;
         if let Ok(timing) = answer_of(alloc, core, output.group)? {
-            add_paths(&mut self.paths, pins, drive, timing.arcs.as_slice())?;
+            add_paths(&mut self.driver.paths, pins, drive, timing.arcs.as_slice())?;
             add_left_out(
                 alloc,
                 &mut self.left_out,
@@ -122,20 +143,17 @@ impl Drivers {
 }
 
 /// What drives the three-state outputs of a cell, where these are the pins of the core.
+#[tactic(auto, unfolding(crate::specs::Timing::driver_of))]
 pub(crate) fn drivers_of(
     alloc: Global,
     core: &mut Subject,
     outputs: &[ThreeStateOutput<'_>],
 ) -> Result<Drivers, AllocError>
-    ensures driven { IfOk result (λ drivers. drivers.driven ≡ driven_of core.old.pins (map shown outputs.now)) }
-    ensures paths { IfOk result (λ drivers. drivers.paths ≡ paths_from core.old 0 (map shown outputs.now)) }
+    requires { length outputs.now ≤ count_by is_output_at core.old.pins }
+    ensures driver { IfOk result (λ drivers. drivers.driver ≡ driver_of_outputs core.old (map shown outputs.now)) }
     ensures left_out { IfOk result (λ drivers. drivers.left_out ≡ all_left_out core.old (map shown outputs.now)) }
 {
-    let mut drivers = Drivers {
-        driven: Items::new(alloc),
-        paths: Items::new(alloc),
-        left_out: Items::new(alloc),
-    };
+    let mut drivers = Drivers::new(alloc, core.pins.as_slice(), outputs.len());
     for output in outputs {
         drivers.add(alloc, core, *output)?;
     }

@@ -14,6 +14,6 @@ mod outputs;
 mod read;
 mod subjects;
 
-pub use driven_cell::{DrivePath, DrivenCell};
-pub use laws::{core_pins_are, driven_cells_are_sound};
+pub use driven_cell::DrivenCell;
+pub use laws::{core_pins_are, drivers_are_of_cores, drivers_keep_limits};
 pub use read::read_driven;

@@ -1,28 +1,34 @@
 //! A cell's group to the cell whose outputs may float.
-ghost use Rattle.std.specs.Prelude.{◌≡◌, IfOk, IfErr, IsTrue, None, Some};
+ghost use Rattle.std.specs.Prelude.{◌≡◌, IfOk, IfErr, IsTrue, None, Some, [], length};
 ghost use Rattle.cell_machine.specs.CellData.{data_of};
 ghost use Rattle.cell_machine.specs.CellRules.{is_name, are_distinct};
+ghost use Rattle.cell_machine.specs.CellTrace.{inputs_of};
 ghost use Rattle.cell_parts.specs.Pins.{pin_names, pins_of as pins_of_group};
-ghost use Rattle.cell_reader.specs.CellTexts.{subject_of as subject_of_cell, Tells, IsEarlyUnmet};
-ghost use Rattle.three_state_cells.specs.Outputs.{groups_shown, outputs_shown, CanBeNumbered};
+ghost use Rattle.cell_reader.specs.CellTexts.{subject_of as subject_of_cell, Tells, IsCellOf, IsEarlyUnmet};
+ghost use Rattle.cell_reader.specs.Refusals.{left_out_of as left_out_of_cell, refusal_of};
+ghost use Rattle.driven_traces.specs.Drivers.{plain};
+ghost use Rattle.three_state_cells.specs.Outputs.{groups_shown, outputs_shown, three_state_outputs, ArePins};
+ghost use Rattle.three_state_cells.specs.Drivers.{IsDriverOf};
 ghost use Rattle.three_state_cells.specs.Timing.{in_pin_order as in_pin_order_of};
 ghost use Rattle.three_state_cells.specs.Refusals.{first_of_two, driver_refusal as driver_refusal_of, floating_refusal};
 ghost use Rattle.three_state_cells.specs.Refusals.{driven_refusal, IsRefusedCore};
 ghost use Rattle.three_state_cells.specs.DrivenCells.{driven_data, driven_data_of, core_name, plain_of, floating_of};
-ghost use Rattle.three_state_cells.specs.DrivenCells.{AreDrivers, IsFloating};
+ghost use Rattle.three_state_cells.specs.DrivenCells.{AreDrivers, IsFloating, IsCoreOfPins};
 
 use crate::copies::copy_bytes;
 use crate::core_group::core_group;
 use crate::driven_cell::DrivenCell;
 use crate::driver_refusals::{driver_refusal, first_with};
-use crate::drivers::{Drivers, drivers_of};
+use crate::drivers::{Drivers, drivers_of, input_number};
 use crate::left_out::in_pin_order;
 use crate::outputs::CellPins;
 use bool_functions::Names;
 use cell_machine::{Cell, Pin};
 use cell_parts::groups::{inner_groups, pins_among};
+use cell_parts::held::{held_with, kept_unless};
 use cell_parts::pins::pins_of;
 use cell_reader::{CellFault, LeftOut, ReadCell, Reason, Refusal, read_cell};
+use driven_traces::Driver;
 use liberty_groups::Group;
 use liberty_text::Unit;
 use sqlite_items::Items;
@@ -82,24 +88,34 @@ fn renamed(cell: Cell, name: Items<u8>) -> Cell
     }
 }
 
-/// What drives the three-state outputs of a cell with this core, or what is wrong in their delays.
+/// What drives the three-state outputs of a cell with this core.
 fn core_drivers(
     alloc: Global,
     core: &Group,
     unit: Option<Unit>,
     pins: &CellPins<'_>,
-) -> Result<Drivers, CellFault>
+) -> Result<Drivers, AllocError>
     requires early { IsEarlyUnmet core.now }
-    requires few { CanBeNumbered (groups_shown pins.now) }
-    ensures drivers { IfOk result (λ drivers. AreDrivers unit core.now (outputs_shown pins.now) drivers) }
-    ensures accepted { IfOk result (λ _. driver_refusal_of (subject_of_cell unit core.now) (groups_shown pins.now) ≡ None) }
-    ensures refused { IfErr result (Tells (driver_refusal_of (subject_of_cell unit core.now) (groups_shown pins.now))) }
+    requires is_core { IsCoreOfPins core.now pins.now }
+    ensures { IfOk result (λ drivers. AreDrivers unit core.now (outputs_shown pins.now) drivers) }
 {
     let mut subject = subject_of(alloc, core, unit)?;
-    if let Some(refusal) = driver_refusal(alloc, &mut subject, &pins.groups)? {
-        return Err(CellFault::Refused(refusal));
-    }
-    Ok(drivers_of(alloc, &mut subject, &pins.outputs)?)
+    drivers_of(alloc, &mut subject, &pins.outputs)
+}
+
+/// What decides of all that is wrong in the delays of the three-state outputs of a cell with this core.
+fn delay_refusal(
+    alloc: Global,
+    core: &Group,
+    unit: Option<Unit>,
+    pins: &CellPins<'_>,
+) -> Result<Option<Refusal>, AllocError>
+    requires early { IsEarlyUnmet core.now }
+    requires is_core { IsCoreOfPins core.now pins.now }
+    ensures { IfOk result (λ refusal. refusal ≡ driver_refusal_of (subject_of_cell unit core.now) (groups_shown pins.now)) }
+{
+    let mut subject = subject_of(alloc, core, unit)?;
+    driver_refusal(alloc, &mut subject, &pins.groups)
 }
 
 /// What decides of a refusal of the core and of what is wrong in the delays of the three-state outputs. The delays are not looked
@@ -112,7 +128,7 @@ fn decided(
     refusal: Refusal,
 ) -> Result<Refusal, AllocError>
     requires told { IsRefusedCore unit core.now refusal }
-    requires few { CanBeNumbered (groups_shown pins.now) }
+    requires is_core { IsCoreOfPins core.now pins.now }
     ensures { IfOk result
         (λ refused. Some refused
         ≡ first_of_two (Some refusal) (driver_refusal_of (subject_of_cell unit core.now) (groups_shown pins.now))) }
@@ -120,8 +136,7 @@ fn decided(
     if refusal.reason.number() < Reason::UnknownName.number() {
         return Ok(refusal);
     }
-    let mut subject = subject_of(alloc, core, unit)?;
-    let of_delays = driver_refusal(alloc, &mut subject, &pins.groups)?;
+    let of_delays = delay_refusal(alloc, core, unit, pins)?;
     Ok(first_with(refusal, of_delays))
 }
 
@@ -158,6 +173,23 @@ fn made_anew(
     })
 }
 
+/// The cell with this core, whose three-state outputs these drive, where this is made of them.
+fn driven_by(read: ReadCell, drivers: Drivers, made: Made) -> DrivenCell
+    requires name { IsTrue (is_name made.core_name) }
+    requires driver { IsDriverOf (data_of read.cell) drivers.driver }
+    ensures core { data_of result.core ≡ record (data_of read.cell) { name = made.core_name } }
+    ensures name { result.name ≡ made.name }
+    ensures driver { result.driver ≡ drivers.driver }
+    ensures left_out { result.left_out ≡ made.left_out }
+{
+    DrivenCell {
+        core: renamed(read.cell, made.core_name),
+        name: made.name,
+        driver: drivers.driver,
+        left_out: made.left_out,
+    }
+}
+
 /// The cell with this core, whose three-state outputs these drive.
 fn floating_cell(
     alloc: Global,
@@ -165,35 +197,83 @@ fn floating_cell(
     drivers: Drivers,
     number: usize,
 ) -> Result<DrivenCell, AllocError>
+    requires { IsDriverOf (data_of read.cell) drivers.driver }
     ensures { IfOk result (λ cell. IsFloating read drivers number cell) }
 {
-    let made = made_anew(alloc, &read, &drivers, number)?;
-    Ok(DrivenCell {
-        core: renamed(read.cell, made.core_name),
-        name: made.name,
-        driven: drivers.driven,
-        paths: drivers.paths,
-        left_out: made.left_out,
-    })
+    let made = made_anew(alloc, &read, &drivers, number);
+    let ((read, drivers), made) = held_with((read, drivers), made)?;
+    Ok(driven_by(read, drivers, made))
 }
 
-/// The cell without three-state outputs that was read.
-fn plain_cell(alloc: Global, read: ReadCell) -> Result<DrivenCell, AllocError>
-    ensures { IfOk result (λ cell. driven_data_of cell ≡ plain_of (data_of read.cell) read.left_out) }
+/// The cell with this number and this core, which was read so, where nothing is wrong in the delays of its three-state outputs.
+fn with_drivers(
+    alloc: Global,
+    core: &Group,
+    unit: Option<Unit>,
+    pins: &CellPins<'_>,
+    number: usize,
+    read: ReadCell,
+) -> Result<DrivenCell, AllocError>
+    requires early { IsEarlyUnmet core.now }
+    requires is_core { IsCoreOfPins core.now pins.now }
+    requires cell { IsCellOf (subject_of_cell unit core.now) number core.now read.cell }
+    requires left_out { read.left_out ≡ left_out_of_cell (subject_of_cell unit core.now) core.now }
+    ensures { IfOk result (λ driven. driven_data_of driven ≡ floating_of unit number core.now (outputs_shown pins.now)) }
 {
-    let name = copy_bytes(alloc, read.cell.name.as_slice())?;
-    Ok(DrivenCell {
-        core: read.cell,
-        name,
-        driven: Items::new(alloc),
-        paths: Items::new(alloc),
-        left_out: read.left_out,
-    })
+    let drivers = core_drivers(alloc, core, unit, pins);
+    let (read, drivers) = held_with(read, drivers)?;
+    floating_cell(alloc, read, drivers, number)
 }
 
-/// The cell with this number that a group describes, where these are its pin groups and its three-state outputs, and this is the
-/// group of its core.
-fn read_floating(
+/// The same, or what is wrong in these delays.
+fn unless_wrong(
+    alloc: Global,
+    core: &Group,
+    unit: Option<Unit>,
+    pins: &CellPins<'_>,
+    number: usize,
+    read: ReadCell,
+) -> Result<DrivenCell, CellFault>
+    requires early { IsEarlyUnmet core.now }
+    requires is_core { IsCoreOfPins core.now pins.now }
+    requires cell { IsCellOf (subject_of_cell unit core.now) number core.now read.cell }
+    requires left_out { read.left_out ≡ left_out_of_cell (subject_of_cell unit core.now) core.now }
+    ensures cell { IfOk result (λ driven. driven_data_of driven ≡ floating_of unit number core.now (outputs_shown pins.now)) }
+    ensures accepted { IfOk result (λ _. driver_refusal_of (subject_of_cell unit core.now) (groups_shown pins.now) ≡ None) }
+    ensures refused { IfErr result (Tells (driver_refusal_of (subject_of_cell unit core.now) (groups_shown pins.now))) }
+{
+    match kept_unless(read, delay_refusal(alloc, core, unit, pins))? {
+        Ok(read) => Ok(with_drivers(alloc, core, unit, pins, number, read)?),
+        Err(refusal) => Err(CellFault::Refused(refusal)),
+    }
+}
+
+/// Why a cell is refused whose core is refused so.
+#[tactic(auto, unfolding(crate::specs::Refusals::floating_refusal))]
+fn core_fault(
+    alloc: Global,
+    core: &Group,
+    unit: Option<Unit>,
+    pins: &CellPins<'_>,
+    earlier: &Names,
+    fault: CellFault,
+) -> CellFault
+    requires told { Tells (refusal_of (subject_of_cell unit core.now) earlier.now core.now) fault }
+    requires is_core { IsCoreOfPins core.now pins.now }
+    ensures { Tells (floating_refusal unit earlier.now core.now (groups_shown pins.now)) result }
+{
+    let CellFault::Refused(refusal) = fault else {
+        return CellFault::Memory;
+    };
+    match decided(alloc, core, unit, pins, refusal) {
+        Ok(refusal) => CellFault::Refused(refusal),
+        Err(AllocError) => CellFault::Memory,
+    }
+}
+
+/// The cell with this number whose core this group describes, where these are its pin groups and its three-state outputs.
+#[tactic(auto, unfolding(crate::specs::Refusals::floating_refusal))]
+fn read_core(
     alloc: Global,
     core: &Group,
     pins: &CellPins<'_>,
@@ -201,22 +281,89 @@ fn read_floating(
     unit: Option<Unit>,
     earlier: &Names,
 ) -> Result<DrivenCell, CellFault>
-    requires few { CanBeNumbered (groups_shown pins.now) }
+    requires { IsCoreOfPins core.now pins.now }
     ensures cell { IfOk result (λ driven. driven_data_of driven ≡ floating_of unit number core.now (outputs_shown pins.now)) }
     ensures accepted { IfOk result (λ _. floating_refusal unit earlier.now core.now (groups_shown pins.now) ≡ None) }
     ensures refused { IfErr result (Tells (floating_refusal unit earlier.now core.now (groups_shown pins.now))) }
 {
     match read_cell(alloc, core, number, unit, earlier) {
-        Ok(read) => {
-            let drivers = core_drivers(alloc, core, unit, pins)?;
-            Ok(floating_cell(alloc, read, drivers, number)?)
-        }
-        Err(CellFault::Refused(refusal)) => {
-            let refusal = decided(alloc, core, unit, pins, refusal)?;
-            Err(CellFault::Refused(refusal))
-        }
-        Err(CellFault::Memory) => Err(CellFault::Memory),
+        Ok(read) => unless_wrong(alloc, core, unit, pins, number, read),
+        Err(fault) => Err(core_fault(alloc, core, unit, pins, earlier, fault)),
     }
+}
+
+/// The cell with this number that a group describes, where these are its pin groups and its three-state outputs, of which there are
+/// some.
+fn read_floating(
+    alloc: Global,
+    cell: &Group,
+    pins: &CellPins<'_>,
+    number: usize,
+    unit: Option<Unit>,
+    earlier: &Names,
+) -> Result<DrivenCell, CellFault>
+    requires pins { ArePins cell.now pins.now }
+    requires some { pins.now.outputs.items ≡ [] → ⊥ }
+    ensures cell { IfOk result (λ driven. driven_data_of driven ≡ driven_data unit number cell.now) }
+    ensures accepted { IfOk result (λ _. driven_refusal unit earlier.now cell.now ≡ None) }
+    ensures refused { IfErr result (Tells (driven_refusal unit earlier.now cell.now)) }
+{
+    let core = core_group(alloc, cell, &pins.outputs)?;
+    read_core(alloc, &core, pins, number, unit, earlier)
+}
+
+/// What is made of a cell without three-state outputs: its name, once more, and a driver of nothing.
+#[tactic(auto, using(crate::proofs::Turns::all_inputs))]
+fn plain_parts(alloc: Global, cell: &Cell) -> Result<(Items<u8>, Driver), AllocError>
+    ensures name { IfOk result (λ parts. parts.0 ≡ cell.now.name) }
+    ensures driver { IfOk result (λ parts. parts.1 ≡ plain (inputs_of (data_of cell.now)) (length cell.now.outputs)) }
+{
+    let pins = cell.pins.as_slice();
+    let name = copy_bytes(alloc, cell.name.as_slice())?;
+    let driver = Driver::plain(alloc, input_number(pins, pins.len()), cell.outputs.len());
+    Ok((name, driver))
+}
+
+/// The cell without three-state outputs that was read, with this name and this driver.
+fn undriven(read: ReadCell, name: Items<u8>, driver: Driver) -> DrivenCell
+    requires { IsDriverOf (data_of read.cell) driver }
+    ensures core { data_of result.core ≡ data_of read.cell }
+    ensures name { result.name ≡ name }
+    ensures driver { result.driver ≡ driver }
+    ensures left_out { result.left_out ≡ read.left_out }
+{
+    DrivenCell {
+        core: read.cell,
+        name,
+        driver,
+        left_out: read.left_out,
+    }
+}
+
+/// The cell without three-state outputs that was read.
+fn plain_cell(alloc: Global, read: ReadCell) -> Result<DrivenCell, AllocError>
+    ensures { IfOk result (λ cell. driven_data_of cell ≡ plain_of (data_of read.cell) read.left_out) }
+{
+    let parts = plain_parts(alloc, &read.cell);
+    let (read, (name, driver)) = held_with(read, parts)?;
+    Ok(undriven(read, name, driver))
+}
+
+/// The cell with this number that a group without three-state outputs describes.
+fn read_plain(
+    alloc: Global,
+    cell: &Group,
+    number: usize,
+    unit: Option<Unit>,
+    earlier: &Names,
+) -> Result<DrivenCell, CellFault>
+    requires { three_state_outputs cell.now ≡ [] }
+    ensures cell { IfOk result (λ driven. driven_data_of driven ≡ driven_data unit number cell.now) }
+    ensures accepted { IfOk result (λ _. driven_refusal unit earlier.now cell.now ≡ None) }
+    ensures refused { IfErr result (Tells (driven_refusal unit earlier.now cell.now)) }
+{
+    let read = read_cell(alloc, cell, number, unit, earlier)?;
+    Ok(plain_cell(alloc, read)?)
 }
 
 /// The cell with this number in its library that a group describes, where `unit` is the library's time unit, if it is a known
@@ -240,9 +387,8 @@ pub fn read_driven(
 {
     let pins = CellPins::of_cell(alloc, cell)?;
     if pins.never_float() {
-        let read = read_cell(alloc, cell, number, unit, earlier)?;
-        return Ok(plain_cell(alloc, read)?);
+        read_plain(alloc, cell, number, unit, earlier)
+    } else {
+        read_floating(alloc, cell, &pins, number, unit, earlier)
     }
-    let core = core_group(alloc, cell, &pins.outputs)?;
-    read_floating(alloc, &core, &pins, number, unit, earlier)
 }

@@ -11,9 +11,22 @@ unfoldable pub is_kept_entity_name : List (List ℕ) → List ℕ → Bool
 is_kept_entity_name given name =
     is_identifier name && (is_free name && (not (is_numbered (codes "cell") name) && not (is_some (number_of given (lowered name)))))
 
+-- a name where it is kept, else a word and a number
+abbrev pub name_or_numbered : Bool → List ℕ → List ℕ → ℕ → List ℕ
+name_or_numbered kept name word number = if kept then name else word ++ decimal number
+
 -- The name of the entity of the cell with this number: the cell's, or `cell` and its number where that is not kept.
 abbrev pub entity_name : ℕ → List (List ℕ) → List ℕ → List ℕ
-entity_name number given name = if is_kept_entity_name given name then name else codes "cell" ++ decimal number
+entity_name number given name = name_or_numbered (is_kept_entity_name given name) name (codes "cell") number
+
+-- The name of a cell is kept for the entity of its three-state drivers, whose architecture is called `driven`.
+abbrev pub is_kept_driver_name : List (List ℕ) → List ℕ → Bool
+is_kept_driver_name given name = is_kept_entity_name given name && not (str_eq_ignore_ascii_case name (codes "driven"))
+
+-- The name of the entity of a cell's three-state drivers, of the cell with this number: the cell's, or `vitalz` and its number
+-- where that is not kept.
+abbrev pub driver_name : ℕ → List (List ℕ) → List ℕ → List ℕ
+driver_name number given name = name_or_numbered (is_kept_driver_name given name) name (codes "vitalz") number
 
 -- The name is that of the entity or of one of these ports, whatever the case of its letters.
 abbrev pub is_taken : List ℕ → List VPort → List ℕ → Bool

@@ -18,7 +18,7 @@ mod translation;
 pub use generation::vital_model;
 pub use lookups::{keyed_state, keyed_truth, lookup_state, lookup_truth};
 pub use model::{HGate, HPath, OutValue, VEntity, VOutput, VState, VTruth};
-pub use names::entity_name;
+pub use names::{driver_name, entity_name};
 pub use ports::vital_ports;
 pub use row_words::{TableRow, words_of};
 pub use table::{Trits, TruthRow, TruthTable, VNext, VStateRow, VStateTable, VSymbol};

@@ -1,10 +1,11 @@
 //! Cells whose outputs may float, as they are read. The mark `@` stands at the offset of a refusal.
 use super::liberty::{Driven, accepted, is_told, leaves_out};
+use driven_traces::DrivePath;
 use liberty_text::Unit;
 use std::alloc::Global;
 use std::test::Fail;
 use table_tests::{Row, all_hold};
-use three_state_cells::{DrivePath, DrivenCell};
+use three_state_cells::DrivenCell;
 
 /// The number of a refusal, and the statements of a library in picoseconds whose last cell is refused so.
 struct Floating(u8, &'static str);
@@ -112,14 +113,16 @@ fn refused_cells(rt: HostRuntime) -> Result<(), Fail> {
     all_hold(rt.alloc(), &REFUSED)
 }
 
-/// The statements of a library in picoseconds, and what is read of its last cell: its name, that of its core, how many pins the core has, and
-/// the numbers and names of those that are made, which three-state outputs it has, their paths and the timing groups that it leaves out.
+/// The statements of a library in picoseconds, and what is read of its last cell: its name, that of its core, how many pins the core
+/// has, and the numbers and names of those that are made, how many outputs it has, which of them are three-state outputs, their paths
+/// and the timing groups that it leaves out.
 struct FloatingCell {
     statements: &'static str,
     name: &'static [u8],
     core: &'static [u8],
     pins: usize,
     made: &'static [(usize, &'static [u8])],
+    outputs: usize,
     driven: &'static [usize],
     paths: &'static [DrivePath],
     left_out: &'static [(usize, &'static str)],
@@ -149,8 +152,9 @@ fn is_read(cell: &DrivenCell, row: &FloatingCell) -> bool {
         && cell.core.name.as_slice() == row.core
         && cell.core.pins.len() == row.pins
         && has_pins(cell, row.made)
-        && cell.driven.as_slice() == row.driven
-        && cell.paths.as_slice() == row.paths
+        && cell.driver.outputs == row.outputs
+        && cell.driver.drives.as_slice() == row.driven
+        && cell.driver.paths.as_slice() == row.paths
         && leaves_out(cell.left_out.as_slice(), row.left_out)
 }
 
@@ -224,6 +228,7 @@ const CELLS: [FloatingCell; 3] = [
         core: b"-z0",
         pins: 4,
         made: &[(3, b"-e1")],
+        outputs: 1,
         driven: &[0],
         paths: &[path!(0, 0, 5, 7), path!(1, 0, 11, 13)],
         left_out: &[(2, "three_state_disable")],
@@ -234,6 +239,7 @@ const CELLS: [FloatingCell; 3] = [
         core: b"-z1",
         pins: 7,
         made: &[(5, b"-e1"), (6, b"-e2")],
+        outputs: 3,
         driven: &[1, 2],
         paths: &[
             path!(1, 0, 5, 9),
@@ -250,6 +256,7 @@ const CELLS: [FloatingCell; 3] = [
         core: b"BUF",
         pins: 2,
         made: &[],
+        outputs: 1,
         driven: &[],
         paths: &[],
         left_out: &[],

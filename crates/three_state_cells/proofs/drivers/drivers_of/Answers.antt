@@ -11,10 +11,12 @@ loop-output-preserved c =
     let same = c.loop-output.invariant.same in
     let added = c.in_ok-add.ensures in
     record {
+      inputs = added.inputs ∙ c.loop-output.invariant.inputs;
+      outputs = added.outputs ∙ c.loop-output.invariant.outputs;
       driven =
-          driven_turn c.args.core.now c.loop-output.core output rest _ _ _ turn same added.driven ∙ c.loop-output.invariant.driven;
+          driven_turn c.args.core.now c.loop-output.core output rest _ _ _ turn same added.drives ∙ c.loop-output.invariant.driven;
       paths =
-          paths_turn c.args.core.now c.loop-output.core output rest _ _ _ _ _ turn same (one_longer _ _ _ added.driven) added.paths
+          paths_turn c.args.core.now c.loop-output.core output rest _ _ _ _ _ turn same (one_longer _ _ _ added.drives) added.paths
           ∙ c.loop-output.invariant.paths;
       left_out =
           left_out_turn c.args.core.now c.loop-output.core output rest _ _ _ turn same added.left_out ∙ c.loop-output.invariant.left_out;

@@ -9,7 +9,7 @@ returns-then-number c =
     let small : number_of_reason c.args.refusal.reason ≤ 7 = omega arith in
     sym (early_refusal_decides (subject_of c.args.unit c.args.core.now) (map (λ group. group.now) c.args.pins.now.groups.items) c.args.refusal small)
 
-pub subject_of-requires : goal.subject_of-requires
-subject_of-requires c =
+pub delay_refusal-requires-clause-early : goal.delay_refusal-requires-clause-early
+delay_refusal-requires-clause-early c =
     let large : 7 < number_of_reason c.args.refusal.reason = omega arith in
     refused_early (subject_of c.args.unit c.args.core.now) c.requires.told.0 c.args.core.now c.args.refusal c.requires.told.1 large

@@ -1,12 +1,25 @@
-use Rattle.three_state_cells.specs.Outputs.{outputs_shown}
-use Rattle.three_state_cells.proofs.DataLemmas.{floating_as}
+use Rattle.std.proofs.Common.{◌∙◌, sym, subst}
+use Rattle.cell_reader.specs.CellTexts.{Tells}
+use Rattle.cell_reader.proofs.Reading.{lift_ok, lift_err}
+use Rattle.three_state_cells.proofs.DataLemmas.{floating_data_is, floating_refusal_is}
 use Rattle.three_state_cells.proofs.read.read_floating.Goals as goal
 
-pub decided-requires-clause-told : goal.decided-requires-clause-told
-decided-requires-clause-told c = (c.args.earlier.now, rw c.in-Err-Refused.field-0-is at c.in-Err-Refused.ensures.refused)
+pub returns-clause-cell : goal.returns-clause-cell
+returns-clause-cell c =
+    let is =
+    floating_data_is c.args.unit c.args.number c.args.cell.now c.in_ok-core.core c.args.pins.now c.requires.pins c.requires.some c.in_ok-core.ensures in
+    lift_ok c.read_core.result _ _ (λ driven e. e ∙ is) c.read_core.ensures.cell
 
-pub returns-in_ok-floating_cell-in-Ok-clause-cell : goal.returns-in_ok-floating_cell-in-Ok-clause-cell
-returns-in_ok-floating_cell-in-Ok-clause-cell c =
-    floating_as c.args.unit c.args.number c.args.core.now (outputs_shown c.args.pins.now) c.in-Ok.read
-    c.in_ok-drivers-in-Ok.drivers c.in_ok-floating_cell-in-Ok.field-0 c.in-Ok.ensures.cell c.in-Ok.ensures.left_out
-    c.in_ok-drivers-in-Ok.ensures.drivers c.in_ok-floating_cell-in-Ok.ensures
+pub returns-clause-accepted : goal.returns-clause-accepted
+returns-clause-accepted c =
+    let is =
+    floating_refusal_is c.args.unit c.args.earlier.now c.args.cell.now c.in_ok-core.core c.args.pins.now c.requires.pins c.requires.some
+    c.in_ok-core.ensures in
+    lift_ok c.read_core.result _ _ (λ driven e. sym is ∙ e) c.read_core.ensures.accepted
+
+pub returns-clause-refused : goal.returns-clause-refused
+returns-clause-refused c =
+    let is =
+    floating_refusal_is c.args.unit c.args.earlier.now c.args.cell.now c.in_ok-core.core c.args.pins.now c.requires.pins c.requires.some
+    c.in_ok-core.ensures in
+    lift_err c.read_core.result _ _ (λ fault e. subst (λ refusal. Tells refusal fault) is e) c.read_core.ensures.refused

@@ -1,0 +1,3 @@
+pub mod PortDirections
+pub mod Fitting
+pub mod CoreNames

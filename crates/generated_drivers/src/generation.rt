@@ -1,0 +1,81 @@
+//! The models of a cell's three-state drivers.
+ghost use Rattle.std.specs.Prelude.{◌≡◌, ◌<◌, length, IfOk};
+ghost use Rattle.driver_models.specs.Models.{IsSound};
+ghost use Rattle.three_state_cells.specs.DrivenCells.{driven_data_of};
+ghost use Rattle.three_state_cells.specs.Drivers.{own_pins};
+ghost use Rattle.generated_drivers.specs.Generated.{verilog_driver_of, vital_driver_of};
+
+use cell_machine::Pin;
+use cell_parts::held::both_made;
+use driver_models::DriverModel;
+use specify_blocks::{driver_name, module_name, verilog_ports};
+use sqlite_items::Items;
+use std::alloc::{AllocError, Global};
+use three_state_cells::DrivenCell;
+use vhdl_names::numbered_name;
+use vital_models::vital_ports;
+
+/// The pins of a cell: those of its core before the enables.
+#[tactic(auto, using(crate::proofs::Fitting::few_drives_of))]
+pub fn own_pins(cell: &DrivenCell) -> &[Pin]
+    ensures { result.now ≡ own_pins cell.now.core.pins (length cell.now.driver.drives) }
+{
+    let pins = cell.core.pins.as_slice();
+    let own = pins.len() - cell.driver.drives.len();
+    &pins[..own]
+}
+
+/// The Verilog model of the three-state drivers of a cell that has some: a module whose core is the module of the cell's core. What
+/// it answers is sound. `AllocError` comes only where memory is wanting.
+#[tactic(auto, unfolding(crate::specs::Generated::verilog_driver_of), using(crate::proofs::Fitting::verilog_driver_is_sound))]
+pub fn verilog_driver(alloc: Global, cell: &DrivenCell) -> Result<DriverModel, AllocError>
+    requires { 0 < length cell.now.driver.drives }
+    ensures model { IfOk result (λ model. model ≡ verilog_driver_of (driven_data_of cell.now)) }
+    ensures sound { IfOk result (λ model. IsSound model) }
+{
+    let core = &cell.core;
+    let names = both_made(
+        driver_name(alloc, core.number, cell.name.as_slice()),
+        module_name(alloc, core.number, core.name.as_slice()),
+    );
+    let parts = both_made(
+        verilog_ports(alloc, own_pins(cell)),
+        cell.driver.copied(alloc),
+    );
+    let ((name, core), (ports, driver)) = both_made(names, parts)?;
+    Ok(DriverModel {
+        name,
+        core,
+        ports,
+        driver,
+    })
+}
+
+/// The VHDL model, with this name, of the three-state drivers of a cell that has some: an entity whose core is the entity of the
+/// cell's core. What it answers is sound. `AllocError` comes only where memory is wanting.
+#[tactic(auto, unfolding(crate::specs::Generated::vital_driver_of), using(crate::proofs::Fitting::vital_driver_is_sound))]
+pub fn vital_driver(
+    alloc: Global,
+    cell: &DrivenCell,
+    name: &[u8],
+) -> Result<DriverModel, AllocError>
+    requires { 0 < length cell.now.driver.drives }
+    ensures model { IfOk result (λ model. model ≡ vital_driver_of (driven_data_of cell.now) name.now) }
+    ensures sound { IfOk result (λ model. IsSound model) }
+{
+    let names = both_made(
+        Ok(Items::from_slice(alloc, name)?),
+        numbered_name(alloc, b"cell", cell.core.number),
+    );
+    let parts = both_made(
+        vital_ports(alloc, own_pins(cell), name),
+        cell.driver.copied(alloc),
+    );
+    let ((name, core), (ports, driver)) = both_made(names, parts)?;
+    Ok(DriverModel {
+        name,
+        core,
+        ports,
+        driver,
+    })
+}

@@ -25,7 +25,7 @@ use Rattle.generated_entities.proofs.Names.{unlike_lower, no_cell, cells_apart, 
 use Rattle.generated_entities.proofs.Entities.{entity-well-formed}
 
 -- a name that is kept is none of those before it
-kept_is_new : (given : List (List ℕ)) (name x : List ℕ) → is_some (number_of given (lowered name)) ≡ false → Among x given → lowered name ≡ x → ⊥
+pub kept_is_new : (given : List (List ℕ)) (name x : List ℕ) → is_some (number_of given (lowered name)) ≡ false → Among x given → lowered name ≡ x → ⊥
 kept_is_new given name x h m e =
     position-some (bytes_eq (lowered name)) given
     (found-any (bytes_eq (lowered name)) x given m ((bytes_eq-Decides (lowered name) x).1 e))

@@ -1,5 +1,6 @@
 -- The accepted cells of a library have names and numbers of which none stands twice.
 use Rattle.std.proofs.Common.{◌≡◌, ℕ, ◌+◌, ◌≤◌, Bool, true, false, IsTrue, List, [], ◌∷◌, inl, inr, refl, sym, ap, ◌∙◌, subst, arith, Contains, Option, Some, None, is_some, nat_eq, if◌then◌else◌}
+use Rattle.std.specs.Prelude.{All}
 use Rattle.std.specs.List.{IsDistinct}
 use Rattle.std.specs.Str.{bytes_eq}
 use Rattle.std.proofs.lemmas.Bool.{ne_eqb}
@@ -22,6 +23,7 @@ use Rattle.generated_modules.specs.Accepted.{IsAccepted, AreAccepted}
 use Rattle.library_cells.specs.Cells.{IsNumberedCell, names_of_cells, numbers_of_cells, AreCellsOfOneLibrary}
 use Rattle.generated_modules.specs.Laws.{AcceptedAreOfOneLibrary, AcceptedModulesAreWellFormed}
 use Rattle.library_cells.proofs.NameLists.{unlike, each_among}
+use Rattle.library_cells.proofs.KeptNames.{with_distinct_names}
 use Rattle.generated_modules.proofs.ModuleLists.{modules-well-formed}
 
 -- the name of a cell that is not refused is none of those before it
@@ -65,14 +67,20 @@ names_new from names (cell ∷ cells) h other (inl e) k = name_is_new names cell
 names_new from names (cell ∷ cells) h other (inr m) k =
     names_new (cell.number + 1) (cell.name ∷ names) cells h.3 other m (contains_later cell.name names other.name k)
 
-no_cells : AreCellsOfOneLibrary []
+-- no two of them have one name or one number
+record AreApart (cells : List CellData) : Type 0 where
+  numbered : All IsNumberedCell cells
+  names : IsDistinct bytes_eq (names_of_cells cells)
+  numbers : IsDistinct nat_eq (numbers_of_cells cells)
+
+no_cells : AreApart []
 unfolding IsDistinct
 no_cells = record { numbered = All-nil IsNumberedCell; names = tt; numbers = tt }
 
-of_one_library : (from : ℕ) (names : List (List ℕ)) (cells : List CellData) → AreAccepted from names cells → AreCellsOfOneLibrary cells
-of_one_library from names [] h = no_cells
-of_one_library from names (cell ∷ cells) h =
-    let rest = of_one_library (cell.number + 1) (cell.name ∷ names) cells h.3 in
+accepted_apart : (from : ℕ) (names : List (List ℕ)) (cells : List CellData) → AreAccepted from names cells → AreApart cells
+accepted_apart from names [] h = no_cells
+accepted_apart from names (cell ∷ cells) h =
+    let rest = accepted_apart (cell.number + 1) (cell.name ∷ names) cells h.3 in
     record {
       numbered = All-cons IsNumberedCell cell cells (record { rules = rules names cell h.2; number = h.1 }) rest.numbered;
       names = IsDistinct-cons bytes_eq cell.name (names_of_cells cells) (each_among (λ x. bytes_eq cell.name x ≡ false) (names_of_cells cells) other_name) rest.names;
@@ -94,7 +102,9 @@ of_one_library from names (cell ∷ cells) h =
         ne_eqb cell.number n (λ e. let same = other.1 in omega (arith, e, same, above))
 
 pub accepted-of-one-library : AcceptedAreOfOneLibrary
-accepted-of-one-library cells h = of_one_library 1 [] cells h
+accepted-of-one-library cells h =
+    let apart = accepted_apart 1 [] cells h in
+    with_distinct_names cells apart.numbered apart.names apart.numbers
 
 pub accepted-well-formed : AcceptedModulesAreWellFormed
 accepted-well-formed cells h = modules-well-formed cells (accepted-of-one-library cells h)

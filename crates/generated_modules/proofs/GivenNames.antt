@@ -20,7 +20,7 @@ pub record IsKept (word name : List ℕ) : Type 0 where
   pub no_lib : starts_with nat_eq name (codes "lib_") ≡ false
   pub not_given : is_numbered word name ≡ false
 
-kept : (word name : List ℕ) → IsTrue (is_kept_name word name) → IsKept word name
+pub kept : (word name : List ℕ) → IsTrue (is_kept_name word name) → IsKept word name
 unfolding is_kept_name
 kept word name h =
     let lib : Bool = not (starts_with nat_eq name (codes "lib_")) in
@@ -49,22 +49,22 @@ is_given word ds h =
     (subst (λ x. IsTrue (is_number x)) (sym (behind word ds)) h)
 
 -- a kept name is no given one
-not_given : (word name : List ℕ) (k : ℕ) → IsTrue (is_kept_name word name) → k < 2 ^ 64 → name ≡ word ++ decimal k → ⊥
+pub not_given : (word name : List ℕ) (k : ℕ) → IsTrue (is_kept_name word name) → k < 2 ^ 64 → name ≡ word ++ decimal k → ⊥
 not_given word name k h small e =
     true≢false
     (sym (ap (is_numbered word) e ∙ is_given word (decimal k) (decimal_digits k small))
     ∙ (kept word name h).not_given)
 
--- names of which the numbers and the library's names differ
+-- names of which the numbers, and the library's names where they are kept, differ
 pub given_apart :
-    (word : List ℕ) (j k : ℕ) (x y : List ℕ) → j < 2 ^ 64 → k < 2 ^ 64 → (j ≡ k → ⊥) → (x ≡ y → ⊥)
+    (word : List ℕ) (j k : ℕ) (x y : List ℕ) → j < 2 ^ 64 → k < 2 ^ 64 → (j ≡ k → ⊥) → (is_kept_name word x ≡ true → x ≡ y → ⊥)
     → given_name word j x ≡ given_name word k y → ⊥
 given_apart word j k x y h i numbers names = by (is_kept_name word x) (is_kept_name word y) refl refl
   where
     by :
         (a b : Bool) → is_kept_name word x ≡ a → is_kept_name word y ≡ b
         → (if a then x else word ++ decimal j) ≡ (if b then y else word ++ decimal k) → ⊥
-    by true true e f same = names same
+    by true true e f same = names e same
     by true false e f same = not_given word x k e i same
     by false true e f same = not_given word y j f h (sym same)
     by false false e f same = numbers (decimal_injective j k h i (append_cancel_left word (decimal j) (decimal k) same))

@@ -76,7 +76,7 @@ ports_are_named k (pin ∷ pins) d h =
         unlike (port_name k pin.name) y
         (λ e.
         given_apart (codes "pin") k f.number pin.name f.pin.name (omega arith) (omega (arith, f.below, h))
-        (λ same. omega (arith, same, f.from)) (other f.pin f.among) (e ∙ f.same))
+        (λ same. omega (arith, same, f.from)) (λ kept. other f.pin f.among) (e ∙ f.same))
 
     by :
         (b : Bool) → AreNames (port_names (ports_from (k + 1) pins)) → AreNames (port_names (ports_from k pins))
@@ -87,7 +87,7 @@ ports_are_named k (pin ∷ pins) d h =
     by false rest other = other
 
 -- no port begins as this project's own names
-port_no_lib : (k : ℕ) (pins : List Pin) (x : List ℕ) → Among x (port_names (ports_from k pins)) → starts_with nat_eq x (codes "lib_") ≡ false
+pub port_no_lib : (k : ℕ) (pins : List Pin) (x : List ℕ) → Among x (port_names (ports_from k pins)) → starts_with nat_eq x (codes "lib_") ≡ false
 port_no_lib k pins x m =
     let f = port_form k pins x m in
     subst (λ y. starts_with nat_eq y (codes "lib_") ≡ false) (sym f.same) (given_no_lib (codes "pin") (λ ds. refl) f.number f.pin.name)

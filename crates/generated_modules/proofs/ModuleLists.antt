@@ -1,5 +1,5 @@
 -- The modules of the cells of one library are well formed together: no two of all their primitives and modules share a name.
-use Rattle.std.proofs.Common.{◌≡◌, ℕ, ◌^◌, ◌<◌, Bool, true, false, ◌⊎◌, inl, inr, IsTrue, List, [], ◌∷◌, ◌++◌, map, refl, sym, ap, ◌∙◌, subst, append_assoc, codes, decimal, nat_eq}
+use Rattle.std.proofs.Common.{◌≡◌, ℕ, ◌^◌, ◌<◌, ◌≤◌, Bool, true, false, ◌⊎◌, inl, inr, IsTrue, List, [], ◌∷◌, ◌++◌, map, refl, sym, ap, ◌∙◌, subst, append_assoc, codes, decimal, nat_eq}
 use Rattle.std.specs.Prelude.{All, flat_map}
 use Rattle.std.specs.Char.{is_ascii_digit}
 use Rattle.std.specs.List.{list_all, starts_with}
@@ -9,9 +9,9 @@ use Rattle.std.proofs.lemmas.Fmt.{decimal_injective}
 use Rattle.std.proofs.lemmas.List.{append_cancel_left}
 use Rattle.std.proofs.lemmas.List.Elements.{All-nil, All-cons, All-head, All-tail, All-contains}
 use Rattle.std.proofs.lemmas.Map.Keys.{IsDistinct-tail}
-use Rattle.std.proofs.lemmas.Slice.Eq.{bytes_eq-Decides}
-use Rattle.trit_cubes.proofs.ListLemmas.{Among, among-append, among-contains}
+use Rattle.trit_cubes.proofs.ListLemmas.{Among, among-append, among-contains, map-among}
 use Rattle.cell_machine.specs.CellData.{CellData}
+use Rattle.verilog_tokens.specs.Kept.{is_kept_cell_name}
 use Rattle.specify_blocks.specs.Names.{module_name}
 use Rattle.specify_blocks.specs.Generated.{primitives_of, module_of}
 use Rattle.specify_blocks.specs.WellFormed.{IsWellFormedModule, udp_names, outer_names}
@@ -19,31 +19,32 @@ use Rattle.specify_blocks.proofs.ReadNames.{AreNames, no_names, one_name}
 use Rattle.library_cells.specs.Cells.{IsNumberedCell, names_of_cells, numbers_of_cells, AreCellsOfOneLibrary}
 use Rattle.generated_modules.specs.Laws.{ModulesAreWellFormed}
 use Rattle.library_cells.proofs.NameLists.{unlike, told_apart, other_key, join_names}
+use Rattle.library_cells.proofs.KeptNames.{kept_tail, kept_apart}
 use Rattle.library_cells.proofs.NumberedNames.{decimal_digits, number_digits, numbered_form}
 use Rattle.generated_modules.proofs.GivenNames.{given_apart, given_no_lib}
 use Rattle.generated_modules.proofs.PrimitiveNames.{primitive_front, primitives_named, primitives_are_named, primitive_count}
 use Rattle.generated_modules.proofs.Modules.{primitives_few, name_is_one, module_well_formed}
 
 -- a name before a module's end: that of a primitive, or the module's own
-abbrev IsOuter : CellData → List ℕ → Type 0
-IsOuter cell x = ((j : ℕ) × (x ≡ primitive_front cell.number ++ decimal j)) ⊎ (x ≡ module_name cell.number cell.name)
+abbrev pub IsOuter : CellData → List ℕ → Type 0
+IsOuter cell x = ((j : ℕ) × (j ≤ primitive_count cell) × (x ≡ primitive_front cell.number ++ decimal j)) ⊎ (x ≡ module_name cell.number cell.name)
 
 outer_form : (cell : CellData) (x : List ℕ) → Among x (outer_names (module_of cell)) → IsOuter cell x
 outer_form cell x m =
     elim (among-append x (udp_names (primitives_of cell)) (module_name cell.number cell.name ∷ []) m) [
       | inl primitive ↦
           let form = numbered_form (primitive_front cell.number) (primitive_count cell) x (subst (λ l. Among x l) (primitives_named cell) primitive) in
-          inl (form.0, form.3)
+          inl (form.0, form.2, form.3)
       | inr own ↦ elim own [ inl e ↦ inr (sym e) | inr none ↦ absurd none ]
     ]
 
-abbrev is_own : List ℕ → Bool
+abbrev pub is_own : List ℕ → Bool
 is_own x = starts_with nat_eq x (codes "lib_")
 
-own_primitive : (c : ℕ) (ds x : List ℕ) → x ≡ primitive_front c ++ ds → is_own x ≡ true
+pub own_primitive : (c : ℕ) (ds x : List ℕ) → x ≡ primitive_front c ++ ds → is_own x ≡ true
 own_primitive c ds x e = ap is_own e
 
-module_no_lib : (cell : CellData) (x : List ℕ) → x ≡ module_name cell.number cell.name → is_own x ≡ false
+pub module_no_lib : (cell : CellData) (x : List ℕ) → x ≡ module_name cell.number cell.name → is_own x ≡ false
 module_no_lib cell x e = ap is_own e ∙ given_no_lib (codes "cell") (λ ds. refl) cell.number cell.name
 
 -- digits end where another byte stands
@@ -65,7 +66,7 @@ same_digits (x ∷ xs) (y ∷ ys) r s h k e =
     ap (λ z. z ∷ xs) first ∙ ap (λ l. y ∷ l) later
 
 -- primitives of two cells
-fronts_apart : (c d : ℕ) (r s : List ℕ) → c < 2 ^ 64 → d < 2 ^ 64 → (c ≡ d → ⊥) → primitive_front c ++ r ≡ primitive_front d ++ s → ⊥
+pub fronts_apart : (c d : ℕ) (r s : List ℕ) → c < 2 ^ 64 → d < 2 ^ 64 → (c ≡ d → ⊥) → primitive_front c ++ r ≡ primitive_front d ++ s → ⊥
 fronts_apart c d r s h k apart e =
     let behind : (decimal c ++ codes "_") ++ r ≡ (decimal d ++ codes "_") ++ s
     = append_cancel_left (codes "lib_") ((decimal c ++ codes "_") ++ r) ((decimal d ++ codes "_") ++ s) e in
@@ -76,14 +77,14 @@ fronts_apart c d r s h k apart e =
 
 -- the names of two cells of one library
 outer_apart :
-    (cell other : CellData) (x y : List ℕ) → cell.number < 2 ^ 64 → other.number < 2 ^ 64 → (cell.number ≡ other.number → ⊥) → (cell.name ≡ other.name → ⊥)
+    (cell other : CellData) (x y : List ℕ) → cell.number < 2 ^ 64 → other.number < 2 ^ 64 → (cell.number ≡ other.number → ⊥) → (is_kept_cell_name cell.name ≡ true → cell.name ≡ other.name → ⊥)
     → IsOuter cell x → IsOuter other y → bytes_eq x y ≡ false
 outer_apart cell other x y h k numbers names (inl f) (inl g) =
-    unlike x y (λ e. fronts_apart cell.number other.number (decimal f.0) (decimal g.0) h k numbers (sym f.1 ∙ e ∙ g.1))
+    unlike x y (λ e. fronts_apart cell.number other.number (decimal f.0) (decimal g.0) h k numbers (sym f.2 ∙ e ∙ g.2))
 outer_apart cell other x y h k numbers names (inl f) (inr g) =
-    unlike x y (λ e. true≢false (sym (own_primitive cell.number (decimal f.0) x f.1) ∙ ap is_own e ∙ module_no_lib other y g))
+    unlike x y (λ e. true≢false (sym (own_primitive cell.number (decimal f.0) x f.2) ∙ ap is_own e ∙ module_no_lib other y g))
 outer_apart cell other x y h k numbers names (inr f) (inl g) =
-    told_apart is_own x y (module_no_lib cell x f) (own_primitive other.number (decimal g.0) y g.1)
+    told_apart is_own x y (module_no_lib cell x f) (own_primitive other.number (decimal g.0) y g.2)
 outer_apart cell other x y h k numbers names (inr f) (inr g) =
     unlike x y (λ e. given_apart (codes "cell") cell.number other.number cell.name other.name h k numbers names (sym f ∙ e ∙ g))
 
@@ -102,7 +103,7 @@ outer_named cell h =
     outer_own x y j e (inr none) = absurd none
 
 -- a name before the end of the modules of some cells is one of some cell
-outer_of : (cells : List CellData) (x : List ℕ) → Among x (flat_map outer_names (map module_of cells)) → (cell : CellData) × Among cell cells × IsOuter cell x
+pub outer_of : (cells : List CellData) (x : List ℕ) → Among x (flat_map outer_names (map module_of cells)) → (cell : CellData) × Among cell cells × IsOuter cell x
 outer_of [] x m = absurd m
 outer_of (cell ∷ cells) x m =
     elim (among-append x (outer_names (module_of cell)) (flat_map outer_names (map module_of cells)) m) [
@@ -113,7 +114,7 @@ outer_of (cell ∷ cells) x m =
 others : (cell : CellData) (cells : List CellData) → AreCellsOfOneLibrary (cell ∷ cells) → AreCellsOfOneLibrary cells
 others cell cells h = record {
   numbered = All-tail IsNumberedCell cell cells h.numbered;
-  names = IsDistinct-tail bytes_eq cell.name (names_of_cells cells) h.names;
+  names = kept_tail bytes_eq is_kept_cell_name cell.name (names_of_cells cells) h.names;
   numbers = IsDistinct-tail nat_eq cell.number (numbers_of_cells cells) h.numbers;
 }
 
@@ -127,7 +128,8 @@ all_named (cell ∷ cells) h =
     let found = outer_of cells y i in
     let its = All-contains IsNumberedCell cells found.0 (All-tail IsNumberedCell cell cells h.numbered) (among-contains found.0 cells found.1) in
     outer_apart cell found.0 x y first.number its.number (other_key nat_eq (λ (c : CellData). c.number) eq-eqb cell cells h.numbers found.0 found.1)
-    (other_key bytes_eq (λ (c : CellData). c.name) (λ a b. (bytes_eq-Decides a b).1) cell cells h.names found.0 found.1) (outer_form cell x m) found.2)
+    (kept_apart is_kept_cell_name cell.name found.0.name (names_of_cells cells) h.names (map-among (λ (c : CellData). c.name) found.0 cells found.1))
+    (outer_form cell x m) found.2)
 
 all_well_formed : (cells : List CellData) → All IsNumberedCell cells → All IsWellFormedModule (map module_of cells)
 all_well_formed [] h = All-nil IsWellFormedModule

@@ -1,4 +1,5 @@
 pub mod NameLists
+pub mod KeptNames
 pub mod NumberedNames
 pub mod Conditions
 pub mod CellParts

@@ -9,6 +9,7 @@ use Rattle.cell_machine.specs.CellData.{CellData}
 use Rattle.vital_models.specs.Kept.{entity_name}
 use Rattle.library_items.specs.Progress.{next_data, next_entity}
 use Rattle.library_cells.specs.Cells.{IsNumberedCell, AreCellsOfOneLibrary}
+use Rattle.library_cells.proofs.KeptNames.{with_distinct_names}
 use Rattle.selftest_runs.specs.EntityNames.{NextCellsHaveEntityNames}
 
 pub next_names : NextCellsHaveEntityNames
@@ -29,8 +30,6 @@ numbered cell rules number = record { rules = rules; number = number }
 
 -- a cell alone is a library
 pub one_cell : (cell : CellData) → IsNumberedCell cell → AreCellsOfOneLibrary (cell ∷ [])
-one_cell cell h = record {
-  numbered = All-cons IsNumberedCell cell [] h (All-nil IsNumberedCell);
-  names = one_apart bytes_eq cell.name;
-  numbers = one_apart nat_eq cell.number;
-}
+one_cell cell h =
+    with_distinct_names (cell ∷ []) (All-cons IsNumberedCell cell [] h (All-nil IsNumberedCell)) (one_apart bytes_eq cell.name)
+    (one_apart nat_eq cell.number)

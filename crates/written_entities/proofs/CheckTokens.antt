@@ -13,8 +13,8 @@ use Rattle.vhdl_writer.specs.Joined.{numbered_texts}
 use Rattle.vhdl_writer.specs.Names.{port_at}
 use Rattle.vhdl_writer.specs.Statements.{one_text, enabled_text, test_at, reference_at, transition_text, high_word, low_word, setup_hold_text, recovery_word, active_text, recovery_removal_text, width_word, pulse_word, period_pulse_text, kind_text, check_text}
 use Rattle.grammar_phrases.proofs.Fronts.{Front, Anything}
-use Rattle.grammar_phrases.proofs.Spelling.{joins, behind, anywhere}
-use Rattle.written_entities.proofs.Spelling.{Spells, argument, literal}
+use Rattle.grammar_phrases.proofs.Spelling.{literal, joins, behind, anywhere}
+use Rattle.written_entities.proofs.Spelling.{Spells, argument}
 use Rattle.written_entities.proofs.Words.{Ends, word, name, number, true_word}
 use Rattle.written_entities.proofs.Counting.{counted, counted_anywhere}
 use Rattle.written_entities.proofs.Parts.{part_behind, IsBehind, by_kind}
@@ -109,58 +109,58 @@ abbrev pub check_front : VEntity → ℕ → TimingCheck → Front
 check_front e n k s = check_word k.kind ∷ check_more e n k k.kind s
 
 setup_hold_word : {t : Bool} → Spells Anything t (codes "    VitalSetupHoldCheck (Violation => ") (λ s. codes "VitalSetupHoldCheck" ∷ codes "(" ∷ codes "Violation" ∷ codes "=>" ∷ s) false
-setup_hold_word = literal 38 (λ r. refl)
+setup_hold_word = literal (λ r. refl) refl
 
 recovery_removal_word : {t : Bool} → Spells Anything t (codes "    VitalRecoveryRemovalCheck (Violation => ") (λ s. codes "VitalRecoveryRemovalCheck" ∷ codes "(" ∷ codes "Violation" ∷ codes "=>" ∷ s) false
-recovery_removal_word = literal 44 (λ r. refl)
+recovery_removal_word = literal (λ r. refl) refl
 
 period_pulse_word : {t : Bool} → Spells Anything t (codes "    VitalPeriodPulseCheck (Violation => ") (λ s. codes "VitalPeriodPulseCheck" ∷ codes "(" ∷ codes "Violation" ∷ codes "=>" ∷ s) false
-period_pulse_word = literal 40 (λ r. refl)
+period_pulse_word = literal (λ r. refl) refl
 
 setup_high : IsBehind (codes ", SetupHigh => ") (λ s. codes "," ∷ codes "SetupHigh" ∷ codes "=>" ∷ s)
-setup_high = record { spelled = literal 15 (λ r. refl); begins = λ r. refl }
+setup_high = record { spelled = literal (λ r. refl) refl; begins = λ r. refl }
 
 hold_high : IsBehind (codes ", HoldHigh => ") (λ s. codes "," ∷ codes "HoldHigh" ∷ codes "=>" ∷ s)
-hold_high = record { spelled = literal 14 (λ r. refl); begins = λ r. refl }
+hold_high = record { spelled = literal (λ r. refl) refl; begins = λ r. refl }
 
 setup_low : IsBehind (codes " ps, SetupLow => ") (λ s. codes "ps" ∷ codes "," ∷ codes "SetupLow" ∷ codes "=>" ∷ s)
-setup_low = record { spelled = literal 17 (λ r. refl); begins = λ r. refl }
+setup_low = record { spelled = literal (λ r. refl) refl; begins = λ r. refl }
 
 hold_low : IsBehind (codes " ps, HoldLow => ") (λ s. codes "ps" ∷ codes "," ∷ codes "HoldLow" ∷ codes "=>" ∷ s)
-hold_low = record { spelled = literal 16 (λ r. refl); begins = λ r. refl }
+hold_low = record { spelled = literal (λ r. refl) refl; begins = λ r. refl }
 
 enabled_word : {t : Bool} → Spells Anything t (codes " ps, CheckEnabled => ") (λ s. codes "ps" ∷ codes "," ∷ codes "CheckEnabled" ∷ codes "=>" ∷ s) false
-enabled_word = literal 21 (λ r. refl)
+enabled_word = literal (λ r. refl) refl
 
 rise_transition : IsBehind (codes ", RefTransition => 'R');\n") (λ s. codes "," ∷ codes "RefTransition" ∷ codes "=>" ∷ codes "'R'" ∷ codes ")" ∷ codes ";" ∷ s)
-rise_transition = record { spelled = literal 25 (λ r. refl); begins = λ r. refl }
+rise_transition = record { spelled = literal (λ r. refl) refl; begins = λ r. refl }
 
 fall_transition : IsBehind (codes ", RefTransition => 'F');\n") (λ s. codes "," ∷ codes "RefTransition" ∷ codes "=>" ∷ codes "'F'" ∷ codes ")" ∷ codes ";" ∷ s)
-fall_transition = record { spelled = literal 25 (λ r. refl); begins = λ r. refl }
+fall_transition = record { spelled = literal (λ r. refl) refl; begins = λ r. refl }
 
 recovery_limit : IsBehind (codes ", Recovery => ") (λ s. codes "," ∷ codes "Recovery" ∷ codes "=>" ∷ s)
-recovery_limit = record { spelled = literal 14 (λ r. refl); begins = λ r. refl }
+recovery_limit = record { spelled = literal (λ r. refl) refl; begins = λ r. refl }
 
 removal_limit : IsBehind (codes ", Removal => ") (λ s. codes "," ∷ codes "Removal" ∷ codes "=>" ∷ s)
-removal_limit = record { spelled = literal 13 (λ r. refl); begins = λ r. refl }
+removal_limit = record { spelled = literal (λ r. refl) refl; begins = λ r. refl }
 
 active_word : IsBehind (codes " ps, ActiveLow => true, CheckEnabled => ") (λ s. codes "ps" ∷ codes "," ∷ codes "ActiveLow" ∷ codes "=>" ∷ codes "true" ∷ codes "," ∷ codes "CheckEnabled" ∷ codes "=>" ∷ s)
-active_word = record { spelled = literal 40 (λ r. refl); begins = λ r. refl }
+active_word = record { spelled = literal (λ r. refl) refl; begins = λ r. refl }
 
 inactive_word : IsBehind (codes " ps, ActiveLow => false, CheckEnabled => ") (λ s. codes "ps" ∷ codes "," ∷ codes "ActiveLow" ∷ codes "=>" ∷ codes "false" ∷ codes "," ∷ codes "CheckEnabled" ∷ codes "=>" ∷ s)
-inactive_word = record { spelled = literal 41 (λ r. refl); begins = λ r. refl }
+inactive_word = record { spelled = literal (λ r. refl) refl; begins = λ r. refl }
 
 high_pulse : IsBehind (codes ", PulseWidthHigh => ") (λ s. codes "," ∷ codes "PulseWidthHigh" ∷ codes "=>" ∷ s)
-high_pulse = record { spelled = literal 20 (λ r. refl); begins = λ r. refl }
+high_pulse = record { spelled = literal (λ r. refl) refl; begins = λ r. refl }
 
 low_pulse : IsBehind (codes ", PulseWidthLow => ") (λ s. codes "," ∷ codes "PulseWidthLow" ∷ codes "=>" ∷ s)
-low_pulse = record { spelled = literal 19 (λ r. refl); begins = λ r. refl }
+low_pulse = record { spelled = literal (λ r. refl) refl; begins = λ r. refl }
 
 period_limit : IsBehind (codes ", Period => ") (λ s. codes "," ∷ codes "Period" ∷ codes "=>" ∷ s)
-period_limit = record { spelled = literal 12 (λ r. refl); begins = λ r. refl }
+period_limit = record { spelled = literal (λ r. refl) refl; begins = λ r. refl }
 
 is_one : {t : Bool} → Spells Anything t (codes " = '1'") (λ s. codes "=" ∷ codes "'1'" ∷ s) false
-is_one = literal 6 (λ r. refl)
+is_one = literal (λ r. refl) refl
 
 enabled_spelled : (e : VEntity) → IsWellFormedEntity e → (when : Option ℕ) → ((i : ℕ) → when ≡ Some i → i < length e.conditions) → Spells Ends false (enabled_text e when) (enabled_front e when) false
 unfolding one_text
@@ -188,9 +188,9 @@ referring_spelled : {start rest : List ℕ} {f g : Front} (e : VEntity) (n : ℕ
     ++ (codes ", RefSignal => " ++ (port_at e (reference_at k k.kind).pin ++ rest)))))))) (λ s. f ((120 ∷ 95 ∷ decimal n) ∷ codes "," ∷ codes "TimingData" ∷ codes "=>" ∷ (100 ∷ 95 ∷ decimal n)
     ∷ codes "," ∷ codes "TestSignal" ∷ codes "=>" ∷ port_at e (test_at k k.kind).pin ∷ codes "," ∷ codes "RefSignal" ∷ codes "=>" ∷ port_at e (reference_at k k.kind).pin ∷ g s)) false
 referring_spelled e n k h start begins limits =
-    part_behind 120 n refl h.number start (λ r q. refl) (part_behind 100 n refl h.number (argument (codes "TimingData") 16 (λ r. refl)) (λ r q. refl)
-    (behind (argument (codes "TestSignal") 16 (λ r. refl)) (joins (name (port_at e (test_at k k.kind).pin) (input_named e h.formed (test_at k k.kind).pin (test_pin e n k h k.kind))) (λ r q. refl)
-    (behind (argument (codes "RefSignal") 15 (λ r. refl)) (joins (name (port_at e (reference_at k k.kind).pin) (input_named e h.formed (reference_at k k.kind).pin (reference_pin e n k h k.kind))) (λ r q. begins r) limits)))))
+    part_behind 120 n refl h.number start (λ r q. refl) (part_behind 100 n refl h.number (argument (codes "TimingData") (λ r. refl)) (λ r q. refl)
+    (behind (argument (codes "TestSignal") (λ r. refl)) (joins (name (port_at e (test_at k k.kind).pin) (input_named e h.formed (test_at k k.kind).pin (test_pin e n k h k.kind))) (λ r q. refl)
+    (behind (argument (codes "RefSignal") (λ r. refl)) (joins (name (port_at e (reference_at k k.kind).pin) (input_named e h.formed (reference_at k k.kind).pin (reference_pin e n k h k.kind))) (λ r q. begins r) limits)))))
 
 setup_hold_spelled : (e : VEntity) (n : ℕ) (k : TimingCheck) → IsWrittenCheck e n k → Spells Anything false (setup_hold_text e n k) (λ s. codes "VitalSetupHoldCheck" ∷ setup_hold_front e n k s) false
 unfolding setup_hold_text
@@ -231,8 +231,8 @@ pulse k =
 period_pulse_spelled : (e : VEntity) (n : ℕ) (k : TimingCheck) → IsWrittenCheck e n k → Spells Anything false (period_pulse_text e n k) (λ s. codes "VitalPeriodPulseCheck" ∷ period_pulse_front e n k s) false
 unfolding period_pulse_text
 period_pulse_spelled e n k h =
-    part_behind 120 n refl h.number period_pulse_word (λ r q. refl) (part_behind 100 n refl h.number (argument (codes "PeriodData") 16 (λ r. refl)) (λ r q. refl)
-    (behind (argument (codes "TestSignal") 16 (λ r. refl)) (joins (name (port_at e k.first.pin) (input_named e h.formed k.first.pin h.sound.first)) (λ r q. behind_begins Ends (pulse_word k k.kind) _ (pulse k k.kind).begins r)
+    part_behind 120 n refl h.number period_pulse_word (λ r q. refl) (part_behind 100 n refl h.number (argument (codes "PeriodData") (λ r. refl)) (λ r q. refl)
+    (behind (argument (codes "TestSignal") (λ r. refl)) (joins (name (port_at e k.first.pin) (input_named e h.formed k.first.pin h.sound.first)) (λ r q. behind_begins Ends (pulse_word k k.kind) _ (pulse k k.kind).begins r)
     (behind (pulse k k.kind).spelled (joins (number k.limit h.limit) (λ r q. refl)
     (behind enabled_word (joins (enabled_spelled e h.formed k.condition h.condition) (λ r q. refl) call_end)))))))
 

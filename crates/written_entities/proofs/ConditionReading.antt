@@ -25,9 +25,9 @@ use Rattle.vhdl_writer.specs.Names.{port_at, inputs_at, input_text, inputs_text,
 use Rattle.grammar_phrases.proofs.Fronts.{Front, Anything}
 use Rattle.grammar_phrases.proofs.Derivations.{Reads, from_same, to_same, gives, token, in_turn, goes_on}
 use Rattle.grammar_phrases.proofs.Places.{at_place, all_at, get_at, one_longer}
-use Rattle.grammar_phrases.proofs.Spelling.{behind}
-use Rattle.written_entities.proofs.Spelling.{Spells, literal}
-use Rattle.written_entities.proofs.Words.{part_named, unnumbered}
+use Rattle.grammar_phrases.proofs.Spelling.{literal, behind}
+use Rattle.written_entities.proofs.Names.{part_named, unnumbered}
+use Rattle.written_entities.proofs.Spelling.{Spells}
 use Rattle.written_entities.proofs.NameReading.{expected, three_expected, four_expected, expected_where, known_as, place_found}
 use Rattle.written_entities.proofs.Elements.{names_front, names_spelled, closed, elements_read}
 use Rattle.written_entities.proofs.Parts.{part_behind, condition_number}
@@ -59,10 +59,10 @@ condition_front e i s =
     ∷ names_front (port_at e) (inputs_at e i) (codes ")" ∷ codes ")" ∷ s)
 
 pub lookup_word : {t : Bool} → Spells Anything t (codes "VitalTruthTable (TruthTable => ") (λ s. codes "VitalTruthTable" ∷ codes "(" ∷ codes "TruthTable" ∷ codes "=>" ∷ s) false
-lookup_word = literal 31 (λ r. refl)
+lookup_word = literal (λ r. refl) refl
 
 pub data_word : {t : Bool} → Spells Anything t (codes ", DataIn => ") (λ s. codes "," ∷ codes "DataIn" ∷ codes "=>" ∷ s) false
-data_word = literal 12 (λ r. refl)
+data_word = literal (λ r. refl) refl
 
 -- Lists of inputs.
 

@@ -28,12 +28,12 @@ use Rattle.vhdl_text.specs.WellFormed.{IsCount, HasOneEdge, IsWrittenState, IsWr
 use Rattle.vhdl_writer.specs.Tables.{state_rows_text, truth_rows_text, state_constant_text, condition_constant_text, is_looked_up, table_number, output_table_text, value_constant_text, output_constant_text, constants_text}
 use Rattle.grammar_phrases.proofs.Fronts.{Front, Anything}
 use Rattle.grammar_phrases.proofs.Derivations.{Reads, to_same, gives, in_turn, chosen, passed, no_turn, turn, turns}
-use Rattle.grammar_phrases.proofs.Spelling.{behind, nothing}
-use Rattle.written_entities.proofs.Spelling.{Spells, literal}
-use Rattle.written_entities.proofs.Words.{part_named}
+use Rattle.grammar_phrases.proofs.Spelling.{literal, behind, nothing}
+use Rattle.written_entities.proofs.Names.{part_named, same_self}
+use Rattle.written_entities.proofs.Spelling.{Spells}
 use Rattle.written_entities.proofs.TableTokens.{truth_row_front, state_row_front, rows_front, truth_rows, state_rows}
 use Rattle.written_entities.proofs.TableReading.{truth_table_read, state_table_read}
-use Rattle.written_entities.proofs.NameReading.{same_self, expected, known_as}
+use Rattle.written_entities.proofs.NameReading.{expected, known_as}
 use Rattle.written_entities.proofs.Counting.{counted, counted_anywhere, over}
 use Rattle.written_entities.proofs.Parts.{part_behind, fact_at, place_below, state_number, condition_number, table_number_is}
 use Rattle.written_entities.proofs.Tests.{if_true, if_either}
@@ -64,13 +64,13 @@ constants_front e s = counted state_constant_front 1 e.states (counted condition
 
 constant_word : {t : Bool} → Spells Anything t (codes "  constant ") (λ s. codes "constant" ∷ s) false
 unfolding is_reserved is_used vhdl_words used_words
-constant_word = literal 11 (λ r. refl)
+constant_word = literal (λ r. refl) refl
 
 state_type : {t : Bool} → Spells Anything t (codes " : VitalStateTableType := (") (λ s. codes ":" ∷ codes "VitalStateTableType" ∷ codes ":=" ∷ codes "(" ∷ s) false
-state_type = literal 27 (λ r. refl)
+state_type = literal (λ r. refl) refl
 
 truth_type : {t : Bool} → Spells Anything t (codes " : VitalTruthTableType := (") (λ s. codes ":" ∷ codes "VitalTruthTableType" ∷ codes ":=" ∷ codes "(" ∷ s) false
-truth_type = literal 27 (λ r. refl)
+truth_type = literal (λ r. refl) refl
 
 state_constant_spelled : (n : ℕ) (state : VState) → IsCount n → Spells Anything false (state_constant_text n state) (state_constant_front n state) false
 unfolding state_constant_text state_rows_text

@@ -8,9 +8,10 @@ use Rattle.vhdl_writer.specs.Joined.{numbered_texts, apart_text}
 use Rattle.vhdl_writer.specs.Names.{list_start}
 use Rattle.grammar_phrases.proofs.Fronts.{Front, Anything}
 use Rattle.grammar_phrases.proofs.Derivations.{Reads, in_turn, chosen, passed, no_turn, turn, turns}
-use Rattle.grammar_phrases.proofs.Spelling.{joins, behind}
-use Rattle.written_entities.proofs.Spelling.{Spells, literal}
-use Rattle.written_entities.proofs.Words.{Ends, IsNamed, name}
+use Rattle.grammar_phrases.proofs.Spelling.{literal, joins, behind}
+use Rattle.written_entities.proofs.Names.{IsNamed}
+use Rattle.written_entities.proofs.Spelling.{Spells}
+use Rattle.written_entities.proofs.Words.{Ends, name}
 use Rattle.written_entities.proofs.Counting.{counted, apart_spelled, over}
 use Rattle.written_entities.proofs.NameReading.{expected}
 
@@ -21,25 +22,25 @@ names_front f (x ∷ []) s = codes "0" ∷ codes "=>" ∷ f x ∷ s
 names_front f (x ∷ y ∷ xs) s = f x ∷ codes "," ∷ f y ∷ counted (λ n z q. codes "," ∷ f z ∷ q) 3 xs s
 
 pub comma : {t : Bool} → Spells Anything t (codes ", ") (λ s. codes "," ∷ s) false
-comma = literal 2 (λ r. refl)
+comma = literal (λ r. refl) refl
 
 pub closed : {t : Bool} → Spells Anything t (codes ")") (λ s. codes ")" ∷ s) false
-closed = literal 1 (λ r. refl)
+closed = literal (λ r. refl) refl
 
 pub call_end : {t : Bool} → Spells Anything t (codes ");\n") (λ s. codes ")" ∷ codes ";" ∷ s) false
-call_end = literal 3 (λ r. refl)
+call_end = literal (λ r. refl) refl
 
 pub line_end : {t : Bool} → Spells Anything t (codes ";\n") (λ s. codes ";" ∷ s) false
-line_end = literal 2 (λ r. refl)
+line_end = literal (λ r. refl) refl
 
 pub indented : Spells Anything false (codes "    ") (λ s. s) false
-indented = literal 4 (λ r. refl)
+indented = literal (λ r. refl) refl
 
 only_start : {t : Bool} → Spells Anything t (codes "(0 => ") (λ s. codes "(" ∷ codes "0" ∷ codes "=>" ∷ s) false
-only_start = literal 6 (λ r. refl)
+only_start = literal (λ r. refl) refl
 
 several_start : {t : Bool} → Spells Anything t (codes "(") (λ s. codes "(" ∷ s) false
-several_start = literal 1 (λ r. refl)
+several_start = literal (λ r. refl) refl
 
 is_several : (count : ℕ) → nat_eq (suc (suc count)) 1 ≡ false
 is_several count = grind (arith, nat_tests)

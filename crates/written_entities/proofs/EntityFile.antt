@@ -4,30 +4,40 @@ use Rattle.std.specs.List.{AllByRecursion}
 use Rattle.std.proofs.lemmas.List.{map-append}
 use Rattle.std.proofs.lemmas.List.Elements.{recursion_from_All}
 use Rattle.vital_models.specs.declared.model.VEntity.{VEntity}
+use Rattle.vhdl_tokens.specs.Tokens.{scan}
+use Rattle.vhdl_tokens.specs.Separators.{spelled}
 use Rattle.vhdl_text.specs.VhdlRules.{is_among}
 use Rattle.vhdl_text.specs.VhdlText.{entity_names, next_entity, file, language, IsVhdlText, vhdl_text}
 use Rattle.vhdl_text.specs.WellFormed.{AreApart, IsWellFormedEntity, AreWellFormed}
 use Rattle.vhdl_text.proofs.VhdlAnswers.{is_answer}
 use Rattle.vhdl_writer.specs.Entity.{entity_text}
+use Rattle.section_outlines.specs.VhdlMarks.{vhdl_marks}
+use Rattle.section_outlines.specs.Outline.{with_bytes, outline}
+use Rattle.section_outlines.proofs.Passing.{kept_whole}
 use Rattle.grammar_phrases.proofs.Fronts.{Anything, each}
+use Rattle.grammar_phrases.specs.ReadBack.{ReadsBack}
 use Rattle.grammar_phrases.proofs.Derivations.{Reads, gives, in_turn, turn, through}
 use Rattle.grammar_phrases.proofs.TextsReadBack.{is_text, reads_back}
 use Rattle.written_entities.specs.Laws.{entities_text, WrittenEntitiesReadBack}
-use Rattle.grammar_phrases.proofs.Spelling.{behind, nothing}
-use Rattle.written_entities.proofs.Spelling.{Spells, found}
-use Rattle.written_entities.proofs.Words.{entity_named}
+use Rattle.grammar_phrases.proofs.Spelling.{all_found, behind, nothing}
+use Rattle.written_entities.proofs.Names.{entity_named}
+use Rattle.written_entities.proofs.Spelling.{vhdl, SpellsOutside}
 use Rattle.written_entities.proofs.NameReading.{is_new}
-use Rattle.written_entities.proofs.TableText.{all_found}
 use Rattle.written_entities.proofs.Parts.{fact_at}
 use Rattle.written_entities.proofs.EntityReading.{entity_more, entity_tokens, entity_spelled, entity_read}
 
-entities_spelled : (es : List VEntity) → AllByRecursion IsWellFormedEntity es → Spells Anything false (flat_map entity_text es) (each entity_tokens es) false
+entities_spelled : (es : List VEntity) → AllByRecursion IsWellFormedEntity es → SpellsOutside Anything false (flat_map entity_text es) (each entity_tokens es) false
 entities_spelled [] h = nothing
 entities_spelled (e ∷ es) h = behind (entity_spelled e h.0) (entities_spelled es h.1)
 
-file_spelled : (es : List VEntity) → AreWellFormed es → found false (entities_text es) ≡ (each entity_tokens es [], false)
+-- in the text of well formed entities no section begins, whatever stands behind it
+pub entities_kept : (es : List VEntity) → AllByRecursion IsWellFormedEntity es → (r : List ℕ)
+    → outline vhdl vhdl_marks false 0 (flat_map entity_text es ++ r) ≡ with_bytes (flat_map entity_text es) (outline vhdl vhdl_marks false 0 r)
+entities_kept es h r = kept_whole vhdl vhdl_marks ((entities_spelled es h).passes r tt)
+
+file_spelled : (es : List VEntity) → AreWellFormed es → spelled (scan false 0 0 (entities_text es)) ≡ (each entity_tokens es [], false)
 unfolding entities_text
-file_spelled es h = all_found (each entity_tokens es) (entities_spelled es (recursion_from_All IsWellFormedEntity es h.entities))
+file_spelled es h = all_found (entities_spelled es (recursion_from_All IsWellFormedEntity es h.entities))
 
 new_entity : (es : List VEntity) → AreWellFormed es → (before : List VEntity) (e : VEntity) (after : List VEntity) → before ++ e ∷ after ≡ es → is_among (entity_names before) e.name ≡ false
 new_entity es h before e after same =
@@ -45,8 +55,10 @@ unfolding file
 file_read es h =
     in_turn (through (λ (l : List VEntity). l) entity_tokens [] es (λ before e after s same. turn refl (next_read es h before e after s same)) [] tt) (record { taken = (refl, refl, refl) })
 
+-- bytes with the tokens of well formed entities read as these
+pub read_from : (bytes : List ℕ) (es : List VEntity) → AreWellFormed es → spelled (scan false 0 0 bytes) ≡ (each entity_tokens es [], false) → ReadsBack vhdl_text IsVhdlText bytes es
+read_from bytes es h e = reads_back vhdl_text IsVhdlText bytes es (is_answer bytes).entities (is_text language bytes es (each entity_tokens es []) e (file_read es h))
+
 -- what is well formed reads back
 pub entities_read_back : WrittenEntitiesReadBack
-entities_read_back es h =
-    reads_back vhdl_text IsVhdlText (entities_text es) es (is_answer (entities_text es)).entities
-    (is_text language (entities_text es) es (each entity_tokens es []) (file_spelled es h) (file_read es h))
+entities_read_back es h = read_from (entities_text es) es h (file_spelled es h)

@@ -29,9 +29,9 @@ use Rattle.vhdl_writer.specs.Declarations.{is_input, first_input}
 use Rattle.vhdl_writer.specs.Entity.{end_text, statements_text, entity_text}
 use Rattle.grammar_phrases.proofs.Fronts.{Front, Anything}
 use Rattle.grammar_phrases.proofs.Derivations.{Reads, to_same, gives, in_turn}
-use Rattle.grammar_phrases.proofs.Spelling.{behind}
-use Rattle.written_entities.proofs.Spelling.{Spells, literal}
-use Rattle.written_entities.proofs.Words.{entity_named}
+use Rattle.grammar_phrases.proofs.Spelling.{literal, behind}
+use Rattle.written_entities.proofs.Names.{entity_named}
+use Rattle.written_entities.proofs.Spelling.{Spells, SpellsOutside, outside}
 use Rattle.written_entities.proofs.NameReading.{expected, two_expected, five_expected, expected_where, newly_named}
 use Rattle.written_entities.proofs.Counting.{counted}
 use Rattle.written_entities.proofs.HeaderReading.{package_front, entity_front, architecture_front, header_spelled, packages_read, entity_header_read, architecture_header_read}
@@ -72,15 +72,15 @@ entity_more e s =
 abbrev pub entity_tokens : VEntity → Front
 entity_tokens e s = codes "library" ∷ entity_more e s
 
-begin_word : {t : Bool} → Spells Anything t (codes "  begin\n") (λ s. codes "begin" ∷ s) false
+pub begin_word : {t : Bool} → Spells Anything t (codes "  begin\n") (λ s. codes "begin" ∷ s) false
 unfolding is_reserved is_used vhdl_words used_words
-begin_word = literal 8 (λ r. refl)
+begin_word = literal (λ r. refl) refl
 
 process_end : {t : Bool} → Spells Anything t (codes "  end process;\nend vital;\n") (λ s. codes "end" ∷ codes "process" ∷ codes ";" ∷ codes "end" ∷ codes "vital" ∷ codes ";" ∷ s) false
-process_end = literal 26 (λ r. refl)
+process_end = literal (λ r. refl) refl
 
 waiting_end : {t : Bool} → Spells Anything t (codes "    wait;\n  end process;\nend vital;\n") (λ s. codes "wait" ∷ codes ";" ∷ codes "end" ∷ codes "process" ∷ codes ";" ∷ codes "end" ∷ codes "vital" ∷ codes ";" ∷ s) false
-waiting_end = literal 36 (λ r. refl)
+waiting_end = literal (λ r. refl) refl
 
 end_by : (i : ℕ) (ports : List VPort) (first : Option ℕ) → position_from is_input i ports ≡ first → Spells Anything false (end_text first) (end_front (input_names ports)) false
 end_by i [] None h = waiting_end
@@ -100,11 +100,11 @@ unfolding statements_text
 statements_spelled e w = behind (checks_spelled e w) (behind (violation_spelled e w) (behind (states_spelled e w) (behind (values_spelled e w) (lines_spelled e w))))
 
 -- the text of a well formed entity
-pub entity_spelled : (e : VEntity) → IsWellFormedEntity e → Spells Anything false (entity_text e) (entity_tokens e) false
+pub entity_spelled : (e : VEntity) → IsWellFormedEntity e → SpellsOutside Anything false (entity_text e) (entity_tokens e) false
 unfolding entity_text
 entity_spelled e w =
-    behind (header_spelled e w) (behind (constants_spelled e w) (behind (process_spelled e w) (behind (variables_spelled e w) (behind begin_word
-    (behind (statements_spelled e w) (end_by 0 e.ports (first_input e.ports) (sym (position_from-zero is_input e.ports))))))))
+    behind (header_spelled e w) (outside (behind (constants_spelled e w) (behind (process_spelled e w) (behind (variables_spelled e w) (behind begin_word
+    (behind (statements_spelled e w) (end_by 0 e.ports (first_input e.ports) (sym (position_from-zero is_input e.ports)))))))))
 
 -- What follows each part.
 

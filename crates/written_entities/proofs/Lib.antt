@@ -1,6 +1,7 @@
 pub mod Spelling
-pub mod Words
 pub mod Tests
+pub mod Names
+pub mod Words
 pub mod TableTokens
 pub mod RowReading
 pub mod TableReading

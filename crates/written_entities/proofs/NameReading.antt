@@ -1,81 +1,25 @@
--- When tokens are the same, and what the words of the grammar take of names and numbers.
-use Rattle.std.proofs.Common.{◌≡◌, ℕ, zero, suc, ◌+◌, ◌^◌, ◌<◌, Bool, true, false, not, ◌||◌, ◌==◌, nat_eq, if◌then◌else◌, List, [], ◌∷◌, ◌++◌, length, inl, inr, Option, Some, refl, sym, ap, ◌∙◌, arith, subst, codes, decimal}
+-- When the names of numbered parts are the same, and what the words of the grammar take of names and numbers.
+use Rattle.std.proofs.Common.{◌≡◌, ℕ, zero, suc, ◌+◌, ◌^◌, ◌<◌, Bool, true, false, not, nat_eq, List, [], ◌∷◌, ◌++◌, length, inl, inr, Option, Some, refl, sym, ap, ◌∙◌, arith, subst, codes, decimal}
 use Rattle.std.specs.List.{IsDistinct, list_all, list_any, position}
-use Rattle.std.specs.Str.{bytes_eq, str_eq_ignore_ascii_case, str_to_ascii_lowercase}
+use Rattle.std.specs.Str.{str_eq_ignore_ascii_case, str_to_ascii_lowercase}
 use Rattle.std.specs.Char.{is_ascii_alphabetic, is_ascii_alphanumeric, is_ascii_digit, to_ascii_lowercase}
-use Rattle.std.proofs.lemmas.Bool.{and_parts, eqb-true, cases_Bool, true≢false}
-use Rattle.std.proofs.lemmas.Bool.Decides.{nat_tests, same_from_decides}
+use Rattle.std.proofs.lemmas.Bool.{and_parts, eqb-true, cases_Bool}
+use Rattle.std.proofs.lemmas.Bool.Decides.{nat_tests}
 use Rattle.std.proofs.lemmas.Slice.Eq.{bytes_eq-Decides}
 use Rattle.std.proofs.lemmas.Fmt.{decimal_is_IsNumeral, decimal_injective}
 use Rattle.std.proofs.lemmas.Iterator.Adapters.{position_from-zero}
 use Rattle.rule_readers.specs.declared.refusal.Refusal.{Refusal}
 use Rattle.rule_readers.specs.declared.refusal.Refusal.TheVariants.{Syntax}
 use Rattle.rule_readers.specs.Words.{allowed_by}
-use Rattle.vhdl_names.specs.Words.{is_vhdl_word, is_reserved, is_used, vhdl_words, used_words}
 use Rattle.vhdl_names.specs.Kept.{is_plain}
-use Rattle.vhdl_tokens.specs.Tokens.{is_name_byte}
-use Rattle.vhdl_tokens.specs.Spelling.{is_character, is_same}
+use Rattle.vhdl_tokens.specs.Spelling.{is_same}
 use Rattle.vhdl_text.specs.VhdlRules.{expect, expect_all, expect_where, is_among, new_name, known, this_name, place_among, this_number, a_number, a_time, numbered_where}
 use Rattle.vhdl_text.specs.WellFormed.{AreApart, IsNumber, IsCount}
 use Rattle.grammar_phrases.proofs.Bytes.{all_digits, number_is}
 use Rattle.grammar_phrases.proofs.Derivations.{Reads, gives, token, in_turn}
-use Rattle.grammar_phrases.proofs.Places.{same_bytes, at_place, found_behind}
-use Rattle.written_entities.proofs.Words.{IsNamed, other_second, part_named, unlike_scored}
+use Rattle.grammar_phrases.proofs.Places.{at_place, found_behind}
+use Rattle.written_entities.proofs.Names.{IsNamed, other_second, part_named, unlike_scored, same_self, case_turned, same_letters, same_name}
 use Rattle.written_entities.proofs.Tests.{equal_self, if_true}
-
--- The same.
-
-both_same : (b p q : Bool) → p ≡ true → q ≡ true → (if b then p else q) ≡ true
-both_same true p q e f = e
-both_same false p q e f = f
-
-pub same_case : (x : List ℕ) → str_eq_ignore_ascii_case x x ≡ true
-same_case x = same_bytes (str_to_ascii_lowercase x)
-
-pub same_self : (x : List ℕ) → is_same x x ≡ true
-same_self x = both_same (is_character x) (bytes_eq x x) (str_eq_ignore_ascii_case x x) (same_bytes x) (same_case x)
-
-bytes_turned : (x y : List ℕ) → bytes_eq x y ≡ bytes_eq y x
-bytes_turned x y =
-    same_from_decides (bytes_eq x y) (bytes_eq y x) (bytes_eq-Decides x y) (λ e. sym ((bytes_eq-Decides y x).0 e), λ e. (bytes_eq-Decides y x).1 (sym e))
-
-pub case_turned : (x y : List ℕ) → str_eq_ignore_ascii_case x y ≡ str_eq_ignore_ascii_case y x
-case_turned x y = bytes_turned (str_to_ascii_lowercase x) (str_to_ascii_lowercase y)
-
--- what begins with a letter is no character literal
-same_letters : (b : ℕ) (x y : List ℕ) → is_ascii_alphabetic b ≡ true → is_same (b ∷ x) y ≡ str_eq_ignore_ascii_case (b ∷ x) y
-same_letters b x y e = by (b == 39) refl
-  where
-    by : (q : Bool) → (b == 39) ≡ q → (if q then bytes_eq (b ∷ x) y else str_eq_ignore_ascii_case (b ∷ x) y) ≡ str_eq_ignore_ascii_case (b ∷ x) y
-    by true h = absurd (true≢false (sym (subst (λ (c : ℕ). is_ascii_alphabetic c ≡ true) (eqb-true b 39 h) e)))
-    by false h = refl
-
-pub same_name : (x y : List ℕ) → IsNamed x → is_same x y ≡ str_eq_ignore_ascii_case x y
-same_name [] y n = absurd (cc n.identifier)
-same_name (b ∷ x) y n = same_letters b x y (and_parts (is_ascii_alphabetic b) (list_all is_name_byte x) n.identifier).0
-
--- a name is no word
-no_word : (x : List ℕ) → IsNamed x → is_vhdl_word x ≡ false
-no_word [] n = absurd (cc n.identifier)
-no_word (b ∷ x) n = by (is_vhdl_word (b ∷ x)) (and_parts (is_ascii_alphabetic b) (not (is_vhdl_word (b ∷ x))) n.named).1
-  where
-    by : (t : Bool) → not t ≡ true → t ≡ false
-    by true h = absurd cc
-    by false h = refl
-
-same_word : (x w : List ℕ) → str_to_ascii_lowercase x ≡ str_to_ascii_lowercase w → is_vhdl_word x ≡ is_vhdl_word w
-unfolding is_reserved is_used
-same_word x w e =
-    ap (λ (l : List ℕ). list_any (λ y. bytes_eq l (str_to_ascii_lowercase y)) vhdl_words || list_any (λ y. bytes_eq l (str_to_ascii_lowercase y)) used_words) e
-
-pub unlike_word : (x w : List ℕ) → IsNamed x → is_vhdl_word w ≡ true → is_same x w ≡ false
-unlike_word x w n e = same_name x w n ∙ by (str_eq_ignore_ascii_case x w) refl
-  where
-    by : (t : Bool) → str_eq_ignore_ascii_case x w ≡ t → t ≡ false
-    by true h =
-        let same : is_vhdl_word x ≡ true = same_word x w ((bytes_eq-Decides (str_to_ascii_lowercase x) (str_to_ascii_lowercase w)).0 h) ∙ e in
-        absurd (true≢false (sym same ∙ no_word x n))
-    by false h = refl
 
 -- Numbered parts.
 

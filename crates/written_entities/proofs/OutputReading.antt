@@ -23,10 +23,11 @@ use Rattle.vhdl_writer.specs.Outputs.{path_text, paths_text, direct_text, output
 use Rattle.grammar_phrases.proofs.Fronts.{Front, Anything}
 use Rattle.grammar_phrases.proofs.Derivations.{Reads, gives, token, in_turn, chosen, passed, no_turn, Turn, turn, turns, goes_on}
 use Rattle.grammar_phrases.proofs.Places.{get_at}
-use Rattle.grammar_phrases.proofs.Spelling.{joins, behind}
-use Rattle.written_entities.proofs.Spelling.{Spells, argument, literal}
-use Rattle.written_entities.proofs.Words.{IsNamed, name, part_named, port_named}
-use Rattle.written_entities.proofs.NameReading.{same_name, same_self, case_turned, expected, two_expected, three_expected, six_expected, so_named, part_read}
+use Rattle.grammar_phrases.proofs.Spelling.{literal, joins, behind}
+use Rattle.written_entities.proofs.Names.{IsNamed, part_named, port_named, same_name, same_self, case_turned}
+use Rattle.written_entities.proofs.Spelling.{Spells, argument}
+use Rattle.written_entities.proofs.Words.{name}
+use Rattle.written_entities.proofs.NameReading.{expected, two_expected, three_expected, six_expected, so_named, part_read}
 use Rattle.written_entities.proofs.Counting.{counted, counted_anywhere, apart_front, over}
 use Rattle.written_entities.proofs.Elements.{line_end, indented}
 use Rattle.written_entities.proofs.Parts.{part_behind, fact_at, place_below, output_number}
@@ -51,17 +52,17 @@ line_by_paths e n p (path ∷ all) s = codes "VitalPathDelay01" ∷ call_front e
 abbrev pub line_front : VEntity → ℕ → VOutput → Front
 line_front e n output s = line_by_paths e n output.port output.paths s
 
-path_call_word : {t : Bool} → Spells Anything t (codes "    VitalPathDelay01 (OutSignal => ") (λ s. codes "VitalPathDelay01" ∷ codes "(" ∷ codes "OutSignal" ∷ codes "=>" ∷ s) false
-path_call_word = literal 35 (λ r. refl)
+pub path_call_word : {t : Bool} → Spells Anything t (codes "    VitalPathDelay01 (OutSignal => ") (λ s. codes "VitalPathDelay01" ∷ codes "(" ∷ codes "OutSignal" ∷ codes "=>" ∷ s) false
+path_call_word = literal (λ r. refl) refl
 
-paths_word : {t : Bool} → Spells Anything t (codes ", Paths => (") (λ s. codes "," ∷ codes "Paths" ∷ codes "=>" ∷ codes "(" ∷ s) false
-paths_word = literal 12 (λ r. refl)
+pub paths_word : {t : Bool} → Spells Anything t (codes ", Paths => (") (λ s. codes "," ∷ codes "Paths" ∷ codes "=>" ∷ codes "(" ∷ s) false
+paths_word = literal (λ r. refl) refl
 
-paths_end : {t : Bool} → Spells Anything t (codes "), Mode => VitalTransport);\n") (λ s. codes ")" ∷ codes "," ∷ codes "Mode" ∷ codes "=>" ∷ codes "VitalTransport" ∷ codes ")" ∷ codes ";" ∷ s) false
-paths_end = literal 28 (λ r. refl)
+pub paths_end : {t : Bool} → Spells Anything t (codes "), Mode => VitalTransport);\n") (λ s. codes ")" ∷ codes "," ∷ codes "Mode" ∷ codes "=>" ∷ codes "VitalTransport" ∷ codes ")" ∷ codes ";" ∷ s) false
+paths_end = literal (λ r. refl) refl
 
-takes : {t : Bool} → Spells Anything t (codes " <= ") (λ s. codes "<=" ∷ s) false
-takes = literal 4 (λ r. refl)
+pub takes : {t : Bool} → Spells Anything t (codes " <= ") (λ s. codes "<=" ∷ s) false
+takes = literal (λ r. refl) refl
 
 -- Outputs.
 
@@ -142,8 +143,8 @@ call_spelled e n output seen path all others same m x h =
     let p : List ℕ = port_at e output.port in
     let list : Spells Anything false (numbered_texts (path_text e) 1 output.paths) (apart_front (λ q. codes "," ∷ q) (path_front e) (path ∷ all)) false =
     subst (λ (l : List HPath). Spells Anything false (numbered_texts (path_text e) 1 l) (apart_front (λ q. codes "," ∷ q) (path_front e) (path ∷ all)) false) (sym same) (paths_spelled e seen path all others h) in
-    behind path_call_word (joins (name p x) (λ r q. refl) (part_behind 103 n refl m (argument (codes "GlitchData") 16 (λ r. refl)) (λ r q. refl) (quoted_behind p x (argument (codes "OutSignalName") 19 (λ r. refl))
-    (part_behind 122 n refl m (argument (codes "OutTemp") 13 (λ r. refl)) (λ r q. refl) (behind paths_word (behind list paths_end))))))
+    behind path_call_word (joins (name p x) (λ r q. refl) (part_behind 103 n refl m (argument (codes "GlitchData") (λ r. refl)) (λ r q. refl) (quoted_behind p x (argument (codes "OutSignalName") (λ r. refl))
+    (part_behind 122 n refl m (argument (codes "OutTemp") (λ r. refl)) (λ r q. refl) (behind paths_word (behind list paths_end))))))
 
 direct_spelled : (e : VEntity) (n : ℕ) (output : VOutput) → IsCount n → IsNamed (port_at e output.port) → Spells Anything false (direct_text e n output) (line_by_paths e n output.port []) false
 unfolding direct_text

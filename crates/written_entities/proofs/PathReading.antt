@@ -14,8 +14,8 @@ use Rattle.vhdl_writer.specs.Names.{port_at, condition_text}
 use Rattle.vhdl_writer.specs.Outputs.{not_zero_text, zero_text, all_zero_text, gate_text, path_text}
 use Rattle.grammar_phrases.proofs.Fronts.{Front, Anything}
 use Rattle.grammar_phrases.proofs.Derivations.{Reads, from_same, to_same, gives, in_turn, chosen, passed, no_turn, turn, turns}
-use Rattle.grammar_phrases.proofs.Spelling.{joins, behind, anywhere}
-use Rattle.written_entities.proofs.Spelling.{Spells, literal}
+use Rattle.grammar_phrases.proofs.Spelling.{literal, joins, behind, anywhere}
+use Rattle.written_entities.proofs.Spelling.{Spells}
 use Rattle.written_entities.proofs.Words.{Ends, name, number, true_word}
 use Rattle.written_entities.proofs.NameReading.{expected, two_expected, three_expected, time_read, this_number_read}
 use Rattle.written_entities.proofs.Counting.{counted, apart_front, apart_spelled, over}
@@ -41,26 +41,26 @@ path_front e n path s =
     ∷ codes ")" ∷ codes "," ∷ gate_front e path.gate (codes ")" ∷ s)
 
 unequal_zero : {t : Bool} → Spells Anything t (codes " /= '0'") (λ s. codes "/=" ∷ codes "'0'" ∷ s) false
-unequal_zero = literal 7 (λ r. refl)
+unequal_zero = literal (λ r. refl) refl
 
 is_zero : {t : Bool} → Spells Anything t (codes " = '0'") (λ s. codes "=" ∷ codes "'0'" ∷ s) false
-is_zero = literal 6 (λ r. refl)
+is_zero = literal (λ r. refl) refl
 
 and_word : {t : Bool} → Spells Anything t (codes " and ") (λ s. codes "and" ∷ s) false
 unfolding is_reserved is_used vhdl_words used_words
-and_word = literal 5 (λ r. refl)
+and_word = literal (λ r. refl) refl
 
-path_start : {t : Bool} → Spells Anything t (codes " => (") (λ s. codes "=>" ∷ codes "(" ∷ s) false
-path_start = literal 5 (λ r. refl)
+pub path_start : {t : Bool} → Spells Anything t (codes " => (") (λ s. codes "=>" ∷ codes "(" ∷ s) false
+path_start = literal (λ r. refl) refl
 
-event_word : Spells Anything true (codes "'last_event, (") (λ s. codes "'" ∷ codes "last_event" ∷ codes "," ∷ codes "(" ∷ s) false
-event_word = literal 14 (λ r. refl)
+pub event_word : Spells Anything true (codes "'last_event, (") (λ s. codes "'" ∷ codes "last_event" ∷ codes "," ∷ codes "(" ∷ s) false
+event_word = literal (λ r. refl) refl
 
-rise_end : {t : Bool} → Spells Anything t (codes " ps, ") (λ s. codes "ps" ∷ codes "," ∷ s) false
-rise_end = literal 5 (λ r. refl)
+pub rise_end : {t : Bool} → Spells Anything t (codes " ps, ") (λ s. codes "ps" ∷ codes "," ∷ s) false
+rise_end = literal (λ r. refl) refl
 
 fall_end : {t : Bool} → Spells Anything t (codes " ps), ") (λ s. codes "ps" ∷ codes ")" ∷ codes "," ∷ s) false
-fall_end = literal 6 (λ r. refl)
+fall_end = literal (λ r. refl) refl
 
 -- Gates.
 
@@ -127,10 +127,10 @@ path_looks : (e : VEntity) (seen : ℕ) (all : List HPath) (others : List ℕ) �
 path_looks e seen all others h before path after same =
     looks_at conditions_of_path (length e.conditions) seen before path after others (subst (λ (l : List HPath). Looks e seen (flat_map conditions_of_path l ++ others)) (sym same) h.looks)
 
-index_fits : {A : Type 0} (before : List A) (x : A) (after all : List A) → before ++ x ∷ after ≡ all → length all ≤ 10 ^ 15 → IsNumber (length before)
+pub index_fits : {A : Type 0} (before : List A) (x : A) (after all : List A) → before ++ x ∷ after ≡ all → length all ≤ 10 ^ 15 → IsNumber (length before)
 index_fits before x after all same few = omega (arith, place_below before x after all same, few)
 
-index_is : (n : ℕ) → n + 1 - 1 ≡ n
+pub index_is : (n : ℕ) → n + 1 - 1 ≡ n
 index_is n = omega arith
 
 path_text_is : (e : VEntity) (n : ℕ) (path : HPath) → path_text e n path

@@ -16,8 +16,8 @@ use Rattle.vhdl_text.specs.WellFormed.{IsPortName, AreApart, IsWellFormedEntity}
 use Rattle.vhdl_writer.specs.Names.{port_at}
 use Rattle.grammar_phrases.proofs.Derivations.{Reads}
 use Rattle.grammar_phrases.proofs.Places.{item_at, all_at}
-use Rattle.written_entities.proofs.Words.{IsNamed, port_named}
-use Rattle.written_entities.proofs.NameReading.{same_self, known_as, is_new, first_place}
+use Rattle.written_entities.proofs.Names.{IsNamed, port_named, same_self}
+use Rattle.written_entities.proofs.NameReading.{known_as, is_new, first_place}
 
 pub apart_rest : (x : List ℕ) (xs : List (List ℕ)) → AreApart (x ∷ xs) → AreApart xs
 unfolding IsDistinct

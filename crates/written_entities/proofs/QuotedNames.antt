@@ -7,12 +7,10 @@ use Rattle.std.proofs.lemmas.Bool.Decides.{nat_tests}
 use Rattle.std.proofs.Math.Seq.{take-append_seam}
 use Rattle.vhdl_tokens.specs.Tokens.{is_name_byte, later, string_rest, token_length}
 use Rattle.vhdl_tokens.specs.Spelling.{text_of, is_quoted}
-use Rattle.vhdl_tokens.proofs.Padding.{over_token}
 use Rattle.grammar_phrases.proofs.Fronts.{Front, Anything}
-use Rattle.grammar_phrases.proofs.Spelling.{behind}
-use Rattle.written_entities.proofs.Spelling.{Spells}
-use Rattle.written_entities.proofs.Words.{IsNamed}
-use Rattle.written_entities.proofs.NameReading.{same_case}
+use Rattle.grammar_phrases.proofs.Spelling.{one_token, behind}
+use Rattle.written_entities.proofs.Names.{IsNamed, same_case}
+use Rattle.written_entities.proofs.Spelling.{Spells, unmarked}
 
 -- a name between quotation marks
 abbrev pub quoted : List ℕ → List ℕ
@@ -40,7 +38,8 @@ quoted_length t x r h =
     ap (λ (o : Option ℕ). unwrap_or (later 1 o) 0) (closes x r h) ∙ long
 
 quoted_token : {t : Bool} (x : List ℕ) → list_all is_name_byte x ≡ true → Spells Anything t (quoted x) (λ s. quoted x ∷ s) false
-quoted_token {t = t} x h = record { is = λ r p. over_token t 0 0 34 (x ++ 34 ∷ []) r refl (quoted_length t x r h) }
+quoted_token {t = t} x h =
+    one_token 34 (x ++ 34 ∷ []) (record { alone = λ r p. refl; size = λ r p. quoted_length t x r h; free = λ r. unmarked t (quoted x) r refl refl; after = refl })
 
 name_bytes : (x : List ℕ) → IsNamed x → list_all is_name_byte x ≡ true
 name_bytes [] n = absurd (cc n.identifier)

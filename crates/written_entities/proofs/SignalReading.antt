@@ -14,16 +14,17 @@ use Rattle.vhdl_writer.specs.Declarations.{is_input, first_input, signal_start, 
 use Rattle.grammar_phrases.proofs.Fronts.{Front, Anything, each}
 use Rattle.grammar_phrases.proofs.Derivations.{Reads, to_same, gives, in_turn, turn, through, goes_on}
 use Rattle.grammar_phrases.proofs.Places.{at_place, get_at, one_longer}
-use Rattle.grammar_phrases.proofs.Spelling.{joins, behind, nothing}
-use Rattle.written_entities.proofs.Spelling.{Spells, literal}
-use Rattle.written_entities.proofs.Words.{Ends, IsNamed, word, name, port_named}
+use Rattle.grammar_phrases.proofs.Spelling.{literal, joins, behind, nothing}
+use Rattle.written_entities.proofs.Names.{IsNamed, port_named}
+use Rattle.written_entities.proofs.Spelling.{Spells}
+use Rattle.written_entities.proofs.Words.{Ends, word, name}
 use Rattle.written_entities.proofs.NameReading.{expected, so_named}
 use Rattle.written_entities.proofs.Elements.{comma}
 use Rattle.written_entities.proofs.Tests.{equal_self}
 
 -- Tokens.
 
-abbrev next_signal : List ℕ → Front
+abbrev pub next_signal : List ℕ → Front
 next_signal x s = codes "," ∷ x ∷ s
 
 abbrev pub signals_front : List (List ℕ) → Front
@@ -32,20 +33,20 @@ signals_front (x ∷ xs) s = codes "(" ∷ x ∷ each next_signal xs (codes ")" 
 
 begin_word : {t : Bool} → Spells Anything t (codes "begin\n  ") (λ s. codes "begin" ∷ s) false
 unfolding is_reserved is_used vhdl_words used_words
-begin_word = literal 8 (λ r. refl)
+begin_word = literal (λ r. refl) refl
 
 signals_start : {t : Bool} → Spells Anything t (codes " (") (λ s. codes "(" ∷ s) false
-signals_start = literal 2 (λ r. refl)
+signals_start = literal (λ r. refl) refl
 
 signals_last : {t : Bool} → Spells Anything t (codes ")\n") (λ s. codes ")" ∷ s) false
-signals_last = literal 2 (λ r. refl)
+signals_last = literal (λ r. refl) refl
 
 line_end : Spells Anything false (codes "\n") (λ s. s) false
-line_end = literal 1 (λ r. refl)
+line_end = literal (λ r. refl) refl
 
 process_word : {t : Bool} → Spells Ends t (codes "begin\n  process") (λ s. codes "begin" ∷ codes "process" ∷ s) false
 unfolding is_reserved is_used vhdl_words used_words
-process_word = behind begin_word (word (codes "process") refl)
+process_word = behind begin_word (word (codes "process") refl refl refl)
 
 -- the signals behind the first one
 signals_behind : (k n : ℕ) (ports : List VPort) → k + 1 < n → AllByRecursion IsPortName (port_names ports)
@@ -98,29 +99,33 @@ process_spelled e w =
 
 -- Reading.
 
-inputs_named : (ports : List VPort) → AllByRecursion IsPortName (port_names ports) → AllByRecursion IsPortName (input_names ports)
+inputs_named : (ports : List VPort) → AllByRecursion IsPortName (port_names ports) → AllByRecursion IsNamed (input_names ports)
 inputs_named [] h = tt
 inputs_named (port ∷ ports) h = by port.input (inputs_named ports h.1)
   where
-    by : (b : Bool) → AllByRecursion IsPortName (input_names ports) → AllByRecursion IsPortName (port_names (cond b (port ∷ filter (λ (p : VPort). p.input) ports) (filter (λ (p : VPort). p.input) ports)))
-    by true rest = (h.0, rest)
+    by : (b : Bool) → AllByRecursion IsNamed (input_names ports) → AllByRecursion IsNamed (port_names (cond b (port ∷ filter (λ (p : VPort). p.input) ports) (filter (λ (p : VPort). p.input) ports)))
+    by true rest = (port_named port.name h.0, rest)
     by false rest = rest
 
-signal_read : (names : List (List ℕ)) → AllByRecursion IsPortName names → (before : List (List ℕ)) (x : List ℕ) (after q : List (List ℕ)) → before ++ x ∷ after ≡ names
+signal_read : (names : List (List ℕ)) → AllByRecursion IsNamed names → (before : List (List ℕ)) (x : List ℕ) (after q : List (List ℕ)) → before ++ x ∷ after ≡ names
     → Reads (listed_name names (length before)) (x ∷ q) (length (before ++ x ∷ [])) q
 unfolding listed_name
 signal_read names h before x after q same =
     let here : slice_get names (length before) ≡ Some x = ap (λ (l : List (List ℕ)). slice_get l (length before)) (sym same) ∙ get_at before x after in
-    let n : IsNamed x = port_named x (at_place IsPortName before x after (subst (AllByRecursion IsPortName) (sym same) h)) in
+    let n : IsNamed x = at_place IsNamed before x after (subst (AllByRecursion IsNamed) (sym same) h) in
     to_same (one_longer before x) (in_turn (so_named (slice_get names (length before)) n here) gives)
 
-names_read : (names : List (List ℕ)) → AllByRecursion IsPortName names → (s : List (List ℕ)) → Reads (sensitivity names) (signals_front names s) tt s
+-- the names of signals, of which there is one at least
+pub names_read : (x : List ℕ) (xs : List (List ℕ)) → AllByRecursion IsNamed (x ∷ xs) → (s : List (List ℕ)) → Reads (listed_names (x ∷ xs)) (signals_front (x ∷ xs) s) tt s
 unfolding listed_names
-names_read [] h s = gives
-names_read (x ∷ xs) h s =
+names_read x xs h s =
     in_turn expected (in_turn (signal_read (x ∷ xs) h [] x xs (each next_signal xs (codes ")" ∷ s)) refl)
     (in_turn (through (λ (l : List (List ℕ)). length l) next_signal (x ∷ []) xs (λ before y after q same. turn refl (signal_read (x ∷ xs) h before y after q same)) (codes ")" ∷ s) refl)
     (in_turn (goes_on (nat_eq (length (x ∷ xs)) (length (x ∷ xs))) (codes ")" ∷ s) (equal_self (length (x ∷ xs)))) expected)))
 
+sensitive_to : (names : List (List ℕ)) → AllByRecursion IsNamed names → (s : List (List ℕ)) → Reads (sensitivity names) (signals_front names s) tt s
+sensitive_to [] h s = gives
+sensitive_to (x ∷ xs) h s = names_read x xs h s
+
 pub sensitivity_read : (e : VEntity) → IsWellFormedEntity e → (s : List (List ℕ)) → Reads (sensitivity (input_names e.ports)) (signals_front (input_names e.ports) s) tt s
-sensitivity_read e w s = names_read (input_names e.ports) (inputs_named e.ports (recursion_from_All IsPortName (port_names e.ports) w.ports)) s
+sensitivity_read e w s = sensitive_to (input_names e.ports) (inputs_named e.ports (recursion_from_All IsPortName (port_names e.ports) w.ports)) s

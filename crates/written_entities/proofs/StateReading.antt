@@ -22,10 +22,11 @@ use Rattle.vhdl_writer.specs.Names.{port_at, next_input_text, violated_text}
 use Rattle.vhdl_writer.specs.Statements.{state_text}
 use Rattle.grammar_phrases.proofs.Fronts.{Front, Anything}
 use Rattle.grammar_phrases.proofs.Derivations.{Reads, to_same, gives, token, in_turn, chosen, passed, no_turn, turn, turns, goes_on}
-use Rattle.grammar_phrases.proofs.Spelling.{joins, behind}
-use Rattle.written_entities.proofs.Spelling.{Spells, argument, literal}
-use Rattle.written_entities.proofs.Words.{Ends, IsNamed, word, name, unnumbered}
-use Rattle.written_entities.proofs.NameReading.{two_expected, three_expected, four_expected, expected, unlike_word, part_read}
+use Rattle.grammar_phrases.proofs.Spelling.{literal, joins, behind}
+use Rattle.written_entities.proofs.Names.{IsNamed, unnumbered, unlike_word}
+use Rattle.written_entities.proofs.Spelling.{Spells, argument}
+use Rattle.written_entities.proofs.Words.{Ends, word, name}
+use Rattle.written_entities.proofs.NameReading.{two_expected, three_expected, four_expected, expected, part_read}
 use Rattle.written_entities.proofs.Counting.{counted, counted_spelled, counted_anywhere, begins_at, over}
 use Rattle.written_entities.proofs.Elements.{names_front, comma, closed, elements_read, call_end}
 use Rattle.written_entities.proofs.Parts.{part_behind, fact_at, place_below, state_number}
@@ -56,17 +57,17 @@ abbrev pub state_front : VEntity → ℕ → VState → Front
 state_front e n state s = codes "VitalStateTable" ∷ state_more e n state s
 
 state_table_word : {t : Bool} → Spells Anything t (codes "    VitalStateTable (Result => ") (λ s. codes "VitalStateTable" ∷ codes "(" ∷ codes "Result" ∷ codes "=>" ∷ s) false
-state_table_word = literal 31 (λ r. refl)
+state_table_word = literal (λ r. refl) refl
 
 only_start : {t : Bool} → Spells Anything t (codes "(0 => ") (λ s. codes "(" ∷ codes "0" ∷ codes "=>" ∷ s) false
-only_start = literal 6 (λ r. refl)
+only_start = literal (λ r. refl) refl
 
 several_start : {t : Bool} → Spells Anything t (codes "(") (λ s. codes "(" ∷ s) false
-several_start = literal 1 (λ r. refl)
+several_start = literal (λ r. refl) refl
 
 violation_word : {t : Bool} → Spells Ends t (codes "viol") (λ s. codes "viol" ∷ s) false
 unfolding is_reserved is_used vhdl_words used_words
-violation_word = word (codes "viol") refl
+violation_word = word (codes "viol") refl refl refl
 
 -- The columns of a state: its inputs.
 record IsFed (e : VEntity) (inputs : List ℕ) : Type 0 where
@@ -123,7 +124,7 @@ has_inputs e w before state after same h = some_inputs state.violation state.inp
 state_spelled : (e : VEntity) (n : ℕ) (state : VState) → IsCount n → IsFed e state.inputs → (state.violation ≡ false → 1 ≤ length state.inputs) → Spells Anything false (state_text e n state) (state_front e n state) false
 unfolding state_text
 state_spelled e n state m h some =
-    part_behind 115 n refl m state_table_word (λ r q. refl) (part_behind 112 n refl m (argument (codes "PreviousDataIn") 20 (λ r. refl)) (λ r q. refl) (part_behind 107 n refl m (argument (codes "StateTable") 16 (λ r. refl)) (λ r q. refl)
+    part_behind 115 n refl m state_table_word (λ r q. refl) (part_behind 112 n refl m (argument (codes "PreviousDataIn") (λ r. refl)) (λ r q. refl) (part_behind 107 n refl m (argument (codes "StateTable") (λ r. refl)) (λ r q. refl)
     (behind data_word (behind (columns_spelled e state.violation state.inputs h some) call_end))))
 
 pub states_spelled : (e : VEntity) → IsWellFormedEntity e → Spells Anything false (numbered_texts (state_text e) 1 e.states) (counted (state_front e) 1 e.states) false

@@ -1,6 +1,5 @@
 -- The texts of tables are read as these tables.
 use Rattle.std.proofs.Common.{◌≡◌, ℕ, ◌≤◌, Bool, false, List, [], ◌∷◌, length, sym, ap, ◌∙◌, subst, codes}
-use Rattle.std.proofs.lemmas.List.{append-nil}
 use Rattle.std.proofs.lemmas.List.Elements.{recursion_from_All}
 use Rattle.grammar_rules.specs.Rule.{Takes}
 use Rattle.grammar_rules.proofs.Exact.{complete}
@@ -19,14 +18,10 @@ use Rattle.vhdl_writer.specs.Tables.{truth_rows_text, state_rows_text}
 use Rattle.grammar_phrases.proofs.Fronts.{Anything}
 use Rattle.grammar_phrases.proofs.Places.{none_if}
 use Rattle.written_entities.specs.Laws.{truth_table_text, state_table_text, IsTruthTableText, IsStateTableText, TruthTableReadBack, StateTableReadBack}
-use Rattle.grammar_phrases.proofs.Spelling.{behind}
-use Rattle.written_entities.proofs.Spelling.{Spells, found}
+use Rattle.grammar_phrases.proofs.Spelling.{all_found, behind}
+use Rattle.written_entities.proofs.Spelling.{Spells}
 use Rattle.written_entities.proofs.TableTokens.{opened, closed, truth_row_front, state_row_front, rows_front, truth_rows, state_rows}
 use Rattle.written_entities.proofs.TableReading.{truth_table_read, state_table_read}
-
--- the tokens of a text that is spelled by itself
-pub all_found : {text : List ℕ} (f : List (List ℕ) → List (List ℕ)) → Spells Anything false text f false → found false text ≡ (f [], false)
-all_found {text = text} f h = ap (found false) (sym (append-nil text)) ∙ h.is [] tt
 
 -- a grammar takes one value
 same_value : {A : Type 0} (p : Grammar A) (s : List (List ℕ)) (a b : A) → Takes p s a [] → Takes p s b [] → a ≡ b
@@ -40,7 +35,7 @@ truth_spelled table = behind opened (behind (truth_rows table.rows) closed)
 
 truth_is : (columns : ℕ) (table : TruthTable) → 1 ≤ columns → 1 ≤ length table.rows → IsTruthTable columns table → IsTruthTableText (truth_table_text table) table
 truth_is columns table some most all =
-    let e = all_found (λ s. codes "(" ∷ rows_front truth_row_front table.rows (codes ")" ∷ s)) (truth_spelled table) in
+    let e = all_found (truth_spelled table) in
     let tokens : text_tokens (truth_table_text table) ≡ codes "(" ∷ rows_front truth_row_front table.rows (codes ")" ∷ []) = ap (λ (p : List (List ℕ) × Bool). p.0) e in
     let reads = truth_table_read columns table [] some most (recursion_from_All (λ (row : TruthRow). length row.inputs ≡ columns) table.rows all) in
     record {
@@ -62,7 +57,7 @@ state_spelled state = behind opened (behind (state_rows state.table.rows) closed
 
 state_is : (state : VState) → IsWrittenState state → IsStateTable (columns_of state) state.table → IsStateTableText (state_table_text state) state.table
 state_is state w all =
-    let e = all_found (λ s. codes "(" ∷ rows_front state_row_front state.table.rows (codes ")" ∷ s)) (state_spelled state) in
+    let e = all_found (state_spelled state) in
     let tokens : text_tokens (state_table_text state) ≡ codes "(" ∷ rows_front state_row_front state.table.rows (codes ")" ∷ []) = ap (λ (p : List (List ℕ) × Bool). p.0) e in
     let reads = state_table_read (columns_of state) state.table [] w.columns w.rows
     (recursion_from_All (λ (row : VStateRow). length row.inputs ≡ columns_of state) state.table.rows all) (recursion_from_All HasOneEdge state.table.rows w.edges) in

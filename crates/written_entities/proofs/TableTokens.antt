@@ -14,37 +14,37 @@ use Rattle.vital_models.specs.declared.table.VStateRow.{VStateRow}
 use Rattle.vhdl_writer.specs.Joined.{numbered_texts}
 use Rattle.vhdl_writer.specs.Tables.{level_text, symbol_text, next_text, value_text, row_start, symbol_apart_text, level_apart_text, state_row_text, truth_row_text}
 use Rattle.grammar_phrases.proofs.Fronts.{Front, Anything, each}
-use Rattle.grammar_phrases.proofs.Spelling.{behind}
-use Rattle.written_entities.proofs.Spelling.{Spells, literal, numbered_spelled}
+use Rattle.grammar_phrases.proofs.Spelling.{literal, behind}
+use Rattle.written_entities.proofs.Spelling.{Spells, numbered_spelled}
 
 -- Symbols.
 
 pub opened : Spells Anything false (codes "(") (λ s. codes "(" ∷ s) false
-opened = literal 1 (λ r. refl)
+opened = literal (λ r. refl) refl
 
 pub closed : Spells Anything false (codes ")") (λ s. codes ")" ∷ s) false
-closed = literal 1 (λ r. refl)
+closed = literal (λ r. refl) refl
 
 comma : Spells Anything false (codes ", ") (λ s. codes "," ∷ s) false
-comma = literal 2 (λ r. refl)
+comma = literal (λ r. refl) refl
 
 a_level : (l : Trits) → Spells Anything false (level_text l) (λ s. level_text l ∷ s) false
-a_level trits.Zero = literal 3 (λ r. refl)
-a_level trits.One = literal 3 (λ r. refl)
-a_level trits.Unknown = literal 3 (λ r. refl)
-a_level trits.Any = literal 3 (λ r. refl)
-a_level trits.Binary = literal 3 (λ r. refl)
+a_level trits.Zero = literal (λ r. refl) refl
+a_level trits.One = literal (λ r. refl) refl
+a_level trits.Unknown = literal (λ r. refl) refl
+a_level trits.Any = literal (λ r. refl) refl
+a_level trits.Binary = literal (λ r. refl) refl
 
 a_symbol : (y : VSymbol) → Spells Anything false (symbol_text y) (λ s. symbol_text y ∷ s) false
 a_symbol (symbol.Level l) = a_level l
-a_symbol symbol.Steady = literal 3 (λ r. refl)
-a_symbol symbol.Rise = literal 3 (λ r. refl)
-a_symbol symbol.Fall = literal 3 (λ r. refl)
-a_symbol symbol.To1 = literal 3 (λ r. refl)
-a_symbol symbol.To0 = literal 3 (λ r. refl)
-a_symbol symbol.From0 = literal 3 (λ r. refl)
-a_symbol symbol.From1 = literal 3 (λ r. refl)
-a_symbol symbol.Change = literal 3 (λ r. refl)
+a_symbol symbol.Steady = literal (λ r. refl) refl
+a_symbol symbol.Rise = literal (λ r. refl) refl
+a_symbol symbol.Fall = literal (λ r. refl) refl
+a_symbol symbol.To1 = literal (λ r. refl) refl
+a_symbol symbol.To0 = literal (λ r. refl) refl
+a_symbol symbol.From0 = literal (λ r. refl) refl
+a_symbol symbol.From1 = literal (λ r. refl) refl
+a_symbol symbol.Change = literal (λ r. refl) refl
 
 -- the symbol of what a row gives
 abbrev pub next_symbol_of : VNext → VSymbol
@@ -115,13 +115,13 @@ state_row_more row =
 
 -- what stands before the only row, before the first of several, and before the others
 only_start : Spells Anything false (codes "\n    0 => (") (λ s. codes "0" ∷ codes "=>" ∷ codes "(" ∷ s) false
-only_start = literal 11 (λ r. refl)
+only_start = literal (λ r. refl) refl
 
 first_start : Spells Anything false (codes "\n    (") (λ s. codes "(" ∷ s) false
-first_start = literal 6 (λ r. refl)
+first_start = literal (λ r. refl) refl
 
 later_start : Spells Anything false (codes ",\n    (") (λ s. codes "," ∷ codes "(" ∷ s) false
-later_start = literal 7 (λ r. refl)
+later_start = literal (λ r. refl) refl
 
 -- the front of rows: the index before the only one, and commas between several
 abbrev pub rows_front : {R : Type 0} → (R → Front) → List R → Front
@@ -144,8 +144,8 @@ later_row more f h count n row m = rw (is_several count, is_later n m) (behind l
 rows_spelled : {R : Type 0} (text : ℕ → ℕ → R → List ℕ) (more : R → List ℕ) (f : R → Front)
     → ((count n : ℕ) (row : R) → text count n row ≡ row_start count n ++ more row) → ((row : R) → Spells Anything false (more row) (f row) false)
     → (rows : List R) → Spells Anything false (numbered_texts (text (length rows)) 1 rows) (rows_front f rows) false
-rows_spelled text more f e h [] = literal 0 (λ r. refl)
-rows_spelled text more f e h (row ∷ []) = rw (e 1 1 row) (behind (behind only_start (h row)) (literal 0 (λ r. refl)))
+rows_spelled text more f e h [] = literal (λ r. refl) refl
+rows_spelled text more f e h (row ∷ []) = rw (e 1 1 row) (behind (behind only_start (h row)) (literal (λ r. refl) refl))
 rows_spelled text more f e h (row ∷ one ∷ rows) =
     let count : ℕ = length rows in
     let step : (n : ℕ) (x : _) → 2 ≤ n → Spells Anything false (text (suc (suc count)) n x) (λ s. codes "," ∷ codes "(" ∷ f x s) false =

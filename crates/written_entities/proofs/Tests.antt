@@ -1,5 +1,5 @@
--- Tests of numbers, and tests of which both hold.
-use Rattle.std.proofs.Common.{◌≡◌, ℕ, suc, ◌<◌, Bool, true, false, not, ◌&&◌, nat_eq, nat_lt, if◌then◌else◌, refl, arith}
+-- Tests of numbers, and tests of which both hold, or neither.
+use Rattle.std.proofs.Common.{◌≡◌, ℕ, suc, ◌<◌, Bool, true, false, not, ◌&&◌, ◌||◌, nat_eq, nat_lt, if◌then◌else◌, refl, arith}
 use Rattle.std.proofs.lemmas.Bool.Decides.{nat_tests}
 
 pub if_true : {A : Type 0} (b : Bool) (x y : A) → b ≡ true → (if b then x else y) ≡ x
@@ -41,3 +41,8 @@ and_no false b e = refl
 pub and_not : (a : Bool) → (a && not a) ≡ false
 and_not true = refl
 and_not false = refl
+
+-- neither of two tests holds
+pub or_parts : (a b : Bool) → (a || b) ≡ false → (a ≡ false) × (b ≡ false)
+or_parts true b e = absurd cc
+or_parts false b e = (refl, e)

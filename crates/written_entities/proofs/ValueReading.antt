@@ -39,10 +39,10 @@ use Rattle.vhdl_writer.specs.Outputs.{lookup_text, assigned_text, value_line}
 use Rattle.grammar_phrases.proofs.Fronts.{Front, Anything}
 use Rattle.grammar_phrases.proofs.Derivations.{Reads, to_same, gives, token, in_turn, chosen, passed, no_turn, turn, turns, goes_on}
 use Rattle.grammar_phrases.proofs.Places.{get_at}
-use Rattle.grammar_phrases.proofs.Spelling.{behind}
-use Rattle.written_entities.proofs.Spelling.{Spells, literal}
-use Rattle.written_entities.proofs.Words.{IsNamed, part_named, unnumbered}
-use Rattle.written_entities.proofs.NameReading.{same_self, expected, three_expected, four_expected, so_named, place_found, unlike_plain}
+use Rattle.grammar_phrases.proofs.Spelling.{literal, behind}
+use Rattle.written_entities.proofs.Names.{IsNamed, part_named, unnumbered, same_self}
+use Rattle.written_entities.proofs.Spelling.{Spells}
+use Rattle.written_entities.proofs.NameReading.{expected, three_expected, four_expected, so_named, place_found, unlike_plain}
 use Rattle.written_entities.proofs.Counting.{counted, counted_anywhere, over}
 use Rattle.written_entities.proofs.Elements.{names_front, names_spelled, closed, elements_read, line_end, indented}
 use Rattle.written_entities.proofs.Parts.{part_behind, fact_at, place_below, output_number, state_number}
@@ -68,13 +68,13 @@ abbrev pub value_front : VEntity → ℕ → VOutput → Front
 value_front e n output s = (122 ∷ 95 ∷ decimal n) ∷ codes ":=" ∷ assigned_front e n output.value (codes ";" ∷ s)
 
 becomes : {t : Bool} → Spells Anything t (codes " := ") (λ s. codes ":=" ∷ s) false
-becomes = literal 4 (λ r. refl)
+becomes = literal (λ r. refl) refl
 
 one_bit : Spells Anything false (codes "'1'") (λ s. codes "'1'" ∷ s) false
-one_bit = literal 3 (λ r. refl)
+one_bit = literal (λ r. refl) refl
 
 zero_bit : Spells Anything false (codes "'0'") (λ s. codes "'0'" ∷ s) false
-zero_bit = literal 3 (λ r. refl)
+zero_bit = literal (λ r. refl) refl
 
 -- Sources.
 

@@ -27,8 +27,9 @@ use Rattle.vhdl_text.specs.VhdlDeclarations.{last_true, is_last_false, VariableO
 use Rattle.vhdl_text.specs.WellFormed.{IsNumber, IsCount, IsWrittenState, IsWellFormedEntity}
 use Rattle.grammar_phrases.proofs.Derivations.{Reads, to_same, gives, token, in_turn, no_turn, turn, turns, goes_on}
 use Rattle.grammar_phrases.proofs.Places.{get_at, one_longer}
-use Rattle.written_entities.proofs.Words.{IsNamed, number, part_named}
-use Rattle.written_entities.proofs.NameReading.{same_self, expected, three_expected, five_expected, six_expected, eight_expected, so_named, this_number_read}
+use Rattle.written_entities.proofs.Names.{IsNamed, part_named, same_self}
+use Rattle.written_entities.proofs.Words.{number}
+use Rattle.written_entities.proofs.NameReading.{expected, three_expected, five_expected, six_expected, eight_expected, so_named, this_number_read}
 use Rattle.written_entities.proofs.Counting.{counted, over}
 use Rattle.written_entities.proofs.Parts.{fact_at, place_below, output_number, state_number, check_number}
 use Rattle.written_entities.proofs.ConstantReading.{tables_up_to}

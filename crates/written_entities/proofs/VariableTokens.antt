@@ -17,8 +17,8 @@ use Rattle.vhdl_text.specs.VhdlDeclarations.{first_data}
 use Rattle.vhdl_text.specs.WellFormed.{IsNumber, IsCount, IsWrittenState, IsWellFormedEntity}
 use Rattle.vhdl_writer.specs.Declarations.{data_text, check_variables_text, violation_variable_text, width_of, state_variables_text, glitch_data_text, output_variables_text, variables_text}
 use Rattle.grammar_phrases.proofs.Fronts.{Front, Anything}
-use Rattle.grammar_phrases.proofs.Spelling.{joins, behind, nothing}
-use Rattle.written_entities.proofs.Spelling.{Spells, literal}
+use Rattle.grammar_phrases.proofs.Spelling.{literal, joins, behind, nothing}
+use Rattle.written_entities.proofs.Spelling.{Spells}
 use Rattle.written_entities.proofs.Words.{number}
 use Rattle.written_entities.proofs.Counting.{counted, counted_anywhere}
 use Rattle.written_entities.proofs.Parts.{shown, part_behind, fact_at, place_below, output_number, state_number, check_number, IsBehind, by_kind}
@@ -59,39 +59,39 @@ output_front n output s = codes "variable" ∷ (122 ∷ 95 ∷ decimal n) ∷ co
 abbrev pub variables_front : VEntity → Front
 variables_front e s = counted check_front 1 e.checks (violation_front e.checks (counted state_front 1 e.states (counted output_front 1 e.outputs s)))
 
-variable_word : {t : Bool} → Spells Anything t (codes "    variable ") (λ s. codes "variable" ∷ s) false
+pub variable_word : {t : Bool} → Spells Anything t (codes "    variable ") (λ s. codes "variable" ∷ s) false
 unfolding is_reserved is_used vhdl_words used_words
-variable_word = literal 13 (λ r. refl)
+variable_word = literal (λ r. refl) refl
 
 report_type : {t : Bool} → Spells Anything t (codes " : X01 := '0';\n    variable ") (λ s. codes ":" ∷ codes "X01" ∷ codes ":=" ∷ codes "'0'" ∷ codes ";" ∷ codes "variable" ∷ s) false
 unfolding is_reserved is_used vhdl_words used_words
-report_type = literal 28 (λ r. refl)
+report_type = literal (λ r. refl) refl
 
 timing_type : IsBehind (codes " : VitalTimingDataType := VitalTimingDataInit;\n") (λ s. codes ":" ∷ codes "VitalTimingDataType" ∷ codes ":=" ∷ codes "VitalTimingDataInit" ∷ codes ";" ∷ s)
-timing_type = record { spelled = literal 47 (λ r. refl); begins = λ r. refl }
+timing_type = record { spelled = literal (λ r. refl) refl; begins = λ r. refl }
 
 period_type : IsBehind (codes " : VitalPeriodDataType := VitalPeriodDataInit;\n") (λ s. codes ":" ∷ codes "VitalPeriodDataType" ∷ codes ":=" ∷ codes "VitalPeriodDataInit" ∷ codes ";" ∷ s)
-period_type = record { spelled = literal 47 (λ r. refl); begins = λ r. refl }
+period_type = record { spelled = literal (λ r. refl) refl; begins = λ r. refl }
 
 violation_line : {t : Bool} → Spells Anything t (codes "    variable viol : X01 := '0';\n") (λ s. codes "variable" ∷ codes "viol" ∷ codes ":" ∷ codes "X01" ∷ codes ":=" ∷ codes "'0'" ∷ codes ";" ∷ s) false
-violation_line = literal 32 (λ r. refl)
+violation_line = literal (λ r. refl) refl
 
 state_type : {t : Bool} → Spells Anything t (codes " : std_logic := 'X';\n    variable ") (λ s. codes ":" ∷ codes "std_logic" ∷ codes ":=" ∷ codes "'X'" ∷ codes ";" ∷ codes "variable" ∷ s) false
 unfolding is_reserved is_used vhdl_words used_words
-state_type = literal 34 (λ r. refl)
+state_type = literal (λ r. refl) refl
 
 columns_type : {t : Bool} → Spells Anything t (codes " : std_logic_vector (1 to ") (λ s. codes ":" ∷ codes "std_logic_vector" ∷ codes "(" ∷ codes "1" ∷ codes "to" ∷ s) false
 unfolding is_reserved is_used vhdl_words used_words
-columns_type = literal 26 (λ r. refl)
+columns_type = literal (λ r. refl) refl
 
 columns_end : {t : Bool} → Spells Anything t (codes ") := (others => 'X');\n") (λ s. codes ")" ∷ codes ":=" ∷ codes "(" ∷ codes "others" ∷ codes "=>" ∷ codes "'X'" ∷ codes ")" ∷ codes ";" ∷ s) false
-columns_end = literal 22 (λ r. refl)
+columns_end = literal (λ r. refl) refl
 
-output_type : {t : Bool} → Spells Anything t (codes " : std_logic := 'X';\n") (λ s. codes ":" ∷ codes "std_logic" ∷ codes ":=" ∷ codes "'X'" ∷ codes ";" ∷ s) false
-output_type = literal 21 (λ r. refl)
+pub output_type : {t : Bool} → Spells Anything t (codes " : std_logic := 'X';\n") (λ s. codes ":" ∷ codes "std_logic" ∷ codes ":=" ∷ codes "'X'" ∷ codes ";" ∷ s) false
+output_type = literal (λ r. refl) refl
 
-glitch_type : {t : Bool} → Spells Anything t (codes " : VitalGlitchDataType;\n") (λ s. codes ":" ∷ codes "VitalGlitchDataType" ∷ codes ";" ∷ s) false
-glitch_type = literal 24 (λ r. refl)
+pub glitch_type : {t : Bool} → Spells Anything t (codes " : VitalGlitchDataType;\n") (λ s. codes ":" ∷ codes "VitalGlitchDataType" ∷ codes ";" ∷ s) false
+glitch_type = literal (λ r. refl) refl
 
 data_behind : (kind : CheckKind) → IsBehind (data_text kind) (λ s. codes ":" ∷ data_type (is_period kind) ∷ codes ":=" ∷ first_data (is_period kind) ∷ codes ";" ∷ s)
 data_behind =

@@ -11,8 +11,8 @@ use Rattle.vhdl_writer.specs.Statements.{report_text, reports_text, violation_te
 use Rattle.grammar_phrases.proofs.Fronts.{Front, Anything}
 use Rattle.grammar_phrases.proofs.Derivations.{Reads, to_same, gives, in_turn, no_turn, turn, turns, goes_on}
 use Rattle.grammar_phrases.proofs.Places.{one_longer}
-use Rattle.grammar_phrases.proofs.Spelling.{joins, behind, nothing}
-use Rattle.written_entities.proofs.Spelling.{Spells, literal}
+use Rattle.grammar_phrases.proofs.Spelling.{literal, joins, behind, nothing}
+use Rattle.written_entities.proofs.Spelling.{Spells}
 use Rattle.written_entities.proofs.Words.{Ends, part}
 use Rattle.written_entities.proofs.NameReading.{expected, two_expected, part_read}
 use Rattle.written_entities.proofs.Counting.{counted, apart_front, apart_spelled, over}
@@ -23,11 +23,11 @@ use Rattle.written_entities.proofs.Elements.{line_end}
 use Rattle.written_entities.proofs.VariableTokens.{is_period_check}
 
 violation_start : {t : Bool} → Spells Anything t (codes "    viol := ") (λ s. codes "viol" ∷ codes ":=" ∷ s) false
-violation_start = literal 12 (λ r. refl)
+violation_start = literal (λ r. refl) refl
 
 or_word : {t : Bool} → Spells Anything t (codes " or ") (λ s. codes "or" ∷ s) false
 unfolding is_reserved is_used vhdl_words used_words
-or_word = literal 4 (λ r. refl)
+or_word = literal (λ r. refl) refl
 
 abbrev report_front : ℕ → TimingCheck → Front
 report_front n k s = (120 ∷ 95 ∷ decimal n) ∷ s

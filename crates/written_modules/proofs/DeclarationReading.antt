@@ -35,7 +35,7 @@ register_other : (w : List ℕ) (n : Option (List ℕ)) (s : List (List ℕ)) �
 register_other w None s e o = o
 register_other w (Some x) s e o = e
 
-where_other : (w word x : List ℕ) (b : Bool) (s : List (List ℕ)) → bytes_eq word w ≡ false → Other w s → Other w (declared_where b word x s)
+pub where_other : (w word x : List ℕ) (b : Bool) (s : List (List ℕ)) → bytes_eq word w ≡ false → Other w s → Other w (declared_where b word x s)
 where_other w word x true s e o = e
 where_other w word x false s e o = o
 

@@ -5,6 +5,8 @@ use Rattle.std.proofs.lemmas.List.{append-nil, map-append}
 use Rattle.std.proofs.lemmas.Grind.{flat_map-append}
 use Rattle.std.proofs.lemmas.List.Elements.{recursion_from_All}
 use Rattle.udp_tables.specs.declared.table.Udp.{Udp}
+use Rattle.verilog_tokens.specs.Tokens.{scan_of}
+use Rattle.verilog_tokens.specs.Separators.{spelled}
 use Rattle.udp_tables.specs.VerilogRules.{begins, is_among}
 use Rattle.specify_blocks.specs.declared.model.VModule.{VModule}
 use Rattle.specify_blocks.specs.VerilogText.{Before, with_primitive, next_primitive, next_module, more_primitives, primitives_and_module, is_design_start, design, designs, prelude, file, language, IsVerilogText, verilog_text}
@@ -13,8 +15,9 @@ use Rattle.specify_blocks.proofs.VerilogAnswers.{is_answer}
 use Rattle.rule_readers.specs.Words.{begins_by}
 use Rattle.verilog_writer.specs.Model.{prelude_text, module_text}
 use Rattle.written_modules.specs.Laws.{modules_text, WrittenModulesReadBack}
-use Rattle.grammar_phrases.proofs.Spelling.{behind, each_spelled}
-use Rattle.written_modules.proofs.Spelling.{found, Spells, literal}
+use Rattle.grammar_phrases.specs.ReadBack.{ReadsBack}
+use Rattle.grammar_phrases.proofs.Spelling.{literal, all_found, behind, each_spelled}
+use Rattle.written_modules.proofs.Spelling.{Spells}
 use Rattle.grammar_phrases.proofs.Fronts.{Front, Anything, each}
 use Rattle.written_modules.proofs.PrimitiveTokens.{primitive_tokens, primitive_spelled}
 use Rattle.written_modules.proofs.PrimitiveReading.{primitive_read}
@@ -84,7 +87,7 @@ primitive_turn before m others h done udp after s same =
 abbrev up_to : List VModule → Before
 up_to before = record { modules = before; names = flat_map outer_names before; udps = [] }
 
-abbrev design_tokens : VModule → Front
+abbrev pub design_tokens : VModule → Front
 design_tokens m s = each primitive_tokens m.udps (module_tokens m s)
 
 with_it : (before : List VModule) (m : VModule)
@@ -134,7 +137,7 @@ designs_read ms h =
 
 -- Files.
 
-abbrev file_tokens : List VModule → List (List ℕ)
+abbrev pub file_tokens : List VModule → List (List ℕ)
 file_tokens ms = codes "`timescale" ∷ codes "1ps" ∷ codes "/" ∷ codes "1ps" ∷ each design_tokens ms []
 
 file_read : (ms : List VModule) → AreWellFormed ms → Reads file (file_tokens ms) ms []
@@ -142,34 +145,36 @@ unfolding file prelude
 file_read ms h =
     in_turn (in_turn expected (in_turn expected (in_turn expected expected))) (in_turn (designs_read ms h) (record { taken = (refl, refl, refl) }))
 
-prelude_spelled : Spells Anything false prelude_text (λ s. codes "`timescale" ∷ codes "1ps" ∷ codes "/" ∷ codes "1ps" ∷ s) false
+pub prelude_spelled : Spells Anything false prelude_text (λ s. codes "`timescale" ∷ codes "1ps" ∷ codes "/" ∷ codes "1ps" ∷ s) false
 unfolding prelude_text
-prelude_spelled = literal 19 (λ r. refl)
+prelude_spelled = literal (λ r. refl) refl
 
-design_spelled : (m : VModule) (others : List (List ℕ)) → IsWellFormedModule m → AreApart (udp_names m.udps ++ others) → Spells Anything false (module_text m) (design_tokens m) false
+pub design_spelled : (m : VModule) (others : List (List ℕ)) → IsWellFormedModule m → AreApart (udp_names m.udps ++ others) → Spells Anything false (module_text m) (design_tokens m) false
 unfolding module_text
 design_spelled m others h apart =
     behind (each_spelled IsWellFormedUdp primitive_spelled (λ u r q. tt) m.udps (recursion_from_All IsWellFormedUdp m.udps h.udps)) (module_spelled m others h apart)
 
 -- a module whose names are apart from each other
-abbrev IsAlone : VModule → Type 0
+abbrev pub IsAlone : VModule → Type 0
 IsAlone m = IsWellFormedModule m × ((others : List (List ℕ)) × AreApart (udp_names m.udps ++ others))
 
-all_alone : (ms : List VModule) → AreWellFormed ms → (before after : List VModule) → before ++ after ≡ ms → AllByRecursion IsAlone after
+pub all_alone : (ms : List VModule) → AreWellFormed ms → (before after : List VModule) → before ++ after ≡ ms → AllByRecursion IsAlone after
 all_alone ms h before [] same = tt
 all_alone ms h before (m ∷ after) same =
     let p = placed ms h before m after same in
     ((p.formed, (m.name ∷ flat_map outer_names after, own_apart before m (flat_map outer_names after) p)), all_alone ms h (before ++ m ∷ []) after (append_assoc before (m ∷ []) after ∙ same))
 
-file_spelled : (ms : List VModule) → AreWellFormed ms → found false (modules_text ms) ≡ (file_tokens ms, false)
+-- the tokens of a file, in which no section begins
+pub file_spelled : (ms : List VModule) → AreWellFormed ms
+    → Spells Anything false (modules_text ms) (λ s. codes "`timescale" ∷ codes "1ps" ∷ codes "/" ∷ codes "1ps" ∷ each design_tokens ms s) false
 unfolding modules_text
-file_spelled ms h =
-    let all : Spells Anything false (prelude_text ++ flat_map module_text ms) (λ s. codes "`timescale" ∷ codes "1ps" ∷ codes "/" ∷ codes "1ps" ∷ each design_tokens ms s) false =
-    behind prelude_spelled (each_spelled IsAlone (λ m a. design_spelled m a.1.0 a.0 a.1.1) (λ m r q. tt) ms (all_alone ms h [] ms refl)) in
-    ap (found false) (sym (append-nil (prelude_text ++ flat_map module_text ms))) ∙ all.is [] tt
+file_spelled ms h = behind prelude_spelled (each_spelled IsAlone (λ m a. design_spelled m a.1.0 a.0 a.1.1) (λ m r q. tt) ms (all_alone ms h [] ms refl))
+
+-- bytes of the tokens of well formed modules read back
+pub read_from : (ms : List VModule) → AreWellFormed ms → (bytes : List ℕ) → spelled (scan_of bytes) ≡ (file_tokens ms, false) → ReadsBack verilog_text IsVerilogText bytes ms
+read_from ms h bytes e =
+    reads_back verilog_text IsVerilogText bytes ms (is_answer bytes).modules (is_text language bytes ms (file_tokens ms) e (file_read ms h))
 
 -- what is well formed reads back
 pub read_back : WrittenModulesReadBack
-read_back ms h =
-    reads_back verilog_text IsVerilogText (modules_text ms) ms (is_answer (modules_text ms)).modules
-    (is_text language (modules_text ms) ms (file_tokens ms) (file_spelled ms h) (file_read ms h))
+read_back ms h = read_from ms h (modules_text ms) (all_found (file_spelled ms h))

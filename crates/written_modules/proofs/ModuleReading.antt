@@ -23,8 +23,8 @@ use Rattle.specify_blocks.specs.WellFormed.{IsName, AreApart, IsWellFormedUdp, I
 use Rattle.rule_readers.specs.declared.refusal.Refusal.TheVariants.{Undriven}
 use Rattle.verilog_writer.specs.Timing.{has_block}
 use Rattle.verilog_writer.specs.Model.{module_only_text}
-use Rattle.grammar_phrases.proofs.Spelling.{behind, each_spelled}
-use Rattle.written_modules.proofs.Spelling.{Spells, literal}
+use Rattle.grammar_phrases.proofs.Spelling.{literal, behind, each_spelled}
+use Rattle.written_modules.proofs.Spelling.{Spells}
 use Rattle.grammar_phrases.proofs.Fronts.{Front, Anything, each}
 use Rattle.written_modules.proofs.Words.{unlike_word}
 use Rattle.grammar_phrases.proofs.Derivations.{Reads, gives, in_turn}
@@ -42,7 +42,7 @@ use Rattle.written_modules.proofs.BlockReading.{AreTimed, specify_read}
 
 -- What holds of a well formed module.
 
-all_parts : {A : Type 0} (P : A → Type 0) (xs ys : List A) → AllByRecursion P (xs ++ ys) → AllByRecursion P xs × AllByRecursion P ys
+pub all_parts : {A : Type 0} (P : A → Type 0) (xs ys : List A) → AllByRecursion P (xs ++ ys) → AllByRecursion P xs × AllByRecursion P ys
 all_parts P [] ys h = (tt, h)
 all_parts P (x ∷ xs) ys h = let rest = all_parts P xs ys h.1 in ((h.0, rest.0), rest.1)
 
@@ -120,7 +120,7 @@ abbrev pub module_tokens : VModule → Front
 module_tokens m s = codes "module" ∷ module_more m s
 
 module_end : Spells Anything false (codes "endmodule\n") (λ s. codes "endmodule" ∷ s) false
-module_end = literal 10 (λ r. refl)
+module_end = literal (λ r. refl) refl
 
 pub module_spelled : (m : VModule) (others : List (List ℕ)) → IsWellFormedModule m → AreApart (udp_names m.udps ++ others) → Spells Anything false (module_only_text m) (module_tokens m) false
 unfolding module_only_text

@@ -9,8 +9,8 @@ use Rattle.specify_blocks.specs.declared.model.VModule.{VModule}
 use Rattle.specify_blocks.specs.WellFormed.{IsName}
 use Rattle.verilog_writer.specs.Nets.{primitive_at, net_at}
 use Rattle.verilog_writer.specs.Model.{module_opening_text, next_port_text, ports_text, module_header_text, input_port_text, output_port_text, wire_text, register_text, declarations_text, terminal_text, driver_text, call_text, constant_text, instance_text}
-use Rattle.grammar_phrases.proofs.Spelling.{joins, behind, nothing, each_spelled}
-use Rattle.written_modules.proofs.Spelling.{Spells, Ends, literal}
+use Rattle.grammar_phrases.proofs.Spelling.{literal, joins, behind, nothing, each_spelled}
+use Rattle.written_modules.proofs.Spelling.{Spells, Ends}
 use Rattle.grammar_phrases.proofs.Fronts.{Front, Anything, each, each_begins}
 use Rattle.written_modules.proofs.Words.{name}
 use Rattle.written_modules.proofs.PrimitiveTokens.{declared, comma, opened, closed, line_end, input_word, output_word}
@@ -28,7 +28,7 @@ listed [] s = s
 listed (port ∷ ports) s = port.name ∷ each next_port ports s
 
 module_word : Spells Anything false (codes "module ") (λ s. codes "module" ∷ s) false
-module_word = literal 7 (λ r. refl)
+module_word = literal (λ r. refl) refl
 
 a_port : (port : VPort) → IsNamedPort port → Spells Ends false (next_port_text port) (next_port port) false
 unfolding next_port_text
@@ -38,7 +38,7 @@ port_begins : (port : VPort) (r : List ℕ) → Ends r → Ends (next_port_text 
 unfolding next_port_text
 port_begins port r e = refl
 
-ports : (all : List VPort) → AllByRecursion IsNamedPort all → Spells Ends false (ports_text all) (listed all) false
+pub ports : (all : List VPort) → AllByRecursion IsNamedPort all → Spells Ends false (ports_text all) (listed all) false
 ports [] n = nothing
 ports (port ∷ all) n = joins (name port.name n.0) (λ r q. each_begins Ends next_port_text port_begins all r q) (each_spelled IsNamedPort a_port port_begins all n.1)
 
@@ -71,7 +71,7 @@ input_by : (input : Bool) (x : List ℕ) → IsName x → Spells Anything false 
 input_by true x n = behind input_word (joins (name x n) (λ r q. refl) line_end)
 input_by false x n = nothing
 
-input : (port : VPort) → IsNamedPort port → Spells Anything false (input_port_text port) (input_tokens port) false
+pub input : (port : VPort) → IsNamedPort port → Spells Anything false (input_port_text port) (input_tokens port) false
 unfolding input_port_text
 input port n = input_by port.input port.name n
 
@@ -79,19 +79,19 @@ output_by : (input : Bool) (x : List ℕ) → IsName x → Spells Anything false
 output_by true x n = nothing
 output_by false x n = behind output_word (joins (name x n) (λ r q. refl) line_end)
 
-output : (port : VPort) → IsNamedPort port → Spells Anything false (output_port_text port) (output_tokens port) false
+pub output : (port : VPort) → IsNamedPort port → Spells Anything false (output_port_text port) (output_tokens port) false
 unfolding output_port_text
 output port n = output_by port.input port.name n
 
 wire_word : Spells Anything false (codes "  wire ") (λ s. codes "wire" ∷ s) false
-wire_word = literal 7 (λ r. refl)
+wire_word = literal (λ r. refl) refl
 
-wire : (x : List ℕ) → IsName x → Spells Anything false (wire_text x) (declared (codes "wire") x) false
+pub wire : (x : List ℕ) → IsName x → Spells Anything false (wire_text x) (declared (codes "wire") x) false
 unfolding wire_text
 wire x n = behind wire_word (joins (name x n) (λ r q. refl) line_end)
 
 register_word : Spells Anything false (codes "  reg ") (λ s. codes "reg" ∷ s) false
-register_word = literal 6 (λ r. refl)
+register_word = literal (λ r. refl) refl
 
 register : (notifier : Option (List ℕ)) → IsNamed notifier → Spells Anything false (register_text notifier) (register_tokens notifier) false
 register None n = nothing
@@ -143,11 +143,11 @@ terminal_begins : (m : VModule) (n : VNet) (r : List ℕ) → Ends r → Ends (t
 unfolding terminal_text
 terminal_begins m n r e = refl
 
-indented : Spells Anything false (codes "  ") (λ s. s) false
-indented = literal 2 (λ r. refl)
+pub indented : Spells Anything false (codes "  ") (λ s. s) false
+indented = literal (λ r. refl) refl
 
 buffer_word : Spells Anything false (codes "  buf (") (λ s. codes "buf" ∷ codes "(" ∷ s) false
-buffer_word = literal 7 (λ r. refl)
+buffer_word = literal (λ r. refl) refl
 
 driver : (m : VModule) (j : ℕ) (output : VNet) → IsName (primitive_at m j) → IsNamedNet m output
     → Spells Ends false (driver_text m j output) (λ s. primitive_at m j ∷ codes "(" ∷ net_at m output ∷ s) false
@@ -160,8 +160,8 @@ terminals_begin m [] r = refl
 terminals_begin m (n ∷ ns) r = refl
 
 bit : (one : Bool) → Spells Anything false (if one then codes ", 1'b1);\n" else codes ", 1'b0);\n") (λ s. codes "," ∷ bit_text one ∷ codes ")" ∷ codes ";" ∷ s) false
-bit true = literal 9 (λ r. refl)
-bit false = literal 9 (λ r. refl)
+bit true = literal (λ r. refl) refl
+bit false = literal (λ r. refl) refl
 
 bit_begins : (one : Bool) (r : List ℕ) → Ends ((if one then codes ", 1'b1);\n" else codes ", 1'b0);\n") ++ r)
 bit_begins true r = refl

@@ -39,7 +39,7 @@ named_port ports h before x after same = at_place IsNamedPort before x after (su
 
 -- Headers.
 
-abbrev plain : VPort → VPort
+abbrev pub plain : VPort → VPort
 plain port = plain_port port.name
 
 plain_names : (ports : List VPort) → port_names (map plain ports) ≡ port_names ports
@@ -54,7 +54,7 @@ port_turn ports others h before x after s same =
     subst (λ (l : List VPort). Turn (λ _. begins (codes ",")) (λ ports _. next_port ports) (map plain before) (tokens.next_port x s) l s) (sym (map-append plain before (x ∷ [])))
     (turn refl (in_turn (newly_named (port_names (map plain before)) (named_port ports h.named before x after same) new) gives))
 
-ports_read : (ports : List VPort) (others : List (List ℕ)) (s : List (List ℕ)) → ArePorts ports others → Reads some_ports (listed ports (codes ")" ∷ s)) (map plain ports) (codes ")" ∷ s)
+pub ports_read : (ports : List VPort) (others : List (List ℕ)) (s : List (List ℕ)) → ArePorts ports others → Reads some_ports (listed ports (codes ")" ∷ s)) (map plain ports) (codes ")" ∷ s)
 unfolding some_ports more_ports
 ports_read [] others s h = passed refl gives
 ports_read (port ∷ ports) others s h =

@@ -1,6 +1,5 @@
 -- The text of a well formed primitive is read as this primitive.
 use Rattle.std.proofs.Common.{◌≡◌, ℕ, Bool, false, List, [], ◌∷◌, refl, sym, ap, ◌∙◌, subst, codes}
-use Rattle.std.proofs.lemmas.List.{append-nil}
 use Rattle.grammar_rules.specs.Rule.{Takes}
 use Rattle.grammar_rules.proofs.Exact.{complete}
 use Rattle.grammar_rules.proofs.Steps.{value_is}
@@ -11,13 +10,14 @@ use Rattle.specify_blocks.specs.VerilogText.{text_tokens, lexical_place}
 use Rattle.specify_blocks.specs.WellFormed.{IsWellFormedUdp}
 use Rattle.verilog_writer.specs.Primitive.{primitive_text}
 use Rattle.written_modules.specs.Laws.{IsPrimitiveText, PrimitiveReadBack}
+use Rattle.grammar_phrases.proofs.Spelling.{all_found}
 use Rattle.written_modules.proofs.Spelling.{found}
 use Rattle.written_modules.proofs.PrimitiveTokens.{primitive_tokens, primitive_spelled}
 use Rattle.written_modules.proofs.PrimitiveReading.{udp_more, primitive_read}
 use Rattle.grammar_phrases.proofs.Places.{none_if}
 
 text_found : (udp : Udp) → IsWellFormedUdp udp → found false (primitive_text udp) ≡ (primitive_tokens udp [], false)
-text_found udp w = ap (found false) (sym (append-nil (primitive_text udp))) ∙ (primitive_spelled udp w).is [] tt
+text_found udp w = all_found (primitive_spelled udp w)
 
 is_text : (udp : Udp) → IsWellFormedUdp udp → IsPrimitiveText (primitive_text udp) udp
 is_text udp w =

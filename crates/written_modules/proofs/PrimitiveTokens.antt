@@ -13,8 +13,8 @@ use Rattle.udp_tables.specs.declared.table.Udp.{Udp}
 use Rattle.specify_blocks.specs.WellFormed.{IsName, IsWellFormedUdp}
 use Rattle.verilog_writer.specs.Symbols.{level_text, entry_text, next_text}
 use Rattle.verilog_writer.specs.Primitive.{opening_text, port_text, header_text, output_text, input_text, spaced_text, outcome_text, row_text, table_text, primitive_text}
-use Rattle.grammar_phrases.proofs.Spelling.{joins, behind, each_spelled}
-use Rattle.written_modules.proofs.Spelling.{Spells, Ends, literal}
+use Rattle.grammar_phrases.proofs.Spelling.{literal, joins, behind, each_spelled}
+use Rattle.written_modules.proofs.Spelling.{Spells, Ends}
 use Rattle.grammar_phrases.proofs.Fronts.{Front, Anything, each}
 use Rattle.written_modules.proofs.Words.{name}
 
@@ -37,27 +37,27 @@ declared word x s = word ∷ x ∷ codes ";" ∷ s
 -- Marks.
 
 pub comma : Spells Anything false (codes ", ") (λ s. codes "," ∷ s) false
-comma = literal 2 (λ r. refl)
+comma = literal (λ r. refl) refl
 
 pub opened : Spells Anything false (codes " (") (λ s. codes "(" ∷ s) false
-opened = literal 2 (λ r. refl)
+opened = literal (λ r. refl) refl
 
 pub closed : Spells Anything false (codes ");\n") (λ s. codes ")" ∷ codes ";" ∷ s) false
-closed = literal 3 (λ r. refl)
+closed = literal (λ r. refl) refl
 
 pub line_end : Spells Anything false (codes ";\n") (λ s. codes ";" ∷ s) false
-line_end = literal 2 (λ r. refl)
+line_end = literal (λ r. refl) refl
 
 pub input_word : Spells Anything false (codes "  input ") (λ s. codes "input" ∷ s) false
-input_word = literal 8 (λ r. refl)
+input_word = literal (λ r. refl) refl
 
 pub output_word : Spells Anything false (codes "  output ") (λ s. codes "output" ∷ s) false
-output_word = literal 9 (λ r. refl)
+output_word = literal (λ r. refl) refl
 
 -- Headers.
 
 primitive_word : Spells Anything false (codes "primitive ") (λ s. codes "primitive" ∷ s) false
-primitive_word = literal 10 (λ r. refl)
+primitive_word = literal (λ r. refl) refl
 
 opening : (udp : Udp) → IsWellFormedUdp udp → Spells Ends false (opening_text udp) (λ s. codes "primitive" ∷ udp.name ∷ codes "(" ∷ udp.output ∷ s) false
 unfolding opening_text
@@ -89,7 +89,7 @@ header udp w = joins (opening udp w) (λ r q. ports_begin udp.inputs r) (ports u
 -- Declarations.
 
 register_word : Spells Anything false (codes ";\n  reg ") (λ s. codes ";" ∷ codes "reg" ∷ s) false
-register_word = literal 8 (λ r. refl)
+register_word = literal (λ r. refl) refl
 
 abbrev pub output_tokens : Bool → List ℕ → Front
 output_tokens true x s = codes "output" ∷ x ∷ codes ";" ∷ codes "reg" ∷ x ∷ codes ";" ∷ s
@@ -116,17 +116,17 @@ abbrev InTable : List ℕ → Front → Type 0
 InTable text front = Spells Anything true text front true
 
 a_next : (n : Next) → InTable (next_text n) (λ s. next_text n ∷ s)
-a_next next.Zero = literal 1 (λ r. refl)
-a_next next.One = literal 1 (λ r. refl)
-a_next next.Unknown = literal 1 (λ r. refl)
-a_next next.Keep = literal 1 (λ r. refl)
+a_next next.Zero = literal (λ r. refl) refl
+a_next next.One = literal (λ r. refl) refl
+a_next next.Unknown = literal (λ r. refl) refl
+a_next next.Keep = literal (λ r. refl) refl
 
 pub a_level : (l : Level) → InTable (level_text l) (λ s. level_text l ∷ s)
-a_level level.Zero = literal 1 (λ r. refl)
-a_level level.One = literal 1 (λ r. refl)
-a_level level.Unknown = literal 1 (λ r. refl)
-a_level level.Any = literal 1 (λ r. refl)
-a_level level.Binary = literal 1 (λ r. refl)
+a_level level.Zero = literal (λ r. refl) refl
+a_level level.One = literal (λ r. refl) refl
+a_level level.Unknown = literal (λ r. refl) refl
+a_level level.Any = literal (λ r. refl) refl
+a_level level.Binary = literal (λ r. refl) refl
 
 -- the first token of an entry, and the others
 abbrev pub entry_start : Entry → List ℕ
@@ -151,38 +151,38 @@ abbrev pub entry_tokens : Entry → Front
 entry_tokens e s = entry_start e ∷ entry_more e s
 
 pair_opened : InTable (codes "(") (λ s. codes "(" ∷ s)
-pair_opened = literal 1 (λ r. refl)
+pair_opened = literal (λ r. refl) refl
 
 pair_closed : InTable (codes ")") (λ s. codes ")" ∷ s)
-pair_closed = literal 1 (λ r. refl)
+pair_closed = literal (λ r. refl) refl
 
 an_entry : (e : Entry) → InTable (entry_text e) (entry_tokens e)
 an_entry (entry.Level l) = a_level l
 an_entry (entry.Pair before after) = behind pair_opened (behind (a_level before) (behind (a_level after) pair_closed))
-an_entry entry.R = literal 1 (λ r. refl)
-an_entry entry.F = literal 1 (λ r. refl)
-an_entry entry.P = literal 1 (λ r. refl)
-an_entry entry.N = literal 1 (λ r. refl)
-an_entry entry.Star = literal 1 (λ r. refl)
+an_entry entry.R = literal (λ r. refl) refl
+an_entry entry.F = literal (λ r. refl) refl
+an_entry entry.P = literal (λ r. refl) refl
+an_entry entry.N = literal (λ r. refl) refl
+an_entry entry.Star = literal (λ r. refl) refl
 
 space : InTable (codes " ") (λ s. s)
-space = literal 1 (λ r. refl)
+space = literal (λ r. refl) refl
 
 spaced : (e : Entry) → Any e → InTable (spaced_text e) (entry_tokens e)
 unfolding spaced_text
 spaced e any = behind (an_entry e) space
 
 indented : InTable (codes "    ") (λ s. s)
-indented = literal 4 (λ r. refl)
+indented = literal (λ r. refl) refl
 
 colon : InTable (codes ": ") (λ s. codes ":" ∷ s)
-colon = literal 2 (λ r. refl)
+colon = literal (λ r. refl) refl
 
 spaced_colon : InTable (codes " : ") (λ s. codes ":" ∷ s)
-spaced_colon = literal 3 (λ r. refl)
+spaced_colon = literal (λ r. refl) refl
 
 row_end : InTable (codes ";\n") (λ s. codes ";" ∷ s)
-row_end = literal 2 (λ r. refl)
+row_end = literal (λ r. refl) refl
 
 -- what stands behind the colon
 abbrev pub outcome_tokens : Bool → Level → Next → Front
@@ -204,10 +204,10 @@ row sequential one any = behind indented (behind (each_spelled Any spaced (λ e 
 -- The primitive.
 
 table_word : Spells Anything false (codes "  table\n") (λ s. codes "table" ∷ s) true
-table_word = literal 8 (λ r. refl)
+table_word = literal (λ r. refl) refl
 
 table_end : Spells Anything true (codes "  endtable\nendprimitive\n") (λ s. codes "endtable" ∷ codes "endprimitive" ∷ s) false
-table_end = literal 24 (λ r. refl)
+table_end = literal (λ r. refl) refl
 
 abbrev pub table_tokens : Udp → Front
 table_tokens udp s = codes "table" ∷ each (row_tokens udp.sequential) udp.rows (codes "endtable" ∷ codes "endprimitive" ∷ s)

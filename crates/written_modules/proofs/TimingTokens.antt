@@ -13,9 +13,9 @@ use Rattle.udp_tables.specs.declared.timing_checks.TimingCheck.{TimingCheck}
 use Rattle.specify_blocks.specs.declared.model.VModule.{VModule}
 use Rattle.specify_blocks.specs.WellFormed.{IsName, IsNumber}
 use Rattle.verilog_writer.specs.Nets.{port_at, wire_at, notifier_in}
-use Rattle.verilog_writer.specs.Timing.{gate_text, delays_text, path_text, edge_text, joint_text, condition_text, ordered_text, turned_text, width_text, period_line, period_text, kind_text, check_text, has_block, lines_text, block_text}
-use Rattle.grammar_phrases.proofs.Spelling.{joins, behind, nothing, each_spelled}
-use Rattle.written_modules.proofs.Spelling.{Spells, Ends, literal}
+use Rattle.verilog_writer.specs.Timing.{gate_text, path_line, delays_text, path_text, edge_text, joint_text, condition_text, ordered_text, turned_text, width_text, period_line, period_text, kind_text, check_text, has_block, lines_text, block_text}
+use Rattle.grammar_phrases.proofs.Spelling.{literal, joins, behind, nothing, each_spelled}
+use Rattle.written_modules.proofs.Spelling.{Spells, Ends}
 use Rattle.grammar_phrases.proofs.Fronts.{Front, Anything, each}
 use Rattle.written_modules.proofs.Words.{name, number}
 use Rattle.written_modules.proofs.PrimitiveTokens.{comma, closed}
@@ -35,9 +35,13 @@ pub record IsNamedPath (m : VModule) (path : VPath) : Type 0 where
   pub rise : IsNumber path.rise
   pub fall : IsNumber path.fall
 
+-- a path between ports of these names and its delays, behind its bracket
+abbrev pub path_line_tokens : List ℕ → List ℕ → ℕ → ℕ → Front
+path_line_tokens from to rise fall s =
+    from ∷ codes "=>" ∷ to ∷ codes ")" ∷ codes "=" ∷ codes "(" ∷ decimal rise ∷ codes "," ∷ decimal fall ∷ codes ")" ∷ codes ";" ∷ s
+
 abbrev pub delay_tokens : VModule → VPath → Front
-delay_tokens m path s =
-    port_at m path.from ∷ codes "=>" ∷ port_at m path.to ∷ codes ")" ∷ codes "=" ∷ codes "(" ∷ decimal path.rise ∷ codes "," ∷ decimal path.fall ∷ codes ")" ∷ codes ";" ∷ s
+delay_tokens m path s = path_line_tokens (port_at m path.from) (port_at m path.to) path.rise path.fall s
 
 -- the first token of a path, and those up to its ports
 abbrev pub gate_start : Gate → List ℕ
@@ -53,32 +57,36 @@ gate_more m gate.IfNone s = codes "(" ∷ s
 abbrev pub path_tokens : VModule → VPath → Front
 path_tokens m path s = gate_start path.gate ∷ gate_more m path.gate (delay_tokens m path s)
 
-indented : Spells Anything false (codes "    ") (λ s. s) false
-indented = literal 4 (λ r. refl)
+pub indented : Spells Anything false (codes "    ") (λ s. s) false
+indented = literal (λ r. refl) refl
 
 if_word : Spells Anything false (codes "    if (") (λ s. codes "if" ∷ codes "(" ∷ s) false
-if_word = literal 8 (λ r. refl)
+if_word = literal (λ r. refl) refl
 
 if_end : Spells Anything false (codes ") ") (λ s. codes ")" ∷ s) false
-if_end = literal 2 (λ r. refl)
+if_end = literal (λ r. refl) refl
 
 ifnone_word : Spells Anything false (codes "    ifnone ") (λ s. codes "ifnone" ∷ s) false
-ifnone_word = literal 11 (λ r. refl)
+ifnone_word = literal (λ r. refl) refl
 
 bracket : Spells Anything false (codes "(") (λ s. codes "(" ∷ s) false
-bracket = literal 1 (λ r. refl)
+bracket = literal (λ r. refl) refl
 
 arrow : Spells Anything false (codes " => ") (λ s. codes "=>" ∷ s) false
-arrow = literal 4 (λ r. refl)
+arrow = literal (λ r. refl) refl
 
 equals : Spells Anything false (codes ") = (") (λ s. codes ")" ∷ codes "=" ∷ codes "(" ∷ s) false
-equals = literal 5 (λ r. refl)
+equals = literal (λ r. refl) refl
+
+pub path_line_spelled : (from to : List ℕ) (rise fall : ℕ) → IsName from → IsName to → IsNumber rise → IsNumber fall
+    → Spells Anything false (path_line from to rise fall) (λ s. codes "(" ∷ path_line_tokens from to rise fall s) false
+path_line_spelled from to rise fall f t r d =
+    behind bracket (joins (name from f) (λ r q. refl) (behind arrow (joins (name to t) (λ r q. refl)
+    (behind equals (joins (number rise r) (λ r q. refl) (behind comma (joins (number fall d) (λ r q. refl) closed)))))))
 
 delays : (m : VModule) (path : VPath) → IsNamedPath m path → Spells Anything false (delays_text m path) (λ s. codes "(" ∷ delay_tokens m path s) false
 unfolding delays_text
-delays m path h =
-    behind bracket (joins (name (port_at m path.from) h.from) (λ r q. refl) (behind arrow (joins (name (port_at m path.to) h.to) (λ r q. refl)
-    (behind equals (joins (number path.rise h.rise) (λ r q. refl) (behind comma (joins (number path.fall h.fall) (λ r q. refl) closed)))))))
+delays m path h = path_line_spelled (port_at m path.from) (port_at m path.to) path.rise path.fall h.from h.to h.rise h.fall
 
 path_by : (m : VModule) (path : VPath) (g : Gate) → IsNamedGate m g → IsNamedPath m path
     → Spells Anything false (gate_text m g ++ delays_text m path) (λ s. gate_start g ∷ gate_more m g (delay_tokens m path s)) false
@@ -157,14 +165,14 @@ check_tokens m k s = check_word k.kind ∷ codes "(" ∷ check_more m k k.kind s
 
 an_edge : (e : Edge) → Spells Anything false (edge_text e) (edge_tokens e) false
 an_edge edge.Any = nothing
-an_edge edge.Rise = literal 8 (λ r. refl)
-an_edge edge.Fall = literal 8 (λ r. refl)
+an_edge edge.Rise = literal (λ r. refl) refl
+an_edge edge.Fall = literal (λ r. refl) refl
 
 joint : Spells Anything false (codes " &&& ") (λ s. codes "&&&" ∷ s) false
-joint = literal 5 (λ r. refl)
+joint = literal (λ r. refl) refl
 
 zero_threshold : Spells Anything false (codes ", 0, ") (λ s. codes "," ∷ codes "0" ∷ codes "," ∷ s) false
-zero_threshold = literal 5 (λ r. refl)
+zero_threshold = literal (λ r. refl) refl
 
 -- a condition, where there is one, before a comma
 conditioned : (m : VModule) {v : Bool} {rest : List ℕ} {f : Front} (c : Option ℕ) → IsNamedCondition m c → Spells Anything false rest f v
@@ -211,25 +219,25 @@ period m k h w =
     (conditioned m k.condition h.condition (limited m k h)))
 
 setup_word : Spells Anything false (codes "    $setup(") (λ s. codes "$setup" ∷ codes "(" ∷ s) false
-setup_word = literal 11 (λ r. refl)
+setup_word = literal (λ r. refl) refl
 
 hold_word : Spells Anything false (codes "    $hold(") (λ s. codes "$hold" ∷ codes "(" ∷ s) false
-hold_word = literal 10 (λ r. refl)
+hold_word = literal (λ r. refl) refl
 
 recovery_word : Spells Anything false (codes "    $recovery(") (λ s. codes "$recovery" ∷ codes "(" ∷ s) false
-recovery_word = literal 14 (λ r. refl)
+recovery_word = literal (λ r. refl) refl
 
 removal_word : Spells Anything false (codes "    $removal(") (λ s. codes "$removal" ∷ codes "(" ∷ s) false
-removal_word = literal 13 (λ r. refl)
+removal_word = literal (λ r. refl) refl
 
 width_word : Spells Anything false (codes "    $width(") (λ s. codes "$width" ∷ codes "(" ∷ s) false
-width_word = literal 11 (λ r. refl)
+width_word = literal (λ r. refl) refl
 
 rise_word : Spells Anything false (codes "    $period(posedge ") (λ s. codes "$period" ∷ codes "(" ∷ codes "posedge" ∷ s) false
-rise_word = literal 20 (λ r. refl)
+rise_word = literal (λ r. refl) refl
 
 fall_word : Spells Anything false (codes "    $period(negedge ") (λ s. codes "$period" ∷ codes "(" ∷ codes "negedge" ∷ s) false
-fall_word = literal 20 (λ r. refl)
+fall_word = literal (λ r. refl) refl
 
 kind_spelled : (m : VModule) (k : TimingCheck) (kind : CheckKind) → IsNamedCheck m k → Spells Anything false (kind_text m k kind) (λ s. check_word kind ∷ codes "(" ∷ check_more m k kind s) false
 unfolding period_text
@@ -256,11 +264,11 @@ block_by false m s = s
 abbrev pub block_tokens : VModule → Front
 block_tokens m s = block_by (has_block m) m s
 
-block_word : Spells Anything false (codes "  specify\n") (λ s. codes "specify" ∷ s) false
-block_word = literal 10 (λ r. refl)
+pub block_word : Spells Anything false (codes "  specify\n") (λ s. codes "specify" ∷ s) false
+block_word = literal (λ r. refl) refl
 
-block_end : Spells Anything false (codes "  endspecify\n") (λ s. codes "endspecify" ∷ s) false
-block_end = literal 13 (λ r. refl)
+pub block_end : Spells Anything false (codes "  endspecify\n") (λ s. codes "endspecify" ∷ s) false
+block_end = literal (λ r. refl) refl
 
 by_need : (b : Bool) (m : VModule) → AllByRecursion (IsNamedPath m) m.paths → AllByRecursion (IsNamedCheck m) m.checks
     → Spells Anything false (if b then lines_text m else []) (block_by b m) false

@@ -1,5 +1,5 @@
 -- Names and numbers are tokens where a blank or a mark follows.
-use Rattle.std.proofs.Common.{◌≡◌, ℕ, suc, ◌<◌, ◌≤◌, Bool, true, false, not, ◌&&◌, ◌||◌, ◌==◌, nat_eq, nat_le, if◌then◌else◌, List, [], ◌∷◌, ◌++◌, length, inl, inr, refl, sym, ap, ◌∙◌, arith, subst, codes, decimal}
+use Rattle.std.proofs.Common.{◌≡◌, ℕ, suc, ◌<◌, ◌≤◌, Bool, true, false, not, ◌&&◌, ◌||◌, ◌==◌, nat_eq, nat_le, if◌then◌else◌, List, [], ◌∷◌, ◌++◌, length, inl, inr, refl, sym, ap, arith, subst, codes, decimal}
 use Rattle.std.proofs.lemmas.Bool.{and_parts, and_from, cases_Bool}
 use Rattle.std.proofs.lemmas.Bool.Decides.{nat_tests}
 use Rattle.std.proofs.lemmas.Slice.Eq.{bytes_eq-Decides}
@@ -7,13 +7,15 @@ use Rattle.std.proofs.lemmas.Fmt.{decimal_is_IsNumeral}
 use Rattle.std.specs.Char.{is_ascii_alphabetic, is_ascii_digit}
 use Rattle.std.specs.Str.{bytes_eq}
 use Rattle.std.specs.List.{list_all, list_any, prefix_len}
-use Rattle.verilog_tokens.specs.Kept.{is_name_byte}
+use Rattle.verilog_tokens.specs.Kept.{is_identifier, is_name_byte}
 use Rattle.verilog_tokens.specs.Words.{is_verilog_word, verilog_words}
 use Rattle.verilog_tokens.specs.Tokens.{is_blank, is_mark, is_one_of, begins_with, begins_word, word_length, number_length, sign_length, is_open_after, is_name, separator_length, token_length}
-use Rattle.verilog_tokens.proofs.Padding.{word_before, over_token}
 use Rattle.specify_blocks.specs.WellFormed.{IsName, IsNumber}
 use Rattle.grammar_phrases.proofs.Bytes.{unlike, none_of, run_ends, AreFew, short, below_word, few}
-use Rattle.written_modules.proofs.Spelling.{Spells, Ends, found}
+use Rattle.grammar_phrases.proofs.Spelling.{one_token}
+use Rattle.section_outlines.specs.Marked.{marked}
+use Rattle.section_outlines.specs.VerilogMarks.{verilog_marks}
+use Rattle.written_modules.proofs.Spelling.{verilog, Spells, Ends}
 
 -- Bytes of one kind and of another.
 
@@ -41,6 +43,17 @@ none_follow test n (c ∷ r) e = rw (ends_by test n c e) refl
 
 no_separator : (b : ℕ) (s : List ℕ) → is_blank b ≡ false → nat_eq 47 b ≡ false → separator_length (b ∷ s) ≡ 0
 no_separator b s e f = rw (e, f) refl
+
+-- what passes a test that they don't pass is none of the words that mark sections
+unmarked : (test : List ℕ → Bool) → test (codes "`celldefine") ≡ false → test (codes "`endcelldefine") ≡ false → (x : List ℕ) → test x ≡ true → (r : List ℕ) →
+    marked verilog verilog_marks false x r ≡ false
+unmarked test e f x h r = rw (differs (codes "`celldefine") e, differs (codes "`endcelldefine") f) refl
+  where
+    differs : (w : List ℕ) → test w ≡ false → bytes_eq x w ≡ false
+    differs w e = elim (cases_Bool (bytes_eq x w)) [
+      | inl t ↦ absurd (cc (h, e, ap test ((bytes_eq-Decides x w).0 t)))
+      | inr f ↦ f
+    ]
 
 -- Names.
 
@@ -81,19 +94,18 @@ table_word : is_verilog_word (codes "table") ≡ true
 unfolding is_verilog_word verilog_words
 table_word = refl
 
-name_found : (b : ℕ) (w : List ℕ) → IsName (b ∷ w) → (r : List ℕ) → Ends r → found false (b ∷ w ++ r) ≡ word_before (b ∷ w) (found false r)
-name_found b w n r e =
-    let p = and_parts (begins_name b) (list_all is_name_byte w) n.identifier in
-    over_token false 0 0 b w r
-    (no_separator b (w ++ r) (none_of begins_name (codes " \t\n") b refl p.0) (unlike begins_name 47 b refl p.0))
-    (word_length_is b w r (none_of begins_name (codes "(),;:") b refl p.0) (starts_word b p.0) (none_of begins_name (codes "$`") b refl p.0)
-    (run_ends is_name_byte w r p.1 (none_follow is_name_byte (refl, refl) r e)))
-    ∙ ap (λ (t : Bool). word_before (b ∷ w) (found t r)) (stays_shut (b ∷ w) (unlike_word (b ∷ w) (codes "table") table_word n))
-
 -- a name is one token
 pub name : (x : List ℕ) → IsName x → Spells Ends false x (λ s. x ∷ s) false
 name [] n = absurd (cc n.identifier)
-name (b ∷ w) n = record { is = name_found b w n }
+name (b ∷ w) n =
+    let p = and_parts (begins_name b) (list_all is_name_byte w) n.identifier in
+    one_token b w (record {
+      alone = λ r e. no_separator b (w ++ r) (none_of begins_name (codes " \t\n") b refl p.0) (unlike begins_name 47 b refl p.0);
+      size = λ r e. word_length_is b w r (none_of begins_name (codes "(),;:") b refl p.0) (starts_word b p.0) (none_of begins_name (codes "$`") b refl p.0)
+          (run_ends is_name_byte w r p.1 (none_follow is_name_byte (refl, refl) r e));
+      free = λ r. unmarked is_identifier refl refl (b ∷ w) n.identifier r;
+      after = stays_shut (b ∷ w) (unlike_word (b ∷ w) (codes "table") table_word n);
+    })
 
 -- a name is a name
 pub name_is : (x : List ℕ) → IsName x → is_name x ≡ true
@@ -150,17 +162,16 @@ no_table x h = elim (cases_Bool (bytes_eq x (codes "table"))) [
   | inr f ↦ f
 ]
 
-digits_found : (b : ℕ) (w : List ℕ) → AreFew (b ∷ w) → (r : List ℕ) → Ends r → found false (b ∷ w ++ r) ≡ word_before (b ∷ w) (found false r)
-digits_found b w f r e =
-    let p = and_parts (is_ascii_digit b) (list_all is_ascii_digit w) f.digits in
-    over_token false 0 0 b w r
-    (no_separator b (w ++ r) (none_of is_ascii_digit (codes " \t\n") b refl p.0) (unlike is_ascii_digit 47 b refl p.0))
-    (number_token b w r f e)
-    ∙ ap (λ (t : Bool). word_before (b ∷ w) (found t r)) (stays_shut (b ∷ w) (no_table (b ∷ w) f.digits))
-
 few_digits : (x : List ℕ) → AreFew x → 0 < length x → Spells Ends false x (λ s. x ∷ s) false
 few_digits [] f some = absurd (omega arith)
-few_digits (b ∷ w) f some = record { is = digits_found b w f }
+few_digits (b ∷ w) f some =
+    let p = and_parts (is_ascii_digit b) (list_all is_ascii_digit w) f.digits in
+    one_token b w (record {
+      alone = λ r e. no_separator b (w ++ r) (none_of is_ascii_digit (codes " \t\n") b refl p.0) (unlike is_ascii_digit 47 b refl p.0);
+      size = λ r e. number_token b w r f e;
+      free = λ r. unmarked (list_all is_ascii_digit) refl refl (b ∷ w) f.digits r;
+      after = stays_shut (b ∷ w) (no_table (b ∷ w) f.digits);
+    })
 
 -- a number is one token
 pub number : (n : ℕ) → IsNumber n → Spells Ends false (decimal n) (λ s. decimal n ∷ s) false

@@ -1,0 +1,4 @@
+pub mod Offsets
+pub mod SectionsOutline
+pub mod Passing
+pub mod Outlined

@@ -1,0 +1,4 @@
+pub mod Marked
+pub mod Outline
+pub mod VerilogMarks
+pub mod VhdlMarks

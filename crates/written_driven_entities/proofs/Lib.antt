@@ -1,0 +1,4 @@
+pub mod DriverOutlines
+pub mod KeptApart
+pub mod ReadBack
+pub mod ApartDrivers

@@ -1,0 +1,3 @@
+pub mod DriverOutlines
+pub mod KeptApart
+pub mod ReadBack

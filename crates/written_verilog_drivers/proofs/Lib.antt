@@ -1,0 +1,4 @@
+pub mod DriverTokens
+pub mod PortsAndPaths
+pub mod DriverReading
+pub mod SectionReading

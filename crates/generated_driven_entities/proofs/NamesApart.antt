@@ -12,11 +12,11 @@ use Rattle.vhdl_text.specs.WellFormed.{AreApart}
 use Rattle.library_cells.proofs.NameLists.{each_among, at_among, other_key}
 use Rattle.driver_models.specs.declared.model.DriverModel.{DriverModel}
 use Rattle.three_state_cells.specs.DrivenCells.{DrivenData}
-use Rattle.generated_drivers.specs.Generated.{vital_driver_of}
+use Rattle.generated_drivers.specs.Generated.{may_float, vital_driver_of}
 use Rattle.written_entities.proofs.Names.{case_turned}
 use Rattle.written_driven_entities.specs.Texts.{DrivenEntity, models_of, driver_in, drivers_of}
 use Rattle.written_driven_entities.specs.Laws.{driver_names}
-use Rattle.generated_driven_entities.specs.Library.{floats, model_name, driven_entity, driven_entities_behind}
+use Rattle.generated_driven_entities.specs.Library.{model_name, driven_entity, driven_entities_behind}
 use Rattle.generated_driven_entities.specs.Laws.{IsDrivenCell, numbers_of}
 use Rattle.generated_driven_entities.proofs.NameForms.{IsFormed, IsFirst, entity_formed, driver_formed, cell_vitalz, cell_kept, both, forms_apart}
 
@@ -50,9 +50,9 @@ entity_form false given cell = entity_formed cell.core.number given cell.core.na
 
 entity_behind_form : (given : List (List ℕ)) (cells : List DrivenData) (y : List ℕ) → Among y (entity_names (models_of (driven_entities_behind given cells))) → IsBehind given cells y
 entity_behind_form given [] y m = absurd m
-entity_behind_form given (cell ∷ cells) y (inl e) = here given cell cells y (subst (IsFormed given cell.core.number) e (entity_form (floats cell) given cell))
+entity_behind_form given (cell ∷ cells) y (inl e) = here given cell cells y (subst (IsFormed given cell.core.number) e (entity_form (may_float cell) given cell))
 entity_behind_form given (cell ∷ cells) y (inr m) =
-    let last : List ℕ = lowered (model_name (floats cell) given cell) in
+    let last : List ℕ = lowered (model_name (may_float cell) given cell) in
     later given last cell cells y (entity_behind_form (given ++ last ∷ []) cells y m)
 
 driver_form : (given : List (List ℕ)) (cell : DrivenData) → IsFormed given cell.core.number (driver_name cell.core.number given cell.name)
@@ -70,8 +70,8 @@ driver_among false given cell rest y m = inr m
 driver_behind_form : (given : List (List ℕ)) (cells : List DrivenData) (y : List ℕ) → Among y (driver_names (drivers_of (driven_entities_behind given cells))) → IsBehind given cells y
 driver_behind_form given [] y m = absurd m
 driver_behind_form given (cell ∷ cells) y m =
-    let last : List ℕ = lowered (model_name (floats cell) given cell) in
-    elim (driver_among (floats cell) given cell (drivers_of (driven_entities_behind (given ++ last ∷ []) cells)) y m) [
+    let last : List ℕ = lowered (model_name (may_float cell) given cell) in
+    elim (driver_among (may_float cell) given cell (drivers_of (driven_entities_behind (given ++ last ∷ []) cells)) y m) [
       | inl form ↦ here given cell cells y form
       | inr rest ↦ later given last cell cells y (driver_behind_form (given ++ last ∷ []) cells y rest)
     ]
@@ -160,6 +160,6 @@ pub names_apart :
 unfolding IsDistinct
 names_apart given [] h d = tt
 names_apart given (cell ∷ cells) h d =
-    let names : List (List ℕ) = given ++ lowered (model_name (floats cell) given cell) ∷ [] in
-    one_more given cell cells h d (floats cell) (driven_entities_behind names cells)
+    let names : List (List ℕ) = given ++ lowered (model_name (may_float cell) given cell) ∷ [] in
+    one_more given cell cells h d (may_float cell) (driven_entities_behind names cells)
     (names_apart names cells h.1 (IsDistinct-tail nat_eq cell.core.number (numbers_of cells) d)) (behind_form names cells)

@@ -20,7 +20,7 @@ use Rattle.driver_models.specs.declared.model.DriverModel.{DriverModel}
 use Rattle.driver_models.specs.Cores.{Core, ports_at, core_ports}
 use Rattle.grammar_phrases.proofs.Places.{get_at, found_behind}
 use Rattle.three_state_cells.specs.DrivenCells.{DrivenData}
-use Rattle.generated_drivers.specs.Generated.{vital_driver_of}
+use Rattle.generated_drivers.specs.Generated.{may_float, vital_driver_of}
 use Rattle.well_formed_drivers.specs.Laws.{HasDrivers}
 use Rattle.well_formed_drivers.proofs.VitalDrivers.{vital_drivers_are_well_formed}
 use Rattle.driven_files.specs.Vital.{vital_sections}
@@ -29,7 +29,7 @@ use Rattle.written_driven_entities.specs.Texts.{DrivenEntity, models_of, driver_
 use Rattle.written_driven_entities.specs.Laws.{AreWellFormedDrivers, IsOver, driver_names}
 use Rattle.written_driven_entities.proofs.ApartDrivers.{well_formed}
 use Rattle.written_driven_entities.proofs.ReadBack.{read_back}
-use Rattle.generated_driven_entities.specs.Library.{floats, model_name, driven_entity, driven_entities_behind, driven_entities_of}
+use Rattle.generated_driven_entities.specs.Library.{model_name, driven_entity, driven_entities_behind, driven_entities_of}
 use Rattle.generated_driven_entities.specs.Laws.{IsDrivenCell, DrivenEntitiesAreWellFormed}
 use Rattle.generated_driven_entities.proofs.NamesApart.{names_apart}
 
@@ -51,8 +51,8 @@ one_entity false given cell h = entity-well-formed cell.core given h.core
 all_entities : (given : List (List ℕ)) (cells : List DrivenData) → AllByRecursion IsDrivenCell cells → All IsWellFormedEntity (models_of (driven_entities_behind given cells))
 all_entities given [] h = All-nil IsWellFormedEntity
 all_entities given (cell ∷ cells) h =
-    let names : List (List ℕ) = given ++ lowered (model_name (floats cell) given cell) ∷ [] in
-    All-cons IsWellFormedEntity (driven_entity (floats cell) given cell).model (models_of (driven_entities_behind names cells)) (one_entity (floats cell) given cell h.0)
+    let names : List (List ℕ) = given ++ lowered (model_name (may_float cell) given cell) ∷ [] in
+    All-cons IsWellFormedEntity (driven_entity (may_float cell) given cell).model (models_of (driven_entities_behind names cells)) (one_entity (may_float cell) given cell h.0)
     (all_entities names cells h.1)
 
 front_apart : (xs ys : List (List ℕ)) → AreApart (xs ++ ys) → AreApart xs
@@ -97,10 +97,10 @@ all_drivers :
     → es ≡ before ++ models_of (driven_entities_behind given cells) → AllByRecursion (IsOver es) (drivers_of (driven_entities_behind given cells))
 all_drivers given [] es before h same = tt
 all_drivers given (cell ∷ cells) es before h same =
-    let names : List (List ℕ) = given ++ lowered (model_name (floats cell) given cell) ∷ [] in
-    let model : VEntity = (driven_entity (floats cell) given cell).model in
+    let names : List (List ℕ) = given ++ lowered (model_name (may_float cell) given cell) ∷ [] in
+    let model : VEntity = (driven_entity (may_float cell) given cell).model in
     let after : List VEntity = models_of (driven_entities_behind names cells) in
-    one_driver (floats cell) given cell es before after h.0.drivers same (drivers_of (driven_entities_behind names cells))
+    one_driver (may_float cell) given cell es before after h.0.drivers same (drivers_of (driven_entities_behind names cells))
     (all_drivers names cells es (before ++ model ∷ []) h.1 (same ∙ sym (append_assoc before (model ∷ []) after)))
 
 -- All together.

@@ -9,12 +9,13 @@ use Rattle.sectioned_texts.specs.DrivenModels.{driven_models}
 use Rattle.driven_files.specs.Vital.{vital_sections}
 use Rattle.written_driven_entities.specs.Texts.{DrivenEntity, driven_entities_text, models_of, drivers_of}
 use Rattle.written_driven_entities.specs.Laws.{AreWellFormedDrivers}
-use Rattle.generated_driven_entities.specs.Library.{floats, driven_entities_of}
+use Rattle.generated_drivers.specs.Generated.{may_float}
+use Rattle.generated_driven_entities.specs.Library.{driven_entities_of}
 
 -- A cell's core keeps the rules of cells, and where some of its outputs may float, it has drivers.
 pub record IsDrivenCell (cell : DrivenData) : Type 0 where
   pub core : IsNumberedCell cell.core
-  pub drivers : floats cell ≡ true → HasDrivers cell
+  pub drivers : may_float cell ≡ true → HasDrivers cell
 
 abbrev pub numbers_of : List DrivenData → List ℕ
 numbers_of cells = map (λ (cell : DrivenData). cell.core.number) cells

@@ -1,17 +1,13 @@
 -- The entities of the cells of one library, and the models of their three-state drivers. (IEEE 1076-1993, 13.3.1: names are the
 -- same whatever the case of their letters; that a cell's name is kept where no model before it has it is this project's rule.)
-use Rattle.std.specs.Prelude.{ℕ, Bool, true, false, List, [], ◌∷◌, ◌++◌, length, nat_lt, codes, decimal, Some, None}
+use Rattle.std.specs.Prelude.{ℕ, Bool, true, false, List, [], ◌∷◌, ◌++◌, codes, decimal, Some, None}
 use Rattle.vhdl_names.specs.Kept.{lowered}
 use Rattle.vital_models.specs.Kept.{entity_name, driver_name}
 use Rattle.vital_models.specs.Generated.{entity_of}
 use Rattle.generated_entities.specs.Library.{entity_behind}
 use Rattle.three_state_cells.specs.DrivenCells.{DrivenData}
-use Rattle.generated_drivers.specs.Generated.{vital_driver_of}
+use Rattle.generated_drivers.specs.Generated.{may_float, vital_driver_of}
 use Rattle.written_driven_entities.specs.Texts.{DrivenEntity}
-
--- some outputs of a cell may float
-abbrev pub floats : DrivenData → Bool
-floats cell = nat_lt 0 (length cell.driver.drives)
 
 -- The name of a cell's model behind models with these names in lower case, by whether some of its outputs may float.
 abbrev pub model_name : Bool → List (List ℕ) → DrivenData → List ℕ
@@ -30,8 +26,8 @@ driven_entity false given cell = record { model = entity_behind given cell.core;
 abbrev pub driven_entities_behind : List (List ℕ) → List DrivenData → List DrivenEntity
 driven_entities_behind given [] = []
 driven_entities_behind given (cell ∷ cells) =
-    driven_entity (floats cell) given cell
-    ∷ driven_entities_behind (given ++ lowered (model_name (floats cell) given cell) ∷ []) cells
+    driven_entity (may_float cell) given cell
+    ∷ driven_entities_behind (given ++ lowered (model_name (may_float cell) given cell) ∷ []) cells
 
 -- those of the cells of a library
 abbrev pub driven_entities_of : List DrivenData → List DrivenEntity

@@ -17,7 +17,8 @@ use Rattle.library_cells.proofs.NameLists.{unlike, each_among, other_key}
 use Rattle.library_cells.proofs.KeptNames.{kept_tail, kept_apart}
 use Rattle.generated_modules.proofs.ModuleLists.{modules-well-formed}
 use Rattle.written_driven_modules.specs.Texts.{models_of}
-use Rattle.generated_driven_modules.specs.Library.{may_float, IsNumberedDriven, own_names, own_numbers, AreOfOneLibrary, driven_modules_of}
+use Rattle.generated_drivers.specs.Generated.{may_float}
+use Rattle.generated_driven_modules.specs.Library.{IsNumberedDriven, own_names, own_numbers, AreOfOneLibrary, driven_modules_of}
 use Rattle.generated_driven_modules.specs.Laws.{CoreModulesAreWellFormed}
 
 -- the cores of cells

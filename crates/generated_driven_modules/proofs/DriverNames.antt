@@ -15,7 +15,8 @@ use Rattle.generated_modules.proofs.GivenNames.{kept, not_given}
 use Rattle.generated_modules.proofs.PrimitiveNames.{primitive_front}
 use Rattle.generated_modules.proofs.Modules.{primitives_few}
 use Rattle.generated_modules.proofs.ModuleLists.{IsOuter, is_own, own_primitive, module_no_lib, fronts_apart}
-use Rattle.generated_driven_modules.specs.Library.{may_float, IsNumberedDriven}
+use Rattle.generated_drivers.specs.Generated.{may_float}
+use Rattle.generated_driven_modules.specs.Library.{IsNumberedDriven}
 use Rattle.generated_driven_modules.proofs.Cores.{kept_is_plain, floating_name, core_not_kept, Differ}
 
 -- The name of drivers that is not kept, of a cell with this number.

@@ -29,14 +29,14 @@ use Rattle.library_cells.proofs.CellParts.{few_pins, distinct_pins}
 use Rattle.generated_modules.proofs.Modules.{name_is_one}
 use Rattle.generated_modules.proofs.ModuleLists.{IsOuter, outer_of}
 use Rattle.generated_modules.proofs.GivenNames.{given_apart}
-use Rattle.generated_drivers.specs.Generated.{pins_of, verilog_driver_of}
+use Rattle.generated_drivers.specs.Generated.{may_float, pins_of, verilog_driver_of}
 use Rattle.generated_drivers.proofs.Fitting.{verilog_drivers_fit}
 use Rattle.sectioned_texts.specs.DrivenModels.{taken_names}
 use Rattle.driven_files.specs.Verilog.{verilog_sections}
 use Rattle.written_driven_modules.specs.Texts.{models_of, drivers_of, driver_in}
 use Rattle.written_driven_modules.specs.Laws.{AreWellFormedDrivers}
 use Rattle.written_driven_modules.proofs.ReadBack.{read_back}
-use Rattle.generated_driven_modules.specs.Library.{may_float, IsNumberedDriven, AreOfOneLibrary, own_driver, driven_modules_of}
+use Rattle.generated_driven_modules.specs.Library.{IsNumberedDriven, AreOfOneLibrary, own_driver, driven_modules_of}
 use Rattle.generated_driven_modules.specs.Laws.{DriversAreWellFormed, DrivenModulesReadBack}
 use Rattle.generated_driven_modules.proofs.Cores.{cores_of, same_models, floating_name, core_not_kept, differs_earlier, differs_from, core-modules-well-formed}
 use Rattle.generated_driven_modules.proofs.DriverNames.{driver_form, driver_is_name, not_outer, drivers_apart}

@@ -1,7 +1,7 @@
 -- Which cells, some of whose outputs may float, stand together in one library, and the Verilog models of such cells. (Liberty
 -- Reference Manual, `three_state`; IEEE 1364-2005, 12.1, modules. That a driver stands behind the module of its cell's core, which
 -- is called by the cell's number, is this project's form.)
-use Rattle.std.specs.Prelude.{◌≡◌, ℕ, Bool, All, List, map, length, nat_eq, nat_lt, bytes_eq, Option, Some, None, if◌then◌else◌}
+use Rattle.std.specs.Prelude.{◌≡◌, ℕ, All, List, map, nat_eq, bytes_eq, Option, Some, None, if◌then◌else◌}
 use Rattle.std.specs.List.{IsDistinct}
 use Rattle.driver_models.specs.declared.model.DriverModel.{DriverModel}
 use Rattle.specify_blocks.specs.Generated.{module_of}
@@ -9,12 +9,8 @@ use Rattle.three_state_cells.specs.Drivers.{IsDriverOf}
 use Rattle.three_state_cells.specs.DrivenCells.{DrivenData, core_name}
 use Rattle.three_state_cells.specs.Laws.{HasTimes}
 use Rattle.library_cells.specs.Cells.{IsNumberedCell, kept_names}
-use Rattle.generated_drivers.specs.Generated.{verilog_driver_of}
+use Rattle.generated_drivers.specs.Generated.{may_float, verilog_driver_of}
 use Rattle.written_driven_modules.specs.Texts.{DrivenModule}
-
--- whether some outputs of a cell may float
-abbrev pub may_float : DrivenData → Bool
-may_float cell = nat_lt 0 (length cell.driver.drives)
 
 -- What the core of a cell is called: as the cell, or where some outputs may float by the cell's number.
 abbrev pub name_of_core : DrivenData → List ℕ

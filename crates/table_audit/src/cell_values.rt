@@ -4,7 +4,7 @@ ghost use Rattle.trit_cubes.specs.declared.trits.Trit.TheVariants as trit;
 ghost use Rattle.trit_cubes.specs.Resolution.{res};
 ghost use Rattle.bool_functions.specs.Tree.{name_bound};
 ghost use Rattle.bool_functions.specs.Support.{support_of};
-ghost use Rattle.cell_machine.specs.Machine.{insert, edge_value, forced_at, without};
+ghost use Rattle.cell_machine.specs.Machine.{insert, edge_value, without};
 ghost use Rattle.cell_machine.specs.Outputs.{condition_at};
 ghost use Rattle.cell_machine.specs.CellData.{data_of};
 ghost use Rattle.cell_machine.specs.CellTrace.{support_at, step_at, sources_at, output_value_at};
@@ -13,8 +13,9 @@ ghost use Rattle.table_audit.specs.Tables.{AreSteps, AreForces, cell_step, cell_
 use crate::net_rows::NetRows;
 use crate::resolved::{resolved, values_at};
 use bool_functions::Function;
-use cell_machine::{Cell, Few, Values, boolean_step, forced, numbered_value, output_at};
+use cell_machine::{Cell, Few, Values, boolean_step, numbered_value, output_at};
 use trit_cubes::{Trit, resolve};
+use udp_tables::forced_at;
 
 /// Adds more values at the end.
 fn add_bits(all: &mut Few<bool, 8>, more: &[bool])
@@ -96,32 +97,6 @@ pub(crate) fn edge_values(cell: &Cell, group: usize, place: usize) -> Few<Trit, 
         pins + 2,
         &|point: &[bool]| { edge_value_at(cell, group, place, point) },
     )
-}
-
-/// The value to which each change to this point and no change force the state of a group, else unknown.
-fn forced_at(cell: &Cell, group: usize, point: &[bool]) -> Trit
-    requires { group < length cell.now.groups }
-    ensures { length point.now ≡ length (support_at (data_of cell.now) group) → result ≡ forced_at (step_at (data_of cell.now) group) point.now }
-{
-    let pins = cell.group(group).support.len();
-    if point.len() != pins {
-        return Trit::Unknown;
-    }
-    forced_value(cell, group, point)
-}
-
-/// The value to which a point forces the state of a group.
-fn forced_value(cell: &Cell, group: usize, point: &[bool]) -> Trit
-    requires group { group < length cell.now.groups }
-    requires point { length point.now ≡ length (support_at (data_of cell.now) group) }
-    requires few { length point.now ≤ 8 }
-    ensures { result ≡ forced_at (step_at (data_of cell.now) group) point.now }
-{
-    let mut trits = [Trit::Unknown; 8];
-    for i in 0..point.len() {
-        trits[i] = Trit::from(point[i]);
-    }
-    forced(cell, group, &trits[..point.len()])
 }
 
 /// The values to which points of its pins force the state of a group, by the numbers of the points.

@@ -29,6 +29,7 @@ pub use cell_primitives::{Part, combinational_udp, part_udp, sequential_udp};
 pub use combinational::{keyed_level, udp_level};
 pub use generation::function_udp;
 pub use models::{ModelFault, VPort};
+pub use points::forced_at;
 pub use ports::{event_of, is_input_port, is_port, port_number};
 pub use row_keys::{RowKey, keys_of};
 pub use row_words::{Column, RowWords, value_word};

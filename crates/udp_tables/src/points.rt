@@ -86,8 +86,9 @@ impl Bits {
     }
 }
 
-/// The value to which each change to this point and no change force the state of a group, else unknown.
-pub(crate) fn forced_at(cell: &Cell, group: usize, point: &[bool]) -> Trit
+/// The value to which each change to this point and no change force the state of a group, else unknown. The point has a value for
+/// each of its pins, in order; for any other list the answer says nothing. It takes no memory.
+pub fn forced_at(cell: &Cell, group: usize, point: &[bool]) -> Trit
     requires { group < length cell.now.groups }
     ensures { length point.now ≡ length (support_at (data_of cell.now) group) → result ≡ forced_at (step_at (data_of cell.now) group) point.now }
 {

@@ -2,7 +2,7 @@
 ghost use Rattle.std.specs.Prelude.{◌≡◌, ◌+◌, ◌<◌, [], List, length, map, IfOk};
 ghost use Rattle.cell_machine.specs.declared.changes.Change.{Change as ChangeOf};
 ghost use Rattle.cell_machine.specs.Each.{each};
-ghost use Rattle.driven_traces.specs.Drivers.{IsSound, IsCoreOf, place_of};
+ghost use Rattle.driven_traces.specs.Drivers.{IsSound, IsCoreOf, number_of};
 ghost use Rattle.driven_traces.specs.DrivenLines.{driven_value, driven_delay, driven_machine};
 ghost use Rattle.driven_traces.specs.DrivenStands.{Stands, numbers, first_shown, next_shown, driven_sized};
 
@@ -53,6 +53,18 @@ impl<'a, S: CellSim + Drop> DrivenSim<'a, S> {
     }
 }
 
+impl<'a, S: CellSim> DrivenSim<'a, S> {
+    /// The number of an output among the driven ones, where it is driven. Where nothing is driven no output is looked up.
+    fn number(&self, place: usize) -> Option<usize>
+        ensures { result ≡ number_of self.now.driver.now place }
+    {
+        if self.shown.is_empty() {
+            return None;
+        }
+        self.driver.number(place)
+    }
+}
+
 impl<'a, S: CellSim> TraceSim for DrivenSim<'a, S> {
     ghost machine = { λ s. driven_machine s.driver.now (S.machine s.core) };
 
@@ -72,14 +84,14 @@ impl<'a, S: CellSim> TraceSim for DrivenSim<'a, S> {
     }
 
     fn value(&self, place: usize) -> Drive {
-        match self.driver.number(place) {
+        match self.number(place) {
             Some(number) => self.shown.as_slice()[number].value,
             None => Drive::of(self.core.output(place)),
         }
     }
 
     fn delay(&self, place: usize) -> Option<u64> {
-        match self.driver.number(place) {
+        match self.number(place) {
             Some(number) => self.shown.as_slice()[number].delay,
             None => self.core.delay(place),
         }

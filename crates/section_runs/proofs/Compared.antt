@@ -41,7 +41,7 @@ same_drive-self One = refl
 same_drive-self Unknown = refl
 same_drive-self Floating = refl
 
-values-are : (xs ys : List Drive) → same_values xs ys ≡ true → xs ≡ ys
+pub values-are : (xs ys : List Drive) → same_values xs ys ≡ true → xs ≡ ys
 values-are [] [] e = refl
 values-are [] (y ∷ ys) e = absurd cc
 values-are (x ∷ xs) [] e = absurd cc
@@ -60,7 +60,7 @@ delay-self : (a : Option ℕ) → same_delay a a ≡ true
 delay-self None = refl
 delay-self (Some m) = eq-eqb m m refl
 
-delays-are : (xs ys : List (Option ℕ)) → same_delays xs ys ≡ true → xs ≡ ys
+pub delays-are : (xs ys : List (Option ℕ)) → same_delays xs ys ≡ true → xs ≡ ys
 delays-are [] [] e = refl
 delays-are [] (y ∷ ys) e = absurd cc
 delays-are (x ∷ xs) [] e = absurd cc
@@ -70,7 +70,7 @@ delays-self : (xs : List (Option ℕ)) → same_delays xs xs ≡ true
 delays-self [] = refl
 delays-self (x ∷ xs) = and_from (same_delay x x) (same_delays xs xs) (delay-self x) (delays-self xs)
 
-same_fact-is : (a b : Bool) → same_fact a b ≡ true → a ≡ b
+pub same_fact-is : (a b : Bool) → same_fact a b ≡ true → a ≡ b
 same_fact-is true true e = refl
 same_fact-is true false e = absurd cc
 same_fact-is false true e = absurd cc

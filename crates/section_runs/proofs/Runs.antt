@@ -105,6 +105,17 @@ pub puts_less : {S T : Type 0} (s t : DeskState) (l m n a b : List ℕ) (y : Sto
 puts_less s t l m n a b y (Ok x) p e = absurd cc
 puts_less s t l m n a b y (Err z) p e = record { whole = tt; part = StopsWithin-more s t Report l a b p.part }
 
+-- the same text, under another answer
+
+pub puts_same : {S T : Type 0} (s t : DeskState) (l n a b : List ℕ) (x : S) (y : T) → a ≡ b
+    → PutsTrace {T = S} s t l a n (Ok x) → PutsTrace {T = T} s t l b n (Ok y)
+puts_same s t l n a b x y e p = record { whole = subst (λ text. Gathers s t Report l text n) e p.whole; part = tt }
+
+pub stops_same : {S T : Type 0} (s t : DeskState) (l m n a b : List ℕ) (y : Stop) (r : Result T Stop) → a ≡ b
+    → PutsTrace {T = S} s t l a m (Err y) → IsErr r → PutsTrace s t l b n r
+stops_same s t l m n a b y (Ok x) e p f = absurd cc
+stops_same s t l m n a b y (Err z) e p f = record { whole = tt; part = subst (λ text. StopsWithin s t Report (l ++ text)) e p.part }
+
 -- The text of one simulator.
 
 abbrev pub newest : List Change → Option Change

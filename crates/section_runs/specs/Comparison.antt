@@ -17,6 +17,10 @@ pub record Lines : Type 0 where
 abbrev pub three_lines : DriveMachine → DriveMachine → DriveMachine → List Change → Lines
 three_lines liberty verilog vital h = record { liberty = liberty.line h; verilog = verilog.line h; vital = vital.line h }
 
+-- three that show one line
+abbrev pub all_show : DriveLine → Lines
+all_show line = record { liberty = line; verilog = line; vital = line }
+
 -- each of three machines has as many inputs and outputs as there are names
 pub record HavePorts (ports : Ports) (liberty verilog vital : DriveMachine) : Type 0 where
   pub liberty_inputs : length ports.inputs ≡ liberty.inputs

@@ -5,11 +5,11 @@ ghost use Rattle.cell_machine.specs.declared.changes.Change.{Change as ChangeOf}
 ghost use Rattle.cell_machine.specs.History.{IsProperFrom, ComesAfter};
 ghost use Rattle.text_io.specs.declared.slots.OutSlot.TheVariants.{Report};
 ghost use Rattle.text_io.specs.Desk.{WritesText, HasCause, StopsWithCause};
-ghost use Rattle.section_runs.specs.Comparison.{three_lines, HavePorts, are_alike, lines_text, compared_text, first_of, first_unlike, verdict_text, NoneUnlikeIsEqual};
+ghost use Rattle.section_runs.specs.Comparison.{three_lines, all_show, HavePorts, are_alike, lines_text, compared_text, first_of, first_unlike, verdict_text, NoneUnlikeIsEqual};
 ghost use Rattle.section_runs.specs.Writes.{WritesTrace, PutsTrace};
 
 use crate::differences::same_line;
-use crate::trace::put_line;
+use crate::trace::{put_again, put_line};
 use cell_machine::Change;
 use itoa::Buffer;
 use std::alloc::Global;
@@ -77,13 +77,13 @@ pub fn write_comparison<D: Desk, L: TraceSim, V: TraceSim, H: TraceSim>(
 {
     let mut line = Line::new();
     let mut text = Vec::new(alloc);
-    put_lines(desk, &mut line, &mut text, None, ports, three)?;
-    let mut first = unlike(three.are_alike(), None, 0);
+    let alike = put_lines(desk, &mut line, &mut text, None, ports, three)?;
+    let mut first = unlike(alike, None, 0);
     let mut number = 1;
     for change in changes {
         three.step(change);
-        put_lines(desk, &mut line, &mut text, Some(change), ports, three)?;
-        first = unlike(three.are_alike(), first, number);
+        let alike = put_lines(desk, &mut line, &mut text, Some(change), ports, three)?;
+        first = unlike(alike, first, number);
         number += 1;
     }
     line.flush(desk, OutSlot::Report)?;
@@ -101,9 +101,54 @@ fn unlike(alike: bool, first: Option<usize>, number: usize) -> Option<usize>
     }
 }
 
-/// Puts the lines that the three show behind the bytes that wait, each made in the text.
-#[tactic(auto, unfolding(crate::specs::Comparison::lines_text))]
+/// Puts the lines that the three show behind the bytes that wait, and answers whether they are alike. Where they are, one is
+/// made in the text for all, since only their tags differ, and else each by itself.
 fn put_lines<D: Desk, L: TraceSim, V: TraceSim, H: TraceSim>(
+    desk: &mut D,
+    line: &mut Line,
+    text: &mut Vec<u8>,
+    change: Option<&Change>,
+    ports: &Ports,
+    three: &Three<L, V, H>,
+) -> Result<bool, Stop>
+    requires ports { HavePorts ports.now (L.machine three.now.liberty) (V.machine three.now.verilog) (H.machine three.now.vital) }
+    requires pin { IfSome change (λ change. change.now.pin < length ports.now.inputs) }
+    ensures text { (h : List ChangeOf) → L.stands three.now.liberty h → V.stands three.now.verilog h → H.stands three.now.vital h → PutsTrace (D.state desk.old) (D.state desk.new) line.old (lines_text (option_copied change.entry) ports.now (three_lines (L.machine three.now.liberty) (V.machine three.now.verilog) (H.machine three.now.vital) h)) line.new result }
+    ensures alike { IfOk result (λ alike. (h : List ChangeOf) → L.stands three.now.liberty h → V.stands three.now.verilog h → H.stands three.now.vital h → alike ≡ are_alike (three_lines (L.machine three.now.liberty) (V.machine three.now.verilog) (H.machine three.now.vital) h)) }
+    ensures cause { StopsWithCause (D.faults desk.old) (D.faults desk.new) result }
+{
+    if three.are_alike() {
+        put_common_line(desk, line, text, change, ports, &three.liberty)?;
+        return Ok(true);
+    }
+    put_own_lines(desk, line, text, change, ports, three)?;
+    Ok(false)
+}
+
+/// Puts the lines of three that show what this one shows: one is made, and put again under the other tags.
+#[tactic(auto, unfolding(crate::specs::Comparison::lines_text))]
+fn put_common_line<D: Desk, S: TraceSim>(
+    desk: &mut D,
+    line: &mut Line,
+    text: &mut Vec<u8>,
+    change: Option<&Change>,
+    ports: &Ports,
+    sim: &S,
+) -> Result<(), Stop>
+    requires inputs { length ports.now.inputs ≡ (S.machine sim.now).inputs }
+    requires outputs { length ports.now.outputs ≡ (S.machine sim.now).outputs }
+    requires pin { IfSome change (λ change. change.now.pin < (S.machine sim.now).inputs) }
+    ensures text { (h : List ChangeOf) → S.stands sim.now h → PutsTrace (D.state desk.old) (D.state desk.new) line.old (lines_text (option_copied change.entry) ports.now (all_show ((S.machine sim.now).line h))) line.new result }
+    ensures cause { StopsWithCause (D.faults desk.old) (D.faults desk.new) result }
+{
+    put_line(desk, line, text, b'L', change, ports, sim)?;
+    put_again(desk, line, text, b'V')?;
+    put_again(desk, line, text, b'H')
+}
+
+/// Puts the lines that the three show, each made by itself in the text.
+#[tactic(auto, unfolding(crate::specs::Comparison::lines_text))]
+fn put_own_lines<D: Desk, L: TraceSim, V: TraceSim, H: TraceSim>(
     desk: &mut D,
     line: &mut Line,
     text: &mut Vec<u8>,

@@ -1,5 +1,5 @@
 //! The lines of a trace, printed one after another as the simulator takes the changes.
-ghost use Rattle.std.specs.Prelude.{◌≡◌, ◌<◌, List, length, IfSome};
+ghost use Rattle.std.specs.Prelude.{◌≡◌, ◌<◌, List, length, slice_set, IfSome, OnOk};
 ghost use Rattle.std.specs.Option.{option_copied};
 ghost use Rattle.cell_machine.specs.declared.changes.Change.{Change as ChangeOf};
 ghost use Rattle.stimulus.specs.DriveLines.{lines_along};
@@ -41,8 +41,8 @@ pub(crate) fn write_trace<D: Desk, S: TraceSim>(
     Ok(())
 }
 
-/// Puts the line that the simulator shows behind the bytes that wait. It is made in the text, whose bytes are lost and whose
-/// room is kept for the next line.
+/// Puts the line that the simulator shows behind the bytes that wait. It is made in the text, whose bytes before are lost and
+/// whose room is kept for the next line.
 pub(crate) fn put_line<D: Desk, S: TraceSim>(
     desk: &mut D,
     line: &mut Line,
@@ -56,10 +56,29 @@ pub(crate) fn put_line<D: Desk, S: TraceSim>(
     requires outputs { length ports.now.outputs ≡ (S.machine sim.now).outputs }
     requires pin { IfSome change (λ change. change.now.pin < (S.machine sim.now).inputs) }
     ensures text { (h : List ChangeOf) → S.stands sim.now h → PutsTrace (D.state desk.old) (D.state desk.new) line.old (drive_line_text tag (option_copied change.entry) ports.now.inputs ports.now.outputs ((S.machine sim.now).line h)) line.new result }
+    ensures made { OnOk result ((h : List ChangeOf) → S.stands sim.now h → text.new.items ≡ drive_line_text tag (option_copied change.entry) ports.now.inputs ports.now.outputs ((S.machine sim.now).line h)) }
     ensures cause { StopsWithCause (D.faults desk.old) (D.faults desk.new) result }
 {
     text.clear();
     append_trace_line(text, tag, change, &ports.inputs, &ports.outputs, sim)?;
+    line.put(desk, OutSlot::Report, text.as_slice())?;
+    Ok(())
+}
+
+/// Puts the line that was made in the text once more, with another tag: its first byte. It takes no memory.
+pub(crate) fn put_again<D: Desk>(
+    desk: &mut D,
+    line: &mut Line,
+    text: &mut Vec<u8>,
+    tag: u8,
+) -> Result<(), Stop>
+    ensures made { text.new.items ≡ slice_set text.old.items 0 tag }
+    ensures text { PutsTrace (D.state desk.old) (D.state desk.new) line.old text.new.items line.new result }
+    ensures cause { StopsWithCause (D.faults desk.old) (D.faults desk.new) result }
+{
+    if let Some(first) = text.first_mut() {
+        *first = tag;
+    }
     line.put(desk, OutSlot::Report, text.as_slice())?;
     Ok(())
 }

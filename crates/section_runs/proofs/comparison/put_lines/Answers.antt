@@ -1,15 +1,12 @@
-use Rattle.section_runs.specs.Comparison.{lines_text}
-use Rattle.section_runs.proofs.Runs.{puts_on, puts_less}
+use Rattle.std.proofs.Common.{sym, ◌∙◌}
+use Rattle.section_runs.proofs.AlikeLines.{alike_print}
+use Rattle.section_runs.proofs.Runs.{puts_same, stops_same}
 use Rattle.section_runs.proofs.comparison.put_lines.Goals as goal
 
-pub returns-in_err-put_line-2-clause-text : goal.returns-in_err-put_line-2-clause-text
-unfolding lines_text
-returns-in_err-put_line-2-clause-text g c = λ h l v k.
-    puts_on _ _ _ _ _ _ _ _ _ _ (c.in_ok-put_line.ensures.text h l)
-    (puts_less _ _ _ _ _ _ _ _ _ (c.in_err-put_line-2.ensures.text h v) c.from_residual-in_err-put_line-2.ensures.0)
+pub returns-in_err-put_common_line-clause-text : goal.returns-in_err-put_common_line-clause-text
+returns-in_err-put_common_line-clause-text g c = λ h l v k.
+    stops_same _ _ _ _ _ _ _ _ _ (alike_print _ _ _ (sym (c.are_alike.ensures h l v k) ∙ c.if-are_alike.true)) (c.in_err-put_common_line.ensures.text h l) c.from_residual.ensures.0
 
-pub returns-clause-text : goal.returns-clause-text
-unfolding lines_text
-returns-clause-text g c = λ h l v k.
-    puts_on _ _ _ _ _ _ _ _ _ _ (c.in_ok-put_line.ensures.text h l)
-    (puts_on _ _ _ _ _ _ _ _ _ _ (c.in_ok-put_line-2.ensures.text h v) (c.put_line-3.ensures.text h k))
+pub returns-then-are_alike-clause-text : goal.returns-then-are_alike-clause-text
+returns-then-are_alike-clause-text g c = λ h l v k.
+    puts_same _ _ _ _ _ _ _ _ (alike_print _ _ _ (sym (c.are_alike.ensures h l v k) ∙ c.if-are_alike.true)) (c.in_ok-put_common_line.ensures.text h l)

@@ -11,8 +11,8 @@ use Rattle.vhdl_text.specs.VhdlText.{entity_names}
 use Rattle.vhdl_text.specs.WellFormed.{AreApart}
 use Rattle.library_cells.proofs.NameLists.{each_among, at_among, other_key}
 use Rattle.driver_models.specs.declared.model.DriverModel.{DriverModel}
-use Rattle.three_state_cells.specs.DrivenCells.{DrivenData}
-use Rattle.generated_drivers.specs.Generated.{may_float, vital_driver_of}
+use Rattle.three_state_cells.specs.DrivenCells.{DrivenData, may_float}
+use Rattle.generated_drivers.specs.Generated.{vital_driver_of}
 use Rattle.written_entities.proofs.Names.{case_turned}
 use Rattle.written_driven_entities.specs.Texts.{DrivenEntity, models_of, driver_in, drivers_of}
 use Rattle.written_driven_entities.specs.Laws.{driver_names}

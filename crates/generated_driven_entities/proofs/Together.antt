@@ -19,8 +19,8 @@ use Rattle.generated_entities.proofs.Entities.{named_well_formed, entity-well-fo
 use Rattle.driver_models.specs.declared.model.DriverModel.{DriverModel}
 use Rattle.driver_models.specs.Cores.{Core, ports_at, core_ports}
 use Rattle.grammar_phrases.proofs.Places.{get_at, found_behind}
-use Rattle.three_state_cells.specs.DrivenCells.{DrivenData}
-use Rattle.generated_drivers.specs.Generated.{may_float, vital_driver_of}
+use Rattle.three_state_cells.specs.DrivenCells.{DrivenData, may_float}
+use Rattle.generated_drivers.specs.Generated.{vital_driver_of}
 use Rattle.well_formed_drivers.specs.Laws.{HasDrivers}
 use Rattle.well_formed_drivers.proofs.VitalDrivers.{vital_drivers_are_well_formed}
 use Rattle.driven_files.specs.Vital.{vital_sections}

@@ -3,13 +3,12 @@ use Rattle.std.specs.Prelude.{◌≡◌, ℕ, true, List, [], map, nat_eq, Ok}
 use Rattle.std.specs.List.{IsDistinct, AllByRecursion}
 use Rattle.library_cells.specs.Cells.{IsNumberedCell}
 use Rattle.vhdl_text.specs.WellFormed.{AreWellFormed}
-use Rattle.three_state_cells.specs.DrivenCells.{DrivenData}
+use Rattle.three_state_cells.specs.DrivenCells.{DrivenData, may_float}
 use Rattle.well_formed_drivers.specs.Laws.{HasDrivers}
 use Rattle.sectioned_texts.specs.DrivenModels.{driven_models}
 use Rattle.driven_files.specs.Vital.{vital_sections}
 use Rattle.written_driven_entities.specs.Texts.{DrivenEntity, driven_entities_text, models_of, drivers_of}
 use Rattle.written_driven_entities.specs.Laws.{AreWellFormedDrivers}
-use Rattle.generated_drivers.specs.Generated.{may_float}
 use Rattle.generated_driven_entities.specs.Library.{driven_entities_of}
 
 -- A cell's core keeps the rules of cells, and where some of its outputs may float, it has drivers.

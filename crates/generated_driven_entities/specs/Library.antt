@@ -5,8 +5,8 @@ use Rattle.vhdl_names.specs.Kept.{lowered}
 use Rattle.vital_models.specs.Kept.{entity_name, driver_name}
 use Rattle.vital_models.specs.Generated.{entity_of}
 use Rattle.generated_entities.specs.Library.{entity_behind}
-use Rattle.three_state_cells.specs.DrivenCells.{DrivenData}
-use Rattle.generated_drivers.specs.Generated.{may_float, vital_driver_of}
+use Rattle.three_state_cells.specs.DrivenCells.{DrivenData, may_float}
+use Rattle.generated_drivers.specs.Generated.{vital_driver_of}
 use Rattle.written_driven_entities.specs.Texts.{DrivenEntity}
 
 -- The name of a cell's model behind models with these names in lower case, by whether some of its outputs may float.

@@ -11,13 +11,12 @@ use Rattle.verilog_tokens.specs.Kept.{is_kept_name, is_kept_cell_name}
 use Rattle.cell_machine.specs.CellData.{CellData}
 use Rattle.specify_blocks.specs.Generated.{module_of}
 use Rattle.specify_blocks.specs.WellFormed.{AreWellFormed}
-use Rattle.three_state_cells.specs.DrivenCells.{DrivenData, core_name}
+use Rattle.three_state_cells.specs.DrivenCells.{DrivenData, core_name, may_float}
 use Rattle.library_cells.specs.Cells.{IsNumberedCell, names_of_cells, kept_names, AreCellsOfOneLibrary}
 use Rattle.library_cells.proofs.NameLists.{unlike, each_among, other_key}
 use Rattle.library_cells.proofs.KeptNames.{kept_tail, kept_apart}
 use Rattle.generated_modules.proofs.ModuleLists.{modules-well-formed}
 use Rattle.written_driven_modules.specs.Texts.{models_of}
-use Rattle.generated_drivers.specs.Generated.{may_float}
 use Rattle.generated_driven_modules.specs.Library.{IsNumberedDriven, own_names, own_numbers, AreOfOneLibrary, driven_modules_of}
 use Rattle.generated_driven_modules.specs.Laws.{CoreModulesAreWellFormed}
 

@@ -9,13 +9,12 @@ use Rattle.verilog_tokens.specs.Words.{verilog_words, is_verilog_word}
 use Rattle.verilog_tokens.specs.Kept.{is_name_byte, is_kept_cell_name}
 use Rattle.specify_blocks.specs.Names.{driver_name, module_name}
 use Rattle.specify_blocks.specs.WellFormed.{IsName}
-use Rattle.three_state_cells.specs.DrivenCells.{DrivenData}
+use Rattle.three_state_cells.specs.DrivenCells.{DrivenData, may_float}
 use Rattle.library_cells.proofs.NumberedNames.{decimal_digits, number_digits, number_in_name}
 use Rattle.generated_modules.proofs.GivenNames.{kept, not_given}
 use Rattle.generated_modules.proofs.PrimitiveNames.{primitive_front}
 use Rattle.generated_modules.proofs.Modules.{primitives_few}
 use Rattle.generated_modules.proofs.ModuleLists.{IsOuter, is_own, own_primitive, module_no_lib, fronts_apart}
-use Rattle.generated_drivers.specs.Generated.{may_float}
 use Rattle.generated_driven_modules.specs.Library.{IsNumberedDriven}
 use Rattle.generated_driven_modules.proofs.Cores.{kept_is_plain, floating_name, core_not_kept, Differ}
 

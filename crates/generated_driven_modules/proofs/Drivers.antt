@@ -22,14 +22,14 @@ use Rattle.driven_traces.specs.declared.delays.DrivePath.{DrivePath}
 use Rattle.driver_models.specs.declared.model.DriverModel.{DriverModel}
 use Rattle.driver_models.specs.Cores.{Core, core_ports, fits}
 use Rattle.verilog_drivers.specs.WellFormed.{HasNumbers, IsWellFormedDriver}
-use Rattle.three_state_cells.specs.DrivenCells.{DrivenData}
+use Rattle.three_state_cells.specs.DrivenCells.{DrivenData, may_float}
 use Rattle.three_state_cells.specs.Laws.{HasTimes}
 use Rattle.library_cells.proofs.NameLists.{unlike}
 use Rattle.library_cells.proofs.CellParts.{few_pins, distinct_pins}
 use Rattle.generated_modules.proofs.Modules.{name_is_one}
 use Rattle.generated_modules.proofs.ModuleLists.{IsOuter, outer_of}
 use Rattle.generated_modules.proofs.GivenNames.{given_apart}
-use Rattle.generated_drivers.specs.Generated.{may_float, pins_of, verilog_driver_of}
+use Rattle.generated_drivers.specs.Generated.{pins_of, verilog_driver_of}
 use Rattle.generated_drivers.proofs.Fitting.{verilog_drivers_fit}
 use Rattle.sectioned_texts.specs.DrivenModels.{taken_names}
 use Rattle.driven_files.specs.Verilog.{verilog_sections}

@@ -6,10 +6,10 @@ use Rattle.std.specs.List.{IsDistinct}
 use Rattle.driver_models.specs.declared.model.DriverModel.{DriverModel}
 use Rattle.specify_blocks.specs.Generated.{module_of}
 use Rattle.three_state_cells.specs.Drivers.{IsDriverOf}
-use Rattle.three_state_cells.specs.DrivenCells.{DrivenData, core_name}
+use Rattle.three_state_cells.specs.DrivenCells.{DrivenData, core_name, may_float}
 use Rattle.three_state_cells.specs.Laws.{HasTimes}
 use Rattle.library_cells.specs.Cells.{IsNumberedCell, kept_names}
-use Rattle.generated_drivers.specs.Generated.{may_float, verilog_driver_of}
+use Rattle.generated_drivers.specs.Generated.{verilog_driver_of}
 use Rattle.written_driven_modules.specs.Texts.{DrivenModule}
 
 -- What the core of a cell is called: as the cell, or where some outputs may float by the cell's number.

@@ -1,7 +1,7 @@
 -- The models of a cell's three-state drivers. (IEEE 1364-2005, 7.4, three-state gates, and 12.1, hierarchical structures; IEEE
 -- 1076.4-2000, VitalBUFIF1; that drivers are a model of their own, whose core is the model of the cell's core, is this project's
 -- form.)
-use Rattle.std.specs.Prelude.{ℕ, Bool, List, ◌++◌, length, nat_lt, codes, decimal}
+use Rattle.std.specs.Prelude.{ℕ, List, ◌++◌, length, codes, decimal}
 use Rattle.cell_machine.specs.declared.pins.Pin.{Pin}
 use Rattle.driver_models.specs.declared.model.DriverModel.{DriverModel}
 use Rattle.specify_blocks.specs.Names.{driver_name, module_name}
@@ -9,10 +9,6 @@ use Rattle.specify_blocks.specs.Ports as verilog
 use Rattle.vital_models.specs.Ports as vital
 use Rattle.three_state_cells.specs.Drivers.{own_pins}
 use Rattle.three_state_cells.specs.DrivenCells.{DrivenData}
-
--- whether some outputs of a cell may float
-abbrev pub may_float : DrivenData → Bool
-may_float cell = nat_lt 0 (length cell.driver.drives)
 
 -- a cell's own pins
 abbrev pub pins_of : DrivenData → List Pin

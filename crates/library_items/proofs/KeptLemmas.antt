@@ -12,9 +12,13 @@ use Rattle.cell_cursor.specs.declared.item.LibraryItem.{LibraryItem}
 use Rattle.cell_cursor.specs.declared.item.LibraryItem.TheVariants as item
 use Rattle.cell_parts.specs.Groups.{cell_name}
 use Rattle.cell_reader.specs.declared.refusal.Refusal.{Refusal}
+use Rattle.liberty_text.specs.declared.time.Unit.{Unit}
+use Rattle.three_state_cells.specs.CoreGroups.{core_group}
+use Rattle.three_state_cells.specs.DrivenCells.{data_by, floating_of, driven_data}
+use Rattle.three_state_cells.specs.Outputs.{ThreeStateOutput, three_state_outputs}
 use Rattle.library_items.specs.LibraryCells.{CellEntry, name_of, cell_names}
 use Rattle.library_items.specs.declared.progress.Progress.{Progress}
-use Rattle.library_items.specs.Progress.{names_with, next_refusal, next_data, entity_by, after_cell, after_item, progress_after}
+use Rattle.library_items.specs.Progress.{names_with, next_number, next_refusal, next_data, entity_by, after_cell, after_item, progress_after}
 use Rattle.library_items.specs.KeptCells.{kept_by, next_entry, item_kept, kept_cells}
 
 -- what is kept of some items, and then of others
@@ -37,9 +41,15 @@ names_after : (p : Progress) (name : List ℕ) (entity : Option (List ℕ)) → 
 names_after p name (Some entity) = refl
 names_after p name None = refl
 
+-- what is read of a cell bears its name
+name_read : (unit : Option Unit) (number : ℕ) (group : Group) (outputs : List ThreeStateOutput) → (data_by unit number group outputs).name ≡ cell_name group
+unfolding floating_of core_group
+name_read unit number group [] = refl
+name_read unit number group (output ∷ outputs) = refl
+
 its_name : (p : Progress) (group : Group) (o : Option Refusal) → name_of (kept_by p group o) ≡ cell_name group
-unfolding next_data
-its_name p group None = refl
+unfolding next_data driven_data
+its_name p group None = name_read p.unit (next_number p) group (three_state_outputs group)
 its_name p group (Some refusal) = refl
 
 cell_named : (p : Progress) (group : Group) (cells : List CellEntry) (b : Bool) → cell_names cells ≡ p.names

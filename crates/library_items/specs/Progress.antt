@@ -6,15 +6,11 @@ use Rattle.liberty_text.specs.declared.time.Unit.TheVariants.{Ps1, Ps10, Ps100, 
 use Rattle.liberty_groups.specs.declared.tree.Group.{Group}
 use Rattle.bool_functions.specs.NameList.{number_of}
 use Rattle.cell_reader.specs.declared.refusal.Refusal.{Refusal}
-use Rattle.cell_reader.specs.declared.left_out.LeftOut.{LeftOut}
 use Rattle.cell_parts.specs.Groups.{cell_name}
-use Rattle.cell_parts.specs.Pins.{pins_of}
-use Rattle.cell_parts.specs.CellLaws.{groups_of, outputs_of}
-use Rattle.cell_reader.specs.Refusals.{refusal_of, checks_of, arcs_of, left_out_of}
-use Rattle.cell_reader.specs.CellTexts.{subject_of}
-use Rattle.cell_machine.specs.CellData.{CellData}
+use Rattle.three_state_cells.specs.DrivenCells.{DrivenData, driven_data}
+use Rattle.three_state_cells.specs.Refusals.{driven_refusal}
 use Rattle.vhdl_names.specs.Kept.{lowered}
-use Rattle.vital_models.specs.Kept.{entity_name}
+use Rattle.library_items.specs.LibraryCells.{vital_name}
 use Rattle.library_items.specs.declared.progress.Progress.{Progress}
 use Rattle.cell_cursor.specs.declared.item.LibraryItem.{LibraryItem}
 use Rattle.cell_cursor.specs.declared.item.LibraryItem.TheVariants as item
@@ -42,28 +38,16 @@ names_with names name = if is_some (number_of names name) then names else names 
 
 -- why the next cell is refused, where it is
 unfoldable pub next_refusal : Progress → Group → Option Refusal
-next_refusal p group = refusal_of (subject_of p.unit group) p.names group
+next_refusal p group = driven_refusal p.unit p.names group
 
 -- the data of the next cell, where this group describes it
-unfoldable pub next_data : Progress → Group → CellData
-next_data p group = record {
-  name = cell_name group;
-  number = next_number p;
-  pins = pins_of group;
-  groups = groups_of group;
-  outputs = outputs_of group;
-  checks = checks_of (subject_of p.unit group) group;
-  arcs = arcs_of (subject_of p.unit group) group;
-}
+unfoldable pub next_data : Progress → Group → DrivenData
+next_data p group = driven_data p.unit (next_number p) group
 
--- the timing groups of the next cell that are left out
-unfoldable pub next_left_out : Progress → Group → List LeftOut
-next_left_out p group = left_out_of (subject_of p.unit group) group
-
--- The name of the entity of the next cell, where it is accepted: the cell's, where VHDL text keeps it and no entity before it
--- has it, whatever the case of its letters, else `cell` and its number. (IEEE 1076-1993, 13.3.1.)
+-- The name of the VITAL model of the next cell, where it is accepted: the cell's, where VHDL text keeps it and no model before it
+-- has it, whatever the case of its letters, else one with its number. (IEEE 1076-1993, 13.3.1.)
 unfoldable pub next_entity : Progress → Group → List ℕ
-next_entity p group = entity_name (next_number p) p.entities (cell_name group)
+next_entity p group = vital_name p.entities (next_data p group)
 
 -- the name of the entity of the next cell, where nothing refuses it
 abbrev pub entity_by : Progress → Group → Option Refusal → Option (List ℕ)

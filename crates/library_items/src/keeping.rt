@@ -24,10 +24,7 @@ impl CellFold for Vec<LibraryCell> {
 
     fn take(&mut self, alloc: Global, group: &Group, next: NextCell) -> Result<(), Stop> {
         let cell = match next {
-            NextCell::Accepted { read, entity } => {
-                let cell = read.cell;
-                LibraryCell::Accepted { cell, entity }
-            }
+            NextCell::Accepted { cell, entity } => LibraryCell::Accepted { cell, entity },
             NextCell::Refused(refusal) => {
                 let name = Items::from_slice(alloc, cell_name(group))?;
                 LibraryCell::Refused { name, refusal }

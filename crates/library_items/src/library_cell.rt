@@ -2,9 +2,9 @@
 ghost use Rattle.std.specs.Prelude.{◌≡◌};
 ghost use Rattle.library_items.specs.LibraryCells.{name_of, described};
 
-use cell_machine::Cell;
 use cell_reader::Refusal;
 use sqlite_items::Items;
+use three_state_cells::DrivenCell;
 
 /// A cell of a library, with what its models need beside its group, or why it has none.
 #[derive(Drop)]
@@ -12,8 +12,8 @@ pub enum LibraryCell {
     /// A cell that is accepted.
     Accepted {
         /// The cell.
-        cell: Cell,
-        /// The name of its VITAL entity, in bytes.
+        cell: DrivenCell,
+        /// The name of its VITAL model, in bytes.
         entity: Items<u8>,
     },
     /// A cell that is refused.

@@ -1,17 +1,21 @@
 //! The next cell of a library.
 ghost use Rattle.std.specs.Prelude.{◌≡◌, ◌+◌, ◌<◌, ◌^◌, IfOk, IfErr, OnOk};
 ghost use Rattle.cell_cursor.specs.declared.item.LibraryItem.TheVariants as item;
+ghost use Rattle.three_state_cells.specs.DrivenCells.{driven_data_of};
+ghost use Rattle.library_items.specs.LibraryCells.{vital_name};
 ghost use Rattle.library_items.specs.Progress.{after_item};
 ghost use Rattle.library_items.specs.NextCells.{IsNext};
 
 use crate::progress::Progress;
+use bool_functions::Names;
 use cell_parts::groups::cell_name;
-use cell_reader::{CellFault, ReadCell, Refusal, read_cell};
+use cell_reader::{CellFault, Refusal};
 use liberty_groups::Group;
 use sqlite_items::Items;
-use std::alloc::Global;
+use std::alloc::{AllocError, Global};
 use text_io::Stop;
-use vital_models::entity_name;
+use three_state_cells::{DrivenCell, read_driven};
+use vital_models::{driver_name, entity_name};
 
 /// The next cell of a library, or why it is refused.
 #[derive(Drop)]
@@ -19,12 +23,24 @@ pub enum NextCell {
     /// A cell that is accepted.
     Accepted {
         /// The cell, and what of its group it leaves out.
-        read: ReadCell,
-        /// The name of its VITAL entity, in bytes.
+        cell: DrivenCell,
+        /// The name of its VITAL model, in bytes.
         entity: Items<u8>,
     },
     /// A cell that is refused.
     Refused(Refusal),
+}
+
+/// The name of the VITAL model of a cell, where `given` are the names of the models before it in lower case: that of its entity, or of
+/// the entity of its drivers where some outputs may float. `AllocError` comes only where memory is wanting.
+fn vital_name(alloc: Global, cell: &DrivenCell, given: &Names) -> Result<Items<u8>, AllocError>
+    ensures { IfOk result (λ name. name ≡ vital_name given.now (driven_data_of cell.now)) }
+{
+    if cell.driver.drives.len() > 0 {
+        driver_name(alloc, cell.core.number, cell.name.as_slice(), given)
+    } else {
+        entity_name(alloc, &cell.core, given)
+    }
 }
 
 /// Reads the group of the next cell. It stops only where memory is wanting.
@@ -34,10 +50,10 @@ pub(crate) fn next_cell(alloc: Global, progress: &Progress, group: &Group) -> Re
     ensures memory { IfErr result (λ stop. stop ≡ Stop.Memory) }
 {
     let number = progress.next_number();
-    match read_cell(alloc, group, number, progress.unit, &progress.names) {
-        Ok(read) => {
-            let entity = entity_name(alloc, &read.cell, &progress.entities)?;
-            Ok(NextCell::Accepted { read, entity })
+    match read_driven(alloc, group, number, progress.unit, &progress.names) {
+        Ok(cell) => {
+            let entity = vital_name(alloc, &cell, &progress.entities)?;
+            Ok(NextCell::Accepted { cell, entity })
         }
         Err(CellFault::Refused(refusal)) => Ok(NextCell::Refused(refusal)),
         Err(CellFault::Memory) => Err(Stop::Memory),

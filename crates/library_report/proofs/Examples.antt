@@ -1,4 +1,4 @@
--- The lines of worked libraries. One has the cells `INV`, `TB`, which is refused for its `three_state`, and `BUF`.
+-- The lines of worked libraries. One has the cells `INV`, `TB`, whose output may float, and `BUF`.
 use Rattle.std.specs.Prelude.{◌≡◌, refl, codes}
 use Rattle.std.specs.Fmt.{digits}
 use Rattle.liberty_groups.specs.declared.fault.Expected.TheVariants as expected
@@ -14,13 +14,18 @@ inverter-line : accepted_line 1 (codes "INV") ≡ codes "cell 1 INV ok\n"
 unfolding digits cell_text printed_name accepted_line
 inverter-line = refl
 
-driver-line : refused_line 2 (codes "TB") (record { reason = reason.ThreeState; at = 182 }) ≡ codes "cell 2 TB refused 2 three_state at 182\n"
-unfolding digits cell_text printed_name refusal_text refused_line
+driver-line : accepted_line 2 (codes "TB") ≡ codes "cell 2 TB ok\n"
+unfolding digits cell_text printed_name accepted_line
 driver-line = refl
 
-totals : totals_line 2 1 ≡ codes "accepted 2 refused 1\n"
+totals : totals_line 3 0 ≡ codes "accepted 3 refused 0\n"
 unfolding digits totals_line
 totals = refl
+
+-- a cell with `three_state` at an input
+input-line : refused_line 2 (codes "TB") (record { reason = reason.ThreeState; at = 182 }) ≡ codes "cell 2 TB refused 2 three_state at 182\n"
+unfolding digits cell_text printed_name refusal_text refused_line
+input-line = refl
 
 -- a cell without a name
 nameless-line : refused_line 1 (codes "") (record { reason = reason.Limit; at = 14 }) ≡ codes "cell 1 ? refused 13 limit at 14\n"

@@ -1,5 +1,5 @@
 -- A cell as it is read where its outputs may float: a core without Z, and what drives its three-state outputs.
-use Rattle.std.specs.Prelude.{◌≡◌, ℕ, List, [], ◌∷◌, ◌++◌, length, codes, decimal, Option}
+use Rattle.std.specs.Prelude.{◌≡◌, ℕ, Bool, List, [], ◌∷◌, ◌++◌, length, nat_lt, codes, decimal, Option}
 use Rattle.liberty_text.specs.declared.time.Unit.{Unit}
 use Rattle.liberty_groups.specs.declared.tree.Group.{Group}
 use Rattle.cell_machine.specs.CellData.{CellData, data_of}
@@ -29,6 +29,10 @@ pub record DrivenData : Type 0 where
 
 abbrev pub driven_data_of : DrivenCell → DrivenData
 driven_data_of cell = record { core = data_of cell.core; name = cell.name; driver = cell.driver; left_out = cell.left_out }
+
+-- whether some outputs of a cell may float
+abbrev pub may_float : DrivenData → Bool
+may_float cell = nat_lt 0 (length cell.driver.drives)
 
 -- the cell with this name and number that a group describes
 abbrev pub cell_data : Option Unit → List ℕ → ℕ → Group → CellData

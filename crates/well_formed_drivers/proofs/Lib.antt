@@ -1,4 +1,4 @@
 mod CellPins
 mod VerilogDrivers
 pub mod VitalDrivers
-mod ReadCells
+pub mod ReadCells

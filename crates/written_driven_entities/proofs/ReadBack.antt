@@ -43,7 +43,7 @@ no_sections es h =
     none_of_none (text_of (entities_text es)) (sections_of (entities_text es))
     ((outlined_is (entities_outlined es (recursion_from_All IsWellFormedEntity es h.entities))).texts ∙ none_of_each es)
 
-all_written : (es : List VEntity) (done drivers : List DriverModel) → AreWellFormedDrivers es done drivers → AllByRecursion IsWrittenDriver drivers
+pub all_written : (es : List VEntity) (done drivers : List DriverModel) → AreWellFormedDrivers es done drivers → AllByRecursion IsWrittenDriver drivers
 all_written es done [] h = tt
 all_written es done (d ∷ drivers) h = (h.0.written, all_written es (done ++ d ∷ []) drivers h.1)
 

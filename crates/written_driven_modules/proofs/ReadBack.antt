@@ -30,7 +30,7 @@ no_sections ms h =
     plain (no_beginning (file_spelled ms h)) in
     none_of_none (text_of (modules_text ms)) (sections_of (modules_text ms)) (outlined_is all).texts
 
-all_declared : (ms : List VModule) (done drivers : List DriverModel) → AreWellFormedDrivers ms done drivers → AllByRecursion CanBeDeclared drivers
+pub all_declared : (ms : List VModule) (done drivers : List DriverModel) → AreWellFormedDrivers ms done drivers → AllByRecursion CanBeDeclared drivers
 all_declared ms done [] h = tt
 all_declared ms done (d ∷ drivers) h = ((taken_names verilog_sections ms done, (map verilog_sections.core ms, h.0)), all_declared ms (done ++ d ∷ []) drivers h.1)
 

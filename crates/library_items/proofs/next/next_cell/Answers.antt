@@ -3,7 +3,7 @@ use Rattle.library_items.proofs.next.next_cell.Goals as goal
 
 pub returns-in_ok-entity-in-Ok-clause-next : goal.returns-in_ok-entity-in-Ok-clause-next
 returns-in_ok-entity-in-Ok-clause-next c =
-    accepted_next c.args.progress.now c.args.group.now _ c.in-Ok.read _ c.in-Ok.ensures.cell c.in-Ok.ensures.left_out c.in-Ok.ensures.accepted
+    accepted_next c.args.progress.now c.args.group.now _ c.in-Ok.cell _ c.in-Ok.ensures.cell c.in-Ok.ensures.accepted
     c.next_number-number.ensures c.in_ok-entity-in-Ok.ensures
 
 pub returns-in-Err-Refused-clause-next : goal.returns-in-Err-Refused-clause-next

@@ -1,5 +1,10 @@
 mod NewNames
 mod PortCounts
-mod LanguageLemmas
+mod OwnPorts
+mod SameNames
+mod TextAnswers
+mod NamedDrivers
+mod VerilogDrivers
+mod VitalDrivers
 pub mod VerilogModels
-pub mod VitalEntities
+pub mod VitalModels

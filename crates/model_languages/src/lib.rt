@@ -3,9 +3,14 @@
 #![tactic(auto)]
 
 mod laws;
+mod starts;
 mod verilog;
 mod vital;
 
-pub use laws::{entities_have_own_names, modules_have_own_names};
+pub use laws::{
+    entities_have_own_names, modules_have_own_names, plain_entities_read_as_before,
+    plain_modules_read_as_before, well_formed_entities_have_own_names,
+};
+pub use starts::{start_entity, start_module};
 pub use verilog::Verilog;
 pub use vital::Vital;

@@ -1,15 +1,16 @@
 //! Verilog as a language of models.
 
+use crate::starts::start_module;
 use cell_machine::Change;
+use driven_files::{VerilogFiles, read_driven_models};
+use file_models::{FileModel, file_models};
 use model_files::{ModelFormat, ModelLanguage};
 use section_runs::write_section;
 use specify_blocks::VModule;
 use std::alloc::Global;
 use stimulus::Ports;
-use table_interpreters::VerilogSim;
 use text_io::{Desk, Stop};
 use udp_tables::{ModelFault, VPort};
-use verilog_reader::read_models;
 
 /// Verilog. (IEEE 1364-2005.)
 pub struct Verilog;
@@ -17,7 +18,7 @@ pub struct Verilog;
 impl ModelLanguage for Verilog {
     ghost use Rattle.model_languages.specs.Verilog.{verilog};
 
-    type Model = VModule;
+    type Model = FileModel<VModule>;
 
     ghost language = { verilog };
 
@@ -25,26 +26,27 @@ impl ModelLanguage for Verilog {
         ModelFormat::Verilog
     }
 
-    fn read(alloc: Global, text: &[u8]) -> Result<Vec<VModule>, ModelFault> {
-        read_models(alloc, text)
+    fn read(alloc: Global, text: &[u8]) -> Result<Vec<FileModel<VModule>>, ModelFault> {
+        let found = read_driven_models(alloc, text)?;
+        Ok(file_models::<VerilogFiles>(alloc, found)?)
     }
 
-    fn name(model: &VModule) -> &[u8] {
+    fn name(model: &FileModel<VModule>) -> &[u8] {
         model.name.as_slice()
     }
 
-    fn ports(model: &VModule) -> &[VPort] {
+    fn ports(model: &FileModel<VModule>) -> &[VPort] {
         model.ports.as_slice()
     }
 
     fn write_model_trace<D: Desk>(
         alloc: Global,
         desk: &mut D,
-        model: &VModule,
+        model: &FileModel<VModule>,
         ports: &Ports,
         changes: &[Change],
     ) -> Result<(), Stop> {
-        match VerilogSim::start(alloc, model) {
+        match start_module(alloc, model) {
             Ok(mut sim) => write_section(
                 alloc,
                 desk,

@@ -1,14 +1,16 @@
 //! VHDL by VITAL as a language of models.
 
+use crate::starts::start_entity;
 use cell_machine::Change;
+use driven_files::{VitalFiles, read_driven_entities};
+use file_models::{FileModel, file_models};
 use model_files::{ModelFormat, ModelLanguage};
 use section_runs::write_section;
 use std::alloc::Global;
 use stimulus::Ports;
-use table_interpreters::VitalSim;
 use text_io::{Desk, Stop};
 use udp_tables::{ModelFault, VPort};
-use vhdl_reader::read_entities;
+use vhdl_text::texts_are_well_formed;
 use vital_models::VEntity;
 
 /// VHDL by VITAL. (IEEE 1076-1993 and IEEE 1076.4-2000.)
@@ -17,7 +19,7 @@ pub struct Vital;
 impl ModelLanguage for Vital {
     ghost use Rattle.model_languages.specs.Vital.{vital};
 
-    type Model = VEntity;
+    type Model = FileModel<VEntity>;
 
     ghost language = { vital };
 
@@ -25,26 +27,28 @@ impl ModelLanguage for Vital {
         ModelFormat::Vital
     }
 
-    fn read(alloc: Global, text: &[u8]) -> Result<Vec<VEntity>, ModelFault> {
-        read_entities(alloc, text)
+    fn read(alloc: Global, text: &[u8]) -> Result<Vec<FileModel<VEntity>>, ModelFault> {
+        texts_are_well_formed();
+        let found = read_driven_entities(alloc, text)?;
+        Ok(file_models::<VitalFiles>(alloc, found)?)
     }
 
-    fn name(model: &VEntity) -> &[u8] {
+    fn name(model: &FileModel<VEntity>) -> &[u8] {
         model.name.as_slice()
     }
 
-    fn ports(model: &VEntity) -> &[VPort] {
+    fn ports(model: &FileModel<VEntity>) -> &[VPort] {
         model.ports.as_slice()
     }
 
     fn write_model_trace<D: Desk>(
         alloc: Global,
         desk: &mut D,
-        model: &VEntity,
+        model: &FileModel<VEntity>,
         ports: &Ports,
         changes: &[Change],
     ) -> Result<(), Stop> {
-        match VitalSim::start(alloc, model) {
+        match start_entity(alloc, model) {
             Ok(mut sim) => write_section(
                 alloc,
                 desk,

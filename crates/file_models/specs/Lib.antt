@@ -1,0 +1,2 @@
+pub mod FileModels
+pub mod Folded

@@ -1,3 +1,4 @@
+pub mod ModelTexts
 pub mod CellLemmas
 pub mod TestLineTexts
 pub mod ModelsLemmas

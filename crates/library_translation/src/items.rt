@@ -39,8 +39,8 @@ impl ItemWriter for CellModels {
         next: &NextCell,
     ) -> Result<(), Stop> {
         match next {
-            NextCell::Accepted { read, entity } => {
-                write_accepted(alloc, desk, read, entity.as_slice(), group)
+            NextCell::Accepted { cell, entity } => {
+                write_accepted(alloc, desk, cell, entity.as_slice(), group)
             }
             NextCell::Refused(refusal) => {
                 write_refused_cell(desk, progress.next_number(), cell_name(group), refusal)?;

@@ -3,6 +3,7 @@
 
 mod cells;
 mod items;
+mod models;
 mod run;
 mod test_lines;
 

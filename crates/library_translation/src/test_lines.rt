@@ -1,21 +1,19 @@
 //! The line on the test cell of a cell.
 ghost use Rattle.std.specs.Prelude.{◌≡◌, IfOk};
-ghost use Rattle.std.specs.Option.{option_map};
 ghost use Rattle.text_io.specs.declared.slots.OutSlot.TheVariants.{Report};
 ghost use Rattle.text_io.specs.Desk.{HasCause, StopsWithCause, WritesText};
-ghost use Rattle.cell_machine.specs.CellData.{data_of};
+ghost use Rattle.three_state_cells.specs.DrivenCells.{driven_data_of};
 ghost use Rattle.command_outcomes.specs.Written.{Writes, in_report};
-ghost use Rattle.scan_cells.specs.Functional.{functional_view};
-ghost use Rattle.scan_cells.specs.Comparison.{agreement as agreement_with};
 ghost use Rattle.scan_cells.specs.TestLines.{digit as digit_of, agreement_text, test_line};
-ghost use Rattle.library_translation.specs.Cells.{test_lines};
+ghost use Rattle.library_translation.specs.Cells.{found_of_test, test_lines};
 
-use cell_machine::Cell;
+use crate::models::may_float;
 use liberty_groups::Group;
 use scan_cells::{Agreement, agrees, functional_cell, test_of};
 use std::alloc::{AllocError, Global};
 use text_io::{Desk, Failed, Line, OutSlot, Stop};
 use text_parts::{Bytes, Decimal, Part, Put, parts, write_part};
+use three_state_cells::DrivenCell;
 
 /// A state as a digit.
 fn digit(state: bool) -> &'static [u8]
@@ -70,12 +68,20 @@ fn write_agreement<D: Desk>(
     write_part(desk, OutSlot::Report, &line)
 }
 
-/// Whether the view that a test cell gives does what the cell does; none where it gives no view.
-fn agreement(alloc: Global, cell: &Cell, test: &Group) -> Result<Option<Agreement>, AllocError>
-    ensures { IfOk result (λ found. found ≡ option_map (agreement_with (data_of cell.now)) (functional_view (data_of cell.now) test.now)) }
+/// Whether the view that a test cell gives does what the cell does; none where it gives no view, and none where some outputs of the
+/// cell may float, since such a cell is not compared.
+fn agreement(
+    alloc: Global,
+    cell: &DrivenCell,
+    test: &Group,
+) -> Result<Option<Agreement>, AllocError>
+    ensures { IfOk result (λ found. found ≡ found_of_test (driven_data_of cell.now) test.now) }
 {
-    match functional_cell(alloc, cell, test)? {
-        Some(view) => Ok(Some(agrees(cell, &view))),
+    if may_float(cell) {
+        return Ok(None);
+    }
+    match functional_cell(alloc, &cell.core, test)? {
+        Some(view) => Ok(Some(agrees(&cell.core, &view))),
         None => Ok(None),
     }
 }
@@ -85,10 +91,10 @@ fn agreement(alloc: Global, cell: &Cell, test: &Group) -> Result<Option<Agreemen
 pub(crate) fn write_test<D: Desk>(
     alloc: Global,
     desk: &mut D,
-    cell: &Cell,
+    cell: &DrivenCell,
     group: &Group,
 ) -> Result<(), Stop>
-    ensures text { Writes (D.state desk.old) (D.state desk.new) (in_report (test_lines (data_of cell.now) group.now)) result }
+    ensures text { Writes (D.state desk.old) (D.state desk.new) (in_report (test_lines (driven_data_of cell.now) group.now)) result }
     ensures cause { StopsWithCause (D.faults desk.old) (D.faults desk.new) result }
 {
     let Some(test) = test_of(group) else {
@@ -96,7 +102,7 @@ pub(crate) fn write_test<D: Desk>(
     };
     match agreement(alloc, cell, test) {
         Ok(found) => {
-            write_agreement(desk, cell.number, found)?;
+            write_agreement(desk, cell.core.number, found)?;
             Ok(())
         }
         Err(_) => Err(Stop::Memory),

@@ -3,9 +3,9 @@ use Rattle.std.proofs.Common.{◌≡◌, ℕ, ◌+◌, List, [], ◌∷◌, ◌+
 use Rattle.text_io.specs.Desk.{DeskState}
 use Rattle.text_io.specs.declared.slots.InSlot.TheVariants.{Library}
 use Rattle.liberty_groups.specs.declared.tree.Group.{Group}
-use Rattle.cell_machine.specs.CellData.{data_of}
-use Rattle.cell_reader.specs.declared.read.ReadCell.{ReadCell}
 use Rattle.cell_reader.specs.declared.refusal.Refusal.{Refusal}
+use Rattle.three_state_cells.specs.declared.driven_cell.DrivenCell.{DrivenCell}
+use Rattle.three_state_cells.specs.DrivenCells.{driven_data_of}
 use Rattle.library_items.specs.LibraryCells.{CellEntry}
 use Rattle.library_items.specs.declared.ending.Ending.{Ending}
 use Rattle.library_items.specs.declared.progress.Progress.{Progress}
@@ -17,8 +17,7 @@ use Rattle.library_items.specs.Progress.{next_refusal}
 use Rattle.library_items.proofs.Claims.{IfSome-each}
 use Rattle.selftest_runs.specs.declared.counts.Counts.{Counts}
 use Rattle.selftest_runs.specs.Counts.{no_counts, plus}
-use Rattle.selftest_runs.specs.CellCounts.{cell_counts}
-use Rattle.selftest_runs.specs.LibraryCounts.{counted, all_counts, library_counts, CountsCells}
+use Rattle.selftest_runs.specs.LibraryCounts.{driven_counts, counted, all_counts, library_counts, CountsCells}
 
 -- Sums of counts.
 
@@ -51,13 +50,13 @@ all_counts-more (y ∷ cells) x = ap (plus (counted y)) (all_counts-more cells x
 -- The next cell.
 
 -- what is counted of it
-pub accepted_counted : (p : Progress) (group : Group) (read : ReadCell) (entity : List ℕ) (before more after : Counts) (cells : List CellEntry)
-    → IsAcceptedNext p group read entity → before ≡ all_counts cells → more ≡ cell_counts (data_of read.cell) entity → after ≡ plus before more
+pub accepted_counted : (p : Progress) (group : Group) (cell : DrivenCell) (entity : List ℕ) (before more after : Counts) (cells : List CellEntry)
+    → IsAcceptedNext p group cell entity → before ≡ all_counts cells → more ≡ driven_counts (driven_data_of cell) entity → after ≡ plus before more
     → after ≡ all_counts (cells ++ next_entry p group ∷ [])
-accepted_counted p group read entity before more after cells h so_far here sum =
+accepted_counted p group cell entity before more after cells h so_far here sum =
     let entry : next_entry p group ≡ kept_by p group None = ap (kept_by p group) h.unrefused in
     let this : more ≡ counted (next_entry p group) =
-    here ∙ (λ i. cell_counts (h.same_cell i) (h.same_entity i)) ∙ sym (ap counted entry) in
+    here ∙ (λ i. driven_counts (h.same_cell i) (h.same_entity i)) ∙ sym (ap counted entry) in
     sum ∙ (λ i. plus (so_far i) (this i)) ∙ sym (all_counts-more cells (next_entry p group))
 
 pub refused_counted : (p : Progress) (group : Group) (refusal : Refusal) (counts : Counts) (cells : List CellEntry)

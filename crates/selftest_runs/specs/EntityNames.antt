@@ -1,8 +1,9 @@
 -- The names that entities of a cell may have. This project's rule.
-use Rattle.std.specs.Prelude.{◌≡◌, ℕ, List}
+use Rattle.std.specs.Prelude.{◌≡◌, ℕ, false, List}
 use Rattle.liberty_groups.specs.declared.tree.Group.{Group}
-use Rattle.cell_machine.specs.CellData.{CellData, data_of}
-use Rattle.cell_reader.specs.declared.read.ReadCell.{ReadCell}
+use Rattle.cell_machine.specs.CellData.{CellData}
+use Rattle.three_state_cells.specs.declared.driven_cell.DrivenCell.{DrivenCell}
+use Rattle.three_state_cells.specs.DrivenCells.{DrivenData, driven_data_of, may_float}
 use Rattle.vital_models.specs.Kept.{entity_name}
 use Rattle.library_items.specs.declared.progress.Progress.{Progress}
 use Rattle.library_items.specs.NextCells.{IsAcceptedNext}
@@ -12,8 +13,12 @@ pub record IsNameOfEntity (cell : CellData) (name : List ℕ) : Type 0 where
   pub given : List (List ℕ)
   pub is : name ≡ entity_name cell.number given cell.name
 
--- the name of the entity of the next cell that is accepted is one
+-- a name that the entity of the cell has, where none of its outputs may float
+abbrev pub IsNameWherePlain : DrivenData → List ℕ → Type 0
+IsNameWherePlain cell name = may_float cell ≡ false → IsNameOfEntity cell.core name
+
+-- the name of the VITAL model of the next cell that is accepted is one
 abbrev pub NextCellsHaveEntityNames : Type 0
 NextCellsHaveEntityNames =
-    (p : Progress) (group : Group) (read : ReadCell) (entity : List ℕ) → IsAcceptedNext p group read entity
-    → IsNameOfEntity (data_of read.cell) entity
+    (p : Progress) (group : Group) (cell : DrivenCell) (entity : List ℕ) → IsAcceptedNext p group cell entity
+    → IsNameWherePlain (driven_data_of cell) entity

@@ -1,8 +1,9 @@
 -- What is counted of the cells of a library. This project's rules.
-use Rattle.std.specs.Prelude.{◌≡◌, ℕ, List, [], ◌∷◌, Result, IfOk, IfSome}
+use Rattle.std.specs.Prelude.{◌≡◌, ℕ, List, [], ◌∷◌, Result, IfOk, IfSome, if◌then◌else◌}
 use Rattle.text_io.specs.declared.slots.InSlot.TheVariants.{Library}
 use Rattle.text_io.specs.Desk.{DeskState, took}
 use Rattle.text_io.specs.declared.stop.Stop.{Stop}
+use Rattle.three_state_cells.specs.DrivenCells.{DrivenData, may_float}
 use Rattle.library_items.specs.LibraryCells.{CellEntry, Accepted, Refused}
 use Rattle.cell_cursor.specs.Ends.{items_within}
 use Rattle.library_items.specs.Endings.{library_limit}
@@ -12,12 +13,17 @@ use Rattle.selftest_runs.specs.declared.counts.Counts.{Counts}
 use Rattle.selftest_runs.specs.Counts.{no_counts, plus}
 use Rattle.selftest_runs.specs.CellCounts.{cell_counts}
 
+-- What is counted of a cell whose VITAL model has this name: of one whose outputs may float nothing, since its models are drivers, of
+-- which none is damaged.
+abbrev pub driven_counts : DrivenData → List ℕ → Counts
+driven_counts cell entity = if may_float cell then no_counts else cell_counts cell.core entity
+
 -- of a cell that is refused nothing is counted
 abbrev pub counted : CellEntry → Counts
-counted (Accepted cell entity) = cell_counts cell entity
+counted (Accepted cell entity) = driven_counts cell entity
 counted (Refused name refusal) = no_counts
 
--- what is counted of some cells
+-- What is counted of some cells: nothing of one that is refused, and nothing of one whose outputs may float.
 abbrev pub all_counts : List CellEntry → Counts
 all_counts [] = no_counts
 all_counts (cell ∷ cells) = plus (counted cell) (all_counts cells)

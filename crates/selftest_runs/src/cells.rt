@@ -3,9 +3,11 @@ ghost use Rattle.std.specs.Prelude.{◌≡◌, [], IfOk};
 ghost use Rattle.cell_machine.specs.CellData.{data_of};
 ghost use Rattle.cell_machine.specs.CellTrace.{inputs_of, cell_trace};
 ghost use Rattle.cell_machine.specs.History.{IsProperFrom};
-ghost use Rattle.selftest_runs.specs.EntityNames.{IsNameOfEntity};
+ghost use Rattle.three_state_cells.specs.DrivenCells.{driven_data_of};
+ghost use Rattle.selftest_runs.specs.EntityNames.{IsNameOfEntity, IsNameWherePlain};
 ghost use Rattle.selftest_runs.specs.Counts.{known_in};
 ghost use Rattle.selftest_runs.specs.CellCounts.{changes_by, counts_on, cell_counts};
+ghost use Rattle.selftest_runs.specs.LibraryCounts.{driven_counts};
 
 use crate::counts::{Counts, known_values, one_if};
 use crate::models::{is_damaged_entity_caught, is_damaged_module_caught};
@@ -13,6 +15,7 @@ use cell_machine::{Cell, CellSim, Change, LibertySim};
 use selftest_cells::{cell_changes, changes_are_proper};
 use sqlite_items::Items;
 use std::alloc::{AllocError, Global};
+use three_state_cells::DrivenCell;
 
 /// The changes of the cell with this number, where it has so many inputs: one without inputs is run on none.
 fn drawn_changes(alloc: Global, number: usize, inputs: usize) -> Result<Items<Change>, AllocError>
@@ -61,4 +64,20 @@ pub fn count_cell(alloc: Global, cell: &Cell, entity: &[u8]) -> Result<Counts, A
     let changes = drawn.as_slice();
     let known = known_values(&mut liberty, changes)?;
     counts_on(alloc, cell, entity, changes, known)
+}
+
+/// What is counted of a cell whose VITAL model has this name: nothing where some of its outputs may float. Where none may, the name is
+/// one that an entity of the cell has. An `Err` comes only where memory is wanting or a count comes to 2 to the 64th.
+pub(crate) fn count_driven(
+    alloc: Global,
+    cell: &DrivenCell,
+    entity: &[u8],
+) -> Result<Counts, AllocError>
+    requires { IsNameWherePlain (driven_data_of cell.now) entity.now }
+    ensures { IfOk result (λ counts. counts ≡ driven_counts (driven_data_of cell.now) entity.now) }
+{
+    if cell.driver.drives.len() > 0 {
+        return Ok(Counts::none());
+    }
+    count_cell(alloc, &cell.core, entity)
 }

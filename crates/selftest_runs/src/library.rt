@@ -5,7 +5,7 @@ ghost use Rattle.text_io.specs.declared.slots.InSlot.TheVariants.{Library};
 ghost use Rattle.text_io.specs.Desk.{is_bound, StopsWithCause};
 ghost use Rattle.selftest_runs.specs.LibraryCounts.{all_counts, CountsCells};
 
-use crate::cells::count_cell;
+use crate::cells::count_driven;
 use crate::counts::Counts;
 use crate::laws::next_cells_have_entity_names;
 use liberty_groups::Group;
@@ -13,14 +13,14 @@ use library_items::{CellFold, NextCell, fold_cells};
 use std::alloc::Global;
 use text_io::{Desk, Stop};
 
-/// What is counted of the cells: nothing of one that is refused.
+/// What is counted of the cells: nothing of one that is refused, and nothing of one whose outputs may float.
 impl CellFold for Counts {
     ghost made = { λ counts cells. counts ≡ all_counts cells };
 
     fn take(&mut self, alloc: Global, _group: &Group, next: NextCell) -> Result<(), Stop> {
         next_cells_have_entity_names();
-        if let NextCell::Accepted { read, entity } = next {
-            let more = count_cell(alloc, &read.cell, entity.as_slice())?;
+        if let NextCell::Accepted { cell, entity } = next {
+            let more = count_driven(alloc, &cell, entity.as_slice())?;
             *self = self.plus(more)?;
         }
         Ok(())
@@ -28,7 +28,7 @@ impl CellFold for Counts {
 }
 
 /// Counts the cells of the library that is bound, of which at most as many bytes are read as a library may have. Of cells of one name
-/// the first counts, and how the library ends does not matter. One cell is held at a time, and of the library's text only the
+/// the first counts, nothing is counted of one whose outputs may float, and how the library ends does not matter. One cell is held at a time, and of the library's text only the
 /// statement that has not ended.
 ///
 /// Faults: `Failed` where a read failed, `Memory` where there was none or a count comes to 2 to the 64th.

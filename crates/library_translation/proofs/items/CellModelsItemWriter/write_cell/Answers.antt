@@ -8,8 +8,8 @@ write_accepted-requires g c = models_bound _ c.requires.bound
 
 pub returns-in-Accepted-clause-text : goal.returns-in-Accepted-clause-text
 returns-in-Accepted-clause-text g c =
-    let accepted = accepted_of c.args.progress.now c.args.group.now _ c.in-Accepted.read c.in-Accepted.entity c.in-Accepted.is c.requires.next.is in
-    let same = accepted_written_as c.args.progress.now c.args.group.now c.in-Accepted.read c.in-Accepted.entity accepted in
+    let accepted = accepted_of c.args.progress.now c.args.group.now _ c.in-Accepted.cell c.in-Accepted.entity c.in-Accepted.is c.requires.next.is in
+    let same = accepted_written_as c.args.progress.now c.args.group.now c.in-Accepted.cell c.in-Accepted.entity accepted in
     rw same at (rw c.as_slice.ensures at c.write_accepted.ensures.text)
 
 pub returns-in_err-write_refused_cell-in-Refused-clause-text : goal.returns-in_err-write_refused_cell-in-Refused-clause-text

@@ -2,7 +2,7 @@ use Rattle.text_io.specs.declared.slots.OutSlot.TheVariants.{VitalText}
 use Rattle.text_io.specs.declared.slots.Slot.TheVariants.{Output}
 use Rattle.library_translation.specs.Cells.{models_written}
 use Rattle.command_outcomes.proofs.WrittenLaws.{all_stops, all_goes_on, still_bound_all}
-use Rattle.library_translation.proofs.cells.write_models.Goals as goal
+use Rattle.library_translation.proofs.models.write_models.Goals as goal
 
 pub write_vital-requires : goal.write_vital-requires
 write_vital-requires g c = still_bound_all _ _ _ (Output VitalText) c.in_ok-write_verilog.ensures.text.whole c.requires.vital

@@ -1,0 +1,23 @@
+use Rattle.std.proofs.Common.{◌≡◌, true, false, rules, sym, ◌∙◌}
+use Rattle.three_state_cells.specs.DrivenCells.{driven_data_of}
+use Rattle.command_outcomes.proofs.WrittenLaws.{stopped_before}
+use Rattle.library_translation.proofs.ModelTexts.{no_vital_drivers, vital_drivers_stop, vital_drivers_whole}
+use Rattle.library_translation.proofs.models.write_vital_drivers.Goals as goal
+
+pub returns-then-not-may_float-clause-text : goal.returns-then-not-may_float-clause-text
+returns-then-not-may_float-clause-text g c =
+    let none : c.may_float.result ≡ false = search rules in no_vital_drivers _ c.args.entity.now (driven_data_of c.args.cell.now) (sym c.may_float.ensures ∙ none)
+
+pub returns-in_err-model-clause-text : goal.returns-in_err-model-clause-text
+returns-in_err-model-clause-text g c = stopped_before _ _ _ c.from_residual.ensures.0
+
+pub returns-in_err-write_driver-clause-text : goal.returns-in_err-write_driver-clause-text
+returns-in_err-write_driver-clause-text g c =
+    let some : c.may_float.result ≡ true = search rules in
+    vital_drivers_stop _ _ c.args.entity.now (driven_data_of c.args.cell.now) _ _ (sym c.may_float.ensures ∙ some)
+    (rw c.in_ok-model.ensures.model at c.in_err-write_driver.ensures.text) c.from_residual-in_err-write_driver.ensures.0
+
+pub returns-clause-text : goal.returns-clause-text
+returns-clause-text g c =
+    let some : c.may_float.result ≡ true = search rules in
+    vital_drivers_whole _ _ c.args.entity.now (driven_data_of c.args.cell.now) (sym c.may_float.ensures ∙ some) (rw c.in_ok-model.ensures.model at c.in_ok-write_driver.ensures.text.whole)

@@ -1,5 +1,4 @@
--- No two modules that a Verilog text can have share a name, and no two entities that a VHDL text can have share one, whatever the case
--- of its letters.
+-- No two models of a Verilog file share a name, and no two of a VHDL file share one, whatever the case of its letters.
 use Rattle.std.proofs.Common.{◌≡◌, ℕ, List, [], ◌∷◌, ◌++◌, sym, ap, subst, ◌∙◌, append_assoc, is_some}
 use Rattle.std.specs.List.{IsDistinct, list_any}
 use Rattle.std.specs.Str.{bytes_eq}
@@ -8,17 +7,17 @@ use Rattle.std.proofs.lemmas.Map.Keys.{IsDistinct-push}
 use Rattle.std.proofs.lemmas.Simd.{map-map}
 use Rattle.bool_functions.specs.NameList.{number_of, AreDistinct}
 use Rattle.bool_functions.proofs.NameLists.{IsDistinct-map}
+use Rattle.cell_parts.proofs.Clashes.{found_is}
 use Rattle.specify_blocks.specs.declared.model.VModule.{VModule}
-use Rattle.specify_blocks.specs.WellFormed as modules
 use Rattle.specify_blocks.proofs.ReadNames.{bytes_equivalence}
 use Rattle.vhdl_names.specs.Kept.{lowered}
 use Rattle.vital_models.specs.declared.model.VEntity.{VEntity}
-use Rattle.vhdl_text.specs.WellFormed as entities
-use Rattle.vhdl_text.specs.VhdlText.{entity_names}
-use Rattle.model_files.specs.ModelNames.{AreNew}
-use Rattle.model_languages.proofs.VerilogModels as verilog_models
+use Rattle.vhdl_text.specs.WellFormed.{AreApart}
+use Rattle.file_models.specs.declared.file_model.FileModel.{FileModel}
+use Rattle.model_files.specs.ModelNames.{model_names, AreNew, HaveOwnNames}
+use Rattle.model_languages.specs.Verilog.{verilog}
+use Rattle.model_languages.specs.Vital.{vital}
 use Rattle.simulation_catalog.specs.NamedModels.{module_names, lowered_names}
-use Rattle.cell_parts.proofs.Clashes.{found_is}
 
 -- names that are new, each behind those before it, are distinct
 new_apart : (before names : List (List ℕ)) → AreDistinct before → AreNew before names → AreDistinct (before ++ names)
@@ -32,9 +31,9 @@ no_names : AreDistinct []
 unfolding IsDistinct
 no_names = tt
 
-pub modules_apart : (ms : List VModule) → modules.AreWellFormed ms → AreDistinct (module_names ms)
-modules_apart ms h = new_apart [] (module_names ms) no_names (verilog_models.own_names ms h).names
+pub modules_apart : (modules : List (FileModel VModule)) → HaveOwnNames verilog modules → AreDistinct (module_names modules)
+modules_apart modules own = new_apart [] (module_names modules) no_names own.names
 
-pub entities_apart : (es : List VEntity) → entities.AreWellFormed es → AreDistinct (lowered_names es)
-entities_apart es h =
-    subst AreDistinct (map-map lowered (λ (e : VEntity). e.name) es) (IsDistinct-map lowered bytes_eq (entity_names es) h.apart)
+pub entities_apart : (entities : List (FileModel VEntity)) → AreApart (model_names vital entities) → AreDistinct (lowered_names entities)
+entities_apart entities apart =
+    subst AreDistinct (map-map lowered (λ (f : FileModel VEntity). f.name) entities) (IsDistinct-map lowered bytes_eq (model_names vital entities) apart)

@@ -1,48 +1,52 @@
--- Simulating: names of models in which none stands twice, sound models, and how a run ends whose sections were printed.
+-- Simulating: names of models in which none stands twice, models that can be run, and how a run ends whose sections were printed.
 use Rattle.std.proofs.Common.{◌≡◌, ◌≤◌, ℕ, Bool, true, false, if◌then◌else◌, List, length, Result, Ok, arith}
 use Rattle.std.specs.Prelude.{All}
 use Rattle.bool_functions.specs.NameList.{AreDistinct}
 use Rattle.library_items.specs.LibraryCells.{CellEntry, cell_names}
 use Rattle.specify_blocks.specs.declared.model.VModule.{VModule}
 use Rattle.specify_blocks.specs.Sound as modules_of
-use Rattle.specify_blocks.specs.VerilogText.{verilog_text}
-use Rattle.specify_blocks.specs.WellFormed as verilog_forms
-use Rattle.specify_blocks.proofs.ReadText.{text_modules}
-use Rattle.specify_blocks.proofs.VerilogAnswers.{is_answer}
 use Rattle.vital_models.specs.declared.model.VEntity.{VEntity}
 use Rattle.vital_models.specs.Sound as entities_of
-use Rattle.vhdl_text.specs.VhdlText.{vhdl_text, VhdlTextHasOneAnswer}
-use Rattle.vhdl_text.specs.WellFormed as vital_forms
-use Rattle.vhdl_text.specs.WellFormed.{IsCount}
-use Rattle.vhdl_text.specs.Laws.{TextsAreWellFormed}
+use Rattle.file_models.specs.declared.file_model.FileModel.{FileModel}
+use Rattle.file_models.specs.FileModels.{IsRunnable}
+use Rattle.model_traces.specs.ModuleTrace.{module_machine}
+use Rattle.model_traces.specs.EntityTrace.{entity_machine}
 use Rattle.text_io.specs.declared.stop.Stop.{Stop}
 use Rattle.text_io.specs.Desk.{StopsWithCause}
+use Rattle.vhdl_text.specs.WellFormed.{IsCount}
 use Rattle.model_files.specs.Limits.{model_limit}
+use Rattle.model_files.specs.ModelNames as in_files
+use Rattle.model_languages.specs.Verilog.{verilog}
+use Rattle.model_languages.specs.Vital.{vital, vital_models}
+use Rattle.model_languages.specs.Laws.{EntitiesHaveOwnNames}
 use Rattle.command_outcomes.specs.declared.status.Status.{Status}
 use Rattle.command_outcomes.specs.declared.status.Status.TheVariants as status
 use Rattle.command_outcomes.specs.Runs.{StopsWithStatus}
 use Rattle.command_outcomes.proofs.FailureLaws.{IsPlain, ends_by_call}
 use Rattle.simulation_catalog.specs.Catalog.{HaveOwnNames}
+use Rattle.simulation_catalog.specs.Sections.{RunsByPorts}
 use Rattle.model_simulation.specs.Besides.{compared_status}
 use Rattle.model_simulation.proofs.OwnNames.{modules_apart, entities_apart}
 
-pub modules_sound : (modules : List VModule) → All verilog_forms.IsWellFormedModule modules → All modules_of.IsSound modules
-modules_sound modules h = λ k d below. (h k d below).sound
+pub modules_run : (modules : List (FileModel VModule)) → All (IsRunnable modules_of.IsSound module_machine) modules → in_files.HaveOwnNames verilog modules
+    → All (RunsByPorts modules_of.IsSound module_machine) modules
+modules_run modules runs own = λ k d below. let ports = own.ports k d below in record { runs = runs k d below; inputs = ports.inputs; outputs = ports.outputs }
 
-pub entities_sound : (entities : List VEntity) → All vital_forms.IsWellFormedEntity entities → All entities_of.IsSound entities
-entities_sound entities h = λ k d below. (h k d below).sound
+pub entities_run : (entities : List (FileModel VEntity)) → All (IsRunnable entities_of.IsSound entity_machine) entities → in_files.HaveOwnNames vital entities
+    → All (RunsByPorts entities_of.IsSound entity_machine) entities
+entities_run entities runs own = λ k d below. let ports = own.ports k d below in record { runs = runs k d below; inputs = ports.inputs; outputs = ports.outputs }
 
 -- memory holds a text within its limit
 held : (n : ℕ) → n ≤ model_limit → IsCount n
 held n h = grind (arith, h)
 
--- cells of different names beside the models of two texts
-pub own_names : (cells : List CellEntry) (modules : List VModule) (entities : List VEntity) (text vhdl : List ℕ) → VhdlTextHasOneAnswer → TextsAreWellFormed
-    → AreDistinct (cell_names cells) → verilog_text text ≡ Ok modules → length vhdl ≤ model_limit → vhdl_text vhdl ≡ Ok entities → HaveOwnNames cells modules entities
-own_names cells modules entities text vhdl answer texts own read short found = record {
+-- cells of different names beside the models of two files
+pub own_names : (cells : List CellEntry) (modules : List (FileModel VModule)) (entities : List (FileModel VEntity)) (vhdl : List ℕ) → EntitiesHaveOwnNames
+    → AreDistinct (cell_names cells) → in_files.HaveOwnNames verilog modules → length vhdl ≤ model_limit → vital_models vhdl ≡ Ok entities → HaveOwnNames cells modules entities
+own_names cells modules entities vhdl texts own named short found = record {
   of_cells = own;
-  of_modules = modules_apart modules (text_modules text modules (((is_answer text).modules modules).1 read));
-  of_entities = entities_apart entities (texts vhdl entities (held (length vhdl) short) (((answer vhdl).entities entities).1 found));
+  of_modules = modules_apart modules named;
+  of_entities = entities_apart entities (texts vhdl entities (held (length vhdl) short) found).apart;
 }
 
 -- A run whose sections were printed so counts its faults as its status tells.

@@ -7,6 +7,7 @@ use Rattle.text_io.specs.declared.slots.Slot.TheVariants.{Input}
 use Rattle.text_io.specs.declared.stop.Stop.TheVariants as stops
 use Rattle.text_io.specs.Plan.{plan}
 use Rattle.text_io.specs.Desk.{DeskState, Folder}
+use Rattle.file_models.specs.declared.file_model.FileModel.{FileModel}
 use Rattle.library_items.specs.LibraryCells.{CellEntry, all_described}
 use Rattle.specify_blocks.specs.declared.model.VModule.{VModule}
 use Rattle.vital_models.specs.declared.model.VEntity.{VEntity}
@@ -52,10 +53,10 @@ two_files = (Input Library, 1) ∷ (Input Verilog, 2) ∷ []
 abbrev pub after_cells : List (List ℕ) → List CellEntry → Folder → Outcome
 after_cells words cells folder = behind_cells cells (bytes_at words folder 2) (bytes_at words folder 3) (bytes_at words folder 4)
 
-abbrev pub after_modules : List (List ℕ) → List CellEntry → List VModule → Folder → Outcome
+abbrev pub after_modules : List (List ℕ) → List CellEntry → List (FileModel VModule) → Folder → Outcome
 after_modules words cells modules folder = behind_modules cells modules (bytes_at words folder 3) (bytes_at words folder 4)
 
-abbrev pub after_entities : List (List ℕ) → List CellEntry → List VModule → List VEntity → Folder → Outcome
+abbrev pub after_entities : List (List ℕ) → List CellEntry → List (FileModel VModule) → List (FileModel VEntity) → Folder → Outcome
 after_entities words cells modules entities folder = behind_entities cells modules entities (bytes_at words folder 4)
 
 -- a file of the command is still among those that its words name
@@ -81,20 +82,20 @@ cells_read old now cells t =
     one_more simulate_files [] (simulate_of old.words) library_answer (after_cells old.words) old old now Library 1 1 cells
     (nothing_read simulate_files (simulate_of old.words) old) refl ((Input Verilog, 2) ∷ (Input Vital, 3) ∷ (Input Stimulus, 4) ∷ [], refl) t
 
-pub modules_read : (old now new : DeskState) (cells : List CellEntry) (modules : List VModule) → HasRead simulate_files one_file (simulate_of old.words) (after_cells old.words cells) old now
+pub modules_read : (old now new : DeskState) (cells : List CellEntry) (modules : List (FileModel VModule)) → HasRead simulate_files one_file (simulate_of old.words) (after_cells old.words cells) old now
     → FileIsTaken (model_answer verilog) now new Verilog 2 modules → HasRead simulate_files two_files (simulate_of old.words) (after_modules old.words cells modules) old new
 modules_read old now new cells modules r t =
     one_more simulate_files one_file (simulate_of old.words) (model_answer verilog) (after_modules old.words cells) old now new Verilog 2 2 modules
     r refl ((Input Vital, 3) ∷ (Input Stimulus, 4) ∷ [], refl) t
 
-pub entities_read : (old now new : DeskState) (cells : List CellEntry) (modules : List VModule) (entities : List VEntity)
+pub entities_read : (old now new : DeskState) (cells : List CellEntry) (modules : List (FileModel VModule)) (entities : List (FileModel VEntity))
     → HasRead simulate_files two_files (simulate_of old.words) (after_modules old.words cells modules) old now
     → FileIsTaken (model_answer vital) now new Vital 3 entities → HasRead simulate_files model_files (simulate_of old.words) (behind_models cells modules entities old.words) old new
 entities_read old now new cells modules entities r t =
     one_more simulate_files two_files (simulate_of old.words) (model_answer vital) (after_entities old.words cells modules) old now new Vital 3 3 entities
     r refl ((Input Stimulus, 4) ∷ [], refl) t
 
-pub sections_read : (old now new : DeskState) (cells : List CellEntry) (modules : List VModule) (entities : List VEntity) (sections : List Section)
+pub sections_read : (old now new : DeskState) (cells : List CellEntry) (modules : List (FileModel VModule)) (entities : List (FileModel VEntity)) (sections : List Section)
     → HasRead simulate_files model_files (simulate_of old.words) (behind_models cells modules entities old.words) old now
     → FileIsTaken (stimulus_answer (cause_stop cells) (cells_named cells modules entities)) now new Stimulus 4 sections
     → HasRead simulate_files simulate_files (simulate_of old.words) (λ _. sections_outcome cells modules entities sections) old new
@@ -115,14 +116,14 @@ verilog_ends old now new cells result r f =
     ends_there simulate_files one_file (simulate_of old.words) (model_answer verilog) (after_modules old.words cells) old now new Verilog 2 2 result
     r refl ((Input Vital, 3) ∷ (Input Stimulus, 4) ∷ [], refl) refl refl f
 
-pub vital_ends : (old now new : DeskState) (cells : List CellEntry) (modules : List VModule) (result : Status)
+pub vital_ends : (old now new : DeskState) (cells : List CellEntry) (modules : List (FileModel VModule)) (result : Status)
     → HasRead simulate_files two_files (simulate_of old.words) (after_modules old.words cells modules) old now
     → FileEndsRun (model_answer vital) now new Vital 3 result → RunsAs simulate_files (simulate_of old.words) old new result
 vital_ends old now new cells modules result r f =
     ends_there simulate_files two_files (simulate_of old.words) (model_answer vital) (after_entities old.words cells modules) old now new Vital 3 3 result
     r refl ((Input Stimulus, 4) ∷ [], refl) refl refl f
 
-pub stimulus_ends : (old now new : DeskState) (cells : List CellEntry) (modules : List VModule) (entities : List VEntity) (result : Status)
+pub stimulus_ends : (old now new : DeskState) (cells : List CellEntry) (modules : List (FileModel VModule)) (entities : List (FileModel VEntity)) (result : Status)
     → HasRead simulate_files model_files (simulate_of old.words) (behind_models cells modules entities old.words) old now
     → FileEndsRun (stimulus_answer (cause_stop cells) (cells_named cells modules entities)) now new Stimulus 4 result → RunsAs simulate_files (simulate_of old.words) old new result
 stimulus_ends old now new cells modules entities result r f =
@@ -130,7 +131,7 @@ stimulus_ends old now new cells modules entities result r f =
     r refl ([], refl) refl refl f
 
 -- want of memory behind the models
-pub no_memory : (old now : DeskState) (cells : List CellEntry) (modules : List VModule) (entities : List VEntity) (result : Status)
+pub no_memory : (old now : DeskState) (cells : List CellEntry) (modules : List (FileModel VModule)) (entities : List (FileModel VEntity)) (result : Status)
     → HasRead simulate_files model_files (simulate_of old.words) (behind_models cells modules entities old.words) old now → result ≡ status.Memory
     → RunsAs simulate_files (simulate_of old.words) old now result
 no_memory old now cells modules entities result r is =
@@ -165,7 +166,7 @@ simulation_read old now new read simulated sections bytes can r is taken text =
 
 -- The sections are printed.
 
-pub printed_runs : (old now new : DeskState) (cells : List CellEntry) (modules : List VModule) (entities : List VEntity) (sections : List Section) (printed : Result Bool Stop) (result : Status)
+pub printed_runs : (old now new : DeskState) (cells : List CellEntry) (modules : List (FileModel VModule)) (entities : List (FileModel VEntity)) (sections : List Section) (printed : Result Bool Stop) (result : Status)
     → HasRead simulate_files simulate_files (simulate_of old.words) (λ _. sections_outcome cells modules entities sections) old now
     → WritesTrace now new (sections_text cells modules entities sections) printed
     → IfOk printed (λ differ. differ ≡ any_differs cells modules entities sections)

@@ -1,5 +1,6 @@
 -- What can be simulated is simulated whole.
 use Rattle.std.proofs.Common.{◌≡◌, ℕ, List, Ok, ap, ◌∙◌}
+use Rattle.file_models.specs.declared.file_model.FileModel.{FileModel}
 use Rattle.library_items.specs.LibraryCells.{CellEntry}
 use Rattle.specify_blocks.specs.declared.model.VModule.{VModule}
 use Rattle.vital_models.specs.declared.model.VEntity.{VEntity}
@@ -16,7 +17,7 @@ use Rattle.model_files.specs.ModelAnswer.{model_answer}
 use Rattle.model_simulation.specs.Simulate.{simulate_outcome, behind_cells, behind_modules, behind_entities}
 
 -- four files that are read
-pub simulated_whole : (library text vhdl stimulus : List ℕ) (cells : List CellEntry) (modules : List VModule) (entities : List VEntity) (sections : List Section)
+pub simulated_whole : (library text vhdl stimulus : List ℕ) (cells : List CellEntry) (modules : List (FileModel VModule)) (entities : List (FileModel VEntity)) (sections : List Section)
     → library_answer library ≡ Ok cells → model_answer verilog text ≡ Ok modules → model_answer vital vhdl ≡ Ok entities
     → stimulus_answer (cause_stop cells) (cells_named cells modules entities) stimulus ≡ Ok sections
     → simulate_outcome library text vhdl stimulus ≡ sections_outcome cells modules entities sections

@@ -1,7 +1,9 @@
 -- A cell beside the models that stand for it, and how a simulation that was printed ends.
 use Rattle.std.specs.Prelude.{◌≡◌, ℕ, Bool, List, [], length, Some, Result, if◌then◌else◌}
-use Rattle.cell_machine.specs.CellData.{data_of}
-use Rattle.cell_machine.specs.CellTrace.{cell_machine_of}
+use Rattle.three_state_cells.specs.declared.driven_cell.DrivenCell.{DrivenCell}
+use Rattle.three_state_cells.specs.DrivenCells.{driven_data_of}
+use Rattle.file_models.specs.declared.file_model.FileModel.{FileModel}
+use Rattle.file_models.specs.FileModels.{machine_by, IsRunnable}
 use Rattle.cell_machine.specs.History.{IsProperFrom}
 use Rattle.library_items.specs.LibraryCells.{CellEntry}
 use Rattle.specify_blocks.specs.declared.model.VModule.{VModule}
@@ -12,37 +14,41 @@ use Rattle.model_traces.specs.ModuleTrace.{module_machine}
 use Rattle.model_traces.specs.EntityTrace.{entity_machine}
 use Rattle.stimulus.specs.declared.ports.Ports.{Ports}
 use Rattle.stimulus.specs.declared.sections.Section.{Section}
-use Rattle.stimulus.specs.DriveLines.{DriveMachine, drive_machine}
+use Rattle.stimulus.specs.DriveLines.{DriveMachine}
 use Rattle.text_io.specs.declared.stop.Stop.{Stop}
 use Rattle.section_runs.specs.Comparison.{HavePorts}
 use Rattle.command_outcomes.specs.declared.status.Status.{Status}
 use Rattle.command_outcomes.specs.declared.status.Status.TheVariants as status
 use Rattle.command_outcomes.specs.Status.{status_by}
-use Rattle.simulation_catalog.specs.Comparisons.{Compared, compared_at}
+use Rattle.simulation_catalog.specs.Comparisons.{Compared, cell_machine, compared_at}
 use Rattle.model_simulation.specs.declared.comparisons.Beside.{Beside}
 
 -- what a section is run on, with these machines
 abbrev pub compared_with : List ℕ → Ports → DriveMachine → DriveMachine → DriveMachine → Compared
 compared_with name ports liberty verilog vital = record { name = name; ports = ports; liberty = liberty; verilog = verilog; vital = vital }
 
+-- what runs of a cell that was read
+abbrev pub machine_in : DrivenCell → DriveMachine
+machine_in cell = cell_machine (driven_data_of cell)
+
 -- what a section of the cell is run on
 abbrev pub compared_of : Beside → Compared
 compared_of beside =
-    compared_with beside.cell.now.name beside.ports.now (drive_machine (cell_machine_of (data_of beside.cell.now)))
-    (drive_machine (module_machine beside.module.now)) (drive_machine (entity_machine beside.entity.now))
+    compared_with beside.cell.now.name beside.ports.now (machine_in beside.cell.now) (machine_by module_machine beside.module.now)
+    (machine_by entity_machine beside.entity.now)
 
--- Changes can be given to all three: both models are sound, all have as many inputs and outputs as there are names, and the changes are
+-- Changes can be given to all three: both models can be run, all have as many inputs and outputs as there are names, and the changes are
 -- of these inputs, at times that rise strictly.
 pub record CanBeGiven (beside : Beside) (section : Section) : Type 0 where
-  pub sound_module : modules_of.IsSound beside.module.now
-  pub sound_entity : entities_of.IsSound beside.entity.now
+  pub runs_module : IsRunnable modules_of.IsSound module_machine beside.module.now
+  pub runs_entity : IsRunnable entities_of.IsSound entity_machine beside.entity.now
   pub have_ports :
-      HavePorts beside.ports.now (drive_machine (cell_machine_of (data_of beside.cell.now))) (drive_machine (module_machine beside.module.now))
-      (drive_machine (entity_machine beside.entity.now))
+      HavePorts beside.ports.now (machine_in beside.cell.now) (machine_by module_machine beside.module.now)
+      (machine_by entity_machine beside.entity.now)
   pub proper : IsProperFrom (length beside.ports.now.inputs) [] section.changes
 
 -- this is what the section is run on
-abbrev pub IsRunOn : List CellEntry → List VModule → List VEntity → Section → Beside → Type 0
+abbrev pub IsRunOn : List CellEntry → List (FileModel VModule) → List (FileModel VEntity) → Section → Beside → Type 0
 IsRunOn cells modules entities section beside = compared_at cells modules entities section.cell ≡ Some (compared_of beside)
 
 -- the status of a run whose sections were printed so, and of which some differ or none

@@ -7,6 +7,7 @@ use Rattle.text_io.specs.Desk.{Folder}
 use Rattle.library_items.specs.LibraryCells.{CellEntry}
 use Rattle.specify_blocks.specs.declared.model.VModule.{VModule}
 use Rattle.vital_models.specs.declared.model.VEntity.{VEntity}
+use Rattle.file_models.specs.declared.file_model.FileModel.{FileModel}
 use Rattle.command_outcomes.specs.Binding.{Files, bytes_at}
 use Rattle.command_outcomes.specs.Outcome.{Outcome}
 use Rattle.command_outcomes.specs.FileSteps.{outcome_by}
@@ -28,12 +29,12 @@ abbrev pub model_files : Files
 model_files = (Input Library, 1) ∷ (Input Verilog, 2) ∷ (Input Vital, 3) ∷ []
 
 -- behind the entities, by the stimulus
-abbrev pub behind_entities : List CellEntry → List VModule → List VEntity → List ℕ → Outcome
+abbrev pub behind_entities : List CellEntry → List (FileModel VModule) → List (FileModel VEntity) → List ℕ → Outcome
 behind_entities cells modules entities stimulus =
     outcome_by 4 (stimulus_answer (cause_stop cells) (cells_named cells modules entities) stimulus) (λ sections. sections_outcome cells modules entities sections)
 
 -- behind the modules, by the VHDL file
-abbrev pub behind_modules : List CellEntry → List VModule → List ℕ → List ℕ → Outcome
+abbrev pub behind_modules : List CellEntry → List (FileModel VModule) → List ℕ → List ℕ → Outcome
 behind_modules cells modules vhdl stimulus = outcome_by 3 (model_answer vital vhdl) (λ entities. behind_entities cells modules entities stimulus)
 
 -- behind the cells, by the Verilog file
@@ -51,5 +52,5 @@ simulate_of words folder =
     simulate_outcome (bytes_at words folder 1) (bytes_at words folder 2) (bytes_at words folder 3) (bytes_at words folder 4)
 
 -- what they come to behind the cells, the modules and the entities
-abbrev pub behind_models : List CellEntry → List VModule → List VEntity → List (List ℕ) → Folder → Outcome
+abbrev pub behind_models : List CellEntry → List (FileModel VModule) → List (FileModel VEntity) → List (List ℕ) → Folder → Outcome
 behind_models cells modules entities words folder = behind_entities cells modules entities (bytes_at words folder 4)

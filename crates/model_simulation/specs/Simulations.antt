@@ -4,21 +4,23 @@ use Rattle.text_io.specs.Desk.{DeskState}
 use Rattle.library_items.specs.LibraryCells.{all_described}
 use Rattle.specify_blocks.specs.Sound as modules_of
 use Rattle.vital_models.specs.Sound as entities_of
+use Rattle.model_traces.specs.ModuleTrace.{module_machine}
+use Rattle.model_traces.specs.EntityTrace.{entity_machine}
 use Rattle.command_outcomes.specs.FilesRead.{HasRead}
 use Rattle.simulation_catalog.specs.Catalog.{simulated_of, HaveOwnNames}
 use Rattle.simulation_catalog.specs.Ends.{sections_outcome}
-use Rattle.simulation_catalog.specs.Sections.{CanBeCompared}
+use Rattle.simulation_catalog.specs.Sections.{RunsByPorts, CanBeCompared}
 use Rattle.model_simulation.specs.declared.simulation.ModelsRead.{ModelsRead}
 use Rattle.model_simulation.specs.declared.simulation.Simulation.{Simulation}
 use Rattle.model_simulation.specs.Simulate.{simulate_files, model_files, simulate_of, behind_models}
 
--- The library and the two files of models were read: the models are sound, and no two cells, modules or entities share a name. Nothing
+-- The library and the two files of models were read: the models can be run, and no two cells or models share a name. Nothing
 -- was appended, and where the desk tells the files the run comes to what the stimulus comes to behind these.
 pub record ReadsModels (old new : DeskState) (read : ModelsRead) : Type 0 where
   pub files : HasRead simulate_files model_files (simulate_of old.words) (behind_models (all_described read.cells) read.modules read.entities old.words) old new
   pub own : HaveOwnNames (all_described read.cells) read.modules read.entities
-  pub modules : All modules_of.IsSound read.modules
-  pub entities : All entities_of.IsSound read.entities
+  pub modules : All (RunsByPorts modules_of.IsSound module_machine) read.modules
+  pub entities : All (RunsByPorts entities_of.IsSound entity_machine) read.entities
 
 -- All sections of a simulation can be run, each on its cell and on the models that stand for this cell.
 pub record CanBePrinted (simulation : Simulation) : Type 0 where

@@ -8,32 +8,35 @@ ghost use Rattle.text_io.specs.Desk.{StopsWithCause};
 ghost use Rattle.simulation_catalog.specs.Catalog.{simulated_of};
 ghost use Rattle.simulation_catalog.specs.Comparisons.{lines_of, compared_section, section_text, sections_text, differs, any_differs};
 ghost use Rattle.simulation_catalog.specs.Sections.{CanBeCompared};
-ghost use Rattle.model_simulation.specs.Besides.{compared_with, compared_of, CanBeGiven, IsRunOn};
+ghost use Rattle.model_simulation.specs.Besides.{machine_in, compared_with, compared_of, CanBeGiven, IsRunOn};
 ghost use Rattle.model_simulation.specs.Simulations.{CanBePrinted};
 
 use crate::simulation::Simulation;
-use cell_machine::{Cell, Change, LibertySim};
+use cell_machine::{Change, LibertySim};
+use driven_traces::DrivenSim;
+use file_models::FileModel;
 use library_items::LibraryCell;
+use model_languages::{start_entity, start_module};
 use section_runs::{Three, write_comparison, write_heading, write_verdict};
 use simulation_catalog::described_are_cells;
 use specify_blocks::VModule;
 use std::alloc::{AllocError, Global};
 use stimulus::{Ports, Section, TraceSim};
-use table_interpreters::{VerilogSim, VitalSim};
 use text_io::{Desk, Stop};
+use three_state_cells::DrivenCell;
 use vital_models::VEntity;
 
 /// A cell, the names of its ports, and the models that stand for it.
 #[derive(Clone, Copy)]
 struct Beside<'a> {
     /// The cell.
-    cell: &'a Cell,
+    cell: &'a DrivenCell,
     /// The names of its inputs and outputs.
     ports: &'a Ports,
-    /// Its module.
-    module: &'a VModule,
-    /// Its entity.
-    entity: &'a VEntity,
+    /// Its Verilog model.
+    module: &'a FileModel<VModule>,
+    /// Its VITAL model.
+    entity: &'a FileModel<VEntity>,
 }
 
 /// The cell that a section names, with the models that stand for it.
@@ -58,6 +61,17 @@ fn stands_beside<'a>(simulation: &'a Simulation, section: &Section) -> Beside<'a
     }
 }
 
+/// A cell before any change: its core behind its drivers. An `Err` comes only where memory is wanting.
+fn start_cell<'a>(
+    alloc: Global,
+    cell: &'a DrivenCell,
+) -> Result<DrivenSim<'a, LibertySim<'a>>, AllocError>
+    ensures machine { IfOk result (λ sim. ⟦<DrivenSim<'a, LibertySim<'a>> as TraceSim>⟧.machine sim ≡ machine_in cell.now) }
+    ensures stands { IfOk result (λ sim. ⟦<DrivenSim<'a, LibertySim<'a>> as TraceSim>⟧.stands sim []) }
+{
+    DrivenSim::over(alloc, LibertySim::start(alloc, &cell.core)?, &cell.driver)
+}
+
 /// Three simulators, where each was started.
 fn all_started<L: Drop, V: Drop, H: Drop>(
     liberty: Result<L, AllocError>,
@@ -73,8 +87,9 @@ fn all_started<L: Drop, V: Drop, H: Drop>(
     })
 }
 
-/// Appends to the report the section of three simulators that stand at their starts: this name, the lines of the three traces on the
-/// changes, and whether these are equal. It answers whether two of them differ. After a fault a prefix of the section was appended.
+/// Appends to the report the section of three simulators that stand at their starts: this name, the lines of the three traces on
+/// the changes, and whether these are equal. It answers whether two of them differ. After a fault a prefix of the section was
+/// appended.
 fn write_started<D: Desk, L: TraceSim + Drop, V: TraceSim + Drop, H: TraceSim + Drop>(
     alloc: Global,
     desk: &mut D,
@@ -98,8 +113,8 @@ fn write_started<D: Desk, L: TraceSim + Drop, V: TraceSim + Drop, H: TraceSim + 
     Ok(first.is_some())
 }
 
-/// Appends to the report the section of a cell: its name, the lines of the three traces on the section's changes, and whether these
-/// are equal. It answers whether two of them differ. After a fault a prefix of the section was appended.
+/// Appends to the report the section of a cell: its name, the lines of the three traces on the section's changes, and whether
+/// these are equal. It answers whether two of them differ. After a fault a prefix of the section was appended.
 fn write_compared<D: Desk>(
     alloc: Global,
     desk: &mut D,
@@ -113,17 +128,17 @@ fn write_compared<D: Desk>(
 {
     let name = beside.cell.name.as_slice();
     let changes = section.changes.as_slice();
-    let liberty = LibertySim::start(alloc, beside.cell);
-    let verilog = VerilogSim::start(alloc, beside.module);
-    let vital = VitalSim::start(alloc, beside.entity);
+    let liberty = start_cell(alloc, beside.cell);
+    let verilog = start_module(alloc, beside.module);
+    let vital = start_entity(alloc, beside.entity);
     match all_started(liberty, verilog, vital) {
         Ok(three) => write_started(alloc, desk, name, beside.ports, three, changes),
         Err(_) => Err(Stop::Memory),
     }
 }
 
-/// Appends a section of a simulation to the report, and answers whether two of its three traces differ. After a fault a prefix of the
-/// section was appended.
+/// Appends a section of a simulation to the report, and answers whether two of its three traces differ. After a fault a prefix of
+/// the section was appended.
 fn write_compared_section<D: Desk>(
     alloc: Global,
     desk: &mut D,
@@ -140,8 +155,8 @@ fn write_compared_section<D: Desk>(
     write_compared(alloc, desk, &beside, section)
 }
 
-/// Appends the sections of a simulation to the report, in order, and answers whether two of the three traces of some section differ.
-/// After a fault a prefix of the sections was appended. `Failed` comes only where a write failed.
+/// Appends the sections of a simulation to the report, in order, and answers whether two of the three traces of some section
+/// differ. After a fault a prefix of the sections was appended. `Failed` comes only where a write failed.
 pub(crate) fn write_compared_sections<D: Desk>(
     alloc: Global,
     desk: &mut D,

@@ -1,5 +1,5 @@
-//! Simulating the cells of a library beside their models: the files of the library, of both kinds of models and of the stimulus are
-//! read, and the traces of each section are printed and compared.
+//! Simulating the cells of a library beside their models: the files of the library, of both kinds of models and of the stimulus
+//! are read, and the traces of each section are printed and compared.
 #![tactic(auto)]
 
 mod comparisons;

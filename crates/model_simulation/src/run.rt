@@ -11,8 +11,9 @@ use command_outcomes::Status;
 use std::alloc::Global;
 use text_io::{Desk, Stop};
 
-/// Prints the traces of the cells of a library, of their modules and of their entities, section by section of a stimulus, all of the
-/// files that the words name, and whether the three of each section are equal. Nothing is printed before all four files are read.
+/// Prints the traces of the cells of a library, of their Verilog and of their VITAL models, section by section of a stimulus, all
+/// of the files that the words name, and whether the three of each section are equal. Nothing is printed before all four files
+/// are read.
 ///
 /// It ends with the status of the outcome, and all that the outcome appends was appended, or with `Outside`, only where a call
 /// on the desk failed in this call, or with `Memory`, where there was none.

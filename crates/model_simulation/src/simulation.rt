@@ -8,17 +8,17 @@ ghost use Rattle.model_simulation.specs.Simulate.{simulate_files, simulate_of};
 ghost use Rattle.model_simulation.specs.Simulations.{ReadsModels, ReadsSimulation};
 
 use command_outcomes::Status;
+use file_models::FileModel;
 use library_file::read_library;
 use library_items::LibraryCell;
 use model_files::{read_model_file, read_stimulus_file};
-use model_languages::{Verilog, Vital};
+use model_languages::{Verilog, Vital, entities_have_own_names};
 use simulation_catalog::{Simulated, SimulationStop, sections_can_be_compared, simulation_catalog};
 use specify_blocks::VModule;
 use sqlite_items::Items;
 use std::alloc::Global;
 use stimulus::Section;
 use text_io::Desk;
-use vhdl_text::{texts_are_well_formed, vhdl_text_has_one_answer};
 use vital_models::VEntity;
 
 /// The cells of a library, and the models of a Verilog and of a VHDL file.
@@ -26,10 +26,10 @@ use vital_models::VEntity;
 pub(crate) struct ModelsRead {
     /// The cells, in the order of the library.
     pub cells: Items<LibraryCell>,
-    /// The modules, in the order of their file.
-    pub modules: Items<VModule>,
-    /// The entities, in the order of their file.
-    pub entities: Items<VEntity>,
+    /// The Verilog models, in the order of their file.
+    pub modules: Items<FileModel<VModule>>,
+    /// The VITAL models, in the order of their file.
+    pub entities: Items<FileModel<VEntity>>,
 }
 
 /// The four files of a simulation.
@@ -43,8 +43,8 @@ pub(crate) struct Simulation {
     pub sections: Items<Section>,
 }
 
-/// Binds and reads the library, the Verilog file and the VHDL file that the words name, in this order. None is bound behind one that
-/// ends the run.
+/// Binds and reads the library, the Verilog file and the VHDL file that the words name, in this order. None is bound behind one
+/// that ends the run.
 fn read_cells_and_models<D: Desk>(alloc: Global, desk: &mut D) -> Result<ModelsRead, Status>
     requires { plan (D.state desk.old).words ≡ simulate_files }
     ensures read { IfOk result (ReadsModels (D.state desk.old) (D.state desk.new)) }
@@ -52,8 +52,7 @@ fn read_cells_and_models<D: Desk>(alloc: Global, desk: &mut D) -> Result<ModelsR
     ensures kept { OnOk result (D.faults desk.new ≡ D.faults desk.old) }
     ensures cause { IfErr result (StopsWithStatus (D.faults desk.old) (D.faults desk.new)) }
 {
-    vhdl_text_has_one_answer();
-    texts_are_well_formed();
+    entities_have_own_names();
     let cells = read_library(alloc, desk, 1)?;
     let modules = read_model_file::<D, Verilog>(alloc, desk, 2)?;
     let entities = read_model_file::<D, Vital>(alloc, desk, 3)?;
@@ -81,11 +80,12 @@ fn catalog_of(alloc: Global, read: &ModelsRead) -> Result<Simulated, Status>
     }
 }
 
-/// Binds and reads the four files that the words name, in their order: the library, the Verilog file, the VHDL file and the stimulus.
+/// Binds and reads the four files that the words name, in their order: the library, the Verilog file, the VHDL file and the
+/// stimulus.
 ///
 /// None is bound behind one that ends the run, and nothing is appended but the line that tells of this one. The run ends with
-/// `Outside` only where a call failed in this call, and with `Memory` where there was none; with every other status it is over, and
-/// all that it comes to is there.
+/// `Outside` only where a call failed in this call, and with `Memory` where there was none; with every other status it is over,
+/// and all that it comes to is there.
 pub(crate) fn read_simulation<D: Desk>(alloc: Global, desk: &mut D) -> Result<Simulation, Status>
     requires { plan (D.state desk.old).words ≡ simulate_files }
     ensures read { IfOk result (ReadsSimulation (D.state desk.old) (D.state desk.new)) }

@@ -1,6 +1,7 @@
 -- The cells of a catalog, added one after another.
 use Rattle.std.proofs.Common.{◌≡◌, ◌<◌, ℕ, ◌+◌, true, is_some, List, [], ◌∷◌, ◌++◌, map, take, get_or, length, Option, Some, None, Result, Ok, Err, IfOk, refl, sym, ap, ◌∙◌}
 use Rattle.bool_functions.specs.NameList.{number_of, AreDistinct}
+use Rattle.file_models.specs.declared.file_model.FileModel.{FileModel}
 use Rattle.library_items.specs.LibraryCells.{CellEntry, name_of, cell_names}
 use Rattle.specify_blocks.specs.declared.model.VModule.{VModule}
 use Rattle.vital_models.specs.declared.model.VEntity.{VEntity}
@@ -35,12 +36,12 @@ listed_more models old new before after cells i cell ports numbers (Some number)
     }
 
 -- the look-ups are by the names of the models
-pub named_as : (modules : List VModule) (entities : List VEntity) (some others : List (List ℕ)) → some ≡ module_names modules → others ≡ lowered_names entities
+pub named_as : (modules : List (FileModel VModule)) (entities : List (FileModel VEntity)) (some others : List (List ℕ)) → some ≡ module_names modules → others ≡ lowered_names entities
     → record { modules = modules; module_names = some; entities = entities; entity_names = others } ≡ named_models modules entities
 named_as modules entities some others e f = λ i. record { modules = modules; module_names = e i; entities = entities; entity_names = f i }
 
 -- the whole catalog
-pub whole_catalog : {E : Type 0} (result : Result Simulated E) (cells : List CellEntry) (modules : List VModule) (entities : List VEntity) (some others : List (List ℕ))
+pub whole_catalog : {E : Type 0} (result : Result Simulated E) (cells : List CellEntry) (modules : List (FileModel VModule)) (entities : List (FileModel VEntity)) (some others : List (List ℕ))
     → (AreDistinct (module_names modules) → some ≡ module_names modules) → (AreDistinct (lowered_names entities) → others ≡ lowered_names entities)
     → IfOk result (λ simulated. AreDistinct (cell_names cells) → simulated ≡ simulated_in (record { modules = modules; module_names = some; entities = entities; entity_names = others }) cells)
     → IfOk result (λ simulated. HaveOwnNames cells modules entities → simulated ≡ simulated_of cells modules entities)

@@ -3,7 +3,8 @@ use Rattle.std.proofs.Common.{◌≡◌, ◌<◌, ℕ, zero, suc, List, [], ◌�
 use Rattle.std.specs.Prelude.{slice_get}
 use Rattle.std.proofs.lemmas.List.{length-map, get_or-map}
 use Rattle.std.proofs.lemmas.List.Elements.{All-cons, All-nil}
-use Rattle.cell_machine.specs.CellData.{data_of}
+use Rattle.three_state_cells.specs.DrivenCells.{driven_data_of}
+use Rattle.generated_drivers.proofs.Fitting.{driver_of_cell}
 use Rattle.library_items.specs.declared.library_cell.LibraryCell.{LibraryCell}
 use Rattle.library_items.specs.declared.library_cell.LibraryCell.TheVariants as kept
 use Rattle.library_items.specs.LibraryCells.{Accepted, Refused, described, all_described}
@@ -21,14 +22,16 @@ described_are_cells cells number content entity e = let (one, (there, is)) = ima
   where
     by : (one : LibraryCell) → slice_get cells number ≡ Some one → described one ≡ Accepted content entity → HasData cells number content entity
     by (kept.Accepted cell name) there is =
-        let same : data_of cell ≡ content = cc in
+        let same : driven_data_of cell ≡ content = cc in
         let named : name ≡ entity = cc in
         (cell, there ∙ ap (λ n. Some (kept.Accepted cell n)) named, same)
     by (kept.Refused name refusal) there is = absurd cc
 
 pub described_keep_rules : DescribedKeepRules
 described_keep_rules [] = All-nil KeepsRules
-described_keep_rules (kept.Accepted cell entity ∷ cells) = All-cons KeepsRules (Accepted (data_of cell) entity) (all_described cells) cell.sound (described_keep_rules cells)
+described_keep_rules (kept.Accepted cell entity ∷ cells) =
+    All-cons KeepsRules (Accepted (driven_data_of cell) entity) (all_described cells) (record { core = cell.core.sound; driver = driver_of_cell cell })
+    (described_keep_rules cells)
 described_keep_rules (kept.Refused name refusal ∷ cells) = All-cons KeepsRules (Refused name refusal) (all_described cells) tt (described_keep_rules cells)
 
 -- a cell of a list, as one that the list is described to have

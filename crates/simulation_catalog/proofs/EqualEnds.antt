@@ -3,6 +3,7 @@ use Rattle.std.proofs.Common.{◌≡◌, ℕ, zero, suc, Bool, true, false, if�
 use Rattle.std.specs.Prelude.{◌≢◌, slice_get, All}
 use Rattle.std.specs.Option.{option_map}
 use Rattle.std.proofs.lemmas.List.{length-map}
+use Rattle.file_models.specs.declared.file_model.FileModel.{FileModel}
 use Rattle.library_items.specs.LibraryCells.{CellEntry, Accepted, Refused, name_of, cell_names}
 use Rattle.specify_blocks.specs.declared.model.VModule.{VModule}
 use Rattle.vital_models.specs.declared.model.VEntity.{VEntity}
@@ -110,7 +111,7 @@ bad_line_stops cause.Value = (λ e. absurd cc, λ e. absurd cc)
 bad_line_stops cause.Time = (λ e. absurd cc, λ e. absurd cc)
 
 -- a run that is stopped, neither for want of a model nor by traces that differ
-stopped_fine : (cells : List CellEntry) (modules : List VModule) (entities : List VEntity) (stop : FileStop) → (stop.status ≡ status.Model → ⊥) → (stop.status ≡ status.Differ → ⊥)
+stopped_fine : (cells : List CellEntry) (modules : List (FileModel VModule)) (entities : List (FileModel VEntity)) (stop : FileStop) → (stop.status ≡ status.Model → ⊥) → (stop.status ≡ status.Differ → ⊥)
     → EndsEqual cells modules entities (Err stop)
 stopped_fine cells modules entities stop f g = record { not_model = f; not_differ = g; no_difference = tt; done = tt; sections = tt }
 

@@ -2,43 +2,30 @@
 use Rattle.std.proofs.Common.{◌≡◌, ℕ, false, is_some, List, [], ◌++◌, Some, None, ap, subst, ◌∙◌}
 use Rattle.std.specs.Prelude.{Ok, slice_get, slice_index_or, All}
 use Rattle.std.proofs.lemmas.List.Folds.{list_any_none}
-use Rattle.cell_machine.specs.declared.changes.Change.{Change}
-use Rattle.cell_machine.specs.CellData.{CellData}
-use Rattle.cell_machine.specs.CellTrace.{inputs_of, cell_line}
+use Rattle.file_models.specs.declared.file_model.FileModel.{FileModel}
+use Rattle.file_models.specs.FileModels.{machine_by}
 use Rattle.cell_machine.specs.History.{IsProperFrom}
-use Rattle.cell_machine.specs.Lines.{Line, trace}
 use Rattle.library_items.specs.LibraryCells.{CellEntry, Accepted}
 use Rattle.specify_blocks.specs.declared.model.VModule.{VModule}
-use Rattle.specify_blocks.specs.Generated.{module_of}
 use Rattle.vital_models.specs.declared.model.VEntity.{VEntity}
-use Rattle.vital_models.specs.Generated.{entity_of}
-use Rattle.model_traces.specs.ModuleTrace.{module_line}
-use Rattle.model_traces.specs.EntityTrace.{entity_line}
-use Rattle.model_traces.proofs.ModelAgreement.{models-agree}
+use Rattle.model_traces.specs.ModuleTrace.{module_machine}
+use Rattle.model_traces.specs.EntityTrace.{entity_machine}
 use Rattle.stimulus.specs.declared.sections.Section.{Section}
-use Rattle.stimulus.specs.DriveLines.{drive_line}
 use Rattle.stimulus.specs.PortEntries.{listed}
 use Rattle.stimulus.specs.Stimulus.{stimulus_of}
-use Rattle.stimulus.proofs.DriveTraces.{same_lines}
 use Rattle.section_runs.specs.TraceText.{heading_text}
 use Rattle.section_runs.specs.Comparison.{compared_text, first_unlike, verdict_text}
 use Rattle.section_runs.proofs.ThreeTraces.{none_unlike}
 use Rattle.simulation_catalog.specs.NamedModels.{named_models}
-use Rattle.simulation_catalog.specs.Comparisons.{Compared, lines_of, compared_at, compared_section, section_by, differs_by, differs}
+use Rattle.simulation_catalog.specs.Comparisons.{Compared, cell_machine, lines_of, compared_at, compared_section, section_by, differs_by, differs}
 use Rattle.simulation_catalog.specs.Sections.{CanBeCompared}
 use Rattle.simulation_catalog.specs.Catalog.{cells_named}
-use Rattle.simulation_catalog.specs.Generated.{modules_of, entities_of, KeepsRules, HaveOwnModels, SaysEqual, NoSectionDiffers}
+use Rattle.simulation_catalog.specs.Generated.{modules_of, entities_of, own_verilog, own_vital, KeepsRules, HaveOwnModels, SaysEqual, NoSectionDiffers}
 use Rattle.simulation_catalog.proofs.ReadyCells.{all_at, compared_as, sections_of_cells}
-use Rattle.simulation_catalog.proofs.GeneratedModels.{accepted_are_ready, modules_are_sound, entities_are_sound}
-
-equal_traces : (d : CellData) (verilog vital : List Change → Line) (cs : List Change)
-    → trace verilog cs ≡ trace (cell_line d) cs → trace vital cs ≡ trace (cell_line d) cs
-    → first_unlike cs (λ g. record { liberty = drive_line (cell_line d g); verilog = drive_line (verilog g); vital = drive_line (vital g) }) ≡ None
-equal_traces d verilog vital cs e f =
-    none_unlike (λ h. drive_line (cell_line d h)) (λ h. drive_line (verilog h)) (λ h. drive_line (vital h)) cs (same_lines verilog (cell_line d) cs e) (same_lines vital (cell_line d) cs f)
+use Rattle.simulation_catalog.proofs.GeneratedModels.{accepted_are_ready, own_models_show_the_same, modules_run, entities_run}
 
 -- a section whose traces are equal says so
-says_equal : (cells : List CellEntry) (modules : List VModule) (entities : List VEntity) (section : Section) (c : Compared)
+says_equal : (cells : List CellEntry) (modules : List (FileModel VModule)) (entities : List (FileModel VEntity)) (section : Section) (c : Compared)
     → compared_at cells modules entities section.cell ≡ Some c → first_unlike section.changes (lines_of c) ≡ None → SaysEqual cells modules entities section
 unfolding compared_section
 says_equal cells modules entities section c is equal = record {
@@ -55,22 +42,23 @@ section_equal cells section keep own r =
     let d = r.cell in
     let models = named_models (modules_of cells) (entities_of cells) in
     let h = accepted_are_ready cells section.cell d r.entity_name own r.is_accepted in
-    let proper : IsProperFrom (inputs_of d) [] section.changes =
+    let proper : IsProperFrom (cell_machine d).inputs [] section.changes =
     subst (λ n. IsProperFrom n [] section.changes) r.have_ports.liberty_inputs r.proper in
-    let same_fact = (models-agree d r.entity_name (all_at KeepsRules cells section.cell (Accepted d r.entity_name) keep r.is_accepted)).traces section.changes proper in
-    let is = compared_as models d r.entity_name h.numbers (module_of d) (entity_of d r.entity_name) (slice_get cells section.cell) r.is_accepted h.are h.own_module h.own_entity in
+    let keeps = all_at KeepsRules cells section.cell (Accepted d r.entity_name) keep r.is_accepted in
+    let same = own_models_show_the_same d r.entity_name section.changes keeps proper in
+    let is = compared_as models d r.entity_name h.numbers (own_verilog d r.entity_name) (own_vital d r.entity_name) (slice_get cells section.cell) r.is_accepted h.are h.own_module h.own_entity in
     says_equal cells (modules_of cells) (entities_of cells) section _ is
-    (equal_traces d (module_line (module_of d)) (entity_line (entity_of d r.entity_name)) section.changes same_fact.0 same_fact.1)
+    (none_unlike (cell_machine d).line (machine_by module_machine (own_verilog d r.entity_name)).line (machine_by entity_machine (own_vital d r.entity_name)).line section.changes same.verilog same.vital)
 
 -- all sections say so
 pub sections_equal : (cells : List CellEntry) (bytes : List ℕ) (sections : List Section) → All KeepsRules cells → HaveOwnModels cells
     → stimulus_of (listed (cells_named cells (modules_of cells) (entities_of cells))) bytes ≡ Ok sections
     → All (SaysEqual cells (modules_of cells) (entities_of cells)) sections
 sections_equal cells bytes sections keep own e =
-    let all = sections_of_cells cells (modules_of cells) (entities_of cells) bytes sections keep (modules_are_sound cells keep) (entities_are_sound cells keep) e in
+    let all = sections_of_cells cells (modules_of cells) (entities_of cells) bytes sections keep (modules_run cells keep) (entities_run cells keep) e in
     λ k d below. section_equal cells (slice_index_or sections k d) keep own (all k d below)
 
-no_difference_by : (cells : List CellEntry) (modules : List VModule) (entities : List VEntity) (section : Section) → SaysEqual cells modules entities section
+no_difference_by : (cells : List CellEntry) (modules : List (FileModel VModule)) (entities : List (FileModel VEntity)) (section : Section) → SaysEqual cells modules entities section
     → differs cells modules entities section ≡ false
 no_difference_by cells modules entities section h = ap (λ found. differs_by found section.changes) h.is_compared ∙ ap is_some h.equal
 

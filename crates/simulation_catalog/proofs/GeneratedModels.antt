@@ -1,37 +1,49 @@
--- The models that are generated for the accepted cells of a library are found for these cells.
-use Rattle.std.proofs.Common.{◌≡◌, ℕ, zero, suc, ◌+◌, Bool, true, false, cond, if◌then◌else◌, List, [], ◌∷◌, map, bytes_eq, Option, Some, None, refl, sym, ap, subst, ◌∙◌, arith}
+-- The models that are generated for the accepted cells of a library are found for these cells, and show what the cells show.
+use Rattle.std.proofs.Common.{◌≡◌, ℕ, zero, suc, ◌+◌, ◌-◌, Bool, true, false, cond, if◌then◌else◌, List, [], ◌∷◌, ◌++◌, codes, decimal, length, map, bytes_eq, Option, Some, None, refl, sym, ap, subst, ◌∙◌, arith}
 use Rattle.std.specs.Prelude.{slice_get, All}
 use Rattle.std.specs.List.{IsDistinct, AllByRecursion, position_from}
 use Rattle.std.specs.Str.{str_to_ascii_lowercase}
 use Rattle.std.specs.Option.{option_map}
 use Rattle.std.proofs.lemmas.Bool.{and_from}
 use Rattle.std.proofs.lemmas.Iterator.Adapters.{position_from-zero}
-use Rattle.std.proofs.lemmas.List.Elements.{All-cons}
+use Rattle.std.proofs.lemmas.List.{length-map, take_all}
 use Rattle.bool_functions.specs.NameList.{number_of, AreDistinct}
-use Rattle.cell_machine.specs.CellData.{CellData}
 use Rattle.cell_machine.proofs.RuleLemmas.{rules_of}
-use Rattle.library_items.specs.LibraryCells.{CellEntry, Accepted, Refused}
+use Rattle.three_state_cells.specs.DrivenCells.{DrivenData, may_float}
+use Rattle.generated_drivers.specs.Generated.{pins_of, verilog_driver_of, vital_driver_of}
+use Rattle.generated_drivers.proofs.PortDirections.{verilog_directions, vital_directions}
+use Rattle.file_models.specs.declared.file_model.FileModel.{FileModel}
+use Rattle.file_models.specs.FileModels.{plain_model}
+use Rattle.library_items.specs.LibraryCells.{CellEntry}
 use Rattle.udp_tables.specs.declared.models.VPort.{VPort}
 use Rattle.specify_blocks.specs.declared.model.VModule.{VModule}
 use Rattle.specify_blocks.specs.Generated.{module_of}
-use Rattle.specify_blocks.specs.Names.{module_name}
-use Rattle.specify_blocks.specs.Ports as in_verilog
+use Rattle.specify_blocks.specs.Names.{module_name, driver_name}
+use Rattle.specify_blocks.specs.Ports as ports_in_verilog
 use Rattle.specify_blocks.specs.Sound as sound_modules
 use Rattle.specify_blocks.proofs.Soundness.{module_is_sound}
 use Rattle.specify_blocks.proofs.ReadNames.{bytes_equivalence}
 use Rattle.vhdl_names.specs.Kept.{lowered}
 use Rattle.vital_models.specs.declared.model.VEntity.{VEntity}
-use Rattle.vital_models.specs.Generated.{entity_of}
-use Rattle.vital_models.specs.Ports as in_vital
+use Rattle.vital_models.specs.Ports as ports_in_vital
 use Rattle.vital_models.specs.Sound as sound_entities
 use Rattle.vital_models.proofs.Soundness.{entity_is_sound}
+use Rattle.model_traces.specs.ModuleTrace.{module_machine}
+use Rattle.model_traces.specs.EntityTrace.{entity_machine}
+use Rattle.model_traces.specs.PortNumbers.{output_ports}
+use Rattle.model_traces.specs.ModuleFits as fitting_modules
+use Rattle.model_traces.proofs.FitLemmas.{fit-length}
+use Rattle.model_traces.proofs.ModelAgreement.{generated-modules, generated-entities, models-agree}
+use Rattle.section_runs.specs.Differences.{same_fact}
 use Rattle.simulation_catalog.specs.declared.same_ports.Spelling.{Spelling}
 use Rattle.simulation_catalog.specs.declared.same_ports.Spelling.TheVariants.{Exact, AnyCase}
-use Rattle.section_runs.specs.Differences.{same_fact}
 use Rattle.simulation_catalog.specs.SamePorts.{same_name, same_port, same_ports}
-use Rattle.simulation_catalog.specs.NamedModels.{named_models, module_names, lowered_names, module_ports, entity_ports, has_ports, with_ports, verilog_number, vital_number}
+use Rattle.simulation_catalog.specs.NamedModels.{named_models, module_names, lowered_names, module_ports, entity_ports, has_ports, with_ports, verilog_name, verilog_number, vital_number}
 use Rattle.simulation_catalog.specs.Standings.{standing_by, numbers_by}
-use Rattle.simulation_catalog.specs.Generated.{modules_of, entities_of, KeepsRules, AcceptedAreReady}
+use Rattle.simulation_catalog.specs.CellModels.{over_core, cell_model}
+use Rattle.simulation_catalog.specs.Sections.{RunsByPorts}
+use Rattle.simulation_catalog.specs.Generated.{core_entity, core_entity_name, in_verilog, in_vital, modules_of, entities_of, KeepsRules, AcceptedAreReady, OwnModelsShowTheSame}
+use Rattle.simulation_catalog.proofs.OwnModels.{AreModels, nothing_drives, all_run, shows_the_same, placed}
 
 -- The number of a name of which a list has one.
 
@@ -80,68 +92,117 @@ counts spelling ports ports_at found number e there =
     ap (with_ports spelling ports ports_at) e
     ∙ ap (λ b. if b then Some number else None) (ap (has_ports spelling ports) there ∙ ports_self spelling ports)
 
--- The place of a cell's models.
+-- The models in each language.
 
-record ArePlaced (cells : List CellEntry) (cell : CellData) (entity : List ℕ) : Type 0 where
-  pub place : ℕ
-  pub module_at : slice_get (modules_of cells) place ≡ Some (module_of cell)
-  pub entity_at : slice_get (entities_of cells) place ≡ Some (entity_of cell entity)
+pub verilog_models : AreModels in_verilog sound_modules.IsSound module_machine
+unfolding verilog_driver_of
+verilog_models = record {
+  sound = λ cell entity keeps. module_is_sound cell.core (rules_of cell.core.name cell.core.pins cell.core.groups cell.core.outputs cell.core.checks cell.core.arcs keeps.core);
+  inputs = λ cell entity keeps. (generated-modules cell.core keeps.core).inputs;
+  outputs = λ cell entity keeps.
+      fit-length (fitting_modules.FitsOutput cell.core (module_of cell.core)) cell.core.outputs (output_ports (ports_in_verilog.ports_of cell.core.pins))
+      (generated-modules cell.core keeps.core).outputs;
+  traces = λ cell entity cs keeps proper. ((models-agree cell.core entity keeps.core).traces cs proper).0;
+  core_ports = λ cell entity. verilog_directions 1 cell.core.pins;
+  driver_ports = λ cell entity. verilog_directions 1 (pins_of cell);
+  driver = λ cell entity. refl;
+}
 
-placed : (cells : List CellEntry) (number : ℕ) (cell : CellData) (entity : List ℕ) → slice_get cells number ≡ Some (Accepted cell entity) → ArePlaced cells cell entity
-placed [] number cell entity e = absurd cc
-placed (c ∷ cells) zero cell entity e =
-    let same : c ≡ Accepted cell entity = cc in
-    subst (λ (one : CellEntry). ArePlaced (one ∷ cells) cell entity) (sym same) (record { place = 0; module_at = refl; entity_at = refl })
-placed (Accepted other name ∷ cells) (suc number) cell entity e =
-    let more = placed cells number cell entity e in
-    record { place = suc more.place; module_at = more.module_at; entity_at = more.entity_at }
-placed (Refused name refusal ∷ cells) (suc number) cell entity e =
-    let more = placed cells number cell entity e in
-    record { place = more.place; module_at = more.module_at; entity_at = more.entity_at }
+pub vital_models : AreModels in_vital sound_entities.IsSound entity_machine
+unfolding vital_driver_of
+vital_models = record {
+  sound = λ cell entity keeps.
+      entity_is_sound cell.core (core_entity_name cell entity)
+      (rules_of cell.core.name cell.core.pins cell.core.groups cell.core.outputs cell.core.checks cell.core.arcs keeps.core);
+  inputs = λ cell entity keeps. (generated-entities cell.core (core_entity_name cell entity) keeps.core).inputs;
+  outputs = λ cell entity keeps. length-map cell.core.outputs _;
+  traces = λ cell entity cs keeps proper. ((models-agree cell.core (core_entity_name cell entity) keeps.core).traces cs proper).1;
+  core_ports = λ cell entity. vital_directions (core_entity_name cell entity) cell.core.pins;
+  driver_ports = λ cell entity. vital_directions entity (pins_of cell);
+  driver = λ cell entity. refl;
+}
+
+-- all of them can be run
+pub modules_run : (cells : List CellEntry) → All KeepsRules cells → All (RunsByPorts sound_modules.IsSound module_machine) (modules_of cells)
+modules_run = all_run in_verilog sound_modules.IsSound module_machine verilog_models
+
+pub entities_run : (cells : List CellEntry) → All KeepsRules cells → All (RunsByPorts sound_entities.IsSound entity_machine) (entities_of cells)
+entities_run = all_run in_vital sound_entities.IsSound entity_machine vital_models
+
+-- those that stand for a cell show what the cell shows
+pub own_models_show_the_same : OwnModelsShowTheSame
+own_models_show_the_same cell entity cs keeps proper = record {
+  verilog = shows_the_same in_verilog sound_modules.IsSound module_machine verilog_models cell entity cs keeps proper;
+  vital = shows_the_same in_vital sound_entities.IsSound entity_machine vital_models cell entity cs keeps proper;
+}
+
+-- The names and the ports of the models that stand for a cell.
+
+all_pins : (cell : DrivenData) → may_float cell ≡ false → pins_of cell ≡ cell.core.pins
+all_pins cell e =
+    let none : length cell.driver.drives ≡ 0 = ap (λ (drives : List ℕ). length drives) (nothing_drives cell e) in
+    take_all (length cell.core.pins - length cell.driver.drives) cell.core.pins (omega (arith, none))
+
+verilog_named : (cell : DrivenData) (entity : List ℕ) → (cell_model in_verilog cell entity).name ≡ verilog_name cell
+unfolding verilog_driver_of
+verilog_named cell entity =
+    elim (may_float cell) as (λ b. (if b then over_core in_verilog cell entity else plain_model in_verilog.as_core (module_of cell.core)).name ≡ (if b then driver_name cell.core.number cell.name else module_name cell.core.number cell.core.name)) [
+      | true ↦ refl
+      | false ↦ refl
+    ]
+
+verilog_ported : (cell : DrivenData) (entity : List ℕ) → (cell_model in_verilog cell entity).ports ≡ ports_in_verilog.ports_of (pins_of cell)
+unfolding verilog_driver_of
+verilog_ported cell entity = by (may_float cell) refl
+  where
+    by : (b : Bool) → may_float cell ≡ b
+        → (if b then over_core in_verilog cell entity else plain_model in_verilog.as_core (module_of cell.core)).ports ≡ ports_in_verilog.ports_of (pins_of cell)
+    by true e = refl
+    by false e = ap ports_in_verilog.ports_of (sym (all_pins cell e))
+
+core_named : (cell : DrivenData) (entity : List ℕ) → may_float cell ≡ false → core_entity_name cell entity ≡ entity
+core_named cell entity e = ap (λ (b : Bool). if b then codes "cell" ++ decimal cell.core.number else entity) e
+
+vital_named : (cell : DrivenData) (entity : List ℕ) → (cell_model in_vital cell entity).name ≡ entity
+unfolding vital_driver_of
+vital_named cell entity = by (may_float cell) refl
+  where
+    by : (b : Bool) → may_float cell ≡ b → (if b then over_core in_vital cell entity else plain_model in_vital.as_core (core_entity cell entity)).name ≡ entity
+    by true e = refl
+    by false e = core_named cell entity e
+
+vital_ported : (cell : DrivenData) (entity : List ℕ) → (cell_model in_vital cell entity).ports ≡ ports_in_vital.ports_of entity (pins_of cell)
+unfolding vital_driver_of
+vital_ported cell entity = by (may_float cell) refl
+  where
+    by : (b : Bool) → may_float cell ≡ b
+        → (if b then over_core in_vital cell entity else plain_model in_vital.as_core (core_entity cell entity)).ports ≡ ports_in_vital.ports_of entity (pins_of cell)
+    by true e = refl
+    by false e =
+        ap (λ name. ports_in_vital.ports_of name cell.core.pins) (core_named cell entity e) ∙ ap (ports_in_vital.ports_of entity) (sym (all_pins cell e))
+
+-- So they are found.
 
 pub accepted_are_ready : AcceptedAreReady
 unfolding verilog_number vital_number
 accepted_are_ready cells number cell entity own there =
-    let h = placed cells number cell entity there in
+    let verilog = placed in_verilog sound_modules.IsSound module_machine verilog_models cells number cell entity there in
+    let vital = placed in_vital sound_entities.IsSound entity_machine vital_models cells number cell entity there in
     let models = named_models (modules_of cells) (entities_of cells) in
-    let module_is : verilog_number models cell ≡ Some h.place =
-    counts Exact (in_verilog.ports_of cell.pins) (module_ports (modules_of cells)) (number_of (module_names (modules_of cells)) (module_name cell.number cell.name)) h.place
-    (own_number (λ (m : VModule). m.name) (modules_of cells) h.place (module_of cell) own.modules h.module_at)
-    (ap (option_map (λ (m : VModule). m.ports)) h.module_at) in
-    let entity_is : vital_number models entity cell ≡ Some h.place =
-    counts AnyCase (in_vital.ports_of entity cell.pins) (entity_ports (entities_of cells)) (number_of (lowered_names (entities_of cells)) (lowered entity)) h.place
-    (own_number (λ (e : VEntity). lowered e.name) (entities_of cells) h.place (entity_of cell entity) own.entities h.entity_at)
-    (ap (option_map (λ (e : VEntity). e.ports)) h.entity_at) in
+    let module_is : verilog_number models cell ≡ Some verilog.place =
+    counts Exact (ports_in_verilog.ports_of (pins_of cell)) (module_ports (modules_of cells)) (number_of (module_names (modules_of cells)) (verilog_name cell)) verilog.place
+    (ap (number_of (module_names (modules_of cells))) (sym (verilog_named cell entity))
+    ∙ own_number (λ (f : FileModel VModule). f.name) (modules_of cells) verilog.place (cell_model in_verilog cell entity) own.modules verilog.there)
+    (ap (option_map (λ (f : FileModel VModule). f.ports)) verilog.there ∙ ap Some (verilog_ported cell entity)) in
+    let entity_is : vital_number models entity cell ≡ Some vital.place =
+    counts AnyCase (ports_in_vital.ports_of entity (pins_of cell)) (entity_ports (entities_of cells)) (number_of (lowered_names (entities_of cells)) (lowered entity)) vital.place
+    (ap (λ name. number_of (lowered_names (entities_of cells)) (lowered name)) (sym (vital_named cell entity))
+    ∙ own_number (λ (f : FileModel VEntity). lowered f.name) (entities_of cells) vital.place (cell_model in_vital cell entity) own.entities vital.there)
+    (ap (option_map (λ (f : FileModel VEntity). f.ports)) vital.there ∙ ap Some (vital_ported cell entity)) in
     record {
-      numbers = record { verilog = h.place; vital = h.place };
+      numbers = record { verilog = verilog.place; vital = vital.place };
       ready = λ i. standing_by (module_is i) (entity_is i);
       are = λ i. numbers_by (module_is i) (entity_is i);
-      own_module = h.module_at;
-      own_entity = h.entity_at;
+      own_module = verilog.there;
+      own_entity = vital.there;
     }
-
--- All generated models are sound.
-
--- the cells behind the first keep the rules too
-others_keep : (c : CellEntry) (cells : List CellEntry) → All KeepsRules (c ∷ cells) → All KeepsRules cells
-others_keep c cells keep = λ k d below. keep (suc k) d (omega (arith, below))
-
--- the first cell keeps them
-first_keeps : (c : CellEntry) (cells : List CellEntry) → All KeepsRules (c ∷ cells) → KeepsRules c
-first_keeps c cells keep = keep 0 c (omega arith)
-
-pub modules_are_sound : (cells : List CellEntry) → All KeepsRules cells → All sound_modules.IsSound (modules_of cells)
-modules_are_sound [] keep = λ k d below. absurd (omega (arith, below))
-modules_are_sound (Accepted cell entity ∷ cells) keep =
-    All-cons sound_modules.IsSound (module_of cell) (modules_of cells)
-    (module_is_sound cell (rules_of cell.name cell.pins cell.groups cell.outputs cell.checks cell.arcs (first_keeps (Accepted cell entity) cells keep)))
-    (modules_are_sound cells (others_keep (Accepted cell entity) cells keep))
-modules_are_sound (Refused name refusal ∷ cells) keep = modules_are_sound cells (others_keep (Refused name refusal) cells keep)
-
-pub entities_are_sound : (cells : List CellEntry) → All KeepsRules cells → All sound_entities.IsSound (entities_of cells)
-entities_are_sound [] keep = λ k d below. absurd (omega (arith, below))
-entities_are_sound (Accepted cell entity ∷ cells) keep =
-    All-cons sound_entities.IsSound (entity_of cell entity) (entities_of cells)
-    (entity_is_sound cell entity (rules_of cell.name cell.pins cell.groups cell.outputs cell.checks cell.arcs (first_keeps (Accepted cell entity) cells keep)))
-    (entities_are_sound cells (others_keep (Accepted cell entity) cells keep))
-entities_are_sound (Refused name refusal ∷ cells) keep = entities_are_sound cells (others_keep (Refused name refusal) cells keep)

@@ -1,17 +1,18 @@
 -- The names of a cell's pins, added one after another.
-use Rattle.std.proofs.Common.{◌≡◌, ◌<◌, ℕ, ◌+◌, true, false, not, ◌&&◌, if◌then◌else◌, IsTrue, List, [], ◌∷◌, ◌++◌, map, take, get_or, length, nat_le, Option, None, refl, sym, ap, ◌∙◌}
+use Rattle.std.proofs.Common.{◌≡◌, ◌<◌, ℕ, ◌+◌, true, false, not, ◌&&◌, if◌then◌else◌, IsTrue, List, [], ◌∷◌, ◌++◌, map, take, drop, get_or, length, ◌-◌, nat_le, Option, None, refl, sym, ap, subst, ◌∙◌}
 use Rattle.std.specs.Str.{bytes_eq}
 use Rattle.std.specs.List.{IsDistinct, AllByRecursion, list_any, list_all}
 use Rattle.std.proofs.lemmas.Bool.{and_parts, or_parts, or_from, not-true}
-use Rattle.std.proofs.lemmas.List.{take_more}
+use Rattle.std.proofs.lemmas.List.{take_more, map-append, take-append-drop}
 use Rattle.bool_functions.specs.NameList.{number_of, Adds, AreDistinct}
 use Rattle.bool_functions.proofs.NameLists.{position-none}
 use Rattle.cell_machine.specs.declared.pins.Pin.{Pin}
 use Rattle.cell_machine.specs.declared.pins.Direction.{Direction}
-use Rattle.cell_machine.specs.declared.cells.Cell.{Cell}
 use Rattle.cell_machine.specs.CellRules.{is_name, are_distinct, are_pins}
 use Rattle.cell_machine.proofs.RuleLemmas.{cell_rules}
-use Rattle.simulation_catalog.specs.PinNames.{same_direction, pin_names}
+use Rattle.three_state_cells.specs.declared.driven_cell.DrivenCell.{DrivenCell}
+use Rattle.three_state_cells.specs.Drivers.{own_pins}
+use Rattle.simulation_catalog.specs.PinNames.{same_direction, pin_names, AreNamedApart}
 use Rattle.simulation_catalog.proofs.NewNames.{others_before, added_name}
 
 abbrev pub name_of_pin : Pin → List ℕ
@@ -34,9 +35,27 @@ pins_apart pins h =
     let parts = and_parts (list_all (λ (pin : Pin). is_name pin.name) pins) (are_distinct (map (λ (pin : Pin). pin.name) pins)) few.1 in
     all_distinct (map name_of_pin pins) parts.1
 
+-- some names of such a list
+front_part : (P : List ℕ → Type 0) (front back : List (List ℕ)) → AllByRecursion P (front ++ back) → AllByRecursion P front
+front_part P [] back h = tt
+front_part P (x ∷ front) back h = (h.0, front_part P front back h.1)
+
+front_distinct : (front back : List (List ℕ)) → AreDistinct (front ++ back) → AreDistinct front
+unfolding IsDistinct
+front_distinct [] back h = tt
+front_distinct (x ∷ front) back h = (front_part (λ y. bytes_eq x y ≡ false) front back h.0, front_distinct front back h.1)
+
+-- no two of the first pins have one name where no two of all have one
+first_apart : (n : ℕ) (pins : List Pin) → AreNamedApart pins → AreNamedApart (take n pins)
+first_apart n pins apart =
+    front_distinct (map name_of_pin (take n pins)) (map name_of_pin (drop n pins))
+    (subst AreDistinct (ap (map name_of_pin) (sym (take-append-drop n pins)) ∙ map-append name_of_pin (take n pins) (drop n pins)) apart)
+
 -- no two pins of a cell have one name
-pub own_names : (cell : Cell) → AreDistinct (map name_of_pin cell.pins)
-own_names cell = let rules = cell_rules cell in pins_apart cell.pins rules.of_pins
+pub own_pins_apart : (cell : DrivenCell) → AreNamedApart (own_pins cell.core.pins (length cell.driver.drives))
+own_pins_apart cell =
+    let rules = cell_rules cell.core in
+    first_apart (length cell.core.pins - length cell.driver.drives) cell.core.pins (pins_apart cell.core.pins rules.of_pins)
 
 -- the pins of one direction are some of all
 among_some : (direction : Direction) (name : List ℕ) (pins : List Pin) → list_any (bytes_eq name) (map name_of_pin pins) ≡ false
@@ -64,25 +83,25 @@ one_pin_more direction pins i pin h e =
     ∙ ap (λ p. pin_names direction (take i pins) ++ pin_names direction (p ∷ [])) (sym e)
 
 -- the next pin has the direction, and its name is added
-pub pin_added : (direction : Direction) (cell : Cell) (i : ℕ) (pin : Pin) (old new : List (List ℕ)) (found : Option ℕ)
-    → i < length cell.pins → pin ≡ get_or cell.pins i pin → same_direction direction pin.direction ≡ true
-    → old ≡ pin_names direction (take i cell.pins) → Adds old pin.name found new → new ≡ pin_names direction (take (i + 1) cell.pins)
-pin_added direction cell i pin old new found h e same before a =
-    let others = others_before name_of_pin cell.pins i pin h e (own_names cell) in
+pub pin_added : (direction : Direction) (pins : List Pin) (i : ℕ) (pin : Pin) (old new : List (List ℕ)) (found : Option ℕ)
+    → AreNamedApart pins → i < length pins → pin ≡ get_or pins i pin → same_direction direction pin.direction ≡ true
+    → old ≡ pin_names direction (take i pins) → Adds old pin.name found new → new ≡ pin_names direction (take (i + 1) pins)
+pin_added direction pins i pin old new found apart h e same before a =
+    let others = others_before name_of_pin pins i pin h e apart in
     let none : number_of old pin.name ≡ None =
     ap (λ names. number_of names pin.name) before
-    ∙ position-none (bytes_eq pin.name) (pin_names direction (take i cell.pins)) (among_some direction pin.name (take i cell.pins) others) in
+    ∙ position-none (bytes_eq pin.name) (pin_names direction (take i pins)) (among_some direction pin.name (take i pins) others) in
     let last : pin_names direction (pin ∷ []) ≡ pin.name ∷ [] = ap (λ b. if b then pin.name ∷ [] else []) same in
     added_name old new pin.name found none a ∙ ap (λ names. names ++ pin.name ∷ []) before
-    ∙ sym (one_pin_more direction cell.pins i pin h e ∙ ap (λ names. pin_names direction (take i cell.pins) ++ names) last)
+    ∙ sym (one_pin_more direction pins i pin h e ∙ ap (λ names. pin_names direction (take i pins) ++ names) last)
 
 -- it has not
-pub pin_passed : (direction : Direction) (cell : Cell) (i : ℕ) (pin : Pin) (names : List (List ℕ))
-    → i < length cell.pins → pin ≡ get_or cell.pins i pin → same_direction direction pin.direction ≡ false
-    → names ≡ pin_names direction (take i cell.pins) → names ≡ pin_names direction (take (i + 1) cell.pins)
-pin_passed direction cell i pin names h e same before =
+pub pin_passed : (direction : Direction) (pins : List Pin) (i : ℕ) (pin : Pin) (names : List (List ℕ))
+    → i < length pins → pin ≡ get_or pins i pin → same_direction direction pin.direction ≡ false
+    → names ≡ pin_names direction (take i pins) → names ≡ pin_names direction (take (i + 1) pins)
+pin_passed direction pins i pin names h e same before =
     let none : pin_names direction (pin ∷ []) ≡ [] = ap (λ b. if b then pin.name ∷ [] else []) same in
-    before ∙ sym (one_pin_more direction cell.pins i pin h e ∙ ap (λ more. pin_names direction (take i cell.pins) ++ more) none ∙ nothing_more (pin_names direction (take i cell.pins)))
+    before ∙ sym (one_pin_more direction pins i pin h e ∙ ap (λ more. pin_names direction (take i pins) ++ more) none ∙ nothing_more (pin_names direction (take i pins)))
   where
     nothing_more : (names : List (List ℕ)) → names ++ [] ≡ names
     nothing_more [] = refl

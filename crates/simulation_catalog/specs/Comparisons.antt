@@ -3,7 +3,10 @@
 use Rattle.std.specs.Prelude.{ℕ, Bool, false, List, [], ◌++◌, Option, Some, None, is_some, slice_get}
 use Rattle.std.specs.List.{flat_map, list_any}
 use Rattle.cell_machine.specs.declared.changes.Change.{Change}
-use Rattle.cell_machine.specs.CellData.{CellData}
+use Rattle.three_state_cells.specs.DrivenCells.{DrivenData}
+use Rattle.file_models.specs.declared.file_model.FileModel.{FileModel}
+use Rattle.file_models.specs.FileModels.{machine_by}
+use Rattle.driven_traces.specs.DrivenLines.{driven_machine}
 use Rattle.cell_machine.specs.CellTrace.{cell_machine_of}
 use Rattle.library_items.specs.LibraryCells.{CellEntry, Accepted, Refused}
 use Rattle.specify_blocks.specs.declared.model.VModule.{VModule}
@@ -12,14 +15,18 @@ use Rattle.model_traces.specs.ModuleTrace.{module_machine}
 use Rattle.model_traces.specs.EntityTrace.{entity_machine}
 use Rattle.stimulus.specs.declared.ports.Ports.{Ports}
 use Rattle.stimulus.specs.declared.sections.Section.{Section}
-use Rattle.stimulus.specs.DriveLines.{DriveMachine, drive_machine}
+use Rattle.stimulus.specs.DriveLines.{DriveMachine}
 use Rattle.section_runs.specs.TraceText.{heading_text}
 use Rattle.section_runs.specs.Comparison.{Lines, three_lines, compared_text, first_unlike, verdict_text}
 use Rattle.simulation_catalog.specs.declared.numbers.ModelNumbers.{ModelNumbers}
 use Rattle.simulation_catalog.specs.NamedModels.{NamedModels, named_models}
 use Rattle.simulation_catalog.specs.Catalog.{ports_in, numbers_in}
 
--- what a section is run on: a cell, its module and its entity, with the cell's name and the names of its ports
+-- what runs of a cell: its core behind its drivers
+abbrev pub cell_machine : DrivenData → DriveMachine
+cell_machine cell = driven_machine cell.driver (cell_machine_of cell.core)
+
+-- what a section is run on: a cell, its Verilog and its VITAL model, with the cell's name and the names of its ports
 pub record Compared : Type 0 where
   pub name : List ℕ
   pub ports : Ports
@@ -32,18 +39,18 @@ abbrev pub lines_of : Compared → List Change → Lines
 lines_of c = three_lines c.liberty c.verilog c.vital
 
 -- a cell with its models, where both are there
-abbrev pub beside : CellData → Ports → Option VModule → Option VEntity → Option Compared
+abbrev pub beside : DrivenData → Ports → Option (FileModel VModule) → Option (FileModel VEntity) → Option Compared
 beside cell ports (Some m) (Some e) =
     Some (record {
       name = cell.name;
       ports = ports;
-      liberty = drive_machine (cell_machine_of cell);
-      verilog = drive_machine (module_machine m);
-      vital = drive_machine (entity_machine e);
+      liberty = cell_machine cell;
+      verilog = machine_by module_machine m;
+      vital = machine_by entity_machine e;
     })
 beside cell ports _ _ = None
 
-abbrev pub beside_numbers : NamedModels → CellData → Ports → Option ModelNumbers → Option Compared
+abbrev pub beside_numbers : NamedModels → DrivenData → Ports → Option ModelNumbers → Option Compared
 beside_numbers models cell ports None = None
 beside_numbers models cell ports (Some numbers) = beside cell ports (slice_get models.modules numbers.verilog) (slice_get models.entities numbers.vital)
 
@@ -54,7 +61,7 @@ beside_models models (Some (Accepted cell entity)) =
     beside_numbers models cell (ports_in models (Accepted cell entity)) (numbers_in models (Accepted cell entity))
 
 -- what a section on the cell with this number is run on
-abbrev pub compared_at : List CellEntry → List VModule → List VEntity → ℕ → Option Compared
+abbrev pub compared_at : List CellEntry → List (FileModel VModule) → List (FileModel VEntity) → ℕ → Option Compared
 compared_at cells modules entities number = beside_models (named_models modules entities) (slice_get cells number)
 
 -- a section: the cell's name, the lines of the traces on these changes, and whether they are equal
@@ -66,11 +73,11 @@ abbrev pub section_by : Option Compared → List Change → List ℕ
 section_by None changes = []
 section_by (Some c) changes = compared_section c changes
 
-abbrev pub section_text : List CellEntry → List VModule → List VEntity → Section → List ℕ
+abbrev pub section_text : List CellEntry → List (FileModel VModule) → List (FileModel VEntity) → Section → List ℕ
 section_text cells modules entities section = section_by (compared_at cells modules entities section.cell) section.changes
 
 -- the sections of a stimulus, in order
-unfoldable pub sections_text : List CellEntry → List VModule → List VEntity → List Section → List ℕ
+unfoldable pub sections_text : List CellEntry → List (FileModel VModule) → List (FileModel VEntity) → List Section → List ℕ
 sections_text cells modules entities sections = flat_map (section_text cells modules entities) sections
 
 -- two of the three traces of a section differ
@@ -78,9 +85,9 @@ abbrev pub differs_by : Option Compared → List Change → Bool
 differs_by None changes = false
 differs_by (Some c) changes = is_some (first_unlike changes (lines_of c))
 
-abbrev pub differs : List CellEntry → List VModule → List VEntity → Section → Bool
+abbrev pub differs : List CellEntry → List (FileModel VModule) → List (FileModel VEntity) → Section → Bool
 differs cells modules entities section = differs_by (compared_at cells modules entities section.cell) section.changes
 
 -- some section differs
-abbrev pub any_differs : List CellEntry → List VModule → List VEntity → List Section → Bool
+abbrev pub any_differs : List CellEntry → List (FileModel VModule) → List (FileModel VEntity) → List Section → Bool
 any_differs cells modules entities sections = list_any (differs cells modules entities) sections

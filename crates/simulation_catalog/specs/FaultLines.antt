@@ -15,11 +15,11 @@ use Rattle.model_files.specs.StimulusAnswer.{LineStop}
 unfoldable pub refused_cell_line : List ℕ → Refusal → List ℕ
 refused_cell_line name refusal = codes "cell " ++ (printed_name name ++ refusal_line refusal)
 
--- a cell whose module is absent or has other ports
+-- a cell whose Verilog model is absent or has other ports
 unfoldable pub verilog_ports_line : List ℕ → List ℕ
 verilog_ports_line name = codes "verilog ports: " ++ (name ++ codes "\n")
 
--- a cell whose entity is absent or has other ports
+-- a cell whose VITAL model is absent or has other ports
 unfoldable pub vital_ports_line : List ℕ → List ℕ
 vital_ports_line name = codes "vital ports: " ++ (name ++ codes "\n")
 

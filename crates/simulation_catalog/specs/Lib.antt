@@ -1,5 +1,6 @@
 pub mod PinNames
 pub mod SamePorts
+pub mod CellModels
 pub mod NamedModels
 pub mod Standings
 pub mod Catalog

@@ -1,6 +1,7 @@
 -- The ports of a cell by the names of its pins. Inputs are numbered among the input pins and outputs among the output pins, in their
 -- order, as the cell's machine numbers them.
-use Rattle.std.specs.Prelude.{ℕ, Bool, not, ◌||◌, List, [], ◌∷◌, if◌then◌else◌}
+use Rattle.std.specs.Prelude.{ℕ, Bool, not, ◌||◌, List, [], ◌∷◌, map, if◌then◌else◌}
+use Rattle.bool_functions.specs.NameList.{AreDistinct}
 use Rattle.cell_machine.specs.declared.pins.Pin.{Pin}
 use Rattle.cell_machine.specs.declared.pins.Direction.{Direction}
 use Rattle.cell_machine.specs.declared.pins.Direction.TheVariants.{Input, Output, Internal}
@@ -19,6 +20,10 @@ abbrev pub pin_names : Direction → List Pin → List (List ℕ)
 pin_names direction [] = []
 pin_names direction (pin ∷ pins) =
     if same_direction direction pin.direction then pin.name ∷ pin_names direction pins else pin_names direction pins
+
+-- no two pins have one name
+abbrev pub AreNamedApart : List Pin → Type 0
+AreNamedApart pins = AreDistinct (map (λ (pin : Pin). pin.name) pins)
 
 -- the ports of a cell that stands so
 abbrev pub named_ports : Standing → List Pin → Ports

@@ -4,7 +4,7 @@ use Rattle.stimulus.specs.declared.ports.Standing.{Standing}
 use Rattle.stimulus.specs.declared.ports.Standing.TheVariants.{Ready, VerilogPorts, VitalPorts}
 use Rattle.simulation_catalog.specs.declared.numbers.ModelNumbers.{ModelNumbers}
 
--- by the numbers of its module and of its entity: the module is looked at first
+-- by the numbers of its Verilog and of its VITAL model: the Verilog model is looked at first
 abbrev pub standing_by : Option ℕ → Option ℕ → Standing
 standing_by None vital = VerilogPorts
 standing_by (Some verilog) None = VitalPorts

@@ -43,9 +43,9 @@ fn cause_status(cause: Cause) -> Status
     }
 }
 
-/// Tells the first bad line of a stimulus over the catalog of these cells, with the line's number, from 1, and its cause: of a cell
-/// that may not be given changes its name, and why it is refused or which of its models is not there; else the line and the cause.
-/// After `Failed`, which comes only where a write failed, a prefix of the line was appended.
+/// Tells the first bad line of a stimulus over the catalog of these cells, with the line's number, from 1, and its cause: of a
+/// cell that may not be given changes its name, and why it is refused or which of its models is not there; else the line and the
+/// cause. After `Failed`, which comes only where a write failed, a prefix of the line was appended.
 fn write_cause<D: Desk>(
     desk: &mut D,
     cells: &[LibraryCell],
@@ -103,7 +103,7 @@ fn write_refused_cell<D: Desk>(desk: &mut D, name: &[u8], refusal: &Refusal) -> 
     write_part(desk, OutSlot::Faults, &line)
 }
 
-/// Tells that the module of the cell with this name is absent or has other ports.
+/// Tells that the Verilog model of the cell with this name is absent or has other ports.
 #[tactic(auto, unfolding(crate::specs::FaultLines::verilog_ports_line))]
 fn write_verilog_ports<D: Desk>(desk: &mut D, name: &[u8]) -> Result<(), Failed>
     ensures text { WritesText (D.state desk.old) (D.state desk.new) Faults (verilog_ports_line name.now) result }
@@ -112,7 +112,7 @@ fn write_verilog_ports<D: Desk>(desk: &mut D, name: &[u8]) -> Result<(), Failed>
     write_pieces(desk, OutSlot::Faults, &[b"verilog ports: ", name, b"\n"])
 }
 
-/// Tells that the entity of the cell with this name is absent or has other ports.
+/// Tells that the VITAL model of the cell with this name is absent or has other ports.
 #[tactic(auto, unfolding(crate::specs::FaultLines::vital_ports_line))]
 fn write_vital_ports<D: Desk>(desk: &mut D, name: &[u8]) -> Result<(), Failed>
     ensures text { WritesText (D.state desk.old) (D.state desk.new) Faults (vital_ports_line name.now) result }

@@ -9,6 +9,8 @@ use crate::named_models::{ModelFiles, lowered_names, module_names};
 use crate::numbers::ModelNumbers;
 use crate::pin_names::named_ports;
 use bool_functions::Names;
+use file_models::FileModel;
+use generated_drivers::own_pins;
 use library_items::LibraryCell;
 use specify_blocks::VModule;
 use sqlite_items::Items;
@@ -21,7 +23,7 @@ use vital_models::VEntity;
 pub struct Simulated {
     /// The cells by their names, each with how it stands and with the names of its ports.
     pub catalog: PortCatalog,
-    /// For each cell the numbers of its module and its entity, exactly where it may be given changes.
+    /// For each cell the numbers of its Verilog and its VITAL model, exactly where it may be given changes.
     pub models: Items<Option<ModelNumbers>>,
 }
 
@@ -43,7 +45,7 @@ fn entry_of(alloc: Global, files: &ModelFiles<'_>, cell: &LibraryCell) -> Result
         LibraryCell::Accepted { cell, entity } => {
             let found = files.found(alloc, cell, entity.as_slice())?;
             Ok(Entry {
-                ports: named_ports(alloc, found.standing(), cell)?,
+                ports: named_ports(alloc, found.standing(), own_pins(cell))?,
                 numbers: found.numbers(),
             })
         }
@@ -84,18 +86,19 @@ fn simulated_in(
     Ok(Simulated { catalog, models })
 }
 
-/// The catalog of the cells of a library, in their order, beside the modules of a Verilog file and the entities of a VHDL file.
+/// The catalog of the cells of a library, in their order, beside the models of a Verilog file and those of a VHDL file. A driver
+/// of a file counts under its name as a module or an entity does.
 ///
-/// A cell that is accepted has the names of its input and output pins, numbered as its machine numbers them. It stands as
-/// `VerilogPorts` where no module has the name that is written for it, or where this module has not, in their order, the names and
-/// directions of the ports that are written for it; else as `VitalPorts` where the same is so of its entity, whatever the case of
-/// the names' letters; else as `Ready`. The catalog is such where no two cells have one name, no two modules, and no two entities
-/// whatever the case of its letters.
+/// A cell that is accepted has the names of its own input and output pins, without the enables of its core, numbered as its
+/// machine numbers them. It stands as `VerilogPorts` where no Verilog model has the name that is written for it, or where this
+/// model has not, in their order, the names and directions of the ports that are written for it; else as `VitalPorts` where the
+/// same is so of its VITAL model, whatever the case of the names' letters; else as `Ready`. The catalog is such where no two
+/// cells have one name, no two Verilog models, and no two VITAL models whatever the case of its letters.
 pub fn simulation_catalog(
     alloc: Global,
     cells: &[LibraryCell],
-    modules: &[VModule],
-    entities: &[VEntity],
+    modules: &[FileModel<VModule>],
+    entities: &[FileModel<VEntity>],
 ) -> Result<Simulated, AllocError>
     ensures { IfOk result (λ simulated. HaveOwnNames (all_described cells.now) modules.now entities.now → simulated ≡ simulated_of (all_described cells.now) modules.now entities.now) }
 {

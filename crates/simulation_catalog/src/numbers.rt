@@ -7,18 +7,18 @@ use stimulus::Standing;
 /// The models that stand for a cell.
 #[derive(Clone, Copy)]
 pub struct ModelNumbers {
-    /// The number of its module, from 0 among those of the Verilog file.
+    /// The number of its Verilog model, from 0 among those of the file.
     pub verilog: usize,
-    /// The number of its entity, from 0 among those of the VHDL file.
+    /// The number of its VITAL model, from 0 among those of the file.
     pub vital: usize,
 }
 
 /// The numbers of the models that were found for a cell.
 #[derive(Clone, Copy)]
 pub(crate) struct Found {
-    /// That of its module, where it is there with the cell's ports.
+    /// That of its Verilog model, where it is there with the cell's ports.
     pub verilog: Option<usize>,
-    /// That of its entity, where it is there with the cell's ports.
+    /// That of its VITAL model, where it is there with the cell's ports.
     pub vital: Option<usize>,
 }
 

@@ -1,12 +1,12 @@
 use Rattle.std.proofs.Common.{rules, ◌≡◌, ◌∙◌, ap, Some, None, get_or}
 use Rattle.std.proofs.lemmas.Option.{get_or_from_slice_get}
-use Rattle.cell_machine.specs.CellData.{data_of}
+use Rattle.three_state_cells.specs.DrivenCells.{driven_data_of}
 use Rattle.library_items.specs.declared.library_cell.LibraryCell.TheVariants as kept
 use Rattle.model_simulation.proofs.BesideLemmas.{runs_on, can_be_given}
 use Rattle.model_simulation.proofs.comparisons.stands_beside.Goals as goal
 
 -- what was found at each place is what the section can be run on
-data-is : (c : goal.After-index-as_slice-numbers-2) → data_of c.in-Accepted.cell ≡ c.requires.run.cell
+data-is : (c : goal.After-index-as_slice-numbers-2) → driven_data_of c.in-Accepted.cell ≡ c.requires.run.cell
 data-is c =
     let at = c.args.section.now.cell in
     let described = c.described_are_cells.ensures c.args.simulation.now.read.cells at c.requires.run.cell c.requires.run.entity_name c.requires.run.is_accepted in
@@ -15,7 +15,7 @@ data-is c =
     ∙ get_or_from_slice_get _ at _ c.index-as_slice-section.result described.1 in
     let is : c.index-as_slice-section.result ≡ kept.Accepted c.in-Accepted.cell c.in-Accepted.entity = c.in-Accepted.is in
     let same : c.in-Accepted.cell ≡ described.0 = cc in
-    ap data_of same ∙ described.2
+    ap driven_data_of same ∙ described.2
 
 numbers-are : (c : goal.After-index-as_slice-numbers-2) → c.in-Some.numbers ≡ c.requires.run.numbers
 numbers-are c =

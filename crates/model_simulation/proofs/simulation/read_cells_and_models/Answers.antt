@@ -3,7 +3,7 @@ use Rattle.command_outcomes.specs.Runs.{RunsAs}
 use Rattle.command_outcomes.proofs.FileStepLaws.{err_is}
 use Rattle.model_simulation.specs.Simulate.{simulate_files, simulate_of}
 use Rattle.model_simulation.proofs.SimulationFiles.{one_file, two_files, still_planned, has_verilog, has_vital, cells_read, modules_read, entities_read, library_ends, verilog_ends, vital_ends}
-use Rattle.model_simulation.proofs.SimulateLemmas.{own_names, modules_sound, entities_sound}
+use Rattle.model_simulation.proofs.SimulateLemmas.{own_names, modules_run, entities_run}
 use Rattle.model_simulation.proofs.simulation.read_cells_and_models.Goals as goal
 
 pub read_model_file-requires : goal.read_model_file-requires
@@ -32,11 +32,10 @@ returns-in_err-entities-clause-ended g c =
 
 pub returns-clause-read : goal.returns-clause-read
 returns-clause-read g c =
-    let text = c.in_ok-modules.ensures.text in
     let vhdl = c.in_ok-entities.ensures.text in
     rw (c.from_vec.ensures, c.from_vec-2.ensures, c.from_vec-3.ensures) (record {
       files = entities_read _ _ _ _ _ _ (modules_read _ _ _ _ _ (cells_read _ _ _ c.in_ok-cells.ensures.ok) c.in_ok-modules.ensures.ok) c.in_ok-entities.ensures.ok;
-      own = own_names _ _ _ text.0 vhdl.0 c.vhdl_text_has_one_answer.ensures c.texts_are_well_formed.ensures c.in_ok-cells.ensures.own text.2 vhdl.1 vhdl.2;
-      modules = modules_sound _ c.in_ok-modules.ensures.well_formed;
-      entities = entities_sound _ c.in_ok-entities.ensures.well_formed;
+      own = own_names _ _ _ vhdl.0 c.entities_have_own_names.ensures c.in_ok-cells.ensures.own c.in_ok-modules.ensures.own vhdl.1 vhdl.2;
+      modules = modules_run _ c.in_ok-modules.ensures.well_formed c.in_ok-modules.ensures.own;
+      entities = entities_run _ c.in_ok-entities.ensures.well_formed c.in_ok-entities.ensures.own;
     })

@@ -1,22 +1,18 @@
-use Rattle.std.proofs.Common.{◌≡◌, ◌<◌, length, get_or, ap, sym, ◌∙◌, arith}
+use Rattle.std.proofs.Common.{sym, ◌∙◌}
 use Rattle.simulation_catalog.proofs.PinLemmas.{pin_added, pin_passed}
 use Rattle.simulation_catalog.proofs.pin_names.pin_names.Goals as goal
 use Rattle.simulation_catalog.proofs.pin_names.pin_names.Goals.{then-same_direction+in_ok-add, else-same_direction}
 
 pub loop-pin-preserved : goal.loop-pin-preserved
-loop-pin-preserved c =
-    let same_length : length c.as_slice-pin-items.result.now ≡ length c.args.cell.now.pins = ap length c.as_slice-pin-items.ensures in
-    let within : c.loop-pin.pin-index < length c.args.cell.now.pins = omega arith in
-    let item : c.pin-item.result ≡ get_or c.args.cell.now.pins c.loop-pin.pin-index c.pin-item.result = cc in
-    record {
-      names = elim c.if-same_direction.branch [
-        | then-same_direction+in_ok-add w ↦
-            let more = pin_added c.args.direction c.args.cell.now c.loop-pin.pin-index c.pin-item.result c.loop-pin.names _ _ within item
-            (sym c.same_direction.ensures ∙ w.if-same_direction.true) c.loop-pin.invariant.names (rw w.as_slice.ensures at w.in_ok-add.ensures.added) in
-            cc
-        | else-same_direction w ↦
-            let more = pin_passed c.args.direction c.args.cell.now c.loop-pin.pin-index c.pin-item.result c.loop-pin.names within item
-            (sym c.same_direction.ensures ∙ w.if-same_direction.false) c.loop-pin.invariant.names in
-            cc
-      ];
-    }
+loop-pin-preserved c = record {
+  names = elim c.if-same_direction.branch [
+    | then-same_direction+in_ok-add w ↦
+        let more = pin_added c.args.direction c.args.pins.now c.loop-pin.pin-index c.pin-item.result c.loop-pin.names _ _ c.requires c.loop-pin-test.true c.pin-item.is
+        (sym c.same_direction.ensures ∙ w.if-same_direction.true) c.loop-pin.invariant.names (rw w.as_slice.ensures at w.in_ok-add.ensures.added) in
+        cc
+    | else-same_direction w ↦
+        let more = pin_passed c.args.direction c.args.pins.now c.loop-pin.pin-index c.pin-item.result c.loop-pin.names c.loop-pin-test.true c.pin-item.is
+        (sym c.same_direction.ensures ∙ w.if-same_direction.false) c.loop-pin.invariant.names in
+        cc
+  ];
+}

@@ -3,4 +3,4 @@ use Rattle.simulation_catalog.specs.PinNames.{pin_names}
 use Rattle.simulation_catalog.proofs.pin_names.pin_names.Given as goal
 
 abbrev pub invariant-loop-pin : goal.invariant-loop-pin
-invariant-loop-pin l = record { names : l.names ≡ pin_names l.direction (take l.pin-index l.cell.pins) }
+invariant-loop-pin l = record { names : l.names ≡ pin_names l.direction (take l.pin-index l.pins) }

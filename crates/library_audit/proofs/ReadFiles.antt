@@ -10,8 +10,8 @@ use Rattle.text_io.specs.Plan.{plan}
 use Rattle.text_io.specs.Desk.{DeskState, Folder, StopsWithCause}
 use Rattle.library_items.specs.LibraryCells.{CellEntry}
 use Rattle.specify_blocks.specs.declared.model.VModule.{VModule}
+use Rattle.file_models.specs.declared.file_model.FileModel.{FileModel}
 use Rattle.specify_blocks.specs.Sound.{IsSound}
-use Rattle.specify_blocks.specs.WellFormed.{IsWellFormedModule}
 use Rattle.section_runs.specs.Writes.{WritesTrace}
 use Rattle.command_outcomes.specs.declared.status.Status.{Status}
 use Rattle.command_outcomes.specs.declared.status.Status.TheVariants as status
@@ -42,9 +42,9 @@ after_cells words cells folder = behind_cells cells (bytes_at words folder 2)
 abbrev pub HasCells : DeskState → DeskState → List CellEntry → Type 0
 HasCells old now cells = HasRead audit_files one_file (audit_of old.words) (after_cells old.words cells) old now
 
--- both files were read, and the run goes on behind the modules
-abbrev pub HasModules : DeskState → DeskState → List CellEntry → List VModule → Type 0
-HasModules old now cells modules = HasRead audit_files audit_files (audit_of old.words) (λ _. audits_outcome cells modules) old now
+-- both files were read, and the run goes on behind the models
+abbrev pub HasModels : DeskState → DeskState → List CellEntry → List (FileModel VModule) → Type 0
+HasModels old now cells models = HasRead audit_files audit_files (audit_of old.words) (λ _. audits_outcome cells models) old now
 
 -- the Verilog file is still among those that the words name
 pub verilog_planned : (old now : DeskState) (cells : List CellEntry) → HasCells old now cells → plan old.words ≡ audit_files → Contains (plan now.words) (Input Verilog, 2)
@@ -59,14 +59,14 @@ cells_read old now cells t =
     one_more audit_files [] (audit_of old.words) library_answer (after_cells old.words) old old now Library 1 1 cells
     (nothing_read audit_files (audit_of old.words) old) refl ((Input Verilog, 2) ∷ [], refl) t
 
-pub modules_read : (old now new : DeskState) (cells : List CellEntry) (modules : List VModule) → HasCells old now cells
-    → FileIsTaken (model_answer verilog) now new Verilog 2 modules → HasModules old new cells modules
-modules_read old now new cells modules r t =
-    one_more audit_files one_file (audit_of old.words) (model_answer verilog) (λ found _. audits_outcome cells found) old now new Verilog 2 2 modules
+pub models_read : (old now new : DeskState) (cells : List CellEntry) (models : List (FileModel VModule)) → HasCells old now cells
+    → FileIsTaken (model_answer verilog) now new Verilog 2 models → HasModels old new cells models
+models_read old now new cells models r t =
+    one_more audit_files one_file (audit_of old.words) (model_answer verilog) (λ found _. audits_outcome cells found) old now new Verilog 2 2 models
     r refl ([], refl) t
 
-pub modules_sound : (modules : List VModule) → All IsWellFormedModule modules → All IsSound modules
-modules_sound modules h = λ k d below. (h k d below).sound
+pub modules_sound : (models : List (FileModel VModule)) → All verilog.is_well_formed models → All (λ (model : FileModel VModule). IsSound model.core) models
+modules_sound models h = λ k d below. (h k d below).core
 
 -- The file that ends the run.
 
@@ -81,28 +81,28 @@ verilog_ends old now new cells result r f =
     ends_there audit_files one_file (audit_of old.words) (model_answer verilog) (λ found _. audits_outcome cells found) old now new Verilog 2 2 result
     r refl ([], refl) refl refl f
 
--- want of memory behind the modules
-pub no_memory : (old now : DeskState) (cells : List CellEntry) (modules : List VModule) (result : Status) → HasModules old now cells modules → result ≡ status.Memory
+-- want of memory behind the models
+pub no_memory : (old now : DeskState) (cells : List CellEntry) (models : List (FileModel VModule)) (result : Status) → HasModels old now cells models → result ≡ status.Memory
     → RunsAs audit_files (audit_of old.words) old now result
-no_memory old now cells modules result r is =
-    stops_between audit_files audit_files (audit_of old.words) (λ _. audits_outcome cells modules) old now result r (ap is_decided is)
+no_memory old now cells models result r is =
+    stops_between audit_files audit_files (audit_of old.words) (λ _. audits_outcome cells models) old now result r (ap is_decided is)
 
 -- The lines are printed.
 
-pub printed_runs : (old now new : DeskState) (cells : List CellEntry) (modules : List VModule) (printed : Result Bool Stop) (result : Status) → HasModules old now cells modules
-    → WritesTrace now new (audits_text modules cells) printed → IfOk printed (λ differ. differ ≡ any_differs modules cells) → result ≡ printed_status printed
+pub printed_runs : (old now new : DeskState) (cells : List CellEntry) (models : List (FileModel VModule)) (printed : Result Bool Stop) (result : Status) → HasModels old now cells models
+    → WritesTrace now new (audits_text models cells) printed → IfOk printed (λ differ. differ ≡ any_differs models cells) → result ≡ printed_status printed
     → RunsAs audit_files (audit_of old.words) old new result
-printed_runs old now new cells modules (Ok differ) result r w d is =
-    let text = audits_text modules cells in
-    let ends = status_where (any_differs modules cells) in
+printed_runs old now new cells models (Ok differ) result r w d is =
+    let text = audits_text models cells in
+    let ends = status_where (any_differs models cells) in
     let same : result ≡ ends = is ∙ ap status_where d in
     reports_all audit_files (audit_of old.words) old now new ends result text text r refl w.whole ([], append-nil text) (λ _. (same, refl))
-printed_runs old now new cells modules (Err stops.Failed) result r w d is =
-    let ends = status_where (any_differs modules cells) in
-    reports_all audit_files (audit_of old.words) old now new ends result w.part.part (audits_text modules cells) r refl w.part.state w.part.front (λ k. absurd (let h = rw is at k in cc))
-printed_runs old now new cells modules (Err stops.Memory) result r w d is =
-    let ends = status_where (any_differs modules cells) in
-    reports_all audit_files (audit_of old.words) old now new ends result w.part.part (audits_text modules cells) r refl w.part.state w.part.front (λ k. absurd (let h = rw is at k in cc))
+printed_runs old now new cells models (Err stops.Failed) result r w d is =
+    let ends = status_where (any_differs models cells) in
+    reports_all audit_files (audit_of old.words) old now new ends result w.part.part (audits_text models cells) r refl w.part.state w.part.front (λ k. absurd (let h = rw is at k in cc))
+printed_runs old now new cells models (Err stops.Memory) result r w d is =
+    let ends = status_where (any_differs models cells) in
+    reports_all audit_files (audit_of old.words) old now new ends result w.part.part (audits_text models cells) r refl w.part.state w.part.front (λ k. absurd (let h = rw is at k in cc))
 
 -- A run whose lines were printed so counts its faults as its status tells.
 

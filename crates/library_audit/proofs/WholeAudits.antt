@@ -2,6 +2,7 @@
 use Rattle.std.proofs.Common.{◌≡◌, ℕ, List, Ok, ap, ◌∙◌}
 use Rattle.library_items.specs.LibraryCells.{CellEntry}
 use Rattle.specify_blocks.specs.declared.model.VModule.{VModule}
+use Rattle.file_models.specs.declared.file_model.FileModel.{FileModel}
 use Rattle.command_outcomes.specs.FileSteps.{outcome_by}
 use Rattle.library_file.specs.LibraryAnswer.{library_answer}
 use Rattle.model_files.specs.ModelAnswer.{model_answer}
@@ -9,7 +10,7 @@ use Rattle.model_languages.specs.Verilog.{verilog}
 use Rattle.library_audit.specs.Outcome.{audits_outcome, behind_cells, audit_outcome}
 
 -- two files that are read
-pub audited_whole : (library text : List ℕ) (cells : List CellEntry) (modules : List VModule) → library_answer library ≡ Ok cells → model_answer verilog text ≡ Ok modules
-    → audit_outcome library text ≡ audits_outcome cells modules
-audited_whole library text cells modules a b =
-    ap (λ found. outcome_by 1 found (λ cells. behind_cells cells text)) a ∙ ap (λ found. outcome_by 2 found (λ modules. audits_outcome cells modules)) b
+pub audited_whole : (library text : List ℕ) (cells : List CellEntry) (models : List (FileModel VModule)) → library_answer library ≡ Ok cells → model_answer verilog text ≡ Ok models
+    → audit_outcome library text ≡ audits_outcome cells models
+audited_whole library text cells models a b =
+    ap (λ found. outcome_by 1 found (λ cells. behind_cells cells text)) a ∙ ap (λ found. outcome_by 2 found (λ models. audits_outcome cells models)) b

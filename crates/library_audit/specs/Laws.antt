@@ -1,8 +1,10 @@
 -- What the comparison of a library with a Verilog file says. This project's promise.
-use Rattle.std.specs.Prelude.{◌≡◌, ◌↔◌, ℕ, All, List, Some, Ok}
+use Rattle.std.specs.Prelude.{◌≡◌, ◌↔◌, ℕ, false, All, List, Some, Ok}
 use Rattle.cell_machine.specs.CellData.{CellData}
+use Rattle.three_state_cells.specs.DrivenCells.{DrivenData, may_float}
 use Rattle.library_items.specs.LibraryCells.{CellEntry, Accepted, Refused}
 use Rattle.specify_blocks.specs.declared.model.VModule.{VModule}
+use Rattle.file_models.specs.declared.file_model.FileModel.{FileModel}
 use Rattle.command_outcomes.specs.declared.status.Status.TheVariants.{Done}
 use Rattle.library_file.specs.LibraryAnswer.{library_answer}
 use Rattle.model_files.specs.ModelAnswer.{model_answer}
@@ -13,34 +15,39 @@ use Rattle.library_audit.specs.Lines.{audit_line}
 use Rattle.library_audit.specs.Audits.{module_for, audit_text}
 use Rattle.library_audit.specs.Outcome.{audit_outcome}
 
--- a cell has a module with its name among these, and the module matches it
-pub record HasMatch (modules : List VModule) (cell : CellData) : Type 0 where
+-- a cell has a module with its name among these models of a file, and the module matches it
+pub record HasMatch (models : List (FileModel VModule)) (cell : CellData) : Type 0 where
   pub model : VModule
-  pub found : module_for modules cell ≡ Some model
+  pub found : module_for models cell ≡ Some model
   pub matches : Matches cell model
 
--- so a cell has that is accepted
-abbrev pub HasMatchOrIsRefused : List VModule → CellEntry → Type 0
-HasMatchOrIsRefused modules (Accepted cell entity) = HasMatch modules cell
-HasMatchOrIsRefused modules (Refused name refusal) = Unit {0}
+-- so a cell has that is accepted, where none of its outputs may float
+abbrev pub HasMatchOrIsLeftOut : List (FileModel VModule) → CellEntry → Type 0
+HasMatchOrIsLeftOut models (Accepted cell entity) = may_float cell ≡ false → HasMatch models cell.core
+HasMatchOrIsLeftOut models (Refused name refusal) = Unit {0}
 
 -- the line of a cell whose module is the same
 abbrev pub same_line : ℕ → List ℕ → List ℕ
 same_line number name = audit_line number name (Some Same)
 
--- The line of an accepted cell is that line exactly where the cell has such a module.
+-- None of a cell's outputs may float, and the cell has such a module.
+pub record IsMatched (models : List (FileModel VModule)) (cell : DrivenData) : Type 0 where
+  pub plain : may_float cell ≡ false
+  pub has_match : HasMatch models cell.core
+
+-- The line of an accepted cell is that line exactly where that is so.
 abbrev pub SameLineIsMatch : Type 0
 SameLineIsMatch =
-    (modules : List VModule) (cell : CellData) (entity : List ℕ)
-    → (audit_text modules (Accepted cell entity) ≡ same_line cell.number cell.name) ↔ HasMatch modules cell
+    (models : List (FileModel VModule)) (cell : DrivenData) (entity : List ℕ)
+    → (audit_text models (Accepted cell entity) ≡ same_line cell.core.number cell.name) ↔ IsMatched models cell
 
--- The library and the Verilog file are read, and each accepted cell has such a module.
+-- The library and the Verilog file are read, and each accepted cell has such a module where none of its outputs may float.
 pub record AllMatch (library text : List ℕ) : Type 0 where
   pub cells : List CellEntry
   pub are_cells : library_answer library ≡ Ok cells
-  pub modules : List VModule
-  pub are_modules : model_answer verilog text ≡ Ok modules
-  pub match_all : All (HasMatchOrIsRefused modules) cells
+  pub models : List (FileModel VModule)
+  pub are_models : model_answer verilog text ≡ Ok models
+  pub match_all : All (HasMatchOrIsLeftOut models) cells
 
 -- A comparison is done exactly where that is so.
 abbrev pub DoneIsMatch : Type 0

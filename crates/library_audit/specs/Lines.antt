@@ -84,3 +84,7 @@ verdict_text (Some (verdict.Differs difference)) = difference_text difference
 -- the line of a cell: its number, from 1 among all cells of the library, its name, and what is said of it
 unfoldable pub audit_line : ℕ → List ℕ → Option Verdict → List ℕ
 audit_line number name found = codes "audit " ++ (decimal number ++ (codes " " ++ (name ++ verdict_text found)))
+
+-- the line of a cell that is not compared, since some of its outputs may float
+unfoldable pub left_out_line : ℕ → List ℕ → List ℕ
+left_out_line number name = codes "audit " ++ (decimal number ++ (codes " " ++ (name ++ codes " left-out\n")))

@@ -7,6 +7,7 @@ use Rattle.text_io.specs.declared.stop.Stop.{Stop}
 use Rattle.text_io.specs.Desk.{Folder}
 use Rattle.library_items.specs.LibraryCells.{CellEntry}
 use Rattle.specify_blocks.specs.declared.model.VModule.{VModule}
+use Rattle.file_models.specs.declared.file_model.FileModel.{FileModel}
 use Rattle.command_outcomes.specs.declared.status.Status.{Status}
 use Rattle.command_outcomes.specs.declared.status.Status.TheVariants as status
 use Rattle.command_outcomes.specs.Status.{status_by}
@@ -31,14 +32,14 @@ status_where some_differ = if some_differ then status.Differ else status.Done
 abbrev pub printed_status : Result Bool Stop → Status
 printed_status printed = status_by status_where printed
 
--- what the cells come to beside these modules; both files are bound then
-abbrev pub audits_outcome : List CellEntry → List VModule → Outcome
-audits_outcome cells modules =
-    record { status = status_where (any_differs modules cells); binds = 2; text = in_report (audits_text modules cells); faults = [] }
+-- what the cells come to beside these models; both files are bound then
+abbrev pub audits_outcome : List CellEntry → List (FileModel VModule) → Outcome
+audits_outcome cells models =
+    record { status = status_where (any_differs models cells); binds = 2; text = in_report (audits_text models cells); faults = [] }
 
 -- behind the cells, by the Verilog file
 abbrev pub behind_cells : List CellEntry → List ℕ → Outcome
-behind_cells cells text = outcome_by 2 (model_answer verilog text) (λ modules. audits_outcome cells modules)
+behind_cells cells text = outcome_by 2 (model_answer verilog text) (λ models. audits_outcome cells models)
 
 -- What these bytes of a library and of a Verilog file come to. The Verilog file is bound only behind a library that is read.
 abbrev pub audit_outcome : List ℕ → List ℕ → Outcome

@@ -3,19 +3,20 @@ ghost use Rattle.std.specs.Prelude.{◌≡◌, IfOk};
 ghost use Rattle.text_io.specs.Desk.{StopsWithCause};
 ghost use Rattle.section_runs.specs.Writes.{WritesTrace};
 ghost use Rattle.cell_machine.specs.CellData.{data_of};
+ghost use Rattle.three_state_cells.specs.DrivenCells.{driven_data_of};
 ghost use Rattle.library_items.specs.LibraryCells.{described, all_described};
 ghost use Rattle.library_audit.specs.Lines.{audit_line};
-ghost use Rattle.library_audit.specs.Audits.{verdict_in, audit_text, audits_text, is_other as is_other_of, differs, any_differs};
+ghost use Rattle.library_audit.specs.Audits.{verdict_in, accepted_text, audit_text, audits_text, is_other as is_other_of, accepted_differs, differs, any_differs};
 ghost use Rattle.library_audit.specs.Reads.{AreReady};
 
 use crate::files::AuditFiles;
-use crate::lines::write_audit;
+use crate::lines::{write_audit, write_left_out};
 use crate::modules::NamedModules;
-use cell_machine::Cell;
 use library_items::LibraryCell;
 use std::alloc::Global;
 use table_audit::Verdict;
 use text_io::{Desk, Stop};
+use three_state_cells::DrivenCell;
 
 /// Whether a cell has no module that is the same.
 fn is_other(found: &Option<Verdict>) -> bool
@@ -24,22 +25,42 @@ fn is_other(found: &Option<Verdict>) -> bool
     !matches!(found, Some(Verdict::Same))
 }
 
-/// Appends to the report the line of an accepted cell, and answers whether it has no module that is the same. After a fault a prefix of
-/// the line was appended.
+/// Appends to the report the line of a cell that is compared with its module, and answers whether it has none that is the same. After a
+/// fault a prefix of the line was appended.
+fn write_compared<D: Desk>(
+    alloc: Global,
+    desk: &mut D,
+    named: &NamedModules,
+    cell: &DrivenCell,
+) -> Result<bool, Stop>
+    requires { AreReady named.now }
+    ensures text { WritesTrace (D.state desk.old) (D.state desk.new) (audit_line cell.now.core.number cell.now.name (verdict_in named.now.models (data_of cell.now.core))) result }
+    ensures other { IfOk result (λ other. other ≡ is_other_of (verdict_in named.now.models (data_of cell.now.core))) }
+    ensures cause { StopsWithCause (D.faults desk.old) (D.faults desk.new) result }
+{
+    let found = named.verdict(alloc, &cell.core)?;
+    write_audit(desk, cell.core.number, cell.name.as_slice(), &found)?;
+    Ok(is_other(&found))
+}
+
+/// Appends to the report the line of an accepted cell, and answers whether it is compared and has no module that is the same. After a
+/// fault a prefix of the line was appended.
 fn write_accepted<D: Desk>(
     alloc: Global,
     desk: &mut D,
     named: &NamedModules,
-    cell: &Cell,
+    cell: &DrivenCell,
 ) -> Result<bool, Stop>
     requires { AreReady named.now }
-    ensures text { WritesTrace (D.state desk.old) (D.state desk.new) (audit_line cell.now.number cell.now.name (verdict_in named.now.modules (data_of cell.now))) result }
-    ensures other { IfOk result (λ other. other ≡ is_other_of (verdict_in named.now.modules (data_of cell.now))) }
+    ensures text { WritesTrace (D.state desk.old) (D.state desk.new) (accepted_text named.now.models (driven_data_of cell.now)) result }
+    ensures differs { IfOk result (λ other. other ≡ accepted_differs named.now.models (driven_data_of cell.now)) }
     ensures cause { StopsWithCause (D.faults desk.old) (D.faults desk.new) result }
 {
-    let found = named.verdict(alloc, cell)?;
-    write_audit(desk, cell.number, cell.name.as_slice(), &found)?;
-    Ok(is_other(&found))
+    if cell.driver.drives.len() > 0 {
+        write_left_out(desk, cell.core.number, cell.name.as_slice())?;
+        return Ok(false);
+    }
+    write_compared(alloc, desk, named, cell)
 }
 
 /// Appends to the report the line of a cell, where it is accepted, and answers whether it then has no module that is the same. After a
@@ -51,8 +72,8 @@ fn write_cell<D: Desk>(
     cell: &LibraryCell,
 ) -> Result<bool, Stop>
     requires { AreReady named.now }
-    ensures text { WritesTrace (D.state desk.old) (D.state desk.new) (audit_text named.now.modules (described cell.now)) result }
-    ensures differs { IfOk result (λ other. other ≡ differs named.now.modules (described cell.now)) }
+    ensures text { WritesTrace (D.state desk.old) (D.state desk.new) (audit_text named.now.models (described cell.now)) result }
+    ensures differs { IfOk result (λ other. other ≡ differs named.now.models (described cell.now)) }
     ensures cause { StopsWithCause (D.faults desk.old) (D.faults desk.new) result }
 {
     match cell {
@@ -69,8 +90,8 @@ pub(crate) fn write_cells<D: Desk>(
     files: &AuditFiles,
 ) -> Result<bool, Stop>
     requires { AreReady files.now.named }
-    ensures text { WritesTrace (D.state desk.old) (D.state desk.new) (audits_text files.now.named.modules (all_described files.now.cells)) result }
-    ensures differs { IfOk result (λ some_differ. some_differ ≡ any_differs files.now.named.modules (all_described files.now.cells)) }
+    ensures text { WritesTrace (D.state desk.old) (D.state desk.new) (audits_text files.now.named.models (all_described files.now.cells)) result }
+    ensures differs { IfOk result (λ some_differ. some_differ ≡ any_differs files.now.named.models (all_described files.now.cells)) }
     ensures cause { StopsWithCause (D.faults desk.old) (D.faults desk.new) result }
 {
     let mut some_differ = false;

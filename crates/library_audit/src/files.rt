@@ -15,12 +15,12 @@ use sqlite_items::Items;
 use std::alloc::Global;
 use text_io::Desk;
 
-/// The cells of a library, and the modules of a Verilog file.
+/// The cells of a library, and the models of a Verilog file.
 #[derive(Drop)]
 pub(crate) struct AuditFiles {
     /// The cells, in the order of the library.
     pub cells: Items<LibraryCell>,
-    /// The modules.
+    /// The models.
     pub named: NamedModules,
 }
 
@@ -37,12 +37,12 @@ pub(crate) fn read_files<D: Desk>(alloc: Global, desk: &mut D) -> Result<AuditFi
     ensures cause { IfErr result (StopsWithStatus (D.faults desk.old) (D.faults desk.new)) }
 {
     let cells = read_library(alloc, desk, 1)?;
-    let modules = read_model_file::<D, Verilog>(alloc, desk, 2)?;
-    let names = names_of(alloc, modules.as_slice())?;
+    let models = read_model_file::<D, Verilog>(alloc, desk, 2)?;
+    let names = names_of(alloc, models.as_slice())?;
     Ok(AuditFiles {
         cells: Items::from_vec(cells),
         named: NamedModules {
-            modules: Items::from_vec(modules),
+            models: Items::from_vec(models),
             names,
         },
     })

@@ -1,5 +1,5 @@
 //! Comparing the cells of a library with the modules of a Verilog file, table by table: both files are read, and a line for each
-//! accepted cell is printed.
+//! accepted cell is printed. Cells whose outputs may float are left out, and drivers are no modules.
 #![tactic(auto)]
 
 mod audits;

@@ -1,7 +1,7 @@
 //! The line of a cell that is compared with its module.
 ghost use Rattle.text_io.specs.declared.slots.OutSlot.TheVariants.{Report};
 ghost use Rattle.text_io.specs.Desk.{HasCause, WritesText};
-ghost use Rattle.library_audit.specs.Lines.{shape_text, values_text, arguments_text, difference_text, verdict_text, audit_line};
+ghost use Rattle.library_audit.specs.Lines.{shape_text, values_text, arguments_text, difference_text, verdict_text, audit_line, left_out_line};
 
 use crate::words::{Known, Place, ShapeWord, TableWord, Value, Values};
 use table_audit::{Difference, ShapePart, Verdict};
@@ -111,5 +111,21 @@ pub(crate) fn write_audit<D: Desk>(
 {
     let verdict = parts!(Bytes(b" "), Bytes(name), Found(found));
     let line = parts!(Bytes(b"audit "), Decimal(number as u128), verdict);
+    write_part(desk, OutSlot::Report, &line)
+}
+
+/// Reports a cell that is not compared, since some of its outputs may float: its number, from 1 among all cells of the library, and its
+/// name. After `Failed`, which comes only where a write failed, a prefix of the line was appended.
+#[tactic(auto, unfolding(crate::specs::Lines::left_out_line))]
+pub(crate) fn write_left_out<D: Desk>(
+    desk: &mut D,
+    number: usize,
+    name: &[u8],
+) -> Result<(), Failed>
+    ensures text { WritesText (D.state desk.old) (D.state desk.new) Report (left_out_line number name.now) result }
+    ensures cause { HasCause (D.faults desk.old) (D.faults desk.new) result }
+{
+    let name = parts!(Bytes(b" "), Bytes(name), Bytes(b" left-out\n"));
+    let line = parts!(Bytes(b"audit "), Decimal(number as u128), name);
     write_part(desk, OutSlot::Report, &line)
 }

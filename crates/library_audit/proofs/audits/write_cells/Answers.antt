@@ -12,7 +12,7 @@ returns-in_err-cell_differs-clause-text g c =
     let files = c.args.files.now in
     let within = rw c.as_slice-cell-items.ensures at c.loop-cell-test.true in
     let is = rw c.as_slice-cell-items.ensures at c.cell-item.is in
-    lines_part files.named.modules files.cells c.loop-cell.cell-index _ _ _ _ _ _ within is c.loop-cell.invariant.written c.in_err-cell_differs.ensures.text c.from_residual.ensures.0
+    lines_part files.named.models files.cells c.loop-cell.cell-index _ _ _ _ _ _ within is c.loop-cell.invariant.written c.in_err-cell_differs.ensures.text c.from_residual.ensures.0
 
 pub loop-cell-preserved : goal.loop-cell-preserved
 loop-cell-preserved g c =
@@ -25,8 +25,8 @@ loop-cell-preserved g c =
       | else-some_differ w ↦ w.some_differ-is ∙ sym (ap (λ b. b || here) w.if-some_differ.false)
     ] in
     record {
-      written = wrote_item_as (cell_text files.named.modules) files.cells c.loop-cell.cell-index _ _ _ _ _ within is c.loop-cell.invariant.written c.in_ok-cell_differs.ensures.text.whole;
-      differ = joined ∙ differs_more files.named.modules files.cells c.loop-cell.cell-index _ _ _ within is c.loop-cell.invariant.differ c.in_ok-cell_differs.ensures.differs;
+      written = wrote_item_as (cell_text files.named.models) files.cells c.loop-cell.cell-index _ _ _ _ _ within is c.loop-cell.invariant.written c.in_ok-cell_differs.ensures.text.whole;
+      differ = joined ∙ differs_more files.named.models files.cells c.loop-cell.cell-index _ _ _ within is c.loop-cell.invariant.differ c.in_ok-cell_differs.ensures.differs;
       kept = c.in_ok-cell_differs.ensures.cause.kept ∙ c.loop-cell.invariant.kept;
     }
 
@@ -34,10 +34,10 @@ pub returns-clause-text : goal.returns-clause-text
 returns-clause-text g c =
     let files = c.args.files.now in
     let over = rw c.as_slice-cell-items.ensures at c.loop-cell-test.false in
-    record { whole = lines_whole files.named.modules files.cells _ _ _ over c.loop-cell.invariant.written; part = tt }
+    record { whole = lines_whole files.named.models files.cells _ _ _ over c.loop-cell.invariant.written; part = tt }
 
 pub returns-clause-differs : goal.returns-clause-differs
 returns-clause-differs g c =
     let files = c.args.files.now in
     let over = rw c.as_slice-cell-items.ensures at c.loop-cell-test.false in
-    differs_whole files.named.modules files.cells _ _ over c.loop-cell.invariant.differ
+    differs_whole files.named.models files.cells _ _ over c.loop-cell.invariant.differ

@@ -8,7 +8,7 @@ write_cells-requires g c = c.in-Ok.ensures.read.ready
 pub returns-in-Ok-clause-writes : goal.returns-in-Ok-clause-writes
 returns-in-Ok-clause-writes g c =
     let files = c.in-Ok.files in
-    printed_runs (g.D.Desk.state c.args.desk.now) (g.D.Desk.state c.read_files.new.desk) (g.D.Desk.state c.write_cells.new.desk) (all_described files.cells) files.named.modules
+    printed_runs (g.D.Desk.state c.args.desk.now) (g.D.Desk.state c.read_files.new.desk) (g.D.Desk.state c.write_cells.new.desk) (all_described files.cells) files.named.models
     c.write_cells.result c.printed_status.result c.in-Ok.ensures.read.files c.write_cells.ensures.text c.write_cells.ensures.differs c.printed_status.ensures
 
 pub returns-in-Ok-clause-cause : goal.returns-in-Ok-clause-cause

@@ -1,5 +1,5 @@
 use Rattle.section_runs.proofs.Runs.{appends_nothing}
-use Rattle.library_audit.proofs.audits.write_accepted.Goals as goal
+use Rattle.library_audit.proofs.audits.write_compared.Goals as goal
 
 pub returns-in_err-found-clause-text : goal.returns-in_err-found-clause-text
 returns-in_err-found-clause-text g c = appends_nothing _ _ _ c.from_residual.ensures.0

@@ -1,29 +1,38 @@
--- The cells that translating a library accepts are accepted cells of one library, so that their modules are well formed, and their
--- entities.
-use Rattle.std.proofs.Common.{◌≡◌, ℕ, ◌+◌, ◌^◌, ◌<◌, ◌≤◌, Bool, true, false, List, [], ◌∷◌, ◌++◌, length, take, length-take, refl, sym, ap, subst, arith, Contains, Option, Some, None, is_some, inl, inr, if◌then◌else◌}
-use Rattle.std.specs.List.{list_any}
+-- The cells that translating a library accepts are accepted cells of one library, so that their modules, their entities and their
+-- drivers are well formed.
+use Rattle.std.proofs.Common.{◌≡◌, ℕ, ◌+◌, ◌^◌, ◌<◌, ◌≤◌, Bool, true, false, List, [], ◌∷◌, ◌++◌, length, map, take, length-take, refl, sym, ap, subst, ◌∙◌, arith, Contains, Option, Some, None, is_some, nat_eq, inl, inr, if◌then◌else◌}
+use Rattle.std.specs.List.{IsDistinct, AllByRecursion, list_any}
 use Rattle.std.specs.Str.{bytes_eq}
-use Rattle.std.proofs.lemmas.List.Elements.{Contains-append_left, Contains-append_right}
+use Rattle.std.proofs.lemmas.List.Elements.{Contains-append_left, Contains-append_right, All-from_recursion}
 use Rattle.std.proofs.lemmas.Map.Views.{Contains-from_any}
+use Rattle.std.proofs.lemmas.Simd.{map-map}
 use Rattle.std.proofs.lemmas.Slice.Eq.{bytes_eq-Decides}
 use Rattle.bool_functions.specs.NameList.{number_of}
 use Rattle.bool_functions.proofs.Elements.{contains_here, contains_cases}
 use Rattle.bool_functions.proofs.NameLists.{position-none}
 use Rattle.liberty_groups.specs.declared.tree.Group.{Group}
+use Rattle.cell_machine.specs.CellData.{CellData}
 use Rattle.cell_parts.specs.Groups.{cell_name}
 use Rattle.cell_reader.specs.declared.refusal.Refusal.{Refusal}
 use Rattle.cell_cursor.specs.declared.item.LibraryItem.{LibraryItem}
 use Rattle.cell_cursor.specs.declared.item.LibraryItem.TheVariants as item
 use Rattle.cell_cursor.specs.Ends.{items_within}
 use Rattle.cell_cursor.proofs.Ascending.{items_few}
-use Rattle.generated_modules.specs.Accepted.{IsAccepted, AreAccepted}
-use Rattle.generated_modules.proofs.AcceptedCells.{accepted-of-one-library, accepted-well-formed}
-use Rattle.generated_entities.proofs.EntityLists as entity_lists
+use Rattle.three_state_cells.specs.DrivenCells.{DrivenData}
+use Rattle.library_cells.specs.Cells.{kept_names}
+use Rattle.generated_modules.specs.Accepted.{IsAccepted, AreAccepted, described}
+use Rattle.generated_modules.proofs.AcceptedCells.{accepted-of-one-library}
+use Rattle.generated_driven_modules.specs.Library as modules
+use Rattle.generated_driven_modules.proofs.Cores.{core-modules-well-formed}
+use Rattle.generated_driven_modules.proofs.Drivers.{drivers-well-formed}
+use Rattle.generated_driven_entities.specs.Laws as entities
+use Rattle.generated_driven_entities.proofs.Together.{well_formed_together}
 use Rattle.library_items.specs.declared.progress.Progress.{Progress}
 use Rattle.library_items.specs.Progress.{no_progress, next_number, names_with, next_refusal, next_data, next_entity, entity_by, after_cell}
 use Rattle.library_items.specs.Endings.{library_limit}
 use Rattle.translate_cmd.specs.TranslatedModels.{cells_by, accepted_cells, cells_in}
 use Rattle.translate_cmd.specs.TranslatedLaws.{ModulesAreWellFormed, EntitiesAreWellFormed}
+use Rattle.translate_cmd.proofs.ReadCells.{under_own_name, its_name, its_core, its_number, is_numbered, is_driven}
 
 -- each of these names is among others
 abbrev AreAmong : List (List ℕ) → List (List ℕ) → Type 0
@@ -57,43 +66,70 @@ one_more names known name h x m =
 
 -- the next cell
 
-accepted : (p : Progress) (group : Group) (names : List (List ℕ)) → AreAmong names p.names → next_refusal p group ≡ None → IsAccepted names (next_data p group)
-unfolding next_refusal next_data
-accepted p group names h e = record { unit = p.unit; group = group; earlier = p.names; known = h; unrefused = e; data_is = refl }
+-- a cell with what its models in both languages ask for
+record IsLibraryCell (cell : DrivenData) : Type 0 where
+  numbered : modules.IsNumberedDriven cell
+  driven : entities.IsDrivenCell cell
 
-its_number : (p : Progress) (group : Group) → (next_data p group).number ≡ next_number p
+next_name : (p : Progress) (group : Group) → (next_data p group).name ≡ cell_name group
 unfolding next_data
-its_number p group = refl
+next_name p group = its_name p.unit p.names (next_number p) group
 
-its_name : (p : Progress) (group : Group) → (next_data p group).name ≡ cell_name group
-unfolding next_data
-its_name p group = refl
+module _ (p : Progress) (group : Group) (e : next_refusal p group ≡ None) where
+  its_next_number : (next_data p group).core.number ≡ next_number p
+  unfolding next_refusal next_data
+  its_next_number = its_number p.unit p.names (next_number p) group e
+
+  accepted : (names : List (List ℕ)) → AreAmong names p.names → IsAccepted names (under_own_name (next_data p group))
+  unfolding next_refusal next_data
+  accepted names h =
+      let core = its_core p.unit p.names (next_number p) group e in
+      record {
+        unit = p.unit;
+        group = core.group;
+        earlier = p.names;
+        known = h;
+        unrefused = core.unrefused;
+        data_is = core.is ∙ ap (λ (n : ℕ). described p.unit n core.group) (sym its_next_number);
+      }
+
+  in_library : next_number p < 2 ^ 64 → IsLibraryCell (next_data p group)
+  unfolding next_refusal next_data
+  in_library few = record {
+    numbered = is_numbered p.unit p.names (next_number p) group e few;
+    driven = is_driven p.unit p.names (next_number p) group e few;
+  }
+
+-- cells as they follow some with these names, from this number on
+record AreBehind (from : ℕ) (names : List (List ℕ)) (cells : List DrivenData) : Type 0 where
+  accepted : AreAccepted from names (map under_own_name cells)
+  each : AllByRecursion IsLibraryCell cells
 
 -- what holds of items behind any others
 abbrev Follow : List LibraryItem → Type 0
 Follow items =
     (p : Progress) (from : ℕ) (names : List (List ℕ))
-    → from ≤ next_number p → next_number p + length items < 2 ^ 64 → AreAmong names p.names → AreAccepted from names (accepted_cells p items)
+    → from ≤ next_number p → next_number p + length items < 2 ^ 64 → AreAmong names p.names → AreBehind from names (accepted_cells p items)
 
 cell_accepted :
     (p : Progress) (group : Group) (items : List LibraryItem) (from : ℕ) (names : List (List ℕ)) → Follow items → from ≤ next_number p
     → next_number p + (length items + 1) < 2 ^ 64 → AreAmong names p.names → (o : Option Refusal) → next_refusal p group ≡ o
-    → AreAccepted from names (cells_by p group o ++ accepted_cells (after_cell p (cell_name group) (entity_by p group o)) items)
+    → AreBehind from names (cells_by p group o ++ accepted_cells (after_cell p (cell_name group) (entity_by p group o)) items)
 cell_accepted p group items from names follow low room h None e =
-    let number = its_number p group in
-    let name = its_name p group in (
-      omega (arith, number, low),
-      omega (arith, number, room),
-      accepted p group names h e,
-      follow (after_cell p (cell_name group) (Some (next_entity p group))) ((next_data p group).number + 1) ((next_data p group).name ∷ names) (omega (arith, number)) (omega (arith, room))
-          (subst (λ x. AreAmong (x ∷ names) (names_with p.names (cell_name group))) (sym name) (one_more names p.names (cell_name group) h)),
-    )
+    let cell : DrivenData = next_data p group in
+    let number = its_next_number p group e in
+    let rest = follow (after_cell p (cell_name group) (Some (next_entity p group))) (cell.core.number + 1) (cell.name ∷ names) (omega (arith, number)) (omega (arith, room))
+    (subst (λ x. AreAmong (x ∷ names) (names_with p.names (cell_name group))) (sym (next_name p group)) (one_more names p.names (cell_name group) h)) in
+    record {
+      accepted = (omega (arith, number, low), omega (arith, number, room), accepted p group e names h, rest.accepted);
+      each = (in_library p group e (omega (arith, room)), rest.each);
+    }
 cell_accepted p group items from names follow low room h (Some refusal) e =
     follow (after_cell p (cell_name group) None) from names (omega (arith, low)) (omega (arith, room))
     (λ x m. names_keep p.names (cell_name group) x (h x m))
 
 all_accepted : (items : List LibraryItem) → Follow items
-all_accepted [] p from names low room h = tt
+all_accepted [] p from names low room h = record { accepted = tt; each = tt }
 all_accepted (item.Cell group ∷ items) p from names low room h =
     cell_accepted p group items from names (all_accepted items) low (omega (arith, room)) h (next_refusal p group) refl
 all_accepted (item.Unit line ∷ items) p from names low room h = all_accepted items _ from names (omega (arith, low)) (omega (arith, room)) h
@@ -110,14 +146,51 @@ few_items bytes =
 no_names : AreAmong [] []
 no_names name m = m
 
-library_accepted : (bytes : List ℕ) → AreAccepted 1 [] (cells_in bytes)
+library_accepted : (bytes : List ℕ) → AreBehind 1 [] (cells_in bytes)
 library_accepted bytes =
     let items : List LibraryItem = items_within library_limit bytes in
     let few : length items ≤ 67108864 = few_items bytes in
     all_accepted items no_progress 1 [] (omega arith) (omega (arith, few)) no_names
 
+-- Such cells are those of one library.
+
+each_numbered : (cells : List DrivenData) → AllByRecursion IsLibraryCell cells → AllByRecursion modules.IsNumberedDriven cells
+each_numbered [] h = tt
+each_numbered (cell ∷ cells) h = (h.0.numbered, each_numbered cells h.1)
+
+each_driven : (cells : List DrivenData) → AllByRecursion IsLibraryCell cells → AllByRecursion entities.IsDrivenCell cells
+each_driven [] h = tt
+each_driven (cell ∷ cells) h = (h.0.driven, each_driven cells h.1)
+
+module _ (bytes : List ℕ) where
+  abbrev cells : List DrivenData
+  cells = cells_in bytes
+
+  behind : AreBehind 1 [] cells
+  behind = library_accepted bytes
+
+  pub all_numbered : AllByRecursion modules.IsNumberedDriven cells
+  all_numbered = each_numbered cells behind.each
+
+  modules_of_one : modules.AreOfOneLibrary cells
+  modules_of_one =
+      let apart = accepted-of-one-library (map under_own_name cells) behind.accepted in
+      record {
+        numbered = All-from_recursion modules.IsNumberedDriven cells all_numbered;
+        names = subst (λ names. IsDistinct bytes_eq (kept_names names)) (map-map (λ (c : CellData). c.name) under_own_name cells) apart.names;
+        numbers = subst (IsDistinct nat_eq) (map-map (λ (c : CellData). c.number) under_own_name cells) apart.numbers;
+      }
+
+  entities_of_one : entities.AreOfOneLibrary cells
+  entities_of_one = record { each = each_driven cells behind.each; numbers = modules_of_one.numbers }
+
 pub modules-well-formed : ModulesAreWellFormed
-modules-well-formed bytes = accepted-well-formed (cells_in bytes) (library_accepted bytes)
+modules-well-formed bytes = record {
+  models = core-modules-well-formed (cells_in bytes) (modules_of_one bytes);
+  drivers = drivers-well-formed (cells_in bytes) (modules_of_one bytes);
+}
 
 pub entities-well-formed : EntitiesAreWellFormed
-entities-well-formed bytes = entity_lists.entities-well-formed (cells_in bytes) (accepted-of-one-library (cells_in bytes) (library_accepted bytes))
+entities-well-formed bytes =
+    let together = well_formed_together (cells_in bytes) (entities_of_one bytes) in
+    record { models = together.models; drivers = together.drivers }

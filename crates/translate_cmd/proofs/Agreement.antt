@@ -1,11 +1,8 @@
 -- A library simulated beside its own models ends neither for want of a model nor with traces that differ.
 use Rattle.std.proofs.Common.{◌≡◌, ℕ, Bool, true, false, List, [], length, nat_lt, ◌⊎◌, inl, inr, refl, sym, ap, subst, ◌∙◌, Result, Ok, Err}
 use Rattle.std.specs.Prelude.{◌≢◌, IfErr}
-use Rattle.cell_cursor.specs.Ends.{items_within}
 use Rattle.library_items.specs.LibraryCells.{CellEntry}
-use Rattle.specify_blocks.specs.declared.model.VModule.{VModule}
 use Rattle.udp_tables.specs.declared.models.ModelFault.{ModelFault}
-use Rattle.vital_models.specs.declared.model.VEntity.{VEntity}
 use Rattle.stimulus.specs.declared.faults.StimulusFault.{StimulusFault}
 use Rattle.stimulus.specs.declared.faults.StimulusFault.TheVariants as fault
 use Rattle.stimulus.specs.declared.sections.Section.{Section}
@@ -21,7 +18,12 @@ use Rattle.model_files.specs.StimulusAnswer.{long_stimulus_stop, sections_or_sto
 use Rattle.model_files.specs.Limits.{model_limit, stimulus_limit}
 use Rattle.model_languages.specs.Verilog.{verilog}
 use Rattle.model_languages.specs.Vital.{vital}
-use Rattle.simulation_catalog.specs.Catalog.{cells_named}
+use Rattle.vital_models.specs.declared.model.VEntity.{VEntity}
+use Rattle.vhdl_text.specs.WellFormed.{AreApart}
+use Rattle.file_models.specs.declared.file_model.FileModel.{FileModel}
+use Rattle.model_files.specs.ModelNames.{model_names}
+use Rattle.model_languages.proofs.VerilogModels.{own_names}
+use Rattle.model_languages.proofs.VitalModels.{own_names_beside}
 use Rattle.simulation_catalog.specs.Comparisons.{sections_text}
 use Rattle.simulation_catalog.specs.Generated.{modules_of, entities_of, HaveOwnModels, EndsEqual}
 use Rattle.simulation_catalog.specs.FaultLines.{cause_stop}
@@ -30,47 +32,30 @@ use Rattle.simulation_catalog.proofs.EqualEnds.{bad_line_stops, never_model_or_d
 use Rattle.library_items.specs.declared.ending.Ending.{Ending}
 use Rattle.library_items.specs.declared.ending.Ending.TheVariants as ending
 use Rattle.library_items.specs.declared.ending.NotWhole.TheVariants as not_whole
-use Rattle.library_items.specs.Progress.{no_progress}
 use Rattle.library_items.specs.Endings.{library_limit, ending_of}
-use Rattle.library_items.specs.KeptCells.{kept_cells, cells_by}
+use Rattle.library_items.specs.KeptCells.{cells_by}
 use Rattle.library_translation.specs.Library.{translate_outcome}
 use Rattle.library_file.specs.LibraryAnswer.{library_answer, answer_by, library_stop}
 use Rattle.model_simulation.specs.Simulate.{behind_cells, behind_modules, behind_entities}
-use Rattle.translate_cmd.specs.TranslatedModels.{modules_in, entities_in}
-use Rattle.translate_cmd.specs.Agreement.{Agrees, OwnModelsAgree}
-use Rattle.translate_cmd.proofs.AcceptedCells.{modules-well-formed, entities-well-formed}
-use Rattle.translate_cmd.proofs.KeptModels.{kept_modules, kept_entities, kept_rules}
 use Rattle.model_simulation.proofs.OwnNames.{modules_apart, entities_apart}
+use Rattle.translate_cmd.specs.Agreement.{own_catalog, Agrees, OwnModelsAgree}
+use Rattle.translate_cmd.proofs.KeptRules.{kept_rules}
+use Rattle.translate_cmd.proofs.KeptCells.{cells_of}
+use Rattle.translate_cmd.specs.TranslatedModels.{vital_in}
+use Rattle.translate_cmd.proofs.AcceptedCells.{entities-well-formed}
 use Rattle.translate_cmd.proofs.ReadBack.{libraries-read-back}
+use Rattle.translate_cmd.proofs.FileModels.{entities_are, verilog_read, vital_read}
 
--- the cells that are kept of a library
-abbrev pub cells_of : List ℕ → List CellEntry
-cells_of library = kept_cells no_progress (items_within library_limit library)
-
-pub modules_are : (library : List ℕ) → modules_of (cells_of library) ≡ modules_in library
-modules_are library = kept_modules (items_within library_limit library) no_progress
-
-entities_are : (library : List ℕ) → entities_of (cells_of library) ≡ entities_in library
-entities_are library = kept_entities (items_within library_limit library) no_progress [] (λ name. refl)
-
+-- No two of the models that are generated for a library have one name.
 pub own_models : (library : List ℕ) → HaveOwnModels (cells_of library)
-own_models library = record {
-  modules = rw (modules_are library) (modules_apart (modules_in library) (modules-well-formed library));
-  entities = rw (entities_are library) (entities_apart (entities_in library) (entities-well-formed library));
-}
-
--- at the stimulus
-ends_equal : (library stimulus : List ℕ)
-    → EndsEqual (cells_of library) (modules_in library) (entities_in library)
-    (stimulus_answer (cause_stop (cells_of library)) (cells_named (cells_of library) (modules_in library) (entities_in library)) stimulus)
-ends_equal library stimulus =
-    subst
-    (λ (es : List VEntity). EndsEqual (cells_of library) (modules_in library) es (stimulus_answer (cause_stop (cells_of library)) (cells_named (cells_of library) (modules_in library) es) stimulus))
-    (entities_are library)
-    (subst
-    (λ (ms : List VModule). EndsEqual (cells_of library) ms (entities_of (cells_of library)) (stimulus_answer (cause_stop (cells_of library)) (cells_named (cells_of library) ms (entities_of (cells_of library))) stimulus))
-    (modules_are library)
-    (never_model_or_differ (cells_of library) stimulus (kept_rules (items_within library_limit library) no_progress) (own_models library)))
+own_models library =
+    let modules = own_names (translate_outcome library).text.verilog (modules_of (cells_of library)) (verilog_read library) in
+    let entities = own_names_beside (translate_outcome library).text.vital (vital_in library) (libraries-read-back library).vital.answer (entities-well-formed library).models in
+    record {
+      modules = modules_apart (modules_of (cells_of library)) modules.own;
+      entities = entities_apart (entities_of (cells_of library))
+          (subst (λ (fs : List (FileModel VEntity)). AreApart (model_names vital fs)) (sym (entities_are library)) entities.apart);
+    }
 
 -- Runs that end at a file.
 
@@ -115,29 +100,35 @@ stimulus_undone cells catalog true bytes = λ e. absurd cc
 stimulus_undone cells catalog false bytes = fault_undone cells (stimulus_of (listed catalog) bytes)
 
 by_stimulus : (library stimulus : List ℕ) → library_answer library ≡ Ok (cells_of library) → (answer : Result (List Section) FileStop)
-    → stimulus_answer (cause_stop (cells_of library)) (cells_named (cells_of library) (modules_in library) (entities_in library)) stimulus ≡ answer
-    → IsUndone answer → EndsEqual (cells_of library) (modules_in library) (entities_in library) answer
-    → Agrees library stimulus (outcome_by 4 answer (λ sections. sections_outcome (cells_of library) (modules_in library) (entities_in library) sections))
+    → stimulus_answer (cause_stop (cells_of library)) (own_catalog (cells_of library)) stimulus ≡ answer
+    → IsUndone answer → EndsEqual (cells_of library) (modules_of (cells_of library)) (entities_of (cells_of library)) answer
+    → Agrees library stimulus (outcome_by 4 answer (λ sections. sections_outcome (cells_of library) (modules_of (cells_of library)) (entities_of (cells_of library)) sections))
 by_stimulus library stimulus whole (Ok sections) e undone h = record {
   not_model = λ f. let clash = sym h.done ∙ f in absurd cc;
   not_differ = λ f. let clash = sym h.done ∙ f in absurd cc;
   done = λ _. record {
-    report = sections_text (cells_of library) (modules_in library) (entities_in library) sections;
+    report = sections_text (cells_of library) (modules_of (cells_of library)) (entities_of (cells_of library)) sections;
     equal = record { cells = cells_of library; are_cells = whole; sections = sections; are_sections = e; equal = h.sections; report_is = refl };
     outcome_is = λ i. record {
       status = h.done i;
       binds = 4;
-      text = in_report (sections_text (cells_of library) (modules_in library) (entities_in library) sections);
+      text = in_report (sections_text (cells_of library) (modules_of (cells_of library)) (entities_of (cells_of library)) sections);
       faults = [];
     };
   };
 }
 by_stimulus library stimulus whole (Err stop) e undone h = stopped library stimulus 4 stop h.not_model h.not_differ undone
 
+-- at the stimulus
+ends_equal : (library stimulus : List ℕ)
+    → EndsEqual (cells_of library) (modules_of (cells_of library)) (entities_of (cells_of library))
+    (stimulus_answer (cause_stop (cells_of library)) (own_catalog (cells_of library)) stimulus)
+ends_equal library stimulus = never_model_or_differ (cells_of library) stimulus (kept_rules library) (own_models library)
+
 behind_the_models : (library stimulus : List ℕ) → library_answer library ≡ Ok (cells_of library)
-    → Agrees library stimulus (behind_entities (cells_of library) (modules_in library) (entities_in library) stimulus)
+    → Agrees library stimulus (behind_entities (cells_of library) (modules_of (cells_of library)) (entities_of (cells_of library)) stimulus)
 behind_the_models library stimulus whole =
-    let catalog = cells_named (cells_of library) (modules_in library) (entities_in library) in
+    let catalog = own_catalog (cells_of library) in
     by_stimulus library stimulus whole (stimulus_answer (cause_stop (cells_of library)) catalog stimulus) refl
     (stimulus_undone (cells_of library) catalog (nat_lt stimulus_limit (length stimulus)) stimulus) (ends_equal library stimulus)
 
@@ -146,13 +137,12 @@ behind_the_models library stimulus whole =
 behind_the_library : (library stimulus : List ℕ) → library_answer library ≡ Ok (cells_of library)
     → Agrees library stimulus (behind_cells (cells_of library) (translate_outcome library).text.verilog (translate_outcome library).text.vital stimulus)
 behind_the_library library stimulus whole =
-    let back = libraries-read-back library in
-    goes_on library stimulus 2 (modules_in library) (model_answer verilog (translate_outcome library).text.verilog)
+    goes_on library stimulus 2 (modules_of (cells_of library)) (model_answer verilog (translate_outcome library).text.verilog)
     (λ modules. behind_modules (cells_of library) modules (translate_outcome library).text.vital stimulus)
-    (read_as verilog (translate_outcome library).text.verilog (modules_in library) back.verilog.answer)
-    (goes_on library stimulus 3 (entities_in library) (model_answer vital (translate_outcome library).text.vital)
-    (λ entities. behind_entities (cells_of library) (modules_in library) entities stimulus)
-    (read_as vital (translate_outcome library).text.vital (entities_in library) back.vital.answer) (behind_the_models library stimulus whole))
+    (read_as verilog (translate_outcome library).text.verilog (modules_of (cells_of library)) (verilog_read library))
+    (goes_on library stimulus 3 (entities_of (cells_of library)) (model_answer vital (translate_outcome library).text.vital)
+    (λ entities. behind_entities (cells_of library) (modules_of (cells_of library)) entities stimulus)
+    (read_as vital (translate_outcome library).text.vital (entities_of (cells_of library)) (vital_read library)) (behind_the_models library stimulus whole))
 
 by_end : (library stimulus : List ℕ) (end : Ending) → ending_of library_limit library ≡ end
     → Agrees library stimulus

@@ -1,31 +1,40 @@
--- An entity is named by which names are given before it, however these are listed.
-use Rattle.std.proofs.Common.{◌≡◌, ℕ, Bool, true, false, ◌&&◌, ◌||◌, not, List, [], ◌∷◌, ◌++◌, codes, decimal, refl, sym, ap, subst, ◌∙◌, is_some, if◌then◌else◌}
+-- The VITAL model of a cell is named by which names are given before it, however these are listed.
+use Rattle.std.proofs.Common.{◌≡◌, ℕ, Bool, true, false, ◌&&◌, ◌||◌, not, List, [], ◌∷◌, ◌++◌, codes, refl, sym, ap, subst, ◌∙◌, is_some, if◌then◌else◌}
 use Rattle.std.specs.List.{list_any}
-use Rattle.std.specs.Str.{bytes_eq}
+use Rattle.std.specs.Str.{bytes_eq, str_eq_ignore_ascii_case}
 use Rattle.std.proofs.lemmas.List.Folds.{list_any-append}
 use Rattle.std.proofs.lemmas.Slice.Eq.{bytes_eq-Decides}
 use Rattle.bool_functions.specs.NameList.{number_of}
 use Rattle.liberty_groups.specs.declared.tree.Group.{Group}
-use Rattle.cell_parts.specs.Groups.{cell_name}
 use Rattle.cell_parts.proofs.Clashes.{found_is}
 use Rattle.vhdl_names.specs.Kept.{is_identifier, is_free, is_numbered, lowered}
-use Rattle.vital_models.specs.Kept.{is_kept_entity_name, entity_name}
+use Rattle.vital_models.specs.Kept.{is_kept_entity_name, name_or_numbered, entity_name, driver_name}
+use Rattle.three_state_cells.specs.DrivenCells.{DrivenData, may_float}
+use Rattle.generated_driven_entities.specs.Library.{model_name}
+use Rattle.library_items.specs.LibraryCells.{vital_name}
 use Rattle.library_items.specs.declared.progress.Progress.{Progress}
-use Rattle.library_items.specs.Progress.{next_number, names_with, next_data, next_entity}
+use Rattle.library_items.specs.Progress.{names_with, next_data, next_entity}
 
 -- two lists hold the same names
 abbrev pub AreAlike : List (List ℕ) → List (List ℕ) → Type 0
 AreAlike given known = (name : List ℕ) → list_any (bytes_eq name) given ≡ list_any (bytes_eq name) known
 
--- the names of the entities so far tell the next one
-pub named_alike :
-    (number : ℕ) (given known : List (List ℕ)) (name : List ℕ) → AreAlike given known → entity_name number given name ≡ entity_name number known name
+-- the names of the models so far tell whether VHDL text keeps a name behind them
+kept_alike : (given known : List (List ℕ)) (name : List ℕ) → AreAlike given known → is_kept_entity_name known name ≡ is_kept_entity_name given name
 unfolding is_kept_entity_name
-named_alike number given known name h =
-    ap
-    (λ (b : Bool).
-    if is_identifier name && (is_free name && (not (is_numbered (codes "cell") name) && not b)) then name else codes "cell" ++ decimal number)
-    (found_is given (lowered name) ∙ h (lowered name) ∙ sym (found_is known (lowered name)))
+kept_alike given known name h =
+    ap (λ (b : Bool). is_identifier name && (is_free name && (not (is_numbered (codes "cell") name) && not b)))
+    (found_is known (lowered name) ∙ sym (h (lowered name)) ∙ sym (found_is given (lowered name)))
+
+-- and what the next cell's model is called
+named_alike : (given known : List (List ℕ)) (cell : DrivenData) → AreAlike given known → vital_name known cell ≡ model_name (may_float cell) given cell
+named_alike given known cell h = by (may_float cell)
+  where
+    by : (b : Bool) → (if b then driver_name cell.core.number known cell.name else entity_name cell.core.number known cell.core.name) ≡ model_name b given cell
+    by true =
+        ap (λ (b : Bool). name_or_numbered (b && not (str_eq_ignore_ascii_case cell.name (codes "driven"))) cell.name (codes "vitalz") cell.core.number)
+        (kept_alike given known cell.name h)
+    by false = ap (λ (b : Bool). name_or_numbered b cell.core.name (codes "cell") cell.core.number) (kept_alike given known cell.core.name h)
 
 -- a list that holds a name already holds the same names with it
 same_with : (known : List (List ℕ)) (x name : List ℕ) → list_any (bytes_eq x) known ≡ true
@@ -50,6 +59,6 @@ alike_with given known x h name =
 -- the name of the next one, where these are given before it
 pub its_entity :
     (p : Progress) (group : Group) (given : List (List ℕ)) → AreAlike given p.entities
-    → next_entity p group ≡ entity_name (next_data p group).number given (next_data p group).name
-unfolding next_entity next_data
-its_entity p group given h = sym (named_alike (next_number p) given p.entities (cell_name group) h)
+    → next_entity p group ≡ model_name (may_float (next_data p group)) given (next_data p group)
+unfolding next_entity
+its_entity p group given h = named_alike given p.entities (next_data p group) h

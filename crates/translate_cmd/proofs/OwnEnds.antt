@@ -6,20 +6,17 @@ use Rattle.command_outcomes.specs.declared.status.Status.{Status}
 use Rattle.command_outcomes.specs.declared.status.Status.TheVariants as status
 use Rattle.command_outcomes.specs.Binding.{bytes_at}
 use Rattle.command_outcomes.specs.Outcome.{Outcome}
-use Rattle.cell_cursor.specs.Ends.{items_within}
-use Rattle.library_items.specs.Endings.{library_limit}
-use Rattle.library_items.specs.KeptCells.{kept_cells}
-use Rattle.library_items.specs.Progress.{no_progress}
 use Rattle.library_translation.specs.Library.{translate_outcome}
 use Rattle.simulation_catalog.specs.Comparisons.{any_differs}
+use Rattle.simulation_catalog.specs.Generated.{modules_of, entities_of}
 use Rattle.model_simulation.specs.Simulate.{simulate_outcome, simulate_of}
-use Rattle.translate_cmd.specs.TranslatedModels.{modules_in, entities_in}
 use Rattle.translate_cmd.specs.Complete.{CanBeSimulated}
 use Rattle.translate_cmd.specs.Agreement.{own_simulation, IsWithoutFault}
 use Rattle.translate_cmd.specs.AgreementRuns.{NameOwnModels}
 use Rattle.translate_cmd.proofs.Agreement.{own_models_agree}
 use Rattle.translate_cmd.proofs.CompleteLemmas.{simulation_comes_to}
-use Rattle.translate_cmd.proofs.ReadBack.{libraries-read-back}
+use Rattle.translate_cmd.proofs.FileModels.{verilog_read, vital_read}
+use Rattle.translate_cmd.proofs.KeptCells.{cells_of}
 
 -- such files can be simulated
 can_be_simulated : (library stimulus : List ℕ) → IsWithoutFault library stimulus
@@ -27,11 +24,11 @@ can_be_simulated : (library stimulus : List ℕ) → IsWithoutFault library stim
 can_be_simulated library stimulus h = record {
   whole = h.whole;
   text_within = h.verilog_within;
-  modules = modules_in library;
-  verilog = (libraries-read-back library).verilog.answer;
+  modules = modules_of (cells_of library);
+  verilog = verilog_read library;
   vhdl_within = h.vital_within;
-  entities = entities_in library;
-  vital = (libraries-read-back library).vital.answer;
+  entities = entities_of (cells_of library);
+  vital = vital_read library;
   stimulus_within = h.stimulus_within;
   sections = h.sections;
   lines = h.lines;
@@ -44,10 +41,10 @@ done_unless false s e never = e
 own_simulation_is_done : (library stimulus : List ℕ) → IsWithoutFault library stimulus → (own_simulation library stimulus).status ≡ status.Done
 unfolding can_be_simulated
 own_simulation_is_done library stimulus h =
-    let cells = kept_cells no_progress (items_within library_limit library) in
+    let cells = cells_of library in
     let text = (translate_outcome library).text.verilog in
     let vhdl = (translate_outcome library).text.vital in
-    done_unless (any_differs cells (modules_in library) (entities_in library) h.sections) (own_simulation library stimulus).status
+    done_unless (any_differs cells (modules_of cells) (entities_of cells) h.sections) (own_simulation library stimulus).status
     (ap (λ (o : Outcome). o.status) (simulation_comes_to library text vhdl stimulus (can_be_simulated library stimulus h)))
     (own_models_agree library stimulus).not_differ
 

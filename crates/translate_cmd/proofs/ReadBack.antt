@@ -1,40 +1,38 @@
 -- The Verilog and the VHDL of a library read back.
-use Rattle.std.proofs.Common.{◌≡◌, ℕ, List, Result, Ok, ◌∙◌, ap, subst}
-use Rattle.udp_tables.specs.declared.models.ModelFault.{ModelFault}
-use Rattle.specify_blocks.specs.VerilogText.{IsVerilogText, verilog_text}
-use Rattle.vhdl_text.specs.VhdlText.{IsVhdlText, vhdl_text}
-use Rattle.written_modules.specs.Laws.{modules_text}
-use Rattle.written_modules.proofs.FileReading.{read_back}
-use Rattle.written_entities.specs.Laws.{entities_text}
-use Rattle.written_entities.proofs.EntityFile.{entities_read_back}
-use Rattle.library_translation.specs.Library.{translate_outcome}
-use Rattle.translate_cmd.specs.TranslatedModels.{modules_in, entities_in}
-use Rattle.translate_cmd.specs.TranslatedLaws.{ReadsAs, LibrariesReadBack}
+use Rattle.std.proofs.Common.{◌≡◌, ℕ, List, [], Ok, sym, subst}
+use Rattle.sectioned_texts.specs.DrivenModels.{driven_models}
+use Rattle.driven_files.specs.Verilog.{verilog_sections}
+use Rattle.driven_files.specs.Vital.{vital_sections}
+use Rattle.written_driven_modules.specs.Laws as verilog
+use Rattle.written_driven_modules.proofs.KeptApart as modules_apart
+use Rattle.written_driven_modules.proofs.ReadBack as modules_read
+use Rattle.written_driven_entities.specs.Laws as vital
+use Rattle.written_driven_entities.proofs.KeptApart as entities_apart
+use Rattle.written_driven_entities.proofs.ReadBack as entities_read
+use Rattle.translate_cmd.specs.TranslatedModels.{modules_in, entities_in, verilog_in, vital_in}
+use Rattle.translate_cmd.specs.TranslatedLaws.{VerilogReadsBack, VitalReadsBack, LibrariesReadBack}
 use Rattle.translate_cmd.proofs.AcceptedCells.{modules-well-formed, entities-well-formed}
-use Rattle.translate_cmd.proofs.ModuleTexts.{verilog-of-modules}
-use Rattle.translate_cmd.proofs.EntityTexts.{vital-of-entities}
+use Rattle.translate_cmd.proofs.WrittenTexts.{verilog-of-modules, vital-of-entities}
 
-verilog_written : (bytes : List ℕ) → (translate_outcome bytes).text.verilog ≡ modules_text (modules_in bytes)
-unfolding modules_text
-verilog_written bytes = verilog-of-modules bytes
+verilog_back : (bytes : List ℕ) → VerilogReadsBack bytes
+verilog_back bytes =
+    let h = modules-well-formed bytes in
+    let written = sym (verilog-of-modules bytes) in
+    record {
+      answer = subst (λ (text : List ℕ). driven_models verilog_sections text ≡ Ok (verilog_in bytes)) written (modules_read.read_back (modules_in bytes) h.models h.drivers);
+      apart = subst (λ (text : List ℕ). verilog.HoldsApart text (verilog_in bytes).models (verilog_in bytes).drivers) written
+          (modules_apart.kept_apart (modules_in bytes) h.models (modules_read.all_declared (verilog_in bytes).models [] (verilog_in bytes).drivers h.drivers));
+    }
 
-vital_written : (bytes : List ℕ) → (translate_outcome bytes).text.vital ≡ entities_text (entities_in bytes)
-unfolding entities_text
-vital_written bytes = vital-of-entities bytes
-
--- what is read of a text that is the written one
-reads_as : {M : Type 0} (read : List ℕ → Result (List M) ModelFault) (IsTextOf : List ℕ → List M → Type 0) (text written : List ℕ) (models : List M) → text ≡ written
-    → read written ≡ Ok models → ((others : List M) → IsTextOf written others → others ≡ models) → ReadsAs read IsTextOf text models
-reads_as read IsTextOf text written models is answer only = record {
-  answer = ap read is ∙ answer;
-  only = λ others h. only others (subst (λ (t : List ℕ). IsTextOf t others) is h);
-}
+vital_back : (bytes : List ℕ) → VitalReadsBack bytes
+vital_back bytes =
+    let h = entities-well-formed bytes in
+    let written = sym (vital-of-entities bytes) in
+    record {
+      answer = subst (λ (text : List ℕ). driven_models vital_sections text ≡ Ok (vital_in bytes)) written (entities_read.read_back (entities_in bytes) h.models h.drivers);
+      apart = subst (λ (text : List ℕ). vital.HoldsApart text (vital_in bytes).models (vital_in bytes).drivers) written
+          (entities_apart.kept_apart (entities_in bytes) h.models (entities_read.all_written (vital_in bytes).models [] (vital_in bytes).drivers h.drivers));
+    }
 
 pub libraries-read-back : LibrariesReadBack
-libraries-read-back bytes =
-    let modules = read_back (modules_in bytes) (modules-well-formed bytes) in
-    let entities = entities_read_back (entities_in bytes) (entities-well-formed bytes) in
-    record {
-      verilog = reads_as verilog_text IsVerilogText (translate_outcome bytes).text.verilog (modules_text (modules_in bytes)) (modules_in bytes) (verilog_written bytes) modules.answer modules.only;
-      vital = reads_as vhdl_text IsVhdlText (translate_outcome bytes).text.vital (entities_text (entities_in bytes)) (entities_in bytes) (vital_written bytes) entities.answer entities.only;
-    }
+libraries-read-back bytes = record { verilog = verilog_back bytes; vital = vital_back bytes }

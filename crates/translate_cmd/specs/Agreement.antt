@@ -3,14 +3,14 @@ use Rattle.std.specs.Prelude.{◌≡◌, ◌≢◌, ◌≤◌, ℕ, List, [], le
 use Rattle.cell_cursor.specs.Ends.{items_within}
 use Rattle.library_items.specs.LibraryCells.{CellEntry}
 use Rattle.stimulus.specs.declared.sections.Section.{Section}
-use Rattle.stimulus.specs.PortEntries.{listed}
+use Rattle.stimulus.specs.PortEntries.{NamedCells, listed}
 use Rattle.stimulus.specs.Stimulus.{stimulus_of}
 use Rattle.command_outcomes.specs.declared.status.Status.TheVariants as status
 use Rattle.command_outcomes.specs.Written.{in_report}
 use Rattle.command_outcomes.specs.Outcome.{Outcome}
 use Rattle.simulation_catalog.specs.Catalog.{cells_named}
 use Rattle.simulation_catalog.specs.Comparisons.{sections_text}
-use Rattle.simulation_catalog.specs.Generated.{SaysEqual}
+use Rattle.simulation_catalog.specs.Generated.{modules_of, entities_of, SaysEqual}
 use Rattle.simulation_catalog.specs.FaultLines.{cause_stop}
 use Rattle.model_files.specs.StimulusAnswer.{stimulus_answer}
 use Rattle.library_items.specs.Endings.{library_limit}
@@ -21,7 +21,10 @@ use Rattle.model_files.specs.Limits.{model_limit, stimulus_limit}
 use Rattle.library_file.specs.LibraryAnswer.{library_answer}
 use Rattle.model_simulation.specs.Simulate.{simulate_outcome}
 use Rattle.translate_cmd.specs.Complete.{IsWholeLibrary}
-use Rattle.translate_cmd.specs.TranslatedModels.{modules_in, entities_in}
+
+-- the cells of a library beside the models that are generated for them
+abbrev pub own_catalog : List CellEntry → NamedCells
+own_catalog cells = cells_named cells (modules_of cells) (entities_of cells)
 
 -- what simulating a library beside its own models comes to: the Verilog and the VHDL that translating it writes
 abbrev pub own_simulation : List ℕ → List ℕ → Outcome
@@ -29,14 +32,15 @@ own_simulation library stimulus =
     simulate_outcome library (translate_outcome library).text.verilog (translate_outcome library).text.vital stimulus
 
 -- This is the report of a simulation in which all traces are equal: the sections of the stimulus over the cells of the library beside
--- its own models, in order, of which each says that its three traces are equal.
+-- its own models, in order, of which each says that its three traces are equal. The models of a cell some of whose outputs may float
+-- are those of its drivers over its core.
 pub record SaysAllEqual (library stimulus report : List ℕ) : Type 0 where
   pub cells : List CellEntry
   pub are_cells : library_answer library ≡ Ok cells
   pub sections : List Section
-  pub are_sections : stimulus_answer (cause_stop cells) (cells_named cells (modules_in library) (entities_in library)) stimulus ≡ Ok sections
-  pub equal : All (SaysEqual cells (modules_in library) (entities_in library)) sections
-  pub report_is : report ≡ sections_text cells (modules_in library) (entities_in library) sections
+  pub are_sections : stimulus_answer (cause_stop cells) (own_catalog cells) stimulus ≡ Ok sections
+  pub equal : All (SaysEqual cells (modules_of cells) (entities_of cells)) sections
+  pub report_is : report ≡ sections_text cells (modules_of cells) (entities_of cells) sections
 
 -- a run that is done, with nothing but such a report
 pub record ReportsAllEqual (library stimulus : List ℕ) (outcome : Outcome) : Type 0 where
@@ -62,6 +66,4 @@ pub record IsWithoutFault (library stimulus : List ℕ) : Type 0 where
   pub vital_within : length (translate_outcome library).text.vital ≤ model_limit
   pub stimulus_within : length stimulus ≤ stimulus_limit
   pub sections : List Section
-  pub lines :
-      stimulus_of (listed (cells_named (kept_cells no_progress (items_within library_limit library)) (modules_in library) (entities_in library))) stimulus
-      ≡ Ok sections
+  pub lines : stimulus_of (listed (own_catalog (kept_cells no_progress (items_within library_limit library)))) stimulus ≡ Ok sections

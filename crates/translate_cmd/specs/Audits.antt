@@ -1,5 +1,5 @@
 -- What a line `same` of a comparison of a library with a Verilog file promises. This project's promise.
-use Rattle.std.specs.Prelude.{◌≡◌, ◌≢◌, List, [], ℕ, All, Some, Ok}
+use Rattle.std.specs.Prelude.{◌≡◌, ◌≢◌, List, [], ℕ, false, All, Some, Ok, if◌then◌else◌}
 use Rattle.cell_machine.specs.declared.changes.Change.{Change}
 use Rattle.cell_machine.specs.CellData.{CellData}
 use Rattle.cell_machine.specs.History.{IsProper, IsProperFrom}
@@ -8,6 +8,8 @@ use Rattle.specify_blocks.specs.declared.model.VModule.{VModule}
 use Rattle.model_traces.specs.ModuleRun.{run_after}
 use Rattle.model_traces.specs.ModuleTrace.{module_trace}
 use Rattle.model_traces.specs.SequentialStates.{sequential_states}
+use Rattle.three_state_cells.specs.DrivenCells.{DrivenData, may_float}
+use Rattle.file_models.specs.declared.file_model.FileModel.{FileModel}
 use Rattle.library_items.specs.LibraryCells.{CellEntry, Accepted, Refused}
 use Rattle.command_outcomes.specs.declared.status.Status.TheVariants as status
 use Rattle.command_outcomes.specs.Outcome.{Outcome}
@@ -15,15 +17,16 @@ use Rattle.library_file.specs.LibraryAnswer.{library_answer}
 use Rattle.library_translation.specs.Library.{translate_outcome}
 use Rattle.model_files.specs.ModelAnswer.{model_answer}
 use Rattle.model_languages.specs.Verilog.{verilog}
+use Rattle.library_audit.specs.Lines.{left_out_line}
 use Rattle.library_audit.specs.Audits.{module_for, audit_text}
 use Rattle.library_audit.specs.Outcome.{audit_outcome}
 use Rattle.library_audit.specs.Laws.{same_line}
 
--- A cell has a module with its name among these, and the module shows what the cell shows: its trace is the cell's for every list
--- of changes of inputs at rising times, and the states of its primitives after each change are the cell's.
-pub record AgreesWithModule (modules : List VModule) (cell : CellData) : Type 0 where
+-- A cell has a module with its name among these models of a file, and the module shows what the cell shows: its trace is the cell's for
+-- every list of changes of inputs at rising times, and the states of its primitives after each change are the cell's.
+pub record AgreesWithModule (models : List (FileModel VModule)) (cell : CellData) : Type 0 where
   pub model : VModule
-  pub found : module_for modules cell ≡ Some model
+  pub found : module_for models cell ≡ Some model
   pub traces :
       (changes : List Change)
       → IsProperFrom (inputs_of cell) [] changes → module_trace model changes ≡ cell_trace cell changes
@@ -32,31 +35,36 @@ pub record AgreesWithModule (modules : List VModule) (cell : CellData) : Type 0 
       → IsProper (inputs_of cell) history
       → sequential_states model (run_after model history) ≡ states_after cell history
 
--- so an accepted cell does whose line says that its module is the same
-abbrev pub AgreesWhereSame : List VModule → CellEntry → Type 0
-AgreesWhereSame modules (Accepted cell entity) =
-    audit_text modules (Accepted cell entity) ≡ same_line cell.number cell.name → AgreesWithModule modules cell
-AgreesWhereSame modules (Refused name refusal) = Unit {0}
+-- None of a cell's outputs may float, so that it is its own core, and it agrees with its module.
+pub record IsPlainAndAgrees (models : List (FileModel VModule)) (cell : DrivenData) : Type 0 where
+  pub plain : may_float cell ≡ false
+  pub agrees : AgreesWithModule models cell.core
 
--- so a cell does that is accepted
-abbrev pub AgreesOrIsRefused : List VModule → CellEntry → Type 0
-AgreesOrIsRefused modules (Accepted cell entity) = AgreesWithModule modules cell
-AgreesOrIsRefused modules (Refused name refusal) = Unit {0}
+-- so it is with an accepted cell whose line says that its module is the same
+abbrev pub AgreesWhereSame : List (FileModel VModule) → CellEntry → Type 0
+AgreesWhereSame models (Accepted cell entity) =
+    audit_text models (Accepted cell entity) ≡ same_line cell.core.number cell.name → IsPlainAndAgrees models cell
+AgreesWhereSame models (Refused name refusal) = Unit {0}
 
--- The library and the Verilog file are read, and each accepted cell agrees with its module.
+-- so a cell does that is accepted, where none of its outputs may float
+abbrev pub AgreesOrIsLeftOut : List (FileModel VModule) → CellEntry → Type 0
+AgreesOrIsLeftOut models (Accepted cell entity) = may_float cell ≡ false → AgreesWithModule models cell.core
+AgreesOrIsLeftOut models (Refused name refusal) = Unit {0}
+
+-- The library and the Verilog file are read, and each accepted cell agrees with its module, where none of its outputs may float.
 pub record AllAgree (library text : List ℕ) : Type 0 where
   pub cells : List CellEntry
   pub are_cells : library_answer library ≡ Ok cells
-  pub modules : List VModule
-  pub are_modules : model_answer verilog text ≡ Ok modules
-  pub agree_all : All (AgreesOrIsRefused modules) cells
+  pub models : List (FileModel VModule)
+  pub are_models : model_answer verilog text ≡ Ok models
+  pub agree_all : All (AgreesOrIsLeftOut models) cells
 
--- Where a library is read as these cells and a Verilog file as these modules, each accepted cell whose line says `same` agrees
--- with its module. Where the comparison is done, each accepted cell does.
+-- Where a library is read as these cells and a Verilog file as these models, each accepted cell whose line says `same` agrees
+-- with its module. Where the comparison is done, each accepted cell does none of whose outputs may float.
 pub record AuditIsTrue (library text : List ℕ) : Type 0 where
   pub lines :
-      (cells : List CellEntry) (modules : List VModule)
-      → library_answer library ≡ Ok cells → model_answer verilog text ≡ Ok modules → All (AgreesWhereSame modules) cells
+      (cells : List CellEntry) (models : List (FileModel VModule))
+      → library_answer library ≡ Ok cells → model_answer verilog text ≡ Ok models → All (AgreesWhereSame models) cells
   pub done : (audit_outcome library text).status ≡ status.Done → AllAgree library text
 
 -- So it is for the bytes of every library and of every Verilog file.
@@ -67,20 +75,24 @@ AuditedCellsAgree = (library text : List ℕ) → AuditIsTrue library text
 abbrev pub own_audit : List ℕ → Outcome
 own_audit library = audit_outcome library (translate_outcome library).text.verilog
 
--- the line of a cell, where it is accepted, says that its module is the same
-abbrev pub IsSameOrIsRefused : List VModule → CellEntry → Type 0
-IsSameOrIsRefused modules (Accepted cell entity) = audit_text modules (Accepted cell entity) ≡ same_line cell.number cell.name
-IsSameOrIsRefused modules (Refused name refusal) = Unit {0}
+-- the line of a cell whose module is the same, or that is left out since some of its outputs may float
+abbrev pub same_or_left_out : DrivenData → List ℕ
+same_or_left_out cell = if may_float cell then left_out_line cell.core.number cell.name else same_line cell.core.number cell.name
+
+-- so the line of a cell says, where it is accepted
+abbrev pub IsSameOrIsLeftOut : List (FileModel VModule) → CellEntry → Type 0
+IsSameOrIsLeftOut models (Accepted cell entity) = audit_text models (Accepted cell entity) ≡ same_or_left_out cell
+IsSameOrIsLeftOut models (Refused name refusal) = Unit {0}
 
 -- A library compared with that Verilog ends neither for want of a module nor with one that differs. Where both are read, the line of
--- each accepted cell says that its module is the same.
+-- each accepted cell says that its module is the same, or where some of its outputs may float, that it is left out.
 pub record AuditsWell (library : List ℕ) : Type 0 where
   pub not_model : (own_audit library).status ≢ status.Model
   pub not_differ : (own_audit library).status ≢ status.Differ
   pub lines :
-      (cells : List CellEntry) (modules : List VModule)
-      → library_answer library ≡ Ok cells → model_answer verilog (translate_outcome library).text.verilog ≡ Ok modules
-      → All (IsSameOrIsRefused modules) cells
+      (cells : List CellEntry) (models : List (FileModel VModule))
+      → library_answer library ≡ Ok cells → model_answer verilog (translate_outcome library).text.verilog ≡ Ok models
+      → All (IsSameOrIsLeftOut models) cells
 
 -- So it is for every library.
 abbrev pub OwnModulesAuditWell : Type 0

@@ -17,9 +17,8 @@ use Rattle.model_replay.specs.Complete.{CanBeReplayed}
 use Rattle.model_files.specs.Limits.{model_limit, stimulus_limit}
 use Rattle.cell_cursor.specs.Ends.{items_within}
 use Rattle.specify_blocks.specs.declared.model.VModule.{VModule}
-use Rattle.specify_blocks.specs.VerilogText.{verilog_text}
 use Rattle.vital_models.specs.declared.model.VEntity.{VEntity}
-use Rattle.vhdl_text.specs.VhdlText.{vhdl_text}
+use Rattle.file_models.specs.declared.file_model.FileModel.{FileModel}
 use Rattle.stimulus.specs.declared.sections.Section.{Section}
 use Rattle.stimulus.specs.PortEntries.{listed}
 use Rattle.stimulus.specs.Stimulus.{stimulus_of}
@@ -41,11 +40,11 @@ pub record IsWholeLibrary (bytes : List ℕ) : Type 0 where
 pub record CanBeSimulated (library text vhdl stimulus : List ℕ) : Type 0 where
   pub whole : IsWholeLibrary library
   pub text_within : length text ≤ model_limit
-  pub modules : List VModule
-  pub verilog : verilog_text text ≡ Ok modules
+  pub modules : List (FileModel VModule)
+  pub verilog : verilog.text text ≡ Ok modules
   pub vhdl_within : length vhdl ≤ model_limit
-  pub entities : List VEntity
-  pub vital : vhdl_text vhdl ≡ Ok entities
+  pub entities : List (FileModel VEntity)
+  pub vital : vital.text vhdl ≡ Ok entities
   pub stimulus_within : length stimulus ≤ stimulus_limit
   pub sections : List Section
   pub lines : stimulus_of (listed (cells_named (kept_cells no_progress (items_within library_limit library)) modules entities)) stimulus ≡ Ok sections
@@ -54,8 +53,8 @@ pub record CanBeSimulated (library text vhdl stimulus : List ℕ) : Type 0 where
 pub record CanBeAudited (library text : List ℕ) : Type 0 where
   pub whole : IsWholeLibrary library
   pub text_within : length text ≤ model_limit
-  pub modules : List VModule
-  pub verilog : verilog_text text ≡ Ok modules
+  pub modules : List (FileModel VModule)
+  pub verilog : verilog.text text ≡ Ok modules
 
 -- A command of files can be done with these words and files: a whole library be translated, its cells be simulated beside the models
 -- of files that are not refused, under a stimulus that is not, a Verilog or VHDL file be replayed so, and the cells be compared with the

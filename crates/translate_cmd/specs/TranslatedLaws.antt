@@ -1,42 +1,58 @@
 -- Laws of what `translate` writes.
-use Rattle.std.specs.Prelude.{◌≡◌, ℕ, List, ◌++◌, Result, Ok}
-use Rattle.std.specs.List.{flat_map}
-use Rattle.udp_tables.specs.declared.models.ModelFault.{ModelFault}
-use Rattle.specify_blocks.specs.VerilogText.{IsVerilogText, verilog_text}
-use Rattle.specify_blocks.specs.WellFormed as verilog
-use Rattle.vhdl_text.specs.VhdlText.{IsVhdlText, vhdl_text}
-use Rattle.vhdl_text.specs.WellFormed as vhdl
-use Rattle.verilog_writer.specs.Model.{prelude_text, module_text}
-use Rattle.vhdl_writer.specs.Entity.{entity_text}
+use Rattle.std.specs.Prelude.{◌≡◌, ℕ, List, [], Ok}
+use Rattle.sectioned_texts.specs.DrivenModels.{driven_models}
+use Rattle.specify_blocks.specs.WellFormed as modules
+use Rattle.vhdl_text.specs.WellFormed as entities
+use Rattle.driven_files.specs.Verilog.{verilog_sections}
+use Rattle.driven_files.specs.Vital.{vital_sections}
+use Rattle.written_driven_modules.specs.Texts.{driven_modules_text}
+use Rattle.written_driven_modules.specs.Laws as verilog
+use Rattle.written_driven_entities.specs.Texts.{driven_entities_text}
+use Rattle.written_driven_entities.specs.Laws as vital
 use Rattle.library_translation.specs.Library.{translate_outcome}
-use Rattle.translate_cmd.specs.TranslatedModels.{modules_in, entities_in}
+use Rattle.translate_cmd.specs.TranslatedModels.{modules_in, entities_in, verilog_in, vital_in}
 
--- the modules of the accepted cells of every library are well formed together
+-- The modules of the cores of the accepted cells of a library are well formed together, and each driver over them can be declared
+-- behind those before it.
+pub record HasWellFormedModules (bytes : List ℕ) : Type 0 where
+  pub models : modules.AreWellFormed (verilog_in bytes).models
+  pub drivers : verilog.AreWellFormedDrivers (verilog_in bytes).models [] (verilog_in bytes).drivers
+
+-- so it is for every library
 abbrev pub ModulesAreWellFormed : Type 0
-ModulesAreWellFormed = (bytes : List ℕ) → verilog.AreWellFormed (modules_in bytes)
+ModulesAreWellFormed = (bytes : List ℕ) → HasWellFormedModules bytes
 
--- so are their entities
+-- So are the entities, and so can the drivers over them.
+pub record HasWellFormedEntities (bytes : List ℕ) : Type 0 where
+  pub models : entities.AreWellFormed (vital_in bytes).models
+  pub drivers : vital.AreWellFormedDrivers (vital_in bytes).models [] (vital_in bytes).drivers
+
 abbrev pub EntitiesAreWellFormed : Type 0
-EntitiesAreWellFormed = (bytes : List ℕ) → vhdl.AreWellFormed (entities_in bytes)
+EntitiesAreWellFormed = (bytes : List ℕ) → HasWellFormedEntities bytes
 
--- the Verilog of a library is the first line and the texts of these modules
+-- the Verilog of a library is the first line and the texts of these modules, each with that of the drivers over it
 abbrev pub VerilogIsOfModules : Type 0
-VerilogIsOfModules = (bytes : List ℕ) → (translate_outcome bytes).text.verilog ≡ prelude_text ++ flat_map module_text (modules_in bytes)
+VerilogIsOfModules = (bytes : List ℕ) → (translate_outcome bytes).text.verilog ≡ driven_modules_text (modules_in bytes)
 
--- the VHDL of a library is the texts of these entities
+-- the VHDL of a library is the texts of these entities so
 abbrev pub VitalIsOfEntities : Type 0
-VitalIsOfEntities = (bytes : List ℕ) → (translate_outcome bytes).text.vital ≡ flat_map entity_text (entities_in bytes)
+VitalIsOfEntities = (bytes : List ℕ) → (translate_outcome bytes).text.vital ≡ driven_entities_text (entities_in bytes)
 
--- a text reads as these models, and as no others
-pub record ReadsAs {M : Type 0} (read : List ℕ → Result (List M) ModelFault) (IsTextOf : List ℕ → List M → Type 0) (text : List ℕ) (models : List M) : Type 0 where
-  pub answer : read text ≡ Ok models
-  pub only : (others : List M) → IsTextOf text others → others ≡ models
+-- The Verilog of a library reads as the modules and the drivers of its accepted cells. Its sections are the texts of these drivers, and
+-- around them it is the text of these modules, and of no others.
+pub record VerilogReadsBack (bytes : List ℕ) : Type 0 where
+  pub answer : driven_models verilog_sections (translate_outcome bytes).text.verilog ≡ Ok (verilog_in bytes)
+  pub apart : verilog.HoldsApart (translate_outcome bytes).text.verilog (verilog_in bytes).models (verilog_in bytes).drivers
 
--- the texts of a library read as the modules and the entities of its accepted cells
+-- the VHDL of a library reads so as the entities and the drivers
+pub record VitalReadsBack (bytes : List ℕ) : Type 0 where
+  pub answer : driven_models vital_sections (translate_outcome bytes).text.vital ≡ Ok (vital_in bytes)
+  pub apart : vital.HoldsApart (translate_outcome bytes).text.vital (vital_in bytes).models (vital_in bytes).drivers
+
+-- both texts of every library read so
 pub record ReadsBack (bytes : List ℕ) : Type 0 where
-  pub verilog : ReadsAs verilog_text IsVerilogText (translate_outcome bytes).text.verilog (modules_in bytes)
-  pub vital : ReadsAs vhdl_text IsVhdlText (translate_outcome bytes).text.vital (entities_in bytes)
+  pub verilog : VerilogReadsBack bytes
+  pub vital : VitalReadsBack bytes
 
--- so those of every library do
 abbrev pub LibrariesReadBack : Type 0
 LibrariesReadBack = (bytes : List ℕ) → ReadsBack bytes

@@ -1,43 +1,54 @@
--- The cells of a library that translating it accepts, their modules and their entities. This project's rules.
-use Rattle.std.specs.Prelude.{ℕ, List, [], ◌∷◌, ◌++◌, map, Option, Some, None}
+-- The cells of a library that translating it accepts, and the models of their cores and of their drivers. This project's rules.
+use Rattle.std.specs.Prelude.{ℕ, List, [], ◌∷◌, ◌++◌, Option, Some, None}
 use Rattle.liberty_groups.specs.declared.tree.Group.{Group}
-use Rattle.cell_machine.specs.CellData.{CellData}
 use Rattle.cell_reader.specs.declared.refusal.Refusal.{Refusal}
 use Rattle.cell_cursor.specs.declared.item.LibraryItem.{LibraryItem}
 use Rattle.cell_cursor.specs.declared.item.LibraryItem.TheVariants as item
 use Rattle.cell_cursor.specs.Ends.{items_within}
+use Rattle.three_state_cells.specs.DrivenCells.{DrivenData}
 use Rattle.specify_blocks.specs.declared.model.VModule.{VModule}
-use Rattle.specify_blocks.specs.Generated.{module_of}
 use Rattle.vital_models.specs.declared.model.VEntity.{VEntity}
-use Rattle.generated_entities.specs.Library.{entities_of}
+use Rattle.sectioned_texts.specs.declared.driven_models.DrivenModels.{DrivenModels}
+use Rattle.written_driven_modules.specs.Texts as verilog
+use Rattle.written_driven_entities.specs.Texts as vital
+use Rattle.generated_driven_modules.specs.Library.{driven_modules_of}
+use Rattle.generated_driven_entities.specs.Library.{driven_entities_of}
 use Rattle.library_items.specs.declared.progress.Progress.{Progress}
 use Rattle.library_items.specs.Progress.{no_progress, next_refusal, next_data, after_item}
 use Rattle.library_items.specs.Endings.{library_limit}
 
 -- the next cell, where nothing refuses it
-abbrev pub cells_by : Progress → Group → Option Refusal → List CellData
+abbrev pub cells_by : Progress → Group → Option Refusal → List DrivenData
 cells_by p group None = next_data p group ∷ []
 cells_by p group (Some refusal) = []
 
 -- the cell that an item is, where it is one and is accepted
-abbrev pub item_cells : Progress → LibraryItem → List CellData
+abbrev pub item_cells : Progress → LibraryItem → List DrivenData
 item_cells p (item.Cell group) = cells_by p group (next_refusal p group)
 item_cells p (item.Unit line) = []
 item_cells p (item.LeftOut at) = []
 
 -- the accepted cells among these items, in order
-abbrev pub accepted_cells : Progress → List LibraryItem → List CellData
+abbrev pub accepted_cells : Progress → List LibraryItem → List DrivenData
 accepted_cells p [] = []
 accepted_cells p (one ∷ items) = item_cells p one ++ accepted_cells (after_item p one) items
 
 -- the accepted cells of a library
-abbrev pub cells_in : List ℕ → List CellData
+abbrev pub cells_in : List ℕ → List DrivenData
 cells_in bytes = accepted_cells no_progress (items_within library_limit bytes)
 
--- their modules
-abbrev pub modules_in : List ℕ → List VModule
-modules_in bytes = map module_of (cells_in bytes)
+-- The modules of their cores, and over each of these the drivers of the cell where some of its outputs may float.
+abbrev pub modules_in : List ℕ → List verilog.DrivenModule
+modules_in bytes = driven_modules_of (cells_in bytes)
 
--- their entities, each named behind those before it
-abbrev pub entities_in : List ℕ → List VEntity
-entities_in bytes = entities_of (cells_in bytes)
+-- the entities of their cores and drivers so, each named behind those before it
+abbrev pub entities_in : List ℕ → List vital.DrivenEntity
+entities_in bytes = driven_entities_of (cells_in bytes)
+
+-- the modules apart from the drivers
+abbrev pub verilog_in : List ℕ → DrivenModels VModule
+verilog_in bytes = record { models = verilog.models_of (modules_in bytes); drivers = verilog.drivers_of (modules_in bytes) }
+
+-- the entities apart from the drivers
+abbrev pub vital_in : List ℕ → DrivenModels VEntity
+vital_in bytes = record { models = vital.models_of (entities_in bytes); drivers = vital.drivers_of (entities_in bytes) }

@@ -25,13 +25,14 @@ use verilog_writer::write_udp;
 /// The line that tells of words without a reading.
 const USAGE: &[u8] = b"lib2sim: usage\n";
 
-/// Runs the command that the desk's words ask for: `udp` prints a primitive, `translate` writes the Verilog and VHDL models
-/// of a library's cells and a report of them, `simulate` prints the traces of a library's cells, of their modules in a Verilog
-/// file and of their entities in a VHDL file under a stimulus and whether they are equal, `replay-verilog` prints the traces of a
-/// Verilog file's modules under a stimulus, `replay-vital` those of a VHDL file's entities, `audit` prints for each accepted cell of a
-/// library whether the module of its name in a Verilog file has the cell's parts and, at all arguments of its tables, the cell's values,
-/// `selftest` makes test cells, runs them beside their models and damaged models, and reports what it counted, and words without a reading
-/// are `Usage`.
+/// Runs the command that the desk's words ask for: `udp` prints a primitive, `translate` writes the Verilog and VHDL models of a
+/// library's cells, of a cell some of whose outputs may float its core and its drivers, and a report of them, `simulate` prints the
+/// traces of a library's cells, of their modules in a Verilog file and of their entities in a VHDL file under a stimulus and
+/// whether they are equal, `replay-verilog` prints the traces of a Verilog file's modules under a stimulus, `replay-vital` those of
+/// a VHDL file's entities, `audit` prints for each accepted cell of a library whether the module of its name in a Verilog file has
+/// the cell's parts and, at all arguments of its tables, the cell's values, or that the cell is left out since some of its outputs
+/// may float, `selftest` makes test cells, runs them beside their models and damaged models, and reports what it counted, and words
+/// without a reading are `Usage`.
 ///
 /// It ends with the status of the outcome of the words and the desk's files, and all that the outcome appends was appended,
 /// or with one of two others: `Outside`, only where a call on the desk failed in this call, and `Memory`, where there was
@@ -54,12 +55,13 @@ const USAGE: &[u8] = b"lib2sim: usage\n";
 /// Where `simulate` names a library and, as its Verilog and VHDL files, the texts that `translate` writes for this library, it ends
 /// neither with `Model` nor with `Differ`, whatever the library and the stimulus are. Where the library is whole, no line of the
 /// stimulus is bad, no file is over its limit and no call failed, it ends with `Done` or `Memory`. With `Done` the report is the
-/// sections of the stimulus, each of which says that the traces of the cell, of its module and of its entity are equal.
+/// sections of the stimulus, each of which says that the traces of the cell, of its module and of its entity are equal: also those of a
+/// cell some of whose outputs may float, of its drivers over the module of its core, and of its drivers over the entity of its core.
 ///
 /// Where no call failed and memory was found, `audit` ends with `Done` exactly where both files are read and each accepted cell of the
-/// library has a module with its name that matches it: its parts are the cell's, and its tables give the cell's values for all arguments.
-/// With `Done` each accepted cell and this module have equal traces for every list of changes of inputs at rising times, and equal states
-/// after each change.
+/// library none of whose outputs may float has a module with its name that matches it: its parts are the cell's, and its tables give the
+/// cell's values for all arguments. With `Done` each of these cells and this module have equal traces for every list of changes of inputs
+/// at rising times, and equal states after each change. Of a cell some of whose outputs may float nothing is said.
 ///
 /// Nothing is bound but what the words name. Of a command that reads files all this is said where the desk tells its folder
 /// and what is left of its files.

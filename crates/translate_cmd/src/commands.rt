@@ -15,11 +15,11 @@ use selftest_runs::{selftest_counts, write_report};
 use std::alloc::Global;
 use text_io::{Desk, FileCommand};
 
-/// Carries out a command on the files that the words name: writes the Verilog and VHDL models of the cells of a library, and its report;
-/// prints the traces of the cells of a library, of their modules and of their entities, section by section of a stimulus, and whether the
-/// three of each section are equal; prints the traces of the models of a file, section by section of a stimulus; or prints of each accepted
-/// cell of a library whether its module in a Verilog file is there and is the same. No trace is printed, and no such line, before all files
-/// are read.
+/// Carries out a command on the files that the words name: writes the Verilog and VHDL models of the cells of a library, and its
+/// report; prints the traces of the cells of a library, of their modules and of their entities, section by section of a stimulus,
+/// and whether the three of each section are equal; prints the traces of the models of a file, section by section of a stimulus; or
+/// prints of each accepted cell of a library whether its module in a Verilog file is there and is the same, or that it is left out
+/// since some of its outputs may float. No trace is printed, and no such line, before all files are read.
 pub(crate) fn work_on_files<D: Desk>(alloc: Global, desk: &mut D, asked: FileCommand) -> Status
     requires { reading (D.state desk.old).words ≡ command.Files asked }
     ensures writes { Runs (D.state desk.old) (D.state desk.new) result }

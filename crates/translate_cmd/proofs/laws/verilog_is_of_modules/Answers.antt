@@ -1,4 +1,4 @@
-use Rattle.translate_cmd.proofs.ModuleTexts.{verilog-of-modules}
+use Rattle.translate_cmd.proofs.WrittenTexts.{verilog-of-modules}
 use Rattle.translate_cmd.proofs.laws.verilog_is_of_modules.Goals as goal
 
 pub returns : goal.returns

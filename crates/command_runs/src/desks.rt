@@ -116,24 +116,29 @@ impl Left {
                 .starts_with(faults.as_bytes())
     }
 
-    /// Whether a slot has these two texts, one behind the other.
-    pub fn wrote(&self, slot: OutSlot, first: &str, second: &str) -> bool {
-        let written = self.desk.written(slot);
-        match written.get(first.len()..) {
-            Some(rest) => written.starts_with(first.as_bytes()) && rest == second.as_bytes(),
-            None => false,
+    /// Whether a slot has these texts, one behind the other.
+    pub fn wrote(&self, slot: OutSlot, texts: &[&str]) -> bool {
+        let mut rest = self.desk.written(slot);
+        for text in texts {
+            rest = match rest.get(text.len()..) {
+                Some(behind) if rest.starts_with(text.as_bytes()) => behind,
+                _ => return false,
+            };
         }
+        rest.is_empty()
     }
 
-    /// Whether a slot has a front of these two texts.
-    pub fn wrote_front(&self, slot: OutSlot, first: &str, second: &str) -> bool {
-        let written = self.desk.written(slot);
-        match written.get(first.len()..) {
-            Some(rest) => {
-                written.starts_with(first.as_bytes()) && second.as_bytes().starts_with(rest)
-            }
-            None => first.as_bytes().starts_with(written),
+    /// Whether a slot has a front of these texts, one behind the other.
+    pub fn wrote_front(&self, slot: OutSlot, texts: &[&str]) -> bool {
+        let mut rest = self.desk.written(slot);
+        for text in texts {
+            rest = match rest.get(text.len()..) {
+                Some(behind) if rest.starts_with(text.as_bytes()) => behind,
+                Some(_) => return false,
+                None => return text.as_bytes().starts_with(rest),
+            };
         }
+        rest.is_empty()
     }
 }
 

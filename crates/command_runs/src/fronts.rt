@@ -6,15 +6,15 @@ use std::test::Fail;
 use text_io::OutSlot;
 use translate_cmd::Status;
 
-/// What a run comes to where no call fails: each text in two parts, of which the second may be empty.
+/// What a run comes to where no call fails: each model file as the texts that stand in it, one behind the other.
 #[derive(Copy, Clone)]
 pub struct Whole {
     /// The status.
     pub status: Status,
     /// The Verilog that is written.
-    pub verilog: (&'static str, &'static str),
+    pub verilog: &'static [&'static str],
     /// The VHDL that is written.
-    pub vital: (&'static str, &'static str),
+    pub vital: &'static [&'static str],
     /// The report.
     pub report: &'static str,
     /// The line of faults.
@@ -25,8 +25,8 @@ pub struct Whole {
 pub fn done(report: &'static str) -> Whole {
     Whole {
         status: Status::Done,
-        verilog: ("", ""),
-        vital: ("", ""),
+        verilog: &[],
+        vital: &[],
         report,
         faults: "",
     }
@@ -34,12 +34,10 @@ pub fn done(report: &'static str) -> Whole {
 
 /// Whether what was left is a front of the whole, and at most one call failed.
 fn is_front(left: &Left, whole: &Whole) -> bool {
-    let (verilog, more_verilog) = whole.verilog;
-    let (vital, more_vital) = whole.vital;
-    left.wrote_front(OutSlot::VerilogText, verilog, more_verilog)
-        && left.wrote_front(OutSlot::VitalText, vital, more_vital)
-        && left.wrote_front(OutSlot::Report, whole.report, "")
-        && left.wrote_front(OutSlot::Faults, whole.faults, "")
+    left.wrote_front(OutSlot::VerilogText, whole.verilog)
+        && left.wrote_front(OutSlot::VitalText, whole.vital)
+        && left.wrote_front(OutSlot::Report, &[whole.report])
+        && left.wrote_front(OutSlot::Faults, &[whole.faults])
         && left.desk.faults() <= 1
 }
 
@@ -89,7 +87,7 @@ pub fn leaves_nothing(
     let left = ran(alloc, words, files, &[call], usize::MAX)?;
     Ok(
         left.is(Status::Outside, "", "")
-            && left.wrote(OutSlot::VerilogText, "", "")
-            && left.wrote(OutSlot::VitalText, "", ""),
+            && left.wrote(OutSlot::VerilogText, &[])
+            && left.wrote(OutSlot::VitalText, &[]),
     )
 }

@@ -60,7 +60,7 @@ fn cells_are_compared_with_modules(rt: HostRuntime) -> Result<(), Fail> {
         is_same(
             rt.alloc(),
             THREE_CELLS,
-            "audit 1 INV same\naudit 3 BUF same\n"
+            "audit 1 INV same\naudit 2 TB left-out\naudit 3 BUF same\n"
         )?
     );
     assert!(rt; differs(rt.alloc(), FLIP_FLOP, OTHER_ROW, ROW_DIFFERS)?);
@@ -132,8 +132,8 @@ fn words_name_two_files(rt: HostRuntime) -> Result<(), Fail> {
 /// A flip-flop beside a file without modules.
 const WITHOUT_MODULES: Whole = Whole {
     status: Status::Differ,
-    verilog: ("", ""),
-    vital: ("", ""),
+    verilog: &[],
+    vital: &[],
     report: NO_FLIP_FLOP,
     faults: "",
 };

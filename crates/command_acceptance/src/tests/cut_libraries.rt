@@ -1,38 +1,47 @@
 //! A library that is cut at each of its bytes: the cells that ended before the cut are written.
 use command_runs::{
-    FIRST_ENTITY, FIRST_MODULE, Left, NO_MODULE, PIECES, THIRD_ENTITY, THIRD_MODULE, THREE_CELLS,
-    THREE_LINES, TRANSLATE, library_alone, ran,
+    CORE_ENTITY, DRIVER_ENTITY, FIRST_ENTITY, FIRST_MODULE, Left, NO_MODULE, PIECES,
+    SECOND_MODULES, THREE_CELLS, THREE_ENTITIES, THREE_LINES, THREE_MODULES, TRANSLATE,
+    library_alone, ran,
 };
 use std::alloc::Global;
 use std::test::Fail;
 use text_io::OutSlot;
 
-/// The status, how many models are written, and how many lines the report has, where the library is cut to this length.
+/// The status, of how many cells the models are written, and how many lines the report has, where the library is cut to this length.
 fn cut_to(length: usize) -> (u8, usize, usize) {
     match length {
         0..=107 => (2, 0, 0),
         108..=219 => (2, 1, 1),
-        220..=313 => (2, 1, 2),
-        314..=315 => (2, 2, 3),
-        _ => (3, 2, 4),
+        220..=313 => (2, 2, 2),
+        314..=315 => (2, 3, 3),
+        _ => (0, 3, 4),
     }
+}
+
+/// Whether these texts were written, in Verilog and in VHDL.
+fn has_texts(left: &Left, verilog: &[&str], vital: &[&str]) -> bool {
+    left.wrote(OutSlot::VerilogText, verilog) && left.wrote(OutSlot::VitalText, vital)
 }
 
 /// Whether the models of so many cells were written.
 fn has_models(left: &Left, count: usize) -> bool {
-    let (verilog, more_verilog, vital, more_vital) = match count {
-        0 => (NO_MODULE, "", "", ""),
-        1 => (FIRST_MODULE, "", FIRST_ENTITY, ""),
-        _ => (FIRST_MODULE, THIRD_MODULE, FIRST_ENTITY, THIRD_ENTITY),
-    };
-    left.wrote(OutSlot::VerilogText, verilog, more_verilog)
-        && left.wrote(OutSlot::VitalText, vital, more_vital)
+    match count {
+        0 => has_texts(left, &[NO_MODULE], &[]),
+        1 => has_texts(left, &[FIRST_MODULE], &[FIRST_ENTITY]),
+        2 => has_texts(
+            left,
+            &[FIRST_MODULE, SECOND_MODULES],
+            &[FIRST_ENTITY, CORE_ENTITY, DRIVER_ENTITY],
+        ),
+        _ => has_texts(left, &THREE_MODULES, &THREE_ENTITIES),
+    }
 }
 
 /// Whether the report is so many lines of the whole one.
 fn has_lines(left: &Left, count: usize) -> bool {
     let report = left.desk.written(OutSlot::Report);
-    left.wrote_front(OutSlot::Report, THREE_LINES, "")
+    left.wrote_front(OutSlot::Report, &[THREE_LINES])
         && report.iter().filter(|byte| **byte == b'\n').count() == count
 }
 
@@ -78,7 +87,7 @@ fn is_cut_told(alloc: Global, length: usize, fault: &str) -> Result<bool, Fail> 
     Ok(
         left.status.code() == 2
             && report == b"cell 1 INV ok\n".as_slice()
-            && left.wrote(OutSlot::Faults, fault, ""),
+            && left.wrote(OutSlot::Faults, &[fault]),
     )
 }
 

@@ -3,9 +3,9 @@
 use super::runs_on_test_cells::TWO_CELLS;
 use super::words_and_udp::AND;
 use command_runs::{
-    FIRST_ENTITY, FIRST_MODULE, Limits, Status, THIRD_ENTITY, THIRD_MODULE, THREE_CELLS,
-    THREE_LINES, TRANSLATE, Whole, desk_of, done, leaves_fronts, leaves_fronts_in_pieces,
-    leaves_nothing, library_alone, run_gated,
+    Limits, Status, THREE_CELLS, THREE_ENTITIES, THREE_LINES, THREE_MODULES, TRANSLATE, Whole,
+    desk_of, done, leaves_fronts, leaves_fronts_in_pieces, leaves_nothing, library_alone,
+    run_gated,
 };
 use std::alloc::Global;
 use std::test::Fail;
@@ -13,9 +13,9 @@ use text_io::GatedDesk;
 
 /// The library of three cells, translated.
 const THREE_TRANSLATED: Whole = Whole {
-    status: Status::Cells,
-    verilog: (FIRST_MODULE, THIRD_MODULE),
-    vital: (FIRST_ENTITY, THIRD_ENTITY),
+    status: Status::Done,
+    verilog: &THREE_MODULES,
+    vital: &THREE_ENTITIES,
     report: THREE_LINES,
     faults: "",
 };
@@ -23,8 +23,8 @@ const THREE_TRANSLATED: Whole = Whole {
 /// Words without a reading.
 const UNREAD: Whole = Whole {
     status: Status::Usage,
-    verilog: ("", ""),
-    vital: ("", ""),
+    verilog: &[],
+    vital: &[],
     report: "",
     faults: "lib2sim: usage\n",
 };

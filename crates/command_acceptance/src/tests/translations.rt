@@ -3,9 +3,9 @@ use super::tied_models::{
     LONE_TIE_ENTITY, LONE_TIE_MODULE, PORTS_ENTITY, PORTS_MODULE, TIE_ENTITY, TIE_MODULE,
 };
 use command_runs::{
-    CLOCK_GATE, FIRST_ENTITY, FIRST_MODULE, FLIP_FLOP, NO_MODULE, Status, THIRD_ENTITY,
-    THIRD_MODULE, THREE_CELLS, THREE_LINES, TIE, TIMED_FLIP_FLOP, TIMED_FLIP_FLOP_ENTITY,
-    TIMED_FLIP_FLOP_MODULE, translated,
+    CLOCK_GATE, FLIP_FLOP, NO_MODULE, Status, THREE_CELLS, THREE_ENTITIES, THREE_LINES,
+    THREE_MODULES, TIE, TIMED_FLIP_FLOP, TIMED_FLIP_FLOP_ENTITY, TIMED_FLIP_FLOP_MODULE,
+    translated,
 };
 use std::alloc::Global;
 use std::test::Fail;
@@ -96,15 +96,39 @@ const WITHOUT_SEMICOLONS: &str = "library (L) { time_unit : \"1ps\"
 cell (TIE) { pin (A) { direction : input } pin (Y) { function : \"1\" ; direction : output } }
 }";
 
-/// Whether the library of three cells is translated to the models of two.
+/// Whether the library of three cells is translated to their models.
 fn translates_three_cells(alloc: Global) -> Result<bool, Fail> {
     let left = translated(alloc, THREE_CELLS)?;
     Ok(
-        left.is(Status::Cells, THREE_LINES, "")
-            && left.wrote(OutSlot::VerilogText, FIRST_MODULE, THIRD_MODULE)
-            && left.wrote(OutSlot::VitalText, FIRST_ENTITY, THIRD_ENTITY),
+        left.is(Status::Done, THREE_LINES, "")
+            && left.wrote(OutSlot::VerilogText, &THREE_MODULES)
+            && left.wrote(OutSlot::VitalText, &THREE_ENTITIES),
     )
 }
+
+/// An inverter behind a cell whose output names eleven pins.
+const BEHIND_A_REFUSED_CELL: &str = "library (L) {
+cell (WIDE) { pin (A B C D E F G H I J K) { direction : input; }
+pin (Y) { direction : output; function : \"A B C D E F G H I J K\"; } }
+cell (INV) { pin (A) { direction : input; } pin (Y) { direction : output; function : \"!A\"; } }
+}
+";
+
+/// Whether a cell behind one that is refused is written.
+fn translates_behind_a_refused_cell(alloc: Global) -> Result<bool, Fail> {
+    let left = translated(alloc, BEHIND_A_REFUSED_CELL)?;
+    let report = "cell 1 WIDE refused 14 udp_inputs at 109\ncell 2 INV ok\naccepted 1 refused 1\n";
+    let verilog = left.desk.written(OutSlot::VerilogText);
+    Ok(left.is(Status::Cells, report, "") && verilog.ends_with(SECOND_INVERTER.as_bytes()))
+}
+
+/// The module of the inverter, which is the second cell.
+const SECOND_INVERTER: &str = "module INV (A, Y);
+  input A;
+  output Y;
+  lib_2_1 (Y, A);
+endmodule
+";
 
 /// A unit of time and no cell.
 const UNIT_ALONE: &str = "library (L) { time_unit : \"10ps\" }";
@@ -120,8 +144,8 @@ fn translates(
     let left = translated(alloc, library)?;
     Ok(
         left.is(Status::Done, report, "")
-            && left.wrote(OutSlot::VerilogText, verilog, "")
-            && left.wrote(OutSlot::VitalText, vital, ""),
+            && left.wrote(OutSlot::VerilogText, &[verilog])
+            && left.wrote(OutSlot::VitalText, &[vital]),
     )
 }
 
@@ -147,6 +171,7 @@ fn translates_flip_flop(alloc: Global) -> Result<bool, Fail> {
 #[test]
 fn libraries_are_translated(rt: HostRuntime) -> Result<(), Fail> {
     assert!(rt; translates_three_cells(rt.alloc())?);
+    assert!(rt; translates_behind_a_refused_cell(rt.alloc())?);
     assert!(rt; translates_flip_flop(rt.alloc())?);
     assert!(rt; translates_ports(rt.alloc())?);
     assert!(rt; translates_tie(rt.alloc(), WITHOUT_SEMICOLONS, TIE_MODULE, TIE_ENTITY)?);
@@ -168,8 +193,8 @@ fn refuses(alloc: Global, library: &str, line: &str) -> Result<bool, Fail> {
     let left = translated(alloc, library)?;
     Ok(
         left.is(Status::Library, "", line)
-            && left.wrote(OutSlot::VerilogText, NO_MODULE, "")
-            && left.wrote(OutSlot::VitalText, "", ""),
+            && left.wrote(OutSlot::VerilogText, &[NO_MODULE])
+            && left.wrote(OutSlot::VitalText, &[]),
     )
 }
 

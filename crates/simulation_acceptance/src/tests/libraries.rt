@@ -1,11 +1,26 @@
 //! Libraries that are simulated.
 
-/// An inverter, a cell that is refused, and a multiplexer.
+/// An inverter, a cell whose output may float, a multiplexer, and a cell that is refused.
 pub(crate) const INVERTER: &str = "library (L) {
 cell (INV) { pin (A) { direction : input; } pin (Y) { direction : output; function : \"!A\"; } }
 cell (TB) { pin (A) { direction : input; } pin (Y) { direction : output; three_state : \"A\"; function : \"A\"; } }
 cell (MUX2) { pin (A) { direction : input; } pin (B) { direction : input; } pin (S) { direction : input; }
 pin (Y) { direction : output; function : \"(A*!S)+(B*S)\"; } }
+cell (PAD) { pin (A) { direction : inout; } }
+}
+";
+
+/// A buffer that is driven while its enable is 1, with a delay from its input and one from its enable.
+pub(crate) const BUFFER_WITH_ENABLE: &str = "library (L) {
+time_unit : \"1ps\";
+cell (TBUF) {
+pin (A) { direction : input; }
+pin (OE) { direction : input; }
+pin (Y) { direction : output; function : \"A\"; three_state : \"!OE\";
+timing () { related_pin : \"A\"; cell_rise (s) { values (\"5\"); } cell_fall (s) { values (\"7\"); } }
+timing () { related_pin : \"OE\"; timing_type : three_state_enable;
+cell_rise (s) { values (\"11\"); } cell_fall (s) { values (\"13\"); } } }
+}
 }
 ";
 

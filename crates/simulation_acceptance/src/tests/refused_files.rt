@@ -120,7 +120,7 @@ fn ends(alloc: Global, stimulus: &str, status: Status, faults: &str) -> Result<b
 fn the_first_bad_line_is_told(rt: HostRuntime) -> Result<(), Fail> {
     let (time, refused, unknown) = (
         "stimulus line 3: time\n",
-        "cell TB refused 2 three_state at 182\n",
+        "cell PAD refused 1 direction at 412\n",
         "stimulus line 1: unknown cell\n",
     );
     assert!(rt;
@@ -131,7 +131,7 @@ fn the_first_bad_line_is_told(rt: HostRuntime) -> Result<(), Fail> {
             time
         )?
     );
-    assert!(rt; ends(rt.alloc(), "cell INV\ncell TB\n", Status::Cells, refused)?);
+    assert!(rt; ends(rt.alloc(), "cell INV\ncell PAD\n", Status::Cells, refused)?);
     assert!(rt; ends(rt.alloc(), "cell NONE\n", Status::Stimulus, unknown)?);
     Ok(())
 }

@@ -1,6 +1,6 @@
 //! Runs of `replay-verilog` and `replay-vital`.
 use command_runs::{
-    FIRST_MODULE, Files, Left, REPLAY_VERILOG, REPLAY_VITAL, Status, THIRD_MODULE,
+    FIRST_MODULE, Files, Left, REPLAY_VERILOG, REPLAY_VITAL, SECOND_MODULES, Status, THIRD_MODULE,
     TIMED_FLIP_FLOP_MODULE, ran,
 };
 use std::alloc::Global;
@@ -17,7 +17,7 @@ fn replayed(alloc: Global, words: &[&str], models: &str, stimulus: &str) -> Resu
     ran(alloc, words, files, &[], usize::MAX)
 }
 
-/// Whether a replay of two modules has this status, report and faults.
+/// Whether a replay of two modules, and of a core and its driver between them, has this status, report and faults.
 fn replays(
     alloc: Global,
     stimulus: &str,
@@ -25,13 +25,14 @@ fn replays(
     report: &str,
     faults: &str,
 ) -> Result<bool, Fail> {
-    let models = format!(in alloc; "{FIRST_MODULE}{THIRD_MODULE}")?;
+    let models = format!(in alloc; "{FIRST_MODULE}{SECOND_MODULES}{THIRD_MODULE}")?;
     let left = replayed(alloc, &REPLAY_VERILOG, models.as_str(), stimulus)?;
     Ok(left.is(status, report, faults))
 }
 
-/// Sections of two modules, of which the first is run twice.
-const STIMULUS: &str = "cell INV\ncell BUF\n5 A 1\n9 A x\ncell INV\n5 A 1\n";
+/// Sections of two modules, of which the first is run twice, and of a driver and its core.
+const STIMULUS: &str =
+    "cell INV\ncell BUF\n5 A 1\n9 A x\ncell INV\n5 A 1\ncell TB\n5 A 0\n6 A 1\n7 A x\ncell cell2\n5 A 1\n";
 
 /// Their report.
 const REPORT: &str = "cell INV
@@ -43,6 +44,14 @@ V 9 A x : Y=x@0
 cell INV
 V start : Y=x
 V 5 A 1 : Y=0@0
+cell TB
+V start : Y=x
+V 5 A 0 : Y=0@0
+V 6 A 1 : Y=z@0
+V 7 A x : Y=x@0
+cell cell2
+V start : Y=x pin3=x
+V 5 A 1 : Y=1@0 pin3=0@0
 ";
 
 /// A section in which the setup time of a flip-flop is kept, and then is not.
@@ -79,7 +88,7 @@ fn sections_are_printed_in_the_order_of_the_stimulus(rt: HostRuntime) -> Result<
     Ok(())
 }
 
-/// Whether a stimulus of two modules has this bad line.
+/// Whether a stimulus of these modules has this bad line.
 fn has_bad_line(alloc: Global, stimulus: &str, faults: &str) -> Result<bool, Fail> {
     replays(alloc, stimulus, Status::Stimulus, "", faults)
 }
@@ -119,7 +128,7 @@ fn the_first_fault_of_the_files_is_told(rt: HostRuntime) -> Result<(), Fail> {
             "stimulus line 3: time\n"
         )?
     );
-    assert!(rt; has_bad_line(rt.alloc(), "cell TB\n", unknown)?);
+    assert!(rt; has_bad_line(rt.alloc(), "cell TC\n", unknown)?);
     Ok(())
 }
 

@@ -1,7 +1,7 @@
 //! Sections on which a cell, its module and its entity show the same.
 use super::libraries::{
-    CLEARED, CLEARED_AND_CHECKED, CLEARED_AND_PRESET, INVERTER, LATCH, PERIODIC, TOGGLE,
-    TWO_FLIP_FLOPS,
+    BUFFER_WITH_ENABLE, CLEARED, CLEARED_AND_CHECKED, CLEARED_AND_PRESET, INVERTER, LATCH,
+    PERIODIC, TOGGLE, TWO_FLIP_FLOPS,
 };
 use command_runs::{CLOCK_GATE, CLOCK_GATE_WITHOUT_KEEP, FLIP_FLOP, GUARDED_FLIP_FLOP, TIE};
 
@@ -15,7 +15,7 @@ pub(crate) struct Section<'a> {
 }
 
 /// The sections.
-pub(crate) const SECTIONS: [Section<'static>; 13] = [
+pub(crate) const SECTIONS: [Section<'static>; 15] = [
     Section {
         library: TIE,
         cell: "TIE",
@@ -27,6 +27,24 @@ pub(crate) const SECTIONS: [Section<'static>; 13] = [
         cell: "MUX2",
         start: "Y=x",
         lines: &[("10 A 1", "Y=x"), ("20 B 1", "Y=1@0")],
+    },
+    Section {
+        library: INVERTER,
+        cell: "TB",
+        start: "Y=x",
+        lines: &[("5 A 0", "Y=0@0"), ("6 A 1", "Y=z@0"), ("7 A x", "Y=x@0")],
+    },
+    Section {
+        library: BUFFER_WITH_ENABLE,
+        cell: "TBUF",
+        start: "Y=x",
+        lines: &[
+            ("10 A 1", "Y=x"),
+            ("20 OE 1", "Y=1@11"),
+            ("30 A 0", "Y=0@7"),
+            ("40 OE 0", "Y=z@11"),
+            ("50 OE 1", "Y=0@13"),
+        ],
     },
     Section {
         library: FLIP_FLOP,

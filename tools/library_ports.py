@@ -58,7 +58,7 @@ def names_of(path, modules):
     by_name = {}
     for number, cell in enumerate(cells, 1):
         by_name.setdefault(cell.name, cell)
-        by_name["cell%d" % number] = cell
+        by_name["cell%d" % number] = by_name["lib_%d_z" % number] = cell
     for module in modules:
         cell = by_name.get(module.name)
         if cell:

@@ -1,8 +1,10 @@
 """Reads the primitives and modules of a file of models (the Verilog subset of docs/FORMATS.md), and runs a module.
 
 For the other scripts of this folder. The meaning is that of `Runs of models` in docs/DEFINITIONS.md. Nothing is checked:
-`lib2sim replay-verilog` does that. Values are `0`, `1` and `x`; nets are names.
+`lib2sim replay-verilog` does that. Values are `0`, `1` and `x`; nets are names. A driver runs as its core, and what it drives is
+not told.
 """
+import copy
 import re
 
 LEVELS = {"0": "0", "1": "1", "x": "x", "?": "01x", "b": "01"}
@@ -91,6 +93,8 @@ class Module:
         body, _, block = text.partition("specify")
         nets = {word: re.findall(r"\b%s\s+(\w+)\s*;" % word, body) for word in ("input", "output", "wire", "reg")}
         self.inputs, self.outputs, self.register = nets["input"], nets["output"], (nets["reg"] or [None])[0]
+        self.input_names, self.is_core = self.inputs, False
+        self.core = (re.findall(r"(\w+)\s+lib_u\s*\(", body) or [None])[0]
         calls = re.findall(r"(\w+)\s*\(([^;]*)\)\s*;", body.split(";", 1)[1])
         self.instances = [(primitives.get(name), [it.strip() for it in words.split(",")]) for name, words in calls]
         self.states = [(it, words[0], words[1:]) for it, words in self.instances if it and it.has_state]
@@ -101,6 +105,14 @@ class Module:
         checks = [Check(kind, [it.strip() for it in words.split(",")]) for kind, words in found]
         self.checks = [it for at, it in enumerate(checks) if it.kind != "period" or (it.first[1] is RISES)]
         self.delays = [int(it) for pair in re.findall(r"=\s*\((\d+)\s*,\s*(\d+)\)", block) for it in pair]
+
+    def over(self, core):
+        """What a driver over a core does: its names, the core's states and checks, and the delays of both."""
+        driver = copy.copy(core)
+        driver.name, driver.ports, driver.core, driver.is_core = self.name, self.ports, self.core, False
+        driver.input_names, driver.outputs = self.inputs, self.outputs
+        driver.delays = core.delays + self.delays
+        return driver
 
     def start(self):
         """The values of all inputs, the states, and the register of the checks."""
@@ -162,8 +174,12 @@ class Module:
 
 
 def read(text):
-    """The modules of a file, in order."""
+    """The modules of a file, in order, the drivers among them. The core of a driver is told by `is_core`."""
     text = re.sub(r"//[^\n]*|/\*.*?\*/", " ", text, flags=re.S)
     parts = re.findall(r"\bprimitive\b(.*?)\bendprimitive\b|\bmodule\b(.*?)\bendmodule\b", text, re.S)
     primitives = {it.name: it for it in (Primitive(part) for part, _ in parts if part)}
-    return [Module(part, primitives) for _, part in parts if part]
+    modules = {it.name: it for it in (Module(part, primitives) for _, part in parts if part)}
+    for module in modules.values():
+        if module.core:
+            modules[module.core].is_core = True
+    return [it.over(modules[it.core]) if it.core else it for it in modules.values()]

@@ -106,7 +106,11 @@ few_named name at = few_cond (bytes_eq name (codes "include_file")) (given_item.
 few_by : (one : Item-F Item Group) → length (given_by one) ≤ 1
 few_by (Item-F.Simple name values at) = few_cond (bytes_eq name (codes "time_unit")) (given_item.Unit (record { value = one_text values; at = at }) ∷ []) (named_item name at) (omega arith) (few_named name at)
 few_by (Item-F.Complex name _ at) = few_named name at
-few_by (Item-F.Inner group) = few_cond (bytes_eq (out-Group group).name (codes "cell")) (given_item.Cell group ∷ []) (named_item (out-Group group).name (out-Group group).at) (omega arith) (few_named (out-Group group).name (out-Group group).at)
+few_by (Item-F.Inner group) =
+    let name = (out-Group group).name in
+    let at = (out-Group group).at in
+    few_cond (bytes_eq name (codes "cell")) (given_item.Cell group ∷ []) (cond (bytes_eq name (codes "type")) (given_item.BusType group ∷ []) (named_item name at)) (omega arith)
+    (few_cond (bytes_eq name (codes "type")) (given_item.BusType group ∷ []) (named_item name at) (omega arith) (few_named name at))
 
 few_given : (one : Item) → length (given one) ≤ 1
 unfolding given

@@ -1,4 +1,4 @@
--- The items in order, and the three lists of a reading: what is read is the same.
+-- The items in order, and the four lists of a reading: what is read is the same.
 use Rattle.std.proofs.Common.{◌≡◌, ℕ, zero, suc, ◌≤◌, Bool, true, false, List, [], ◌∷◌, ◌++◌, length, Option, Some, None, Ok, Err, cond, codes, refl, sym, ap, ◌∙◌, arith}
 use Rattle.std.specs.Str.{bytes_eq}
 use Rattle.grammar_rules.specs.Rule.{Rule, Verdict, Fits, Foul, Misfit}
@@ -19,20 +19,20 @@ use Rattle.liberty_groups.specs.declared.tree.Item.TheOpen.{Item-F}
 use Rattle.liberty_groups.specs.declared.tree.Group.{Group, out-Group}
 use Rattle.liberty_groups.specs.Lexeme.{Lexeme, lexemes_of}
 use Rattle.liberty_groups.specs.Grammar.{◌>>=◌, expect, start_by, begun_by, starts, statement}
-use Rattle.liberty_groups.specs.Library.{Found, nothing_found, with_cell, with_unit, with_left_out, with_named, one_text, counted_by, counted, levels_inside, header, counted_statement, counting, contents, rest_of_library, library}
+use Rattle.liberty_groups.specs.Library.{Found, nothing_found, with_cell, with_type, with_unit, with_left_out, with_named, with_group, one_text, counted_by, counted, levels_inside, header, counted_statement, counting, contents, rest_of_library, library}
 use Rattle.liberty_groups.specs.Library as lib
 use Rattle.liberty_groups.specs.Answer.{found_in, halt_of, outcome_of}
 use Rattle.cell_cursor.specs.declared.item.LibraryItem.{LibraryItem}
 use Rattle.cell_cursor.specs.declared.item.LibraryItem.TheVariants as item
 use Rattle.cell_cursor.specs.declared.part.Place.TheVariants as place
-use Rattle.cell_cursor.specs.Items.{named_item, given_by, given, item_statement, adding, statements_after, file_end, library_end, rest_inside, rest_at, items_in, items_outcome, with_item, gathered}
+use Rattle.cell_cursor.specs.Items.{named_item, group_item, given_by, given, item_statement, adding, statements_after, file_end, library_end, rest_inside, rest_at, items_in, items_outcome, with_item, gathered}
 use Rattle.cell_cursor.specs.Finish.{halt_in}
 use Rattle.cell_cursor.proofs.Prefix.{Told}
 
 abbrev pub Lists : Type 0
 Lists = Outcome Lexeme (Found × Refusal) Found
 
--- the same, as three lists
+-- the same, as four lists
 abbrev pub listed : Told → Lists
 listed (Ok p) = Ok (gathered nothing_found p.0, p.1)
 listed (Err e) = Err ((gathered nothing_found e.0.0, e.0.1), e.1)
@@ -50,15 +50,22 @@ unit_same : (f : Found) (x : Bool) (name : List ℕ) (value : List Value) (at : 
 unit_same f true name value at = refl
 unit_same f false name value at = named_same f (bytes_eq name (codes "include_file")) at
 
-cell_same : (f : Found) (x : Bool) (group : Group) →
-    cond x (with_cell group f) (with_named (out-Group group).name (out-Group group).at f) ≡ gathered f (cond x (item.Cell group ∷ []) (named_item (out-Group group).name (out-Group group).at))
-cell_same f true group = refl
-cell_same f false group = named_same f (bytes_eq (out-Group group).name (codes "include_file")) (out-Group group).at
+group_same_by : (f : Found) (is_cell is_type is_left_out : Bool) (group : Group) →
+    cond is_cell (with_cell group f) (cond is_type (with_type group f) (cond is_left_out (with_left_out (out-Group group).at f) f))
+    ≡ gathered f (cond is_cell (item.Cell group ∷ []) (cond is_type (item.BusType group ∷ []) (cond is_left_out (item.LeftOut (out-Group group).at ∷ []) [])))
+group_same_by f true is_type is_left_out group = refl
+group_same_by f false true is_left_out group = refl
+group_same_by f false false is_left_out group = named_same f is_left_out (out-Group group).at
+
+group_same : (f : Found) (group : Group) → with_group group f ≡ gathered f (group_item group)
+group_same f group =
+    let name = (out-Group group).name in
+    group_same_by f (bytes_eq name (codes "cell")) (bytes_eq name (codes "type")) (bytes_eq name (codes "include_file")) group
 
 counted_same_by : (f : Found) (one : Item-F Item Group) → counted_by f one ≡ gathered f (given_by one)
 counted_same_by f (Item-F.Simple name value at) = unit_same f (bytes_eq name (codes "time_unit")) name value at
 counted_same_by f (Item-F.Complex name _ at) = named_same f (bytes_eq name (codes "include_file")) at
-counted_same_by f (Item-F.Inner group) = cell_same f (bytes_eq (out-Group group).name (codes "cell")) group
+counted_same_by f (Item-F.Inner group) = group_same f group
 
 counted_same : (f : Found) (one : Item) → counted f one ≡ gathered f (given one)
 unfolding counted given

@@ -22,6 +22,8 @@ front_by (item.Unit unit) [] items h = (item.Unit unit ∷ items, refl)
 front_by (item.Unit unit) (next ∷ front) items h = (h.0, ap (λ (l : List LibraryItem). item.Unit unit ∷ l) h.1)
 front_by (item.LeftOut at) [] items h = (item.LeftOut at ∷ items, refl)
 front_by (item.LeftOut at) (next ∷ front) items h = (h.0, ap (λ (l : List LibraryItem). item.LeftOut at ∷ l) h.1)
+front_by (item.BusType group) [] items h = (item.BusType group ∷ items, refl)
+front_by (item.BusType group) (next ∷ front) items h = (h.0, ap (λ (l : List LibraryItem). item.BusType group ∷ l) h.1)
 
 pub last_cell_front : (items : List LibraryItem) → IsFrontOf (up_to_last_cell items) items
 last_cell_front [] = ([], refl)

@@ -108,3 +108,4 @@ pub item_given : (x : LibraryItem) → given_next (next_of x) ≡ [] → ⊥
 item_given (item.Cell group) e = cc
 item_given (item.Unit unit) e = cc
 item_given (item.LeftOut at) e = cc
+item_given (item.BusType group) e = cc

@@ -326,6 +326,7 @@ one_given : (x : LibraryItem) → given_next (next_of x) ≡ x ∷ []
 one_given (item.Cell group) = refl
 one_given (item.Unit unit) = refl
 one_given (item.LeftOut at) = refl
+one_given (item.BusType group) = refl
 
 popped_given : (items old new : List LibraryItem) (x : LibraryItem) → old ≡ new ++ option_to_list (Some x) → items ++ reverse old ≡ (items ++ given_next (next_of x)) ++ reverse new
 popped_given items old new x popped =

@@ -19,7 +19,7 @@ use Rattle.liberty_groups.specs.Grammar.{◌>>=◌, expect, arguments, value, co
 use Rattle.liberty_groups.specs.Library.{one_text}
 use Rattle.cell_cursor.specs.declared.item.LibraryItem.{LibraryItem}
 use Rattle.cell_cursor.specs.declared.item.LibraryItem.TheVariants as given_item
-use Rattle.cell_cursor.specs.Items.{named_item, given_by, given, item_at}
+use Rattle.cell_cursor.specs.Items.{named_item, group_item, given_by, given, item_at}
 
 -- a statement's item has the statement's offset
 
@@ -35,9 +35,15 @@ unit_at : (x : Bool) (name : List ℕ) (values : List Value) (at : ℕ) → AllA
 unit_at true name values at = (refl, tt)
 unit_at false name values at = named_at (bytes_eq name (codes "include_file")) at
 
-cell_at : (x : Bool) (group : Group) → AllAt (out-Group group).at (cond x (given_item.Cell group ∷ []) (named_item (out-Group group).name (out-Group group).at))
-cell_at true group = (refl, tt)
-cell_at false group = named_at (bytes_eq (out-Group group).name (codes "include_file")) (out-Group group).at
+item_of_group_at_by : (is_cell is_type is_left_out : Bool) (group : Group) →
+    AllAt (out-Group group).at (cond is_cell (given_item.Cell group ∷ []) (cond is_type (given_item.BusType group ∷ []) (cond is_left_out (given_item.LeftOut (out-Group group).at ∷ []) [])))
+item_of_group_at_by true is_type is_left_out group = (refl, tt)
+item_of_group_at_by false true is_left_out group = (refl, tt)
+item_of_group_at_by false false is_left_out group = named_at is_left_out (out-Group group).at
+
+item_of_group_at : (group : Group) → AllAt (out-Group group).at (group_item group)
+item_of_group_at group =
+    let name = (out-Group group).name in item_of_group_at_by (bytes_eq name (codes "cell")) (bytes_eq name (codes "type")) (bytes_eq name (codes "include_file")) group
 
 -- the offset of a statement
 abbrev at_by : Item-F Item Group → ℕ
@@ -48,7 +54,7 @@ at_by (Item-F.Inner group) = (out-Group group).at
 given_at_by : (one : Item-F Item Group) → AllAt (at_by one) (given_by one)
 given_at_by (Item-F.Simple name values at) = unit_at (bytes_eq name (codes "time_unit")) name values at
 given_at_by (Item-F.Complex name _ at) = named_at (bytes_eq name (codes "include_file")) at
-given_at_by (Item-F.Inner group) = cell_at (bytes_eq (out-Group group).name (codes "cell")) group
+given_at_by (Item-F.Inner group) = item_of_group_at group
 
 pub given_at : (one : Item) (at : ℕ) → at_by (out-Item one) ≡ at → AllAt at (given one)
 unfolding given

@@ -11,12 +11,14 @@ up_to_a_cell one [] = []
 up_to_a_cell one (next ∷ items) = one ∷ next ∷ items
 
 -- The items up to the last cell, with it. A cell has ended with its closing brace, whatever follows; a time unit or a
--- statement that names a file may read otherwise where more bytes follow.
+-- statement that names a file may read otherwise where more bytes follow. A type counts for the cells behind it, and is
+-- given with them.
 abbrev pub up_to_last_cell : List LibraryItem → List LibraryItem
 up_to_last_cell [] = []
 up_to_last_cell (one ∷ items) = up_to_a_cell one (up_to_last_cell items)
 
--- the cells that have their closing brace in these bytes, with the time units and the statements that name files between them
+-- The cells that have their closing brace in these bytes, with the types, the time units and the statements that name files
+-- between them.
 abbrev pub closed_items : List ℕ → List LibraryItem
 closed_items bytes = up_to_last_cell (items_of_bytes bytes)
 

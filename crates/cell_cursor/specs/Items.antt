@@ -1,4 +1,4 @@
--- The items of a library in the order of the file: cells, time units, and statements that name other files (Liberty
+-- The items of a library in the order of the file: cells, types, time units, and statements that name other files (Liberty
 -- Reference Manual, the `library` group).
 use Rattle.std.specs.Prelude.{◌≡◌, ℕ, ◌+◌, ◌≤◌, ◌++◌, Bool, true, false, List, [], ◌∷◌, Option, Some, None, Result, Ok, Err, codes, if◌then◌else◌}
 use Rattle.std.specs.Str.{bytes_eq}
@@ -18,7 +18,7 @@ use Rattle.liberty_groups.specs.declared.tree.Group.{Group, out-Group}
 use Rattle.liberty_groups.specs.Lexeme.{Lexeme, lexemes_of}
 use Rattle.liberty_groups.specs.Grammar.{Grammar, ◌>>=◌, expect, starts, statement}
 use Rattle.liberty_groups.specs.Answer.{found_of_bytes}
-use Rattle.liberty_groups.specs.Library.{Found, nothing_found, with_cell, with_left_out, one_text, levels_inside, header}
+use Rattle.liberty_groups.specs.Library.{Found, nothing_found, with_cell, with_left_out, with_type, one_text, levels_inside, header}
 use Rattle.cell_cursor.specs.declared.item.LibraryItem.{LibraryItem}
 use Rattle.cell_cursor.specs.declared.item.LibraryItem.TheVariants as item
 use Rattle.cell_cursor.specs.declared.part.Place.{Place}
@@ -26,19 +26,24 @@ use Rattle.cell_cursor.specs.declared.part.Place.TheVariants as place
 use Rattle.cell_cursor.specs.declared.item.Next.{Next}
 use Rattle.cell_cursor.specs.declared.item.Next.TheVariants as next
 
--- a statement that is neither cell nor time unit
+-- a statement that is neither cell nor type nor time unit
 abbrev pub named_item : List ℕ → ℕ → List LibraryItem
 named_item name at = if bytes_eq name (codes "include_file") then item.LeftOut at ∷ [] else []
+
+-- a group of the library
+abbrev pub group_item : Group → List LibraryItem
+group_item group =
+    if bytes_eq (out-Group group).name (codes "cell") then item.Cell group ∷ []
+    else (if bytes_eq (out-Group group).name (codes "type") then item.BusType group ∷ [] else named_item (out-Group group).name (out-Group group).at)
 
 abbrev pub given_by : Item-F Item Group → List LibraryItem
 given_by (Item-F.Simple name value at) =
     if bytes_eq name (codes "time_unit") then item.Unit (record { value = one_text value; at = at }) ∷ [] else named_item name at
 given_by (Item-F.Complex name _ at) = named_item name at
-given_by (Item-F.Inner group) =
-    if bytes_eq (out-Group group).name (codes "cell") then item.Cell group ∷ [] else named_item (out-Group group).name (out-Group group).at
+given_by (Item-F.Inner group) = group_item group
 
--- The item that a statement of the library is, if it is one: a group `cell` is a cell, a simple attribute `time_unit` is a
--- time unit, and a statement `include_file` of any form names another file. All else is skipped.
+-- The item that a statement of the library is, if it is one: a group `cell` is a cell, a group `type` is a type, a simple
+-- attribute `time_unit` is a time unit, and a statement `include_file` of any form names another file. All else is skipped.
 unfoldable pub given : Item → List LibraryItem
 given statement = given_by (out-Item statement)
 
@@ -61,6 +66,7 @@ abbrev pub next_of : LibraryItem → Next
 next_of (item.Cell group) = next.Cell group
 next_of (item.Unit unit) = next.Unit unit
 next_of (item.LeftOut at) = next.LeftOut at
+next_of (item.BusType group) = next.BusType group
 
 -- A rule whose faults tell the items of the statements that had ended.
 abbrev pub Telling : Type 0 → Type 1
@@ -112,11 +118,12 @@ items_outcome bytes = read (rest_at place.Start []) (lexemes_of bytes (scan_of b
 abbrev pub items_of_bytes : List ℕ → List LibraryItem
 items_of_bytes bytes = items_in (items_outcome bytes)
 
--- what these items come to as the three lists of a reading
+-- what these items come to as the four lists of a reading
 abbrev pub with_item : Found → LibraryItem → Found
 with_item f (item.Cell group) = with_cell group f
-with_item f (item.Unit unit) = record { cells = f.cells; units = f.units ++ unit ∷ []; left_out = f.left_out }
+with_item f (item.Unit unit) = record f { units = f.units ++ unit ∷ [] }
 with_item f (item.LeftOut at) = with_left_out at f
+with_item f (item.BusType group) = with_type group f
 
 abbrev pub gathered : Found → List LibraryItem → Found
 gathered f [] = f
@@ -127,6 +134,7 @@ abbrev pub item_at : LibraryItem → ℕ
 item_at (item.Cell group) = (out-Group group).at
 item_at (item.Unit unit) = unit.at
 item_at (item.LeftOut at) = at
+item_at (item.BusType group) = (out-Group group).at
 
 -- what is read of the next statements is what was returned, with these items and these tokens left, unless memory ran out
 abbrev pub Adds : {T : Type 0} → Outcome Lexeme (List LibraryItem × Refusal) (List LibraryItem) → Result T Stop → List LibraryItem → List Lexeme → Type 0

@@ -31,6 +31,7 @@ abbrev pub given_next : Next → List LibraryItem
 given_next (next.Cell group) = item.Cell group ∷ []
 given_next (next.Unit unit) = item.Unit unit ∷ []
 given_next (next.LeftOut at) = item.LeftOut at ∷ []
+given_next (next.BusType group) = item.BusType group ∷ []
 given_next next.Over = []
 given_next next.End = []
 

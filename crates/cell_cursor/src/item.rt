@@ -16,6 +16,8 @@ pub enum LibraryItem {
     Unit(UnitLine),
     /// A statement `include_file` of any form, at this offset: it names another file, which is not read.
     LeftOut(usize),
+    /// A group `type`.
+    BusType(Group),
 }
 
 /// What comes next in a library.
@@ -27,6 +29,8 @@ pub enum Next {
     Unit(UnitLine),
     /// A statement `include_file` of any form, at this offset: it names another file, which is not read.
     LeftOut(usize),
+    /// A group `type`.
+    BusType(Group),
     /// The library has more bytes than the limit, all items of so many were given, and some library text begins
     /// with them.
     Over,
@@ -34,7 +38,7 @@ pub enum Next {
     End,
 }
 
-/// The item that a statement of this name is, which is neither cell nor time unit.
+/// The item that a statement of this name is, which is neither cell nor type nor time unit.
 fn named_item(name: &[u8], at: usize) -> Option<LibraryItem>
     ensures { option_to_list result ≡ named_item name.now at }
 {
@@ -52,6 +56,9 @@ fn group_item(group: Group) -> Option<LibraryItem>
 {
     if group.name.as_slice() == b"cell".as_slice() {
         return Some(LibraryItem::Cell(group));
+    }
+    if group.name.as_slice() == b"type".as_slice() {
+        return Some(LibraryItem::BusType(group));
     }
     named_item(group.name.as_slice(), group.at)
 }
@@ -82,5 +89,6 @@ pub(crate) fn next_of(item: LibraryItem) -> Next
         LibraryItem::Cell(group) => Next::Cell(group),
         LibraryItem::Unit(unit) => Next::Unit(unit),
         LibraryItem::LeftOut(at) => Next::LeftOut(at),
+        LibraryItem::BusType(group) => Next::BusType(group),
     }
 }

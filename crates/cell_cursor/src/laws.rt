@@ -2,8 +2,8 @@
 
 ghost use Rattle.cell_cursor.specs.Items.{items_of_bytes, ItemsAreFound, Ascend};
 
-/// The items of a library in order are those that a reading of it finds: its cells, its time units, and the places of its
-/// statements that name other files.
+/// The items of a library in order are those that a reading of it finds: its cells, its time units, the places of its
+/// statements that name other files, and its types.
 pub fn items_are_found(bytes: &[u8])
     ensures { ItemsAreFound bytes.now }
 {}

@@ -63,7 +63,7 @@ pub record IsReading (bytes : List ℕ) (whole : Bool) (found : Found) (end : En
 
 -- what was found in a reading of the code
 abbrev pub found_in_reading : Reading → Found
-found_in_reading r = record { cells = r.cells.items; units = r.units.items; left_out = r.left_out.items }
+found_in_reading r = record { cells = r.cells.items; units = r.units.items; left_out = r.left_out.items; types = r.types.items }
 
 -- a reading of the code is this one
 pub record Is (r : Reading) (found : Found) (end : End) : Type 0 where

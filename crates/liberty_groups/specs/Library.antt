@@ -21,18 +21,19 @@ use Rattle.liberty_groups.specs.declared.contents.Contents.{Contents}
 use Rattle.liberty_groups.specs.Lexeme.{Lexeme}
 use Rattle.liberty_groups.specs.Grammar.{Grammar, ◌>>=◌, expect, arguments, starts, statement}
 
--- what is kept of a library: its cells, its time units, and the places of statements that name other files
+-- what is kept of a library: its cells, its time units, the places of statements that name other files, and its types
 pub record Found : Type 0 where
   pub cells : List Group
   pub units : List UnitLine
   pub left_out : List ℕ
+  pub types : List Group
 
 abbrev pub nothing_found : Found
-nothing_found = record { cells = []; units = []; left_out = [] }
+nothing_found = record { cells = []; units = []; left_out = []; types = [] }
 
 -- what the lists of the code hold
 abbrev pub found_of : Contents → Found
-found_of c = record { cells = c.cells.items; units = c.units.items; left_out = c.left_out.items }
+found_of c = record { cells = c.cells.items; units = c.units.items; left_out = c.left_out.items; types = c.types.items }
 
 -- The text of a simple attribute is that of its one value. With no value or with several it is empty.
 abbrev pub one_text : List Value → List ℕ
@@ -41,24 +42,31 @@ one_text (v ∷ []) = v.bytes
 one_text (v ∷ w ∷ vs) = []
 
 abbrev pub with_cell : Group → Found → Found
-with_cell group f = record { cells = f.cells ++ group ∷ []; units = f.units; left_out = f.left_out }
+with_cell group f = record f { cells = f.cells ++ group ∷ [] }
 
 abbrev pub with_unit : List Value → ℕ → Found → Found
-with_unit value at f = record { cells = f.cells; units = f.units ++ record { value = one_text value; at = at } ∷ []; left_out = f.left_out }
+with_unit value at f = record f { units = f.units ++ record { value = one_text value; at = at } ∷ [] }
 
 abbrev pub with_left_out : ℕ → Found → Found
-with_left_out at f = record { cells = f.cells; units = f.units; left_out = f.left_out ++ at ∷ [] }
+with_left_out at f = record f { left_out = f.left_out ++ at ∷ [] }
+
+abbrev pub with_type : Group → Found → Found
+with_type group f = record f { types = f.types ++ group ∷ [] }
 
 abbrev pub with_named : List ℕ → ℕ → Found → Found
 with_named name at f = if bytes_eq name (codes "include_file") then with_left_out at f else f
 
--- A group `cell` is a cell, a simple attribute `time_unit` is a time unit, and a statement
+abbrev pub with_group : Group → Found → Found
+with_group group f =
+    if bytes_eq (out-Group group).name (codes "cell") then with_cell group f
+    else (if bytes_eq (out-Group group).name (codes "type") then with_type group f else with_named (out-Group group).name (out-Group group).at f)
+
+-- A group `cell` is a cell, a group `type` is a type, a simple attribute `time_unit` is a time unit, and a statement
 -- `include_file` of any form names another file, which is not read. All else is skipped.
 abbrev pub counted_by : Found → Item-F Item Group → Found
 counted_by f (Item-F.Simple name value at) = if bytes_eq name (codes "time_unit") then with_unit value at f else with_named name at f
 counted_by f (Item-F.Complex name _ at) = with_named name at f
-counted_by f (Item-F.Inner group) =
-    if bytes_eq (out-Group group).name (codes "cell") then with_cell group f else with_named (out-Group group).name (out-Group group).at f
+counted_by f (Item-F.Inner group) = with_group group f
 
 unfoldable pub counted : Found → Item → Found
 counted f item = counted_by f (out-Item item)

@@ -16,12 +16,13 @@ pub struct UnitLine {
     pub at: usize,
 }
 
-/// The cells, the time units, and the offsets of `include_file` statements.
+/// The cells, the time units, the offsets of `include_file` statements, and the types.
 #[derive(Drop)]
 pub struct Contents {
     pub cells: Vec<Group>,
     pub units: Vec<UnitLine>,
     pub left_out: Vec<usize>,
+    pub types: Vec<Group>,
 }
 
 /// The text of a simple attribute with these values.
@@ -44,10 +45,11 @@ impl Contents {
             cells: Vec::new(alloc),
             units: Vec::new(alloc),
             left_out: Vec::new(alloc),
+            types: Vec::new(alloc),
         }
     }
 
-    /// A statement that is neither cell nor time unit.
+    /// A statement that is neither cell nor type nor time unit.
     fn count_named(&mut self, name: &[u8], at: usize) -> Result<(), Stop>
         ensures ok { OnOk result (found_of self.new ≡ with_named name.now at (found_of self.old)) }
         ensures memory { OnErr result (result ≡ Err Stop.Memory) }
@@ -66,6 +68,10 @@ impl Contents {
     {
         if group.name.as_slice() == b"cell".as_slice() {
             self.cells.push(group)?;
+            return Ok(());
+        }
+        if group.name.as_slice() == b"type".as_slice() {
+            self.types.push(group)?;
             return Ok(());
         }
         self.count_named(group.name.as_slice(), group.at)

@@ -25,6 +25,8 @@ pub struct Reading {
     pub units: Vec<UnitLine>,
     /// The offsets of the statements `include_file` of the library, in order.
     pub left_out: Vec<usize>,
+    /// The groups `type` of the library that ended before the place of the fault, in order.
+    pub types: Vec<Group>,
     pub end: End,
 }
 
@@ -193,11 +195,13 @@ fn read_exactly(alloc: Global, bytes: &[u8], whole: bool) -> Result<Reading, All
         cells,
         units,
         left_out,
+        types,
     } = contents;
     Ok(Reading {
         cells,
         units,
         left_out,
+        types,
         end,
     })
 }

@@ -17,7 +17,6 @@ use Rattle.bus_texts.specs.declared.vectors.VectorKind.TheVariants as kinds
 use Rattle.bus_texts.specs.Vectors.{Bank, is_called, is_bank, bank_of, member_name}
 use Rattle.bus_texts.specs.Vectors.{pin_vectors, cell_vectors, positions, vector_named}
 use Rattle.bus_texts.specs.Texts.{member_of, text_for}
-use Rattle.bank_cells.specs.declared.refusal.BankRefusal.{BankRefusal}
 use Rattle.bank_cells.specs.declared.expansion.BankFault.{BankFault}
 use Rattle.bank_cells.specs.declared.expansion.BankFault.TheVariants.{Refused, Memory}
 use Rattle.bank_cells.specs.Members.{member_items}

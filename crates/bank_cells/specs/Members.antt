@@ -1,7 +1,7 @@
 -- The pins that a bus or bundle makes, as they stand (Liberty Reference Manual, `bus` and `bundle` groups, and the `pin` groups
 -- in them).
-use Rattle.std.specs.Prelude.{ℕ, ◌+◌, Bool, true, not, ◌&&◌, List, [], ◌∷◌}
-use Rattle.std.specs.Prelude.{◌++◌, map, filter, flat_map, codes, bytes_eq, slice_get}
+use Rattle.std.specs.Prelude.{ℕ, Bool, not, ◌&&◌, List, []}
+use Rattle.std.specs.Prelude.{◌++◌, filter, flat_map, codes, bytes_eq, slice_get}
 use Rattle.std.specs.Prelude.{Option, Some, None, if◌then◌else◌}
 use Rattle.std.specs.List.{list_any}
 use Rattle.liberty_groups.specs.declared.tree.Value.{Value}

@@ -6,7 +6,7 @@ use crate::pins::{add_pins, single_pin};
 use crate::refusal::BankRefusal;
 use crate::refusals::{bank_refusal, has_many, is_pins};
 use crate::states::add_bank;
-use bus_texts::{BusType, Vector, bank_of, cell_vectors, is_bank, is_called, pin_vectors};
+use bus_texts::{BusType, Vectors, bank_of, cell_vectors, is_bank, is_called, pin_vectors};
 use liberty_groups::{Group, Item, copy_bytes, copy_group, copy_item, copy_values};
 use sqlite_items::Items;
 use std::alloc::{AllocError, Global};
@@ -38,7 +38,7 @@ impl From<AllocError> for BankFault {
 fn add_bank_states(
     alloc: Global,
     found: &mut Items<Item>,
-    vectors: &[Vector],
+    vectors: &Vectors,
     group: &Group,
 ) -> Result<(), AllocError>
     ensures { OnOk result (found.new ≡ found.old ++ spec.bank_states vectors.now group.now) }
@@ -53,7 +53,7 @@ fn add_bank_states(
 fn add_single(
     alloc: Global,
     found: &mut Items<Item>,
-    vectors: &[Vector],
+    vectors: &Vectors,
     group: &Group,
 ) -> Result<(), AllocError>
     ensures { OnOk result (found.new ≡ found.old ++ spec.single_group vectors.now group.now) }
@@ -72,7 +72,7 @@ fn add_group(
     alloc: Global,
     found: &mut Items<Item>,
     types: &[BusType],
-    vectors: &[Vector],
+    vectors: &Vectors,
     group: &Group,
 ) -> Result<(), AllocError>
     ensures { OnOk result (found.new ≡ found.old ++ spec.expanded_group types.now vectors.now group.now) }
@@ -92,7 +92,7 @@ fn add_item(
     alloc: Global,
     found: &mut Items<Item>,
     types: &[BusType],
-    vectors: &[Vector],
+    vectors: &Vectors,
     item: &Item,
 ) -> Result<(), AllocError>
     ensures { OnOk result (found.new ≡ found.old ++ spec.expanded_item types.now vectors.now item.now) }
@@ -110,7 +110,7 @@ fn add_item(
 fn expanded_items(
     alloc: Global,
     types: &[BusType],
-    vectors: &[Vector],
+    vectors: &Vectors,
     items: &[Item],
 ) -> Result<Items<Item>, AllocError>
     ensures { IfOk result (λ found. found ≡ flat_map (spec.expanded_item types.now vectors.now) items.now) }
@@ -130,7 +130,7 @@ fn expanded_cell(alloc: Global, types: &[BusType], cell: &Group) -> Result<Group
     Ok(Group {
         name: copy_bytes(alloc, cell.name.as_slice())?,
         arguments: copy_values(alloc, cell.arguments.as_slice())?,
-        items: expanded_items(alloc, types, vectors.as_slice(), cell.items.as_slice())?,
+        items: expanded_items(alloc, types, &vectors, cell.items.as_slice())?,
         at: cell.at,
     })
 }

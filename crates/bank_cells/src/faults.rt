@@ -3,14 +3,14 @@ ghost use Rattle.std.specs.Prelude.{◌≡◌, ◌++◌, OnOk, map, option_map};
 ghost use Rattle.liberty_groups.specs.Attributes.{shown, attributes_named, last_or};
 ghost use Rattle.bank_cells.specs.Faults as spec;
 
-use bus_texts::{Vector, text_fails};
+use bus_texts::{Vectors, text_fails};
 use liberty_groups::{Attribute, Item, simple_attribute};
 use std::alloc::{AllocError, Global};
 
 /// Where a text stands: the names of several bits in its cell, and its position, if it has one.
 #[derive(Clone, Copy)]
 pub(crate) struct Place<'a> {
-    pub(crate) vectors: &'a [Vector],
+    pub(crate) vectors: &'a Vectors,
     pub(crate) position: Option<usize>,
 }
 

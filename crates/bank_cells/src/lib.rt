@@ -16,3 +16,4 @@ mod widths;
 
 pub use expansion::{BankFault, expand};
 pub use refusal::{BankReason, BankRefusal};
+pub use refusals::has_many;

@@ -6,7 +6,7 @@ use crate::faults::Place;
 use crate::members::{Member, all_items, member_items};
 use crate::rewritten::{one_value, pin_text};
 use crate::timings::timing_at;
-use bus_texts::{Vector, is_called};
+use bus_texts::{Vector, Vectors, is_called};
 use liberty_groups::{Group, Item, copy_bytes, copy_item, copy_values};
 use sqlite_items::Items;
 use std::alloc::{AllocError, Global};
@@ -39,7 +39,7 @@ fn pin_items(alloc: Global, place: Place<'_>, items: &[&Item]) -> Result<Items<I
 /// The pin that a bus or bundle makes at a position.
 fn member_pin(
     alloc: Global,
-    vectors: &[Vector],
+    vectors: &Vectors,
     group: &Group,
     member: Member<'_>,
 ) -> Result<Group, AllocError>
@@ -61,7 +61,7 @@ fn member_pin(
 fn add_vector_pins(
     alloc: Global,
     found: &mut Items<Item>,
-    vectors: &[Vector],
+    vectors: &Vectors,
     group: &Group,
     vector: &Vector,
 ) -> Result<(), AllocError>
@@ -79,7 +79,7 @@ fn add_vector_pins(
 pub(crate) fn add_pins(
     alloc: Global,
     found: &mut Items<Item>,
-    vectors: &[Vector],
+    vectors: &Vectors,
     group: &Group,
     made: &[Vector],
 ) -> Result<(), AllocError>
@@ -94,7 +94,7 @@ pub(crate) fn add_pins(
 /// A pin of one bit.
 pub(crate) fn single_pin(
     alloc: Global,
-    vectors: &[Vector],
+    vectors: &Vectors,
     group: &Group,
 ) -> Result<Group, AllocError>
     ensures { IfOk result (λ pin. pin ≡ spec.single_pin vectors.now group.now) }

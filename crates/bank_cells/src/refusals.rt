@@ -27,8 +27,9 @@ fn is_many_item(item: &Item) -> bool
     }
 }
 
-/// Whether a cell has groups that make several pins or states.
-pub(crate) fn has_many(cell: &Group) -> bool
+/// Whether a cell has groups that make several pins or states: buses, bundles or banks. Where it has none, `expand` answers the
+/// group as it stands.
+pub fn has_many(cell: &Group) -> bool
     ensures { result ≡ spec.has_many cell.now }
 {
     for item in cell.items.as_slice() {

@@ -9,7 +9,7 @@ ghost use Rattle.bank_cells.specs.Faults as spec;
 use crate::faults::{Place, add_timing_texts};
 use crate::members::all_items;
 use crate::ranges::is_reference;
-use bus_texts::{Vector, VectorKind, is_called, member_at, vector_named};
+use bus_texts::{Vector, VectorKind, Vectors, is_called, member_at, vector_named};
 use liberty_groups::{Attribute, Group, Item, simple_attribute};
 use std::alloc::{AllocError, Global};
 
@@ -41,7 +41,7 @@ fn related_text<'a>(items: &[&'a Item]) -> Option<Attribute<'a>>
 }
 
 /// The bus or bundle of this name.
-pub(crate) fn pins_named<'a>(vectors: &'a [Vector], word: &[u8]) -> Option<&'a Vector>
+pub(crate) fn pins_named<'a>(vectors: &'a Vectors, word: &[u8]) -> Option<&'a Vector>
     ensures { option_copied result ≡ spec.pins_named vectors.now word.now }
 {
     let vector = vector_named(vectors, word)?;
@@ -64,7 +64,7 @@ fn refers_to_any(vectors: &[Vector], word: &[u8]) -> bool
 }
 
 /// Whether a word is the name of a bus or bundle that has no member at a position.
-fn lacks_member(vectors: &[Vector], at: usize, word: &[u8]) -> bool
+fn lacks_member(vectors: &Vectors, at: usize, word: &[u8]) -> bool
     ensures { result ≡ spec.lacks_member at (spec.pins_named vectors.now word.now) }
 {
     let Some(vector) = pins_named(vectors, word) else {
@@ -81,7 +81,7 @@ fn word_fails(place: Place<'_>, word: &[u8]) -> bool
     ensures { result ≡ spec.word_fails place.entry.vectors.now place.entry.position word.now }
 {
     match place.position {
-        None => refers_to_any(place.vectors, word),
+        None => refers_to_any(place.vectors.as_slice(), word),
         Some(at) => lacks_member(place.vectors, at, word),
     }
 }

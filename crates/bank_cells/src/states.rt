@@ -5,7 +5,7 @@ ghost use Rattle.bank_cells.specs.Expanded as spec;
 
 use crate::faults::Place;
 use crate::rewritten::state_items;
-use bus_texts::{Bank, Vector, is_called, member_name, positions};
+use bus_texts::{Bank, Vectors, is_called, member_name, positions};
 use liberty_groups::{Group, Item, Value, copy_bytes};
 use sqlite_items::Items;
 use std::alloc::{AllocError, Global};
@@ -43,7 +43,7 @@ fn variables(alloc: Global, bank: Bank<'_>, bit: u16) -> Result<Items<Value>, Al
 /// The state of a bank at a position.
 fn bank_state(
     alloc: Global,
-    vectors: &[Vector],
+    vectors: &Vectors,
     group: &Group,
     bank: Bank<'_>,
     bit: u16,
@@ -63,7 +63,7 @@ fn bank_state(
 fn add_states(
     alloc: Global,
     found: &mut Items<Item>,
-    vectors: &[Vector],
+    vectors: &Vectors,
     group: &Group,
     bank: Bank<'_>,
     bits: &[u16],
@@ -80,7 +80,7 @@ fn add_states(
 pub(crate) fn add_bank(
     alloc: Global,
     found: &mut Items<Item>,
-    vectors: &[Vector],
+    vectors: &Vectors,
     group: &Group,
     bank: Bank<'_>,
 ) -> Result<(), AllocError>

@@ -5,7 +5,7 @@ ghost use Rattle.bank_cells.specs.Expanded as spec;
 use crate::faults::Place;
 use crate::related::{pins_named, related_words};
 use crate::rewritten::{one_value, timing_text};
-use bus_texts::{Vector, VectorKind, member_at, vector_named};
+use bus_texts::{VectorKind, Vectors, member_at, vector_named};
 use liberty_groups::{
     Attribute, Group, Item, copy_bytes, copy_item, copy_values, simple_attribute,
 };
@@ -32,7 +32,7 @@ fn add_names(text: &mut Vec<u8>, names: &[Items<u8>]) -> Result<(), AllocError>
 }
 
 /// The member of a bus or bundle of this name at a position, and any other name itself.
-fn related_word<'a>(vectors: &'a [Vector], at: usize, word: &'a [u8]) -> &'a [u8]
+fn related_word<'a>(vectors: &'a Vectors, at: usize, word: &'a [u8]) -> &'a [u8]
     ensures { result.now ≡ spec.related_word vectors.now at word.now }
 {
     let Some(vector) = pins_named(vectors, word) else {
@@ -47,7 +47,7 @@ fn related_word<'a>(vectors: &'a [Vector], at: usize, word: &'a [u8]) -> &'a [u8
 /// Adds names as they become at a position.
 fn add_members_at(
     text: &mut Vec<u8>,
-    vectors: &[Vector],
+    vectors: &Vectors,
     at: usize,
     words: &[&[u8]],
 ) -> Result<(), AllocError>
@@ -61,7 +61,7 @@ fn add_members_at(
 }
 
 /// Adds all members of the bus of this name, and any other name itself.
-fn add_bus(text: &mut Vec<u8>, vectors: &[Vector], word: &[u8]) -> Result<(), AllocError>
+fn add_bus(text: &mut Vec<u8>, vectors: &Vectors, word: &[u8]) -> Result<(), AllocError>
     ensures { OnOk result (text.new.items ≡ text.old.items ++ spec.bus_part vectors.now word.now) }
 {
     let Some(vector) = vector_named(vectors, word) else {
@@ -74,7 +74,7 @@ fn add_bus(text: &mut Vec<u8>, vectors: &[Vector], word: &[u8]) -> Result<(), Al
 }
 
 /// Adds all members of the buses of these names.
-fn add_buses(text: &mut Vec<u8>, vectors: &[Vector], words: &[&[u8]]) -> Result<(), AllocError>
+fn add_buses(text: &mut Vec<u8>, vectors: &Vectors, words: &[&[u8]]) -> Result<(), AllocError>
     ensures { OnOk result
         (text.new.items ≡ text.old.items ++ flat_map (spec.bus_part vectors.now) (map (λ word. word.now) words.now)) }
 {
@@ -98,7 +98,7 @@ fn related_pins(alloc: Global, text: Vec<u8>, at: usize) -> Result<Item, AllocEr
 /// A `related_pin` as it becomes at a position.
 fn related_at(
     alloc: Global,
-    vectors: &[Vector],
+    vectors: &Vectors,
     at: usize,
     related: Attribute<'_>,
 ) -> Result<Item, AllocError>
@@ -111,11 +111,7 @@ fn related_at(
 }
 
 /// The `related_pin` that a `related_bus_pins` becomes.
-fn related_buses(
-    alloc: Global,
-    vectors: &[Vector],
-    buses: Attribute<'_>,
-) -> Result<Item, AllocError>
+fn related_buses(alloc: Global, vectors: &Vectors, buses: Attribute<'_>) -> Result<Item, AllocError>
     ensures { IfOk result (λ item. item ≡ spec.related_pins (spec.members_of_all vectors.now buses.entry.text.now) buses.entry.at) }
 {
     let words = related_words(alloc, buses.text)?;

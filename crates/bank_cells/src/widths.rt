@@ -9,7 +9,8 @@ use crate::members::{Member, all_items, member_items};
 use crate::refusals::is_pins;
 use crate::related::add_all_timing_faults;
 use bus_texts::{
-    Bank, BusType, Vector, bank_of, cell_vectors, is_bank, is_called, pin_vectors, positions,
+    Bank, BusType, Vector, Vectors, bank_of, cell_vectors, is_bank, is_called, pin_vectors,
+    positions,
 };
 use liberty_groups::{Group, Item};
 use std::alloc::{AllocError, Global};
@@ -33,7 +34,7 @@ fn add_pin_faults(
 fn add_member_faults(
     alloc: Global,
     found: &mut Vec<usize>,
-    vectors: &[Vector],
+    vectors: &Vectors,
     group: &Group,
     member: Member<'_>,
 ) -> Result<(), AllocError>
@@ -51,7 +52,7 @@ fn add_member_faults(
 fn add_vector_faults(
     alloc: Global,
     found: &mut Vec<usize>,
-    vectors: &[Vector],
+    vectors: &Vectors,
     group: &Group,
     vector: &Vector,
 ) -> Result<(), AllocError>
@@ -68,7 +69,7 @@ fn add_vector_faults(
 fn add_pins_faults(
     alloc: Global,
     found: &mut Vec<usize>,
-    vectors: &[Vector],
+    vectors: &Vectors,
     group: &Group,
     made: &[Vector],
 ) -> Result<(), AllocError>
@@ -104,7 +105,7 @@ fn add_state_texts(
 fn add_states_faults(
     alloc: Global,
     found: &mut Vec<usize>,
-    vectors: &[Vector],
+    vectors: &Vectors,
     group: &Group,
     bits: &[u16],
 ) -> Result<(), AllocError>
@@ -121,7 +122,7 @@ fn add_states_faults(
 fn add_bank_faults(
     alloc: Global,
     found: &mut Vec<usize>,
-    vectors: &[Vector],
+    vectors: &Vectors,
     group: &Group,
     bank: Bank<'_>,
 ) -> Result<(), AllocError>
@@ -136,7 +137,7 @@ fn add_bank_faults(
 fn add_single_faults(
     alloc: Global,
     found: &mut Vec<usize>,
-    vectors: &[Vector],
+    vectors: &Vectors,
     group: &Group,
 ) -> Result<(), AllocError>
     ensures { OnOk result (found.new.items ≡ found.old.items ++ spec.single_faults vectors.now group.now) }
@@ -158,7 +159,7 @@ fn add_group_faults(
     alloc: Global,
     found: &mut Vec<usize>,
     types: &[BusType],
-    vectors: &[Vector],
+    vectors: &Vectors,
     group: &Group,
 ) -> Result<(), AllocError>
     ensures { OnOk result (found.new.items ≡ found.old.items ++ spec.width_faults_of types.now vectors.now group.now) }
@@ -180,7 +181,7 @@ fn add_group_faults(
 fn all_faults(
     alloc: Global,
     types: &[BusType],
-    vectors: &[Vector],
+    vectors: &Vectors,
     items: &[Item],
 ) -> Result<Vec<usize>, AllocError>
     ensures { IfOk result (λ found. found.items ≡ flat_map (spec.width_faults_in types.now vectors.now) items.now) }
@@ -203,5 +204,5 @@ pub(crate) fn width_faults(
     ensures { IfOk result (λ found. found.items ≡ spec.width_faults types.now cell.now) }
 {
     let vectors = cell_vectors(alloc, types, cell)?;
-    all_faults(alloc, types, vectors.as_slice(), cell.items.as_slice())
+    all_faults(alloc, types, &vectors, cell.items.as_slice())
 }

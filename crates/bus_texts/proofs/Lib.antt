@@ -1,3 +1,5 @@
 pub mod LoopLemmas
 pub mod PartLemmas
 pub mod RewrittenTexts
+pub mod RunningTexts
+pub mod NamedLemmas

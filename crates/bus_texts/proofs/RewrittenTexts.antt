@@ -21,12 +21,12 @@ use Rattle.bus_texts.specs.Vectors.{vector_named}
 use Rattle.bus_texts.specs.Laws.{runs_into_name, runs_together, part_symbols, replaced_symbols, written_symbols, symbols_over, Replaces}
 use Rattle.bus_texts.proofs.PartLemmas.{first_some, parts_step, digits_first}
 
-and_right : (b : Bool) → (b && false) ≡ false
+pub and_right : (b : Bool) → (b && false) ≡ false
 and_right true = refl
 and_right false = refl
 
 -- the members that names become are names
-abbrev Named : Replacement → Type 0
+abbrev pub Named : Replacement → Type 0
 Named Stays = Unit {0}
 Named (Becomes member) = is_identifier member ≡ true
 Named Missing = Unit {0}
@@ -39,11 +39,11 @@ named_becomes : (member : Option (List ℕ)) → Named (becomes member)
 named_becomes None = tt
 named_becomes (Some member) = named_if member (is_identifier member) refl
 
-named_by : (at : ℕ) (bit : Option ℕ) (vector : Option Vector) → Named (replaced_by at bit vector)
+pub named_by : (at : ℕ) (bit : Option ℕ) (vector : Option Vector) → Named (replaced_by at bit vector)
 named_by at bit None = tt
 named_by at bit (Some vector) = named_becomes (member_of vector at bit)
 
-identifier_word : (name : List ℕ) → is_identifier name ≡ true → (list_all is_word_byte name ≡ true) × (0 < length name)
+pub identifier_word : (name : List ℕ) → is_identifier name ≡ true → (list_all is_word_byte name ≡ true) × (0 < length name)
 identifier_word [] h = absurd cc
 identifier_word (b ∷ s) h =
     let parts = and_parts (begins_name b) (list_all is_word_byte s) h in
@@ -80,7 +80,7 @@ member_quiet : (followed : Bool) (member rest : List ℕ) → (followed ≡ fals
 member_quiet true member rest q = ap (λ ends. ends && begins_word rest) (space_ends member)
 member_quiet false member rest q = rw (q refl) (and_right (ends_in_word member))
 
-spelled_quiet : (part : Part) (replacement : Replacement) (rest : List ℕ) → runs_into_name part ≡ false → (part.followed ≡ false → begins_word rest ≡ false)
+pub spelled_quiet : (part : Part) (replacement : Replacement) (rest : List ℕ) → runs_into_name part ≡ false → (part.followed ≡ false → begins_word rest ≡ false)
     → runs_on (spelled part replacement) rest ≡ false
 spelled_quiet part Stays rest j q = written_quiet part.followed (ends_in_word part.written) (begins_word rest) j q
 spelled_quiet part (Becomes member) rest j q = member_quiet part.followed member rest q
@@ -99,10 +99,10 @@ name_behind text n (Some digits) = ap begins_word (sym (drop_taken (n + length d
 plain_behind : (text : List ℕ) (n : ℕ) → (plain_part text n).followed ≡ begins_word (drop (length (plain_part text n).written) text)
 plain_behind text n = ap begins_word (sym (drop_taken n text))
 
-abbrev Behind : List ℕ → Part → Type 0
+abbrev pub Behind : List ℕ → Part → Type 0
 Behind text part = part.followed ≡ begins_word (drop (length part.written) text)
 
-first_behind : (b : ℕ) (s : List ℕ) → Behind (b ∷ s) (first_part (b ∷ s))
+pub first_behind : (b : ℕ) (s : List ℕ) → Behind (b ∷ s) (first_part (b ∷ s))
 first_behind b s = by (begins_name b) (is_ascii_digit b) refl refl
   where
     by : (named digit : Bool) → begins_name b ≡ named → is_ascii_digit b ≡ digit → Behind (b ∷ s) (first_part (b ∷ s))
@@ -128,7 +128,7 @@ first_plain b s w = by (is_ascii_digit b) refl
         (record { unnamed = refl; count = prefix_len is_ascii_digit (b ∷ s); taken = refl })
     by false d = rw (e, d) (record { unnamed = refl; count = 1; taken = refl })
 
-begins_taken : (n b : ℕ) (s rest : List ℕ) → 0 < length (take n (b ∷ s)) → begins_word (take n (b ∷ s) ++ rest) ≡ is_word_byte b
+pub begins_taken : (n b : ℕ) (s rest : List ℕ) → 0 < length (take n (b ∷ s)) → begins_word (take n (b ∷ s) ++ rest) ≡ is_word_byte b
 begins_taken zero b s rest h = absurd (omega (arith, h))
 begins_taken (suc n) b s rest h = refl
 
@@ -136,7 +136,7 @@ module _ (names : List (List ℕ)) (vectors : List Vector) (at : ℕ) where
   plain_stays : (part : Part) → part.name ≡ [] → rewritten_part vectors at part ≡ part.written
   plain_stays part e = ap (λ name. spelled part (replaced_by at part.bit (vector_named vectors name))) e
 
-  begins_same : (text : List ℕ) → begins_word text ≡ false → begins_word (rewritten vectors at text) ≡ false
+  pub begins_same : (text : List ℕ) → begins_word text ≡ false → begins_word (rewritten vectors at text) ≡ false
   begins_same [] h = refl
   begins_same (b ∷ s) h =
       let part : Part = first_part (b ∷ s) in

@@ -1,5 +1,5 @@
 -- Laws of texts over names of several bits.
-use Rattle.std.specs.Prelude.{◌≡◌, ℕ, Bool, false, ◌&&◌, List, [], ◌∷◌, length, map, flat_map, unwrap_or, Contains, if◌then◌else◌}
+use Rattle.std.specs.Prelude.{◌≡◌, ℕ, Bool, true, false, ◌&&◌, List, [], ◌∷◌, length, map, flat_map, unwrap_or, Contains, if◌then◌else◌}
 use Rattle.std.specs.List.{list_any}
 use Rattle.bool_functions.specs.declared.symbol.Symbol.{Symbol}
 use Rattle.bool_functions.specs.declared.symbol.Symbol.TheVariants as symbol
@@ -57,3 +57,9 @@ RewrittenTree =
     (to : List ℕ) (names others : List (List ℕ)) (vectors : List Vector) (at : ℕ) (text : List ℕ) (f : Node)
     → runs_together text ≡ false → Replaces to names others vectors at text → IsText (symbols_over names vectors text) f
     → IsText (symbols others (rewritten vectors at text)) (renamed_by to f)
+
+-- A text in which a number runs into a name, as `1A`, is no function text, whatever its names become.
+abbrev pub RunningTexts : Type 0
+RunningTexts =
+    (names : List (List ℕ)) (vectors : List Vector) (at : ℕ) (text : List ℕ) (f : Node)
+    → runs_together text ≡ true → IsText (symbols names (rewritten vectors at text)) f → ⊥

@@ -5,8 +5,9 @@ ghost use Rattle.std.specs.Option.{option_copied};
 ghost use Rattle.bus_texts.specs.Parts.{shown};
 ghost use Rattle.bus_texts.specs.Texts as spec;
 
+use crate::named_vectors::{Vectors, vector_named};
 use crate::parts::{Part, is_identifier, parts};
-use crate::vectors::{Vector, vector_named};
+use crate::vectors::Vector;
 use liberty_groups::copy_bytes;
 use sqlite_items::Items;
 use std::alloc::{AllocError, Global};
@@ -70,7 +71,7 @@ fn becomes(member: Option<&[u8]>) -> Replacement<'_>
 }
 
 /// What becomes of a part of a text at a position.
-fn replacement_of<'a>(vectors: &'a [Vector], at: usize, part: Part<'_>) -> Replacement<'a>
+fn replacement_of<'a>(vectors: &'a Vectors, at: usize, part: Part<'_>) -> Replacement<'a>
     ensures { spec.shown_replacement result ≡ spec.replacement_for vectors.now at (shown part.entry) }
 {
     match vector_named(vectors, part.name) {
@@ -82,7 +83,7 @@ fn replacement_of<'a>(vectors: &'a [Vector], at: usize, part: Part<'_>) -> Repla
 /// Adds a part of a text as it becomes at a position.
 fn add_part(
     text: &mut Vec<u8>,
-    vectors: &[Vector],
+    vectors: &Vectors,
     at: usize,
     part: Part<'_>,
 ) -> Result<(), AllocError>
@@ -103,7 +104,7 @@ fn add_part(
 /// Adds parts of a text as they become at a position.
 fn add_parts(
     text: &mut Vec<u8>,
-    vectors: &[Vector],
+    vectors: &Vectors,
     at: usize,
     parts: &[Part<'_>],
 ) -> Result<(), AllocError>
@@ -118,7 +119,7 @@ fn add_parts(
 /// A text as it becomes at a position.
 fn rewritten(
     alloc: Global,
-    vectors: &[Vector],
+    vectors: &Vectors,
     at: usize,
     text: &[u8],
 ) -> Result<Items<u8>, AllocError>
@@ -133,7 +134,7 @@ fn rewritten(
 /// A text as it becomes at a place.
 pub fn text_for(
     alloc: Global,
-    vectors: &[Vector],
+    vectors: &Vectors,
     position: Option<usize>,
     text: &[u8],
 ) -> Result<Items<u8>, AllocError>
@@ -146,7 +147,7 @@ pub fn text_for(
 }
 
 /// Whether a part has no member that it can become.
-fn is_missing(vectors: &[Vector], at: usize, part: Part<'_>) -> bool
+fn is_missing(vectors: &Vectors, at: usize, part: Part<'_>) -> bool
     ensures { result ≡ spec.is_missing (spec.replacement_for vectors.now at (shown part.entry)) }
 {
     match replacement_of(vectors, at, part) {
@@ -156,7 +157,7 @@ fn is_missing(vectors: &[Vector], at: usize, part: Part<'_>) -> bool
 }
 
 /// Whether one of these parts has no member that it can become.
-fn any_missing(vectors: &[Vector], at: usize, parts: &[Part<'_>]) -> bool
+fn any_missing(vectors: &Vectors, at: usize, parts: &[Part<'_>]) -> bool
     ensures { result ≡ list_any (spec.part_misses vectors.now at) (map shown parts.now) }
 {
     for part in parts {
@@ -168,7 +169,7 @@ fn any_missing(vectors: &[Vector], at: usize, parts: &[Part<'_>]) -> bool
 }
 
 /// Whether one of these parts is the name of a vector.
-fn any_vector(vectors: &[Vector], parts: &[Part<'_>]) -> bool
+fn any_vector(vectors: &Vectors, parts: &[Part<'_>]) -> bool
     ensures { result ≡ list_any (spec.is_vector vectors.now) (map shown parts.now) }
 {
     for part in parts {
@@ -182,7 +183,7 @@ fn any_vector(vectors: &[Vector], parts: &[Part<'_>]) -> bool
 /// Whether a text cannot become what it has to at a place.
 pub fn text_fails(
     alloc: Global,
-    vectors: &[Vector],
+    vectors: &Vectors,
     position: Option<usize>,
     text: &[u8],
 ) -> Result<bool, AllocError>

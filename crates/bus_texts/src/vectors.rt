@@ -339,8 +339,8 @@ fn add_all_variables(
     Ok(())
 }
 
-/// All names of a cell that stand for several bits.
-pub fn cell_vectors(
+/// All names of a cell that stand for several bits, in order.
+pub(crate) fn all_vectors(
     alloc: Global,
     types: &[BusType],
     cell: &Group,
@@ -351,19 +351,4 @@ pub fn cell_vectors(
     add_all_pin_vectors(alloc, &mut vectors, types, cell)?;
     add_all_variables(alloc, &mut vectors, cell)?;
     Ok(vectors)
-}
-
-/// The vector of a name: of several the first.
-pub fn vector_named<'a>(vectors: &'a [Vector], name: &[u8]) -> Option<&'a Vector>
-    ensures { option_copied result ≡ spec.vector_named vectors.now name.now }
-{
-    if name.is_empty() {
-        return None;
-    }
-    for vector in vectors {
-        if vector.name.as_slice() == name {
-            return Some(vector);
-        }
-    }
-    None
 }

@@ -18,6 +18,7 @@ number_of_reason reason.OwnCondition = 11
 number_of_reason reason.Number = 12
 number_of_reason reason.Limit = 13
 number_of_reason reason.UdpInputs = 14
+number_of_reason reason.Width = 15
 
 abbrev pub word_of_reason : Reason → List ℕ
 word_of_reason reason.Direction = codes "direction"
@@ -34,3 +35,4 @@ word_of_reason reason.OwnCondition = codes "own_condition"
 word_of_reason reason.Number = codes "number"
 word_of_reason reason.Limit = codes "limit"
 word_of_reason reason.UdpInputs = codes "udp_inputs"
+word_of_reason reason.Width = codes "width"

@@ -1,13 +1,15 @@
 //! Why a cell is refused.
 
-/// A reason to refuse a cell. Of several that are met the first in this order is answered.
+/// A reason to refuse a cell. Of several that are met the first in this order is answered, but `Bank` and then `Width` before all
+/// others.
 #[derive(Clone, Copy, Debug)]
 pub enum Reason {
     /// A pin's direction is absent, or none of input, output and internal.
     Direction,
     /// A pin has `three_state`.
     ThreeState,
-    /// The cell has a `bus`, `bundle`, `ff_bank` or `latch_bank` group.
+    /// A `bus`, `bundle`, `ff_bank` or `latch_bank` group makes no single bits, or the cell has one where it is not expanded to
+    /// single bits.
     Bank,
     /// `clocked_on_also`, `enable_also` or `input_map` stands in a state group or pin.
     LeftOutState,
@@ -31,13 +33,15 @@ pub enum Reason {
     Limit,
     /// A state group names more than 8 pins, or an output function or a condition more than 10 names.
     UdpInputs,
+    /// A bus, a bundle or a variable of a bank is named where it has no bit.
+    Width,
 }
 
 impl Reason {
     ghost use Rattle.std.specs.Prelude.{◌≡◌};
     ghost use Rattle.cell_reader.specs.ReasonWords.{number_of_reason, word_of_reason};
 
-    /// The number of the reason, from 1, in the order in which they are tried.
+    /// The number of the reason, from 1.
     pub fn number(self) -> u8
         ensures { result ≡ number_of_reason self }
     {
@@ -56,6 +60,7 @@ impl Reason {
             Reason::Number => 12,
             Reason::Limit => 13,
             Reason::UdpInputs => 14,
+            Reason::Width => 15,
         }
     }
 
@@ -78,6 +83,7 @@ impl Reason {
             Reason::Number => b"number",
             Reason::Limit => b"limit",
             Reason::UdpInputs => b"udp_inputs",
+            Reason::Width => b"width",
         }
     }
 }

@@ -37,6 +37,7 @@ item_counted : (p : Progress) (x : LibraryItem) → (after_item p x).accepted + 
 item_counted p (item.Cell group) = cell_counted p (cell_name group) (entity_by p group (next_refusal p group))
 item_counted p (item.Unit line) = omega arith
 item_counted p (item.LeftOut at) = omega arith
+item_counted p (item.BusType group) = omega arith
 
 pub room_kept : (p q : Progress) (x : LibraryItem) (turn : ℕ) → q ≡ after_item p x → p.accepted + p.refused ≤ turn → q.accepted + q.refused ≤ turn + 1
 room_kept p q x turn e h = rw e (omega (arith, item_counted p x))

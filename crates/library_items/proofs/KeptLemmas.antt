@@ -12,14 +12,11 @@ use Rattle.cell_cursor.specs.declared.item.LibraryItem.{LibraryItem}
 use Rattle.cell_cursor.specs.declared.item.LibraryItem.TheVariants as item
 use Rattle.cell_parts.specs.Groups.{cell_name}
 use Rattle.cell_reader.specs.declared.refusal.Refusal.{Refusal}
-use Rattle.liberty_text.specs.declared.time.Unit.{Unit}
-use Rattle.three_state_cells.specs.CoreGroups.{core_group}
-use Rattle.three_state_cells.specs.DrivenCells.{data_by, floating_of, driven_data}
-use Rattle.three_state_cells.specs.Outputs.{ThreeStateOutput, three_state_outputs}
 use Rattle.library_items.specs.LibraryCells.{CellEntry, name_of, cell_names}
 use Rattle.library_items.specs.declared.progress.Progress.{Progress}
-use Rattle.library_items.specs.Progress.{names_with, next_number, next_refusal, next_data, entity_by, after_cell, after_item, progress_after}
+use Rattle.library_items.specs.Progress.{names_with, next_refusal, entity_by, after_cell, after_item, progress_after}
 use Rattle.library_items.specs.KeptCells.{kept_by, next_entry, item_kept, kept_cells}
+use Rattle.library_items.proofs.CellLemmas.{next_name}
 
 -- what is kept of some items, and then of others
 kept_cells-append : (p : Progress) (xs ys : List LibraryItem) → kept_cells p (xs ++ ys) ≡ kept_cells p xs ++ kept_cells (progress_after p xs) ys
@@ -41,15 +38,8 @@ names_after : (p : Progress) (name : List ℕ) (entity : Option (List ℕ)) → 
 names_after p name (Some entity) = refl
 names_after p name None = refl
 
--- what is read of a cell bears its name
-name_read : (unit : Option Unit) (number : ℕ) (group : Group) (outputs : List ThreeStateOutput) → (data_by unit number group outputs).name ≡ cell_name group
-unfolding floating_of core_group
-name_read unit number group [] = refl
-name_read unit number group (output ∷ outputs) = refl
-
 its_name : (p : Progress) (group : Group) (o : Option Refusal) → name_of (kept_by p group o) ≡ cell_name group
-unfolding next_data driven_data
-its_name p group None = name_read p.unit (next_number p) group (three_state_outputs group)
+its_name p group None = next_name p group
 its_name p group (Some refusal) = refl
 
 cell_named : (p : Progress) (group : Group) (cells : List CellEntry) (b : Bool) → cell_names cells ≡ p.names
@@ -65,6 +55,7 @@ item_named p (item.Cell group) cells e =
     ∙ sym (names_after p (cell_name group) (entity_by p group (next_refusal p group)))
 item_named p (item.Unit line) cells e = ap cell_names (append-nil cells) ∙ e
 item_named p (item.LeftOut at) cells e = ap cell_names (append-nil cells) ∙ e
+item_named p (item.BusType group) cells e = ap cell_names (append-nil cells) ∙ e
 
 -- None of them stands twice.
 
@@ -88,3 +79,4 @@ item_apart p (item.Cell group) h =
     subst AreDistinct (sym (names_after p (cell_name group) (entity_by p group (next_refusal p group)))) (names_apart p.names (cell_name group) h)
 item_apart p (item.Unit line) h = h
 item_apart p (item.LeftOut at) h = h
+item_apart p (item.BusType group) h = h

@@ -54,6 +54,7 @@ nothing_for_all p [] = refl
 nothing_for_all p (item.Cell group ∷ items) = nothing_for_all (after_item p (item.Cell group)) items
 nothing_for_all p (item.Unit line ∷ items) = nothing_for_all (after_item p (item.Unit line)) items
 nothing_for_all p (item.LeftOut at ∷ items) = nothing_for_all (after_item p (item.LeftOut at)) items
+nothing_for_all p (item.BusType group ∷ items) = nothing_for_all (after_item p (item.BusType group)) items
 
 empty_part : (xs : List ℕ) → IsPrefix xs [] → xs ≡ []
 empty_part [] h = refl

@@ -35,6 +35,7 @@ abbrev pub item_kept : Progress → LibraryItem → List CellEntry
 item_kept p (item.Cell group) = if is_some (number_of p.names (cell_name group)) then [] else next_entry p group ∷ []
 item_kept p (item.Unit line) = []
 item_kept p (item.LeftOut at) = []
+item_kept p (item.BusType group) = []
 
 -- what is kept of these items, in order
 abbrev pub kept_cells : Progress → List LibraryItem → List CellEntry

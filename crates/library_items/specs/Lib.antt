@@ -1,4 +1,5 @@
 pub mod CellLines
+pub mod BankRefusals
 pub mod Progress
 pub mod Endings
 pub mod Steps

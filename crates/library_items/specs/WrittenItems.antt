@@ -8,11 +8,13 @@ use Rattle.command_outcomes.specs.Written.{Written, nothing_written, joined, IsP
 use Rattle.library_items.specs.declared.progress.Progress.{Progress}
 use Rattle.library_items.specs.Progress.{after_item}
 
--- what is written for an item: for a cell as the first says, for a statement that names a file the second, for a time unit nothing
+-- what is written for an item: for a cell as the first says, for a statement that names a file the second, for a time unit or a type
+-- nothing
 abbrev pub written_for : (Progress → Group → Written) → Written → Progress → LibraryItem → Written
 written_for for_cell for_left_out p (item.Cell group) = for_cell p group
 written_for for_cell for_left_out p (item.Unit line) = nothing_written
 written_for for_cell for_left_out p (item.LeftOut at) = for_left_out
+written_for for_cell for_left_out p (item.BusType group) = nothing_written
 
 -- what is written for these items, one after another, as the first says of each
 abbrev pub written_for_all : (Progress → LibraryItem → Written) → Progress → List LibraryItem → Written

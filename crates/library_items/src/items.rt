@@ -93,12 +93,16 @@ fn handle_item<D: Desk, W: ItemWriter, F: CellFold>(
             Ok(())
         }
         LibraryItem::LeftOut(_) => writer.write_left_out(desk),
+        LibraryItem::BusType(group) => {
+            progress.count_type(alloc, group)?;
+            Ok(())
+        }
     }
 }
 
 /// Goes over the items of the library that is bound, in the order of the file, up to its end or its limit, and answers how it ends.
 /// What becomes of an item is written before anything further is read, and of cells of one name the first is taken. Of the library's
-/// text only the statement that has not ended is held.
+/// text only the statement that has not ended is held, beside the names and the types of buses that it has told so far.
 ///
 /// Faults: `Failed` where a read or a write failed, `Memory`.
 pub fn fold_items<D: Desk, W: ItemWriter, F: CellFold>(

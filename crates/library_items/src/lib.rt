@@ -4,6 +4,7 @@
 
 mod cell_lines;
 mod ending;
+mod expanded_cell;
 mod fold;
 mod items;
 mod keeping;

@@ -6,6 +6,7 @@ ghost use Rattle.library_items.specs.LibraryCells.{vital_name};
 ghost use Rattle.library_items.specs.Progress.{after_item};
 ghost use Rattle.library_items.specs.NextCells.{IsNext};
 
+use crate::expanded_cell::read_expanded;
 use crate::progress::Progress;
 use bool_functions::Names;
 use cell_parts::groups::cell_name;
@@ -14,7 +15,7 @@ use liberty_groups::Group;
 use sqlite_items::Items;
 use std::alloc::{AllocError, Global};
 use text_io::Stop;
-use three_state_cells::{DrivenCell, read_driven};
+use three_state_cells::DrivenCell;
 use vital_models::{driver_name, entity_name};
 
 /// The next cell of a library, or why it is refused.
@@ -49,8 +50,7 @@ pub(crate) fn next_cell(alloc: Global, progress: &Progress, group: &Group) -> Re
     ensures next { IfOk result (λ next. IsNext progress.now group.now next) }
     ensures memory { IfErr result (λ stop. stop ≡ Stop.Memory) }
 {
-    let number = progress.next_number();
-    match read_driven(alloc, group, number, progress.unit, &progress.names) {
+    match read_expanded(alloc, progress, group) {
         Ok(cell) => {
             let entity = vital_name(alloc, &cell, &progress.entities)?;
             Ok(NextCell::Accepted { cell, entity })

@@ -1,9 +1,13 @@
 //! How far the items of a library are handled.
 ghost use Rattle.std.specs.Prelude.{◌≡◌, ◌+◌, ◌<◌, ◌^◌, IfErr, OnOk, Some, None};
-ghost use Rattle.library_items.specs.Progress.{unit_of, no_progress, next_number, names_with, after_cell};
+ghost use Rattle.cell_cursor.specs.declared.item.LibraryItem.TheVariants as item;
+ghost use Rattle.library_items.specs.Progress.{unit_of, no_progress, next_number, names_with, after_cell, after_item};
 
 use bool_functions::Names;
+use bus_texts::{BusType, bus_type};
+use liberty_groups::Group;
 use liberty_text::Unit;
+use sqlite_items::Items;
 use std::alloc::{AllocError, Global};
 use text_io::Stop;
 
@@ -12,6 +16,8 @@ use text_io::Stop;
 pub struct Progress {
     /// The library's unit of time, where it is a known one.
     pub unit: Option<Unit>,
+    /// The types of buses so far, in order. Of several of one name the last counts.
+    pub types: Items<BusType>,
     /// The names of the cells so far, each once.
     pub names: Names,
     /// The names of the entities so far, in lower case, each once.
@@ -46,6 +52,7 @@ impl Progress {
     {
         Progress {
             unit: Some(Unit::Ns1),
+            types: Items::new(alloc),
             names: Names::new(alloc),
             entities: Names::new(alloc),
             accepted: 0,
@@ -59,6 +66,16 @@ impl Progress {
         ensures { result ≡ next_number self.now }
     {
         self.accepted + self.refused + 1
+    }
+
+    /// Counts a group `type`, where it tells of a type of buses. `AllocError` comes only where memory is wanting.
+    pub(crate) fn count_type(&mut self, alloc: Global, group: &Group) -> Result<(), AllocError>
+        ensures { OnOk result (self.new ≡ after_item self.old (item.BusType group.now)) }
+    {
+        if let Some(kind) = bus_type(alloc, group)? {
+            self.types.push(kind)?;
+        }
+        Ok(())
     }
 
     /// Counts a cell that was refused. `AllocError` comes only where memory is wanting.

@@ -36,6 +36,7 @@ pub(crate) fn next_step<D: Desk>(cursor: &mut CellCursor, desk: &mut D) -> Resul
         Ok(Next::Cell(group)) => Ok(Step::Item(LibraryItem::Cell(group))),
         Ok(Next::Unit(line)) => Ok(Step::Item(LibraryItem::Unit(line))),
         Ok(Next::LeftOut(at)) => Ok(Step::Item(LibraryItem::LeftOut(at))),
+        Ok(Next::BusType(group)) => Ok(Step::Item(LibraryItem::BusType(group))),
         Ok(Next::Over) => Ok(Step::Ended(Ending::TooLong)),
         Ok(Next::End) => Ok(Step::Ended(Ending::Whole)),
         Err(CursorFault::Library(fault)) => Ok(Step::Ended(Ending::Fault(fault))),

@@ -32,6 +32,11 @@ nameless-line : refused_line 1 (codes "") (record { reason = reason.Limit; at = 
 unfolding digits cell_text printed_name refusal_text refused_line
 nameless-line = refl
 
+-- a cell in which the name of a bus stands where it has no bit
+register-line : refused_line 1 (codes "REG2") (record { reason = reason.Width; at = 240 }) ≡ codes "cell 1 REG2 refused 15 width at 240\n"
+unfolding digits cell_text printed_name refusal_text refused_line
+register-line = refl
+
 -- a check of a kind that is not made
 skew-line : left_out_line 7 (codes "CK") (codes "skew_rising") ≡ codes "left-out 7 CK skew_rising\n"
 unfolding digits left_out_line

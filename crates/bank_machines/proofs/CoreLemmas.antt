@@ -1,0 +1,294 @@
+-- The statements of a core: its states, its pins and their texts.
+use Rattle.std.proofs.Common.{◌≡◌, ℕ, ◌+◌, Bool, true, false, List, [], ◌∷◌, ◌++◌, length, map, filter, Option, None, Some, if◌then◌else◌, refl, sym, ap, subst, ◌∙◌, codes, decimal, append-nil, arith, append_assoc}
+use Rattle.std.specs.Prelude.{flat_map, bytes_eq}
+use Rattle.std.specs.List.{cons_option, AllByRecursion}
+use Rattle.std.proofs.lemmas.Bool.{and_parts}
+use Rattle.std.proofs.lemmas.List.{map-append}
+use Rattle.std.proofs.lemmas.Slice.Eq.{bytes_eq-Decides}
+use Rattle.liberty_groups.specs.declared.tree.Value.{Value}
+use Rattle.liberty_groups.specs.declared.tree.Item.{Item, out-Item}
+use Rattle.liberty_groups.specs.declared.tree.Item.TheOpen.{Item-F, Group-F}
+use Rattle.liberty_groups.specs.declared.tree.Item.TheOpen as layer
+use Rattle.liberty_groups.specs.declared.tree.Item.TheVariants as made
+use Rattle.liberty_groups.specs.declared.tree.Item.TheViews.{outs-Simple, out-roll-Group}
+use Rattle.liberty_groups.specs.declared.tree.Group.{Group, roll-Group}
+use Rattle.liberty_groups.specs.Attributes.{Attribute, text_of, simple_named, attributes_named, last_or, attribute_of}
+use Rattle.cell_machine.specs.declared.groups.StateGroup.{StateGroup}
+use Rattle.cell_machine.specs.declared.pins.Direction.{Direction}
+use Rattle.cell_machine.specs.declared.pins.Direction.TheVariants as direction
+use Rattle.cell_parts.specs.Groups.{inner_of, is_pin, is_state}
+use Rattle.cell_parts.specs.Pins.{direction_as, direction_of, owner_as, owners_in}
+use Rattle.cell_parts.specs.Scans.{is_output_group}
+use Rattle.cell_parts.specs.Vocabulary.{Vocabulary}
+use Rattle.cell_parts.specs.Texts.{malformed_at, unknown_at}
+use Rattle.cell_parts.specs.Outputs.{node_as, output_with, pin_text_as, pin_text}
+use Rattle.cell_parts.specs.Building.{output_pin, output_in, outputs_from}
+use Rattle.three_state_cells.specs.Outputs.{ThreeStateOutput, three_state_of, is_three_state}
+use Rattle.three_state_cells.specs.CoreGroups.{stays_in_core, core_pin, core_statement_as, core_statement, one_value, enable_function, enable_statements, enable_pin_of, enable_pins}
+use Rattle.three_state_cells.proofs.Statements.{not_false, attributes_kept}
+use Rattle.bus_texts.specs.Vectors.{is_called}
+use Rattle.bank_machines.proofs.StateLists.{single_states, states_append, inner_cons, state_word, pin_apart}
+use Rattle.bank_machines.proofs.PinLists.{owner_list, owners_append, owned, inner_cons as owner_cons, pin_word}
+use Rattle.bank_machines.proofs.PinLemmas.{ReadsText}
+
+-- Texts of a pin of the core.
+
+pub three_state_pin : (group : Group) → is_three_state group ≡ true → is_called (codes "pin") group ≡ true
+unfolding is_three_state
+three_state_pin group h = (and_parts (is_called (codes "pin") group) _ (and_parts (is_pin group) _ h).0).0
+
+abbrev core_as : Group → Group-F Item Group
+core_as pin = record { name = pin.name; arguments = pin.arguments; items = filter (λ item. stays_in_core (out-Item item)) pin.items; at = pin.at }
+
+module _ (name : List ℕ) (other : bytes_eq (codes "three_state") name ≡ false) where
+  gone : (one : Item-F Item Group) → stays_in_core one ≡ false → simple_named name one ≡ None
+  gone (layer.Simple n value at) h =
+      let named : n ≡ codes "three_state" = (bytes_eq-Decides n (codes "three_state")).0 (not_false (bytes_eq n (codes "three_state")) h) in
+      ap (λ m. if bytes_eq m name then Some (record { text = text_of value; at = at }) else None) named
+      ∙ ap (λ b. if b then Some (record { text = text_of value; at = at }) else None) other
+  gone (layer.Complex n arguments at) h = refl
+  gone (layer.Inner group) h = refl
+
+  core_attribute : (pin : Group) → attribute_of (core_pin pin) name ≡ attribute_of pin name
+  core_attribute pin =
+      ap (λ (one : Group-F Item Group). last_or None (attributes_named name one.items)) (out-roll-Group (core_as pin))
+      ∙ ap (λ (found : List Attribute). last_or None found) (attributes_kept name stays_in_core gone pin.items)
+
+core_direction : (pin : Group) → direction_of (core_pin pin) ≡ direction_of pin
+core_direction pin = ap direction_as (core_attribute (codes "direction") refl pin)
+
+core_text : (v : Vocabulary) (pin : Group) → pin_text v (core_pin pin) ≡ pin_text v pin
+core_text v pin = ap (pin_text_as v (core_pin pin)) (core_direction pin) ∙ by (direction_of pin)
+  where
+    by : (d : Option Direction) → pin_text_as v (core_pin pin) d ≡ pin_text_as v pin d
+    by None = refl
+    by (Some direction.Input) = refl
+    by (Some direction.Output) =
+        ap (λ o. output_with v o (attribute_of (core_pin pin) (codes "internal_node")) (attribute_of (core_pin pin) (codes "function")))
+        (core_attribute (codes "state_function") refl pin)
+        ∙ (ap (λ o. output_with v (attribute_of pin (codes "state_function")) o (attribute_of (core_pin pin) (codes "function")))
+        (core_attribute (codes "internal_node") refl pin)
+        ∙ ap (output_with v (attribute_of pin (codes "state_function")) (attribute_of pin (codes "internal_node")))
+        (core_attribute (codes "function") refl pin))
+    by (Some direction.Internal) = ap (node_as v) (core_attribute (codes "internal_node") refl pin)
+
+-- the group of a pin in the core
+abbrev pub core_owner : Group → Group
+core_owner group = if is_three_state group then core_pin group else group
+
+core_named : (pin : Group) → (core_pin pin).name ≡ pin.name
+core_named pin = ap (λ (one : Group-F Item Group). one.name) (out-roll-Group (core_as pin))
+
+core_arguments : (pin : Group) → (core_pin pin).arguments ≡ pin.arguments
+core_arguments pin = ap (λ (one : Group-F Item Group). one.arguments) (out-roll-Group (core_as pin))
+
+owner_text : (v : Vocabulary) (group : Group) → pin_text v (core_owner group) ≡ pin_text v group
+owner_text v group = by (is_three_state group)
+  where
+    by : (b : Bool) → pin_text v (if b then core_pin group else group) ≡ pin_text v group
+    by true = core_text v group
+    by false = refl
+
+owner_direction : (group : Group) → direction_of (core_owner group) ≡ direction_of group
+owner_direction group = by (is_three_state group)
+  where
+    by : (b : Bool) → direction_of (if b then core_pin group else group) ≡ direction_of group
+    by true = core_direction group
+    by false = refl
+
+-- States.
+
+by_state : (item : Item) (group : Group) (b : Bool) → out-Item item ≡ layer.Inner group → is_three_state group ≡ b
+    → single_states ((if b then made.Inner (core_pin group) else item) ∷ []) ≡ single_states (item ∷ [])
+by_state item group false e t = refl
+by_state item group true e t =
+    let own : is_state group ≡ false = pin_apart group (three_state_pin group t) in
+    let core : is_state (core_pin group) ≡ false = ap state_word (core_named group) ∙ own in
+    inner_cons (core_pin group) []
+    ∙ (ap (λ b. (if b then core_pin group ∷ [] else []) ++ []) core
+    ∙ sym (ap (λ one. filter is_state (cons_option (inner_of one) [])) e ∙ ap (λ b. if b then group ∷ [] else []) own))
+
+state_statement : (item : Item) → single_states (core_statement item ∷ []) ≡ single_states (item ∷ [])
+state_statement item = by (out-Item item) refl
+  where
+    by : (one : Item-F Item Group) → out-Item item ≡ one → single_states (core_statement_as item one ∷ []) ≡ single_states (item ∷ [])
+    by (layer.Simple name value at) e = refl
+    by (layer.Complex name arguments at) e = refl
+    by (layer.Inner group) e = by_state item group (is_three_state group) e refl
+
+core_states : (items : List Item) → single_states (map core_statement items) ≡ single_states items
+core_states [] = refl
+core_states (item ∷ items) =
+    states_append (core_statement item ∷ []) (map core_statement items)
+    ∙ (ap (λ gs. gs ++ single_states (map core_statement items)) (state_statement item)
+    ∙ (ap (λ gs. single_states (item ∷ []) ++ gs) (core_states items) ∙ sym (states_append (item ∷ []) items)))
+
+-- The pins that are added.
+
+abbrev enable_as : ℕ → Attribute → Group-F Item Group
+enable_as number floats = record { name = codes "pin"; arguments = one_value (codes "-e" ++ decimal (number + 1)); items = enable_statements floats; at = floats.at }
+
+abbrev pub enable_group : ℕ → Attribute → Group
+enable_group number floats = roll-Group (enable_as number floats)
+
+abbrev pub enable_owner_of : ℕ → Option Attribute → List Group
+enable_owner_of number None = []
+enable_owner_of number (Some floats) = enable_group number floats ∷ []
+
+abbrev pub enable_owners : ℕ → List ThreeStateOutput → List Group
+enable_owners number [] = []
+enable_owners number (output ∷ outputs) = enable_owner_of number (three_state_of output.group) ++ enable_owners (number + 1) outputs
+
+enable_no_state : (number : ℕ) (floats : Attribute) → is_state (enable_group number floats) ≡ false
+enable_no_state number floats = ap (λ (one : Group-F Item Group). state_word one.name) (out-roll-Group (enable_as number floats))
+
+by_enable_state : (number : ℕ) (floats : Option Attribute) → single_states (enable_pin_of number floats) ≡ []
+by_enable_state number None = refl
+by_enable_state number (Some floats) =
+    inner_cons (enable_group number floats) []
+    ∙ ap (λ b. (if b then enable_group number floats ∷ [] else []) ++ []) (enable_no_state number floats)
+
+enable_states : (number : ℕ) (outputs : List ThreeStateOutput) → single_states (enable_pins number outputs) ≡ []
+enable_states number [] = refl
+enable_states number (output ∷ outputs) =
+    states_append (enable_pin_of number (three_state_of output.group)) (enable_pins (number + 1) outputs)
+    ∙ (ap (λ gs. gs ++ single_states (enable_pins (number + 1) outputs)) (by_enable_state number (three_state_of output.group))
+    ∙ enable_states (number + 1) outputs)
+
+-- the states of a core are those of its cell
+pub states_of_core :
+    (items : List Item) (outputs : List ThreeStateOutput) → single_states (map core_statement items ++ enable_pins 0 outputs) ≡ single_states items
+states_of_core items outputs =
+    states_append (map core_statement items) (enable_pins 0 outputs)
+    ∙ (ap (λ gs. single_states (map core_statement items) ++ gs) (enable_states 0 outputs)
+    ∙ (append-nil (single_states (map core_statement items)) ∙ core_states items))
+
+-- Pins.
+
+through_all : (owner : Group → Group) (group single : Group) → owner group ≡ single → (arguments : List Value)
+    → map (owner_as single) arguments ≡ map owner (map (owner_as group) arguments)
+through_all owner group single e [] = refl
+through_all owner group single e (value ∷ arguments) =
+    ap (λ (g : Group). g ∷ map (owner_as single) arguments) (sym e)
+    ∙ ap (λ gs. owner group ∷ gs) (through_all owner group single e arguments)
+
+owned_through :
+    (owner : Group → Group) (group single : Group) → owner group ≡ single → single.name ≡ group.name → single.arguments ≡ group.arguments
+    → owned single ≡ map owner (owned group)
+owned_through owner group single e named same =
+    ap (λ name. if pin_word name single.arguments then map (owner_as single) single.arguments else []) named
+    ∙ (ap (λ arguments. if pin_word group.name arguments then map (owner_as single) arguments else []) same ∙ by (is_pin group))
+  where
+    by : (b : Bool) → (if b then map (owner_as single) group.arguments else []) ≡ map owner (if b then map (owner_as group) group.arguments else [])
+    by true = through_all owner group single e group.arguments
+    by false = refl
+
+own_list : (item : Item) (group : Group) → out-Item item ≡ layer.Inner group → owner_list (item ∷ []) ≡ owned group
+own_list item group e =
+    ap (λ one. flat_map owners_in (filter is_pin (cons_option (inner_of one) []))) e ∙ by (is_pin group) refl
+  where
+    by : (b : Bool) → is_pin group ≡ b → flat_map owners_in (filter is_pin (group ∷ [])) ≡ owned group
+    by true t = rw t (append-nil (owners_in group))
+    by false t = rw t refl
+
+by_owner : (item : Item) (group : Group) (b : Bool) → out-Item item ≡ layer.Inner group → is_three_state group ≡ b
+    → owner_list ((if b then made.Inner (core_pin group) else item) ∷ []) ≡ map core_owner (owner_list (item ∷ []))
+by_owner item group true e t =
+    let chosen : core_owner group ≡ core_pin group = ap (λ b. if b then core_pin group else group) t in
+    owner_cons (core_pin group) []
+    ∙ (append-nil (owned (core_pin group))
+    ∙ (owned_through core_owner group (core_pin group) chosen (core_named group) (core_arguments group)
+    ∙ sym (ap (map core_owner) (own_list item group e))))
+by_owner item group false e t =
+    let chosen : core_owner group ≡ group = ap (λ b. if b then core_pin group else group) t in
+    own_list item group e
+    ∙ (owned_through core_owner group group chosen refl refl ∙ sym (ap (map core_owner) (own_list item group e)))
+
+abbrev listed : Item-F Item Group → List Group
+listed one = flat_map owners_in (filter is_pin (cons_option (inner_of one) []))
+
+owner_statement : (item : Item) → owner_list (core_statement item ∷ []) ≡ map core_owner (owner_list (item ∷ []))
+owner_statement item = by (out-Item item) refl
+  where
+    by : (one : Item-F Item Group) → out-Item item ≡ one → owner_list (core_statement_as item one ∷ []) ≡ map core_owner (owner_list (item ∷ []))
+    by (layer.Simple name value at) e = ap listed e ∙ sym (ap (λ one. map core_owner (listed one)) e)
+    by (layer.Complex name arguments at) e = ap listed e ∙ sym (ap (λ one. map core_owner (listed one)) e)
+    by (layer.Inner group) e = by_owner item group (is_three_state group) e refl
+
+core_owners : (items : List Item) → owner_list (map core_statement items) ≡ map core_owner (owner_list items)
+core_owners [] = refl
+core_owners (item ∷ items) =
+    owners_append (core_statement item ∷ []) (map core_statement items)
+    ∙ (ap (λ gs. gs ++ owner_list (map core_statement items)) (owner_statement item)
+    ∙ (ap (λ gs. map core_owner (owner_list (item ∷ [])) ++ gs) (core_owners items)
+    ∙ (sym (map-append core_owner (owner_list (item ∷ [])) (owner_list items)) ∙ sym (ap (map core_owner) (owners_append (item ∷ []) items)))))
+
+by_enable_owner : (number : ℕ) (floats : Option Attribute) → owner_list (enable_pin_of number floats) ≡ enable_owner_of number floats
+by_enable_owner number None = refl
+by_enable_owner number (Some floats) =
+    owner_cons (enable_group number floats) []
+    ∙ ap (λ (one : Group-F Item Group). (if pin_word one.name one.arguments then map (owner_as (enable_group number floats)) one.arguments else []) ++ [])
+    (out-roll-Group (enable_as number floats))
+
+enables_owned : (number : ℕ) (outputs : List ThreeStateOutput) → owner_list (enable_pins number outputs) ≡ enable_owners number outputs
+enables_owned number [] = refl
+enables_owned number (output ∷ outputs) =
+    owners_append (enable_pin_of number (three_state_of output.group)) (enable_pins (number + 1) outputs)
+    ∙ (ap (λ gs. gs ++ owner_list (enable_pins (number + 1) outputs)) (by_enable_owner number (three_state_of output.group))
+    ∙ ap (λ gs. enable_owner_of number (three_state_of output.group) ++ gs) (enables_owned (number + 1) outputs))
+
+-- the pins of a core
+pub owners_of_core :
+    (items : List Item) (outputs : List ThreeStateOutput)
+    → owner_list (map core_statement items ++ enable_pins 0 outputs) ≡ map core_owner (owner_list items) ++ enable_owners 0 outputs
+owners_of_core items outputs =
+    owners_append (map core_statement items) (enable_pins 0 outputs)
+    ∙ (ap (λ gs. gs ++ owner_list (enable_pins 0 outputs)) (core_owners items)
+    ∙ ap (λ gs. map core_owner (owner_list items) ++ gs) (enables_owned 0 outputs))
+
+-- Outputs.
+
+module _ (v : Vocabulary) (pins : ℕ) (states : List StateGroup) (to : List ℕ) where
+  pub outputs_append :
+      (number : ℕ) (xs ys : List Group)
+      → outputs_from v pins states to number (xs ++ ys) ≡ outputs_from v pins states to number xs ++ outputs_from v pins states to (number + length xs) ys
+  outputs_append number [] ys = let e : number + 0 ≡ number = omega arith in ap (λ n. outputs_from v pins states to n ys) (sym e)
+  outputs_append number (x ∷ xs) ys =
+      let e : number + 1 + length xs ≡ number + length (x ∷ xs) = omega arith in
+      ap (λ os. output_in v pins states to number x ++ os)
+      (outputs_append (number + 1) xs ys ∙ ap (λ n. outputs_from v pins states to (number + 1) xs ++ outputs_from v pins states to n ys) e)
+      ∙ sym
+      (append_assoc (output_in v pins states to number x) (outputs_from v pins states to (number + 1) xs)
+      (outputs_from v pins states to (number + length (x ∷ xs)) ys))
+
+  core_output : (number : ℕ) (group : Group) → output_in v pins states to number (core_owner group) ≡ output_in v pins states to number group
+  core_output number group =
+      ap (λ d. if is_output_group d then output_pin pins states to number (pin_text v (core_owner group)) ∷ [] else []) (owner_direction group)
+      ∙ ap (λ t. if is_output_group (direction_of group) then output_pin pins states to number t ∷ [] else []) (owner_text v group)
+
+  pub core_outputs :
+      (groups : List Group) (number : ℕ) → outputs_from v pins states to number (map core_owner groups) ≡ outputs_from v pins states to number groups
+  core_outputs [] number = refl
+  core_outputs (group ∷ groups) number =
+      ap (λ os. os ++ outputs_from v pins states to (number + 1) (map core_owner groups)) (core_output number group)
+      ∙ ap (λ os. output_in v pins states to number group ++ os) (core_outputs groups (number + 1))
+
+pub core_reads : (v : Vocabulary) (groups : List Group) → AllByRecursion (ReadsText v) (map core_owner groups) → AllByRecursion (ReadsText v) groups
+core_reads v [] h = tt
+core_reads v (group ∷ groups) h = (subst (λ t. (malformed_at t ≡ []) × (unknown_at t ≡ [])) (owner_text v group) h.0, core_reads v groups h.1)
+
+-- the attributes of a pin that is added
+pub enable_attribute :
+    (number : ℕ) (floats : Attribute) (name : List ℕ)
+    → attribute_of (enable_group number floats) name
+    ≡ last_or None
+    (cons_option (simple_named name (layer.Simple (codes "direction") (one_value (codes "output")) floats.at))
+    (cons_option (simple_named name (layer.Simple (codes "function") (one_value (enable_function floats.text)) floats.at)) []))
+enable_attribute number floats name =
+    ap (λ (one : Group-F Item Group). last_or None (attributes_named name one.items)) (out-roll-Group (enable_as number floats))
+    ∙ (ap
+    (λ one. last_or None (cons_option (simple_named name one) (attributes_named name (made.Simple (codes "function") (one_value (enable_function floats.text)) floats.at ∷ []))))
+    (outs-Simple (codes "direction") (one_value (codes "output")) floats.at)
+    ∙ ap
+    (λ one. last_or None (cons_option (simple_named name (layer.Simple (codes "direction") (one_value (codes "output")) floats.at)) (cons_option (simple_named name one) [])))
+    (outs-Simple (codes "function") (one_value (enable_function floats.text)) floats.at))

@@ -1,0 +1,15 @@
+pub mod Examples
+pub mod PartFacts
+pub mod TextLemmas
+pub mod Supports
+pub mod MovedTexts
+pub mod StateLemmas
+pub mod StateLists
+pub mod PinLemmas
+pub mod PinLists
+pub mod Spelling
+pub mod EnableTexts
+pub mod CoreLemmas
+pub mod EnableLemmas
+pub mod Machines
+pub mod Cores

@@ -1,0 +1,231 @@
+-- The state that the expanded group of a bank at a position holds is that of the bank there.
+use Rattle.std.proofs.Common.{◌≡◌, ℕ, true, false, ◌||◌, List, [], ◌∷◌, length, map, Option, None, Some, if◌then◌else◌, refl, sym, ap, subst, ◌∙◌, inl, inr, codes, unwrap_or}
+use Rattle.std.specs.Prelude.{flat_map, bytes_eq}
+use Rattle.std.specs.Option.{option_map}
+use Rattle.std.specs.List.{AllByRecursion}
+use Rattle.std.proofs.lemmas.Bool.{or_cases}
+use Rattle.std.proofs.lemmas.Slice.Eq.{bytes_eq-Decides}
+use Rattle.liberty_groups.specs.declared.tree.Item.{Item}
+use Rattle.liberty_groups.specs.declared.tree.Group.{Group}
+use Rattle.liberty_groups.specs.Attributes.{attributes_named, last_or, attribute_of}
+use Rattle.bool_functions.specs.declared.tree.Node.{Node}
+use Rattle.bool_functions.specs.declared.tree.Node.TheVariants as tree
+use Rattle.cell_machine.specs.declared.groups.Both.TheVariants as both
+use Rattle.cell_machine.specs.declared.groups.GroupKind.{GroupKind}
+use Rattle.cell_machine.specs.declared.groups.GroupKind.TheVariants as kind
+use Rattle.cell_machine.specs.declared.groups.StateGroup.{StateGroup}
+use Rattle.cell_machine.specs.declared.pins.Pin.{Pin}
+use Rattle.cell_parts.specs.declared.texts.Scope.{Scope}
+use Rattle.cell_parts.specs.declared.texts.Scope.TheVariants as scope
+use Rattle.cell_parts.specs.declared.texts.Text.{Text}
+use Rattle.cell_parts.specs.declared.state_readings.StateReading.{StateReading}
+use Rattle.cell_parts.specs.States.{Arguments, two_of, arguments_of, is_table, both_named, both_with, unless_kept, first_both, second_both}
+use Rattle.cell_parts.specs.Vocabulary.{Vocabulary}
+use Rattle.cell_parts.specs.Texts.{text_as}
+use Rattle.cell_parts.specs.StateReadings.{is_ff, own_scope, reading_of_texts, reading_of_table, state_reading}
+use Rattle.cell_parts.specs.Building.{function_in, clocked, gated, kind_of_texts, table_groups, groups_with, groups_in}
+use Rattle.cell_parts.proofs.Distinct.{nil_parts}
+use Rattle.cell_parts.proofs.GroupRules.{IsSoundReading}
+use Rattle.cell_parts.proofs.TextNames.{IsSound}
+use Rattle.bus_texts.specs.declared.vectors.Vector.{Vector}
+use Rattle.bus_texts.specs.Vectors.{Bank, is_called, is_bank, member_name}
+use Rattle.bank_cells.specs.Faults.{ff_texts, latch_texts, fault_named}
+use Rattle.bank_cells.specs.Refusals.{state_texts, state_faults}
+use Rattle.bank_cells.specs.Expanded.{is_one_of, text_at, state_name, variables_at}
+use Rattle.bank_machines.specs.BankTexts.{CellNames, function_if}
+use Rattle.bank_machines.specs.BankStates.{clocked_at, gated_at, kind_at, state_of_kind, state_at}
+use Rattle.bank_machines.proofs.TextLemmas.{Spells}
+use Rattle.bank_machines.proofs.MovedTexts.{moved, text_moved, other_kept, cell_names, text_is}
+use Rattle.bank_machines.proofs.Supports.{Fits, group_is}
+
+-- the expanded group of a bank at a position
+pub record IsStateOf (vectors : List Vector) (bank : Bank) (group : Group) (at : ℕ) (single : Group) : Type 0 where
+  pub named : single.name ≡ state_name group
+  pub two : single.arguments ≡ variables_at bank at
+  pub statements : single.items ≡ map (text_at vectors (Some at) (state_texts group)) group.items
+
+pub is_name : (name : List ℕ) (group : Group) → is_called name group ≡ true → group.name ≡ name
+is_name name group e = (bytes_eq-Decides group.name name).0 e
+
+module _
+    (vectors : List Vector) (v : Vocabulary) (numbers : List ℕ) (pins : List Pin) (spell : AllByRecursion Spells vectors)
+    (bank : Bank) (group single : Group) (at : ℕ) (is : IsStateOf vectors bank group at single) where
+  abbrev cell : CellNames
+  cell = cell_names vectors v numbers
+
+  abbrev reading : StateReading
+  reading = reading_of_texts v (length pins) single
+
+  text_attribute : (name : List ℕ) → is_one_of (state_texts group) name ≡ true → attribute_of single name ≡ option_map (moved vectors (Some at)) (attribute_of group name)
+  text_attribute name h =
+      ap (λ (items : List Item). last_or None (attributes_named name items)) is.statements
+      ∙ text_moved vectors (Some at) (state_texts group) name group.items h
+
+  other_attribute : (name : List ℕ) → is_one_of (state_texts group) name ≡ false → attribute_of single name ≡ attribute_of group name
+  other_attribute name h =
+      ap (λ (items : List Item). last_or None (attributes_named name items)) is.statements
+      ∙ other_kept vectors (Some at) (state_texts group) name group.items h
+
+  -- the function of a text of the bank
+  text_function :
+      (s : Scope) (name : List ℕ) (t : Text) → t ≡ text_as v s (attribute_of single name) → is_one_of (state_texts group) name ≡ true
+      → fault_named vectors (Some at) group.items name ≡ [] → IsSound t
+      → function_in numbers t ≡ function_if cell at (attribute_of group name)
+  text_function s name t e h fault sound =
+      let same : t ≡ text_as v s (option_map (moved vectors (Some at)) (attribute_of group name)) = e ∙ ap (text_as v s) (text_attribute name h) in
+      ap (function_in numbers) same ∙ text_is vectors v numbers at spell s (attribute_of group name) fault (subst (λ w. IsSound w) same sound)
+
+  abbrev arguments : Arguments
+  arguments = record { first = member_name bank.first at; second = member_name bank.second at }
+
+  two_arguments : arguments_of single ≡ Some arguments
+  two_arguments = ap two_of is.two
+
+  abbrev state_with : GroupKind → StateGroup
+  state_with k = record { kind = k; support = reading.support }
+
+  one_group : is_table single ≡ false → groups_in numbers single reading ≡ state_with (kind_of_texts numbers single reading) ∷ []
+  one_group table =
+      ap (groups_with numbers single reading) two_arguments
+      ∙ ap (λ b. if b then table_groups single reading arguments else state_with (kind_of_texts numbers single reading) ∷ []) table
+
+  read_texts : is_table single ≡ false → state_reading v (length pins) single ≡ reading
+  read_texts table = ap (λ b. if b then reading_of_table v (length pins) single else reading) table
+
+  -- a state of this kind
+  state_of : (k : GroupKind) → groups_in numbers single reading ≡ state_with k ∷ [] → k ≡ kind_at cell group at → AllByRecursion (Fits pins) (groups_in numbers single reading)
+      → groups_in numbers single reading ≡ state_at cell (length pins) group at ∷ []
+  state_of k e same fits =
+      let one : Fits pins (state_with k) = (subst (λ gs. AllByRecursion (Fits pins) gs) e fits).0 in
+      e ∙ ap (λ (g : StateGroup). g ∷ []) (group_is pins (state_with k) one ∙ ap (state_of_kind (length pins)) same)
+
+  or_first : (o p : Option Node) → o ≡ p → unwrap_or o (tree.Name 0) ≡ unwrap_or p (tree.Name 0)
+  or_first o p e = ap (λ f. unwrap_or f (tree.Name 0)) e
+
+  first_same : is_one_of (state_texts group) (codes "clear_preset_var1") ≡ false → unwrap_or (first_both single) both.Unknown ≡ unwrap_or (first_both group) both.Unknown
+  first_same h = ap (λ o. unwrap_or (both_with both_named o) both.Unknown) (other_attribute (codes "clear_preset_var1") h)
+
+  second_same : is_one_of (state_texts group) (codes "clear_preset_var2") ≡ false → unwrap_or (second_both single) both.Unknown ≡ unwrap_or (second_both group) both.Unknown
+  second_same h =
+      ap (λ o. unwrap_or (both_with (λ text. unless_kept (both_named text)) o) both.Unknown) (other_attribute (codes "clear_preset_var2") h)
+
+  module _ (faults : state_faults vectors group at ≡ []) where
+    abbrev fault_of : List ℕ → List ℕ
+    fault_of name = fault_named vectors (Some at) group.items name
+
+    clocked_same :
+        is_ff single ≡ true → state_texts group ≡ ff_texts → IsSoundReading reading → clocked numbers single reading ≡ clocked_at cell group at
+    clocked_same ff texts sound =
+        let parts : flat_map fault_of ff_texts ≡ [] = sym (ap (flat_map fault_of) texts) ∙ faults in
+        let one = nil_parts (fault_of (codes "next_state")) _ parts in
+        let two = nil_parts (fault_of (codes "clocked_on")) _ one.1 in
+        let three = nil_parts (fault_of (codes "clear")) _ two.1 in
+        let four = nil_parts (fault_of (codes "preset")) _ three.1 in
+        let data_text =
+        text_function (own_scope v (arguments_of single)) (codes "next_state") reading.data_text
+        (ap (λ b. text_as v (own_scope v (arguments_of single)) (attribute_of single (if b then codes "next_state" else codes "data_in"))) ff)
+        (ap (λ names. is_one_of names (codes "next_state")) texts) one.0 sound.of_data in
+        let control_text =
+        text_function scope.Control (codes "clocked_on") reading.control
+        (ap (λ b. text_as v scope.Control (attribute_of single (if b then codes "clocked_on" else codes "enable"))) ff)
+        (ap (λ names. is_one_of names (codes "clocked_on")) texts) two.0 sound.of_control in
+        let clear_text =
+        text_function scope.Control (codes "clear") reading.clear refl (ap (λ names. is_one_of names (codes "clear")) texts) three.0 sound.of_clear in
+        let preset_text =
+        text_function scope.Control (codes "preset") reading.preset refl (ap (λ names. is_one_of names (codes "preset")) texts) four.0 sound.of_preset in
+        let next = or_first (function_in numbers reading.data_text) (function_if cell at (attribute_of group (codes "next_state"))) data_text in
+        let clock = or_first (function_in numbers reading.control) (function_if cell at (attribute_of group (codes "clocked_on"))) control_text in
+        let first = first_same (ap (λ names. is_one_of names (codes "clear_preset_var1")) texts) in
+        let second = second_same (ap (λ names. is_one_of names (codes "clear_preset_var2")) texts) in
+        λ i. record {
+          next_state = next i;
+          clocked_on = clock i;
+          clear = clear_text i;
+          preset = preset_text i;
+          both1 = first i;
+          both2 = second i;
+        }
+
+    gated_same :
+        is_ff single ≡ false → state_texts group ≡ latch_texts → IsSoundReading reading → gated numbers single reading ≡ gated_at cell group at
+    gated_same ff texts sound =
+        let parts : flat_map fault_of latch_texts ≡ [] = sym (ap (flat_map fault_of) texts) ∙ faults in
+        let one = nil_parts (fault_of (codes "data_in")) _ parts in
+        let two = nil_parts (fault_of (codes "enable")) _ one.1 in
+        let three = nil_parts (fault_of (codes "clear")) _ two.1 in
+        let four = nil_parts (fault_of (codes "preset")) _ three.1 in
+        let data_text =
+        text_function (own_scope v (arguments_of single)) (codes "data_in") reading.data_text
+        (ap (λ b. text_as v (own_scope v (arguments_of single)) (attribute_of single (if b then codes "next_state" else codes "data_in"))) ff)
+        (ap (λ names. is_one_of names (codes "data_in")) texts) one.0 sound.of_data in
+        let control_text =
+        text_function scope.Control (codes "enable") reading.control
+        (ap (λ b. text_as v scope.Control (attribute_of single (if b then codes "clocked_on" else codes "enable"))) ff)
+        (ap (λ names. is_one_of names (codes "enable")) texts) two.0 sound.of_control in
+        let clear_text =
+        text_function scope.Control (codes "clear") reading.clear refl (ap (λ names. is_one_of names (codes "clear")) texts) three.0 sound.of_clear in
+        let preset_text =
+        text_function scope.Control (codes "preset") reading.preset refl (ap (λ names. is_one_of names (codes "preset")) texts) four.0 sound.of_preset in
+        let first = first_same (ap (λ names. is_one_of names (codes "clear_preset_var1")) texts) in
+        let second = second_same (ap (λ names. is_one_of names (codes "clear_preset_var2")) texts) in
+        λ i. record {
+          data_in = data_text i;
+          enable = control_text i;
+          clear = clear_text i;
+          preset = preset_text i;
+          both1 = first i;
+          both2 = second i;
+        }
+
+    flip_flop :
+        group.name ≡ codes "ff_bank" → IsSoundReading (state_reading v (length pins) single)
+        → AllByRecursion (Fits pins) (groups_in numbers single (state_reading v (length pins) single))
+        → groups_in numbers single (state_reading v (length pins) single) ≡ state_at cell (length pins) group at ∷ []
+    flip_flop named sound fits =
+        let bank_name : is_called (codes "ff_bank") group ≡ true = ap (λ name. bytes_eq name (codes "ff_bank")) named in
+        let name : single.name ≡ codes "ff" = is.named ∙ ap (λ b. if b then codes "ff" else codes "latch") bank_name in
+        let table : is_table single ≡ false = ap (λ n. bytes_eq n (codes "statetable")) name in
+        let ff : is_ff single ≡ true = ap (λ n. bytes_eq n (codes "ff")) name in
+        let texts : state_texts group ≡ ff_texts =
+        ap (λ n. if bytes_eq n (codes "ff") || bytes_eq n (codes "ff_bank") then ff_texts else latch_texts) named in
+        let same : state_reading v (length pins) single ≡ reading = read_texts table in
+        let kinds : kind_of_texts numbers single reading ≡ kind.Ff (clocked numbers single reading) =
+        ap (λ b. if b then kind.Ff (clocked numbers single reading) else kind.Latch (gated numbers single reading)) ff in
+        let wanted : kind.Ff (clocked numbers single reading) ≡ kind_at cell group at =
+        ap kind.Ff (clocked_same ff texts (subst (λ r. IsSoundReading r) same sound))
+        ∙ sym (ap (λ b. if b then kind.Ff (clocked_at cell group at) else kind.Latch (gated_at cell group at)) bank_name) in
+        ap (groups_in numbers single) same
+        ∙ state_of (kind.Ff (clocked numbers single reading)) (one_group table ∙ ap (λ k. state_with k ∷ []) kinds) wanted
+        (subst (λ r. AllByRecursion (Fits pins) (groups_in numbers single r)) same fits)
+
+    latch :
+        group.name ≡ codes "latch_bank" → IsSoundReading (state_reading v (length pins) single)
+        → AllByRecursion (Fits pins) (groups_in numbers single (state_reading v (length pins) single))
+        → groups_in numbers single (state_reading v (length pins) single) ≡ state_at cell (length pins) group at ∷ []
+    latch named sound fits =
+        let bank_name : is_called (codes "ff_bank") group ≡ false = ap (λ name. bytes_eq name (codes "ff_bank")) named in
+        let name : single.name ≡ codes "latch" = is.named ∙ ap (λ b. if b then codes "ff" else codes "latch") bank_name in
+        let table : is_table single ≡ false = ap (λ n. bytes_eq n (codes "statetable")) name in
+        let ff : is_ff single ≡ false = ap (λ n. bytes_eq n (codes "ff")) name in
+        let texts : state_texts group ≡ latch_texts =
+        ap (λ n. if bytes_eq n (codes "ff") || bytes_eq n (codes "ff_bank") then ff_texts else latch_texts) named in
+        let same : state_reading v (length pins) single ≡ reading = read_texts table in
+        let kinds : kind_of_texts numbers single reading ≡ kind.Latch (gated numbers single reading) =
+        ap (λ b. if b then kind.Ff (clocked numbers single reading) else kind.Latch (gated numbers single reading)) ff in
+        let wanted : kind.Latch (gated numbers single reading) ≡ kind_at cell group at =
+        ap kind.Latch (gated_same ff texts (subst (λ r. IsSoundReading r) same sound))
+        ∙ sym (ap (λ b. if b then kind.Ff (clocked_at cell group at) else kind.Latch (gated_at cell group at)) bank_name) in
+        ap (groups_in numbers single) same
+        ∙ state_of (kind.Latch (gated numbers single reading)) (one_group table ∙ ap (λ k. state_with k ∷ []) kinds) wanted
+        (subst (λ r. AllByRecursion (Fits pins) (groups_in numbers single r)) same fits)
+
+    -- the state of a bank's expanded group is that of the bank
+    pub state_is :
+        is_bank group ≡ true → IsSoundReading (state_reading v (length pins) single)
+        → AllByRecursion (Fits pins) (groups_in numbers single (state_reading v (length pins) single))
+        → groups_in numbers single (state_reading v (length pins) single) ≡ state_at cell (length pins) group at ∷ []
+    state_is many sound fits =
+        elim (or_cases (is_called (codes "ff_bank") group) (is_called (codes "latch_bank") group) many) [
+          | inl e ↦ flip_flop (is_name (codes "ff_bank") group e) sound fits
+          | inr e ↦ latch (is_name (codes "latch_bank") group e) sound fits
+        ]

@@ -1,0 +1,6 @@
+pub mod BankTexts
+pub mod BankStates
+pub mod BankOutputs
+pub mod BankMachine
+pub mod BankCores
+pub mod Laws

@@ -28,11 +28,12 @@ use Rattle.generated_driven_modules.proofs.Drivers.{drivers-well-formed}
 use Rattle.generated_driven_entities.specs.Laws as entities
 use Rattle.generated_driven_entities.proofs.Together.{well_formed_together}
 use Rattle.library_items.specs.declared.progress.Progress.{Progress}
-use Rattle.library_items.specs.Progress.{no_progress, next_number, names_with, next_refusal, next_data, next_entity, entity_by, after_cell}
+use Rattle.library_items.specs.Progress.{no_progress, next_number, next_bits, names_with, next_refusal, next_data, next_entity, entity_by, after_cell}
 use Rattle.library_items.specs.Endings.{library_limit}
+use Rattle.library_items.proofs.CellLemmas.{next_name, bits_unrefused}
 use Rattle.translate_cmd.specs.TranslatedModels.{cells_by, accepted_cells, cells_in}
 use Rattle.translate_cmd.specs.TranslatedLaws.{ModulesAreWellFormed, EntitiesAreWellFormed}
-use Rattle.translate_cmd.proofs.ReadCells.{under_own_name, its_name, its_core, its_number, is_numbered, is_driven}
+use Rattle.translate_cmd.proofs.ReadCells.{under_own_name, its_core, its_number, is_numbered, is_driven}
 
 -- each of these names is among others
 abbrev AreAmong : List (List ℕ) → List (List ℕ) → Type 0
@@ -71,19 +72,15 @@ record IsLibraryCell (cell : DrivenData) : Type 0 where
   numbered : modules.IsNumberedDriven cell
   driven : entities.IsDrivenCell cell
 
-next_name : (p : Progress) (group : Group) → (next_data p group).name ≡ cell_name group
-unfolding next_data
-next_name p group = its_name p.unit p.names (next_number p) group
-
 module _ (p : Progress) (group : Group) (e : next_refusal p group ≡ None) where
   its_next_number : (next_data p group).core.number ≡ next_number p
-  unfolding next_refusal next_data
-  its_next_number = its_number p.unit p.names (next_number p) group e
+  unfolding next_data
+  its_next_number = its_number p.unit p.names (next_number p) (next_bits p group) (bits_unrefused p group e)
 
   accepted : (names : List (List ℕ)) → AreAmong names p.names → IsAccepted names (under_own_name (next_data p group))
-  unfolding next_refusal next_data
+  unfolding next_data
   accepted names h =
-      let core = its_core p.unit p.names (next_number p) group e in
+      let core = its_core p.unit p.names (next_number p) (next_bits p group) (bits_unrefused p group e) in
       record {
         unit = p.unit;
         group = core.group;
@@ -94,10 +91,10 @@ module _ (p : Progress) (group : Group) (e : next_refusal p group ≡ None) wher
       }
 
   in_library : next_number p < 2 ^ 64 → IsLibraryCell (next_data p group)
-  unfolding next_refusal next_data
+  unfolding next_data
   in_library few = record {
-    numbered = is_numbered p.unit p.names (next_number p) group e few;
-    driven = is_driven p.unit p.names (next_number p) group e few;
+    numbered = is_numbered p.unit p.names (next_number p) (next_bits p group) (bits_unrefused p group e) few;
+    driven = is_driven p.unit p.names (next_number p) (next_bits p group) (bits_unrefused p group e) few;
   }
 
 -- cells as they follow some with these names, from this number on
@@ -134,6 +131,7 @@ all_accepted (item.Cell group ∷ items) p from names low room h =
     cell_accepted p group items from names (all_accepted items) low (omega (arith, room)) h (next_refusal p group) refl
 all_accepted (item.Unit line ∷ items) p from names low room h = all_accepted items _ from names (omega (arith, low)) (omega (arith, room)) h
 all_accepted (item.LeftOut at ∷ items) p from names low room h = all_accepted items p from names low (omega (arith, room)) h
+all_accepted (item.BusType group ∷ items) p from names low room h = all_accepted items _ from names (omega (arith, low)) (omega (arith, room)) h
 
 -- the items of a library are not many
 few_items : (bytes : List ℕ) → length (items_within library_limit bytes) ≤ library_limit

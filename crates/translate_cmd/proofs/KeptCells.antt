@@ -13,9 +13,10 @@ use Rattle.three_state_cells.specs.DrivenCells.{DrivenData, may_float}
 use Rattle.generated_driven_entities.specs.Library.{model_name}
 use Rattle.library_items.specs.LibraryCells.{CellEntry, Accepted, Refused}
 use Rattle.library_items.specs.declared.progress.Progress.{Progress}
-use Rattle.library_items.specs.Progress.{no_progress, next_refusal, next_data, next_entity, entity_by, after_cell, after_item}
+use Rattle.library_items.specs.Progress.{no_progress, next_bits, next_refusal, next_data, next_entity, entity_by, after_cell, after_item}
 use Rattle.library_items.specs.KeptCells.{kept_by, kept_cells}
 use Rattle.library_items.specs.Endings.{library_limit}
+use Rattle.library_items.proofs.CellLemmas.{bits_name, bits_unrefused}
 use Rattle.translate_cmd.specs.TranslatedModels.{cells_by, accepted_cells, cells_in}
 use Rattle.translate_cmd.proofs.ReadCells.{name_is_new}
 use Rattle.translate_cmd.proofs.EntityNames.{AreAlike, alike_with, its_entity}
@@ -39,8 +40,9 @@ record AreKept (given : List (List ℕ)) (cells : List DrivenData) (kept : List 
   named : AreNamedBehind given kept
 
 new_name : (p : Progress) (group : Group) → next_refusal p group ≡ None → is_some (number_of p.names (cell_name group)) ≡ false
-unfolding next_refusal
-new_name p group e = name_is_new p.unit p.names 0 group e
+new_name p group e =
+    subst (λ (name : List ℕ). is_some (number_of p.names name) ≡ false) (bits_name p group)
+    (name_is_new p.unit p.names 0 (next_bits p group) (bits_unrefused p group e))
 
 -- what holds of items behind any others
 abbrev Follow : List LibraryItem → Type 0
@@ -70,6 +72,7 @@ all_kept (item.Cell group ∷ items) p given h =
     cell_kept p group items given (all_kept items) h (is_some (number_of p.names (cell_name group))) (next_refusal p group) (new_name p group)
 all_kept (item.Unit line ∷ items) p given h = all_kept items (after_item p (item.Unit line)) given h
 all_kept (item.LeftOut at ∷ items) p given h = all_kept items p given h
+all_kept (item.BusType group ∷ items) p given h = all_kept items (after_item p (item.BusType group)) given h
 
 module _ (library : List ℕ) where
   abbrev pub cells_of : List CellEntry

@@ -106,6 +106,9 @@ all_written (item.Unit line ∷ items) p given h =
 all_written (item.LeftOut at ∷ items) p given h =
     let rest = all_written items p given h in
     record { verilog = rest.verilog; vital = rest.vital }
+all_written (item.BusType group ∷ items) p given h =
+    let rest = all_written items (after_item p (item.BusType group)) given h in
+    record { verilog = rest.verilog; vital = rest.vital }
 
 library_written : (bytes : List ℕ) → IsOfCells [] (accepted_cells no_progress (items_within library_limit bytes)) (items_written no_progress (items_within library_limit bytes))
 library_written bytes = all_written (items_within library_limit bytes) no_progress [] (λ name. refl)

@@ -27,6 +27,7 @@ abbrev pub item_cells : Progress → LibraryItem → List DrivenData
 item_cells p (item.Cell group) = cells_by p group (next_refusal p group)
 item_cells p (item.Unit line) = []
 item_cells p (item.LeftOut at) = []
+item_cells p (item.BusType group) = []
 
 -- the accepted cells among these items, in order
 abbrev pub accepted_cells : Progress → List LibraryItem → List DrivenData

@@ -129,3 +129,25 @@ fn a_time_unit(rt: HostRuntime) {
     let text = b"library (L) { time_unit : \"10ps\" }";
     assert!(rt; has_unit(rt.alloc(), text, b"10ps", 14));
 }
+
+/// Whether what was read of a whole library is no cell and one `type` group, at this offset.
+fn is_type_alone(read: &Reading, at: usize) -> bool {
+    match read.types.as_slice() {
+        [group] => read.cells.len() == 0 && read.end == End::Whole && group.at == at,
+        _ => false,
+    }
+}
+
+/// Whether a library has no cell and one `type` group, at this offset.
+fn has_type(alloc: Global, text: &[u8], at: usize) -> bool {
+    match read_library(alloc, text, true) {
+        Ok(read) => is_type_alone(&read, at),
+        Err(_) => false,
+    }
+}
+
+#[test]
+fn a_type_of_buses(rt: HostRuntime) {
+    let text = b"library (L) { type (B) { bit_from : 1; bit_to : 0; } }";
+    assert!(rt; has_type(rt.alloc(), text, 14));
+}

@@ -122,6 +122,26 @@ fn translates_behind_a_refused_cell(alloc: Global) -> Result<bool, Fail> {
     Ok(left.is(Status::Cells, report, "") && verilog.ends_with(SECOND_INVERTER.as_bytes()))
 }
 
+/// A register of two bits with an output of three.
+const OUTPUT_TOO_WIDE: &str = "library (L) {
+type (B) { bit_from : 1; bit_to : 0; }
+type (C) { bit_from : 2; bit_to : 0; }
+cell (REG2) {
+bus (D) { bus_type : B; direction : input; }
+pin (CK) { direction : input; }
+bus (Q) { bus_type : C; direction : output; function : \"IQ\"; }
+ff_bank (IQ, IQN, 2) { next_state : \"D\"; clocked_on : \"CK\"; }
+}
+}
+";
+
+/// Whether a bit that a bank has not refuses its cell.
+fn refuses_a_bit_too_many(alloc: Global) -> Result<bool, Fail> {
+    let left = translated(alloc, OUTPUT_TOO_WIDE)?;
+    let report = "cell 1 REG2 refused 15 width at 227\naccepted 0 refused 1\n";
+    Ok(left.is(Status::Cells, report, "") && left.wrote(OutSlot::VerilogText, &[NO_MODULE]))
+}
+
 /// The module of the inverter, which is the second cell.
 const SECOND_INVERTER: &str = "module INV (A, Y);
   input A;
@@ -172,6 +192,7 @@ fn translates_flip_flop(alloc: Global) -> Result<bool, Fail> {
 fn libraries_are_translated(rt: HostRuntime) -> Result<(), Fail> {
     assert!(rt; translates_three_cells(rt.alloc())?);
     assert!(rt; translates_behind_a_refused_cell(rt.alloc())?);
+    assert!(rt; refuses_a_bit_too_many(rt.alloc())?);
     assert!(rt; translates_flip_flop(rt.alloc())?);
     assert!(rt; translates_ports(rt.alloc())?);
     assert!(rt; translates_tie(rt.alloc(), WITHOUT_SEMICOLONS, TIE_MODULE, TIE_ENTITY)?);

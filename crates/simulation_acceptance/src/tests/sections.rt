@@ -1,7 +1,7 @@
 //! Sections on which a cell, its module and its entity show the same.
 use super::libraries::{
     BUFFER_WITH_ENABLE, CLEARED, CLEARED_AND_CHECKED, CLEARED_AND_PRESET, INVERTER, LATCH,
-    PERIODIC, TOGGLE, TWO_FLIP_FLOPS,
+    PERIODIC, REGISTER, TOGGLE, TWO_FLIP_FLOPS,
 };
 use command_runs::{CLOCK_GATE, CLOCK_GATE_WITHOUT_KEEP, FLIP_FLOP, GUARDED_FLIP_FLOP, TIE};
 
@@ -15,7 +15,7 @@ pub(crate) struct Section<'a> {
 }
 
 /// The sections.
-pub(crate) const SECTIONS: [Section<'static>; 15] = [
+pub(crate) const SECTIONS: [Section<'static>; 16] = [
     Section {
         library: TIE,
         cell: "TIE",
@@ -44,6 +44,17 @@ pub(crate) const SECTIONS: [Section<'static>; 15] = [
             ("30 A 0", "Y=0@7"),
             ("40 OE 0", "Y=z@11"),
             ("50 OE 1", "Y=0@13"),
+        ],
+    },
+    Section {
+        library: REGISTER,
+        cell: "REG2",
+        start: "Q_1=x Q_0=x",
+        lines: &[
+            ("10 D_1 1", "Q_1=x Q_0=x"),
+            ("20 D_0 0", "Q_1=x Q_0=x"),
+            ("30 CK 0", "Q_1=x Q_0=x"),
+            ("40 CK 1", "Q_1=1@0 Q_0=0@0"),
         ],
     },
     Section {

@@ -23,7 +23,7 @@ use Rattle.three_state_cells.specs.DrivenCells.{DrivenData, may_float}
 use Rattle.generated_drivers.specs.Generated.{vital_driver_of}
 use Rattle.well_formed_drivers.specs.Laws.{HasDrivers}
 use Rattle.well_formed_drivers.proofs.VitalDrivers.{vital_drivers_are_well_formed}
-use Rattle.driven_files.specs.Vital.{vital_sections}
+use Rattle.written_driven_entities.specs.Sections.{vital_sections}
 use Rattle.written_entities.proofs.Names.{same_self}
 use Rattle.written_driven_entities.specs.Texts.{DrivenEntity, models_of, driver_in, drivers_of}
 use Rattle.written_driven_entities.specs.Laws.{AreWellFormedDrivers, IsOver, driver_names}

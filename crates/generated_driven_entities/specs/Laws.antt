@@ -6,7 +6,7 @@ use Rattle.vhdl_text.specs.WellFormed.{AreWellFormed}
 use Rattle.three_state_cells.specs.DrivenCells.{DrivenData, may_float}
 use Rattle.well_formed_drivers.specs.Laws.{HasDrivers}
 use Rattle.sectioned_texts.specs.DrivenModels.{driven_models}
-use Rattle.driven_files.specs.Vital.{vital_sections}
+use Rattle.written_driven_entities.specs.Sections.{vital_sections}
 use Rattle.written_driven_entities.specs.Texts.{DrivenEntity, driven_entities_text, models_of, drivers_of}
 use Rattle.written_driven_entities.specs.Laws.{AreWellFormedDrivers}
 use Rattle.generated_driven_entities.specs.Library.{driven_entities_of}

@@ -32,7 +32,7 @@ use Rattle.generated_modules.proofs.GivenNames.{given_apart}
 use Rattle.generated_drivers.specs.Generated.{pins_of, verilog_driver_of}
 use Rattle.generated_drivers.proofs.Fitting.{verilog_drivers_fit}
 use Rattle.sectioned_texts.specs.DrivenModels.{taken_names}
-use Rattle.driven_files.specs.Verilog.{verilog_sections}
+use Rattle.written_driven_modules.specs.Sections.{verilog_sections}
 use Rattle.written_driven_modules.specs.Texts.{models_of, drivers_of, driver_in}
 use Rattle.written_driven_modules.specs.Laws.{AreWellFormedDrivers}
 use Rattle.written_driven_modules.proofs.ReadBack.{read_back}

@@ -7,7 +7,7 @@ use Rattle.specify_blocks.specs.WellFormed.{AreWellFormed}
 use Rattle.three_state_cells.specs.DrivenCells.{DrivenData, driven_data}
 use Rattle.library_cells.specs.Cells.{IsNumberedCell}
 use Rattle.sectioned_texts.specs.DrivenModels.{driven_models}
-use Rattle.driven_files.specs.Verilog.{verilog_sections}
+use Rattle.written_driven_modules.specs.Sections.{verilog_sections}
 use Rattle.written_driven_modules.specs.Texts.{driven_modules_text, models_of, drivers_of}
 use Rattle.written_driven_modules.specs.Laws.{AreWellFormedDrivers}
 use Rattle.generated_driven_modules.specs.Library.{IsNumberedDriven, own_names, own_numbers, AreOfOneLibrary, driven_modules_of}

@@ -6,4 +6,5 @@ mod comparisons;
 mod run;
 mod simulation;
 
+pub use model_languages::{Verilog, Vital};
 pub use run::simulate_library;

@@ -16,14 +16,14 @@ use Rattle.model_files.specs.Languages.{Language}
 use Rattle.model_files.specs.ModelAnswer.{long_model_stop, models_or_stop, models_in_text, model_answer}
 use Rattle.model_files.specs.StimulusAnswer.{long_stimulus_stop, sections_or_stop, sections_in_text, stimulus_answer}
 use Rattle.model_files.specs.Limits.{model_limit, stimulus_limit}
-use Rattle.model_languages.specs.Verilog.{verilog}
-use Rattle.model_languages.specs.Vital.{vital}
+use Rattle.model_simulation.specs.Verilog.{verilog}
+use Rattle.model_simulation.specs.Vital.{vital}
 use Rattle.vital_models.specs.declared.model.VEntity.{VEntity}
 use Rattle.vhdl_text.specs.WellFormed.{AreApart}
 use Rattle.file_models.specs.declared.file_model.FileModel.{FileModel}
 use Rattle.model_files.specs.ModelNames.{model_names}
-use Rattle.model_languages.proofs.VerilogModels.{own_names}
-use Rattle.model_languages.proofs.VitalModels.{own_names_beside}
+use Rattle.model_simulation.proofs.VerilogModels.{own_names}
+use Rattle.model_simulation.proofs.VitalModels.{own_names_beside}
 use Rattle.simulation_catalog.specs.Comparisons.{sections_text}
 use Rattle.simulation_catalog.specs.Generated.{modules_of, entities_of, HaveOwnModels, EndsEqual}
 use Rattle.simulation_catalog.specs.FaultLines.{cause_stop}

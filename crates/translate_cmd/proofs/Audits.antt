@@ -25,8 +25,8 @@ use Rattle.command_outcomes.specs.FileSteps.{answer_where}
 use Rattle.file_models.specs.declared.file_model.FileModel.{FileModel}
 use Rattle.file_models.specs.FileModels.{IsRunnable}
 use Rattle.model_traces.specs.ModuleTrace.{module_machine}
-use Rattle.model_languages.specs.Verilog.{verilog, verilog_models}
-use Rattle.model_languages.proofs.VerilogModels.{own_names}
+use Rattle.model_simulation.specs.Verilog.{verilog, verilog_models}
+use Rattle.model_simulation.proofs.VerilogModels.{own_names}
 use Rattle.simulation_catalog.specs.Generated.{KeepsRules}
 use Rattle.simulation_catalog.proofs.ReadyCells.{all_at}
 use Rattle.library_audit.specs.Audits.{module_in, module_at, module_for}

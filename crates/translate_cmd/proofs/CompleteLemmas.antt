@@ -43,8 +43,8 @@ use Rattle.model_files.specs.Languages.{Language}
 use Rattle.model_replay.specs.Outcome.{replay_files, replay_outcome}
 use Rattle.model_replay.specs.Complete.{CanBeReplayed}
 use Rattle.model_replay.proofs.Completes.{replayed_whole}
-use Rattle.model_languages.specs.Verilog.{verilog}
-use Rattle.model_languages.specs.Vital.{vital}
+use Rattle.model_simulation.specs.Verilog.{verilog}
+use Rattle.model_simulation.specs.Vital.{vital}
 
 -- how a status came about
 pub decided_or : (s : Status) → (s ≡ status.Outside) ⊎ ((s ≡ status.Memory) ⊎ IsTrue (is_decided s))

@@ -20,19 +20,19 @@ use Rattle.three_state_cells.specs.DrivenCells.{DrivenData, may_float}
 use Rattle.generated_drivers.specs.Generated.{verilog_driver_of, vital_driver_of}
 use Rattle.sectioned_texts.specs.DrivenModels.{SectionLanguage}
 use Rattle.sectioned_texts.specs.declared.driven_models.DrivenModels.{DrivenModels}
-use Rattle.driven_files.specs.Verilog.{verilog_sections}
-use Rattle.driven_files.specs.Vital.{vital_sections}
-use Rattle.written_driven_modules.specs.Texts as modules
-use Rattle.written_driven_entities.specs.Texts as entities
+use Rattle.generated_driven_modules.specs.Sections.{verilog_sections}
+use Rattle.generated_driven_entities.specs.Sections.{vital_sections}
+use Rattle.generated_driven_modules.specs.WrittenTexts as modules
+use Rattle.generated_driven_entities.specs.WrittenTexts as entities
 use Rattle.generated_driven_modules.specs.Library.{driven_modules_of}
 use Rattle.generated_driven_entities.specs.Library.{model_name, driven_entity, driven_entities_behind}
-use Rattle.model_languages.proofs.VerilogModels.{modules_apart}
+use Rattle.model_simulation.proofs.VerilogModels.{modules_apart}
 use Rattle.file_models.specs.declared.file_model.FileModel.{FileModel}
 use Rattle.file_models.specs.FileModels.{over_core, driver_over, core_named, over_its_core, own_model, file_models}
 use Rattle.file_models.proofs.DistinctNames.{core_name_of}
 use Rattle.library_translation.specs.Library.{translate_outcome}
-use Rattle.model_languages.specs.Verilog.{verilog}
-use Rattle.model_languages.specs.Vital.{vital}
+use Rattle.model_simulation.specs.Verilog.{verilog}
+use Rattle.model_simulation.specs.Vital.{vital}
 use Rattle.library_items.specs.LibraryCells.{CellEntry, Accepted, Refused}
 use Rattle.simulation_catalog.specs.CellModels.{CellModels, cores, drivers}
 use Rattle.simulation_catalog.specs.Generated.{core_entity, in_verilog, in_vital, core_modules, modules_of, core_entities, entities_of}

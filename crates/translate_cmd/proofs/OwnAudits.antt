@@ -20,7 +20,7 @@ use Rattle.command_outcomes.specs.FileSteps.{FileStop, outcome_by}
 use Rattle.file_models.specs.declared.file_model.FileModel.{FileModel}
 use Rattle.file_models.specs.FileModels.{plain_model}
 use Rattle.model_files.specs.ModelAnswer.{model_answer}
-use Rattle.model_languages.specs.Verilog.{verilog}
+use Rattle.model_simulation.specs.Verilog.{verilog}
 use Rattle.audited_modules.specs.Laws.{GeneratedModulesMatch}
 use Rattle.simulation_catalog.specs.CellModels.{over_core}
 use Rattle.simulation_catalog.specs.Generated.{in_verilog, own_verilog, modules_of, KeepsCellRules, KeepsRules, HaveOwnModels}

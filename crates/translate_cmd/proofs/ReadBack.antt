@@ -1,14 +1,14 @@
 -- The Verilog and the VHDL of a library read back.
 use Rattle.std.proofs.Common.{◌≡◌, ℕ, List, [], Ok, sym, subst}
 use Rattle.sectioned_texts.specs.DrivenModels.{driven_models}
-use Rattle.driven_files.specs.Verilog.{verilog_sections}
-use Rattle.driven_files.specs.Vital.{vital_sections}
-use Rattle.written_driven_modules.specs.Laws as verilog
-use Rattle.written_driven_modules.proofs.KeptApart as modules_apart
-use Rattle.written_driven_modules.proofs.ReadBack as modules_read
-use Rattle.written_driven_entities.specs.Laws as vital
-use Rattle.written_driven_entities.proofs.KeptApart as entities_apart
-use Rattle.written_driven_entities.proofs.ReadBack as entities_read
+use Rattle.generated_driven_modules.specs.Sections.{verilog_sections}
+use Rattle.generated_driven_entities.specs.Sections.{vital_sections}
+use Rattle.generated_driven_modules.specs.WrittenLaws as verilog
+use Rattle.generated_driven_modules.proofs.KeptApart as modules_apart
+use Rattle.generated_driven_modules.proofs.ReadBack as modules_read
+use Rattle.generated_driven_entities.specs.WrittenLaws as vital
+use Rattle.generated_driven_entities.proofs.KeptApart as entities_apart
+use Rattle.generated_driven_entities.proofs.ReadBack as entities_read
 use Rattle.translate_cmd.specs.TranslatedModels.{modules_in, entities_in, verilog_in, vital_in}
 use Rattle.translate_cmd.specs.TranslatedLaws.{VerilogReadsBack, VitalReadsBack, LibrariesReadBack}
 use Rattle.translate_cmd.proofs.AcceptedCells.{modules-well-formed, entities-well-formed}

@@ -25,7 +25,7 @@ use Rattle.generated_modules.specs.Accepted.{described}
 use Rattle.generated_driven_modules.specs.Library.{IsNumberedDriven}
 use Rattle.generated_driven_modules.proofs.ReadCells.{read-cells-numbered}
 use Rattle.generated_driven_entities.specs.Laws.{IsDrivenCell}
-use Rattle.well_formed_drivers.proofs.ReadCells.{read_cells_have_drivers}
+use Rattle.generated_driven_entities.proofs.ReadCells.{read_cells_have_drivers}
 
 first_none : (one other : Option Refusal) → first_of_two one other ≡ None → one ≡ None
 first_none None other e = refl

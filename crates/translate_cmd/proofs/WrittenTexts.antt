@@ -17,8 +17,8 @@ use Rattle.vhdl_writer.specs.Entity.{entity_text}
 use Rattle.vhdl_drivers.specs.DriverText as vhdl
 use Rattle.three_state_cells.specs.DrivenCells.{DrivenData, may_float}
 use Rattle.generated_drivers.specs.Generated.{verilog_driver_of, vital_driver_of}
-use Rattle.written_driven_modules.specs.Texts as modules
-use Rattle.written_driven_entities.specs.Texts as entities
+use Rattle.generated_driven_modules.specs.WrittenTexts as modules
+use Rattle.generated_driven_entities.specs.WrittenTexts as entities
 use Rattle.generated_driven_modules.specs.Library.{driven_module_of, driven_modules_of}
 use Rattle.generated_driven_entities.specs.Library.{model_name, driven_entity, driven_entities_behind}
 use Rattle.command_outcomes.specs.Written.{Written, joined}

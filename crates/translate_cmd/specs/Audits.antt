@@ -16,7 +16,7 @@ use Rattle.command_outcomes.specs.Outcome.{Outcome}
 use Rattle.library_file.specs.LibraryAnswer.{library_answer}
 use Rattle.library_translation.specs.Library.{translate_outcome}
 use Rattle.model_files.specs.ModelAnswer.{model_answer}
-use Rattle.model_languages.specs.Verilog.{verilog}
+use Rattle.model_simulation.specs.Verilog.{verilog}
 use Rattle.library_audit.specs.Lines.{left_out_line}
 use Rattle.library_audit.specs.Audits.{module_for, audit_text}
 use Rattle.library_audit.specs.Outcome.{audit_outcome}

@@ -25,8 +25,8 @@ use Rattle.stimulus.specs.Stimulus.{stimulus_of}
 use Rattle.library_items.specs.KeptCells.{kept_cells}
 use Rattle.library_items.specs.Progress.{no_progress}
 use Rattle.simulation_catalog.specs.Catalog.{cells_named}
-use Rattle.model_languages.specs.Verilog.{verilog}
-use Rattle.model_languages.specs.Vital.{vital}
+use Rattle.model_simulation.specs.Verilog.{verilog}
+use Rattle.model_simulation.specs.Vital.{vital}
 use Rattle.library_items.specs.Endings.{library_limit}
 use Rattle.translate_cmd.specs.Outcome.{files_of, outcome}
 

@@ -10,8 +10,8 @@ use Rattle.command_outcomes.specs.Written.{nothing_written, in_report}
 use Rattle.command_outcomes.specs.Binding.{Files}
 use Rattle.command_outcomes.specs.Outcome.{Outcome}
 use Rattle.model_replay.specs.Outcome.{replay_of}
-use Rattle.model_languages.specs.Verilog.{verilog}
-use Rattle.model_languages.specs.Vital.{vital}
+use Rattle.model_simulation.specs.Verilog.{verilog}
+use Rattle.model_simulation.specs.Vital.{vital}
 use Rattle.selftest_runs.specs.OwnCounts.{own_counts}
 use Rattle.selftest_runs.specs.Report.{report_text}
 use Rattle.command_words.specs.declared.commands.Command.{Command}

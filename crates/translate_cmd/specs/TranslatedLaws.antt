@@ -3,12 +3,12 @@ use Rattle.std.specs.Prelude.{◌≡◌, ℕ, List, [], Ok}
 use Rattle.sectioned_texts.specs.DrivenModels.{driven_models}
 use Rattle.specify_blocks.specs.WellFormed as modules
 use Rattle.vhdl_text.specs.WellFormed as entities
-use Rattle.driven_files.specs.Verilog.{verilog_sections}
-use Rattle.driven_files.specs.Vital.{vital_sections}
-use Rattle.written_driven_modules.specs.Texts.{driven_modules_text}
-use Rattle.written_driven_modules.specs.Laws as verilog
-use Rattle.written_driven_entities.specs.Texts.{driven_entities_text}
-use Rattle.written_driven_entities.specs.Laws as vital
+use Rattle.generated_driven_modules.specs.Sections.{verilog_sections}
+use Rattle.generated_driven_entities.specs.Sections.{vital_sections}
+use Rattle.generated_driven_modules.specs.WrittenTexts.{driven_modules_text}
+use Rattle.generated_driven_modules.specs.WrittenLaws as verilog
+use Rattle.generated_driven_entities.specs.WrittenTexts.{driven_entities_text}
+use Rattle.generated_driven_entities.specs.WrittenLaws as vital
 use Rattle.library_translation.specs.Library.{translate_outcome}
 use Rattle.translate_cmd.specs.TranslatedModels.{modules_in, entities_in, verilog_in, vital_in}
 

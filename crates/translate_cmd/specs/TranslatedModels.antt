@@ -9,8 +9,8 @@ use Rattle.three_state_cells.specs.DrivenCells.{DrivenData}
 use Rattle.specify_blocks.specs.declared.model.VModule.{VModule}
 use Rattle.vital_models.specs.declared.model.VEntity.{VEntity}
 use Rattle.sectioned_texts.specs.declared.driven_models.DrivenModels.{DrivenModels}
-use Rattle.written_driven_modules.specs.Texts as verilog
-use Rattle.written_driven_entities.specs.Texts as vital
+use Rattle.generated_driven_modules.specs.WrittenTexts as verilog
+use Rattle.generated_driven_entities.specs.WrittenTexts as vital
 use Rattle.generated_driven_modules.specs.Library.{driven_modules_of}
 use Rattle.generated_driven_entities.specs.Library.{driven_entities_of}
 use Rattle.library_items.specs.declared.progress.Progress.{Progress}

@@ -155,6 +155,44 @@ def cut_cell(n):
 # Models to replay. Each kind is a pair of functions of its size: the models and the stimulus.
 
 
+def bus_type(name, bits):
+    return "type (%s) { base_type : array; bit_width : %d; bit_from : %d; bit_to : 0; }\n" % (name, bits, bits - 1)
+
+
+def timing_of_a_bus(n):
+    """one bus of 64 bits with this many timing groups, each of another condition"""
+    names = ["A%d" % k for k in range(6)]
+    groups = "".join(arc("R", when) for when in conditions(n, names))
+    pins = 'bus (Q) { bus_type : T; direction : output; function : "R"; %s}\n' % groups
+    return library(bus_type("T", 64), cell(inputs(["R", *names]), pins))
+
+
+def buses_of_a_cell(n):
+    return library(bus_type("T", 64), cell(*("bus (B%d) { bus_type : T; direction : input; }\n" % k for k in range(n))))
+
+
+def types_and_buses(n):
+    """as many types as cells, each with a bus of the first type"""
+    buses = "bus (A) { bus_type : T0; direction : input; } bus (Y) { bus_type : T0; direction : output; function : \"A\"; }"
+    one = "cell (C%d) { " + buses + " }\n"
+    return library(*(bus_type("T%d" % k, 1) for k in range(n)), *(one % k for k in range(n)))
+
+
+def bank_of_long_texts(n):
+    """a bank of this width with four texts over buses of this width, of up to 4 KB where names are replaced by those of bits"""
+    names = list("DE")
+    text = long_text(names, "D", 1600)
+    said = "".join('%s : "%s"; ' % (word, text) for word in ("next_state", "clocked_on", "clear", "preset"))
+    said += "clear_preset_var1 : L; clear_preset_var2 : L; "
+    buses = "".join("bus (%s) { bus_type : T; direction : input; }\n" % name for name in names)
+    output = 'bus (Q) { bus_type : T; direction : output; function : "I"; }\n'
+    return library(bus_type("T", n), cell(buses, "ff_bank (I, N, %d) { %s}\n" % (n, said), output))
+
+
+def bundle_of_one_name(n):
+    return library(cell("bundle (B) { members (%s); direction : input; }\n" % ", ".join(["A"] * n)))
+
+
 def module(header, *parts, tables=""):
     return "`timescale 1ps/1ps\n" + tables + "module M (%s);\n" % ", ".join(header) + "".join(parts) + "endmodule\n"
 
@@ -316,6 +354,11 @@ TRANSLATED = {
     "unlike_ends": (unlike_ends, (250, 500, 1000)),
     "flip_flops": (flip_flops, (4, 8, 16)),
     "table_rows": (table_rows, (10000, 20000, 40000)),
+    "timing_of_a_bus": (timing_of_a_bus, (250, 500, 1000)),
+    "buses_of_a_cell": (buses_of_a_cell, (250, 500, 1000)),
+    "types_and_buses": (types_and_buses, (1000, 2000, 4000)),
+    "bank_of_long_texts": (bank_of_long_texts, (4, 8, 16)),
+    "bundle_of_one_name": (bundle_of_one_name, (7500, 15000, 30000)),
     "lines_without_semicolons": (lines_without_semicolons, (2500000, 5000000, 10000000)),
     "delay_file": (delay_file, (150000, 300000, 600000)),
     "brackets": (brackets, (4000000, 8000000, 16000000)),

@@ -35,8 +35,8 @@ impl FirstNames {
         }
     }
 
-    /// Adds the thing at this place, where none so far has its name.
-    fn add(&mut self, name: &[u8], place: usize) -> Result<(), AllocError>
+    /// Adds the thing at this place, where none so far has its name. `AllocError` comes only where memory is wanting.
+    pub fn add(&mut self, name: &[u8], place: usize) -> Result<(), AllocError>
         ensures { OnOk result (AddsPlace self.old name.now place self.new) }
     {
         match self.names.add(name)? {

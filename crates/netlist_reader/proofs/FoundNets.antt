@@ -1,5 +1,5 @@
 -- Nets that are found beside a module.
-use Rattle.std.proofs.Common.{◌≡◌, ℕ, ◌+◌, Bool, true, false, cond, not, ◌||◌, ◌&&◌, List, [], ◌∷◌, ◌++◌, nat_lt, Option, Some, None, refl, sym, ap, subst, ◌∙◌, arith, if◌then◌else◌}
+use Rattle.std.proofs.Common.{◌≡◌, ℕ, ◌+◌, Bool, true, false, cond, not, ◌||◌, ◌&&◌, List, [], ◌∷◌, ◌++◌, nat_lt, Option, Some, refl, sym, ap, ◌∙◌, arith, if◌then◌else◌}
 use Rattle.std.specs.Prelude.{slice_get}
 use Rattle.std.specs.List.{list_any}
 use Rattle.udp_tables.specs.declared.table.Udp.{Udp}
@@ -11,7 +11,7 @@ use Rattle.specify_blocks.specs.Nets.{same_net, net_driven, has_state, drivers}
 use Rattle.specify_blocks.specs.VerilogModules.{is_driven_already}
 use Rattle.specify_blocks.proofs.InstanceLemmas.{drivers-cons}
 use Rattle.netlist_reader.specs.declared.driven_nets.DrivenNets.{DrivenNets}
-use Rattle.netlist_reader.specs.declared.first_names.FirstNames.{FirstNames}
+use Rattle.first_names.specs.declared.places.FirstNames.{FirstNames}
 use Rattle.netlist_reader.specs.DrivenNets.{AreDriven, driven_by, drives_wire, drives_state, drives_value}
 use Rattle.netlist_reader.specs.Netlist.{AreKeptOf}
 use Rattle.rule_readers.proofs.Tests.{there}

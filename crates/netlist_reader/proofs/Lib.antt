@@ -1,4 +1,4 @@
-pub mod FirstNames
+pub mod NameSearch
 pub mod Among
 pub mod NamedNets
 pub mod Begun

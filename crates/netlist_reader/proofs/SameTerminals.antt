@@ -20,7 +20,7 @@ use Rattle.grammar_rules.specs.Reading.{read}
 use Rattle.rule_readers.specs.declared.refusal.Refusal.TheVariants.{Twice}
 use Rattle.rule_readers.specs.Next.{next_bytes, rest}
 use Rattle.verilog_tokens.specs.Tokens.{is_name}
-use Rattle.netlist_reader.specs.FirstNames.{own_name}
+use Rattle.netlist_reader.specs.NameSearch.{own_name}
 use Rattle.netlist_reader.specs.Terminals.{AreNamed}
 use Rattle.netlist_reader.proofs.NamedNets as named
 

@@ -1,5 +1,5 @@
 pub mod Begun
-pub mod FirstNames
+pub mod NameSearch
 pub mod DrivenNets
 pub mod Netlist
 pub mod Terminals

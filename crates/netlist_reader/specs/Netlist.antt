@@ -3,8 +3,9 @@ use Rattle.std.specs.Prelude.{ℕ, List, Option, Some, None}
 use Rattle.specify_blocks.specs.declared.model.VModule.{VModule}
 use Rattle.specify_blocks.specs.VerilogModules.{port_name}
 use Rattle.netlist_reader.specs.declared.driven_nets.DrivenNets.{DrivenNets}
-use Rattle.netlist_reader.specs.declared.first_names.FirstNames.{FirstNames}
-use Rattle.netlist_reader.specs.FirstNames.{FindsFirst, own_name}
+use Rattle.first_names.specs.declared.places.FirstNames.{FirstNames}
+use Rattle.first_names.specs.Places.{FindsFirst}
+use Rattle.netlist_reader.specs.NameSearch.{own_name}
 use Rattle.netlist_reader.specs.DrivenNets.{AreDriven}
 
 -- the names of things, where they are kept

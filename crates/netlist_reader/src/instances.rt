@@ -4,15 +4,16 @@ ghost use Rattle.std.specs.Prelude.{◌≡◌, IfOk};
 ghost use Rattle.rule_readers.specs.Words.{valued};
 ghost use Rattle.specify_blocks.specs.VerilogModules as spec;
 ghost use Rattle.netlist_reader.specs.Begun.{is_instance_start, instance_primitive};
-ghost use Rattle.netlist_reader.specs.FirstNames.{udp_name};
+ghost use Rattle.netlist_reader.specs.NameSearch.{udp_name};
 ghost use Rattle.netlist_reader.specs.Netlist.{MayFind};
 ghost use Rattle.rule_readers.specs.Reading.{read, Reads, ReadsAs};
 
 use crate::connections::{driven_terminal, first_terminal, more_terminals};
-use crate::first_names::{FirstNames, many_names, place_of};
+use crate::name_search::{many_names, place_of};
 use crate::netlist::Netlist;
 use crate::nets::is_sequential;
 use crate::terminals::has_all_inputs;
+use first_names::FirstNames;
 use part_readers::where_read;
 use rule_readers::{Language, Read, Refusal, Stop, value_of};
 use specify_blocks::{Instance, VModule};

@@ -4,8 +4,8 @@
 
 mod connections;
 mod driven_nets;
-mod first_names;
 mod instances;
+mod name_search;
 mod netlist;
 mod nets;
 mod terminals;

@@ -3,8 +3,9 @@
 ghost use Rattle.std.specs.Prelude.{◌≡◌, IfOk, IfErr, Ok};
 
 use crate::driven_nets::{DrivenNets, driven_nets};
-use crate::first_names::{FirstNames, many_names, place_of};
+use crate::name_search::{many_names, place_of};
 use crate::nets::{has_state, is_driven_already, is_wire_driven_by};
+use first_names::FirstNames;
 use rule_readers::{Read, Stop};
 use specify_blocks::{Instance, VModule, VNet, VPath};
 use sqlite_items::Items;

@@ -1,7 +1,7 @@
 use Rattle.std.proofs.Common.{◌≡◌, sym, ap, subst, ◌∙◌}
 use Rattle.specify_blocks.specs.declared.model.VModule.{VModule}
 use Rattle.specify_blocks.specs.VerilogModules.{instances}
-use Rattle.netlist_reader.specs.FirstNames.{udp_name}
+use Rattle.netlist_reader.specs.NameSearch.{udp_name}
 use Rattle.netlist_reader.specs.Netlist.{MayFind}
 use Rattle.grammar_rules.specs.Reading.{read}
 use Rattle.netlist_reader.proofs.Begun.{turns, preserved, undefined_exit, refused_exit}

@@ -2,7 +2,7 @@ use Rattle.std.proofs.Common.{◌≡◌, ◌-◌}
 use Rattle.grammar_rules.specs.Reading.{repeat, read}
 use Rattle.specify_blocks.specs.declared.model.VModule.{VModule}
 use Rattle.specify_blocks.specs.VerilogModules.{begins_instance, one_instance}
-use Rattle.netlist_reader.specs.FirstNames.{udp_name}
+use Rattle.netlist_reader.specs.NameSearch.{udp_name}
 use Rattle.netlist_reader.specs.Netlist.{MayFind}
 use Rattle.netlist_reader.proofs.instances.more_instances.Given as goal
 

@@ -1,17 +1,19 @@
-//! Things that are found by their names, in the time of one look-up.
+//! Things that are found by their names, where there are more than a few in the time of one look-up.
 
-ghost use Rattle.std.specs.Prelude.{◌≡◌, IfOk, IfErr, OnOk};
+ghost use Rattle.std.specs.Prelude.{◌≡◌, IfOk, IfErr};
 ghost use Rattle.std.specs.List.{position};
 ghost use Rattle.std.specs.Str.{bytes_eq};
 ghost use Rattle.specify_blocks.specs.VerilogModules.{port_name};
-ghost use Rattle.netlist_reader.specs.FirstNames.{place_by, AddsPlace, FindsFirst, udp_name, own_name};
+ghost use Rattle.first_names.specs.Places.{FindsFirst};
+ghost use Rattle.netlist_reader.specs.NameSearch.{udp_name, own_name};
 ghost use Rattle.netlist_reader.specs.Netlist.{MayFind};
 
 use crate::nets::FEW;
 use bool_functions::Names;
+use first_names::FirstNames;
 use rule_readers::{Language, Read, Stop};
 use sqlite_items::Items;
-use std::alloc::Global;
+use std::alloc::{AllocError, Global};
 use udp_reader::Verilog;
 use udp_tables::{Udp, VPort};
 
@@ -50,41 +52,9 @@ impl Named for Items<u8> {
     }
 }
 
-/// Different names, and for each the number of the first thing that has it.
-#[derive(Drop)]
-pub struct FirstNames {
-    pub names: Names,
-    pub places: Items<usize>,
-}
-
-impl FirstNames {
-    /// The number of the first thing of a name, in the time of one look-up.
-    pub fn number(&self, name: &[u8]) -> Option<usize>
-        ensures { result ≡ place_by self.now name.now }
-    {
-        match self.names.number(name) {
-            Some(number) => self.places.get(number).copied(),
-            None => None,
-        }
-    }
-
-    /// Adds the thing with this number, where none so far has its name.
-    fn add(&mut self, name: &[u8], number: usize) -> Read<()>
-        ensures added { OnOk result (AddsPlace self.old name.now number self.new) }
-        ensures memory { IfErr result (λ stop. stop ≡ Stop.Memory) }
-    {
-        match self.names.add(name) {
-            Ok(Some(_)) => Ok(self.places.push(number)?),
-            Ok(None) => Ok(()),
-            Err(_) => Err(Stop::Memory),
-        }
-    }
-}
-
 /// The names of these things.
-fn first_names<T: Named>(alloc: Global, things: &[T]) -> Read<FirstNames>
-    ensures first { IfOk result (λ found. FindsFirst T.name_of found things.now) }
-    ensures memory { IfErr result (λ stop. stop ≡ Stop.Memory) }
+fn all_names<T: Named>(alloc: Global, things: &[T]) -> Result<FirstNames, AllocError>
+    ensures { IfOk result (λ found. FindsFirst T.name_of found things.now) }
 {
     let mut found = FirstNames {
         names: Names::new(alloc),
@@ -104,8 +74,10 @@ pub fn many_names<T: Named>(alloc: Global, things: &[T]) -> Read<Option<FirstNam
     if things.len() <= FEW {
         return Ok(None);
     }
-    let names = first_names(alloc, things)?;
-    Ok(Some(names))
+    match all_names(alloc, things) {
+        Ok(names) => Ok(Some(names)),
+        Err(AllocError) => Err(Stop::Memory),
+    }
 }
 
 /// The number of the first of these things with a name, looked for one after another.
@@ -118,13 +90,13 @@ fn place_among<T: Named>(things: &[T], name: &[u8]) -> Option<usize>
 }
 
 /// The number of the first of these things with a name, where these are their names, if there are more than a few.
-#[tactic(auto, using(crate::proofs::FirstNames::may_find))]
+#[tactic(auto, using(crate::proofs::NameSearch::may_find))]
 pub fn place_of<T: Named>(kept: &Option<FirstNames>, things: &[T], name: &[u8]) -> Option<usize>
     requires { MayFind T.name_of kept.now things.now }
     ensures { result ≡ position (λ x. bytes_eq name.now (T.name_of x)) things.now }
 {
     match kept {
-        Some(found) => found.number(name),
+        Some(found) => found.place(name),
         None => place_among(things, name),
     }
 }

@@ -1,6 +1,6 @@
 -- Trees as lists of codes.
-use Rattle.std.proofs.Common.{◌≡◌, ℕ, Bool, true, false, not, ◌&&◌, ◌||◌, ◌==◌, ◌↔◌, List, [], ◌∷◌, ◌++◌, length, slice_index_or, refl, sym, ap, subst, ◌∙◌, arith, append_assoc, eqb-true, eq-eqb}
-use Rattle.std.proofs.lemmas.List.{append-nil}
+use Rattle.std.proofs.Common.{◌≡◌, ℕ, Bool, true, false, not, ◌&&◌, ◌||◌, ◌==◌, ◌↔◌, List, [], ◌∷◌, ◌++◌, length, map, slice_index, slice_index_or, refl, sym, ap, subst, ◌∙◌, arith, append_assoc, eqb-true, eq-eqb}
+use Rattle.std.proofs.lemmas.List.{append-nil, length-map, map-append}
 use Rattle.std.proofs.lemmas.Bool.{and_parts}
 use Rattle.std.proofs.Math.Bool.{beq}
 use Rattle.std.specs.Prelude.{IsTrue}
@@ -9,8 +9,8 @@ use Rattle.bool_functions.specs.declared.codes.Code.{Code}
 use Rattle.bool_functions.specs.declared.codes.Code.TheVariants as code
 use Rattle.bool_functions.specs.declared.tree.Node.{Node}
 use Rattle.bool_functions.specs.declared.tree.Node.TheVariants as node
-use Rattle.bool_functions.specs.Code.{codes_step, codes_of, read_code, read_codes, innermost, tree_of, code_names, is_name_code, same_code, same_codes, fits, Adds}
-use Rattle.bool_functions.specs.Tree.{value_step, value_of, names_of, xor}
+use Rattle.bool_functions.specs.Code.{codes_step, codes_of, read_code, read_codes, innermost, tree_of, renamed_code, code_names, is_name_code, same_code, same_codes, fits, Adds}
+use Rattle.bool_functions.specs.Tree.{value_step, value_of, names_of, renamed_step, renamed_by, xor}
 use Rattle.bool_functions.proofs.Trees.{every_tree, fold-Zero, fold-One, fold-Name, fold-Not, fold-Xor, fold-And, fold-Or, names_Zero, names_One, names_Name, names_Not, names_Xor, names_And, names_Or}
 
 -- the codes of a tree by its top
@@ -67,6 +67,47 @@ reads = every_tree Reads (record {
 -- the codes of a tree make it
 pub tree_of_codes : (f : Node) → tree_of (codes_of f) ≡ f
 tree_of_codes f = ap (λ cs. innermost (read_codes [] cs)) (sym (append-nil (codes_of f))) ∙ ap innermost (reads f [] [])
+
+-- the codes of a renamed tree
+module _ (to : List ℕ) where
+  abbrev renamed : List Code → List Code
+  renamed = map (renamed_code to)
+
+  abbrev Renames : Node → Type 0
+  Renames f = renamed (codes_of f) ≡ codes_of (renamed_by to f)
+
+  renamed_two : (op : ℕ → Code) (f g : Node) → ((n : ℕ) → renamed_code to (op n) ≡ op n) → Renames f → Renames g
+      → renamed ((codes_of f ++ codes_of g) ++ op (length (codes_of g)) ∷ [])
+      ≡ (codes_of (renamed_by to f) ++ codes_of (renamed_by to g)) ++ op (length (codes_of (renamed_by to g))) ∷ []
+  renamed_two op f g same p q =
+      let size : length (codes_of g) ≡ length (codes_of (renamed_by to g)) = sym (length-map (codes_of g) (renamed_code to)) ∙ ap length q in
+      map-append (renamed_code to) (codes_of f ++ codes_of g) (op (length (codes_of g)) ∷ [])
+      ∙ ap (λ l. l ++ renamed_code to (op (length (codes_of g))) ∷ []) (map-append (renamed_code to) (codes_of f) (codes_of g) ∙ ap (λ l. l ++ renamed (codes_of g)) p ∙ ap (λ l. codes_of (renamed_by to f) ++ l) q)
+      ∙ ap (λ c. (codes_of (renamed_by to f) ++ codes_of (renamed_by to g)) ++ c ∷ []) (same (length (codes_of g)) ∙ ap op size)
+
+  pub renamed_codes : (f : Node) → Renames f
+  renamed_codes = every_tree Renames (record {
+    zero_leaf = ap renamed codes_Zero ∙ sym codes_Zero ∙ sym (ap codes_of (fold-Zero Node (renamed_step to)));
+    one_leaf = ap renamed codes_One ∙ sym codes_One ∙ sym (ap codes_of (fold-One Node (renamed_step to)));
+    name_leaf = λ i. ap renamed (codes_Name i) ∙ sym (codes_Name (slice_index to i)) ∙ sym (ap codes_of (fold-Name Node (renamed_step to) i));
+    not_of = λ f p.
+        ap renamed (codes_Not f) ∙ map-append (renamed_code to) (codes_of f) (code.Not ∷ []) ∙ ap (λ l. l ++ code.Not ∷ []) p
+        ∙ sym (codes_Not (renamed_by to f)) ∙ sym (ap codes_of (fold-Not Node (renamed_step to) f));
+    xor_of = λ f g p q.
+        ap renamed (codes_Xor f g) ∙ renamed_two code.Xor f g (λ n. refl) p q ∙ sym (codes_Xor (renamed_by to f) (renamed_by to g))
+        ∙ sym (ap codes_of (fold-Xor Node (renamed_step to) f g));
+    and_of = λ f g p q.
+        ap renamed (codes_And f g) ∙ renamed_two code.And f g (λ n. refl) p q ∙ sym (codes_And (renamed_by to f) (renamed_by to g))
+        ∙ sym (ap codes_of (fold-And Node (renamed_step to) f g));
+    or_of = λ f g p q.
+        ap renamed (codes_Or f g) ∙ renamed_two code.Or f g (λ n. refl) p q ∙ sym (codes_Or (renamed_by to f) (renamed_by to g))
+        ∙ sym (ap codes_of (fold-Or Node (renamed_step to) f g));
+  })
+
+  -- the codes of a tree make the renamed one, where they are renamed
+  pub renamed_tree : (cs : List Code) (f : Node) → cs ≡ codes_of (tree_of cs) → tree_of cs ≡ f → tree_of (renamed cs) ≡ renamed_by to f
+  renamed_tree cs f own is =
+      ap (λ l. tree_of (renamed l)) own ∙ ap tree_of (renamed_codes (tree_of cs)) ∙ tree_of_codes (renamed_by to (tree_of cs)) ∙ ap (renamed_by to) is
 
 -- codes that pass the test are equal
 from_same : (c d : Code) → same_code c d ≡ true → c ≡ d

@@ -1,5 +1,5 @@
 -- A tree as a list of codes, one for each node, each after those of its parts.
-use Rattle.std.specs.Prelude.{◌≡◌, ℕ, ◌-◌, ◌==◌, ◌&&◌, nat_lt, Bool, true, false, List, [], ◌∷◌, ◌++◌, length, Result, Ok, Err, IfOk}
+use Rattle.std.specs.Prelude.{◌≡◌, ℕ, ◌-◌, ◌==◌, ◌&&◌, nat_lt, Bool, true, false, List, [], ◌∷◌, ◌++◌, length, slice_index, Result, Ok, Err}
 use Rattle.std.specs.List.{list_all}
 use Rattle.bool_functions.specs.Tree.{value_of}
 use Rattle.bool_functions.specs.declared.codes.Code.{Code}
@@ -131,9 +131,15 @@ AreHalves cs n first second = (f g : Node) → cs ≡ codes_of f ++ codes_of g �
 abbrev pub IsValue : List Bool → List Code → Bool → Type 0
 IsValue bits cs b = (f : Node) → cs ≡ codes_of f → b ≡ value_of bits f
 
--- where the codes are those of a tree, this is the tree, or memory was wanted
-abbrev pub IsTree : {E : Type 0} → List Code → Result Node E → Type 0
-IsTree cs r = (f : Node) → cs ≡ codes_of f → IfOk r (λ g. g ≡ f)
+-- the code with another number for a name, which stands at the number's place in a list
+abbrev pub renamed_code : List ℕ → Code → Code
+renamed_code to code.Zero = code.Zero
+renamed_code to code.One = code.One
+renamed_code to (code.Name i) = code.Name (slice_index to i)
+renamed_code to code.Not = code.Not
+renamed_code to (code.Xor n) = code.Xor n
+renamed_code to (code.And n) = code.And n
+renamed_code to (code.Or n) = code.Or n
 
 abbrev pub room_step : Node-F (ℕ → ℕ) → ℕ → ℕ
 room_step Node-F.Zero n = n - 1

@@ -3,11 +3,11 @@ ghost use Rattle.std.specs.Prelude.{◌≡◌, ◌≤◌, ◌-◌, false, true, 
 ghost use Rattle.std.specs.List.{list_any};
 ghost use Rattle.bool_functions.specs.declared.codes.Code.TheVariants as code;
 ghost use Rattle.bool_functions.specs.Support.{insert_all};
-ghost use Rattle.bool_functions.specs.Code.{code_names, code_of, is_name_code, is_small, same_code, same_codes, AreHalves, IsValue, IsTree, Adds, AddsCode, Closes};
+ghost use Rattle.bool_functions.specs.Code.{code_names, code_of, is_name_code, is_small, same_code, same_codes, AreHalves, IsValue, Adds, AddsCode, Closes};
 
 use crate::ascending::insert;
 use crate::kept_values::bit_at;
-use crate::tree::{Node, Pair, boxed, joined};
+use crate::tree::{Node, Pair};
 use std::alloc::{AllocError, Global};
 
 /// The least number that a code has no room for.
@@ -156,33 +156,6 @@ pub(crate) fn value(codes: &[Code], bits: &[bool]) -> bool
         Code::Or(size) => {
             let (left, right) = halves(before, *size);
             value(left, bits) || value(right, bits)
-        }
-    }
-}
-
-/// The tree that codes stand for.
-pub(crate) fn tree(codes: &[Code], alloc: Global) -> Result<Node, AllocError>
-    ensures { IsTree codes.now result }
-{
-    let Some((last, before)) = codes.split_last() else {
-        return Ok(Node::Zero);
-    };
-    match last {
-        Code::Zero => Ok(Node::Zero),
-        Code::One => Ok(Node::One),
-        Code::Name(i) => Ok(Node::Name(usize::from(*i))),
-        Code::Not => Ok(Node::Not(boxed(alloc, tree(before, alloc))?)),
-        Code::Xor(size) => {
-            let (first, second) = halves(before, *size);
-            joined(alloc, Pair::Xor, tree(first, alloc), tree(second, alloc))
-        }
-        Code::And(size) => {
-            let (first, second) = halves(before, *size);
-            joined(alloc, Pair::And, tree(first, alloc), tree(second, alloc))
-        }
-        Code::Or(size) => {
-            let (first, second) = halves(before, *size);
-            joined(alloc, Pair::Or, tree(first, alloc), tree(second, alloc))
         }
     }
 }

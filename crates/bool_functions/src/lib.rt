@@ -3,6 +3,7 @@
 
 pub mod ascending;
 mod blocks;
+mod code_trees;
 mod codes;
 mod faults;
 mod functions;

@@ -1,14 +1,15 @@
 //! The tree of a long function, held as its codes, of which an operator's stands behind those of its parts.
 ghost use Rattle.std.specs.Prelude.{◌≡◌, ◌≤◌, ◌^◌, ◌↔◌, ℕ, false, true, Some, IsTrue, IfOk, MatchOption, EachIndex, length, slice_get};
-ghost use Rattle.bool_functions.specs.Tree.{value_of, value_by, name_bound, renamed_by, Has};
+ghost use Rattle.bool_functions.specs.Tree.{value_of, value_by, renamed_by, Has};
 ghost use Rattle.bool_functions.specs.Point.{entry_of};
 ghost use Rattle.bool_functions.specs.Support.{support_of};
 ghost use Rattle.bool_functions.specs.Code.{fits};
 
 use crate::blocks::table;
-use crate::codes::{Code, add_codes, has, same, support, tree, value};
+use crate::code_trees::{renamed, tree};
+use crate::codes::{Code, add_codes, has, same, support, value};
 use crate::kept_values::{KeptValues, copied};
-use crate::tree::{Node, renamed};
+use crate::tree::Node;
 use std::alloc::{AllocError, Global};
 use std::marker::Model;
 
@@ -69,11 +70,9 @@ impl Postfix {
 
     /// The tree in which `to[i]` stands for each name `i`.
     pub(crate) fn renamed(&self, alloc: Global, to: &[usize]) -> Result<Node, AllocError>
-        requires { name_bound self.now ≤ length to.now }
         ensures { IfOk result (λ f. f ≡ renamed_by to.now self.now) }
     {
-        let node = self.tree(alloc)?;
-        renamed(&node, alloc, to)
+        renamed(self.spelled.as_slice(), alloc, to)
     }
 
     /// The values at all points over these places.

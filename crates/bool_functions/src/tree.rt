@@ -3,7 +3,7 @@ ghost use Rattle.std.specs.Prelude.{◌≡◌, ◌≤◌, ◌==◌, ℕ, Ok, IsT
 ghost use Rattle.std.specs.List.{list_any};
 ghost use Rattle.bool_functions.specs.Tree.{value_of, name_bound, names_of, renamed_by};
 ghost use Rattle.bool_functions.specs.Code.{room_after};
-ghost use Rattle.bool_functions.specs.Pair.{Joins};
+ghost use Rattle.bool_functions.specs.Pair.{node_of, Joins};
 
 use sqlite_items::Boxed;
 use std::alloc::{AllocError, Global};
@@ -79,18 +79,26 @@ pub(crate) enum Pair {
     Or,
 }
 
+/// An operator over its parts.
+pub(crate) fn over(pair: Pair, left: Boxed<Node>, right: Boxed<Node>) -> Node
+    ensures { result ≡ node_of pair left right }
+{
+    match pair {
+        Pair::Xor => Node::Xor(left, right),
+        Pair::And => Node::And(left, right),
+        Pair::Or => Node::Or(left, right),
+    }
+}
+
 /// A tree in a box, where it was made.
-pub(crate) fn boxed(
-    alloc: Global,
-    made: Result<Node, AllocError>,
-) -> Result<Boxed<Node>, AllocError>
+fn boxed(alloc: Global, made: Result<Node, AllocError>) -> Result<Boxed<Node>, AllocError>
     ensures { IfOk result (λ tree. made ≡ Ok tree) }
 {
     Ok(Boxed::new(alloc, made?)?)
 }
 
 /// An operator over two trees, where both were made.
-pub(crate) fn joined(
+fn joined(
     alloc: Global,
     pair: Pair,
     left: Result<Node, AllocError>,
@@ -100,11 +108,7 @@ pub(crate) fn joined(
 {
     let left = boxed(alloc, left)?;
     let right = boxed(alloc, right)?;
-    Ok(match pair {
-        Pair::Xor => Node::Xor(left, right),
-        Pair::And => Node::And(left, right),
-        Pair::Or => Node::Or(left, right),
-    })
+    Ok(over(pair, left, right))
 }
 
 /// The same tree in boxes of its own.

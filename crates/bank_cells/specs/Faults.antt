@@ -1,8 +1,8 @@
 -- The texts of a cell that name a bus, a bundle or a variable of a bank where it has no bit for them (Liberty Reference Manual,
 -- `function`, `ff_bank` and `related_pin`; which texts these are, and that a text without position can name none, are this
 -- project's rules).
-use Rattle.std.specs.Prelude.{ℕ, Bool, false, true, ◌==◌, List, [], ◌∷◌, ◌++◌, flat_map, codes}
-use Rattle.std.specs.Prelude.{Option, Some, None, is_none, if◌then◌else◌}
+use Rattle.std.specs.Prelude.{ℕ, Bool, false, true, ◌||◌, ◌==◌, List, [], ◌∷◌, ◌++◌, flat_map, codes}
+use Rattle.std.specs.Prelude.{Option, Some, None, is_some, is_none, if◌then◌else◌}
 use Rattle.std.specs.List.{list_any, filter_map}
 use Rattle.liberty_groups.specs.declared.tree.Item.{Item, out-Item}
 use Rattle.liberty_groups.specs.declared.tree.Item.TheOpen.{Item-F}
@@ -14,7 +14,7 @@ use Rattle.bus_texts.specs.declared.vectors.VectorKind.{VectorKind}
 use Rattle.bus_texts.specs.declared.vectors.VectorKind.TheVariants as kinds
 use Rattle.bus_texts.specs.Vectors.{is_called, vector_named}
 use Rattle.bus_texts.specs.Texts.{member_of, text_fails}
-use Rattle.bank_cells.specs.Ranges.{is_reference}
+use Rattle.bank_cells.specs.Ranges.{stem}
 
 -- The texts of a pin, of its `timing` groups and of states that are read over positions.
 abbrev pub pin_texts : List (List ℕ)
@@ -70,12 +70,13 @@ abbrev pub lacks_member : ℕ → Option Vector → Bool
 lacks_member at None = false
 lacks_member at (Some vector) = is_none (member_of vector at None)
 
--- A word of `related_pin`: at a position it is a bus or bundle without a member there, without position it is one of any kind.
-abbrev pub refers_to : List ℕ → Vector → Bool
-refers_to word vector = is_reference word vector.name
+-- A word of `related_pin`: at a position it is a bus or bundle without a member there, without position it is the name of one of
+-- any kind, with a bit in brackets behind it or without one.
+abbrev pub is_reference : List Vector → List ℕ → Bool
+is_reference vectors word = is_some (vector_named vectors word) || is_some (vector_named vectors (stem word))
 
 abbrev pub word_fails : List Vector → Option ℕ → List ℕ → Bool
-word_fails vectors None word = list_any (refers_to word) vectors
+word_fails vectors None word = is_reference vectors word
 word_fails vectors (Some at) word = lacks_member at (pins_named vectors word)
 
 abbrev pub is_space : ℕ → Bool

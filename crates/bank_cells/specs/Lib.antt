@@ -3,3 +3,4 @@ pub mod Members
 pub mod Faults
 pub mod Refusals
 pub mod Expanded
+pub mod Fixed

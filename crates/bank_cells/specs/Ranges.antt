@@ -1,7 +1,7 @@
 -- Bits in brackets behind the name of a bus: one bit, or all from one to another (Liberty Reference Manual, `pin` groups in a
 -- `bus` group; that the two may stand in either order is this project's rule).
-use Rattle.std.specs.Prelude.{ℕ, ◌+◌, ◌-◌, Bool, false, ◌&&◌, ◌||◌, not, ◌==◌, nat_eq}
-use Rattle.std.specs.Prelude.{nat_le, List, length, take, drop, position, slice_index, slice_range}
+use Rattle.std.specs.Prelude.{ℕ, ◌+◌, ◌-◌, Bool, false, ◌&&◌, ◌||◌, ◌==◌, nat_eq}
+use Rattle.std.specs.Prelude.{nat_le, List, [], ◌∷◌, length, take, drop, position, slice_index, slice_range}
 use Rattle.std.specs.Prelude.{Option, Some, None, is_some, option_and_then, if◌then◌else◌}
 use Rattle.std.specs.List.{starts_with}
 use Rattle.bus_texts.specs.Numbers.{digits_number}
@@ -52,8 +52,15 @@ abbrev pub is_number_in : Option (List ℕ) → Bool
 is_number_in None = false
 is_number_in (Some inner) = is_number inner
 
--- A word is this name, with a bit in brackets behind it or without one. The empty text is no name.
-abbrev pub is_reference : List ℕ → List ℕ → Bool
-is_reference word name =
-    not (length name == 0)
-    && (starts_with nat_eq word name && (length word == length name || is_number_in (inside_brackets (drop (length name) word))))
+-- the place of the last bracket that opens in a text, behind as many bytes
+abbrev pub last_opening : ℕ → Option ℕ → List ℕ → Option ℕ
+last_opening at found [] = found
+last_opening at found (b ∷ s) = last_opening (at + 1) (if b == 91 then Some at else found) s
+
+-- A word without the bit in brackets that is written behind it.
+abbrev pub stem_by : List ℕ → Option ℕ → List ℕ
+stem_by word None = word
+stem_by word (Some at) = if is_number_in (inside_brackets (drop at word)) then take at word else word
+
+abbrev pub stem : List ℕ → List ℕ
+stem word = stem_by word (last_opening 0 None word)

@@ -6,7 +6,7 @@ use crate::pins::{add_pins, single_pin};
 use crate::refusal::BankRefusal;
 use crate::refusals::{bank_refusal, has_many, is_pins};
 use crate::states::add_bank;
-use bus_texts::{BusType, Vectors, bank_of, cell_vectors, is_bank, is_called, pin_vectors};
+use bus_texts::{BusTypes, Vectors, bank_of, cell_vectors, is_bank, is_called, pin_vectors};
 use liberty_groups::{Group, Item, copy_bytes, copy_group, copy_item, copy_values};
 use sqlite_items::Items;
 use std::alloc::{AllocError, Global};
@@ -71,7 +71,7 @@ fn add_single(
 fn add_group(
     alloc: Global,
     found: &mut Items<Item>,
-    types: &[BusType],
+    types: &BusTypes,
     vectors: &Vectors,
     group: &Group,
 ) -> Result<(), AllocError>
@@ -91,7 +91,7 @@ fn add_group(
 fn add_item(
     alloc: Global,
     found: &mut Items<Item>,
-    types: &[BusType],
+    types: &BusTypes,
     vectors: &Vectors,
     item: &Item,
 ) -> Result<(), AllocError>
@@ -109,7 +109,7 @@ fn add_item(
 /// What stands in the place of the statements of a cell.
 fn expanded_items(
     alloc: Global,
-    types: &[BusType],
+    types: &BusTypes,
     vectors: &Vectors,
     items: &[Item],
 ) -> Result<Items<Item>, AllocError>
@@ -123,7 +123,7 @@ fn expanded_items(
 }
 
 /// The group of a cell with buses, bundles or banks, expanded.
-fn expanded_cell(alloc: Global, types: &[BusType], cell: &Group) -> Result<Group, AllocError>
+fn expanded_cell(alloc: Global, types: &BusTypes, cell: &Group) -> Result<Group, AllocError>
     ensures { IfOk result (λ group. group ≡ spec.expanded_cell types.now cell.now) }
 {
     let vectors = cell_vectors(alloc, types, cell)?;
@@ -137,7 +137,7 @@ fn expanded_cell(alloc: Global, types: &[BusType], cell: &Group) -> Result<Group
 
 /// The expanded group of a cell.
 #[tactic(auto, unfolding(crate::specs::Expanded::expanded))]
-fn expanded(alloc: Global, types: &[BusType], cell: &Group) -> Result<Group, AllocError>
+fn expanded(alloc: Global, types: &BusTypes, cell: &Group) -> Result<Group, AllocError>
     ensures { IfOk result (λ group. group ≡ spec.expanded types.now cell.now) }
 {
     if has_many(cell) {
@@ -152,7 +152,7 @@ fn expanded(alloc: Global, types: &[BusType], cell: &Group) -> Result<Group, All
 /// bit, and a text that names them is rewritten for the position of each. A group without them stays as it is. The faults are
 /// `Refused` where the group meets a reason of `BankReason`, the first of them at its least offset, and `Memory` only where
 /// memory is wanting.
-pub fn expand(alloc: Global, cell: &Group, types: &[BusType]) -> Result<Group, BankFault>
+pub fn expand(alloc: Global, cell: &Group, types: &BusTypes) -> Result<Group, BankFault>
     ensures { spec.Expands types.now cell.now result }
 {
     if let Some(refusal) = bank_refusal(alloc, types, cell)? {

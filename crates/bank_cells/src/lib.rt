@@ -3,6 +3,7 @@
 
 mod expansion;
 mod faults;
+mod fixed;
 mod members;
 mod pins;
 mod ranges;
@@ -10,6 +11,8 @@ mod refusal;
 mod refusals;
 mod related;
 mod rewritten;
+mod room;
+mod shared;
 mod states;
 mod timings;
 mod widths;

@@ -1,5 +1,5 @@
 //! The pins that a bus or bundle makes, as they stand.
-ghost use Rattle.std.specs.Prelude.{◌≡◌, ◌++◌, IfOk, OnOk, map, filter, flat_map};
+ghost use Rattle.std.specs.Prelude.{◌≡◌, ◌++◌, IfOk, OnOk, map, flat_map};
 ghost use Rattle.std.specs.List.{list_any};
 ghost use Rattle.bank_cells.specs.Members as spec;
 
@@ -43,7 +43,7 @@ fn any_names(member: Member<'_>, arguments: &[Value]) -> bool
 }
 
 /// Whether each member has this statement of its bus or bundle.
-fn is_shared(item: &Item) -> bool
+pub(crate) fn is_shared(item: &Item) -> bool
     ensures { result ≡ spec.is_shared item.now }
 {
     match item {
@@ -68,19 +68,6 @@ fn add_all<'a>(found: &mut Vec<&'a Item>, items: &'a [Item]) -> Result<(), Alloc
 {
     for item in items {
         found.push(item)?;
-    }
-    Ok(())
-}
-
-/// Adds the statements of a bus or bundle that each member has.
-fn add_shared<'a>(found: &mut Vec<&'a Item>, items: &'a [Item]) -> Result<(), AllocError>
-    ensures { OnOk result
-        (map (λ item. item.now) found.new.items ≡ map (λ item. item.now) found.old.items ++ filter spec.is_shared items.now) }
-{
-    for item in items {
-        if is_shared(item) {
-            found.push(item)?;
-        }
     }
     Ok(())
 }
@@ -122,8 +109,8 @@ fn add_own<'a>(
     Ok(())
 }
 
-/// The statements of a member as they stand.
-pub(crate) fn member_items<'a>(
+/// The statements of all inner pins that name a member.
+pub(crate) fn own_items<'a>(
     alloc: Global,
     group: &'a Group,
     member: Member<'_>,
@@ -131,10 +118,9 @@ pub(crate) fn member_items<'a>(
     ensures { IfOk result
         (λ items.
         map (λ item. item.now) items.items
-        ≡ spec.member_items group.now member.entry.vector.now member.entry.at member.entry.name.now) }
+        ≡ flat_map (spec.own_items member.entry.vector.now member.entry.at member.entry.name.now) group.now.items) }
 {
     let mut found = Vec::new(alloc);
-    add_shared(&mut found, group.items.as_slice())?;
     add_own(&mut found, member, group.items.as_slice())?;
     Ok(found)
 }

@@ -1,10 +1,14 @@
 //! The pins of single bits that a cell has when it is expanded.
-ghost use Rattle.std.specs.Prelude.{◌≡◌, ◌++◌, IfOk, OnOk, map, flat_map};
+ghost use Rattle.std.specs.Prelude.{◌≡◌, ◌++◌, IfOk, OnOk, Some, map, flat_map};
+ghost use Rattle.bank_cells.specs.Members.{member_items};
+ghost use Rattle.bank_cells.specs.Fixed.{shown_shared, shared_items};
 ghost use Rattle.bank_cells.specs.Expanded as spec;
 
 use crate::faults::Place;
-use crate::members::{Member, all_items, member_items};
+use crate::members::{Member, all_items, own_items};
 use crate::rewritten::{one_value, pin_text};
+use crate::room::with_room;
+use crate::shared::{Shared, add_shared_at, shared_items};
 use crate::timings::timing_at;
 use bus_texts::{Vector, Vectors, is_called};
 use liberty_groups::{Group, Item, copy_bytes, copy_item, copy_values};
@@ -12,7 +16,7 @@ use sqlite_items::Items;
 use std::alloc::{AllocError, Global};
 
 /// A statement of a pin at a place.
-fn pin_item(alloc: Global, place: Place<'_>, item: &Item) -> Result<Item, AllocError>
+pub(crate) fn pin_item(alloc: Global, place: Place<'_>, item: &Item) -> Result<Item, AllocError>
     ensures { IfOk result (λ made. made ≡ spec.pin_item place.entry.vectors.now place.entry.position item.now) }
 {
     match item {
@@ -24,16 +28,45 @@ fn pin_item(alloc: Global, place: Place<'_>, item: &Item) -> Result<Item, AllocE
     }
 }
 
-/// The statements of a pin at a place.
-fn pin_items(alloc: Global, place: Place<'_>, items: &[&Item]) -> Result<Items<Item>, AllocError>
-    ensures { IfOk result
-        (λ made. made ≡ map (spec.pin_item place.entry.vectors.now place.entry.position) (map (λ item. item.now) items.now)) }
+/// Adds statements of a pin at a place.
+fn add_pin_items(
+    alloc: Global,
+    found: &mut Items<Item>,
+    place: Place<'_>,
+    items: &[&Item],
+) -> Result<(), AllocError>
+    ensures { OnOk result
+        (found.new
+        ≡ found.old ++ map (spec.pin_item place.entry.vectors.now place.entry.position) (map (λ item. item.now) items.now)) }
 {
-    let mut made = Items::new(alloc);
     for item in items {
-        made.push(pin_item(alloc, place, item)?)?;
+        found.push(pin_item(alloc, place, item)?)?;
     }
-    Ok(made)
+    Ok(())
+}
+
+/// The statements of the pin that a bus or bundle makes at a position.
+#[tactic(auto, using(crate::proofs::SharedLemmas::all_of))]
+fn member_pin_items(
+    alloc: Global,
+    vectors: &Vectors,
+    group: &Group,
+    shared: &[Shared<'_>],
+    member: Member<'_>,
+) -> Result<Items<Item>, AllocError>
+    requires { map shown_shared shared.now ≡ shared_items vectors.now group.now.items }
+    ensures { IfOk result
+        (λ items.
+        items
+        ≡ map (spec.pin_item vectors.now (Some member.entry.at))
+        (member_items group.now member.entry.vector.now member.entry.at member.entry.name.now)) }
+{
+    let own = own_items(alloc, group, member)?;
+    let mut items = with_room(alloc, shared.len())?;
+    let position = Some(member.at);
+    add_shared_at(alloc, &mut items, vectors, member.at, shared)?;
+    add_pin_items(alloc, &mut items, Place { vectors, position }, &own)?;
+    Ok(items)
 }
 
 /// The pin that a bus or bundle makes at a position.
@@ -41,18 +74,19 @@ fn member_pin(
     alloc: Global,
     vectors: &Vectors,
     group: &Group,
+    shared: &[Shared<'_>],
     member: Member<'_>,
 ) -> Result<Group, AllocError>
+    requires { map shown_shared shared.now ≡ shared_items vectors.now group.now.items }
     ensures { IfOk result
         (λ pin. pin ≡ spec.member_pin vectors.now group.now member.entry.vector.now member.entry.at member.entry.name.now) }
 {
-    let items = member_items(alloc, group, member)?;
-    let position = Some(member.at);
+    let items = member_pin_items(alloc, vectors, group, shared, member)?;
     let name = copy_bytes(alloc, member.name)?;
     Ok(Group {
         name: copy_bytes(alloc, b"pin")?,
         arguments: one_value(alloc, name, true)?,
-        items: pin_items(alloc, Place { vectors, position }, &items)?,
+        items,
         at: group.at,
     })
 }
@@ -63,14 +97,35 @@ fn add_vector_pins(
     found: &mut Items<Item>,
     vectors: &Vectors,
     group: &Group,
+    shared: &[Shared<'_>],
     vector: &Vector,
 ) -> Result<(), AllocError>
+    requires { map shown_shared shared.now ≡ shared_items vectors.now group.now.items }
     ensures { OnOk result (found.new ≡ found.old ++ spec.vector_pins vectors.now group.now vector.now) }
 {
     for (at, name) in vector.members.as_slice().iter().enumerate() {
         let name = name.as_slice();
-        let pin = member_pin(alloc, vectors, group, Member { vector, at, name })?;
+        let member = Member { vector, at, name };
+        let pin = member_pin(alloc, vectors, group, shared, member)?;
         found.push(Item::Inner(pin))?;
+    }
+    Ok(())
+}
+
+/// Adds the pins that buses or bundles make.
+fn add_all_pins(
+    alloc: Global,
+    found: &mut Items<Item>,
+    vectors: &Vectors,
+    group: &Group,
+    shared: &[Shared<'_>],
+    made: &[Vector],
+) -> Result<(), AllocError>
+    requires { map shown_shared shared.now ≡ shared_items vectors.now group.now.items }
+    ensures { OnOk result (found.new ≡ found.old ++ flat_map (spec.vector_pins vectors.now group.now) made.now) }
+{
+    for vector in made {
+        add_vector_pins(alloc, found, vectors, group, shared, vector)?;
     }
     Ok(())
 }
@@ -85,10 +140,8 @@ pub(crate) fn add_pins(
 ) -> Result<(), AllocError>
     ensures { OnOk result (found.new ≡ found.old ++ flat_map (spec.vector_pins vectors.now group.now) made.now) }
 {
-    for vector in made {
-        add_vector_pins(alloc, found, vectors, group, vector)?;
-    }
-    Ok(())
+    let shared = shared_items(alloc, vectors, group.items.as_slice())?;
+    add_all_pins(alloc, found, vectors, group, &shared, made)
 }
 
 /// A pin of one bit.
@@ -99,12 +152,14 @@ pub(crate) fn single_pin(
 ) -> Result<Group, AllocError>
     ensures { IfOk result (λ pin. pin ≡ spec.single_pin vectors.now group.now) }
 {
-    let items = all_items(alloc, group.items.as_slice())?;
     let position = None;
+    let mut items = with_room(alloc, group.items.len())?;
+    let written = all_items(alloc, group.items.as_slice())?;
+    add_pin_items(alloc, &mut items, Place { vectors, position }, &written)?;
     Ok(Group {
         name: copy_bytes(alloc, group.name.as_slice())?,
         arguments: copy_values(alloc, group.arguments.as_slice())?,
-        items: pin_items(alloc, Place { vectors, position }, &items)?,
+        items,
         at: group.at,
     })
 }

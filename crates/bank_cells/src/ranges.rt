@@ -1,5 +1,5 @@
 //! Bits in brackets behind the name of a bus.
-ghost use Rattle.std.specs.Prelude.{◌≡◌, ◌<◌, length, position, option_map, IfSome};
+ghost use Rattle.std.specs.Prelude.{◌≡◌, ◌<◌, None, length, position, option_map, IfSome};
 ghost use Rattle.bank_cells.specs.Ranges as spec;
 
 use bus_texts::digits_number;
@@ -87,11 +87,26 @@ fn is_bit(text: &[u8]) -> bool
     }
 }
 
-/// Whether a word is this name, with a bit behind it or without one.
-pub(crate) fn is_reference(word: &[u8], name: &[u8]) -> bool
-    ensures { result ≡ spec.is_reference word.now name.now }
+/// Where the last bracket of a text opens.
+fn last_opening(text: &[u8]) -> Option<usize>
+    ensures value { result ≡ spec.last_opening 0 None text.now }
+    ensures within { IfSome result (λ at. at < length text.now) }
 {
-    !name.is_empty()
-        && word.starts_with(name)
-        && (word.len() == name.len() || is_bit(&word[name.len()..]))
+    let mut found = None;
+    for (at, byte) in text.iter().enumerate() {
+        if *byte == b'[' {
+            found = Some(at);
+        }
+    }
+    found
+}
+
+/// A word without the bit that is written behind it.
+pub(crate) fn stem(word: &[u8]) -> &[u8]
+    ensures { result.now ≡ spec.stem word.now }
+{
+    match last_opening(word) {
+        Some(at) if is_bit(&word[at..]) => &word[..at],
+        _ => word,
+    }
 }

@@ -6,7 +6,7 @@ ghost use Rattle.bank_cells.specs.Refusals as spec;
 
 use crate::refusal::{BankReason, BankRefusal};
 use crate::widths::width_faults;
-use bus_texts::{BusType, bank_of, bundle_members, is_bank, is_called, type_of};
+use bus_texts::{BusTypes, bank_of, bundle_members, is_bank, is_called, type_of};
 use liberty_groups::{Group, Item};
 use std::alloc::{AllocError, Global};
 
@@ -41,7 +41,7 @@ pub fn has_many(cell: &Group) -> bool
 }
 
 /// Whether a bus has no type of at most 64 positions.
-fn is_too_wide(types: &[BusType], bus: &Group) -> bool
+fn is_too_wide(types: &BusTypes, bus: &Group) -> bool
     ensures { result ≡ spec.is_too_wide (type_of_bus types.now bus.now) }
 {
     match type_of(types, bus) {
@@ -51,7 +51,7 @@ fn is_too_wide(types: &[BusType], bus: &Group) -> bool
 }
 
 /// Whether a group that makes several pins or states does not say what they are.
-fn lacks_shape(alloc: Global, types: &[BusType], group: &Group) -> Result<bool, AllocError>
+fn lacks_shape(alloc: Global, types: &BusTypes, group: &Group) -> Result<bool, AllocError>
     ensures { IfOk result (λ lacks. lacks ≡ spec.lacks_shape types.now group.now) }
 {
     if is_called(group, b"bus") {
@@ -70,7 +70,7 @@ fn lacks_shape(alloc: Global, types: &[BusType], group: &Group) -> Result<bool, 
 }
 
 /// The offsets of such groups of a cell.
-fn shape_faults(alloc: Global, types: &[BusType], cell: &Group) -> Result<Vec<usize>, AllocError>
+fn shape_faults(alloc: Global, types: &BusTypes, cell: &Group) -> Result<Vec<usize>, AllocError>
     ensures { IfOk result (λ found. found.items ≡ spec.shape_faults types.now cell.now) }
 {
     let mut found = Vec::new(alloc);
@@ -109,7 +109,7 @@ fn least(offsets: &[usize]) -> Option<usize>
 /// The first refusal of a cell with groups that make several pins or states.
 fn first_refusal(
     alloc: Global,
-    types: &[BusType],
+    types: &BusTypes,
     cell: &Group,
 ) -> Result<Option<BankRefusal>, AllocError>
     ensures { IfOk result (λ refusal. refusal ≡ spec.first_refusal types.now cell.now) }
@@ -135,7 +135,7 @@ fn first_refusal(
 #[tactic(auto, unfolding(crate::specs::Refusals::bank_refusal))]
 pub(crate) fn bank_refusal(
     alloc: Global,
-    types: &[BusType],
+    types: &BusTypes,
     cell: &Group,
 ) -> Result<Option<BankRefusal>, AllocError>
     ensures { IfOk result (λ refusal. refusal ≡ spec.bank_refusal types.now cell.now) }

@@ -8,7 +8,7 @@ ghost use Rattle.bank_cells.specs.Faults as spec;
 
 use crate::faults::{Place, add_timing_texts};
 use crate::members::all_items;
-use crate::ranges::is_reference;
+use crate::ranges::stem;
 use bus_texts::{Vector, VectorKind, Vectors, is_called, member_at, vector_named};
 use liberty_groups::{Attribute, Group, Item, simple_attribute};
 use std::alloc::{AllocError, Global};
@@ -51,16 +51,11 @@ pub(crate) fn pins_named<'a>(vectors: &'a Vectors, word: &[u8]) -> Option<&'a Ve
     }
 }
 
-/// Whether a word refers to one of these.
-fn refers_to_any(vectors: &[Vector], word: &[u8]) -> bool
-    ensures { result ≡ list_any (spec.refers_to word.now) vectors.now }
+/// Whether a word is the name of a bus, a bundle or a variable, with a bit behind it or without one.
+fn is_reference(vectors: &Vectors, word: &[u8]) -> bool
+    ensures { result ≡ spec.is_reference vectors.now word.now }
 {
-    for vector in vectors {
-        if is_reference(word, vector.name.as_slice()) {
-            return true;
-        }
-    }
-    false
+    vector_named(vectors, word).is_some() || vector_named(vectors, stem(word)).is_some()
 }
 
 /// Whether a word is the name of a bus or bundle that has no member at a position.
@@ -81,7 +76,7 @@ fn word_fails(place: Place<'_>, word: &[u8]) -> bool
     ensures { result ≡ spec.word_fails place.entry.vectors.now place.entry.position word.now }
 {
     match place.position {
-        None => refers_to_any(place.vectors.as_slice(), word),
+        None => is_reference(place.vectors, word),
         Some(at) => lacks_member(place.vectors, at, word),
     }
 }
@@ -165,6 +160,24 @@ fn add_timing_faults(
     add_last_related(alloc, found, place, &items)
 }
 
+/// Adds the faults of the timing group that a statement of a pin is, if it is one.
+pub(crate) fn add_item_faults(
+    alloc: Global,
+    found: &mut Vec<usize>,
+    place: Place<'_>,
+    item: &Item,
+) -> Result<(), AllocError>
+    ensures { OnOk result
+        (found.new.items ≡ found.old.items ++ spec.timing_faults_in place.entry.vectors.now place.entry.position item.now) }
+{
+    match item {
+        Item::Inner(group) if is_called(group, b"timing") => {
+            add_timing_faults(alloc, found, place, group)
+        }
+        _ => Ok(()),
+    }
+}
+
 /// Adds the faults of all timing groups of a pin.
 pub(crate) fn add_all_timing_faults(
     alloc: Global,
@@ -178,11 +191,7 @@ pub(crate) fn add_all_timing_faults(
         ++ flat_map (spec.timing_faults_in place.entry.vectors.now place.entry.position) (map (λ item. item.now) items.now)) }
 {
     for item in items {
-        if let Item::Inner(group) = item {
-            if is_called(group, b"timing") {
-                add_timing_faults(alloc, found, place, group)?;
-            }
-        }
+        add_item_faults(alloc, found, place, item)?;
     }
     Ok(())
 }

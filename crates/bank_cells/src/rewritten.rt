@@ -5,6 +5,7 @@ ghost use Rattle.bank_cells.specs.Refusals.{state_texts};
 ghost use Rattle.bank_cells.specs.Expanded as spec;
 
 use crate::faults::Place;
+use crate::room::with_room;
 use bus_texts::{is_called, text_for};
 use liberty_groups::{Group, Item, Value, copy_bytes, copy_item, copy_values};
 use sqlite_items::Items;
@@ -18,7 +19,7 @@ pub(crate) fn one_value(
 ) -> Result<Items<Value>, AllocError>
     ensures { IfOk result (λ values. values ≡ spec.one_value bytes quoted) }
 {
-    let mut values = Items::new(alloc);
+    let mut values = with_room(alloc, 1)?;
     values.push(Value { bytes, quoted })?;
     Ok(values)
 }
@@ -164,7 +165,7 @@ pub(crate) fn state_items(
     ensures { IfOk result
         (λ made. made ≡ map (spec.text_at place.entry.vectors.now place.entry.position (state_texts group.now)) group.now.items) }
 {
-    let mut made = Items::new(alloc);
+    let mut made = with_room(alloc, group.items.len())?;
     for item in group.items.as_slice() {
         made.push(state_text(alloc, place, group, item)?)?;
     }

@@ -5,6 +5,7 @@ ghost use Rattle.bank_cells.specs.Expanded as spec;
 
 use crate::faults::Place;
 use crate::rewritten::state_items;
+use crate::room::with_room;
 use bus_texts::{Bank, Vectors, is_called, member_name, positions};
 use liberty_groups::{Group, Item, Value, copy_bytes};
 use sqlite_items::Items;
@@ -34,7 +35,7 @@ fn variable(alloc: Global, name: &[u8], bit: u16) -> Result<Value, AllocError>
 fn variables(alloc: Global, bank: Bank<'_>, bit: u16) -> Result<Items<Value>, AllocError>
     ensures { IfOk result (λ values. values ≡ spec.variables_at (shown_bank bank.entry) bit) }
 {
-    let mut values = Items::new(alloc);
+    let mut values = with_room(alloc, 2)?;
     values.push(variable(alloc, bank.first, bit)?)?;
     values.push(variable(alloc, bank.second, bit)?)?;
     Ok(values)

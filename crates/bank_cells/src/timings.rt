@@ -5,6 +5,7 @@ ghost use Rattle.bank_cells.specs.Expanded as spec;
 use crate::faults::Place;
 use crate::related::{pins_named, related_words};
 use crate::rewritten::{one_value, timing_text};
+use crate::room::with_room;
 use bus_texts::{VectorKind, Vectors, member_at, vector_named};
 use liberty_groups::{
     Attribute, Group, Item, copy_bytes, copy_item, copy_values, simple_attribute,
@@ -140,7 +141,7 @@ fn timing_item(alloc: Global, place: Place<'_>, item: &Item) -> Result<Item, All
 fn timing_items(alloc: Global, place: Place<'_>, items: &[Item]) -> Result<Items<Item>, AllocError>
     ensures { IfOk result (λ made. made ≡ map (spec.timing_item place.entry.vectors.now place.entry.position) items.now) }
 {
-    let mut made = Items::new(alloc);
+    let mut made = with_room(alloc, items.len())?;
     for item in items {
         made.push(timing_item(alloc, place, item)?)?;
     }

@@ -2,14 +2,16 @@
 ghost use Rattle.std.specs.Prelude.{◌≡◌, ◌++◌, IfOk, OnOk, map, flat_map};
 ghost use Rattle.bus_texts.specs.Vectors.{shown_bank, positions as positions_of};
 ghost use Rattle.bank_cells.specs.Faults.{pin_faults, text_faults};
+ghost use Rattle.bank_cells.specs.Fixed.{shown_shared, shared_items};
 ghost use Rattle.bank_cells.specs.Refusals as spec;
 
 use crate::faults::{Place, add_ff_texts, add_latch_texts, add_pin_texts};
-use crate::members::{Member, all_items, member_items};
+use crate::members::{Member, all_items, own_items};
 use crate::refusals::is_pins;
 use crate::related::add_all_timing_faults;
+use crate::shared::{Shared, add_shared_faults, shared_items, with_own};
 use bus_texts::{
-    Bank, BusType, Vector, Vectors, bank_of, cell_vectors, is_bank, is_called, pin_vectors,
+    Bank, BusTypes, Vector, Vectors, bank_of, cell_vectors, is_bank, is_called, pin_vectors,
     positions,
 };
 use liberty_groups::{Group, Item};
@@ -31,21 +33,28 @@ fn add_pin_faults(
 }
 
 /// Adds the faults of a member of a bus or bundle.
+#[tactic(auto, using(crate::proofs::SharedLemmas::all_of))]
 fn add_member_faults(
     alloc: Global,
     found: &mut Vec<usize>,
     vectors: &Vectors,
     group: &Group,
+    shared: &[Shared<'_>],
     member: Member<'_>,
 ) -> Result<(), AllocError>
+    requires { map shown_shared shared.now ≡ shared_items vectors.now group.now.items }
     ensures { OnOk result
         (found.new.items
         ≡ found.old.items
         ++ spec.member_faults vectors.now group.now member.entry.vector.now member.entry.at member.entry.name.now) }
 {
-    let items = member_items(alloc, group, member)?;
     let position = Some(member.at);
-    add_pin_faults(alloc, found, Place { vectors, position }, &items)
+    let place = Place { vectors, position };
+    let own = own_items(alloc, group, member)?;
+    let items = with_own(alloc, shared, &own)?;
+    add_pin_texts(alloc, found, place, &items)?;
+    add_shared_faults(alloc, found, vectors, member.at, shared)?;
+    add_all_timing_faults(alloc, found, place, &own)
 }
 
 /// Adds the faults of all members of a bus or bundle of one name.
@@ -54,13 +63,34 @@ fn add_vector_faults(
     found: &mut Vec<usize>,
     vectors: &Vectors,
     group: &Group,
+    shared: &[Shared<'_>],
     vector: &Vector,
 ) -> Result<(), AllocError>
+    requires { map shown_shared shared.now ≡ shared_items vectors.now group.now.items }
     ensures { OnOk result (found.new.items ≡ found.old.items ++ spec.vector_faults vectors.now group.now vector.now) }
 {
     for (at, name) in vector.members.as_slice().iter().enumerate() {
         let name = name.as_slice();
-        add_member_faults(alloc, found, vectors, group, Member { vector, at, name })?;
+        let member = Member { vector, at, name };
+        add_member_faults(alloc, found, vectors, group, shared, member)?;
+    }
+    Ok(())
+}
+
+/// Adds the faults of the pins that buses or bundles make.
+fn add_all_pins_faults(
+    alloc: Global,
+    found: &mut Vec<usize>,
+    vectors: &Vectors,
+    group: &Group,
+    shared: &[Shared<'_>],
+    made: &[Vector],
+) -> Result<(), AllocError>
+    requires { map shown_shared shared.now ≡ shared_items vectors.now group.now.items }
+    ensures { OnOk result (found.new.items ≡ found.old.items ++ flat_map (spec.vector_faults vectors.now group.now) made.now) }
+{
+    for vector in made {
+        add_vector_faults(alloc, found, vectors, group, shared, vector)?;
     }
     Ok(())
 }
@@ -75,10 +105,8 @@ fn add_pins_faults(
 ) -> Result<(), AllocError>
     ensures { OnOk result (found.new.items ≡ found.old.items ++ flat_map (spec.vector_faults vectors.now group.now) made.now) }
 {
-    for vector in made {
-        add_vector_faults(alloc, found, vectors, group, vector)?;
-    }
-    Ok(())
+    let shared = shared_items(alloc, vectors, group.items.as_slice())?;
+    add_all_pins_faults(alloc, found, vectors, group, &shared, made)
 }
 
 /// Adds the faults of the texts of a state.
@@ -158,7 +186,7 @@ fn add_single_faults(
 fn add_group_faults(
     alloc: Global,
     found: &mut Vec<usize>,
-    types: &[BusType],
+    types: &BusTypes,
     vectors: &Vectors,
     group: &Group,
 ) -> Result<(), AllocError>
@@ -180,7 +208,7 @@ fn add_group_faults(
 /// The faults of all groups of a cell.
 fn all_faults(
     alloc: Global,
-    types: &[BusType],
+    types: &BusTypes,
     vectors: &Vectors,
     items: &[Item],
 ) -> Result<Vec<usize>, AllocError>
@@ -198,7 +226,7 @@ fn all_faults(
 /// Where a cell names a bus, a bundle or a variable of a bank that has no bit there.
 pub(crate) fn width_faults(
     alloc: Global,
-    types: &[BusType],
+    types: &BusTypes,
     cell: &Group,
 ) -> Result<Vec<usize>, AllocError>
     ensures { IfOk result (λ found. found.items ≡ spec.width_faults types.now cell.now) }

@@ -3,3 +3,4 @@ pub mod PartLemmas
 pub mod RewrittenTexts
 pub mod RunningTexts
 pub mod NamedLemmas
+pub mod TypeLemmas

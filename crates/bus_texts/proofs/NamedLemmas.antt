@@ -27,7 +27,7 @@ found_at p xs = find_at p xs ∙ by (nat_lt (position_or_len p xs) (length xs)) 
         get_past xs (position_or_len p xs) past
         ∙ sym (ap (λ within. option_and_then (slice_get xs) (cond within (Some (position_or_len p xs)) None)) e)
 
-same_either_way : (a b : List ℕ) → bytes_eq a b ≡ bytes_eq b a
+pub same_either_way : (a b : List ℕ) → bytes_eq a b ≡ bytes_eq b a
 same_either_way a b = by (bytes_eq a b) (bytes_eq b a) refl refl
   where
     by : (one other : Bool) → bytes_eq a b ≡ one → bytes_eq b a ≡ other → one ≡ other

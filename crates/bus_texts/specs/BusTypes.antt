@@ -1,5 +1,8 @@
 -- The types of buses (Liberty Reference Manual, `type` group, `bit_from` and `bit_to`).
-use Rattle.std.specs.Prelude.{ℕ, ◌+◌, ◌-◌, nat_le, List, [], ◌∷◌, filter, codes, bytes_eq, Option, Some, None, if◌then◌else◌}
+use Rattle.std.specs.Prelude.{◌≡◌, ◌<◌, ℕ, ◌+◌, ◌-◌, nat_le, List, [], ◌∷◌, length, filter, slice_get, codes, bytes_eq, Option, Some, None, IfSome, if◌then◌else◌}
+use Rattle.std.specs.Option.{option_and_then}
+use Rattle.first_names.specs.declared.places.FirstNames.{FirstNames}
+use Rattle.first_names.specs.Places.{place_by}
 use Rattle.liberty_groups.specs.declared.tree.Value.{Value}
 use Rattle.liberty_groups.specs.declared.tree.Group.{Group}
 use Rattle.liberty_groups.specs.Attributes.{Attribute, attribute_of, last_or}
@@ -45,3 +48,9 @@ type_as types (Some attribute) = last_type attribute.text types
 -- The type of a bus, which its `bus_type` names.
 abbrev pub type_of : List BusType → Group → Option BusType
 type_of types bus = type_as types (attribute_of bus (codes "bus_type"))
+
+-- Each name stands for the place of the last of these types that has it.
+pub record FindsLast (last : FirstNames) (types : List BusType) : Type 0 where
+  pub same_length : length last.places ≡ length last.names
+  pub within : (name : List ℕ) → IfSome (place_by last name) (λ place. place < length types)
+  pub last_one : (name : List ℕ) → option_and_then (slice_get types) (place_by last name) ≡ last_type name types

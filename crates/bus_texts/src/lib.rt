@@ -9,7 +9,7 @@ mod parts;
 mod rewriting;
 mod vectors;
 
-pub use bus_types::{BusType, bus_type, type_of};
+pub use bus_types::{BusType, BusTypes, bus_type, type_of};
 pub use laws::{rewritten_symbols, rewritten_tree, running_texts};
 pub use named_vectors::{Vectors, cell_vectors, vector_named};
 pub use numbers::digits_number;

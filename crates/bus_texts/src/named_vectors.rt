@@ -4,7 +4,7 @@ ghost use Rattle.std.specs.Option.{option_copied};
 ghost use Rattle.bus_texts.specs.NamedVectors.{vector_name};
 ghost use Rattle.bus_texts.specs.Vectors as spec;
 
-use crate::bus_types::BusType;
+use crate::bus_types::BusTypes;
 use crate::vectors::{Vector, all_vectors};
 use first_names::{FirstNames, Named, first_names};
 use liberty_groups::Group;
@@ -50,17 +50,10 @@ impl Vectors {
         let names = first_names(alloc, list.as_slice())?;
         Ok(Vectors { list, names })
     }
-
-    /// All of them.
-    pub fn as_slice(&self) -> &[Vector]
-        ensures { result.now ≡ self.now }
-    {
-        self.list.as_slice()
-    }
 }
 
 /// All names of a cell that stand for several bits.
-pub fn cell_vectors(alloc: Global, types: &[BusType], cell: &Group) -> Result<Vectors, AllocError>
+pub fn cell_vectors(alloc: Global, types: &BusTypes, cell: &Group) -> Result<Vectors, AllocError>
     ensures { IfOk result (λ vectors. vectors ≡ spec.cell_vectors types.now cell.now) }
 {
     let list = all_vectors(alloc, types, cell)?;

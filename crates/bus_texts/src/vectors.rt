@@ -4,12 +4,15 @@ ghost use Rattle.std.specs.Option.{option_copied};
 ghost use Rattle.liberty_groups.specs.declared.tree.Item.{out-Item};
 ghost use Rattle.bus_texts.specs.Vectors as spec;
 
-use crate::bus_types::{BusType, type_of};
+use crate::bus_types::{BusType, BusTypes, type_of};
 use crate::numbers::{bits_towards, digits_number};
 use itoa::Buffer;
 use liberty_groups::{Group, Item, Value, copy_bytes};
 use sqlite_items::Items;
 use std::alloc::{AllocError, Global};
+
+/// The most bytes that a bit takes behind the name of its vector: `_` and the digits of a number below 1,000.
+const LONGEST_BIT: usize = 4;
 
 /// What a name of several bits is.
 #[derive(Clone, Copy)]
@@ -58,7 +61,8 @@ pub fn member_name(alloc: Global, name: &[u8], bit: u16) -> Result<Items<u8>, Al
     ensures { IfOk result (λ member. member ≡ spec.member_name name.now bit) }
 {
     let mut buffer = Buffer::new();
-    let mut member = Vec::from_slice(alloc, name)?;
+    let mut member = Vec::with_capacity(alloc, name.len() + LONGEST_BIT)?;
+    member.extend_from_slice(name)?;
     member.extend_from_slice(b"_")?;
     member.extend_from_slice(buffer.format(bit).as_bytes())?;
     Ok(Items::from_vec(member))
@@ -106,7 +110,7 @@ fn bits_in(alloc: Global, bus_type: Option<&BusType>) -> Result<Items<u16>, Allo
 fn add_buses(
     alloc: Global,
     found: &mut Items<Vector>,
-    types: &[BusType],
+    types: &BusTypes,
     bus: &Group,
 ) -> Result<(), AllocError>
     ensures { OnOk result (found.new ≡ found.old ++ spec.buses_in types.now bus.now) }
@@ -227,7 +231,7 @@ fn add_bundles_of(
 fn add_pin_vectors(
     alloc: Global,
     found: &mut Items<Vector>,
-    types: &[BusType],
+    types: &BusTypes,
     group: &Group,
 ) -> Result<(), AllocError>
     ensures { OnOk result (found.new ≡ found.old ++ spec.pin_vectors types.now group.now) }
@@ -244,7 +248,7 @@ fn add_pin_vectors(
 /// The buses or bundles that a group makes.
 pub fn pin_vectors(
     alloc: Global,
-    types: &[BusType],
+    types: &BusTypes,
     group: &Group,
 ) -> Result<Items<Vector>, AllocError>
     ensures { IfOk result (λ vectors. vectors ≡ spec.pin_vectors types.now group.now) }
@@ -310,7 +314,7 @@ fn add_variables_in(
 fn add_all_pin_vectors(
     alloc: Global,
     found: &mut Items<Vector>,
-    types: &[BusType],
+    types: &BusTypes,
     cell: &Group,
 ) -> Result<(), AllocError>
     ensures { OnOk result (found.new ≡ found.old ++ spec.all_pin_vectors types.now cell.now) }
@@ -342,7 +346,7 @@ fn add_all_variables(
 /// All names of a cell that stand for several bits, in order.
 pub(crate) fn all_vectors(
     alloc: Global,
-    types: &[BusType],
+    types: &BusTypes,
     cell: &Group,
 ) -> Result<Items<Vector>, AllocError>
     ensures { IfOk result (λ vectors. vectors ≡ spec.cell_vectors types.now cell.now) }

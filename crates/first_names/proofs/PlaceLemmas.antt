@@ -1,16 +1,16 @@
 -- Things whose names are added to a list one after another.
 use Rattle.std.proofs.Common.{◌≡◌, ◌<◌, ℕ, zero, suc, ◌+◌, Bool, true, false, cond, if◌then◌else◌, List, [], ◌∷◌, ◌++◌, take, get_or, length, position, Option, Some, None, refl, sym, ap, subst, ◌∙◌, arith, length-append}
-use Rattle.std.specs.Prelude.{slice_get}
+use Rattle.std.specs.Prelude.{slice_get, slice_set, Result, Ok, Err, OnOk}
 use Rattle.std.specs.List.{position_from}
 use Rattle.std.specs.Option.{option_and_then}
 use Rattle.std.specs.Str.{bytes_eq}
-use Rattle.std.proofs.lemmas.List.{take_more, length-take-le}
+use Rattle.std.proofs.lemmas.List.{take_more, length-take-le, length-set}
 use Rattle.std.proofs.lemmas.List.Quantifiers.{position-Some}
 use Rattle.std.proofs.lemmas.Iterator.Adapters.{position_from-zero}
 use Rattle.std.proofs.lemmas.Slice.Eq.{bytes_eq-Decides}
 use Rattle.bool_functions.specs.NameList.{number_of, Adds}
 use Rattle.first_names.specs.declared.places.FirstNames.{FirstNames}
-use Rattle.first_names.specs.Places.{place_by, places_with, AddsPlace, FindsFirst}
+use Rattle.first_names.specs.Places.{place_by, places_with, AddsPlace, SetsPlace, FindsFirst}
 
 -- the first answer, and else the number of the last element where it passes
 abbrev or_last : Option ℕ → Bool → ℕ → Option ℕ
@@ -112,3 +112,79 @@ first_more name_of old new xs i x h e f a =
           ∙ sym (position_last (λ u. bytes_eq name (name_of u)) (take i xs) x)
           ∙ sym (ap (position (λ u. bytes_eq name (name_of u))) longer);
     }
+
+-- another number at a place of a list
+get_set_same : (xs : List ℕ) (k x : ℕ) → k < length xs → slice_get (slice_set xs k x) k ≡ Some x
+get_set_same [] k x h = absurd (omega (arith, h))
+get_set_same (y ∷ xs) zero x h = refl
+get_set_same (y ∷ xs) (suc k) x h = get_set_same xs k x (omega (arith, h))
+
+get_set_other : (xs : List ℕ) (k j x : ℕ) → (j ≡ k → ⊥) → slice_get (slice_set xs k x) j ≡ slice_get xs j
+get_set_other [] k j x n = refl
+get_set_other (y ∷ xs) zero zero x n = absurd (n refl)
+get_set_other (y ∷ xs) zero (suc j) x n = refl
+get_set_other (y ∷ xs) (suc k) zero x n = refl
+get_set_other (y ∷ xs) (suc k) (suc j) x n = get_set_other xs k j x (λ e. n (ap suc e))
+
+pub number_within : (names : List (List ℕ)) (name : List ℕ) (k : ℕ) → number_of names name ≡ Some k → k < length names
+number_within names name k e = (position-Some (bytes_eq name) names k [] e).0
+
+-- two names have two numbers
+one_number : (names : List (List ℕ)) (name other : List ℕ) (k j : ℕ) → number_of names name ≡ Some k → number_of names other ≡ Some j
+    → bytes_eq other name ≡ false → j ≡ k → ⊥
+one_number names name other k j e f unlike same =
+    let one : name ≡ get_or names k [] = (bytes_eq-Decides name (get_or names k [])).0 (position-Some (bytes_eq name) names k [] e).1 in
+    let two : other ≡ get_or names j [] = (bytes_eq-Decides other (get_or names j [])).0 (position-Some (bytes_eq other) names j [] f).1 in
+    let equal : other ≡ name = two ∙ ap (λ n. get_or names n []) same ∙ sym one in
+    let wrong : false ≡ true = sym unlike ∙ (bytes_eq-Decides other name).1 equal in
+    absurd cc
+
+set_at : (names : List (List ℕ)) (places name other : List ℕ) (k place : ℕ) → length places ≡ length names → number_of names name ≡ Some k
+    → option_and_then (slice_get (slice_set places k place)) (number_of names other)
+    ≡ (if bytes_eq other name then Some place else option_and_then (slice_get places) (number_of names other))
+set_at names places name other k place same e = by (bytes_eq other name) refl
+  where
+    unlike : (o : Option ℕ) → number_of names other ≡ o → bytes_eq other name ≡ false
+        → option_and_then (slice_get (slice_set places k place)) o ≡ option_and_then (slice_get places) o
+    unlike None f b = refl
+    unlike (Some j) f b = get_set_other places k j place (one_number names name other k j e f b)
+
+    by : (b : Bool) → bytes_eq other name ≡ b
+        → option_and_then (slice_get (slice_set places k place)) (number_of names other)
+        ≡ (if b then Some place else option_and_then (slice_get places) (number_of names other))
+    by true b =
+        let equal : other ≡ name = (bytes_eq-Decides other name).0 b in
+        ap (option_and_then (slice_get (slice_set places k place))) (ap (number_of names) equal ∙ e)
+        ∙ get_set_same places k place (subst (λ n. k < n) (sym same) (number_within names name k e))
+    by false b = unlike (number_of names other) refl b
+
+-- a name that has a number stands for another place
+pub set_old : (old new : FirstNames) (name : List ℕ) (place k : ℕ) → length old.places ≡ length old.names → number_of old.names name ≡ Some k
+    → new.names ≡ old.names → new.places ≡ slice_set old.places k place → SetsPlace old name place new
+set_old old new name place k same e n p =
+    record {
+      same_length = ap length p ∙ length-set old.places k place ∙ same ∙ sym (ap length n);
+      stands = λ other. rw (n, p) (set_at old.names old.places name other k place same e);
+    }
+
+-- and a name that has none stands for one
+pub set_new : (old new : FirstNames) (name : List ℕ) (place : ℕ) → length old.places ≡ length old.names → number_of old.names name ≡ None
+    → new.names ≡ old.names ++ name ∷ [] → new.places ≡ old.places ++ place ∷ [] → SetsPlace old name place new
+set_new old new name place same e n p =
+    record {
+      same_length = ap length p ∙ length-append old.places (place ∷ []) ∙ ap (λ k. k + 1) same ∙ sym (length-append old.names (name ∷ [])) ∙ sym (ap length n);
+      stands = λ other. rw (n, p) (added_new old.names old.places name other place same ∙ last other (bytes_eq other name) refl);
+    }
+  where
+    kept : (o : Option ℕ) → or_last o false place ≡ o
+    kept None = refl
+    kept (Some k) = refl
+
+    last : (other : List ℕ) (b : Bool) → bytes_eq other name ≡ b → or_last (place_by old other) b place ≡ (if b then Some place else place_by old other)
+    last other true b = ap (λ o. or_last (option_and_then (slice_get old.places) o) true place) (ap (number_of old.names) ((bytes_eq-Decides other name).0 b) ∙ e)
+    last other false b = kept (place_by old other)
+
+-- what two facts of a call that went well come to
+pub where_both : {X E A B C : Type 0} (result : Result X E) → (A → B → C) → OnOk result A → OnOk result B → OnOk result C
+where_both (Ok x) f a b = f a b
+where_both (Err e) f a b = tt

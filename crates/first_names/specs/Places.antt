@@ -1,5 +1,5 @@
 -- Things that are found by their names.
-use Rattle.std.specs.Prelude.{◌≡◌, ℕ, List, [], ◌∷◌, ◌++◌, length, slice_get, Option, Some, None}
+use Rattle.std.specs.Prelude.{◌≡◌, ℕ, List, [], ◌∷◌, ◌++◌, length, slice_get, Option, Some, None, if◌then◌else◌}
 use Rattle.std.specs.List.{position}
 use Rattle.std.specs.Option.{option_and_then}
 use Rattle.std.specs.Str.{bytes_eq}
@@ -20,6 +20,11 @@ pub record AddsPlace (old : FirstNames) (name : List ℕ) (place : ℕ) (new : F
   pub found : Option ℕ
   pub names : Adds old.names name found new.names
   pub places : new.places ≡ places_with found old.places place
+
+-- a name stands for a place from now on, and every other name for what it stood for
+pub record SetsPlace (old : FirstNames) (name : List ℕ) (place : ℕ) (new : FirstNames) : Type 0 where
+  pub same_length : length new.places ≡ length new.names
+  pub stands : (other : List ℕ) → place_by new other ≡ (if bytes_eq other name then Some place else place_by old other)
 
 -- each name stands for the place of the first of these things that has it
 pub record FindsFirst {X : Type 0} (name_of : X → List ℕ) (found : FirstNames) (things : List X) : Type 0 where

@@ -1,6 +1,7 @@
 //! The places of things by their names.
-ghost use Rattle.std.specs.Prelude.{◌≡◌, IfOk, OnOk};
-ghost use Rattle.first_names.specs.Places.{place_by, AddsPlace, FindsFirst};
+ghost use Rattle.std.specs.Prelude.{◌≡◌, ◌∷◌, [], ◌++◌, None, length, IfOk, OnOk, OnErr};
+ghost use Rattle.bool_functions.specs.NameList.{number_of};
+ghost use Rattle.first_names.specs.Places.{place_by, AddsPlace, SetsPlace, FindsFirst};
 
 use bool_functions::Names;
 use sqlite_items::Items;
@@ -17,7 +18,8 @@ pub trait Named {
         ensures { result.now ≡ name_of self.now };
 }
 
-/// Different names, and for each the place of the first thing that has it.
+/// Different names, and for each the place of the thing that counts of those that have it: the first (`add`) or the last
+/// (`set`).
 #[derive(Drop)]
 pub struct FirstNames {
     pub names: Names,
@@ -25,7 +27,18 @@ pub struct FirstNames {
 }
 
 impl FirstNames {
-    /// The place of the first thing of a name, in the time of one look-up.
+    /// No names.
+    pub fn new(alloc: Global) -> FirstNames
+        ensures names { result.names ≡ [] }
+        ensures places { result.places ≡ [] }
+    {
+        FirstNames {
+            names: Names::new(alloc),
+            places: Items::new(alloc),
+        }
+    }
+
+    /// The place that stands for a name, in the time of one look-up.
     pub fn place(&self, name: &[u8]) -> Option<usize>
         ensures { result ≡ place_by self.now name.now }
     {
@@ -44,16 +57,45 @@ impl FirstNames {
             None => Ok(()),
         }
     }
+
+    /// Lets a name stand for this place from now on. `AllocError` comes only where memory is wanting, and then all is as before.
+    pub fn set(&mut self, name: &[u8], place: usize) -> Result<(), AllocError>
+        requires { length self.old.places ≡ length self.old.names }
+        ensures set { OnOk result (SetsPlace self.old name.now place self.new) }
+        ensures err { OnErr result (self.new ≡ self.old) }
+    {
+        match self.names.number(name) {
+            Some(number) => {
+                self.places.set(number, place);
+                Ok(())
+            }
+            None => self.append(name, place),
+        }
+    }
+
+    /// Adds a new name that stands for this place.
+    fn append(&mut self, name: &[u8], place: usize) -> Result<(), AllocError>
+        requires { number_of self.old.names name.now ≡ None }
+        ensures names { OnOk result (self.new.names ≡ self.old.names ++ name.now ∷ []) }
+        ensures places { OnOk result (self.new.places ≡ self.old.places ++ place ∷ []) }
+        ensures err { OnErr result (self.new ≡ self.old) }
+    {
+        self.places.push(place)?;
+        match self.names.add(name) {
+            Ok(_) => Ok(()),
+            Err(wanting) => {
+                self.places.pop();
+                Err(wanting)
+            }
+        }
+    }
 }
 
 /// The names of these things. `AllocError` comes only where memory is wanting.
 pub fn first_names<T: Named>(alloc: Global, things: &[T]) -> Result<FirstNames, AllocError>
     ensures { IfOk result (λ found. FindsFirst T.name_of found things.now) }
 {
-    let mut found = FirstNames {
-        names: Names::new(alloc),
-        places: Items::new(alloc),
-    };
+    let mut found = FirstNames::new(alloc);
     for (place, thing) in things.iter().enumerate() {
         found.add(thing.name(), place)?;
     }

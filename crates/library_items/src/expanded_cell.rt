@@ -45,7 +45,7 @@ fn read_bits(alloc: Global, progress: &Progress, group: &Group) -> Result<Driven
     ensures refused { IfErr result (Tells (next_refusal progress.now group.now)) }
 {
     let number = progress.next_number();
-    match expand(alloc, group, progress.types.as_slice()) {
+    match expand(alloc, group, &progress.types) {
         Ok(single) => read_driven(alloc, &single, number, progress.unit, &progress.names),
         Err(fault) => Err(cell_fault(fault)),
     }

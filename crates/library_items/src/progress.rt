@@ -4,10 +4,9 @@ ghost use Rattle.cell_cursor.specs.declared.item.LibraryItem.TheVariants as item
 ghost use Rattle.library_items.specs.Progress.{unit_of, no_progress, next_number, names_with, after_cell, after_item};
 
 use bool_functions::Names;
-use bus_texts::{BusType, bus_type};
+use bus_texts::{BusTypes, bus_type};
 use liberty_groups::Group;
 use liberty_text::Unit;
-use sqlite_items::Items;
 use std::alloc::{AllocError, Global};
 use text_io::Stop;
 
@@ -17,7 +16,7 @@ pub struct Progress {
     /// The library's unit of time, where it is a known one.
     pub unit: Option<Unit>,
     /// The types of buses so far, in order. Of several of one name the last counts.
-    pub types: Items<BusType>,
+    pub types: BusTypes,
     /// The names of the cells so far, each once.
     pub names: Names,
     /// The names of the entities so far, in lower case, each once.
@@ -52,7 +51,7 @@ impl Progress {
     {
         Progress {
             unit: Some(Unit::Ns1),
-            types: Items::new(alloc),
+            types: BusTypes::new(alloc),
             names: Names::new(alloc),
             entities: Names::new(alloc),
             accepted: 0,
@@ -73,7 +72,7 @@ impl Progress {
         ensures { OnOk result (self.new ≡ after_item self.old (item.BusType group.now)) }
     {
         if let Some(kind) = bus_type(alloc, group)? {
-            self.types.push(kind)?;
+            self.types.add(kind)?;
         }
         Ok(())
     }

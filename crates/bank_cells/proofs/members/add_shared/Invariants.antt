@@ -1,9 +1,0 @@
-use Rattle.std.proofs.Common.{◌≡◌, drop, ◌++◌, map}
-use Rattle.std.specs.Prelude.{filter}
-use Rattle.bank_cells.specs.Members.{is_shared}
-use Rattle.bank_cells.proofs.members.add_shared.Given as goal
-
-abbrev pub invariant-loop-item : goal.invariant-loop-item
-invariant-loop-item l =
-    map (λ item. item.now) l.found.items ++ filter is_shared (drop l.item-index l.items)
-    ≡ map (λ item. item.now) l.initial.found.items ++ filter is_shared l.items

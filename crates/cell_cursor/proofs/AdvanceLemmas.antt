@@ -46,7 +46,7 @@ fault_goes (fault.Library l) e = absurd cc
 fault_goes fault.Failed e = refl
 fault_goes fault.Memory e = refl
 
-pub advance_fails : (o n : CellCursor) (s t : DeskState) (xs : List ℕ) (f : CursorFault) → Takes s t xs → n.limit ≡ o.limit → n.waiting.items ≡ [] → length xs ≤ 4096 →
+pub advance_fails : (o n : CellCursor) (s t : DeskState) (xs : List ℕ) (f : CursorFault) → Takes s t xs → n.limit ≡ o.limit → n.waiting.items ≡ [] → length xs ≤ 16384 →
     o.part.before + (length o.part.bytes + length o.piece) + length xs ≤ o.limit + 1 → Advances (Err f) o n s t
 advance_fails o n s t xs f h limit_is none few most = record {
   taken = xs;
@@ -61,7 +61,7 @@ advance_fails o n s t xs f h limit_is none few most = record {
   ended = tt;
 }
 
-pub advance_failed : (r : Result (Unit {0}) CursorFault) (f : CursorFault) (o n : CellCursor) (s t : DeskState) (xs : List ℕ) → r ≡ Err f → Takes s t xs → n.limit ≡ o.limit → n.waiting.items ≡ [] → length xs ≤ 4096 →
+pub advance_failed : (r : Result (Unit {0}) CursorFault) (f : CursorFault) (o n : CellCursor) (s t : DeskState) (xs : List ℕ) → r ≡ Err f → Takes s t xs → n.limit ≡ o.limit → n.waiting.items ≡ [] → length xs ≤ 16384 →
     o.part.before + (length o.part.bytes + length o.piece) + length xs ≤ o.limit + 1 → Advances r o n s t
 advance_failed r f o n s t xs e h limit_is none few most = subst (λ (v : Result (Unit {0}) CursorFault). Advances v o n s t) (sym e) (advance_fails o n s t xs f h limit_is none few most)
 
@@ -89,14 +89,14 @@ advance_reads o m n s t xs scans limit_is none h limit_on going no_item part_is 
       (let there = goes_read m n bytes xs items none part_is place_is piece_is (scans bytes items g) in
       let k = taken_within n (bytes ++ xs) items n.limit there.keeps n.within in
       stands_going n (bytes ++ xs) items going no_item there (omega (arith, k)));
-  given = λ bytes items g. given_of_going o bytes xs items (subst (λ (b : List ℕ). length b ≤ 4096) piece_is n.at_once) g;
+  given = λ bytes items g. given_of_going o bytes xs items (subst (λ (b : List ℕ). length b ≤ 16384) piece_is n.at_once) g;
   ended = never_ended n.answer (ap is_ended going);
 }
 
-none_few : (xs : List ℕ) → xs ≡ [] → length xs ≤ 4096
+none_few : (xs : List ℕ) → xs ≡ [] → length xs ≤ 16384
 none_few xs e = let k = ap length e in omega (arith, k)
 
-one_few : (xs : List ℕ) (y : ℕ) → xs ≡ y ∷ [] → length xs ≤ 4096
+one_few : (xs : List ℕ) (y : ℕ) → xs ≡ y ∷ [] → length xs ≤ 16384
 one_few xs y e = let k = ap length e in omega (arith, k)
 
 -- the library ended

@@ -20,7 +20,7 @@ use Rattle.cell_cursor.specs.Given.{up_to_last_cell, closed_items, IsFrontOf, mo
 use Rattle.cell_cursor.specs.Items.{rest_inside, library_end, rest_at, items_in, items_outcome, items_of_bytes}
 use Rattle.cell_cursor.specs.Leads.{LeadTo, is_start}
 use Rattle.cell_cursor.specs.Progress.{scanned_by}
-use Rattle.cell_cursor.specs.Scanned.{AreScanned, NoneEnds}
+use Rattle.cell_cursor.specs.Scanned.{AreScanned, NoneOuter}
 use Rattle.cell_cursor.specs.Stands.{Keeps, Goes, MayTake, GoesBy}
 use Rattle.cell_cursor.proofs.Depths.{lexeme_kinds_behind}
 use Rattle.cell_cursor.proofs.EndsLemmas.{part_items}
@@ -111,8 +111,8 @@ goes_open c bytes items k scanned none seen = record {
       (front_same (take (scanned_by c) bytes) items (ap closed_items (keeps_front c bytes items k) ∙ part_closed k.before c.part.bytes c.part.tokens c.part.mode c.place items (leads_here k.before c.part.bytes c.place items k.leads) scanned none));
 }
 
--- as far as no token has ended since
-seen_within : (o : CellCursor) (count : ℕ) (bytes : List ℕ) (items : List LibraryItem) → NoneEnds o.part.bytes o.part.tokens o.piece count → Goes o bytes items → HasSeen (scanned_by o + count) bytes items
+-- as far as no outer brace has ended since
+seen_within : (o : CellCursor) (count : ℕ) (bytes : List ℕ) (items : List LibraryItem) → NoneOuter o.place o.part.bytes o.piece count → Goes o bytes items → HasSeen (scanned_by o + count) bytes items
 seen_within o count bytes items none g e less = by_test (nat_lt e (scanned_by o + 1)) refl
   where
     behind : (j : ℕ) → e ≡ scanned_by o + j → j < count → IsFrontOf (closed_items (take e bytes)) items
@@ -126,7 +126,7 @@ seen_within o count bytes items none g e less = by_test (nat_lt e (scanned_by o 
         ∙ take-append-add front o.piece j
         ∙ append_assoc k.before o.part.bytes (take j o.piece) in
         let there = none j within in
-        front_same (take e bytes) items (ap closed_items same ∙ part_closed k.before (o.part.bytes ++ take j o.piece) o.part.tokens there.0 o.place items (k.leads (take j o.piece)) there.1 g.inner)
+        front_same (take e bytes) items (ap closed_items same ∙ part_closed k.before (o.part.bytes ++ take j o.piece) there.0 there.1 o.place items (k.leads (take j o.piece)) there.2 there.3)
 
     by_test : (b : Bool) → nat_lt e (scanned_by o + 1) ≡ b → IsFrontOf (closed_items (take e bytes)) items
     by_test true t = g.seen e (grind (arith, nat_tests, t))
@@ -136,7 +136,7 @@ seen_within o count bytes items none g e less = by_test (nat_lt e (scanned_by o 
 
 -- more bytes are scanned
 pub goes_run : (o n : CellCursor) (may : Bool) (count : ℕ) (bytes : List ℕ) (items : List LibraryItem) → n.place ≡ o.place → n.part.before ≡ o.part.before → n.part.bytes ≡ o.part.bytes ++ take count o.piece →
-    n.piece ≡ drop count o.piece → count ≤ length o.piece → AreScanned n.part.bytes n.part.tokens n.part.mode → NoneEnds o.part.bytes o.part.tokens o.piece count →
+    n.piece ≡ drop count o.piece → count ≤ length o.piece → AreScanned n.part.bytes n.part.tokens n.part.mode → (has_outer o.place (kinds_of o.part.tokens) ≡ false → NoneOuter o.place o.part.bytes o.piece count) →
     (has_outer o.place (kinds_of o.part.tokens) ≡ false → ShowsOuter may o.place (kinds_of n.part.tokens)) → Goes o bytes items → GoesBy may n bytes items
 goes_run o n may count bytes items place_is before_is bytes_are piece_is within scanned none outer g = by_answer may (subst (λ (p : Place). ShowsOuter may p (kinds_of n.part.tokens)) (sym place_is) (outer g.inner))
   where
@@ -160,7 +160,7 @@ goes_run o n may count bytes items place_is before_is bytes_are piece_is within 
     so_many = let size = ap length bytes_are in omega (arith, before_is, size, length-append o.part.bytes (take count o.piece), length-take-le count o.piece within)
 
     seen : HasSeen (scanned_by n) bytes items
-    seen = subst (λ (k : ℕ). HasSeen k bytes items) (sym so_many) (seen_within o count bytes items none g)
+    seen = subst (λ (k : ℕ). HasSeen k bytes items) (sym so_many) (seen_within o count bytes items (none g.inner) g)
 
     by_answer : (a : Bool) → ShowsOuter a n.place (kinds_of n.part.tokens) → GoesBy a n bytes items
     by_answer false inner = goes_open n bytes items keeps scanned inner seen
@@ -169,20 +169,20 @@ goes_run o n may count bytes items place_is before_is bytes_are piece_is within 
 -- as found by the code, which has a second name for what was not scanned
 
 goes_seen : (o n : CellCursor) (may : Bool) (count : ℕ) (unread : List ℕ) → unread ≡ o.piece → n.place ≡ o.place → n.part.before ≡ o.part.before → n.part.bytes ≡ o.part.bytes ++ take count unread →
-    n.piece ≡ drop count o.piece → count ≤ length unread → AreScanned n.part.bytes n.part.tokens n.part.mode → NoneEnds o.part.bytes o.part.tokens unread count →
+    n.piece ≡ drop count o.piece → count ≤ length unread → AreScanned n.part.bytes n.part.tokens n.part.mode → (has_outer o.place (kinds_of o.part.tokens) ≡ false → NoneOuter o.place o.part.bytes unread count) →
     (has_outer o.place (kinds_of o.part.tokens) ≡ false → ShowsOuter may o.place (kinds_of n.part.tokens)) → (bytes : List ℕ) (items : List LibraryItem) → Goes o bytes items → GoesBy may n bytes items
 goes_seen o n may count unread same place_is before_is bytes_are piece_is within scanned none outer bytes items g =
     goes_run o n may count bytes items place_is before_is (bytes_are ∙ ap (λ (s : List ℕ). o.part.bytes ++ take count s) same) piece_is (subst (λ (s : List ℕ). count ≤ length s) same within) scanned
-    (subst (λ (s : List ℕ). NoneEnds o.part.bytes o.part.tokens s count) same none) outer g
+    (subst (λ (s : List ℕ). has_outer o.place (kinds_of o.part.tokens) ≡ false → NoneOuter o.place o.part.bytes s count) same none) outer g
 
 pub goes_further : (o n : CellCursor) (may : Bool) (count : ℕ) (unread : List ℕ) → may ≡ false → unread ≡ o.piece → n.place ≡ o.place → n.part.before ≡ o.part.before → n.part.bytes ≡ o.part.bytes ++ take count unread →
-    n.piece ≡ drop count o.piece → count ≤ length unread → AreScanned n.part.bytes n.part.tokens n.part.mode → NoneEnds o.part.bytes o.part.tokens unread count →
+    n.piece ≡ drop count o.piece → count ≤ length unread → AreScanned n.part.bytes n.part.tokens n.part.mode → (has_outer o.place (kinds_of o.part.tokens) ≡ false → NoneOuter o.place o.part.bytes unread count) →
     (has_outer o.place (kinds_of o.part.tokens) ≡ false → ShowsOuter may o.place (kinds_of n.part.tokens)) → (bytes : List ℕ) (items : List LibraryItem) → Goes o bytes items → Goes n bytes items
 goes_further o n may count unread e same place_is before_is bytes_are piece_is within scanned none outer bytes items g =
     subst (λ (x : Bool). GoesBy x n bytes items) e (goes_seen o n may count unread same place_is before_is bytes_are piece_is within scanned none outer bytes items g)
 
 pub goes_so_far : (o n : CellCursor) (may : Bool) (count : ℕ) (unread : List ℕ) → may ≡ true → unread ≡ o.piece → n.place ≡ o.place → n.part.before ≡ o.part.before → n.part.bytes ≡ o.part.bytes ++ take count unread →
-    n.piece ≡ drop count o.piece → count ≤ length unread → AreScanned n.part.bytes n.part.tokens n.part.mode → NoneEnds o.part.bytes o.part.tokens unread count →
+    n.piece ≡ drop count o.piece → count ≤ length unread → AreScanned n.part.bytes n.part.tokens n.part.mode → (has_outer o.place (kinds_of o.part.tokens) ≡ false → NoneOuter o.place o.part.bytes unread count) →
     (has_outer o.place (kinds_of o.part.tokens) ≡ false → ShowsOuter may o.place (kinds_of n.part.tokens)) → (bytes : List ℕ) (items : List LibraryItem) → Goes o bytes items → MayTake n bytes items
 goes_so_far o n may count unread e same place_is before_is bytes_are piece_is within scanned none outer bytes items g =
     subst (λ (x : Bool). GoesBy x n bytes items) e (goes_seen o n may count unread same place_is before_is bytes_are piece_is within scanned none outer bytes items g)

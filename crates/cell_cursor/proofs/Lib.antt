@@ -21,5 +21,6 @@ pub mod SeekingLemmas
 pub mod Shift
 pub mod StandsLemmas
 pub mod StatementSteps
+pub mod Stretches
 pub mod TakingLemmas
 pub mod Walks

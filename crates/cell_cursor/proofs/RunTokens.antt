@@ -1,5 +1,5 @@
 -- The tokens that some bytes give, of which there are at most two, and the braces among them.
-use Rattle.std.proofs.Common.{◌≡◌, ℕ, suc, ◌+◌, ◌-◌, ◌<◌, ◌≤◌, ◌==◌, ◌&&◌, ◌||◌, not, Bool, true, false, List, [], ◌∷◌, ◌++◌, take, length, Option, Some, None, cond, ◌⊎◌, inl, inr, refl, sym, ap, subst, ◌∙◌, arith, length-append}
+use Rattle.std.proofs.Common.{◌≡◌, ℕ, suc, ◌+◌, ◌-◌, ◌<◌, ◌≤◌, ◌==◌, ◌&&◌, ◌||◌, not, Bool, true, false, List, [], ◌∷◌, ◌++◌, take, length, Option, Some, None, cond, ◌⊎◌, inl, inr, refl, sym, ap, subst, ◌∙◌, arith}
 use Rattle.std.proofs.lemmas.List.{append_assoc, append-nil, length-take-le, take-take}
 use Rattle.liberty_text.specs.declared.token.TokenKind.{TokenKind}
 use Rattle.liberty_text.specs.declared.token.TokenKind.TheVariants.{Word, Text}
@@ -205,16 +205,3 @@ outer_some here ts ts' new d d' k kind may e f few g same h asked none =
 
 pub outer_none : (here : Place) (ts ts' new : List Token) → ts' ≡ ts ++ new → None ≡ last_kind new → AreFew new → has_outer here (kinds_of ts) ≡ false → has_outer here (kinds_of ts') ≡ false
 outer_none here ts ts' new e f few none = more_outer here ts ts' new None false e f few refl none
-
--- a token ended, so there was a byte
-pub few_more : (mode : Mode) (at : ℕ) (bytes bytes' run : List ℕ) (d d' : ℕ) (k : TokenKind) → bytes' ≡ bytes ++ run → Some k ≡ last_kind (tokens_ended mode at run) →
-    d' ≡ depth_behind d k → d ≤ length bytes → d' ≤ length bytes'
-few_more mode at bytes bytes' [] d d' k e some f h = absurd cc
-few_more mode at bytes bytes' (b ∷ run) d d' k e some f h =
-    let size = ap length e in
-    omega (arith, size, length-append bytes (b ∷ run), f, depth_more d k, h)
-
-pub few_still : (bytes bytes' run : List ℕ) (d : ℕ) → bytes' ≡ bytes ++ run → d ≤ length bytes → d ≤ length bytes'
-few_still bytes bytes' run d e h =
-    let size = ap length e in
-    omega (arith, size, length-append bytes run, h)

@@ -1,5 +1,5 @@
 -- Bytes that are scanned one after another.
-use Rattle.std.proofs.Common.{◌≡◌, ℕ, ◌+◌, ◌<◌, false, List, [], ◌++◌, take, length, refl, sym, ap, subst, ◌∙◌}
+use Rattle.std.proofs.Common.{◌≡◌, ℕ, ◌+◌, false, List, [], ◌++◌, take, length, refl, sym, ap, subst, ◌∙◌}
 use Rattle.std.proofs.lemmas.List.{append-nil, append_assoc, length-append}
 use Rattle.liberty_text.specs.declared.token.Token.{Token}
 use Rattle.liberty_text.specs.declared.token.Stop.{Stop}
@@ -11,7 +11,8 @@ use Rattle.liberty_text.proofs.Runs.{run_on, after_both}
 use Rattle.liberty_text.proofs.Sound.{reads}
 use Rattle.liberty_groups.specs.Lexeme.{LieInside}
 use Rattle.liberty_groups.proofs.Lexemes.{inside_reads, inside_front}
-use Rattle.cell_cursor.specs.Scanned.{AreScanned, NoneEnds}
+use Rattle.cell_cursor.specs.declared.part.Place.{Place}
+use Rattle.cell_cursor.specs.Scanned.{AreScanned, NoneOuter, NoneOuterEnds}
 
 -- some more bytes
 pub more_scanned : (bytes : List ℕ) (tokens : List Token) (mode : Mode) (run : List ℕ) → AreScanned bytes tokens mode →
@@ -33,13 +34,14 @@ run_scanned bytes bytes' tokens tokens' mode mode' run h e f g =
     (subst (λ (ts : List Token). AreScanned (bytes ++ run) ts mode') (sym f)
     (subst (λ (m : Mode). AreScanned (bytes ++ run) (tokens ++ tokens_ended mode (length bytes) run) m) (sym g) (more_scanned bytes tokens mode run h)))
 
--- with the first bytes no token ends
-pub none_ends : (bytes more : List ℕ) (tokens : List Token) (mode : Mode) (count : ℕ) → AreScanned bytes tokens mode →
-    ((n : ℕ) → n < count → tokens_ended mode (length bytes) (take n more) ≡ []) → NoneEnds bytes tokens more count
-none_ends bytes more tokens mode count h none n less = (
+-- with the first bytes no outer brace ends
+pub none_outer_ends : (here : Place) (bytes more : List ℕ) (tokens : List Token) (mode : Mode) (count : ℕ) → AreScanned bytes tokens mode →
+    NoneOuterEnds here tokens mode (length bytes) more count → NoneOuter here bytes more count
+none_outer_ends here bytes more tokens mode count h none n less = (
+  tokens ++ tokens_ended mode (length bytes) (take n more),
   mode_behind mode (length bytes) (take n more),
-  subst (λ (ts : List Token). AreScanned (bytes ++ take n more) ts (mode_behind mode (length bytes) (take n more)))
-      (ap (λ (l : List Token). tokens ++ l) (none n less) ∙ append-nil tokens) (more_scanned bytes tokens mode (take n more) h),
+  more_scanned bytes tokens mode (take n more) h,
+  none n less,
 )
 
 -- the tokens of all bytes are those that have ended, and what is open at the end

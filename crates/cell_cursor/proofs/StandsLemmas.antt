@@ -180,7 +180,7 @@ going_size o bytes items g =
     omega (arith, k, g.size, length-append g.before (o.part.bytes ++ o.piece), length-append o.part.bytes o.piece)
 
 -- what was given, and a little that was taken since
-given_by_now : (o : CellCursor) (bytes xs : List ℕ) (items : List LibraryItem) → Keeps o bytes items → HasSeen (scanned_by o) bytes items → length xs ≤ 4096 → HasGiven (bytes ++ xs) items
+given_by_now : (o : CellCursor) (bytes xs : List ℕ) (items : List LibraryItem) → Keeps o bytes items → HasSeen (scanned_by o) bytes items → length xs ≤ 16384 → HasGiven (bytes ++ xs) items
 given_by_now o bytes xs items k h most =
     let size = going_size o bytes items k in
     let l : scanned_by o ≤ length bytes + 1 = omega (arith, size) in
@@ -190,7 +190,7 @@ given_by_now o bytes xs items k h most =
 seen_before : (n : ℕ) (bytes : List ℕ) (items : List LibraryItem) → HasSeen (n + 1) bytes items → HasSeen n bytes items
 seen_before n bytes items h e less = h e (omega (arith, less))
 
-pub given_of_going : (o : CellCursor) (bytes xs : List ℕ) (items : List LibraryItem) → length xs ≤ 4096 → Goes o bytes items → HasGiven (bytes ++ xs) items
+pub given_of_going : (o : CellCursor) (bytes xs : List ℕ) (items : List LibraryItem) → length xs ≤ 16384 → Goes o bytes items → HasGiven (bytes ++ xs) items
 given_of_going o bytes xs items most g = given_by_now o bytes xs items g.keeps (seen_before (scanned_by o) bytes items g.seen) most
 
 given_still : (o : CellCursor) (bytes : List ℕ) (items : List LibraryItem) → Keeps o bytes items → HasSeen (scanned_by o) bytes items → HasGiven bytes items

@@ -4,7 +4,7 @@ use Rattle.cell_cursor.specs.declared.piece.Piece.TheInside.{Inside}
 
 -- the most bytes that are read at once
 abbrev pub most_at_once : ℕ
-most_at_once = 4096
+most_at_once = 16384
 
 -- the bytes of a piece that are not taken out yet
 abbrev pub unread : Inside → List ℕ

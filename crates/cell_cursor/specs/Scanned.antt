@@ -8,6 +8,9 @@ use Rattle.liberty_text.specs.declared.token.Stop.TheVariants.{End, BadByte, Ope
 use Rattle.liberty_text.specs.declared.scanner.Mode.{Mode}
 use Rattle.liberty_text.specs.declared.scanner.Mode.TheVariants.{Between}
 use Rattle.liberty_text.specs.Scanner.{run, after_tokens}
+use Rattle.liberty_text.specs.Runs.{tokens_ended}
+use Rattle.cell_cursor.specs.declared.part.Place.{Place}
+use Rattle.cell_cursor.specs.Braces.{has_outer, kinds_of}
 
 -- Part of a library: how many bytes stand before it, its bytes, the tokens that have ended in it, what stands open behind
 -- them, and how many of its braces are open.
@@ -23,9 +26,13 @@ pub record Scanned : Type 0 where
 abbrev pub AreScanned : List ℕ → List Token → Mode → Type 0
 AreScanned bytes tokens mode = (more : List ℕ) → run (Between false) 0 (bytes ++ more) ≡ after_tokens tokens (run mode (length bytes) more)
 
--- With fewer than so many of the bytes that follow these no token ends.
-abbrev pub NoneEnds : List ℕ → List Token → List ℕ → ℕ → Type 0
-NoneEnds bytes tokens more count = (n : ℕ) → n < count → (mode : Mode) × AreScanned (bytes ++ take n more) tokens mode
+-- With fewer than so many of the bytes that follow these no outer brace ends.
+abbrev pub NoneOuter : Place → List ℕ → List ℕ → ℕ → Type 0
+NoneOuter here bytes more count = (n : ℕ) → n < count → (tokens : List Token) × (mode : Mode) × AreScanned (bytes ++ take n more) tokens mode × (has_outer here (kinds_of tokens) ≡ false)
+
+-- The same of the tokens that have ended before them, where this much stands open behind those.
+abbrev pub NoneOuterEnds : Place → List Token → Mode → ℕ → List ℕ → ℕ → Type 0
+NoneOuterEnds here tokens mode at more count = (n : ℕ) → n < count → has_outer here (kinds_of (tokens ++ tokens_ended mode at (take n more))) ≡ false
 
 -- a stop in bytes that so many others stand before
 abbrev pub stop_behind : ℕ → Stop → Stop

@@ -39,6 +39,6 @@ pub struct CellCursor {
     /// What is answered where no item waits.
     pub(crate) answer: Option<Answer>,
     ghost fits: { limit < 2 ^ 64 },
-    ghost at_once: { length piece ≤ 4096 },
+    ghost at_once: { length piece ≤ 16384 },
     ghost within: { part.before + (length part.bytes + length piece) ≤ limit },
 }

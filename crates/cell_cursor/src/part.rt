@@ -4,8 +4,8 @@ ghost use Rattle.std.specs.Prelude.{◌≡◌, ℕ, true, false, ◌<◌, ◌≤
 ghost use Rattle.liberty_text.specs.declared.scanner.Mode.TheVariants.{Between};
 ghost use Rattle.liberty_groups.specs.Lexeme.{LieInside};
 ghost use Rattle.liberty_text.specs.Runs.{mode_behind, tokens_ended};
-ghost use Rattle.cell_cursor.specs.Braces.{depth_behind, is_outer, has_outer, ShowsOuter, kinds_of};
-ghost use Rattle.cell_cursor.specs.Scanned.{AreScanned, NoneEnds, ends_by, last_kind};
+ghost use Rattle.cell_cursor.specs.Braces.{depth_behind, depth_after, is_outer, has_outer, ShowsOuter, kinds_of};
+ghost use Rattle.cell_cursor.specs.Scanned.{AreScanned, NoneOuter, NoneOuterEnds, ends_by, last_kind};
 
 use crate::watch::{Sight, Watch};
 use liberty_groups::Standing;
@@ -24,7 +24,7 @@ pub(crate) enum Place {
     Behind,
 }
 
-/// How many bytes were scanned at once, up to one with which a token ended.
+/// How many bytes were scanned at once, up to one with which a token ended behind which no group of the part is open, or all.
 #[derive(Clone, Copy)]
 pub(crate) struct Run {
     pub(crate) count: usize,
@@ -119,8 +119,8 @@ impl Part {
         self.scanner.tokens()
     }
 
-    /// Scans the next bytes, up to the first one with which a token ends, and that one too. A group of the library does not end
-    /// where no statement may have ended. Without memory the part is lost.
+    /// Scans the next bytes, up to the first one with which a token ends that is outside all groups of the part, and that one
+    /// too. A group of the library does not end where no statement may have ended. Without memory the part is lost.
     pub(crate) fn scan(
         &mut self,
         alloc: Global,
@@ -135,27 +135,21 @@ impl Part {
         ensures lost { OnErr result (self.new.bytes ≡ []) }
         ensures mode { IfOk result (λ run. run.may_end ≡ true → self.new.mode ≡ Between false) }
         ensures scanned { AreScanned self.new.bytes self.new.tokens self.new.mode }
-        ensures none_before { IfOk result (λ run. NoneEnds self.old.bytes self.old.tokens bytes.now run.count) }
+        ensures none_before { IfOk result (λ run. has_outer place (kinds_of self.old.tokens) ≡ false → NoneOuter place self.old.bytes bytes.now run.count) }
         ensures outer { IfOk result (λ run. has_outer place (kinds_of self.old.tokens) ≡ false → ShowsOuter run.may_end place (kinds_of self.new.tokens)) }
     {
         let ended = self.scanner.tokens().len();
-        match scan_run(&mut self.bytes, &mut self.scanner, bytes) {
-            Ok((count, Some(kind))) => {
-                self.depth = depth_behind(self.depth, kind);
-                let may_end = may_end(place, kind, self.depth);
+        match scan_run(&mut self.bytes, &mut self.scanner, place, self.depth, bytes) {
+            Ok(stretch) => {
+                self.depth = stretch.depth;
                 let tokens = self.scanner.tokens().get(ended..).unwrap_or(&[]);
                 let sight = self.watch.see(&self.bytes, tokens);
                 Ok(Run {
-                    count,
-                    may_end,
+                    count: stretch.count,
+                    may_end: stretch.may_end,
                     sight,
                 })
             }
-            Ok((count, None)) => Ok(Run {
-                count,
-                may_end: false,
-                sight: Sight::Nothing,
-            }),
             Err(fault) => {
                 self.bytes.clear();
                 self.scanner = Scanner::new(alloc);
@@ -223,29 +217,109 @@ fn may_end(place: Place, kind: TokenKind, depth: usize) -> bool
     }
 }
 
+/// Some bytes that were scanned: how many they are, how many groups of the part are open behind them, and whether a statement
+/// may have ended with the last of them.
+#[derive(Clone, Copy)]
+struct Stretch {
+    count: usize,
+    depth: usize,
+    may_end: bool,
+}
+
 /// Scans more bytes, up to the first one with which a token ends, and that one too. How many they are, and the kind of the
 /// token that ended last, if one did.
-fn scan_run(
-    bytes: &mut Vec<u8>,
+fn scan_token(
     scanner: &mut Scanner,
+    at: usize,
     more: &[u8],
 ) -> Result<(usize, Option<TokenKind>), AllocError>
-    requires { length bytes.old.items + length more.now < 2 ^ 64 }
+    requires { at + length more.now < 2 ^ 64 }
     ensures count { IfOk result (λ run. run.0 ≤ length more.now) }
     ensures some { IfOk result (λ run. 0 < length more.now → 0 < run.0) }
-    ensures bytes { IfOk result (λ run. bytes.new.items ≡ bytes.old.items ++ take run.0 more.now) }
-    ensures tokens { IfOk result (λ run. scanner.new.tokens.items ≡ scanner.old.tokens.items ++ tokens_ended scanner.old.mode (length bytes.old.items) (take run.0 more.now)) }
-    ensures mode { IfOk result (λ run. scanner.new.mode ≡ mode_behind scanner.old.mode (length bytes.old.items) (take run.0 more.now)) }
-    ensures none_before { IfOk result (λ run. (n : ℕ) → n < run.0 → tokens_ended scanner.old.mode (length bytes.old.items) (take n more.now) ≡ []) }
-    ensures kind { IfOk result (λ run. run.1 ≡ last_kind (tokens_ended scanner.old.mode (length bytes.old.items) (take run.0 more.now))) }
+    ensures tokens { IfOk result (λ run. scanner.new.tokens.items ≡ scanner.old.tokens.items ++ tokens_ended scanner.old.mode at (take run.0 more.now)) }
+    ensures mode { IfOk result (λ run. scanner.new.mode ≡ mode_behind scanner.old.mode at (take run.0 more.now)) }
+    ensures none_before { IfOk result (λ run. (n : ℕ) → n < run.0 → tokens_ended scanner.old.mode at (take n more.now) ≡ []) }
+    ensures kind { IfOk result (λ run. run.1 ≡ last_kind (tokens_ended scanner.old.mode at (take run.0 more.now))) }
 {
     let ended = scanner.tokens().len();
-    let count = scanner.step_on(bytes.len(), more)?;
-    bytes.extend_from_slice(&more[..count])?;
+    let count = scanner.step_on(at, more)?;
     let kind = match &scanner.tokens()[ended..] {
         [last] => Some(last.token().kind),
         [_, last] => Some(last.token().kind),
         _ => None,
     };
     Ok((count, kind))
+}
+
+/// Scans more bytes, up to the first one with which a token ends behind which no group of the part is open, and that one too.
+fn scan_tokens(
+    scanner: &mut Scanner,
+    place: Place,
+    depth: usize,
+    at: usize,
+    more: &[u8],
+) -> Result<Stretch, AllocError>
+    requires fits { at + length more.now < 2 ^ 64 }
+    requires few { depth ≤ at }
+    requires counted { depth ≡ depth_after 0 (kinds_of scanner.old.tokens.items) }
+    ensures count { IfOk result (λ run. run.count ≤ length more.now) }
+    ensures some { IfOk result (λ run. 0 < length more.now → 0 < run.count) }
+    ensures tokens { IfOk result (λ run. scanner.new.tokens.items ≡ scanner.old.tokens.items ++ tokens_ended scanner.old.mode at (take run.count more.now)) }
+    ensures mode { IfOk result (λ run. scanner.new.mode ≡ mode_behind scanner.old.mode at (take run.count more.now)) }
+    ensures few { IfOk result (λ run. run.depth ≤ at + run.count) }
+    ensures counted { IfOk result (λ run. run.depth ≡ depth_after 0 (kinds_of scanner.new.tokens.items)) }
+    ensures closes { IfOk result (λ run. run.may_end ≡ true → scanner.new.mode ≡ Between false) }
+    ensures none_before { IfOk result (λ run. has_outer place (kinds_of scanner.old.tokens.items) ≡ false → NoneOuterEnds place scanner.old.tokens.items scanner.old.mode at more.now run.count) }
+    ensures outer { IfOk result (λ run. has_outer place (kinds_of scanner.old.tokens.items) ≡ false → ShowsOuter run.may_end place (kinds_of scanner.new.tokens.items)) }
+{
+    let mut open = depth;
+    let mut count = 0;
+    while count < more.len() {
+        let (_, left) = more.split_at(count);
+        let (taken, kind) = scan_token(scanner, at + count, left)?;
+        count += taken;
+        if let Some(kind) = kind {
+            open = depth_behind(open, kind);
+            let may_end = may_end(place, kind, open);
+            if may_end || open == 0 {
+                return Ok(Stretch {
+                    count,
+                    depth: open,
+                    may_end,
+                });
+            }
+        }
+    }
+    Ok(Stretch {
+        count,
+        depth: open,
+        may_end: false,
+    })
+}
+
+/// Scans more bytes as `scan_tokens` does, behind these bytes, and adds them.
+fn scan_run(
+    bytes: &mut Vec<u8>,
+    scanner: &mut Scanner,
+    place: Place,
+    depth: usize,
+    more: &[u8],
+) -> Result<Stretch, AllocError>
+    requires fits { length bytes.old.items + length more.now < 2 ^ 64 }
+    requires few { depth ≤ length bytes.old.items }
+    requires counted { depth ≡ depth_after 0 (kinds_of scanner.old.tokens.items) }
+    ensures count { IfOk result (λ run. run.count ≤ length more.now) }
+    ensures some { IfOk result (λ run. 0 < length more.now → 0 < run.count) }
+    ensures bytes { IfOk result (λ run. bytes.new.items ≡ bytes.old.items ++ take run.count more.now) }
+    ensures tokens { IfOk result (λ run. scanner.new.tokens.items ≡ scanner.old.tokens.items ++ tokens_ended scanner.old.mode (length bytes.old.items) (take run.count more.now)) }
+    ensures mode { IfOk result (λ run. scanner.new.mode ≡ mode_behind scanner.old.mode (length bytes.old.items) (take run.count more.now)) }
+    ensures few { IfOk result (λ run. run.depth ≤ length bytes.old.items + run.count) }
+    ensures counted { IfOk result (λ run. run.depth ≡ depth_after 0 (kinds_of scanner.new.tokens.items)) }
+    ensures closes { IfOk result (λ run. run.may_end ≡ true → scanner.new.mode ≡ Between false) }
+    ensures none_before { IfOk result (λ run. has_outer place (kinds_of scanner.old.tokens.items) ≡ false → NoneOuterEnds place scanner.old.tokens.items scanner.old.mode (length bytes.old.items) more.now run.count) }
+    ensures outer { IfOk result (λ run. has_outer place (kinds_of scanner.old.tokens.items) ≡ false → ShowsOuter run.may_end place (kinds_of scanner.new.tokens.items)) }
+{
+    let run = scan_tokens(scanner, place, depth, bytes.len(), more)?;
+    bytes.extend_from_slice(&more[..run.count])?;
+    Ok(run)
 }

@@ -10,7 +10,7 @@ use std::marker::Model;
 use text_io::{Desk, Failed, InSlot};
 
 /// The most bytes that are read at once.
-const MOST_AT_ONCE: usize = 4096;
+const MOST_AT_ONCE: usize = 16384;
 
 /// The bytes of a read that are not taken out yet.
 #[derive(Drop)]
@@ -64,7 +64,7 @@ impl Piece {
     pub(crate) fn read<D: Desk>(&mut self, desk: &mut D, most: usize) -> Result<usize, Failed>
         requires { IsTrue (is_bound (D.state desk.old) (Input Library)) }
         ensures most { length self.new ≤ most }
-        ensures at_once { length self.new ≤ 4096 }
+        ensures at_once { length self.new ≤ 16384 }
         ensures takes { Takes (D.state desk.old) (D.state desk.new) self.new }
         ensures count { IfOk result (λ count. count ≡ length self.new) }
         ensures end { IfOk result (λ count. count ≡ 0 → 0 < most → IfSome ((D.state desk.old).left Library) (λ left. left ≡ [])) }

@@ -148,7 +148,7 @@ impl CellCursor {
 
     /// The next item of the library in the slot `Library`, or how it ends.
     ///
-    /// It reads at most 4,096 bytes at once, and at most the limit and one byte in all. It does not read far ahead: when it answers
+    /// It reads at most 16,384 bytes at once, and at most the limit and one byte in all. It does not read far ahead: when it answers
     /// a cell, the bytes that were read end at most 65,536 bytes behind the closing brace of the cell. After any call, also one that
     /// ends with a fault, each cell was given whose closing brace has 65,536 bytes or more behind it among the bytes that were read.
     ///

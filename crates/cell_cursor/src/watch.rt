@@ -32,20 +32,21 @@ impl Watch {
     /// Sees tokens of these bytes that have ended. A misfit is told once.
     pub(crate) fn see(&mut self, bytes: &[u8], tokens: &[Kept]) -> Sight {
         let mut sight = Sight::Nothing;
+        let mut standing = self.standing;
         for kept in tokens {
-            let Some(here) = self.standing else {
-                return sight;
+            let Some(here) = standing else {
+                break;
             };
             let token = kept.token();
             let is_library = here == Standing::Start && is_library(bytes, token);
-            self.standing = next_standing(here, token, is_library);
-            if self.standing.is_none() {
-                return Sight::Misfit;
-            }
-            if is_behind_statement(here) && self.standing == Some(Standing::AfterName(0)) {
+            standing = next_standing(here, token, is_library);
+            if standing.is_none() {
+                sight = Sight::Misfit;
+            } else if is_behind_statement(here) && standing == Some(Standing::AfterName(0)) {
                 sight = Sight::Name;
             }
         }
+        self.standing = standing;
         sight
     }
 }

@@ -16,7 +16,7 @@ pub fn copy_bytes(alloc: Global, bytes: &[u8]) -> Result<Items<u8>, AllocError>
 pub fn copy_values(alloc: Global, values: &[Value]) -> Result<Items<Value>, AllocError>
     ensures { IfOk result (λ copy. copy ≡ values.now) }
 {
-    let mut copy = Items::new(alloc);
+    let mut copy = Items::from_vec(Vec::with_capacity(alloc, values.len())?);
     for value in values {
         let bytes = copy_bytes(alloc, value.bytes.as_slice())?;
         let quoted = value.quoted;
@@ -54,7 +54,7 @@ pub fn copy_item(alloc: Global, item: &Item) -> Result<Item, AllocError>
 pub fn copy_items(alloc: Global, items: &[Item]) -> Result<Items<Item>, AllocError>
     ensures { IfOk result (λ copy. copy ≡ items.now) }
 {
-    let mut copy = Items::new(alloc);
+    let mut copy = Items::from_vec(Vec::with_capacity(alloc, items.len())?);
     for item in items {
         copy.push(copy_item(alloc, item)?)?;
     }

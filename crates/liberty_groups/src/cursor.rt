@@ -4,7 +4,8 @@ ghost use Rattle.std.specs.Prelude.{◌≡◌, ◌<◌, ◌+◌, ◌^◌, length
 ghost use Rattle.liberty_groups.specs.Lexeme.{lexemes_of, lexemes_behind, LieInside, next_token, next_bytes, rest};
 ghost use Rattle.liberty_groups.specs.Answer.{is_last};
 
-use liberty_text::{Kept, Token};
+use crate::reader::is_argument;
+use liberty_text::{Kept, Token, TokenKind};
 use std::marker::Model;
 
 /// The tokens of a text, or of a part of it, that are not read yet. It shows them with the offsets of
@@ -72,6 +73,16 @@ impl<'a> Cursor<'a> {
         ensures { result ≡ length self.now }
     {
         self.left.len()
+    }
+
+    /// How many values stand among the arguments from here on.
+    pub(crate) fn values_ahead(&self) -> usize {
+        self.left
+            .iter()
+            .map(|kept| kept.token().kind)
+            .take_while(|kind| is_argument(*kind))
+            .filter(|kind| *kind != TokenKind::Comma)
+            .count()
     }
 
     /// The next token, which stays.

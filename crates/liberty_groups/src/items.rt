@@ -11,7 +11,22 @@ use crate::fault::{Expected, Refusal, Stop};
 use crate::reader::{Mark, Place, Start};
 use crate::tree::{Group, Item, Value};
 use sqlite_items::Items;
-use std::alloc::Global;
+use std::alloc::{AllocError, Global};
+
+/// A list of at most so many statements is moved to exactly the room that it needs, since the first growth was one of four places.
+const FEW: usize = 2;
+
+/// The same statements, few of them in no more room than they need. An `Err` comes only where memory is wanting.
+fn fitted(alloc: Global, items: Items<Item>) -> Result<Items<Item>, AllocError>
+    ensures { IfOk result (λ same. same ≡ items) }
+{
+    if items.is_empty() || items.len() > FEW {
+        return Ok(items);
+    }
+    let mut same = Items::from_vec(Vec::with_capacity(alloc, items.len())?);
+    same.append(items)?;
+    Ok(same)
+}
 
 impl Cursor<'_> {
     /// The bytes and the offset of the next token, which is taken.
@@ -102,7 +117,7 @@ impl Cursor<'_> {
     {
         let items = self.some_statements(alloc, levels)?;
         self.expect(Mark::End, Expected::Statement)?;
-        Ok(items)
+        Ok(fitted(alloc, items)?)
     }
 
     /// The statements from here on.

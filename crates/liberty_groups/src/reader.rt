@@ -213,7 +213,9 @@ impl Cursor<'_> {
     pub fn arguments(&mut self, alloc: Global) -> Result<Items<Value>, Stop>
         ensures { Reads (read spec.arguments self.old) result self.new }
     {
-        let found = self.parts(alloc, Place::Arguments, Items::new(alloc))?;
+        // exactly the room that they need: the first growth of a list would be one of four places
+        let room = Items::from_vec(Vec::with_capacity(alloc, self.values_ahead())?);
+        let found = self.parts(alloc, Place::Arguments, room)?;
         self.expect(Mark::Close, Expected::Argument)?;
         Ok(found)
     }

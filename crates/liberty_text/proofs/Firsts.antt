@@ -1,5 +1,5 @@
 -- The first byte that passes a test, and the bytes before it.
-use Rattle.std.proofs.Common.{◌≡◌, ℕ, zero, suc, ◌<◌, Bool, true, false, not, ◌||◌, ◌&&◌, ◌==◌, List, [], ◌∷◌, length, Option, Some, None, refl, sym, ap, ◌∙◌, arith}
+use Rattle.std.proofs.Common.{◌≡◌, ℕ, zero, suc, ◌+◌, ◌<◌, Bool, true, false, not, ◌||◌, ◌&&◌, ◌==◌, cond, List, [], ◌∷◌, ◌++◌, length, Option, Some, None, refl, sym, ap, ◌∙◌, arith}
 use Rattle.std.specs.List.{list_all}
 use Rattle.memchr.specs.Find.{Nowhere, Passes, IsFirstByte, is_byte2}
 use Rattle.liberty_text.specs.Idle.{front_run, is_plain_in_text, stands_for_itself}
@@ -74,3 +74,23 @@ plain_none bytes (Some n) h e = absurd cc
 pub plain_some : (bytes : List ℕ) (r : Option ℕ) (k : ℕ) → IsFirstByte (is_byte2 10 92) bytes r → r ≡ Some k → false ≡ list_all stands_for_itself bytes
 plain_some bytes None k h e = absurd cc
 plain_some bytes (Some n) k h e = sym (one_of (is_byte2 10 92) stands_for_itself (λ b. refl) bytes n h.0.high h.1)
+
+-- a run over bytes and others behind them
+
+pub run_stops : (test : ℕ → Bool) (near far : List ℕ) → front_run test near < length near → front_run test near ≡ front_run test (near ++ far)
+run_stops test [] far less = absurd (omega (arith, less))
+run_stops test (b ∷ near) far less = by_test (test b) (run_stops test near far) less
+  where
+    by_test : (x : Bool) → (front_run test near < length near → front_run test near ≡ front_run test (near ++ far)) → cond x (1 + front_run test near) 0 < length (b ∷ near) →
+        cond x (1 + front_run test near) 0 ≡ cond x (1 + front_run test (near ++ far)) 0
+    by_test true rest l = ap (λ (n : ℕ). 1 + n) (rest (omega (arith, l)))
+    by_test false rest l = refl
+
+pub run_goes_on : (test : ℕ → Bool) (near far : List ℕ) → ¬ (front_run test near < length near) → front_run test near + front_run test far ≡ front_run test (near ++ far)
+run_goes_on test [] far h = omega arith
+run_goes_on test (b ∷ near) far h = by_test (test b) (run_goes_on test near far) h
+  where
+    by_test : (x : Bool) → (¬ (front_run test near < length near) → front_run test near + front_run test far ≡ front_run test (near ++ far)) → ¬ (cond x (1 + front_run test near) 0 < length (b ∷ near)) →
+        cond x (1 + front_run test near) 0 + front_run test far ≡ cond x (1 + front_run test (near ++ far)) 0
+    by_test true rest l = let all = rest (λ k. l (omega (arith, k))) in omega (arith, all)
+    by_test false rest l = absurd (l (omega arith))

@@ -85,6 +85,7 @@ impl Scanner {
     }
 
     /// Keeps a token.
+    #[inline(always)]
     fn push(
         &mut self,
         kind: TokenKind,
@@ -100,6 +101,7 @@ impl Scanner {
     }
 
     /// A byte between tokens.
+    #[inline(always)]
     fn open(&mut self, line_before: bool, at: usize, byte: u8) -> Result<(), AllocError>
         requires { at + 1 < 2 ^ 64 }
         ensures mode { OnOk result (self.new.mode ≡ (opened line_before at byte).0) }
@@ -129,6 +131,7 @@ impl Scanner {
     }
 
     /// A byte after those of the word that begins at `begun`.
+    #[inline(always)]
     fn go_on(&mut self, begun: usize, line: bool, at: usize, byte: u8) -> Result<(), AllocError>
         requires { at + 1 < 2 ^ 64 }
         ensures mode { OnOk result (self.new.mode ≡ (in_word_by begun line at byte (class_of byte)).0) }
@@ -195,6 +198,7 @@ impl Scanner {
     }
 
     /// The byte at an offset, after those before it.
+    #[inline(always)]
     pub(crate) fn step(&mut self, at: usize, byte: u8) -> Result<(), AllocError>
         requires { at + 1 < 2 ^ 64 }
         ensures mode { OnOk result (self.new.mode ≡ (step self.old.mode at byte).0) }

@@ -1,0 +1,10 @@
+use Rattle.std.proofs.Common.{◌<◌, map, refl, arith}
+use Rattle.std.specs.List.{range_with_len}
+use Rattle.liberty_text.specs.Idle as spec
+use Rattle.token_spans.proofs.ByteTables.{told}
+use Rattle.liberty_text.proofs.idle.is_plain_in_word.Goals as goal
+
+pub returns : goal.returns
+returns c =
+    let h : c.args.byte < 256 = omega (arith, c.ranges.byte.fits) in
+    rw c.from.ensures (told spec.is_plain_in_word c.args.byte (map spec.is_plain_in_word (range_with_len 0 256)) _ refl refl h)

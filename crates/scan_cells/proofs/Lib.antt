@@ -5,3 +5,5 @@ pub mod Pins
 pub mod Sides
 pub mod ViewEnables
 pub mod ViewReading
+pub mod MaskLemmas
+pub mod MixedPoints

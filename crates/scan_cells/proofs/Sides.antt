@@ -18,14 +18,14 @@ use Rattle.scan_cells.specs.Comparison.{or_else, first_some, difference, step_pl
 use Rattle.scan_cells.specs.Laws.{AllAgree, SameIsAgreement, DifferencesDiffer, ChangesOnePlace}
 
 -- no answer among two, and among a list
-or_none : {A : Type 0} (a b : Option A) → or_else a b ≡ None → (a ≡ None) × (b ≡ None)
+pub or_none : {A : Type 0} (a b : Option A) → or_else a b ≡ None → (a ≡ None) × (b ≡ None)
 or_none None b h = (refl, h)
 or_none (Some x) b h = absurd (cc)
 
-none_or : {A : Type 0} (a b : Option A) → a ≡ None → b ≡ None → or_else a b ≡ None
+pub none_or : {A : Type 0} (a b : Option A) → a ≡ None → b ≡ None → or_else a b ≡ None
 none_or a b h k = ap (λ o. or_else o b) h ∙ k
 
-first_none : {B : Type 0} (f : ℕ → Option B) (k n : ℕ) → first_some f (range_with_len k n) ≡ None → (i : ℕ) → k ≤ i → i < k + n → f i ≡ None
+pub first_none : {B : Type 0} (f : ℕ → Option B) (k n : ℕ) → first_some f (range_with_len k n) ≡ None → (i : ℕ) → k ≤ i → i < k + n → f i ≡ None
 first_none f k zero h i l m = absurd (omega (arith, l, m))
 first_none f k (suc n) h i l m =
     let parts = or_none (f k) (first_some f (range_with_len (k + 1) n)) h in
@@ -34,17 +34,17 @@ first_none f k (suc n) h i l m =
       | inr ne ↦ first_none f (k + 1) n parts.1 i (omega (arith, l, ne)) (omega (arith, m))
     ]
 
-none_first : {B : Type 0} (f : ℕ → Option B) (k n : ℕ) → ((i : ℕ) → k ≤ i → i < k + n → f i ≡ None) → first_some f (range_with_len k n) ≡ None
+pub none_first : {B : Type 0} (f : ℕ → Option B) (k n : ℕ) → ((i : ℕ) → k ≤ i → i < k + n → f i ≡ None) → first_some f (range_with_len k n) ≡ None
 none_first f k zero h = refl
 none_first f k (suc n) h =
     none_or (f k) (first_some f (range_with_len (k + 1) n)) (h k (omega arith) (omega arith))
     (none_first f (k + 1) n (λ i l m. h i (omega (arith, l)) (omega (arith, m))))
 
 -- what is told only where a test passes
-guarded : {A : Type 0} (b : Bool) (o : Option A) → cond b o None ≡ None → b ≡ true → o ≡ None
+pub guarded : {A : Type 0} (b : Bool) (o : Option A) → cond b o None ≡ None → b ≡ true → o ≡ None
 guarded b o h e = subst (λ c. cond c o None ≡ None) e h
 
-guard : {A : Type 0} (b : Bool) (o : Option A) → (b ≡ true → o ≡ None) → cond b o None ≡ None
+pub guard : {A : Type 0} (b : Bool) (o : Option A) → (b ≡ true → o ≡ None) → cond b o None ≡ None
 guard true o h = h refl
 guard false o h = refl
 
@@ -69,12 +69,12 @@ by_same : (c : Bool) (d : Difference) → cond c None (Some d) ≡ None → c �
 by_same true d h = refl
 by_same false d h = absurd cc
 
-no_difference : (p b a : ℕ) (s : Bool) (x y : Trit) → difference p b a s x y ≡ None → x ≡ y
+pub no_difference : (p b a : ℕ) (s : Bool) (x y : Trit) → difference p b a s x y ≡ None → x ≡ y
 no_difference p b a s x y h =
     same_are x y
     (by_same (same x y) (record { part = p; before = b; after = a; state = s; of_cell = x; of_view = y }) h)
 
-difference_none : (p b a : ℕ) (s : Bool) (x y : Trit) → x ≡ y → difference p b a s x y ≡ None
+pub difference_none : (p b a : ℕ) (s : Bool) (x y : Trit) → x ≡ y → difference p b a s x y ≡ None
 difference_none p b a s x y e = subst (λ z. difference p b a s x z ≡ None) e (ap (λ c. cond c None (Some (record { part = p; before = b; after = a; state = s; of_cell = x; of_view = x }))) (same_self x))
 
 answered_same : (o : Option Difference) → answered o ≡ Same → o ≡ None
@@ -84,7 +84,7 @@ answered_same (Some d) h = absurd cc
 same_answered : (o : Option Difference) → o ≡ None → answered o ≡ Same
 same_answered o e = ap answered e
 
-states_none :
+pub states_none :
     (cell : CellData) (view : ViewData) (g before after : ℕ) → state_difference cell view g before after ≡ None
     → (s : Bool) → cell_step cell view g before after s ≡ view_step cell view g before after s
 states_none cell view g before after h false =
@@ -94,7 +94,7 @@ states_none cell view g before after h true =
     no_difference (g + 1) before after true (cell_step cell view g before after true) (view_step cell view g before after true)
     (or_none (step_difference cell view g before after false) (step_difference cell view g before after true) h).1
 
-none_states :
+pub none_states :
     (cell : CellData) (view : ViewData) (g before after : ℕ)
     → ((s : Bool) → cell_step cell view g before after s ≡ view_step cell view g before after s)
     → state_difference cell view g before after ≡ None

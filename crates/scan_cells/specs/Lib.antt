@@ -3,6 +3,7 @@ pub mod Enables
 pub mod Views
 pub mod Functional
 pub mod Places
+pub mod Masks
 pub mod Comparison
 pub mod Laws
 pub mod TestLines

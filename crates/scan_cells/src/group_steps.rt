@@ -1,13 +1,15 @@
 //! The steps of a state group of a cell beside those of its view's.
-ghost use Rattle.std.specs.Prelude.{◌≡◌, ◌<◌, ◌≤◌, length};
+ghost use Rattle.std.specs.Prelude.{◌≡◌, ℕ, ◌<◌, ◌≤◌, None, length};
 ghost use Rattle.cell_machine.specs.CellData.{data_of};
 ghost use Rattle.scan_cells.specs.Views.{view_data, StandsBeside};
 ghost use Rattle.std.specs.List.{range_with_len};
 ghost use Rattle.cell_machine.specs.CellTrace.{support_at, step_at};
 ghost use Rattle.scan_cells.specs.Places.{values_at, changed_at as changed_at_place};
+ghost use Rattle.scan_cells.specs.Masks.{IsMask};
 ghost use Rattle.scan_cells.specs.Comparison.{first_some, cell_support, view_support, step_places, cell_step, view_step, step_difference, state_difference, change_difference, after_difference, group_difference as group_difference_of};
 
 use crate::answers::Difference;
+use crate::masks::{is_mixed, mask_of};
 use crate::places::places_of;
 use crate::points::{SupportPoint, changed_at, is_inactive, point_count};
 use crate::sources::{Sources, in_cell, pin_sources};
@@ -24,6 +26,8 @@ pub struct GroupPair<'a> {
     of_cell: Sources,
     of_view: Sources,
     places: Sources,
+    cell_mask: u32,
+    view_mask: u32,
     ghost inside: { (group < length cell.now.groups) × (group < length view.now.cell.groups) },
     ghost is_of_cell: { of_cell ≡ cell_support (data_of cell.now) group },
     ghost is_of_view: { of_view ≡ view_support (view_data view.now) group },
@@ -31,6 +35,8 @@ pub struct GroupPair<'a> {
     ghost few_of_cell: { length of_cell ≤ 8 },
     ghost few_of_view: { length of_view ≤ 8 },
     ghost few_places: { length places ≤ 20 },
+    ghost is_cell_mask: { IsMask (view_data view.now) places of_cell cell_mask },
+    ghost is_view_mask: { IsMask (view_data view.now) places of_view view_mask },
 }
 
 impl<'a> GroupPair<'a> {
@@ -46,6 +52,8 @@ impl<'a> GroupPair<'a> {
         let of_view = pin_sources(view.cell.group(group).support.as_slice());
         let of_view = in_cell(view, of_view.as_slice());
         let places = places_of(cell, of_cell.as_slice(), of_view.as_slice());
+        let cell_mask = mask_of(view, places.as_slice(), of_cell.as_slice());
+        let view_mask = mask_of(view, places.as_slice(), of_view.as_slice());
         GroupPair {
             cell,
             view,
@@ -53,6 +61,8 @@ impl<'a> GroupPair<'a> {
             of_cell,
             of_view,
             places,
+            cell_mask,
+            view_mask,
         }
     }
 
@@ -147,13 +157,24 @@ impl<'a> GroupPair<'a> {
         }
     }
 
+    /// The first difference at a point, where there is none at the points before it. Then there is none at a point with 1 at a
+    /// place that the cell's group does not depend on and at one that the view's does not, since the two differ at such a
+    /// point only where they do without these places.
+    fn next_difference(&self, after: u32) -> Option<Difference>
+        ensures { ((p : ℕ) → p < after → after_difference (data_of self.now.cell.now) (view_data self.now.view.now) self.now.group p ≡ None) → result ≡ after_difference (data_of self.now.cell.now) (view_data self.now.view.now) self.now.group after }
+    {
+        if is_mixed(after, self.cell_mask, self.view_mask) {
+            return None;
+        }
+        self.after_difference(after)
+    }
+
     /// The first difference of the groups.
-    #[tactic(auto, using(crate::proofs::Ranges::first_turn, crate::proofs::Ranges::first_end))]
     fn difference(&self) -> Option<Difference>
         ensures { result ≡ group_difference_of (data_of self.now.cell.now) (view_data self.now.view.now) self.now.group }
     {
         for after in 0..point_count(self.places.as_slice().len()) {
-            if let Some(difference) = self.after_difference(after) {
+            if let Some(difference) = self.next_difference(after) {
                 return Some(difference);
             }
         }

@@ -8,6 +8,7 @@ mod enables;
 mod functional;
 mod group_steps;
 mod laws;
+mod masks;
 mod output_values;
 mod places;
 mod points;

@@ -1,11 +1,13 @@
 //! The values of an output of a cell beside those of its view's.
-ghost use Rattle.std.specs.Prelude.{◌≡◌, ◌<◌, ◌≤◌, length, IfSome};
+ghost use Rattle.std.specs.Prelude.{◌≡◌, ℕ, ◌<◌, ◌≤◌, None, length, IfSome};
 ghost use Rattle.cell_machine.specs.CellData.{data_of};
 ghost use Rattle.cell_machine.specs.CellTrace.{sources_at};
 ghost use Rattle.scan_cells.specs.Views.{view_data};
+ghost use Rattle.scan_cells.specs.Masks.{IsMask};
 ghost use Rattle.scan_cells.specs.Comparison.{is_on_pin as is_on_pin_of, output_in_view as output_in_view_of, output_support, output_places, cell_output, view_output, point_difference, pair_difference, output_difference as output_difference_of};
 
 use crate::answers::Difference;
+use crate::masks::{is_mixed, mask_of};
 use crate::places::places_of;
 use crate::points::{SupportPoint, is_inactive, point_count};
 use crate::sources::{Sources, in_cell, pin_in_cell};
@@ -22,12 +24,16 @@ pub struct OutputPair<'a> {
     view_output: usize,
     of_view: Sources,
     places: Sources,
+    cell_mask: u32,
+    view_mask: u32,
     ghost in_cell: { output < length cell.now.outputs },
     ghost in_view: { view_output < length view.now.cell.outputs },
     ghost is_of_view: { of_view ≡ output_support (view_data view.now) view_output },
     ghost are_places: { places ≡ output_places (data_of cell.now) (view_data view.now) output view_output },
     ghost few_of_view: { length of_view ≤ 10 },
     ghost few_places: { length places ≤ 20 },
+    ghost is_cell_mask: { IsMask (view_data view.now) places (sources_at (data_of cell.now) output) cell_mask },
+    ghost is_view_mask: { IsMask (view_data view.now) places of_view view_mask },
 }
 
 impl<'a> OutputPair<'a> {
@@ -43,6 +49,8 @@ impl<'a> OutputPair<'a> {
         let of_cell = cell.output_pin(output).support.as_slice();
         let of_view = in_cell(view, view.cell.output_pin(view_output).support.as_slice());
         let places = places_of(cell, of_cell, of_view.as_slice());
+        let cell_mask = mask_of(view, places.as_slice(), of_cell);
+        let view_mask = mask_of(view, places.as_slice(), of_view.as_slice());
         OutputPair {
             cell,
             view,
@@ -50,6 +58,8 @@ impl<'a> OutputPair<'a> {
             view_output,
             of_view,
             places,
+            cell_mask,
+            view_mask,
         }
     }
 
@@ -91,13 +101,23 @@ impl<'a> OutputPair<'a> {
         difference.found()
     }
 
+    /// The difference at a point, where there is none at the points before it. Then there is none at a point with 1 at a place
+    /// that the cell's output does not depend on and at one that the view's does not.
+    fn next_difference(&self, point: u32) -> Option<Difference>
+        ensures { ((p : ℕ) → p < point → point_difference (data_of self.now.cell.now) (view_data self.now.view.now) self.now.output self.now.view_output p ≡ None) → result ≡ point_difference (data_of self.now.cell.now) (view_data self.now.view.now) self.now.output self.now.view_output point }
+    {
+        if is_mixed(point, self.cell_mask, self.view_mask) {
+            return None;
+        }
+        self.point_difference(point)
+    }
+
     /// The first difference of the outputs.
-    #[tactic(auto, using(crate::proofs::Ranges::first_turn, crate::proofs::Ranges::first_end))]
     fn difference(&self) -> Option<Difference>
         ensures { result ≡ pair_difference (data_of self.now.cell.now) (view_data self.now.view.now) self.now.output self.now.view_output }
     {
         for point in 0..point_count(self.places.as_slice().len()) {
-            if let Some(difference) = self.point_difference(point) {
+            if let Some(difference) = self.next_difference(point) {
                 return Some(difference);
             }
         }

@@ -10,7 +10,7 @@ use cell_parts::limits::MOST_OUTPUT_SOURCES;
 use std::marker::Model;
 
 /// The number that place k weighs.
-fn weight(k: usize) -> u32
+pub fn weight(k: usize) -> u32
     requires { k < 20 }
     ensures { result ≡ 2 ^ k }
 {

@@ -1,5 +1,6 @@
 pub mod Symbols
 pub mod Step
+pub mod Lanes
 pub mod Text
 pub mod Written
 pub mod Reading

@@ -3,6 +3,7 @@
 #![tactic(auto)]
 
 mod fault;
+mod lanes;
 mod laws;
 mod read;
 mod symbols;
@@ -11,6 +12,7 @@ mod text;
 mod written;
 
 pub use fault::TableFault;
+pub use lanes::{InputWords, StepWords};
 pub use laws::tables_read_are_rectangular;
 pub use read::read_table;
 pub use symbols::{CurrentSymbol, InSymbol, NextSymbol};

@@ -1,5 +1,5 @@
 -- What the code for a group's rows builds is what the definitions say.
-use Rattle.std.proofs.Common.{◌≡◌, ℕ, zero, suc, ◌+◌, ◌-◌, ◌<◌, ◌≤◌, Bool, false, true, List, [], ◌∷◌, ◌++◌, map, take, drop, length, get_or, slice_get, Some, refl, sym, ◌∙◌, ap, arith, flat_map}
+use Rattle.std.proofs.Common.{◌≡◌, ℕ, zero, suc, ◌+◌, ◌-◌, ◌<◌, ◌≤◌, Bool, false, true, not, List, [], ◌∷◌, ◌++◌, map, take, drop, length, get_or, slice_get, Some, refl, sym, ◌∙◌, ap, arith, flat_map}
 use Rattle.std.proofs.Math.Bool.{beq}
 use Rattle.std.proofs.lemmas.Bool.{true≢false}
 use Rattle.std.proofs.lemmas.List.{drop_more, length-map}
@@ -10,7 +10,7 @@ use Rattle.bool_functions.specs.declared.tree.Node.{Node}
 use Rattle.cell_machine.specs.declared.arcs.Arc.{Arc}
 use Rattle.cell_machine.specs.Machine.{Step, insert, init, last, edge_value}
 use Rattle.cell_machine.proofs.StepLemmas.{init-append, last-append}
-use Rattle.udp_tables.specs.Edges.{still_value}
+use Rattle.step_tables.specs.Turned.{turned}
 use Rattle.udp_tables.specs.Generated.{level_entry}
 use Rattle.udp_tables.specs.Sequential.{edge_entry, edge_inputs}
 use Rattle.udp_tables.specs.Conditions.{arc_conditions, added, added_all}
@@ -126,13 +126,21 @@ length-others (old ∷ new ∷ r ∷ rest) l =
     let few : length (old ∷ new ∷ r ∷ rest) - 1 - 2 ≡ length rest = omega arith in
     omega (arith, ap length (ap (λ k. take k (r ∷ rest)) few ∙ init-take r rest), length-init r rest)
 
--- where no input changes
-pub still-parts : (step : Step) (inputs : List Bool) (state : Bool) → still_value step (inputs ++ state ∷ []) ≡ step inputs inputs state
-still-parts step inputs state = rw (init-append inputs state, last-append false inputs state) refl
-
 -- values that a test finds equal
 pub beq-same : (a b : Bool) → beq a b ≡ true → a ≡ b
 beq-same true true e = refl
 beq-same true false e = absurd (true≢false (sym e))
 beq-same false true e = absurd (true≢false (sym e))
 beq-same false false e = refl
+
+pub beq-other : (a b : Bool) → beq a b ≡ false → not b ≡ a
+beq-other true true e = absurd (true≢false e)
+beq-other true false e = refl
+beq-other false true e = refl
+beq-other false false e = absurd (true≢false e)
+
+-- the place of an inserted value turned
+pub turned-insert : (p : ℕ) (b : Bool) (xs : List Bool) → p ≤ length xs → turned p (insert p b xs) ≡ insert p (not b) xs
+turned-insert zero b xs l = refl
+turned-insert (suc p) b [] l = absurd (omega arith)
+turned-insert (suc p) b (x ∷ xs) l = ap (λ ys. x ∷ ys) (turned-insert p b xs (omega arith))

@@ -6,7 +6,7 @@ use Rattle.trit_cubes.specs.declared.trits.Trit.TheVariants.{Zero, One, Unknown}
 use Rattle.trit_cubes.specs.Filling.{is_unknown, same}
 use Rattle.trit_cubes.specs.Sets.{gives}
 use Rattle.trit_cubes.specs.Prime.{prime_list}
-use Rattle.cell_machine.specs.Machine.{Step, init, last, edge_value, forced_at}
+use Rattle.cell_machine.specs.Machine.{Step, last, edge_value, forced_at}
 use Rattle.udp_tables.specs.Tables.{value_rows}
 
 -- The rows of the points that are forced to 1, and then to 0.
@@ -20,10 +20,6 @@ abbrev pub moves : List Trit → Bool
 moves [] = false
 moves (old ∷ []) = false
 moves (old ∷ new ∷ rest) = is_unknown old || not (same old new)
-
--- what the step gives where no input changes, at a point of the inputs in order and the state
-abbrev pub still_value : Step → List Bool → Trit
-still_value step point = step (init point) (init point) (last false point)
 
 -- At changes of the input at place p of n: the primes over its value before, its value after, the other inputs in order
 -- and the state, of the points at which the step gives this value, less those that do not change.

@@ -7,7 +7,7 @@ ghost use Rattle.trit_cubes.specs.Prime.{prime_list};
 ghost use Rattle.cell_machine.specs.Machine.{edge_value};
 ghost use Rattle.cell_machine.specs.CellData.{data_of};
 ghost use Rattle.cell_machine.specs.CellTrace.{support_at, step_at};
-ghost use Rattle.udp_tables.specs.Edges.{moves, still_value, edge_cubes, is_paired, kept_or_one, compact_edge_rows};
+ghost use Rattle.udp_tables.specs.Edges.{moves, edge_cubes, is_paired, kept_or_one, compact_edge_rows};
 ghost use Rattle.udp_tables.specs.Sequential.{noted, edge_inputs, edge_row, keep_row};
 ghost use Rattle.udp_tables.specs.Pairs.{AreNumbers};
 
@@ -15,30 +15,25 @@ use crate::cube_index::CubeIndex;
 use crate::entries::{change_entries, noted};
 use crate::points::value_at;
 use crate::table::{Entry, Level, Next, UdpRow};
-use cell_machine::Cell;
 use sqlite_items::Items;
 use std::alloc::{AllocError, Global};
+use step_tables::StepTable;
 use trit_cubes::{Cube, Trit, primes_where, values_of};
 
-/// Adds the rows of the changes of one input: those that give 1 or keep the state, and then those that give 0. What the step
-/// gives where no input changes is known.
+/// Adds the rows of the changes of one input: those that give 1 or keep the state, and then those that give 0.
 pub(crate) fn add_rows_of_input(
     alloc: Global,
     rows: &mut Items<UdpRow>,
-    cell: &Cell,
-    group: usize,
+    steps: &StepTable<'_>,
     notifier: bool,
-    still: &[Trit],
     place: usize,
 ) -> Result<(), AllocError>
-    requires group { group < length cell.now.groups }
-    requires still { AreValuesOf (suc (length (support_at (data_of cell.now) group))) (still_value (step_at (data_of cell.now) group)) still.now }
-    requires place { place < length (support_at (data_of cell.now) group) }
-    ensures { OnOk result (rows.new ≡ rows.old ++ compact_edge_rows (edge_row notifier) (keep_row notifier) (step_at (data_of cell.now) group) (length (support_at (data_of cell.now) group)) place) }
+    requires { place < length (support_at (data_of steps.now.cell.now) steps.now.group) }
+    ensures { OnOk result (rows.new ≡ rows.old ++ compact_edge_rows (edge_row notifier) (keep_row notifier) (step_at (data_of steps.now.cell.now) steps.now.group) (length (support_at (data_of steps.now.cell.now) steps.now.group)) place) }
 {
-    let values = change_values(alloc, cell, group, place, still)?;
-    let ones = edge_cubes(alloc, cell, group, place, &values, Trit::One)?;
-    let zeros = edge_cubes(alloc, cell, group, place, &values, Trit::Zero)?;
+    let values = change_values(alloc, steps, place)?;
+    let ones = edge_cubes(alloc, steps, place, &values, Trit::One)?;
+    let zeros = edge_cubes(alloc, steps, place, &values, Trit::Zero)?;
     add_rows_of_ones(alloc, rows, notifier, place, &ones, &zeros)?;
     add_rows_of_zeros(alloc, rows, notifier, place, &zeros, &ones)?;
     Ok(())
@@ -47,21 +42,17 @@ pub(crate) fn add_rows_of_input(
 /// What a change of one input gives at all points.
 fn change_values(
     alloc: Global,
-    cell: &Cell,
-    group: usize,
+    steps: &StepTable<'_>,
     place: usize,
-    still: &[Trit],
 ) -> Result<Vec<Trit>, AllocError>
-    requires group { group < length cell.now.groups }
-    requires still { AreValuesOf (suc (length (support_at (data_of cell.now) group))) (still_value (step_at (data_of cell.now) group)) still.now }
-    requires place { place < length (support_at (data_of cell.now) group) }
-    ensures { IfOk result (λ values. AreValuesOf (suc (suc (length (support_at (data_of cell.now) group)))) (edge_value (step_at (data_of cell.now) group) place) values.items) }
+    requires { place < length (support_at (data_of steps.now.cell.now) steps.now.group) }
+    ensures { IfOk result (λ values. AreValuesOf (suc (suc (length (support_at (data_of steps.now.cell.now) steps.now.group)))) (edge_value (step_at (data_of steps.now.cell.now) steps.now.group) place) values.items) }
 {
-    let pins = cell.group(group).support.len();
+    let pins = steps.cell.group(steps.group).support.len();
     let values = values_of(
         alloc,
         pins + 2,
-        &|point: &[bool]| { value_at(cell, group, place, still, point) },
+        &|point: &[bool]| { value_at(steps, place, point) },
     )?;
     Ok(values)
 }
@@ -70,19 +61,17 @@ fn change_values(
 /// what it gives at all points.
 fn edge_cubes(
     alloc: Global,
-    cell: &Cell,
-    group: usize,
+    steps: &StepTable<'_>,
     place: usize,
     values: &[Trit],
     value: Trit,
 ) -> Result<Vec<Cube>, AllocError>
-    requires group { group < length cell.now.groups }
-    requires place { place < length (support_at (data_of cell.now) group) }
-    requires values { AreValuesOf (suc (suc (length (support_at (data_of cell.now) group)))) (edge_value (step_at (data_of cell.now) group) place) values.now }
-    ensures list { IfOk result (λ cubes. cubes.items ≡ edge_cubes (step_at (data_of cell.now) group) (length (support_at (data_of cell.now) group)) place value) }
+    requires place { place < length (support_at (data_of steps.now.cell.now) steps.now.group) }
+    requires values { AreValuesOf (suc (suc (length (support_at (data_of steps.now.cell.now) steps.now.group)))) (edge_value (step_at (data_of steps.now.cell.now) steps.now.group) place) values.now }
+    ensures list { IfOk result (λ cubes. cubes.items ≡ edge_cubes (step_at (data_of steps.now.cell.now) steps.now.group) (length (support_at (data_of steps.now.cell.now) steps.now.group)) place value) }
     ensures wide { IfOk result (λ cubes. All (λ cube. place + 3 ≤ length cube) cubes.items) }
 {
-    let pins = cell.group(group).support.len();
+    let pins = steps.cell.group(steps.group).support.len();
     let cubes = primes_where(alloc, pins + 2, values, value)?;
     let moving = moving_cubes(alloc, &cubes)?;
     Ok(moving)

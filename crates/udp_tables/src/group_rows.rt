@@ -1,23 +1,24 @@
 //! The rows of a group's step.
-ghost use Rattle.std.specs.Prelude.{◌≡◌, ◌<◌, suc, ◌++◌, map, length, replicate, IfOk, OnOk};
+ghost use Rattle.std.specs.Prelude.{◌≡◌, ◌<◌, ◌++◌, map, length, replicate, IfOk, OnOk};
 ghost use Rattle.trit_cubes.specs.declared.trits.Trit.TheVariants as trit;
 ghost use Rattle.trit_cubes.specs.Sets.{gives, AreValuesOf};
 ghost use Rattle.trit_cubes.specs.Prime.{prime_list};
 ghost use Rattle.cell_machine.specs.Machine.{forced_at};
 ghost use Rattle.cell_machine.specs.CellTrace.{support_at, step_at};
 ghost use Rattle.udp_tables.specs.Tables.{or_row};
-ghost use Rattle.udp_tables.specs.Edges.{still_value, forced_rows, compact_edge_rows, each_below};
+ghost use Rattle.udp_tables.specs.Edges.{forced_rows, compact_edge_rows, each_below};
 ghost use Rattle.udp_tables.specs.Sequential.{state_row, notifier_rows, edge_row, keep_row, compact_rows};
 ghost use Rattle.cell_machine.specs.CellData.{data_of};
 ghost use Rattle.udp_tables.specs.CellPrimitives.{has_notifier};
 
 use crate::change_rows::add_rows_of_input;
 use crate::entries::{free_entries, level_entries, noted};
-use crate::points::{forced_at, still_at};
+use crate::points::forced_to;
 use crate::table::{Entry, Level, Next, UdpRow};
 use cell_machine::Cell;
 use sqlite_items::Items;
 use std::alloc::{AllocError, Global};
+use step_tables::StepTable;
 use trit_cubes::{Cube, Trit, primes_where, values_of};
 
 /// The rows of a group: the points that force its state, the notifier where the cell has checks, and then the changes of
@@ -30,12 +31,21 @@ pub(crate) fn group_rows(
     requires { group < length cell.now.groups }
     ensures { IfOk result (λ rows. rows ≡ compact_rows (has_notifier (data_of cell.now)) (length (support_at (data_of cell.now) group)) (step_at (data_of cell.now) group)) }
 {
-    let notifier = !cell.checks.is_empty();
-    let pins = cell.group(group).support.len();
+    let steps = StepTable::of(alloc, cell, group)?;
+    let rows = rows_of_steps(alloc, &steps)?;
+    Ok(rows)
+}
+
+/// The rows of a group by its steps.
+fn rows_of_steps(alloc: Global, steps: &StepTable<'_>) -> Result<Items<UdpRow>, AllocError>
+    ensures { IfOk result (λ rows. rows ≡ compact_rows (has_notifier (data_of steps.now.cell.now)) (length (support_at (data_of steps.now.cell.now) steps.now.group)) (step_at (data_of steps.now.cell.now) steps.now.group)) }
+{
+    let notifier = !steps.cell.checks.is_empty();
+    let pins = steps.cell.group(steps.group).support.len();
     let mut rows = Items::new(alloc);
-    add_forced_rows(alloc, &mut rows, cell, group, notifier)?;
+    add_forced_rows(alloc, &mut rows, steps, notifier)?;
     add_notifier_row(alloc, &mut rows, notifier, pins)?;
-    add_rows_of_changes(alloc, &mut rows, cell, group, notifier)?;
+    add_rows_of_changes(alloc, &mut rows, steps, notifier)?;
     let rows = or_free_row(alloc, rows, notifier, pins)?;
     Ok(rows)
 }
@@ -87,48 +97,39 @@ fn add_notifier_row(
 fn add_forced_rows(
     alloc: Global,
     rows: &mut Items<UdpRow>,
-    cell: &Cell,
-    group: usize,
+    steps: &StepTable<'_>,
     notifier: bool,
 ) -> Result<(), AllocError>
-    requires { group < length cell.now.groups }
-    ensures { OnOk result (rows.new ≡ rows.old ++ forced_rows (state_row notifier) (length (support_at (data_of cell.now) group)) (step_at (data_of cell.now) group)) }
+    ensures { OnOk result (rows.new ≡ rows.old ++ forced_rows (state_row notifier) (length (support_at (data_of steps.now.cell.now) steps.now.group)) (step_at (data_of steps.now.cell.now) steps.now.group)) }
 {
-    let values = forced_values(alloc, cell, group)?;
-    let ones = forced_primes(alloc, cell, group, &values, Trit::One)?;
+    let values = forced_values(alloc, steps)?;
+    let ones = forced_primes(alloc, steps, &values, Trit::One)?;
     add_state_rows(alloc, rows, notifier, Trit::One, &ones)?;
-    let zeros = forced_primes(alloc, cell, group, &values, Trit::Zero)?;
+    let zeros = forced_primes(alloc, steps, &values, Trit::Zero)?;
     add_state_rows(alloc, rows, notifier, Trit::Zero, &zeros)?;
     Ok(())
 }
 
 /// The values to which the points force the state of a group.
-fn forced_values(alloc: Global, cell: &Cell, group: usize) -> Result<Vec<Trit>, AllocError>
-    requires { group < length cell.now.groups }
-    ensures { IfOk result (λ values. AreValuesOf (length (support_at (data_of cell.now) group)) (forced_at (step_at (data_of cell.now) group)) values.items) }
+fn forced_values(alloc: Global, steps: &StepTable<'_>) -> Result<Vec<Trit>, AllocError>
+    ensures { IfOk result (λ values. AreValuesOf (length (support_at (data_of steps.now.cell.now) steps.now.group)) (forced_at (step_at (data_of steps.now.cell.now) steps.now.group)) values.items) }
 {
-    let pins = cell.group(group).support.len();
-    let values = values_of(
-        alloc,
-        pins,
-        &|point: &[bool]| { forced_at(cell, group, point) },
-    )?;
+    let pins = steps.cell.group(steps.group).support.len();
+    let values = values_of(alloc, pins, &|point: &[bool]| { forced_to(steps, point) })?;
     Ok(values)
 }
 
 /// The primes of the points that force the state of a group to this value, by all values to which they force it.
 fn forced_primes(
     alloc: Global,
-    cell: &Cell,
-    group: usize,
+    steps: &StepTable<'_>,
     values: &[Trit],
     value: Trit,
 ) -> Result<Vec<Cube>, AllocError>
-    requires group { group < length cell.now.groups }
-    requires values { AreValuesOf (length (support_at (data_of cell.now) group)) (forced_at (step_at (data_of cell.now) group)) values.now }
-    ensures { IfOk result (λ cubes. cubes.items ≡ prime_list (length (support_at (data_of cell.now) group)) (gives value (forced_at (step_at (data_of cell.now) group)))) }
+    requires values { AreValuesOf (length (support_at (data_of steps.now.cell.now) steps.now.group)) (forced_at (step_at (data_of steps.now.cell.now) steps.now.group)) values.now }
+    ensures { IfOk result (λ cubes. cubes.items ≡ prime_list (length (support_at (data_of steps.now.cell.now) steps.now.group)) (gives value (forced_at (step_at (data_of steps.now.cell.now) steps.now.group)))) }
 {
-    let pins = cell.group(group).support.len();
+    let pins = steps.cell.group(steps.group).support.len();
     let cubes = primes_where(alloc, pins, values, value)?;
     Ok(cubes)
 }
@@ -166,30 +167,13 @@ fn state_row(alloc: Global, notifier: bool, value: Trit, cube: &Cube) -> Result<
 fn add_rows_of_changes(
     alloc: Global,
     rows: &mut Items<UdpRow>,
-    cell: &Cell,
-    group: usize,
+    steps: &StepTable<'_>,
     notifier: bool,
 ) -> Result<(), AllocError>
-    requires { group < length cell.now.groups }
-    ensures { OnOk result (rows.new ≡ rows.old ++ each_below (compact_edge_rows (edge_row notifier) (keep_row notifier) (step_at (data_of cell.now) group) (length (support_at (data_of cell.now) group))) (length (support_at (data_of cell.now) group))) }
+    ensures { OnOk result (rows.new ≡ rows.old ++ each_below (compact_edge_rows (edge_row notifier) (keep_row notifier) (step_at (data_of steps.now.cell.now) steps.now.group) (length (support_at (data_of steps.now.cell.now) steps.now.group))) (length (support_at (data_of steps.now.cell.now) steps.now.group))) }
 {
-    let still = still_values(alloc, cell, group)?;
-    for place in 0..cell.group(group).support.len() {
-        add_rows_of_input(alloc, rows, cell, group, notifier, &still, place)?;
+    for place in 0..steps.cell.group(steps.group).support.len() {
+        add_rows_of_input(alloc, rows, steps, notifier, place)?;
     }
     Ok(())
-}
-
-/// What the step of a group gives where no input changes, at all points of its inputs and its state.
-fn still_values(alloc: Global, cell: &Cell, group: usize) -> Result<Vec<Trit>, AllocError>
-    requires { group < length cell.now.groups }
-    ensures { IfOk result (λ values. AreValuesOf (suc (length (support_at (data_of cell.now) group))) (still_value (step_at (data_of cell.now) group)) values.items) }
-{
-    let pins = cell.group(group).support.len();
-    let values = values_of(
-        alloc,
-        pins + 1,
-        &|point: &[bool]| { still_at(cell, group, point) },
-    )?;
-    Ok(values)
 }

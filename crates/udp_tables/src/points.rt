@@ -1,15 +1,12 @@
 //! The steps of a group at points.
-ghost use Rattle.std.specs.Prelude.{◌≡◌, ◌+◌, ◌^◌, ◌<◌, ◌≤◌, suc, [], ◌∷◌, ◌++◌, List, Bool, map, take, length, slice_index_or};
-ghost use Rattle.trit_cubes.specs.declared.trits.Trit.TheVariants as trit;
-ghost use Rattle.trit_cubes.specs.Filling.{number};
-ghost use Rattle.trit_cubes.specs.Sets.{AreValuesOf};
-ghost use Rattle.udp_tables.specs.Edges.{still_value};
+ghost use Rattle.std.specs.Prelude.{◌≡◌, ◌+◌, ◌<◌, ◌≤◌, suc, [], ◌∷◌, ◌++◌, length};
 ghost use Rattle.cell_machine.specs.Machine.{insert, edge_value, forced_at};
 ghost use Rattle.cell_machine.specs.CellData.{data_of};
 ghost use Rattle.cell_machine.specs.CellTrace.{support_at, step_at};
 
-use cell_machine::{Cell, boolean_step, forced};
+use cell_machine::{Cell, forced};
 use std::marker::Model;
+use step_tables::StepTable;
 use trit_cubes::Trit;
 
 /// At most eight values of inputs. Contracts see the list of them.
@@ -113,84 +110,42 @@ fn forced_value(cell: &Cell, group: usize, point: &[bool]) -> Trit
     forced(cell, group, &trits[..point.len()])
 }
 
-/// What the step of a group gives where no input changes, at a point of its inputs and its state.
-pub(crate) fn still_at(cell: &Cell, group: usize, point: &[bool]) -> Trit
-    requires { group < length cell.now.groups }
-    ensures { length point.now ≡ suc (length (support_at (data_of cell.now) group)) → result ≡ still_value (step_at (data_of cell.now) group) point.now }
+/// The value to which each change to this point and no change force the state of a group, by its steps.
+pub(crate) fn forced_to(steps: &StepTable<'_>, point: &[bool]) -> Trit
+    ensures { length point.now ≡ length (support_at (data_of steps.now.cell.now) steps.now.group) → result ≡ forced_at (step_at (data_of steps.now.cell.now) steps.now.group) point.now }
 {
-    let Some((state, inputs)) = point.split_last() else {
-        return Trit::Unknown;
-    };
-    let pins = cell.group(group).support.len();
-    if inputs.len() != pins {
+    let pins = steps.cell.group(steps.group).support.len();
+    if point.len() != pins {
         return Trit::Unknown;
     }
-    boolean_step(cell, group, inputs, inputs, *state)
+    steps.forced(point)
 }
 
 /// What the step of a group gives at a change of the input at `place`, at a point of the value before, the value after, the
-/// other inputs and the state. What it gives where no input changes is known.
-pub(crate) fn value_at(
-    cell: &Cell,
-    group: usize,
-    place: usize,
-    still: &[Trit],
-    point: &[bool],
-) -> Trit
-    requires group { group < length cell.now.groups }
-    requires place { place < length (support_at (data_of cell.now) group) }
-    ensures { length point.now ≡ suc (suc (length (support_at (data_of cell.now) group))) → AreValuesOf (suc (length (support_at (data_of cell.now) group))) (still_value (step_at (data_of cell.now) group)) still.now → result ≡ edge_value (step_at (data_of cell.now) group) place point.now }
+/// other inputs and the state.
+pub(crate) fn value_at(steps: &StepTable<'_>, place: usize, point: &[bool]) -> Trit
+    requires { place < length (support_at (data_of steps.now.cell.now) steps.now.group) }
+    ensures { length point.now ≡ suc (suc (length (support_at (data_of steps.now.cell.now) steps.now.group))) → result ≡ edge_value (step_at (data_of steps.now.cell.now) steps.now.group) place point.now }
 {
-    let pins = cell.group(group).support.len();
+    let pins = steps.cell.group(steps.group).support.len();
     if point.len() != pins + 2 {
         return Trit::Unknown;
     }
-    edge_value(cell, group, place, still, point)
+    edge_value(steps, place, point)
 }
 
 /// What the step gives there.
-fn edge_value(cell: &Cell, group: usize, place: usize, still: &[Trit], point: &[bool]) -> Trit
-    requires group { group < length cell.now.groups }
-    requires place { place < length (support_at (data_of cell.now) group) }
-    requires point { length point.now ≡ length (support_at (data_of cell.now) group) + 2 }
-    requires few { length (support_at (data_of cell.now) group) ≤ 8 }
-    ensures { AreValuesOf (suc (length (support_at (data_of cell.now) group))) (still_value (step_at (data_of cell.now) group)) still.now → result ≡ edge_value (step_at (data_of cell.now) group) place point.now }
+fn edge_value(steps: &StepTable<'_>, place: usize, point: &[bool]) -> Trit
+    requires place { place < length (support_at (data_of steps.now.cell.now) steps.now.group) }
+    requires point { length point.now ≡ length (support_at (data_of steps.now.cell.now) steps.now.group) + 2 }
+    requires few { length (support_at (data_of steps.now.cell.now) steps.now.group) ≤ 8 }
+    ensures { result ≡ edge_value (step_at (data_of steps.now.cell.now) steps.now.group) place point.now }
 {
     let last = point.len() - 1;
     let others = &point[2..last];
-    let before = Bits::inserted(place, point[0], others);
-    if point[0] == point[1] {
-        return entry_at(still, number_of(before.as_slice(), point[last]));
-    }
     let after = Bits::inserted(place, point[1], others);
-    boolean_step(
-        cell,
-        group,
-        before.as_slice(),
-        after.as_slice(),
-        point[last],
-    )
-}
-
-/// The entry with this number, unknown where there is none.
-fn entry_at(values: &[Trit], number: usize) -> Trit
-    ensures { result ≡ slice_index_or values.now number trit.Unknown }
-{
-    match values.get(number) {
-        Some(value) => *value,
-        None => Trit::Unknown,
+    if point[0] == point[1] {
+        return steps.turned(point.len() - 2, after.as_slice(), point[last]);
     }
-}
-
-/// The number of the point of these inputs and the state, in which place i weighs 2 to the power i.
-fn number_of(inputs: &[bool], state: bool) -> usize
-    requires few { length inputs.now ≤ 8 }
-    ensures value { result ≡ number (inputs.now ++ state ∷ []) }
-    ensures small { result < 2 ^ (length inputs.now + 1) }
-{
-    let Some((first, rest)) = inputs.split_first() else {
-        return usize::from(state);
-    };
-    let behind = number_of(rest, state);
-    usize::from(*first) + 2 * behind
+    steps.turned(place, after.as_slice(), point[last])
 }

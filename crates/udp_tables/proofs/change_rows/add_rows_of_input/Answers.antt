@@ -9,8 +9,8 @@ use Rattle.udp_tables.proofs.change_rows.add_rows_of_input.Goals as goal
 
 pub returns : goal.returns
 returns c =
-    let step = step_at (data_of c.args.cell.now) c.args.group in
-    let n = length (support_at (data_of c.args.cell.now) c.args.group) in
+    let step = step_at (data_of c.args.steps.now.cell.now) c.args.steps.now.group in
+    let n = length (support_at (data_of c.args.steps.now.cell.now) c.args.steps.now.group) in
     let make = edge_row c.args.notifier c.args.place in
     let keep = keep_row c.args.notifier c.args.place in
     let ones = edge_cubes step n c.args.place One in

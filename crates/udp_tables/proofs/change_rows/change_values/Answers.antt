@@ -8,12 +8,12 @@ use Rattle.udp_tables.proofs.change_rows.change_values.Goals as goal
 
 pub returns : goal.returns
 returns c =
-    let cell = data_of c.args.cell.now in
-    let f = edge_value (step_at cell c.args.group) c.args.place in
-    let pins : c.len-pins.result ≡ length (support_at cell c.args.group) = pins-counted cell c.args.group _ _ c.len-pins.ensures c.group.ensures.is in
-    let places : c.len-pins.result + 2 ≡ suc (suc (length (support_at cell c.args.group))) = omega (arith, pins) in
+    let cell = data_of c.args.steps.now.cell.now in
+    let f = edge_value (step_at cell c.args.steps.now.group) c.args.place in
+    let pins : c.len-pins.result ≡ length (support_at cell c.args.steps.now.group) = pins-counted cell c.args.steps.now.group _ _ c.len-pins.ensures c.group.ensures.is in
+    let places : c.len-pins.result + 2 ≡ suc (suc (length (support_at cell c.args.steps.now.group))) = omega (arith, pins) in
     let values = c.in_ok-values.ensures.values f
     (record {
-      at_point = λ p long t says. let wide : length p ≡ suc (suc (length (support_at cell c.args.group))) = long ∙ places in let known = c.requires.still in search rules;
+      at_point = λ p long t says. let wide : length p ≡ suc (suc (length (support_at cell c.args.steps.now.group))) = long ∙ places in search rules;
     }) in
     subst (λ n. AreValuesOf n f c.in_ok-values.values.items) places values

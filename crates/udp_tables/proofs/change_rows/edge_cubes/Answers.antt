@@ -13,15 +13,15 @@ use Rattle.udp_tables.proofs.change_rows.edge_cubes.Goals as goal
 
 pub primes_where-requires-clause-entries : goal.primes_where-requires-clause-entries
 primes_where-requires-clause-entries c =
-    c.requires.values.entries ∙ ap (λ n. 2 ^ n) (sym (places-counted (data_of c.args.cell.now) c.args.group _ _ c.len-pins.ensures c.group.ensures.is))
+    c.requires.values.entries ∙ ap (λ n. 2 ^ n) (sym (places-counted (data_of c.args.steps.now.cell.now) c.args.steps.now.group _ _ c.len-pins.ensures c.group.ensures.is))
 
 pub moving_cubes-requires : goal.moving_cubes-requires
 moving_cubes-requires c =
-    let cell = data_of c.args.cell.now in
-    let f = edge_value (step_at cell c.args.group) c.args.place in
-    primes-wide 2 (suc (suc (length (support_at cell c.args.group)))) (gives c.args.value f) _
+    let cell = data_of c.args.steps.now.cell.now in
+    let f = edge_value (step_at cell c.args.steps.now.group) c.args.place in
+    primes-wide 2 (suc (suc (length (support_at cell c.args.steps.now.group)))) (gives c.args.value f) _
     (c.deref.ensures.value
-    ∙ primes-over _ _ f c.args.values.now c.args.value _ (places-counted cell c.args.group _ _ c.len-pins.ensures c.group.ensures.is) c.requires.values c.in_ok-cubes.ensures)
+    ∙ primes-over _ _ f c.args.values.now c.args.value _ (places-counted cell c.args.steps.now.group _ _ c.len-pins.ensures c.group.ensures.is) c.requires.values c.in_ok-cubes.ensures)
     (omega arith)
 
 pub returns-clause-list : goal.returns-clause-list
@@ -29,16 +29,16 @@ returns-clause-list c =
     c.in_ok-moving.ensures
     ∙ ap (filter moves)
     (c.deref.ensures.value
-    ∙ primes-over _ _ (edge_value (step_at (data_of c.args.cell.now) c.args.group) c.args.place) c.args.values.now c.args.value _
-    (places-counted (data_of c.args.cell.now) c.args.group _ _ c.len-pins.ensures c.group.ensures.is) c.requires.values c.in_ok-cubes.ensures)
+    ∙ primes-over _ _ (edge_value (step_at (data_of c.args.steps.now.cell.now) c.args.steps.now.group) c.args.place) c.args.values.now c.args.value _
+    (places-counted (data_of c.args.steps.now.cell.now) c.args.steps.now.group _ _ c.len-pins.ensures c.group.ensures.is) c.requires.values c.in_ok-cubes.ensures)
 
 pub returns-clause-wide : goal.returns-clause-wide
 returns-clause-wide c =
-    let cell = data_of c.args.cell.now in
-    let f = edge_value (step_at cell c.args.group) c.args.place in
+    let cell = data_of c.args.steps.now.cell.now in
+    let f = edge_value (step_at cell c.args.steps.now.group) c.args.place in
     let cubes =
     c.deref.ensures.value
-    ∙ primes-over _ _ f c.args.values.now c.args.value _ (places-counted cell c.args.group _ _ c.len-pins.ensures c.group.ensures.is) c.requires.values c.in_ok-cubes.ensures in
+    ∙ primes-over _ _ f c.args.values.now c.args.value _ (places-counted cell c.args.steps.now.group _ _ c.len-pins.ensures c.group.ensures.is) c.requires.values c.in_ok-cubes.ensures in
     subst (All (λ (cube : List Trit). c.args.place + 3 ≤ length cube)) (sym c.in_ok-moving.ensures)
     (All-filter moves (λ (cube : List Trit). c.args.place + 3 ≤ length cube) c.deref.result.now
-    (primes-wide (c.args.place + 3) (suc (suc (length (support_at cell c.args.group)))) (gives c.args.value f) _ cubes (omega (arith, c.requires.place))))
+    (primes-wide (c.args.place + 3) (suc (suc (length (support_at cell c.args.steps.now.group)))) (gives c.args.value f) _ cubes (omega (arith, c.requires.place))))

@@ -7,4 +7,4 @@ use Rattle.udp_tables.proofs.group_rows.add_rows_of_changes.Given as goal
 
 abbrev pub invariant-loop-place : goal.invariant-loop-place
 invariant-loop-place l =
-    l.rows ≡ l.fn.rows ++ each_below (compact_edge_rows (edge_row l.notifier) (keep_row l.notifier) (step_at (data_of l.cell) l.group) (length (support_at (data_of l.cell) l.group))) l.place
+    l.rows ≡ l.fn.rows ++ each_below (compact_edge_rows (edge_row l.notifier) (keep_row l.notifier) (step_at (data_of l.steps.cell.now) l.steps.group) (length (support_at (data_of l.steps.cell.now) l.steps.group))) l.place

@@ -7,9 +7,9 @@ use Rattle.udp_tables.proofs.group_rows.forced_primes.Goals as goal
 
 pub primes_where-requires-clause-entries : goal.primes_where-requires-clause-entries
 primes_where-requires-clause-entries c =
-    c.requires.values.entries ∙ ap (λ n. 2 ^ n) (sym (pins-counted (data_of c.args.cell.now) c.args.group _ _ c.len-pins.ensures c.group.ensures.is))
+    c.requires.values.entries ∙ ap (λ n. 2 ^ n) (sym (pins-counted (data_of c.args.steps.now.cell.now) c.args.steps.now.group _ _ c.len-pins.ensures c.group.ensures.is))
 
 pub returns : goal.returns
 returns c =
-    primes-over _ _ (forced_at (step_at (data_of c.args.cell.now) c.args.group)) c.args.values.now c.args.value _
-    (pins-counted (data_of c.args.cell.now) c.args.group _ _ c.len-pins.ensures c.group.ensures.is) c.requires.values c.in_ok-cubes.ensures
+    primes-over _ _ (forced_at (step_at (data_of c.args.steps.now.cell.now) c.args.steps.now.group)) c.args.values.now c.args.value _
+    (pins-counted (data_of c.args.steps.now.cell.now) c.args.steps.now.group _ _ c.len-pins.ensures c.group.ensures.is) c.requires.values c.in_ok-cubes.ensures

@@ -8,11 +8,11 @@ use Rattle.udp_tables.proofs.group_rows.forced_values.Goals as goal
 
 pub returns : goal.returns
 returns c =
-    let cell = data_of c.args.cell.now in
-    let f = forced_at (step_at cell c.args.group) in
-    let pins : c.len-pins.result ≡ length (support_at cell c.args.group) = pins-counted cell c.args.group _ _ c.len-pins.ensures c.group.ensures.is in
+    let cell = data_of c.args.steps.now.cell.now in
+    let f = forced_at (step_at cell c.args.steps.now.group) in
+    let pins : c.len-pins.result ≡ length (support_at cell c.args.steps.now.group) = pins-counted cell c.args.steps.now.group _ _ c.len-pins.ensures c.group.ensures.is in
     let values = c.in_ok-values.ensures.values f
     (record {
-      at_point = λ p long t says. let wide : length p ≡ length (support_at cell c.args.group) = long ∙ pins in search rules;
+      at_point = λ p long t says. let wide : length p ≡ length (support_at cell c.args.steps.now.group) = long ∙ pins in search rules;
     }) in
     subst (λ n. AreValuesOf n f c.in_ok-values.values.items) pins values

@@ -1,0 +1,142 @@
+-- Where a cell and its view do not differ at points with 0 at the places of the one or of the other, they do not differ at a point.
+use Rattle.std.proofs.Common.{◌≡◌, ◌≢◌, ◌⊎◌, ℕ, ◌+◌, ◌^◌, ◌<◌, Bool, true, false, bit_and, List, length, Option, None, refl, sym, ap, subst, ◌∙◌, inl, inr, arith}
+use Rattle.std.specs.List.{range_with_len}
+use Rattle.cell_machine.specs.declared.outputs.Source.{Source}
+use Rattle.cell_machine.specs.CellData.{CellData}
+use Rattle.cell_machine.specs.CellTrace.{step_at, sources_at, output_value_at}
+use Rattle.scan_cells.specs.Views.{ViewData}
+use Rattle.scan_cells.specs.Places.{values_at, changed_at, is_inactive}
+use Rattle.scan_cells.specs.Masks.{IsMask}
+use Rattle.scan_cells.specs.Comparison.{first_some, cell_support, view_support, step_places, cell_step, view_step, state_difference, change_difference, after_difference, output_support, output_places, cell_output, view_output, point_difference}
+use Rattle.scan_cells.proofs.Sides.{or_none, none_or, first_none, none_first, guarded, guard, no_difference, difference_none, states_none, none_states}
+use Rattle.scan_cells.proofs.MaskLemmas.{values_kept, inactive_kept, Near, near_kept, masks_swap, less_masked, less_twice}
+
+-- what no difference at a point says of the steps that lead to it
+after_agrees :
+    (cell : CellData) (view : ViewData) (g after : ℕ) → after_difference cell view g after ≡ None
+    → is_inactive view (step_places cell view g) after ≡ true
+    → (before : ℕ) → Near (length (step_places cell view g)) after before → is_inactive view (step_places cell view g) before ≡ true
+    → (s : Bool) → cell_step cell view g before after s ≡ view_step cell view g before after s
+after_agrees cell view g after h idle before near idle' =
+    let parts =
+    or_none (change_difference cell view g after after)
+    (first_some (λ k. change_difference cell view g after (changed_at after k)) (range_with_len 0 (length (step_places cell view g))))
+    (guarded (is_inactive view (step_places cell view g) after) _ h idle) in
+    let none : change_difference cell view g after before ≡ None =
+    elim near [
+      | inl e ↦ subst (λ p. change_difference cell view g after p ≡ None) (sym e) parts.0
+      | inr found ↦
+          subst (λ p. change_difference cell view g after p ≡ None) (sym found.2)
+          (first_none (λ k. change_difference cell view g after (changed_at after k)) 0 (length (step_places cell view g)) parts.1
+          found.0 (omega arith) (omega (arith, found.1)))
+    ] in
+    states_none cell view g before after
+    (guarded (is_inactive view (step_places cell view g) before) (state_difference cell view g before after) none idle')
+
+agrees_after :
+    (cell : CellData) (view : ViewData) (g after : ℕ)
+    → (is_inactive view (step_places cell view g) after ≡ true
+    → (before : ℕ) → Near (length (step_places cell view g)) after before → is_inactive view (step_places cell view g) before ≡ true
+    → (s : Bool) → cell_step cell view g before after s ≡ view_step cell view g before after s)
+    → after_difference cell view g after ≡ None
+agrees_after cell view g after h =
+    guard (is_inactive view (step_places cell view g) after) _ (λ idle.
+    none_or (change_difference cell view g after after)
+    (first_some (λ k. change_difference cell view g after (changed_at after k)) (range_with_len 0 (length (step_places cell view g))))
+    (guard (is_inactive view (step_places cell view g) after) (state_difference cell view g after after) (λ idle'.
+    none_states cell view g after after (h idle after (inl refl) idle')))
+    (none_first (λ k. change_difference cell view g after (changed_at after k)) 0 (length (step_places cell view g)) (λ k _ place.
+    guard (is_inactive view (step_places cell view g) (changed_at after k)) (state_difference cell view g (changed_at after k) after) (λ idle'.
+    none_states cell view g (changed_at after k) after (h idle (changed_at after k) (inr (k, omega (arith, place), refl)) idle')))))
+
+cell_kept :
+    (cell : CellData) (view : ViewData) (g before after mask : ℕ) (s : Bool)
+    → IsMask view (step_places cell view g) (cell_support cell g) mask
+    → cell_step cell view g (bit_and before mask) (bit_and after mask) s ≡ cell_step cell view g before after s
+unfolding cell_step
+cell_kept cell view g before after mask s h =
+    let kept = values_kept (step_places cell view g) (cell_support cell g) in
+    λ i. step_at cell g (kept before mask h.of_support i) (kept after mask h.of_support i) s
+
+view_kept :
+    (cell : CellData) (view : ViewData) (g before after mask : ℕ) (s : Bool)
+    → IsMask view (step_places cell view g) (view_support view g) mask
+    → view_step cell view g (bit_and before mask) (bit_and after mask) s ≡ view_step cell view g before after s
+unfolding view_step
+view_kept cell view g before after mask s h =
+    let kept = values_kept (step_places cell view g) (view_support view g) in
+    λ i. step_at view.cell g (kept before mask h.of_support i) (kept after mask h.of_support i) s
+
+-- the steps of groups
+pub mixed_steps :
+    (cell : CellData) (view : ViewData) (g point a b : ℕ)
+    → IsMask view (step_places cell view g) (cell_support cell g) a → IsMask view (step_places cell view g) (view_support view g) b
+    → bit_and point a ≢ point → bit_and point b ≢ point
+    → ((p : ℕ) → p < point → after_difference cell view g p ≡ None) → after_difference cell view g point ≡ None
+mixed_steps cell view g point a b of_cell of_view first second none =
+    let places = step_places cell view g in
+    let n = length places in
+    let idle : (p mask : ℕ) → is_inactive view places p ≡ true → IsMask view places (cell_support cell g) mask ⊎ IsMask view places (view_support view g) mask → is_inactive view places (bit_and p mask) ≡ true
+    = λ p mask e either. elim either [
+      | inl m ↦ inactive_kept view places p mask m.of_enable ∙ e
+      | inr m ↦ inactive_kept view places p mask m.of_enable ∙ e
+    ] in
+    agrees_after cell view g point (λ here before near there s.
+    let to_cell = near_kept n point before a near in
+    let to_view = near_kept n point before b near in
+    sym (cell_kept cell view g before point a s of_cell)
+    ∙ after_agrees cell view g (bit_and point a) (none (bit_and point a) (less_masked point a first)) (idle point a here (inl of_cell))
+    (bit_and before a) to_cell (idle before a there (inl of_cell)) s
+    ∙ sym (view_kept cell view g (bit_and before a) (bit_and point a) b s of_view)
+    ∙ (λ i. view_step cell view g (masks_swap before a b i) (masks_swap point a b i) s)
+    ∙ sym (after_agrees cell view g (bit_and (bit_and point b) a) (none (bit_and (bit_and point b) a) (less_twice point b a second))
+    (idle (bit_and point b) a (idle point b here (inr of_view)) (inl of_cell))
+    (bit_and (bit_and before b) a) (near_kept n (bit_and point b) (bit_and before b) a to_view)
+    (idle (bit_and before b) a (idle before b there (inr of_view)) (inl of_cell)) s)
+    ∙ cell_kept cell view g (bit_and before b) (bit_and point b) a s of_cell
+    ∙ after_agrees cell view g (bit_and point b) (none (bit_and point b) (less_masked point b second)) (idle point b here (inr of_view))
+    (bit_and before b) to_view (idle before b there (inr of_view)) s
+    ∙ view_kept cell view g before point b s of_view)
+
+-- the values of outputs
+point_agrees :
+    (cell : CellData) (view : ViewData) (i j point : ℕ) → point_difference cell view i j point ≡ None
+    → is_inactive view (output_places cell view i j) point ≡ true → cell_output cell view i j point ≡ view_output cell view i j point
+point_agrees cell view i j point h idle =
+    no_difference (length cell.groups + i + 1) point point false (cell_output cell view i j point) (view_output cell view i j point)
+    (guarded (is_inactive view (output_places cell view i j) point) _ h idle)
+
+cell_output_kept :
+    (cell : CellData) (view : ViewData) (i j point mask : ℕ) → IsMask view (output_places cell view i j) (sources_at cell i) mask
+    → cell_output cell view i j (bit_and point mask) ≡ cell_output cell view i j point
+unfolding cell_output
+cell_output_kept cell view i j point mask h =
+    ap (output_value_at cell i) (values_kept (output_places cell view i j) (sources_at cell i) point mask h.of_support)
+
+view_output_kept :
+    (cell : CellData) (view : ViewData) (i j point mask : ℕ) → IsMask view (output_places cell view i j) (output_support view j) mask
+    → view_output cell view i j (bit_and point mask) ≡ view_output cell view i j point
+unfolding view_output
+view_output_kept cell view i j point mask h =
+    ap (output_value_at view.cell j) (values_kept (output_places cell view i j) (output_support view j) point mask h.of_support)
+
+pub mixed_outputs :
+    (cell : CellData) (view : ViewData) (i j point a b : ℕ)
+    → IsMask view (output_places cell view i j) (sources_at cell i) a → IsMask view (output_places cell view i j) (output_support view j) b
+    → bit_and point a ≢ point → bit_and point b ≢ point
+    → ((p : ℕ) → p < point → point_difference cell view i j p ≡ None) → point_difference cell view i j point ≡ None
+mixed_outputs cell view i j point a b of_cell of_view first second none =
+    let places = output_places cell view i j in
+    guard (is_inactive view places point) _ (λ here.
+    let at_cell = inactive_kept view places point a of_cell.of_enable ∙ here in
+    let at_view = inactive_kept view places point b of_view.of_enable ∙ here in
+    let at_both = inactive_kept view places (bit_and point b) a of_cell.of_enable ∙ at_view in
+    difference_none (length cell.groups + i + 1) point point false (cell_output cell view i j point) (view_output cell view i j point)
+    (sym (cell_output_kept cell view i j point a of_cell)
+    ∙ point_agrees cell view i j (bit_and point a) (none (bit_and point a) (less_masked point a first)) at_cell
+    ∙ sym (view_output_kept cell view i j (bit_and point a) b of_view)
+    ∙ ap (view_output cell view i j) (masks_swap point a b)
+    ∙ sym (point_agrees cell view i j (bit_and (bit_and point b) a) (none (bit_and (bit_and point b) a) (less_twice point b a second)) at_both)
+    ∙ cell_output_kept cell view i j (bit_and point b) a of_cell
+    ∙ point_agrees cell view i j (bit_and point b) (none (bit_and point b) (less_masked point b second)) at_view
+    ∙ view_output_kept cell view i j point b of_view))

@@ -1,0 +1,178 @@
+-- Values at 64 points at once.
+use Rattle.std.proofs.Common.{◌≡◌, ◌≢◌, ℕ, zero, suc, ◌+◌, ◌%◌, ◌<◌, min, max, Bool, true, false, not, ◌&&◌, ◌||◌, cond, nat_eq, bit_and, List, [], ◌∷◌, length, drop, get_or, Option, Some, None, refl, sym, ap, ◌∙◌, arith}
+use Rattle.std.specs.Prelude.{bit_or, bit_xor}
+use Rattle.std.specs.Int.{bit_at}
+use Rattle.std.proofs.lemmas.Nat.Bits.{bit_at_and, bit_at_or, bit_at_xor, bit_at_ones, bit_at-zero, bit_at-lt}
+use Rattle.std.proofs.lemmas.List.{length-map, drop_more}
+use Rattle.std.specs.Option.{option_and_then}
+use Rattle.statetables.specs.declared.symbols.InSymbol.{InSymbol}
+use Rattle.statetables.specs.declared.lanes.InputWords.{InputWords}
+use Rattle.statetables.specs.declared.lanes.StepWords.{StepWords}
+use Rattle.statetables.specs.Symbols.{matches_in}
+use Rattle.statetables.specs.declared.table.TableRow.{TableRow}
+use Rattle.statetables.specs.Step.{inputs_match, row_matches, row_gives, row_of}
+use Rattle.statetables.specs.Lanes.{lane, before_at, after_at, found_at, is_one, is_zero}
+
+both_bits : (x y : ℕ) → x < 2 → y < 2 → nat_eq (min x y) 1 ≡ (nat_eq x 1 && nat_eq y 1)
+both_bits zero zero l m = refl
+both_bits zero (suc zero) l m = refl
+both_bits (suc zero) zero l m = refl
+both_bits (suc zero) (suc zero) l m = refl
+both_bits (suc (suc x)) y l m = absurd (omega (arith, l))
+both_bits zero (suc (suc y)) l m = absurd (omega (arith, m))
+both_bits (suc zero) (suc (suc y)) l m = absurd (omega (arith, m))
+
+either_bits : (x y : ℕ) → x < 2 → y < 2 → nat_eq (max x y) 1 ≡ (nat_eq x 1 || nat_eq y 1)
+either_bits zero zero l m = refl
+either_bits zero (suc zero) l m = refl
+either_bits (suc zero) zero l m = refl
+either_bits (suc zero) (suc zero) l m = refl
+either_bits (suc (suc x)) y l m = absurd (omega (arith, l))
+either_bits zero (suc (suc y)) l m = absurd (omega (arith, m))
+either_bits (suc zero) (suc (suc y)) l m = absurd (omega (arith, m))
+
+less_bits : (x y : ℕ) → x < 2 → y < 2 → nat_eq ((x + min x y) % 2) 1 ≡ (nat_eq x 1 && not (nat_eq y 1))
+less_bits zero zero l m = refl
+less_bits zero (suc zero) l m = refl
+less_bits (suc zero) zero l m = refl
+less_bits (suc zero) (suc zero) l m = refl
+less_bits (suc (suc x)) y l m = absurd (omega (arith, l))
+less_bits zero (suc (suc y)) l m = absurd (omega (arith, m))
+less_bits (suc zero) (suc (suc y)) l m = absurd (omega (arith, m))
+
+pub lane_both : (a b k : ℕ) → lane k (bit_and a b) ≡ (lane k a && lane k b)
+unfolding lane
+lane_both a b k = ap (λ x. nat_eq x 1) (bit_at_and a b k) ∙ both_bits (bit_at a k) (bit_at b k) (bit_at-lt a k) (bit_at-lt b k)
+
+pub lane_either : (a b k : ℕ) → lane k (bit_or a b) ≡ (lane k a || lane k b)
+unfolding lane
+lane_either a b k = ap (λ x. nat_eq x 1) (bit_at_or a b k) ∙ either_bits (bit_at a k) (bit_at b k) (bit_at-lt a k) (bit_at-lt b k)
+
+pub lane_less : (a b k : ℕ) → lane k (bit_xor a (bit_and a b)) ≡ (lane k a && not (lane k b))
+unfolding lane
+lane_less a b k =
+    ap (λ x. nat_eq x 1) (bit_at_xor a (bit_and a b) k ∙ ap (λ x. (bit_at a k + x) % 2) (bit_at_and a b k))
+    ∙ less_bits (bit_at a k) (bit_at b k) (bit_at-lt a k) (bit_at-lt b k)
+
+pub lane_none : (k : ℕ) → lane k 0 ≡ false
+unfolding lane
+lane_none k = ap (λ x. nat_eq x 1) (bit_at-zero k)
+
+pub lane_all : (k : ℕ) → k < 64 → lane k 18446744073709551615 ≡ true
+unfolding lane
+lane_all k h = ap (λ x. nat_eq x 1) (bit_at_ones 64 k h)
+
+pub and_true : (p : Bool) → (p && true) ≡ p
+and_true true = refl
+and_true false = refl
+
+pub and_false : (p : Bool) → (p && false) ≡ false
+and_false true = refl
+and_false false = refl
+
+pub and_swap : (p a b : Bool) → (p && (a && not b)) ≡ (p && (not b && a))
+and_swap false a b = refl
+and_swap true a true = and_false a
+and_swap true a false = and_true a
+
+pub not_swap : (p a b : Bool) → (p && not (a && not b)) ≡ (p && not (not b && a))
+not_swap false a b = refl
+not_swap true a true = ap not (and_false a)
+not_swap true a false = ap not (and_true a)
+
+pub and_assoc : (p a b : Bool) → ((p && a) && b) ≡ (p && (a && b))
+and_assoc true a b = refl
+and_assoc false a b = refl
+
+-- no point is left: none matches
+pub none_left : (k points : ℕ) (p m : Bool) → lane k points ≡ (p && m) → points ≡ 0 → (rest : Bool) → lane k 0 ≡ (p && (m && rest))
+none_left k points p m is none rest =
+    lane_none k ∙ ap (λ b. b && rest) (sym (lane_none k) ∙ ap (lane k) (sym none) ∙ is) ∙ and_assoc p m rest
+
+-- columns of another number do not match
+inputs_match-unequal :
+    (symbols : List InSymbol) (before after : List Bool)
+    → length symbols ≢ length before → inputs_match symbols before after ≡ false
+inputs_match-unequal [] [] after h = absurd (h refl)
+inputs_match-unequal [] (b ∷ before) after h = refl
+inputs_match-unequal (x ∷ symbols) [] [] h = refl
+inputs_match-unequal (x ∷ symbols) [] (a ∷ after) h = refl
+inputs_match-unequal (x ∷ symbols) (b ∷ before) [] h = refl
+inputs_match-unequal (x ∷ symbols) (b ∷ before) (a ∷ after) h =
+    ap (λ m. matches_in x b a && m) (inputs_match-unequal symbols before after (λ e. h (ap suc e)))
+    ∙ and_false (matches_in x b a)
+
+pub unequal_columns :
+    (k points : ℕ) (symbols : List InSymbol) (inputs : List InputWords) → length symbols ≢ length inputs
+    → lane k 0 ≡ (lane k points && inputs_match symbols (before_at k inputs) (after_at k inputs))
+unequal_columns k points symbols inputs h =
+    lane_none k
+    ∙ sym (ap (λ m. lane k points && m)
+    (inputs_match-unequal symbols (before_at k inputs) (after_at k inputs)
+    (λ e. h (e ∙ length-map {A = InputWords} {B = Bool} inputs (λ (words : InputWords). lane k words.before))))
+    ∙ and_false (lane k points))
+
+-- what is found with one more row
+abbrev pub found : Bool → Bool → Bool → Option Bool → Option Bool
+found u s z later = cond u later (cond s (Some true) (cond z (Some false) None))
+
+more : (u s z m : Bool) (g later : Option Bool)
+    → found (u && not (u && m)) ((s && not (u && m)) || ((u && m) && is_one g)) ((z && not (u && m)) || ((u && m) && is_zero g)) later
+    ≡ found u s z (cond m g later)
+more false false false m g later = refl
+more false false true m g later = refl
+more false true false m g later = refl
+more false true true m g later = refl
+more true s z false g later = refl
+more true false false true None later = refl
+more true false true true None later = refl
+more true true false true None later = refl
+more true true true true None later = refl
+more true false false true (Some true) later = refl
+more true false true true (Some true) later = refl
+more true true false true (Some true) later = refl
+more true true true true (Some true) later = refl
+more true false false true (Some false) later = refl
+more true false true true (Some false) later = refl
+more true true false true (Some false) later = refl
+more true true true true (Some false) later = refl
+
+pub more_found :
+    (k u ones zeros u' ones' zeros' : ℕ) (m : Bool) (g later : Option Bool)
+    → lane k u' ≡ (lane k u && not (lane k u && m))
+    → lane k ones' ≡ ((lane k ones && not (lane k u && m)) || ((lane k u && m) && is_one g))
+    → lane k zeros' ≡ ((lane k zeros && not (lane k u && m)) || ((lane k u && m) && is_zero g))
+    → found (lane k u') (lane k ones') (lane k zeros') later ≡ found (lane k u) (lane k ones) (lane k zeros) (cond m g later)
+more_found k u ones zeros u' ones' zeros' m g later o s z =
+    rw (o, s, z) (more (lane k u) (lane k ones) (lane k zeros) m g later)
+
+-- a row that matches none of the u points adds nothing
+pub none_found :
+    (u s z m : Bool) (g later : Option Bool) → (u && m) ≡ false
+    → found u s z later ≡ found u s z (cond m g later)
+none_found false s z m g later h = refl
+none_found true s z true g later h = absurd cc
+none_found true s z false g later h = refl
+
+-- where no point is undecided nothing more is found
+pub all_found : (k : ℕ) (words : StepWords) (later : Option Bool) → words.undecided ≡ 0 → found_at k words None ≡ found_at k words later
+all_found k words later none =
+    let found : lane k words.undecided ≡ false = ap (lane k) none ∙ lane_none k in
+    rw found refl
+
+choose : {A : Type 0} (b : Bool) (f : A → Option Bool) (x : A) (rest : Option A)
+    → cond b (f x) (option_and_then f rest) ≡ option_and_then f (cond b (Some x) rest)
+choose true f x rest = refl
+choose false f x rest = refl
+
+-- the first row of those from here on
+pub row_turn :
+    (node : ℕ) (before after : List Bool) (state : Bool) (rows : List TableRow) (i : ℕ) (row : TableRow)
+    → i < length rows → row ≡ get_or rows i row
+    → cond (row_matches node before after state row) (row_gives node state row)
+    (option_and_then (row_gives node state) (row_of (drop (i + 1) rows) node before after state))
+    ≡ option_and_then (row_gives node state) (row_of (drop i rows) node before after state)
+row_turn node before after state rows i row within is =
+    let e : drop i rows ≡ row ∷ drop (i + 1) rows = drop_more rows i row within ∙ ap (λ r. r ∷ drop (i + 1) rows) (sym is) in
+    rw e
+    (choose (row_matches node before after state row) (row_gives node state) row (row_of (drop (i + 1) rows) node before after state))

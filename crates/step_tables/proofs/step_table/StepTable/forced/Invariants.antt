@@ -1,0 +1,13 @@
+use Rattle.std.proofs.Common.{◌≡◌, ◌-◌, ◌++◌, take, drop, length}
+use Rattle.cell_machine.specs.Machine.{around}
+use Rattle.cell_machine.specs.CellData.{data_of}
+use Rattle.cell_machine.specs.CellTrace.{step_at}
+use Rattle.step_tables.specs.Turned.{both_steps}
+use Rattle.step_tables.proofs.step_table.StepTable.forced.Given as goal
+
+-- the common value of the points that differ in one of the last places
+abbrev pub invariant-loop-behind : goal.invariant-loop-behind
+invariant-loop-behind l =
+    l.value
+    ≡ around (λ q. both_steps (step_at (data_of l.self.cell.now) l.self.group) l.point (take (length l.point - l.behind) l.point ++ q))
+    (drop (length l.point - l.behind) l.point)

@@ -1,0 +1,54 @@
+//! Points of the inputs of a group.
+ghost use Rattle.std.specs.Prelude.{◌≡◌, ◌≤◌, ◌<◌, ◌^◌, false, length, slice_index_or};
+ghost use Rattle.trit_cubes.specs.Filling.{number};
+ghost use Rattle.trit_cubes.specs.Sets.{point_of as point_with};
+ghost use Rattle.step_tables.specs.Turned.{turned as turned_point};
+
+use cell_machine::Few;
+
+/// So many places of the point with this number, in which place i weighs 2 to the power i.
+pub fn point_of(places: usize, number: usize) -> Few<bool, 8>
+    requires { places ≤ 8 }
+    ensures { result ≡ point_with places number }
+{
+    let mut point = Few::new(false);
+    let mut rest = number;
+    for _place in 0..places {
+        point.push(rest % 2 == 1);
+        rest /= 2;
+    }
+    point
+}
+
+/// The number of a point.
+pub fn number_of(point: &[bool]) -> usize
+    requires { length point.now ≤ 8 }
+    ensures value { result ≡ number point.now }
+    ensures small { result < 2 ^ length point.now }
+{
+    let Some((first, rest)) = point.split_first() else {
+        return 0;
+    };
+    let behind = number_of(rest);
+    usize::from(*first) + 2 * behind
+}
+
+/// Place i of the point that differs in this place alone.
+fn turned_at(place: usize, point: &[bool], i: usize) -> bool
+    requires { i < length point.now }
+    ensures { result ≡ slice_index_or (turned_point place point.now) i false }
+{
+    if i == place { !point[i] } else { point[i] }
+}
+
+/// The point that differs in this place alone; the point itself where it has no such place.
+pub fn turned(place: usize, point: &[bool]) -> Few<bool, 8>
+    requires { length point.now ≤ 8 }
+    ensures { result ≡ turned_point place point.now }
+{
+    let mut all = Few::new(false);
+    for i in 0..point.len() {
+        all.push(turned_at(place, point, i));
+    }
+    all
+}

@@ -4,8 +4,8 @@ use Rattle.trit_cubes.specs.declared.trits.Trit.TheVariants.{Unknown}
 use Rattle.bool_functions.specs.Support.{support_of}
 use Rattle.cell_machine.specs.Outputs.{output_at, condition_at}
 use Rattle.cell_machine.specs.CellTrace.{support_at, step_at}
-use Rattle.vital_models.specs.LookUps.{lookup_state}
-use Rattle.vital_models.specs.Rows.{compact_rows}
+use Rattle.vital_tables.specs.LookUps.{lookup_state}
+use Rattle.vital_tables.specs.Rows.{compact_rows}
 use Rattle.vital_models.specs.Generated.{has_violation}
 use Rattle.vital_models.specs.Laws.{StatesAreMachines, OutputsResolve, ConditionsResolve}
 use Rattle.vital_models.proofs.TruthRows.{truth_rows-resolve}

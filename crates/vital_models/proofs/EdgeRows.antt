@@ -12,12 +12,12 @@ use Rattle.udp_tables.proofs.ColumnLemmas.{and-true}
 use Rattle.udp_tables.proofs.CubeLemmas.{edge-long, edge-moves}
 use Rattle.udp_tables.proofs.PairLemmas.{init-with}
 use Rattle.udp_tables.proofs.RowForms.{FitsCubes, FitsPairs, rows-each, rows-right, rows-found, compact-each, compact-right, compact-found}
-use Rattle.vital_models.specs.declared.table.VSymbol.TheVariants as symbol
-use Rattle.vital_models.specs.declared.table.Trits.TheVariants as trits
-use Rattle.vital_models.specs.declared.table.VStateRow.{VStateRow}
-use Rattle.vital_models.specs.Symbols.{trits_match, symbol_matches}
-use Rattle.vital_models.specs.LookUps.{state_matches, row_next}
-use Rattle.vital_models.specs.Rows.{level_of, level_symbol, edge_symbol, violated, edge_columns, edge_row, keep_row}
+use Rattle.vital_tables.specs.declared.table.VSymbol.TheVariants as symbol
+use Rattle.vital_tables.specs.declared.table.Trits.TheVariants as trits
+use Rattle.vital_tables.specs.declared.table.VStateRow.{VStateRow}
+use Rattle.vital_tables.specs.Symbols.{trits_match, symbol_matches}
+use Rattle.vital_tables.specs.LookUps.{state_matches, row_next}
+use Rattle.vital_tables.specs.Rows.{level_of, level_symbol, edge_symbol, violated, edge_columns, edge_row, keep_row}
 use Rattle.vital_models.proofs.SymbolLemmas.{level-admits, columns-kept, columns-cover}
 use Rattle.vital_models.proofs.StateRows.{Serves, next-value}
 

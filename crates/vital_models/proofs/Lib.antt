@@ -1,6 +1,5 @@
 pub mod ListLemmas
 pub mod SymbolLemmas
-pub mod RowWordLemmas
 pub mod StateRows
 pub mod EdgeRows
 pub mod TruthRows

@@ -1,14 +1,14 @@
 -- The definitions at small steps, by computing.
 use Rattle.std.proofs.Common.{◌≡◌, true, false, List, [], ◌∷◌, ◌++◌, refl}
-use Rattle.vital_models.specs.declared.table.Trits.{Trits}
-use Rattle.vital_models.specs.declared.table.Trits.TheVariants as trits
-use Rattle.vital_models.specs.declared.table.VSymbol.{VSymbol}
-use Rattle.vital_models.specs.declared.table.VSymbol.TheVariants as symbol
-use Rattle.vital_models.specs.declared.table.VNext.{VNext}
-use Rattle.vital_models.specs.declared.table.VNext.TheVariants as next
-use Rattle.vital_models.specs.declared.table.VStateRow.{VStateRow}
+use Rattle.vital_tables.specs.declared.table.Trits.{Trits}
+use Rattle.vital_tables.specs.declared.table.Trits.TheVariants as trits
+use Rattle.vital_tables.specs.declared.table.VSymbol.{VSymbol}
+use Rattle.vital_tables.specs.declared.table.VSymbol.TheVariants as symbol
+use Rattle.vital_tables.specs.declared.table.VNext.{VNext}
+use Rattle.vital_tables.specs.declared.table.VNext.TheVariants as next
+use Rattle.vital_tables.specs.declared.table.VStateRow.{VStateRow}
 use Rattle.udp_tables.proofs.SequentialRows.{flip_flop, cleared}
-use Rattle.vital_models.specs.Rows.{state_rows, compact_rows}
+use Rattle.vital_tables.specs.Rows.{state_rows, compact_rows}
 
 row : List VSymbol → Trits → VNext → VStateRow
 row inputs state result = record { inputs = inputs; state = state; result = result }

@@ -6,9 +6,9 @@ use Rattle.cell_machine.specs.Machine.{Step, without, machine_step, forced}
 use Rattle.udp_tables.specs.Edges.{edge_rows, compact_edge_rows}
 use Rattle.udp_tables.proofs.ColumnLemmas.{length-without, before-change}
 use Rattle.udp_tables.proofs.CubeLemmas.{differ}
-use Rattle.vital_models.specs.declared.table.VStateRow.{VStateRow}
-use Rattle.vital_models.specs.LookUps.{lookup_state}
-use Rattle.vital_models.specs.Rows.{violated, step_rows, edge_row, keep_row}
+use Rattle.vital_tables.specs.declared.table.VStateRow.{VStateRow}
+use Rattle.vital_tables.specs.LookUps.{lookup_state}
+use Rattle.vital_tables.specs.Rows.{violated, step_rows, edge_row, keep_row}
 use Rattle.vital_models.specs.RowLaws.{StateRowsAreMachine, CompactRowsAreMachine, FormsAgree}
 use Rattle.vital_models.proofs.StateRows.{Serves, step_rows-change, step_rows-keep, step_rows-force}
 use Rattle.vital_models.proofs.EdgeRows.{edge_rows-serve, compact_rows-serve}

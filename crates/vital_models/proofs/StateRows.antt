@@ -14,10 +14,10 @@ use Rattle.udp_tables.proofs.ColumnLemmas.{length-insert}
 use Rattle.udp_tables.proofs.CubeLemmas.{known-or, among-below}
 use Rattle.udp_tables.proofs.ChangeColumns.{levels-cover}
 use Rattle.udp_tables.proofs.ForcedRows.{FitsForced, forced-given, forced-found, changed-own}
-use Rattle.vital_models.specs.declared.table.VStateRow.{VStateRow}
-use Rattle.vital_models.specs.Symbols.{next_of}
-use Rattle.vital_models.specs.LookUps.{state_matches, row_next, lookup_state}
-use Rattle.vital_models.specs.Rows.{violated, next_to, steady_row, level_row, violation_rows, closing_row, step_rows}
+use Rattle.vital_tables.specs.declared.table.VStateRow.{VStateRow}
+use Rattle.vital_tables.specs.Symbols.{next_of}
+use Rattle.vital_tables.specs.LookUps.{state_matches, row_next, lookup_state}
+use Rattle.vital_tables.specs.Rows.{violated, next_to, steady_row, level_row, violation_rows, closing_row, step_rows}
 use Rattle.vital_models.proofs.SymbolLemmas.{symbols-fit, steady-matches, steady-moved, level_row-matches}
 
 -- what the rows of the changes of each pin have to do

@@ -9,12 +9,12 @@ use Rattle.udp_tables.specs.Edges.{moves}
 use Rattle.udp_tables.proofs.ColumnLemmas.{and-true, and-false, length-insert, at-insert}
 use Rattle.udp_tables.proofs.CubeLemmas.{admits, same-self}
 use Rattle.udp_tables.proofs.ChangeColumns.{FitsEntries, levels-cover, change-kept, change-covers}
-use Rattle.vital_models.specs.declared.table.VSymbol.{VSymbol}
-use Rattle.vital_models.specs.declared.table.VSymbol.TheVariants as symbol
-use Rattle.vital_models.specs.declared.table.Trits.TheVariants as trits
-use Rattle.vital_models.specs.Symbols.{trits_match, level_matches, symbol_matches}
-use Rattle.vital_models.specs.LookUps.{state_matches}
-use Rattle.vital_models.specs.Rows.{level_of, level_symbol, edge_symbol, violated, level_row, edge_columns}
+use Rattle.vital_tables.specs.declared.table.VSymbol.{VSymbol}
+use Rattle.vital_tables.specs.declared.table.VSymbol.TheVariants as symbol
+use Rattle.vital_tables.specs.declared.table.Trits.TheVariants as trits
+use Rattle.vital_tables.specs.Symbols.{trits_match, level_matches, symbol_matches}
+use Rattle.vital_tables.specs.LookUps.{state_matches}
+use Rattle.vital_tables.specs.Rows.{level_of, level_symbol, edge_symbol, violated, level_row, edge_columns}
 
 -- levels of a cube match what the cube covers
 pub level-admits : (w t : Trit) → trits_match (level_of w) t ≡ admits w t

@@ -19,8 +19,8 @@ use Rattle.udp_tables.specs.Tables.{value_rows, or_row}
 use Rattle.udp_tables.specs.Generated as prim
 use Rattle.udp_tables.specs.Edges.{forced_rows, edge_cubes, is_paired, kept_or_one, compact_edge_rows, each_below}
 use Rattle.udp_tables.specs.Sequential as seq
-use Rattle.vital_models.specs.declared.table.VStateRow.{VStateRow}
-use Rattle.vital_models.specs.Rows.{level_of, level_symbol, edge_symbol, truth_row, truth_rows, level_row, violation_rows, edge_columns, edge_row, keep_row}
+use Rattle.vital_tables.specs.declared.table.VStateRow.{VStateRow}
+use Rattle.vital_tables.specs.Rows.{level_of, level_symbol, edge_symbol, truth_row, truth_rows, level_row, violation_rows, edge_columns, edge_row, keep_row}
 use Rattle.vital_models.specs.Translation.{level_from, trits_from, truth_row_from, symbol_from, violation_from, columns_from, result_from, state_row_from, is_written, state_rows_from}
 
 -- levels
@@ -239,8 +239,3 @@ state-from checks n step =
     forced-from checks n step i
     ++ (notifier-from checks n i
     ++ below-from checks (compact_edge_rows (seq.edge_row checks) (seq.keep_row checks) step n) (compact_edge_rows (edge_row checks) (keep_row checks) step n) (edges-from checks step n) n i))
-
--- free places in a row of their own
-pub free-columns : (n : ℕ) → replicate n (level_symbol Unknown) ≡ map level_symbol (replicate n Unknown)
-free-columns zero = refl
-free-columns (suc n) = ap (λ es. level_symbol Unknown ∷ es) (free-columns n)

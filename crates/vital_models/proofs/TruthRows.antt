@@ -9,9 +9,9 @@ use Rattle.trit_cubes.specs.Prime.{prime_list}
 use Rattle.udp_tables.specs.Tables.{first, value_rows, or_row}
 use Rattle.udp_tables.proofs.FirstLemmas.{found-any, first-gives}
 use Rattle.udp_tables.proofs.CubeLemmas.{known-or, prime-gives, prime-found, value_rows-among, among-value_rows}
-use Rattle.vital_models.specs.declared.table.TruthRow.{TruthRow}
-use Rattle.vital_models.specs.LookUps.{truth_matches}
-use Rattle.vital_models.specs.Rows.{truth_row}
+use Rattle.vital_tables.specs.declared.table.TruthRow.{TruthRow}
+use Rattle.vital_tables.specs.LookUps.{truth_matches}
+use Rattle.vital_tables.specs.Rows.{truth_row}
 use Rattle.vital_models.specs.RowLaws.{TruthRowsResolve}
 use Rattle.vital_models.proofs.SymbolLemmas.{truth-covers}
 

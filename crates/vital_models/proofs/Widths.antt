@@ -14,11 +14,11 @@ use Rattle.udp_tables.proofs.ColumnLemmas.{length-insert}
 use Rattle.udp_tables.proofs.CubeLemmas.{edge-long, value_rows-among, below-among}
 use Rattle.udp_tables.proofs.GroupLemmas.{length-init}
 use Rattle.udp_tables.proofs.PairLemmas.{compact-among}
-use Rattle.vital_models.specs.declared.table.TruthRow.{TruthRow}
-use Rattle.vital_models.specs.declared.table.VSymbol.{VSymbol}
-use Rattle.vital_models.specs.declared.table.VSymbol.TheVariants as symbol
-use Rattle.vital_models.specs.declared.table.VStateRow.{VStateRow}
-use Rattle.vital_models.specs.Rows.{level_of, level_symbol, edge_symbol, truth_row, truth_rows, violated, level_row, violation_rows, steady_row, closing_row, edge_columns, edge_row, keep_row, compact_rows}
+use Rattle.vital_tables.specs.declared.table.TruthRow.{TruthRow}
+use Rattle.vital_tables.specs.declared.table.VSymbol.{VSymbol}
+use Rattle.vital_tables.specs.declared.table.VSymbol.TheVariants as symbol
+use Rattle.vital_tables.specs.declared.table.VStateRow.{VStateRow}
+use Rattle.vital_tables.specs.Rows.{level_of, level_symbol, edge_symbol, truth_row, truth_rows, violated, level_row, violation_rows, steady_row, closing_row, edge_columns, edge_row, keep_row, compact_rows}
 
 -- truth tables
 pub truth-width : (n : ℕ) (f : List Bool → Trit) (row : TruthRow) → Among row (truth_rows n f) → length row.inputs ≡ n

@@ -17,8 +17,8 @@ use Rattle.cell_machine.specs.CellData.{CellData}
 use Rattle.udp_tables.specs.Conditions.{conditions_of, condition_place, conditions_beside}
 use Rattle.cell_machine.specs.CellTrace.{support_at, step_at}
 use Rattle.udp_tables.specs.CellPrimitives.{has_notifier, has_sources}
-use Rattle.vital_models.specs.declared.table.TruthTable.{TruthTable}
-use Rattle.vital_models.specs.declared.table.VStateTable.{VStateTable}
+use Rattle.vital_tables.specs.declared.table.TruthTable.{TruthTable}
+use Rattle.vital_tables.specs.declared.table.VStateTable.{VStateTable}
 use Rattle.vital_models.specs.declared.model.VState.{VState}
 use Rattle.vital_models.specs.declared.model.VTruth.{VTruth}
 use Rattle.vital_models.specs.declared.model.OutValue.{OutValue}
@@ -30,7 +30,7 @@ use Rattle.vital_models.specs.declared.model.HPath.{HPath}
 use Rattle.udp_tables.specs.declared.timing_checks.TimingCheck.{TimingCheck}
 use Rattle.udp_tables.specs.TimingChecks.{check_by}
 use Rattle.vital_models.specs.declared.model.VEntity.{VEntity}
-use Rattle.vital_models.specs.Rows.{truth_rows, compact_rows}
+use Rattle.vital_tables.specs.Rows.{truth_rows, compact_rows}
 use Rattle.vital_models.specs.Ports.{port_number, ports_of}
 
 -- whether state tables have a column of the violation: the cell has checks

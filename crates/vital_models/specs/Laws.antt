@@ -11,8 +11,8 @@ use Rattle.cell_machine.specs.CellRules.{is_cell}
 use Rattle.cell_machine.specs.Machine.{without, machine_step, forced}
 use Rattle.cell_machine.specs.CellData.{CellData}
 use Rattle.cell_machine.specs.CellTrace.{support_at, step_at}
-use Rattle.vital_models.specs.LookUps.{lookup_truth, lookup_state}
-use Rattle.vital_models.specs.Rows.{violated}
+use Rattle.vital_tables.specs.LookUps.{lookup_truth, lookup_state}
+use Rattle.vital_tables.specs.Rows.{violated}
 use Rattle.vital_models.specs.Generated.{has_violation, state_table, condition_table, output_table, entity_of}
 use Rattle.vital_models.specs.Sound.{IsSound}
 

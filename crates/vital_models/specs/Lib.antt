@@ -1,7 +1,3 @@
-pub mod Symbols
-pub mod LookUps
-pub mod RowWords
-pub mod Rows
 pub mod RowLaws
 pub mod Kept
 pub mod Ports
@@ -9,3 +5,7 @@ pub mod Generated
 pub mod Translation
 pub mod Sound
 pub mod Laws
+pub use Rattle.vital_tables.specs.Symbols as Symbols
+pub use Rattle.vital_tables.specs.LookUps as LookUps
+pub use Rattle.vital_tables.specs.RowWords as RowWords
+pub use Rattle.vital_tables.specs.Rows as Rows

@@ -4,9 +4,9 @@ use Rattle.trit_cubes.specs.declared.trits.Trit.{Trit}
 use Rattle.trit_cubes.specs.declared.trits.Trit.TheVariants.{Zero, Unknown}
 use Rattle.trit_cubes.specs.Resolution.{res}
 use Rattle.cell_machine.specs.Machine.{Step, without, machine_step, forced}
-use Rattle.vital_models.specs.declared.table.VStateRow.{VStateRow}
-use Rattle.vital_models.specs.LookUps.{lookup_truth, lookup_state}
-use Rattle.vital_models.specs.Rows.{truth_rows, violated, state_rows, compact_rows}
+use Rattle.vital_tables.specs.declared.table.VStateRow.{VStateRow}
+use Rattle.vital_tables.specs.LookUps.{lookup_truth, lookup_state}
+use Rattle.vital_tables.specs.Rows.{truth_rows, violated, state_rows, compact_rows}
 
 -- The truth table of a function gives its resolution, for every list of trits.
 abbrev pub TruthRowsResolve : Type 0

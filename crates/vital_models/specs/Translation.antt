@@ -11,14 +11,14 @@ use Rattle.udp_tables.specs.declared.table.Next.{Next}
 use Rattle.udp_tables.specs.declared.table.Next.TheVariants as kept
 use Rattle.udp_tables.specs.declared.table.UdpRow.{UdpRow}
 use Rattle.udp_tables.specs.Primitive.{next_of}
-use Rattle.vital_models.specs.declared.table.Trits.{Trits}
-use Rattle.vital_models.specs.declared.table.Trits.TheVariants as trits
-use Rattle.vital_models.specs.declared.table.TruthRow.{TruthRow}
-use Rattle.vital_models.specs.declared.table.VSymbol.{VSymbol}
-use Rattle.vital_models.specs.declared.table.VSymbol.TheVariants as symbol
-use Rattle.vital_models.specs.declared.table.VNext.{VNext}
-use Rattle.vital_models.specs.declared.table.VNext.TheVariants as next
-use Rattle.vital_models.specs.declared.table.VStateRow.{VStateRow}
+use Rattle.vital_tables.specs.declared.table.Trits.{Trits}
+use Rattle.vital_tables.specs.declared.table.Trits.TheVariants as trits
+use Rattle.vital_tables.specs.declared.table.TruthRow.{TruthRow}
+use Rattle.vital_tables.specs.declared.table.VSymbol.{VSymbol}
+use Rattle.vital_tables.specs.declared.table.VSymbol.TheVariants as symbol
+use Rattle.vital_tables.specs.declared.table.VNext.{VNext}
+use Rattle.vital_tables.specs.declared.table.VNext.TheVariants as next
+use Rattle.vital_tables.specs.declared.table.VStateRow.{VStateRow}
 
 -- a level
 abbrev pub level_from : Level → Trits

@@ -4,21 +4,18 @@
 mod generation;
 mod kept;
 pub mod laws;
-mod lookups;
-mod matching;
 mod model;
 mod names;
 mod ports;
-mod row_words;
-mod table;
 mod tables;
 mod timing;
 mod translation;
 
 pub use generation::vital_model;
-pub use lookups::{keyed_state, keyed_truth, lookup_state, lookup_truth};
 pub use model::{HGate, HPath, OutValue, VEntity, VOutput, VState, VTruth};
 pub use names::{driver_name, entity_name};
 pub use ports::vital_ports;
-pub use row_words::{TableRow, words_of};
-pub use table::{Trits, TruthRow, TruthTable, VNext, VStateRow, VStateTable, VSymbol};
+pub use vital_tables::{
+    TableRow, Trits, TruthRow, TruthTable, VNext, VStateRow, VStateTable, VSymbol, keyed_state,
+    keyed_truth, lookup_state, lookup_truth, table, words_of,
+};

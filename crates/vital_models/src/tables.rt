@@ -1,18 +1,17 @@
 //! The tables of a cell: of its groups, conditions and outputs.
-ghost use Rattle.std.specs.Prelude.{◌≡◌, ◌<◌, ◌++◌, [], ◌∷◌, map, length, replicate, slice_get, Some, IfOk};
+ghost use Rattle.std.specs.Prelude.{◌≡◌, ◌<◌, map, length, slice_get, Some, IfOk};
 ghost use Rattle.cell_machine.specs.CellData.{data_of};
 ghost use Rattle.udp_tables.specs.Conditions.{conditions_of};
-ghost use Rattle.udp_tables.specs.CellPrimitives.{condition_tree};
-ghost use Rattle.vital_models.specs.Rows.{violated, steady_row, closing_row};
+ghost use Rattle.udp_tables.specs.CellPrimitives.{condition_tree, group_primitive};
 ghost use Rattle.vital_models.specs.Translation.{state_rows_from};
 ghost use Rattle.vital_models.specs.Generated.{has_violation, state_table, condition_table, output_table};
 
-use crate::table::{Trits, TruthTable, VNext, VStateRow, VStateTable, VSymbol};
-use crate::translation::{add_state_rows, truth_rows_from};
+use crate::translation::{state_rows_from, truth_rows_from};
 use cell_machine::{Cell, OutputPin};
 use sqlite_items::Items;
 use std::alloc::{AllocError, Global};
-use udp_tables::{ModelSource, Part, UdpRow, part_udp, sequential_udp};
+use udp_tables::{ModelSource, Part, part_udp, sequential_udp};
+use vital_tables::{TruthTable, VStateRow, VStateTable, state_rows};
 
 /// Whether state tables have a column of the violation: the cell has checks.
 pub(crate) fn has_violation(cell: &Cell) -> bool
@@ -30,75 +29,20 @@ pub(crate) fn state_table(
     requires { group < length cell.now.groups }
     ensures { IfOk result (λ table. table ≡ state_table (data_of cell.now) group) }
 {
-    let violation = has_violation(cell);
     let pins = cell.group(group).support.len();
+    let decisive = decisive_rows(alloc, cell, group)?;
+    Ok(VStateTable {
+        rows: state_rows(alloc, has_violation(cell), pins, decisive)?,
+    })
+}
+
+/// The rows of a group's state table that the rows of its primitive become.
+fn decisive_rows(alloc: Global, cell: &Cell, group: usize) -> Result<Items<VStateRow>, AllocError>
+    requires { group < length cell.now.groups }
+    ensures { IfOk result (λ rows. rows ≡ state_rows_from (has_violation (data_of cell.now)) (group_primitive (data_of cell.now) group).rows) }
+{
     let udp = sequential_udp(alloc, cell, group)?;
-    let rows = state_rows(alloc, violation, pins, udp.rows.as_slice());
-    Ok(VStateTable { rows: rows? })
-}
-
-/// The rows of a state table that these rows of a primitive become, behind the one that keeps the state and before the one that makes
-/// it unknown.
-fn state_rows(
-    alloc: Global,
-    violation: bool,
-    pins: usize,
-    udp_rows: &[UdpRow],
-) -> Result<Items<VStateRow>, AllocError>
-    ensures { IfOk result (λ rows. rows ≡ steady_row violation pins ∷ (state_rows_from violation udp_rows.now ++ closing_row violation pins ∷ [])) }
-{
-    let mut rows = Items::new(alloc);
-    rows.push(steady_row(alloc, violation, pins)?)?;
-    add_state_rows(alloc, &mut rows, violation, udp_rows)?;
-    rows.push(closing_row(alloc, violation, pins)?)?;
-    Ok(rows)
-}
-
-/// The row that keeps the state where there is no violation and no pin changes.
-fn steady_row(alloc: Global, violation: bool, pins: usize) -> Result<VStateRow, AllocError>
-    ensures { IfOk result (λ row. row ≡ steady_row violation pins) }
-{
-    Ok(VStateRow {
-        inputs: columns(
-            alloc,
-            violation,
-            VSymbol::Level(Trits::Zero),
-            VSymbol::Steady,
-            pins,
-        )?,
-        state: Trits::Any,
-        result: VNext::Keep,
-    })
-}
-
-/// The row that makes the state unknown where no other one matches.
-fn closing_row(alloc: Global, violation: bool, pins: usize) -> Result<VStateRow, AllocError>
-    ensures { IfOk result (λ row. row ≡ closing_row violation pins) }
-{
-    let any = VSymbol::Level(Trits::Any);
-    Ok(VStateRow {
-        inputs: columns(alloc, violation, any, any, pins)?,
-        state: Trits::Any,
-        result: VNext::Unknown,
-    })
-}
-
-/// One symbol for all pins, after that of the violation where there is one.
-fn columns(
-    alloc: Global,
-    violation: bool,
-    first: VSymbol,
-    others: VSymbol,
-    pins: usize,
-) -> Result<Items<VSymbol>, AllocError>
-    ensures { IfOk result (λ columns. columns ≡ violated violation first (replicate pins others)) }
-{
-    let mut columns = Vec::new(alloc);
-    if violation {
-        columns.push(first)?;
-    }
-    columns.extend_from_slice(&vec![in alloc; others; pins]?)?;
-    Ok(Items::from_vec(columns))
+    state_rows_from(alloc, has_violation(cell), udp.rows.as_slice())
 }
 
 /// The truth table of a condition, which the cell has with this number, over the pins that it names.

@@ -5,11 +5,11 @@ ghost use Rattle.udp_tables.specs.declared.table.Level.TheVariants as level;
 ghost use Rattle.udp_tables.specs.declared.table.Entry.TheVariants as entry;
 ghost use Rattle.vital_models.specs.Translation.{level_from, trits_from, truth_row_from, pair_from, symbol_from, violation_from, columns_from, result_from, state_row_from, is_written, state_rows_from};
 
-use crate::table::{Trits, TruthRow, VNext, VStateRow, VSymbol};
 use sqlite_items::Items;
 use std::alloc::{AllocError, Global};
 use trit_cubes::Trit;
 use udp_tables::{Entry, Level, Next, UdpRow};
+use vital_tables::{Trits, TruthRow, VNext, VStateRow, VSymbol};
 
 /// The rows of a combinational primitive as those of a truth table.
 pub(crate) fn truth_rows_from(alloc: Global, rows: &[UdpRow]) -> Result<Items<TruthRow>, AllocError>
@@ -76,22 +76,22 @@ fn level_from(given: Level) -> Trits
     }
 }
 
-/// Adds the rows of a sequential primitive, whose last input is the notifier where there are checks. A row in place of no row is
-/// left out.
-pub(crate) fn add_state_rows(
+/// The rows of a sequential primitive, whose last input is the notifier where there are checks, as those of a state table. A row in
+/// place of no row is left out.
+pub(crate) fn state_rows_from(
     alloc: Global,
-    table: &mut Items<VStateRow>,
     checks: bool,
     rows: &[UdpRow],
-) -> Result<(), AllocError>
-    ensures { OnOk result (table.new ≡ table.old ++ state_rows_from checks rows.now) }
+) -> Result<Items<VStateRow>, AllocError>
+    ensures { IfOk result (λ table. table ≡ state_rows_from checks rows.now) }
 {
+    let mut table = Items::new(alloc);
     for row in rows {
         if is_written(checks, row) {
             table.push(state_row_from(alloc, checks, row)?)?;
         }
     }
-    Ok(())
+    Ok(table)
 }
 
 /// Whether a primitive's row has one in a state table.

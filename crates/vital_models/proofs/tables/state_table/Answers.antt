@@ -1,11 +1,9 @@
-use Rattle.std.proofs.Common.{◌≡◌, length, [], ◌∷◌, ◌++◌, sym, ◌∙◌, ap}
+use Rattle.std.proofs.Common.{◌≡◌, length, [], sym, ◌∙◌, ap}
 use Rattle.std.specs.Option.{option_map_or}
 use Rattle.cell_machine.specs.declared.groups.StateGroup.{StateGroup}
-use Rattle.udp_tables.specs.declared.table.Udp.{Udp}
 use Rattle.cell_machine.specs.CellData.{data_of}
 use Rattle.cell_machine.specs.CellTrace.{support_at, step_at}
-use Rattle.vital_models.specs.Rows.{steady_row, closing_row}
-use Rattle.vital_models.specs.Translation.{state_rows_from}
+use Rattle.vital_tables.specs.Rows.{state_rows_around}
 use Rattle.vital_models.specs.Generated.{has_violation}
 use Rattle.vital_models.proofs.TranslationLemmas.{state-from}
 use Rattle.vital_models.proofs.tables.state_table.Goals as goal
@@ -18,7 +16,6 @@ returns c =
     let checks = has_violation cell in
     let pins : c.len-pins.result ≡ n
     = c.len-pins.ensures ∙ sym (ap (λ o. length (option_map_or (λ (group : StateGroup). group.support) o [])) c.group.ensures.is) in
-    let made = c.in_ok-rows.ensures ∙ (λ i. steady_row (c.has_violation-violation.ensures i) (pins i) ∷
-    (state_rows_from (c.has_violation-violation.ensures i) ((c.as_slice.ensures ∙ ap (λ (udp : Udp). udp.rows) c.in_ok-udp.ensures) i)
-    ++ closing_row (c.has_violation-violation.ensures i) (pins i) ∷ [])) in
-    ap (λ rows. record { rows = rows }) (made ∙ ap (λ middle. steady_row checks n ∷ (middle ++ closing_row checks n ∷ [])) (state-from checks n (step_at cell g)))
+    let decisive = c.in_ok-decisive.ensures ∙ state-from checks n (step_at cell g) in
+    ap (λ rows. record { rows = rows })
+    (c.in_ok-state_rows.ensures ∙ (λ i. state_rows_around (c.has_violation.ensures i) (pins i) (decisive i)))

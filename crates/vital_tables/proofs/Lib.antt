@@ -1,0 +1,2 @@
+pub mod RowWordLemmas
+pub mod FreeColumns

@@ -1,0 +1,4 @@
+pub mod Symbols
+pub mod LookUps
+pub mod RowWords
+pub mod Rows

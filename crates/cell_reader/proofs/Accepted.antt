@@ -16,7 +16,7 @@ use Rattle.cell_parts.specs.CellLaws.{readings_of, texts_of, numbers_of, groups_
 use Rattle.cell_parts.specs.Limits.{first_past, state_at, wide_output}
 use Rattle.cell_reader.specs.Written.{wide_support_of}
 use Rattle.cell_machine.specs.Delay.{least}
-use Rattle.cell_reader.specs.PinTimings.{check_at_in, arc_at_in, wide_in}
+use Rattle.cell_timings.specs.PinTimings.{check_at_in, arc_at_in, wide_in}
 use Rattle.cell_reader.specs.CellTexts.{subject_of}
 use Rattle.cell_reader.specs.Refusals.{reasons_of, refusal_of, timing_answers, checks_of, arcs_of}
 use Rattle.cell_reader.specs.Laws.{AcceptedMeetsNone, AcceptedPinsAreSound, AcceptedStatesAreFew, AcceptedCellsAreSound}
@@ -27,7 +27,7 @@ use Rattle.cell_reader.proofs.Refused.{all_unmet, least_none}
 use Rattle.cell_reader.proofs.AllPlaces.{check_at_all, arc_at_all, wide_all}
 use Rattle.cell_reader.proofs.Decides.{all_read, coupled_told_is, supports_told_are, wide_supports_told_are}
 use Rattle.cell_reader.proofs.PartCounts.{IsWithinLimits, within_limits}
-use Rattle.cell_reader.proofs.TimingRules.{checks_rules, arcs_rules, arcs_apart}
+use Rattle.cell_timings.proofs.TimingRules.{checks_rules, arcs_rules, arcs_apart}
 use Rattle.cell_parts.proofs.CellGroups.{groups_keep_rules}
 use Rattle.cell_parts.proofs.CellOutputs.{outputs_keep_rules}
 

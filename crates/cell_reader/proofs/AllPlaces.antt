@@ -12,7 +12,7 @@ use Rattle.cell_parts.proofs.Distinct.{nil_parts}
 use Rattle.cell_parts.proofs.LeastLemmas.{least_append}
 use Rattle.cell_reader.specs.Written.{own_conditions_of, wide_conditions_of}
 use Rattle.cell_reader.proofs.AsWritten.{own_conditions_same, wide_conditions_same}
-use Rattle.cell_reader.specs.PinTimings.{Answer, subject_at, answers_from, places_from, arc_at_of, malformed_timing, unknown_timing, own_timing, number_timing, check_at_in, arc_at_in, wide_in}
+use Rattle.cell_timings.specs.PinTimings.{Answer, subject_at, answers_from, places_from, arc_at_of, malformed_timing, unknown_timing, own_timing, number_timing, check_at_in, arc_at_in, wide_in}
 
 -- What an answer tells, by the least offset of each kind.
 

@@ -1,8 +1,8 @@
 -- The first refusal of joined lists of reasons.
 use Rattle.std.proofs.Common.{◌≡◌, ℕ, List, [], ◌∷◌, ◌++◌, refl, Option, Some, None}
 use Rattle.cell_machine.specs.Delay.{least}
-use Rattle.cell_reader.specs.declared.refusal.Reason.{Reason}
-use Rattle.cell_reader.specs.declared.refusal.Refusal.{Refusal}
+use Rattle.cell_refusals.specs.declared.refusal.Reason.{Reason}
+use Rattle.cell_refusals.specs.declared.refusal.Refusal.{Refusal}
 use Rattle.cell_reader.specs.Refusals.{Met, refused_or, first_refusal}
 
 none_by :

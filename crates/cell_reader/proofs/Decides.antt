@@ -16,10 +16,10 @@ use Rattle.cell_parts.specs.CellLaws.{readings_of, texts_of}
 use Rattle.cell_parts.specs.Limits.{first_past, place_of_group, state_at, no_support_in, wide_support_in}
 use Rattle.cell_parts.proofs.Distinct.{nil_parts}
 use Rattle.cell_parts.proofs.LeastLemmas.{least_append}
-use Rattle.cell_reader.specs.declared.refusal.Reason.{Reason}
-use Rattle.cell_reader.specs.declared.refusal.Reason.TheVariants as reason
-use Rattle.cell_reader.specs.declared.refusal.Refusal.{Refusal}
-use Rattle.cell_reader.specs.PinTimings.{arc_at_of, malformed_timing, unknown_timing, arc_at_in, wide_in}
+use Rattle.cell_refusals.specs.declared.refusal.Reason.{Reason}
+use Rattle.cell_refusals.specs.declared.refusal.Reason.TheVariants as reason
+use Rattle.cell_refusals.specs.declared.refusal.Refusal.{Refusal}
+use Rattle.cell_timings.specs.PinTimings.{arc_at_of, malformed_timing, unknown_timing, arc_at_in, wide_in}
 use Rattle.cell_reader.specs.Refusals.{met, refused_or, first_refusal, timing_answers, timing_places, malformed, unknown_names, coupled, own_conditions, numbers, limits, middle_reasons}
 use Rattle.cell_reader.specs.Written.{wide_conditions_of, no_support_of, wide_support_of}
 use Rattle.cell_reader.specs.Told.{malformed_told, unknown_told, coupled_told, own_told, number_told, limits_told, told_reasons}

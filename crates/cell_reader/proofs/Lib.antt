@@ -4,9 +4,6 @@ pub mod Chains
 pub mod AsWritten
 pub mod AllPlaces
 pub mod Decides
-pub mod TimingRules
-pub mod Held
-pub mod HeldSteps
 pub mod PinNames
 pub mod PartCounts
 pub mod GroupsPast

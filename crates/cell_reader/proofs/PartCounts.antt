@@ -21,7 +21,7 @@ use Rattle.cell_parts.proofs.PinRules.{within_limit, owners_count}
 use Rattle.cell_parts.proofs.Fits.{readings_fit}
 use Rattle.cell_parts.proofs.GroupCount.{group_count}
 use Rattle.cell_parts.proofs.Turns.{count_shown}
-use Rattle.cell_reader.specs.PinTimings.{arc_at_of}
+use Rattle.cell_timings.specs.PinTimings.{arc_at_of}
 use Rattle.cell_reader.specs.Written.{no_support_of}
 use Rattle.cell_reader.specs.Refusals.{limits, timing_places, middle_reasons, first_refusal}
 use Rattle.cell_reader.proofs.Refused.{all_unmet}

@@ -19,8 +19,8 @@ use Rattle.cell_parts.specs.Vocabulary.{Vocabulary, vocabulary}
 use Rattle.cell_parts.specs.Building.{outputs_from}
 use Rattle.cell_parts.specs.CellLaws.{numbers_of, groups_of, outputs_of}
 use Rattle.cell_parts.proofs.Distinct.{nil_parts, pins_are_distinct}
-use Rattle.cell_reader.specs.declared.refusal.Refusal.{Refusal}
-use Rattle.cell_reader.specs.declared.refusal.Reason.TheVariants as reason
+use Rattle.cell_refusals.specs.declared.refusal.Refusal.{Refusal}
+use Rattle.cell_refusals.specs.declared.refusal.Reason.TheVariants as reason
 use Rattle.cell_reader.specs.CellTexts.{subject_of, IsUnmet}
 use Rattle.cell_reader.specs.Refusals.{met, refused_or, first_refusal, early_reasons, middle_reasons, later_reasons, refusal_of, udp_inputs, checks_of, arcs_of}
 use Rattle.cell_reader.proofs.Refused.{all_unmet}

@@ -1,7 +1,7 @@
 -- What it says that a cell is not refused: no reason is met anywhere.
 use Rattle.std.proofs.Common.{◌≡◌, ℕ, List, [], ◌∷◌, refl, Option, Some, None}
 use Rattle.cell_machine.specs.Delay.{lesser, least}
-use Rattle.cell_reader.specs.declared.refusal.Refusal.{Refusal}
+use Rattle.cell_refusals.specs.declared.refusal.Refusal.{Refusal}
 use Rattle.cell_reader.specs.Refusals.{Met, refused_or, first_refusal}
 use Rattle.cell_reader.specs.Laws.{AllUnmet}
 

@@ -7,7 +7,7 @@ use Rattle.cell_machine.specs.declared.cells.Cell.{Cell}
 use Rattle.timing_arcs.specs.declared.subject.Subject.{Subject}
 use Rattle.cell_parts.specs.Groups.{cell_name}
 use Rattle.cell_parts.specs.Pins.{pin_names, pins_of}
-use Rattle.cell_reader.specs.declared.refusal.Refusal.{Refusal}
+use Rattle.cell_refusals.specs.declared.refusal.Refusal.{Refusal}
 use Rattle.cell_reader.specs.declared.fault.CellFault.{CellFault}
 use Rattle.cell_reader.specs.declared.fault.CellFault.TheVariants as fault
 use Rattle.cell_parts.specs.CellLaws.{groups_of, outputs_of}

@@ -1,9 +1,9 @@
-pub mod PinTimings
-pub mod Held
+pub use Rattle.cell_timings.specs.PinTimings as PinTimings
+pub use Rattle.cell_timings.specs.Held as Held
 pub mod Written
 pub mod Refusals
 pub mod Told
 pub mod CellTexts
 pub mod Parts
-pub mod ReasonWords
+pub use Rattle.cell_refusals.specs.ReasonWords as ReasonWords
 pub mod Laws

@@ -4,12 +4,11 @@ use Rattle.timing_arcs.specs.declared.subject.Subject.{Subject}
 use Rattle.liberty_groups.specs.declared.tree.Group.{Group}
 use Rattle.cell_machine.specs.declared.checks.Check.{Check}
 use Rattle.cell_machine.specs.declared.arcs.Arc.{Arc}
-use Rattle.cell_machine.specs.Delay.{least}
 use Rattle.timing_arcs.specs.Timing.{malformed_at as malformed_timing, unknown_names_at as unknown_timing, numbers_at as number_timing, check_at_of}
-use Rattle.cell_reader.specs.declared.refusal.Reason.{Reason}
-use Rattle.cell_reader.specs.declared.refusal.Reason.TheVariants as reason
-use Rattle.cell_reader.specs.declared.refusal.Refusal.{Refusal}
-use Rattle.cell_reader.specs.declared.left_out.LeftOut.{LeftOut}
+use Rattle.cell_refusals.specs.declared.refusal.Reason.TheVariants as reason
+use Rattle.cell_refusals.specs.declared.refusal.Refusal.{Refusal}
+pub use Rattle.cell_refusals.specs.Reasons.{Met, met, refused_or, first_refusal}
+use Rattle.cell_timings.specs.declared.left_out.LeftOut.{LeftOut}
 use Rattle.cell_parts.specs.declared.texts.Text.{Text}
 use Rattle.cell_parts.specs.declared.state_readings.StateReading.{StateReading}
 use Rattle.cell_parts.specs.Groups.{state_groups}
@@ -19,7 +18,7 @@ use Rattle.cell_parts.specs.Declarations.{duplicates, bad_names}
 use Rattle.cell_parts.specs.Vocabulary.{vocabulary}
 use Rattle.cell_parts.specs.Texts.{malformed_at, unknown_at}
 use Rattle.cell_parts.specs.TextFaults.{malformed_in, unknown_in}
-use Rattle.cell_reader.specs.PinTimings.{Answer, answers_from, places_from, arc_at_of, checks_in, arcs_in, left_out_from}
+use Rattle.cell_timings.specs.PinTimings.{Answer, answers_from, places_from, arc_at_of, checks_in, arcs_in, left_out_from}
 use Rattle.cell_parts.specs.CellLaws.{readings_of, texts_of, numbers_of, groups_of}
 use Rattle.cell_parts.specs.Limits.{first_past, place_of_group, state_at, wide_output}
 use Rattle.cell_reader.specs.Written.{coupled_of, own_conditions_of, wide_conditions_of, no_support_of, wide_support_of}
@@ -92,14 +91,6 @@ udp_inputs pins cell =
     ++ (flat_map (wide_output (vocabulary cell) (length (pins_of cell)) (groups_of cell) (numbers_of cell)) (owners_of cell)
     ++ timing_places wide_conditions_of pins cell)
 
--- A reason, and the offsets at which it is met.
-pub record Met : Type 0 where
-  pub reason : Reason
-  pub offsets : List ℕ
-
-abbrev pub met : Reason → List ℕ → Met
-met r offsets = record { reason = r; offsets = offsets }
-
 -- The reasons that are tried before any text is read, each with the offsets at which the cell meets it.
 abbrev pub early_reasons : List (List ℕ) → Group → List Met
 early_reasons earlier cell =
@@ -135,15 +126,6 @@ later_reasons pins cell = middle_reasons pins cell ++ met reason.UdpInputs (udp_
 -- All fourteen reasons in their order.
 abbrev pub reasons_of : Subject → List (List ℕ) → Group → List Met
 reasons_of pins earlier cell = early_reasons earlier cell ++ later_reasons pins cell
-
--- The first reason that is met decides, at the least of its offsets.
-abbrev pub refused_or : Reason → Option ℕ → Option Refusal → Option Refusal
-refused_or r None later = later
-refused_or r (Some at) later = Some (record { reason = r; at = at })
-
-abbrev pub first_refusal : List Met → Option Refusal
-first_refusal [] = None
-first_refusal (m ∷ ms) = refused_or m.reason (least m.offsets) (first_refusal ms)
 
 -- Why a cell is refused, where it is.
 abbrev pub refusal_of : Subject → List (List ℕ) → Group → Option Refusal

@@ -17,10 +17,8 @@ use Rattle.cell_parts.specs.Texts.{malformed_at, unknown_at, coupled_at}
 use Rattle.cell_parts.specs.TextFaults.{malformed_in, unknown_in, coupled_in}
 use Rattle.cell_parts.specs.CellLaws.{readings_of, texts_of}
 use Rattle.cell_parts.specs.Limits.{first_past, place_of_group, state_at, no_support_in, wide_support_in}
-use Rattle.cell_reader.specs.declared.refusal.Reason.TheVariants as reason
-use Rattle.cell_reader.specs.declared.timing_faults.WrongTiming.{WrongTiming}
-use Rattle.cell_reader.specs.declared.timing_faults.WrongTiming.TheVariants as timing
-use Rattle.cell_reader.specs.PinTimings.{Answer, malformed_timing, unknown_timing, own_timing, number_timing, check_at_in, arc_at_in}
+use Rattle.cell_refusals.specs.declared.refusal.Reason.TheVariants as reason
+use Rattle.cell_timings.specs.PinTimings.{Answer, malformed_timing, unknown_timing, own_timing, number_timing, check_at_in, arc_at_in}
 use Rattle.cell_reader.specs.Refusals.{Met, met, timing_answers}
 
 -- what is wrong in this way with the texts of a state group, and with a text
@@ -33,13 +31,6 @@ abbrev pub wrong_at : WrongText → Text → List ℕ
 wrong_at wrong.Malformed = malformed_at
 wrong_at wrong.Unknown = unknown_at
 wrong_at wrong.Coupled = coupled_at
-
--- what an answer tells of what is wrong in this way in the timing of a pin
-abbrev pub wrong_timing : WrongTiming → Answer → List ℕ
-wrong_timing timing.Malformed = malformed_timing
-wrong_timing timing.UnknownName = unknown_timing
-wrong_timing timing.OwnCondition = own_timing
-wrong_timing timing.Number = number_timing
 
 -- where the support of a state group is of this size
 abbrev pub wrong_support_in : WrongSupport → StateReading → List ℕ

@@ -1,19 +1,20 @@
 //! The refusals that are tried before any text is read.
 ghost use Rattle.std.specs.Prelude.{◌≡◌, IfOk, map};
 ghost use Rattle.cell_machine.specs.Delay.{least};
-ghost use Rattle.cell_parts.specs.Groups.{inner_groups, pin_groups, state_groups};
+ghost use Rattle.cell_parts.specs.Groups.{pin_groups, state_groups};
 ghost use Rattle.cell_parts.specs.Scans.{left_out_states as left_out_states_of};
 ghost use Rattle.cell_parts.specs.Declarations.{declared_of, duplicates as duplicates_of};
 ghost use Rattle.cell_parts.specs.Shown.{shown_name};
-ghost use Rattle.cell_reader.specs.Refusals.{first_refusal, early_reasons, refused_or as refused_or_of};
+ghost use Rattle.cell_reader.specs.Refusals.{first_refusal, early_reasons};
+ghost use Rattle.cell_reader.specs.Parts.{AreGroups};
 
+use crate::cell_groups::CellGroups;
 use crate::limits::known_cell;
-use crate::refusal::{Reason, Refusal};
-use crate::scan::least_among_held;
 use crate::scans::{BadDirections, BankGroups, ClearPresets, LeftOutStates, ThreeStates};
 use bool_functions::Names;
 use cell_parts::declarations::{Declared, first_clash};
 use cell_parts::least::lesser;
+use cell_refusals::{Reason, Refusal, least_among_held, refused_or};
 use liberty_groups::Group;
 use std::alloc::{AllocError, Global};
 
@@ -44,45 +45,26 @@ fn left_out(cell: &Group, pins: &[&Group], states: &[&Group]) -> Option<usize>
     lesser(of_pins, least_among_held(&LeftOutStates, states))
 }
 
-/// This reason where it is met, else what comes later.
-pub(crate) fn refused_or(
-    reason: Reason,
-    at: Option<usize>,
-    later: Option<Refusal>,
-) -> Option<Refusal>
-    ensures { result ≡ refused_or_of reason at later }
-{
-    match at {
-        None => later,
-        Some(at) => Some(Refusal { reason, at }),
-    }
-}
-
-/// The first of the reasons that are tried before any text is read, of a cell with these groups, which declare these names.
+/// The first of the reasons that are tried before any text is read, of a cell with these groups.
 pub(crate) fn early_refusal(
     alloc: Global,
     earlier: &Names,
     cell: &Group,
-    declared: &[Declared<'_>],
-    groups: &[&Group],
-    pins: &[&Group],
-    states: &[&Group],
+    groups: &CellGroups<'_>,
 ) -> Result<Option<Refusal>, AllocError>
-    requires declared { map shown_name declared.now ≡ declared_of cell.now }
-    requires groups { map (λ group. group.now) groups.now ≡ inner_groups cell.now.items }
-    requires pins { map (λ group. group.now) pins.now ≡ pin_groups cell.now }
-    requires states { map (λ group. group.now) states.now ≡ state_groups cell.now }
+    requires { AreGroups cell.now groups.now }
     ensures { IfOk result (λ refusal. refusal ≡ first_refusal (early_reasons earlier.now cell.now)) }
 {
-    let duplicate = duplicates(alloc, earlier, cell, declared)?;
+    let duplicate = duplicates(alloc, earlier, cell, &groups.declared)?;
     let later = refused_or(Reason::Duplicate, duplicate, None);
-    let clear_preset = least_among_held(&ClearPresets, states);
+    let clear_preset = least_among_held(&ClearPresets, &groups.states);
     let later = refused_or(Reason::ClearPreset, clear_preset, later);
-    let later = refused_or(Reason::LeftOutState, left_out(cell, pins, states), later);
-    let bank = least_among_held(&BankGroups, groups);
+    let left_out_states = left_out(cell, &groups.pins, &groups.states);
+    let later = refused_or(Reason::LeftOutState, left_out_states, later);
+    let bank = least_among_held(&BankGroups, &groups.inner);
     let later = refused_or(Reason::Bank, bank, later);
-    let three_state = least_among_held(&ThreeStates, pins);
+    let three_state = least_among_held(&ThreeStates, &groups.pins);
     let later = refused_or(Reason::ThreeState, three_state, later);
-    let direction = least_among_held(&BadDirections, pins);
+    let direction = least_among_held(&BadDirections, &groups.pins);
     Ok(refused_or(Reason::Direction, direction, later))
 }

@@ -1,5 +1,5 @@
 //! Why no cell is read.
-use crate::refusal::Refusal;
+use cell_refusals::Refusal;
 use std::alloc::AllocError;
 use thiserror::Error;
 

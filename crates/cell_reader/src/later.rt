@@ -6,26 +6,23 @@ ghost use Rattle.cell_reader.specs.Refusals.{middle_reasons, first_refusal};
 ghost use Rattle.cell_reader.specs.Told.{malformed_told, unknown_told, limits_told, told_reasons};
 ghost use Rattle.cell_reader.specs.Parts.{subject_in, AreParts};
 
-use crate::early::refused_or;
 use crate::limits::{WrongSupport, bad_cell_name, first_group_past, first_past, state_offsets};
-use crate::offsets::made_offsets;
 use crate::parts::Parts;
-use crate::refusal::{Reason, Refusal};
-use crate::scan::{least_among, least_among_held};
 use crate::scans::NoFunctions;
 use crate::text_faults::WrongText;
-use crate::timing_faults::WrongTiming;
 use cell_parts::declarations::first_bad_name;
 use cell_parts::least::lesser;
 use cell_parts::limits::{MOST_ARCS, MOST_CHECKS, MOST_PINS, MOST_STATES};
+use cell_refusals::{Reason, Refusal, least_among, least_among_held, refused_or};
+use cell_timings::{WrongTiming, made_offsets};
 use std::alloc::{AllocError, Global};
 
 /// Where the texts of a cell, or the timing of its pins, are wrong in these ways.
 macro_rules! least_wrong {
     ($parts:expr, $text:expr, $timing:expr) => {{
-        let states = least_among(&$text, $parts.readings.as_slice());
-        let pins = least_among(&$text, $parts.texts.as_slice());
-        lesser(states, lesser(pins, least_among(&$timing, &$parts.answers)))
+        let states = least_among(&$text, $parts.said.readings.as_slice());
+        let pins = least_among(&$text, $parts.said.texts.as_slice());
+        lesser(states, lesser(pins, least_among(&$timing, &$parts.said.answers)))
     }};
 }
 
@@ -53,7 +50,10 @@ fn bad_names(parts: &Parts<'_>) -> Option<usize>
     requires { AreParts parts.now }
     ensures { result ≡ least (bad_names_of parts.now.cell.now) }
 {
-    lesser(bad_cell_name(parts.cell), first_bad_name(&parts.declared))
+    lesser(
+        bad_cell_name(parts.cell),
+        first_bad_name(&parts.groups.declared),
+    )
 }
 
 /// Where a limit of the cell is passed.
@@ -63,10 +63,10 @@ fn limits(alloc: Global, parts: &Parts<'_>) -> Result<Option<usize>, AllocError>
     ensures { IfOk result (λ at. at ≡ least (limits_told (subject_in parts.now) parts.now.cell.now)) }
 {
     let names = bad_names(parts);
-    let pins = first_group_past(MOST_PINS, &parts.owners);
-    let states = state_offsets(alloc, &parts.state_groups)?;
-    let made = made_offsets(alloc, &parts.answers)?;
-    let supports = least_among(&WrongSupport::Empty, parts.readings.as_slice());
+    let pins = first_group_past(MOST_PINS, &parts.named.owners);
+    let states = state_offsets(alloc, &parts.groups.states)?;
+    let made = made_offsets(alloc, &parts.said.answers)?;
+    let supports = least_among(&WrongSupport::Empty, parts.said.readings.as_slice());
     let timing = lesser(
         first_past(MOST_CHECKS, &made.checks),
         lesser(first_past(MOST_ARCS, &made.arcs), supports),
@@ -83,13 +83,13 @@ fn told_refusal(alloc: Global, parts: &Parts<'_>) -> Result<Option<Refusal>, All
 {
     let over = limits(alloc, parts)?;
     let later = refused_or(Reason::Limit, over, None);
-    let number = least_among(&WrongTiming::Number, &parts.answers);
+    let number = least_among(&WrongTiming::Number, &parts.said.answers);
     let later = refused_or(Reason::Number, number, later);
-    let own = least_among(&WrongTiming::OwnCondition, &parts.answers);
+    let own = least_among(&WrongTiming::OwnCondition, &parts.said.answers);
     let later = refused_or(Reason::OwnCondition, own, later);
-    let no_function = least_among_held(&NoFunctions, &parts.pin_groups);
+    let no_function = least_among_held(&NoFunctions, &parts.groups.pins);
     let later = refused_or(Reason::NoFunction, no_function, later);
-    let coupled = least_among(&WrongText::Coupled, parts.readings.as_slice());
+    let coupled = least_among(&WrongText::Coupled, parts.said.readings.as_slice());
     let later = refused_or(Reason::Coupled, coupled, later);
     let later = refused_or(Reason::UnknownName, unknown_names(parts), later);
     Ok(refused_or(Reason::Malformed, malformed(parts), later))

@@ -6,13 +6,13 @@ ghost use Rattle.cell_parts.specs.Limits.{first_past as first_past_of, place_of_
 ghost use Rattle.cell_parts.specs.Shown.{shown_state};
 ghost use Rattle.cell_reader.specs.Told.{wrong_support_in};
 
-use crate::scan::Scan;
 use bool_functions::Names;
 use cell_parts::declarations::is_name;
 use cell_parts::groups::cell_name;
 use cell_parts::limits::MOST_STATE_PINS;
 use cell_parts::state_readings::StateReading;
 use cell_parts::states::{StateName, states_in};
+use cell_refusals::Scan;
 use liberty_groups::Group;
 use std::alloc::{AllocError, Global};
 

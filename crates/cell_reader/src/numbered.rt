@@ -12,14 +12,14 @@ ghost use Rattle.cell_logic.specs.Within.{IsWithin};
 ghost use Rattle.cell_reader.specs.Parts.{subject_in, AreParts, AreNumbered};
 
 use crate::limits::WrongSupport;
-use crate::offsets::WideTimings;
 use crate::parts::Parts;
-use crate::scan::least_among;
 use cell_logic::cell_numbers::cell_numbers;
 use cell_logic::output_pins::OutputReader;
 use cell_logic::state_groups::state_groups;
 use cell_machine::StateGroup;
 use cell_parts::least::lesser;
+use cell_refusals::least_among;
+use cell_timings::WideTimings;
 use sqlite_items::Items;
 use std::alloc::{AllocError, Global};
 
@@ -49,10 +49,10 @@ impl Numbered {
     {
         OutputReader {
             alloc,
-            vocabulary: &parts.vocabulary,
+            vocabulary: &parts.named.vocabulary,
             groups: self.groups.as_slice(),
             to: &self.numbers,
-            pins: parts.pins.len(),
+            pins: parts.said.pins.len(),
         }
     }
 }
@@ -63,13 +63,13 @@ pub(crate) fn number_names(alloc: Global, parts: &Parts<'_>) -> Result<Numbered,
     requires unmet { first_refusal (middle_reasons (subject_in parts.now) parts.now.cell.now) ≡ None }
     ensures { IfOk result (λ made. AreNumbered parts.now.cell.now made) }
 {
-    let pins = parts.pins.len();
-    let numbers = cell_numbers(alloc, &parts.states, pins, &parts.vocabulary)?;
+    let pins = parts.said.pins.len();
+    let numbers = cell_numbers(alloc, &parts.named.states, pins, &parts.named.vocabulary)?;
     let groups = state_groups(
         alloc,
         &numbers,
-        &parts.state_groups,
-        parts.readings.as_slice(),
+        &parts.groups.states,
+        parts.said.readings.as_slice(),
     )?;
     Ok(Numbered { numbers, groups })
 }
@@ -80,7 +80,7 @@ fn wide_conditions(parts: &Parts<'_>) -> Option<usize>
     requires unmet { first_refusal (middle_reasons (subject_in parts.now) parts.now.cell.now) ≡ None }
     ensures { result ≡ least (timing_places wide_conditions_of (subject_in parts.now) parts.now.cell.now) }
 {
-    least_among(&WideTimings, &parts.answers)
+    least_among(&WideTimings, &parts.said.answers)
 }
 
 /// Where a state group names more than 8 pins.
@@ -89,7 +89,7 @@ fn wide_states(parts: &Parts<'_>) -> Option<usize>
     requires unmet { first_refusal (middle_reasons (subject_in parts.now) parts.now.cell.now) ≡ None }
     ensures { result ≡ least (flat_map (wide_support_of (vocabulary parts.now.cell.now) (length (pins_of parts.now.cell.now))) (state_groups_of parts.now.cell.now)) }
 {
-    least_among(&WrongSupport::Wide, parts.readings.as_slice())
+    least_among(&WrongSupport::Wide, parts.said.readings.as_slice())
 }
 
 /// Where a state group names more than 8 pins, or an output function or a condition more than 10 names.
@@ -105,7 +105,7 @@ pub(crate) fn udp_inputs(
     ensures { IfOk result (λ at. at ≡ least (udp_inputs_of (subject_in parts.now) parts.now.cell.now)) }
 {
     let reader = numbered.reader(alloc, parts);
-    let outputs = reader.wide_outputs(&parts.owners)?;
+    let outputs = reader.wide_outputs(&parts.named.owners)?;
     let states = wide_states(parts);
     Ok(lesser(states, lesser(outputs, wide_conditions(parts))))
 }

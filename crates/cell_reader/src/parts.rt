@@ -1,22 +1,20 @@
 //! What a cell is made from: its groups, and what their texts and their timing say.
 ghost use Rattle.std.specs.Prelude.{◌≡◌, IfOk, length, map, flat_map, IsTrue};
 ghost use Rattle.cell_machine.specs.CellRules.{are_distinct};
-ghost use Rattle.cell_parts.specs.Declarations.{declared_of};
 ghost use Rattle.cell_parts.specs.Groups.{pin_groups as pin_groups_of, state_groups as state_groups_of};
 ghost use Rattle.cell_parts.specs.Pins.{pin_names, pins_in, owners_in, pins_of as pins_of_cell, owners_of as owners_of_cell};
 ghost use Rattle.cell_parts.specs.States.{states_of as states_of_cell};
 ghost use Rattle.cell_parts.specs.Vocabulary.{vocabulary};
 ghost use Rattle.cell_parts.specs.StateReadings.{state_reading};
 ghost use Rattle.cell_parts.specs.Outputs.{pin_text};
-ghost use Rattle.cell_parts.specs.Shown.{shown_name, shown_state, shown_vocabulary};
+ghost use Rattle.cell_parts.specs.Shown.{shown_state, shown_vocabulary};
 ghost use Rattle.cell_reader.specs.CellTexts.{subject_with};
-ghost use Rattle.cell_reader.specs.Held.{AreHeld};
-ghost use Rattle.cell_reader.specs.Parts.{AreParts};
+ghost use Rattle.cell_timings.specs.Held.{AreHeld};
+ghost use Rattle.cell_reader.specs.Parts.{AreGroups, AreParts};
 
-use crate::answers::timing_answers;
+use crate::cell_groups::CellGroups;
 use bool_functions::Names;
 use cell_machine::Pin;
-use cell_parts::declarations::Declared;
 use cell_parts::held::held_with;
 use cell_parts::outputs::pin_texts;
 use cell_parts::pins::{owners_of, pins_of};
@@ -24,6 +22,7 @@ use cell_parts::state_readings::{StateReading, state_readings};
 use cell_parts::states::{StateName, states_of};
 use cell_parts::texts::Text;
 use cell_parts::vocabulary::{Vocabulary, read_vocabulary};
+use cell_timings::timing_answers;
 use liberty_groups::Group;
 use liberty_text::Unit;
 use sqlite_items::Items;
@@ -36,21 +35,9 @@ pub struct Parts<'a> {
     pub cell: &'a Group,
     /// The time unit of the library.
     pub unit: Option<Unit>,
-    /// The names that the cell declares.
-    pub declared: Vec<Declared<'a>>,
-    pub pin_groups: Vec<&'a Group>,
-    pub state_groups: Vec<&'a Group>,
-    /// For each pin the group that makes it.
-    pub owners: Vec<&'a Group>,
-    pub pins: Items<Pin>,
-    pub states: Vec<StateName<'a>>,
-    pub vocabulary: Vocabulary<'a>,
-    /// What each of the groups that hold states says.
-    pub readings: Items<StateReading>,
-    /// The text of each of the pin groups.
-    pub texts: Items<Text>,
-    /// What reading the timing of each pin answers, as far as it decides or is wanted.
-    pub answers: Vec<Result<PinTiming, TimingFault>>,
+    pub groups: CellGroups<'a>,
+    pub named: Named<'a>,
+    pub said: Said,
 }
 
 /// The names of the pins of a cell, which are distinct.
@@ -100,10 +87,11 @@ fn read_timings(
 
 /// The groups that make the pins of a cell, its states, and the names that its texts may name.
 #[derive(Drop)]
-struct Named<'a> {
-    owners: Vec<&'a Group>,
-    states: Vec<StateName<'a>>,
-    vocabulary: Vocabulary<'a>,
+pub struct Named<'a> {
+    /// For each pin the group that makes it.
+    pub owners: Vec<&'a Group>,
+    pub states: Vec<StateName<'a>>,
+    pub vocabulary: Vocabulary<'a>,
 }
 
 /// What is named in a cell, where these are its groups that make pins, and those that hold states.
@@ -132,11 +120,14 @@ fn read_names<'a>(
 
 /// The pins of a cell, and what its texts and its timing say.
 #[derive(Drop)]
-struct Said {
-    pins: Items<Pin>,
-    readings: Items<StateReading>,
-    texts: Items<Text>,
-    answers: Vec<Result<PinTiming, TimingFault>>,
+pub struct Said {
+    pub pins: Items<Pin>,
+    /// What each of the groups that hold states says.
+    pub readings: Items<StateReading>,
+    /// The text of each of the pin groups.
+    pub texts: Items<Text>,
+    /// What reading the timing of each pin answers, as far as it decides or is wanted.
+    pub answers: Vec<Result<PinTiming, TimingFault>>,
 }
 
 /// The pins that these groups make, and what the texts and the timing of these groups say, in a cell whose texts may name these.
@@ -165,48 +156,39 @@ fn read_said(
     })
 }
 
-/// What a cell is made from, where it declares these names, and these are its groups that make pins and those that hold states.
+/// What a cell with these groups is made from.
 pub(crate) fn read_parts<'a>(
     alloc: Global,
     cell: &'a Group,
     unit: Option<Unit>,
-    declared: Vec<Declared<'a>>,
-    pin_groups: Vec<&'a Group>,
-    state_groups: Vec<&'a Group>,
+    groups: CellGroups<'a>,
 ) -> Result<Parts<'a>, AllocError>
-    requires declared { map shown_name declared.items ≡ declared_of cell.now }
-    requires pins { map (λ group. group.now) pin_groups.items ≡ pin_groups_of cell.now }
-    requires states { map (λ group. group.now) state_groups.items ≡ state_groups_of cell.now }
+    requires groups { AreGroups cell.now groups }
     requires distinct { IsTrue (are_distinct (pin_names (pins_of_cell cell.now))) }
     ensures parts { IfOk result (λ parts. AreParts parts) }
     ensures cell { IfOk result (λ parts. parts.cell.now ≡ cell.now) }
     ensures unit { IfOk result (λ parts. parts.unit ≡ unit) }
 {
-    let named = read_names(alloc, cell, &pin_groups, &state_groups)?;
-    let said = read_said(alloc, unit, &named.vocabulary, &pin_groups, &state_groups);
-    let (named, said) = held_with(named, said)?;
+    let named = read_names(alloc, cell, &groups.pins, &groups.states);
+    let (groups, named) = held_with(groups, named)?;
+    let said = read_said(alloc, unit, &named.vocabulary, &groups.pins, &groups.states);
+    let ((groups, named), said) = held_with((groups, named), said)?;
     Ok(Parts {
         cell,
         unit,
-        declared,
-        pin_groups,
-        state_groups,
-        owners: named.owners,
-        pins: said.pins,
-        states: named.states,
-        vocabulary: named.vocabulary,
-        readings: said.readings,
-        texts: said.texts,
-        answers: said.answers,
+        groups,
+        named,
+        said,
     })
 }
 
 impl Parts<'_> {
     /// The pins, and what reading the timing of each answers. All else is let go.
     pub(crate) fn pins_and_answers(self) -> (Items<Pin>, Vec<Result<PinTiming, TimingFault>>)
-        ensures pins { result.0 ≡ self.entry.pins }
-        ensures answers { result.1 ≡ self.entry.answers }
+        ensures pins { result.0 ≡ self.entry.said.pins }
+        ensures answers { result.1 ≡ self.entry.said.answers }
     {
-        (self.pins, self.answers)
+        let said = self.said;
+        (said.pins, said.answers)
     }
 }

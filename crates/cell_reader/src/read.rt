@@ -6,18 +6,17 @@ ghost use Rattle.cell_reader.specs.CellTexts.{subject_of, IsCellOf, IsEarlyUnmet
 ghost use Rattle.cell_reader.specs.Refusals.{first_refusal, later_reasons, refusal_of, left_out_of as left_out_of_cell};
 ghost use Rattle.cell_reader.specs.Parts.{subject_in, AreParts, AreNumbered};
 
+use crate::cell_groups::cell_groups;
 use crate::early::early_refusal;
 use crate::fault::CellFault;
 use crate::later::middle_refusal;
-use crate::left_out::{LeftOut, left_out_of};
 use crate::numbered::{Numbered, number_names, udp_inputs};
 use crate::parts::{Parts, read_parts};
-use crate::refusal::{Reason, Refusal};
-use crate::timings::cell_timing;
 use bool_functions::Names;
 use cell_machine::{Cell, OutputPin};
-use cell_parts::declarations::declared_of;
-use cell_parts::groups::{cell_name, inner_groups, pins_among, states_among};
+use cell_parts::groups::cell_name;
+use cell_refusals::{Reason, Refusal};
+use cell_timings::{LeftOut, cell_timing, left_out_of};
 use liberty_groups::Group;
 use liberty_text::Unit;
 use sqlite_items::Items;
@@ -41,7 +40,7 @@ fn outputs_in(alloc: Global, parts: &Parts<'_>, numbered: &Numbered) -> Result<O
     requires unmet { IsUnmet (subject_in parts.now) parts.now.cell.now }
     ensures { IfOk result (λ outputs. outputs ≡ outputs_of parts.now.cell.now) }
 {
-    numbered.reader(alloc, parts).all(&parts.owners)
+    numbered.reader(alloc, parts).all(&parts.named.owners)
 }
 
 /// What of its group the cell leaves out that the parts make, where nothing refuses it.
@@ -50,7 +49,7 @@ fn left_out_in(alloc: Global, parts: &Parts<'_>) -> Result<Items<LeftOut>, Alloc
     requires unmet { IsUnmet (subject_in parts.now) parts.now.cell.now }
     ensures { IfOk result (λ left_out. left_out ≡ left_out_of_cell (subject_in parts.now) parts.now.cell.now) }
 {
-    left_out_of(alloc, &parts.owners, &parts.answers)
+    left_out_of(alloc, &parts.named.owners, &parts.said.answers)
 }
 
 /// What of a cell is made anew from its parts.
@@ -154,15 +153,10 @@ pub fn read_cell(
     ensures accepted { IfOk result (λ _. refusal_of (subject_of unit cell.now) earlier.now cell.now ≡ None) }
     ensures refused { IfErr result (Tells (refusal_of (subject_of unit cell.now) earlier.now cell.now)) }
 {
-    let groups = inner_groups(alloc, cell)?;
-    let pins = pins_among(alloc, &groups)?;
-    let states = states_among(alloc, &groups)?;
-    let declared = declared_of(alloc, &groups)?;
-    if let Some(refusal) = early_refusal(
-        alloc, earlier, cell, &declared, &groups, &pins, &states,
-    )? {
+    let groups = cell_groups(alloc, cell)?;
+    if let Some(refusal) = early_refusal(alloc, earlier, cell, &groups)? {
         return Err(CellFault::Refused(refusal));
     }
-    let parts = read_parts(alloc, cell, unit, declared, pins, states)?;
+    let parts = read_parts(alloc, cell, unit, groups)?;
     read_later(alloc, parts, number)
 }

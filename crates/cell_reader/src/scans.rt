@@ -4,12 +4,12 @@ ghost use Rattle.cell_machine.specs.Delay.{least};
 ghost use Rattle.cell_parts.specs.Groups.{offsets_of};
 ghost use Rattle.cell_parts.specs.Scans.{direction_in as direction_in_of, three_state_in as three_state_in_of, bank_in as bank_in_of, left_out_in as left_out_in_of, first_both_in as first_both_in_of, second_both_in as second_both_in_of, clear_preset_in as clear_preset_in_of, no_function_in as no_function_in_of};
 
-use crate::scan::Scan;
 use cell_machine::{Both, Direction};
 use cell_parts::groups::{is_bank, is_called, is_missing};
 use cell_parts::least::lesser;
 use cell_parts::pins::{direction_named, direction_of};
 use cell_parts::states::both_named;
+use cell_refusals::Scan;
 use liberty_groups::{Group, last_attribute, simple_attribute};
 
 /// The least offset of the simple attributes of this name in a group.

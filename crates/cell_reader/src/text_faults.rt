@@ -2,10 +2,10 @@
 ghost use Rattle.std.specs.Prelude.{◌≡◌};
 ghost use Rattle.cell_reader.specs.Told.{wrong_in, wrong_at};
 
-use crate::scan::Scan;
 use cell_parts::least::lesser;
 use cell_parts::state_readings::StateReading;
 use cell_parts::texts::Text;
+use cell_refusals::Scan;
 
 /// What is wrong with a text of a cell.
 #[derive(Clone, Copy)]

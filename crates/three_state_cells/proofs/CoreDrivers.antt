@@ -35,9 +35,9 @@ use Rattle.cell_reader.specs.CellTexts.{subject_of}
 use Rattle.cell_reader.specs.declared.read.ReadCell.{ReadCell}
 use Rattle.cell_reader.specs.CellTexts.{IsCellOf}
 use Rattle.three_state_cells.specs.declared.drivers.Drivers.{Drivers}
-use Rattle.three_state_cells.specs.declared.outputs.CellPins.{CellPins}
-use Rattle.three_state_cells.specs.Outputs.{ThreeStateOutput, three_state_of, is_three_state, outputs_from, three_state_outputs, shown, outputs_shown}
-use Rattle.three_state_cells.specs.CoreGroups.{core_group}
+use Rattle.core_groups.specs.declared.outputs.CellPins.{CellPins}
+use Rattle.core_groups.specs.Outputs.{ThreeStateOutput, three_state_of, is_three_state, outputs_from, three_state_outputs, shown, outputs_shown}
+use Rattle.core_groups.specs.CoreGroups.{core_group}
 use Rattle.three_state_cells.specs.Timing.{is_output_at, output_number, driven_of, answer_of, path_of, paths_from, driver_of}
 use Rattle.three_state_cells.specs.Drivers.{HasEnables, IsDriverOf}
 use Rattle.three_state_cells.specs.DrivenCells.{AreDrivers, IsCoreOfPins, cell_data, core_name, floating_of, data_by, driven_data}

@@ -15,11 +15,11 @@ use Rattle.cell_reader.specs.CellTexts.{subject_of, IsCellOf}
 use Rattle.cell_reader.specs.Refusals.{left_out_of, refusal_of}
 use Rattle.three_state_cells.specs.declared.driven_cell.DrivenCell.{DrivenCell}
 use Rattle.three_state_cells.specs.declared.drivers.Drivers.{Drivers}
-use Rattle.three_state_cells.specs.declared.outputs.CellPins.{CellPins}
-use Rattle.three_state_cells.specs.declared.outputs.ThreeStateOutput.{ThreeStateOutput as HeldOutput}
-use Rattle.three_state_cells.specs.Outputs.{ThreeStateOutput, shown, three_state_outputs, ArePins}
+use Rattle.core_groups.specs.declared.outputs.CellPins.{CellPins}
+use Rattle.core_groups.specs.declared.outputs.ThreeStateOutput.{ThreeStateOutput as HeldOutput}
+use Rattle.core_groups.specs.Outputs.{ThreeStateOutput, shown, three_state_outputs, ArePins}
 use Rattle.three_state_cells.specs.Refusals.{floating_refusal, refusal_by, driven_refusal}
-use Rattle.three_state_cells.specs.CoreGroups.{core_group}
+use Rattle.core_groups.specs.CoreGroups.{core_group}
 use Rattle.three_state_cells.specs.Timing.{all_left_out, in_pin_order}
 use Rattle.three_state_cells.specs.DrivenCells.{AreDrivers, IsFloating, driven_data_of, cell_data, core_name, floating_of, plain_of, data_by, driven_data}
 

@@ -18,8 +18,8 @@ use Rattle.cell_reader.specs.PinTimings.{subject_at}
 use Rattle.cell_reader.specs.CellTexts.{IsEarlyUnmet}
 use Rattle.cell_reader.specs.Refusals.{refused_or, first_refusal, early_reasons, refusal_of}
 use Rattle.cell_reader.proofs.Reading.{early_decides, names_are_distinct}
-use Rattle.three_state_cells.specs.Outputs.{is_three_state}
-use Rattle.three_state_cells.specs.DriverGroups.{driver_pin}
+use Rattle.core_groups.specs.Outputs.{is_three_state}
+use Rattle.core_groups.specs.DriverGroups.{driver_pin}
 use Rattle.three_state_cells.specs.Refusals.{decides, first_of_two, wrong_delays, wrong_group, refusal_with, driver_refusal}
 
 -- What is wrong in the delays has a number above 7.

@@ -14,8 +14,8 @@ use Rattle.timing_arcs.specs.declared.subject.Subject.{Subject}
 use Rattle.cell_reader.specs.PinTimings.{subject_at, arcs_in}
 use Rattle.cell_reader.specs.CellTexts.{subject_of}
 use Rattle.driven_traces.specs.declared.delays.DrivePath.{DrivePath}
-use Rattle.three_state_cells.specs.Outputs.{ThreeStateOutput, three_state_outputs}
-use Rattle.three_state_cells.specs.CoreGroups.{core_group}
+use Rattle.core_groups.specs.Outputs.{ThreeStateOutput, three_state_outputs}
+use Rattle.core_groups.specs.CoreGroups.{core_group}
 use Rattle.three_state_cells.specs.Timing.{output_number, answer_of, path_of, paths_of, paths_from, driver_of}
 use Rattle.three_state_cells.specs.DrivenCells.{floating_of, data_by, driven_data}
 use Rattle.three_state_cells.specs.Laws.{HasTimes, KeepsLimits, DriversKeepLimits}

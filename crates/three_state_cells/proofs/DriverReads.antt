@@ -20,8 +20,8 @@ use Rattle.cell_machine.specs.Delay.{least}
 use Rattle.cell_reader.specs.declared.refusal.Reason.TheVariants as reason
 use Rattle.cell_reader.specs.PinTimings.{Answer}
 use Rattle.cell_reader.specs.Refusals.{refused_or}
-use Rattle.three_state_cells.specs.DriverGroups.{has_type, is_no_type, read_items, driver_timing, driver_item, driver_pin}
-use Rattle.three_state_cells.proofs.Statements.{not_false, attributes_kept}
+use Rattle.core_groups.specs.DriverGroups.{has_type, is_no_type, read_items, driver_timing, driver_item, driver_pin}
+use Rattle.core_groups.proofs.Statements.{not_false, attributes_kept}
 use Rattle.three_state_cells.specs.Refusals.{wrong_told, wrong_delays}
 
 -- A statement of the type is none of the condition.

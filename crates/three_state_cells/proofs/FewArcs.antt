@@ -29,7 +29,7 @@ use Rattle.timing_arcs.specs.Merging.{Placed, same_path, firsts_after, firsts, m
 use Rattle.timing_arcs.specs.Timing.{timing_groups, placed_arcs_in, placed_arcs, wide_in, wide_at, malformed_at, unknown_names_at, own_conditions_at, numbers_at, unless_at, timing_of, reading_answer, held_answer}
 use Rattle.timing_arcs.proofs.LawLemmas.{arcs_are_sound, arcs_end_here, arcs_are_apart}
 use Rattle.cell_reader.specs.PinTimings.{Answer, arcs_in as arcs_answered}
-use Rattle.three_state_cells.specs.DriverGroups.{driver_pin}
+use Rattle.core_groups.specs.DriverGroups.{driver_pin}
 use Rattle.three_state_cells.specs.Timing.{places_in}
 use Rattle.three_state_cells.proofs.DriverReads.{all_among, none_among, timings_of, either_empty}
 

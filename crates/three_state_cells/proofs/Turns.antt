@@ -3,7 +3,6 @@ use Rattle.std.proofs.Common.{◌≡◌, ℕ, ◌+◌, ◌<◌, List, [], ◌∷
 use Rattle.std.specs.Prelude.{Option, count_by, flat_map}
 use Rattle.std.proofs.Math.Seq.{take-length}
 use Rattle.std.proofs.lemmas.List.{drop_more, length-map}
-use Rattle.liberty_groups.specs.declared.tree.Item.{Item}
 use Rattle.liberty_groups.specs.declared.tree.Group.{Group}
 use Rattle.cell_machine.specs.declared.pins.Pin.{Pin}
 use Rattle.cell_machine.specs.Inputs.{is_input_at, input_number}
@@ -13,8 +12,7 @@ use Rattle.cell_reader.specs.declared.left_out.LeftOut.{LeftOut}
 use Rattle.cell_reader.specs.declared.refusal.Refusal.{Refusal}
 use Rattle.cell_reader.specs.PinTimings.{Answer, subject_at, arcs_in}
 use Rattle.driven_traces.specs.declared.delays.DrivePath.{DrivePath}
-use Rattle.three_state_cells.specs.Outputs.{ThreeStateOutput, three_state_of}
-use Rattle.three_state_cells.specs.CoreGroups.{enable_pin_of, enable_pins}
+use Rattle.core_groups.specs.Outputs.{ThreeStateOutput}
 use Rattle.three_state_cells.specs.Refusals.{first_of_two, wrong_group, refusal_with}
 use Rattle.three_state_cells.specs.Timing.{is_output_at, output_number, driven_of, answer_of, path_of, paths_from, left_out_as, places_in, left_out_of, all_left_out, of_pin, in_pin_order}
 
@@ -29,20 +27,6 @@ pin_turn (pin ∷ pins) i one other found next last within n l =
     (rw n
     (append_assoc (found ++ of_pin i one) (of_pin i other) (in_pin_order (i + 1) (drop (i + 1) (pin ∷ pins)) one other)
     ∙ append_assoc found (of_pin i one) (of_pin i other ++ in_pin_order (i + 1) (drop (i + 1) (pin ∷ pins)) one other))))
-
--- the next of some things that are held, as they are shown
-pub map_turn :
-    {A B : Type 0} (f : A → B) (xs : List A) (i : ℕ) (x : A) → i < length xs → x ≡ get_or xs i x
-    → map f (drop i xs) ≡ f x ∷ map f (drop (i + 1) xs)
-map_turn f xs i x within is = ap (map f) (drop_more xs i x within ∙ ap (λ y. y ∷ drop (i + 1) xs) (sym is))
-
--- the output for one more three-state output
-pub enable_turn :
-    (output : ThreeStateOutput) (rest all : List ThreeStateOutput) (number : ℕ) (before after : List Item)
-    → all ≡ output ∷ rest → after ≡ before ++ enable_pin_of number (three_state_of output.group)
-    → after ++ enable_pins (number + 1) rest ≡ before ++ enable_pins number all
-enable_turn output rest all number before after a n =
-    rw a (rw n (append_assoc before (enable_pin_of number (three_state_of output.group)) (enable_pins (number + 1) rest)))
 
 -- one more pin group
 pub refusal_turn :

@@ -15,9 +15,9 @@ use Rattle.driven_traces.specs.declared.drivers.Driver.{Driver}
 use Rattle.driven_traces.specs.Drivers.{plain}
 use Rattle.three_state_cells.specs.declared.driven_cell.DrivenCell.{DrivenCell}
 use Rattle.three_state_cells.specs.declared.drivers.Drivers.{Drivers}
-use Rattle.three_state_cells.specs.declared.outputs.CellPins.{CellPins}
-use Rattle.three_state_cells.specs.Outputs.{ThreeStateOutput, three_state_outputs, ArePins}
-use Rattle.three_state_cells.specs.CoreGroups.{core_group}
+use Rattle.core_groups.specs.declared.outputs.CellPins.{CellPins}
+use Rattle.core_groups.specs.Outputs.{ThreeStateOutput, three_state_outputs, ArePins}
+use Rattle.core_groups.specs.CoreGroups.{core_group}
 use Rattle.three_state_cells.specs.Timing.{driver_of, all_left_out, in_pin_order}
 
 -- what is read of a cell, its core without the rules that a cell keeps

@@ -9,8 +9,8 @@ use Rattle.cell_machine.specs.CellRules.{longest_time, is_in_order, are_outputs}
 use Rattle.cell_parts.specs.Pins.{pins_of}
 use Rattle.driven_traces.specs.declared.delays.DrivePath.{DrivePath}
 use Rattle.driven_traces.specs.declared.drivers.Driver.{Driver}
-use Rattle.three_state_cells.specs.Outputs.{ThreeStateOutput, three_state_outputs}
-use Rattle.three_state_cells.specs.CoreGroups.{core_group}
+use Rattle.core_groups.specs.Outputs.{ThreeStateOutput, three_state_outputs}
+use Rattle.core_groups.specs.CoreGroups.{core_group}
 use Rattle.three_state_cells.specs.Drivers.{IsDriverOf}
 use Rattle.three_state_cells.specs.DrivenCells.{driven_data}
 

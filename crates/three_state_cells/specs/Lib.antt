@@ -1,6 +1,6 @@
-pub mod Outputs
-pub mod CoreGroups
-pub mod DriverGroups
+pub use Rattle.core_groups.specs.Outputs as Outputs
+pub use Rattle.core_groups.specs.CoreGroups as CoreGroups
+pub use Rattle.core_groups.specs.DriverGroups as DriverGroups
 pub mod Refusals
 pub mod Timing
 pub mod Drivers

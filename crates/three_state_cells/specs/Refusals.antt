@@ -13,9 +13,9 @@ use Rattle.cell_reader.specs.ReasonWords.{number_of_reason}
 use Rattle.cell_reader.specs.PinTimings.{Answer, subject_at}
 use Rattle.cell_reader.specs.CellTexts.{subject_of}
 use Rattle.cell_reader.specs.Refusals.{met, first_refusal, refusal_of}
-use Rattle.three_state_cells.specs.Outputs.{ThreeStateOutput, is_three_state, three_state_outputs}
-use Rattle.three_state_cells.specs.CoreGroups.{core_group}
-use Rattle.three_state_cells.specs.DriverGroups.{driver_pin}
+use Rattle.core_groups.specs.Outputs.{ThreeStateOutput, is_three_state, three_state_outputs}
+use Rattle.core_groups.specs.CoreGroups.{core_group}
+use Rattle.core_groups.specs.DriverGroups.{driver_pin}
 
 -- Of two refusals the one with the lesser number decides, and of two with one number the one at the lesser offset.
 abbrev pub decides : Refusal → Refusal → Bool

@@ -11,8 +11,8 @@ use Rattle.timing_arcs.specs.declared.subject.PinTiming.{PinTiming}
 use Rattle.timing_arcs.specs.Timing.{timing_groups, reading_answer}
 use Rattle.cell_reader.specs.declared.left_out.LeftOut.{LeftOut}
 use Rattle.cell_reader.specs.PinTimings.{Answer, subject_at, arcs_in, in_timing, type_text}
-use Rattle.three_state_cells.specs.Outputs.{ThreeStateOutput}
-use Rattle.three_state_cells.specs.DriverGroups.{driver_pin}
+use Rattle.core_groups.specs.Outputs.{ThreeStateOutput}
+use Rattle.core_groups.specs.DriverGroups.{driver_pin}
 
 -- the number of an output pin among the output pins
 abbrev pub is_output_at : Pin → Bool

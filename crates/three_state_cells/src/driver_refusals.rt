@@ -1,15 +1,14 @@
 //! What is wrong in the delays of three-state outputs.
 ghost use Rattle.std.specs.Prelude.{◌≡◌, Some, IfOk, OnOk, map};
 ghost use Rattle.cell_reader.specs.PinTimings.{subject_at};
-ghost use Rattle.three_state_cells.specs.Outputs.{CanBeNumbered};
+ghost use Rattle.core_groups.specs.Outputs.{CanBeNumbered};
 ghost use Rattle.three_state_cells.specs.Refusals.{decides as decides_of, first_of_two as first_of_two_of};
 ghost use Rattle.three_state_cells.specs.Refusals.{wrong_told as wrong_told_of, wrong_delays as wrong_delays_of};
 ghost use Rattle.three_state_cells.specs.Refusals.{wrong_group as wrong_group_of, driver_refusal as driver_refusal_of};
 
-use crate::driver_groups::driver_pin;
-use crate::outputs::is_three_state;
 use crate::subjects::move_to;
 use cell_reader::{Reason, Refusal};
+use core_groups::{driver_pin, is_three_state};
 use liberty_groups::Group;
 use std::alloc::{AllocError, Global};
 use timing_arcs::{PinTiming, Room, Subject, TimingFault, read_timing};

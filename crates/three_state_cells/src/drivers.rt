@@ -1,19 +1,18 @@
 //! What drives the three-state outputs of a cell.
 ghost use Rattle.std.specs.Prelude.{◌≡◌, ◌≤◌, ◌-◌, [], ◌∷◌, ◌++◌, IfOk, OnOk, length, count_by, map};
 ghost use Rattle.cell_machine.specs.Inputs.{is_input_at, input_number as input_number_of};
-ghost use Rattle.three_state_cells.specs.Outputs.{shown};
+ghost use Rattle.core_groups.specs.Outputs.{shown};
 ghost use Rattle.timing_arcs.specs.Timing.{reading_answer};
 ghost use Rattle.cell_reader.specs.PinTimings.{subject_at, arcs_in};
-ghost use Rattle.three_state_cells.specs.DriverGroups.{driver_pin as driver_pin_of};
+ghost use Rattle.core_groups.specs.DriverGroups.{driver_pin as driver_pin_of};
 ghost use Rattle.three_state_cells.specs.Timing.{is_output_at, output_number as output_number_of, driven_of, path_of as path_of_arc};
-ghost use Rattle.three_state_cells.specs.Timing.{places_in, left_out_of, all_left_out, paths_of, paths_from, driver_of as driver_of_outputs};
+ghost use Rattle.three_state_cells.specs.Timing.{places_in, left_out_as, left_out_of, all_left_out, paths_of, paths_from, driver_of as driver_of_outputs};
 
-use crate::driver_groups::driver_pin;
 use crate::left_out::add_left_out;
-use crate::outputs::ThreeStateOutput;
 use crate::subjects::move_to;
 use cell_machine::{Arc, Direction, Pin};
 use cell_reader::LeftOut;
+use core_groups::{ThreeStateOutput, driver_pin};
 use driven_traces::{DrivePath, Driver};
 use liberty_groups::Group;
 use sqlite_items::Items;
@@ -129,16 +128,36 @@ impl Drivers {
         let drive = self.driver.drives.len();
         let pins = core.pins.as_slice();
         self.driver.drives.push(output_number(pins, output.pin))?;
-        if let Ok(timing) = answer_of(alloc, core, output.group)? {
-            add_paths(&mut self.driver.paths, pins, drive, timing.arcs.as_slice())?;
-            add_left_out(
-                alloc,
-                &mut self.left_out,
-                output,
-                timing.left_out.as_slice(),
-            )?;
-        }
-        Ok(())
+        let answer = answer_of(alloc, core, output.group)?;
+        self.add_answer(alloc, pins, drive, output, &answer)
+    }
+
+    /// Adds the paths and the left-out timing groups of an output, where this is its number among the three-state outputs, these are
+    /// the pins of the core, and reading its delays answers this.
+    fn add_answer(
+        &mut self,
+        alloc: Global,
+        pins: &[Pin],
+        drive: usize,
+        output: ThreeStateOutput<'_>,
+        answer: &Result<PinTiming, TimingFault>,
+    ) -> Result<(), AllocError>
+        ensures inputs { OnOk result (self.new.driver.inputs ≡ self.old.driver.inputs) }
+        ensures outputs { OnOk result (self.new.driver.outputs ≡ self.old.driver.outputs) }
+        ensures drives { OnOk result (self.new.driver.drives ≡ self.old.driver.drives) }
+        ensures paths { OnOk result (self.new.driver.paths ≡ self.old.driver.paths ++ map (path_of_arc pins.now drive) (arcs_in answer.now)) }
+        ensures left_out { OnOk result (self.new.left_out ≡ self.old.left_out ++ map (left_out_as (shown output.entry)) (places_in answer.now)) }
+    {
+        let Ok(timing) = answer else {
+            return Ok(());
+        };
+        add_paths(&mut self.driver.paths, pins, drive, timing.arcs.as_slice())?;
+        add_left_out(
+            alloc,
+            &mut self.left_out,
+            output,
+            timing.left_out.as_slice(),
+        )
     }
 }
 

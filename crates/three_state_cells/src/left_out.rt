@@ -1,31 +1,15 @@
 //! The timing groups that a cell with three-state outputs leaves out.
 ghost use Rattle.std.specs.Prelude.{◌≡◌, ◌++◌, IfOk, OnOk, map, slice_get};
 ghost use Rattle.std.specs.Option.{option_copied};
-ghost use Rattle.cell_reader.specs.PinTimings.{type_text as type_text_of};
-ghost use Rattle.three_state_cells.specs.Outputs.{shown};
+ghost use Rattle.core_groups.specs.Outputs.{shown};
 ghost use Rattle.three_state_cells.specs.Timing.{left_out_as, of_pin, in_pin_order as in_pin_order_of};
 
-use crate::copies::copy_bytes;
-use crate::driver_groups::timing_groups;
-use crate::outputs::ThreeStateOutput;
 use cell_machine::Pin;
-use cell_reader::LeftOut;
-use liberty_groups::{Group, last_attribute};
+use cell_reader::{LeftOut, type_text};
+use core_groups::{ThreeStateOutput, copy_bytes, timing_groups};
+use liberty_groups::Group;
 use sqlite_items::Items;
 use std::alloc::{AllocError, Global};
-
-/// The type of a timing group as it is written, `combinational` where there is none.
-fn type_text(group: Option<&Group>) -> &[u8]
-    ensures { result.now ≡ type_text_of (option_copied group.entry) }
-{
-    let Some(group) = group else {
-        return b"combinational";
-    };
-    match last_attribute(group, b"timing_type") {
-        None => b"combinational",
-        Some(attribute) => attribute.text,
-    }
-}
 
 /// The group at this place among these.
 fn group_at<'a>(groups: &[&'a Group], place: usize) -> Option<&'a Group>

@@ -1,16 +1,11 @@
 //! The group of a Liberty cell whose outputs may float to a core without Z and what drives its three-state outputs.
 #![tactic(auto)]
 
-mod copies;
-mod core_group;
 mod driven_cell;
-mod driver_groups;
 mod driver_refusals;
 mod drivers;
-mod enable_pins;
 mod laws;
 mod left_out;
-mod outputs;
 mod read;
 mod subjects;
 

@@ -1,13 +1,13 @@
 //! A cell's group to the cell whose outputs may float.
 ghost use Rattle.std.specs.Prelude.{◌≡◌, IfOk, IfErr, IsTrue, None, Some, [], length};
 ghost use Rattle.cell_machine.specs.CellData.{data_of};
-ghost use Rattle.cell_machine.specs.CellRules.{is_name, are_distinct};
+ghost use Rattle.cell_machine.specs.CellRules.{is_name};
 ghost use Rattle.cell_machine.specs.CellTrace.{inputs_of};
-ghost use Rattle.cell_parts.specs.Pins.{pin_names, pins_of as pins_of_group};
+ghost use Rattle.cell_parts.specs.Pins.{pins_of as pins_of_group};
 ghost use Rattle.cell_reader.specs.CellTexts.{subject_of as subject_of_cell, Tells, IsCellOf, IsEarlyUnmet};
 ghost use Rattle.cell_reader.specs.Refusals.{left_out_of as left_out_of_cell, refusal_of};
 ghost use Rattle.driven_traces.specs.Drivers.{plain};
-ghost use Rattle.three_state_cells.specs.Outputs.{groups_shown, outputs_shown, three_state_outputs, ArePins};
+ghost use Rattle.core_groups.specs.Outputs.{groups_shown, outputs_shown, three_state_outputs, ArePins};
 ghost use Rattle.three_state_cells.specs.Drivers.{IsDriverOf};
 ghost use Rattle.three_state_cells.specs.Timing.{in_pin_order as in_pin_order_of};
 ghost use Rattle.three_state_cells.specs.Refusals.{first_of_two, driver_refusal as driver_refusal_of, floating_refusal};
@@ -15,19 +15,17 @@ ghost use Rattle.three_state_cells.specs.Refusals.{driven_refusal, IsRefusedCore
 ghost use Rattle.three_state_cells.specs.DrivenCells.{driven_data, driven_data_of, core_name, plain_of, floating_of};
 ghost use Rattle.three_state_cells.specs.DrivenCells.{AreDrivers, IsFloating, IsCoreOfPins};
 
-use crate::copies::copy_bytes;
-use crate::core_group::core_group;
 use crate::driven_cell::DrivenCell;
 use crate::driver_refusals::{driver_refusal, first_with};
 use crate::drivers::{Drivers, drivers_of, input_number};
 use crate::left_out::in_pin_order;
-use crate::outputs::CellPins;
 use bool_functions::Names;
 use cell_machine::{Cell, Pin};
 use cell_parts::groups::{inner_groups, pins_among};
 use cell_parts::held::{held_with, kept_unless};
 use cell_parts::pins::pins_of;
-use cell_reader::{CellFault, LeftOut, ReadCell, Reason, Refusal, read_cell};
+use cell_reader::{CellFault, LeftOut, ReadCell, Reason, Refusal, names_of, read_cell};
+use core_groups::{CellPins, copy_bytes, core_group};
 use driven_traces::Driver;
 use liberty_groups::Group;
 use liberty_text::Unit;
@@ -35,18 +33,6 @@ use sqlite_items::Items;
 use std::alloc::{AllocError, Global};
 use timing_arcs::Subject;
 use vhdl_names::numbered_name;
-
-/// The names of pins, which are distinct.
-fn names_of(alloc: Global, pins: &[Pin]) -> Result<Names, AllocError>
-    requires { IsTrue (are_distinct (pin_names pins.now)) }
-    ensures { IfOk result (λ names. names ≡ pin_names pins.now) }
-{
-    let mut names = Names::new(alloc);
-    for pin in pins {
-        names.add(pin.name.as_slice())?;
-    }
-    Ok(names)
-}
 
 /// The pins of a cell.
 fn cell_pins(alloc: Global, cell: &Group) -> Result<Items<Pin>, AllocError>

@@ -16,7 +16,7 @@ cell_numbers-requires-clause-pins c =
 pub cell_numbers-requires-clause-states : goal.cell_numbers-requires-clause-states
 cell_numbers-requires-clause-states c =
     subst (λ n. n ≤ 16)
-    (sym (ap length c.deref.ensures.value ∙ (sym (count_shown shown_state c.args.parts.now.states.items) ∙ ap length c.requires.parts.of_names)))
+    (sym (ap length c.deref.ensures.value ∙ (sym (count_shown shown_state c.args.parts.now.named.states.items) ∙ ap length c.requires.parts.of_names)))
     (few_states (subject_in c.args.parts.now) c.args.parts.now.cell.now c.requires.unmet)
 
 pub state_groups-requires-clause-fit : goal.state_groups-requires-clause-fit
@@ -25,7 +25,7 @@ state_groups-requires-clause-fit c =
     subst (λ n. All (FitsReading n) c.as_slice.result.now)
     (sym
     (ap length (c.deref-2.ensures.value ∙ c.in_ok-numbers.ensures)
-    ∙ number_count_of (map shown_state c.deref.result.now) c.len-pins.result cell (shown_vocabulary c.args.parts.now.vocabulary)
+    ∙ number_count_of (map shown_state c.deref.result.now) c.len-pins.result cell (shown_vocabulary c.args.parts.now.named.vocabulary)
     c.requires.parts.of_vocabulary))
     (subst (λ rs. All (FitsReading (length (vocabulary cell).classes)) rs) (sym (c.as_slice.ensures ∙ c.requires.parts.of_readings))
     (readings_fit_here cell))

@@ -1,7 +1,7 @@
 use Rattle.std.proofs.Common.{◌∙◌, List, ap}
 use Rattle.std.specs.Prelude.{flat_map}
 use Rattle.cell_machine.specs.Delay.{least}
-use Rattle.cell_reader.specs.PinTimings.{Answer, wide_in}
+use Rattle.cell_timings.specs.PinTimings.{Answer, wide_in}
 use Rattle.cell_reader.specs.Parts.{subject_in}
 use Rattle.cell_reader.proofs.Decides.{wide_told}
 use Rattle.cell_reader.proofs.numbered.wide_conditions.Goals as goal

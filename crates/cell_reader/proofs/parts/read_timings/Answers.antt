@@ -6,9 +6,9 @@ use Rattle.timing_arcs.specs.declared.subject.Subject.{Subject}
 use Rattle.cell_parts.specs.Pins.{pin_names, pins_in, owners_in}
 use Rattle.cell_parts.proofs.PinRules.{owners_count}
 use Rattle.cell_reader.specs.CellTexts.{subject_with}
-use Rattle.cell_reader.specs.PinTimings.{Answer}
-use Rattle.cell_reader.specs.Held.{cell_room, held_from, AreHeld}
-use Rattle.cell_reader.proofs.Held.{are_held}
+use Rattle.cell_timings.specs.PinTimings.{Answer}
+use Rattle.cell_timings.specs.Held.{cell_room, held_from, AreHeld}
+use Rattle.cell_timings.proofs.Held.{are_held}
 use Rattle.cell_reader.proofs.parts.read_timings.Goals as goal
 
 pub returns-clause-answers : goal.returns-clause-answers

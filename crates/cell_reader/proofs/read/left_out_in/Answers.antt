@@ -4,7 +4,7 @@ use Rattle.cell_parts.proofs.Turns.{count_shown}
 use Rattle.liberty_groups.specs.declared.tree.Group.{Group}
 use Rattle.cell_parts.specs.Groups.{pin_groups}
 use Rattle.cell_parts.proofs.PinRules.{owners_count}
-use Rattle.cell_reader.specs.PinTimings.{left_out_from}
+use Rattle.cell_timings.specs.PinTimings.{left_out_from}
 use Rattle.cell_reader.specs.Parts.{subject_in}
 use Rattle.cell_reader.proofs.Reading.{accepted_few_pins, lift_ok}
 use Rattle.cell_reader.proofs.read.left_out_in.Goals as goal
@@ -13,7 +13,7 @@ use Rattle.cell_reader.proofs.read.left_out_in.Goals as goal
 pub left_out_of-requires : goal.left_out_of-requires
 left_out_of-requires c =
     ap length c.deref.ensures.value
-    ∙ (sym (count_shown (λ group. group.now) c.args.parts.now.owners.items)
+    ∙ (sym (count_shown (λ group. group.now) c.args.parts.now.named.owners.items)
     ∙ (ap length c.requires.parts.of_owners
     ∙ (sym c.requires.parts.of_answers.count ∙ sym (ap length c.deref-2.ensures.value))))
 

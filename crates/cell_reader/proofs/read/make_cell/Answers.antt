@@ -1,5 +1,5 @@
 use Rattle.std.proofs.Common.{◌∙◌, ap, refl, flat_map}
-use Rattle.cell_reader.specs.PinTimings.{checks_in, arcs_in}
+use Rattle.cell_timings.specs.PinTimings.{checks_in, arcs_in}
 use Rattle.cell_reader.specs.Parts.{subject_in}
 use Rattle.cell_reader.proofs.Accepted.{timing_limits}
 use Rattle.cell_reader.proofs.Reading.{keeps_rules, keeps_apart}

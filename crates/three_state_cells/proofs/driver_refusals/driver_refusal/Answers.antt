@@ -2,7 +2,8 @@ use Rattle.std.proofs.Common.{◌≡◌, ◌+◌, ◌∙◌, List, map, drop, le
 use Rattle.std.specs.Prelude.{ℕ}
 use Rattle.liberty_groups.specs.declared.tree.Group.{Group}
 use Rattle.timing_arcs.specs.declared.subject.Subject.{Subject}
-use Rattle.three_state_cells.proofs.Turns.{map_turn, refusal_turn, count_turn, same_turn}
+use Rattle.core_groups.proofs.Turns.{map_turn}
+use Rattle.three_state_cells.proofs.Turns.{refusal_turn, count_turn, same_turn}
 use Rattle.three_state_cells.proofs.driver_refusals.driver_refusal.Goals as goal
 
 pub overflow_add-next : goal.overflow_add-next

@@ -1,6 +1,7 @@
 use Rattle.std.proofs.Common.{◌+◌, ◌∙◌, List, map, drop}
-use Rattle.three_state_cells.specs.Outputs.{ThreeStateOutput, shown}
-use Rattle.three_state_cells.proofs.Turns.{map_turn, driven_turn, paths_turn, left_out_turn, one_longer, same_turn}
+use Rattle.core_groups.specs.Outputs.{ThreeStateOutput, shown}
+use Rattle.core_groups.proofs.Turns.{map_turn}
+use Rattle.three_state_cells.proofs.Turns.{driven_turn, paths_turn, left_out_turn, one_longer, same_turn}
 use Rattle.three_state_cells.proofs.drivers.drivers_of.Goals as goal
 
 pub loop-output-preserved : goal.loop-output-preserved

@@ -2,7 +2,7 @@ use Rattle.std.proofs.Common.{◌≡◌, ◌-◌, ◌++◌, map, drop, length}
 use Rattle.std.specs.Prelude.{count_by}
 use Rattle.cell_machine.specs.Inputs.{is_input_at}
 use Rattle.cell_reader.specs.PinTimings.{subject_at}
-use Rattle.three_state_cells.specs.Outputs.{shown}
+use Rattle.core_groups.specs.Outputs.{shown}
 use Rattle.three_state_cells.specs.Timing.{is_output_at, driven_of, paths_from, all_left_out}
 use Rattle.three_state_cells.proofs.drivers.drivers_of.Given as goal
 

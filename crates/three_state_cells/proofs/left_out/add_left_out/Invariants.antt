@@ -1,5 +1,5 @@
 use Rattle.std.proofs.Common.{◌≡◌, ◌++◌, map, drop}
-use Rattle.three_state_cells.specs.Outputs.{shown}
+use Rattle.core_groups.specs.Outputs.{shown}
 use Rattle.three_state_cells.specs.Timing.{left_out_as}
 use Rattle.three_state_cells.proofs.left_out.add_left_out.Given as goal
 

@@ -1,0 +1,2 @@
+pub mod ReasonWords
+pub mod Reasons

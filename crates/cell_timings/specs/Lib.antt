@@ -1,0 +1,2 @@
+pub mod PinTimings
+pub mod Held

@@ -1,0 +1,90 @@
+//! The timing groups that a cell leaves out.
+ghost use Rattle.std.specs.Prelude.{◌≡◌, ◌++◌, ◌<◌, OnOk, IfOk, length, map};
+ghost use Rattle.std.specs.Option.{option_copied};
+ghost use Rattle.cell_timings.specs.PinTimings.{type_text as type_text_of, type_at as type_at_of, left_out_as, left_out_in, left_out_from};
+
+use liberty_groups::{Group, Item, inner_group, last_attribute};
+use sqlite_items::Items;
+use std::alloc::{AllocError, Global};
+use timing_arcs::{PinTiming, TimingFault};
+
+/// A timing group that makes no check and no arc of its type.
+#[derive(Drop)]
+pub struct LeftOut {
+    /// The number of the pin that has it.
+    pub pin: usize,
+    /// The text of its `timing_type`, `combinational` where it has none.
+    pub kind: Items<u8>,
+}
+
+/// The type of a timing group as it is written, `combinational` where there is none.
+pub fn type_text(group: Option<&Group>) -> &[u8]
+    ensures { result.now ≡ type_text_of (option_copied group.entry) }
+{
+    let Some(group) = group else {
+        return b"combinational";
+    };
+    match last_attribute(group, b"timing_type") {
+        None => b"combinational",
+        Some(attribute) => attribute.text,
+    }
+}
+
+/// The type of the timing group at this place among the statements of a pin.
+fn type_at(items: &[Item], place: usize) -> &[u8]
+    ensures { result.now ≡ type_at_of items.now place }
+{
+    match items.get(place) {
+        None => &[],
+        Some(item) => type_text(inner_group(item, b"timing")),
+    }
+}
+
+/// Adds the timing groups at these places among the statements of a pin.
+fn add_left_out(
+    alloc: Global,
+    found: &mut Items<LeftOut>,
+    pin: usize,
+    owner: &Group,
+    places: &[usize],
+) -> Result<(), AllocError>
+    ensures { OnOk result (found.new ≡ found.old ++ map (left_out_as pin owner.now) places.now) }
+{
+    for place in places {
+        let kind = Items::from_slice(alloc, type_at(owner.items.as_slice(), *place))?;
+        found.push(LeftOut { pin, kind })?;
+    }
+    Ok(())
+}
+
+/// Adds the left-out timing groups of a pin, by what reading its timing answers.
+fn add_answer(
+    alloc: Global,
+    found: &mut Items<LeftOut>,
+    pin: usize,
+    owner: &Group,
+    answer: &Result<PinTiming, TimingFault>,
+) -> Result<(), AllocError>
+    ensures { OnOk result (found.new ≡ found.old ++ left_out_in pin owner.now answer.now) }
+{
+    match answer {
+        Ok(timing) => add_left_out(alloc, found, pin, owner, timing.left_out.as_slice()),
+        Err(_) => Ok(()),
+    }
+}
+
+/// The left-out timing groups of all pins, where these are the groups that make them.
+pub fn left_out_of(
+    alloc: Global,
+    owners: &[&Group],
+    answers: &[Result<PinTiming, TimingFault>],
+) -> Result<Items<LeftOut>, AllocError>
+    requires { length owners.now ≡ length answers.now }
+    ensures { IfOk result (λ found. found ≡ left_out_from 0 (map (λ group. group.now) owners.now) answers.now) }
+{
+    let mut found = Items::new(alloc);
+    for (pin, answer) in answers.iter().enumerate() {
+        add_answer(alloc, &mut found, pin, owners[pin], answer)?;
+    }
+    Ok(found)
+}

@@ -1,0 +1,4 @@
+pub mod Copies
+pub mod Outputs
+pub mod CoreGroups
+pub mod DriverGroups

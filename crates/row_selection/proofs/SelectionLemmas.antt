@@ -22,7 +22,7 @@ use Rattle.udp_tables.specs.RowKeys.{level_after}
 use Rattle.udp_tables.proofs.ColumnLemmas.{and-false, and-assoc, and-swap}
 use Rattle.udp_tables.proofs.FirstLemmas.{first-append}
 use Rattle.row_selection.specs.declared.selected_rows.SelectedRow.{SelectedRow}
-use Rattle.row_selection.specs.Selection.{any, settled, may_go, selects, is_of, selected_row, selected_of, selection, selected_hit, chosen}
+use Rattle.row_selection.specs.Selection.{any, settled, may_go, selects, is_of, selected_row, selected_of, selected_hit}
 use Rattle.row_selection.specs.Laws.{SelectedRowsDecide}
 
 -- the two bits of a value are those for which a level asks exactly where the level matches it
@@ -147,7 +147,7 @@ in-order true a m s false h = absurd (false≢true (h refl))
 in-order false a m s g h = sym (ap (λ b. (g && a) && b) (and-false m) ∙ and-false (g && a))
 
 -- a row matches exactly where it is selected and then matches
-row-hit :
+pub row-hit :
     (p : ℕ) (old : Trit) (row : UdpRow) (values : List Trit) (state : Trit)
     → length row.inputs ≡ length values → p < length values → length values ≤ 32
     → row_matches (slice_set values p old) values state row

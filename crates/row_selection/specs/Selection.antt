@@ -1,6 +1,6 @@
 -- The rows of a primitive's table that may match at a change of one input from one value, and what the first of them gives that
 -- does. (What a row matches and which row decides: IEEE 1364-2005, clause 8.)
-use Rattle.std.specs.Prelude.{◌≡◌, ℕ, Bool, true, false, not, ◌&&◌, ◌||◌, List, ◌++◌, map, filter, slice_set, slice_index_or}
+use Rattle.std.specs.Prelude.{ℕ, Bool, true, false, not, ◌&&◌, ◌||◌, nat_eq, List, [], ◌∷◌, ◌++◌, map, filter, slice_set, slice_index_or}
 use Rattle.std.specs.List.{list_all}
 use Rattle.trit_cubes.specs.declared.trits.Trit.{Trit}
 use Rattle.trit_cubes.specs.declared.trits.Trit.TheVariants.{Zero, One, Unknown}
@@ -57,3 +57,20 @@ selected_hit word old new state row = may_match row.words word && (entry_matches
 -- what the first selected row that matches gives, x without one
 abbrev pub chosen : ℕ → Trit → Trit → Trit → List SelectedRow → Trit
 chosen word old new state rows = first (selected_hit word old new state) (λ row. next_of state row.next) rows Unknown
+
+-- Whether a row asks nothing of the inputs that stand under number n in an order of the inputs: their entries are `?`.
+abbrev pub is_any : Entry → Bool
+is_any (entry.Level level.Any) = true
+is_any _ = false
+
+abbrev pub asks_nothing : ℕ → List ℕ → List Entry → Bool
+asks_nothing n [] es = true
+asks_nothing n (k ∷ ks) [] = true
+asks_nothing n (k ∷ ks) (e ∷ es) = (not (nat_eq k n) || is_any e) && asks_nothing n ks es
+
+-- whether no row asks anything of them that may match at a change of input p from this value
+abbrev pub ignored_by : ℕ → Trit → ℕ → List ℕ → UdpRow → Bool
+ignored_by p old n order row = asks_nothing n order row.inputs || not (selects p old row)
+
+abbrev pub ignored : ℕ → Trit → ℕ → List ℕ → List UdpRow → Bool
+ignored p old n order rows = list_all (ignored_by p old n order) rows

@@ -1,12 +1,25 @@
 //! Look-ups of a primitive with a state at changes of one input.
 ghost use Rattle.std.specs.Prelude.{◌≡◌, ◌<◌, ◌≤◌, true, length, slice_set};
 ghost use Rattle.udp_tables.specs.Sequential.{HasEntries, udp_next};
-ghost use Rattle.row_selection.specs.Selection.{selection};
+ghost use Rattle.udp_tables.specs.RowWords.{value_word};
+ghost use Rattle.row_selection.specs.Selection.{selection, ignored};
+ghost use Rattle.row_selection.specs.NextStates.{next_states};
 
-use crate::selected_rows::{SelectedRow, add_rows, chosen};
+use crate::selected_rows::{SelectedRow, add_rows, chosen, ignored};
 use cell_machine::Few;
 use trit_cubes::Trit;
 use udp_tables::{Entry, Level, Next, RowWords, Udp, udp_next, value_word};
+
+/// The next states at a change of the inputs.
+#[derive(Clone, Copy)]
+pub struct NextStates {
+    /// From 0.
+    pub zero: Trit,
+    /// From 1.
+    pub one: Trit,
+    /// From x.
+    pub unknown: Trit,
+}
 
 /// The rows of a primitive with a state that may match at a change of one input from one value.
 #[derive(Drop)]
@@ -61,22 +74,46 @@ impl<'a> ChangeRows<'a> {
         }
     }
 
-    /// The next state at that change, where the inputs have these values after it: that of the first row of levels that matches,
-    /// else of the first row with a change entry that matches, else x (IEEE 1364-2005, clause 8).
-    pub fn next(&self, state: Trit, inputs: &[Trit]) -> Trit
-        requires { length inputs.now ≡ length self.now.udp.now.inputs }
+    /// The next state at that change, where the inputs have these values after it, and these have this word.
+    fn next_by(&self, state: Trit, inputs: &[Trit], word: u64) -> Trit
+        requires inputs { length inputs.now ≡ length self.now.udp.now.inputs }
+        requires word { word ≡ value_word inputs.now }
         ensures { result ≡ udp_next self.now.udp.now.rows (slice_set inputs.now self.now.place self.now.old) inputs.now state }
     {
         if !self.whole {
             return udp_next(self.udp, state, inputs, self.place, self.old);
         }
         let new = inputs[self.place];
-        chosen(
-            self.rows.as_slice(),
-            value_word(inputs),
-            self.old,
-            new,
-            state,
-        )
+        chosen(self.rows.as_slice(), word, self.old, new, state)
+    }
+
+    /// The next state at that change, where the inputs have these values after it: that of the first row of levels that matches,
+    /// else of the first row with a change entry that matches, else x (IEEE 1364-2005, clause 8).
+    pub fn next(&self, state: Trit, inputs: &[Trit]) -> Trit
+        requires { length inputs.now ≡ length self.now.udp.now.inputs }
+        ensures { result ≡ udp_next self.now.udp.now.rows (slice_set inputs.now self.now.place self.now.old) inputs.now state }
+    {
+        self.next_by(state, inputs, value_word(inputs))
+    }
+
+    /// The same from each state.
+    pub fn next_states(&self, inputs: &[Trit]) -> NextStates
+        requires { length inputs.now ≡ length self.now.udp.now.inputs }
+        ensures { result ≡ next_states (udp_next self.now.udp.now.rows (slice_set inputs.now self.now.place self.now.old) inputs.now) }
+    {
+        let word = value_word(inputs);
+        NextStates {
+            zero: self.next_by(Trit::Zero, inputs, word),
+            one: self.next_by(Trit::One, inputs, word),
+            unknown: self.next_by(Trit::Unknown, inputs, word),
+        }
+    }
+
+    /// Whether no row that may match asks anything of the inputs that stand under this number in an order of the inputs. The next
+    /// state at that change does not depend on their values then.
+    pub fn ignores(&self, order: &[usize], number: usize) -> bool
+        ensures { result ≡ ignored self.now.place self.now.old number order.now self.now.udp.now.rows }
+    {
+        ignored(self.udp, self.place, self.old, order, number)
     }
 }

@@ -6,5 +6,5 @@ mod change_rows;
 mod laws;
 mod selected_rows;
 
-pub use change_rows::ChangeRows;
-pub use laws::selected_rows_decide;
+pub use change_rows::{ChangeRows, NextStates};
+pub use laws::{ignored_inputs_are_free, selected_rows_decide};

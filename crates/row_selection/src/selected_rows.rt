@@ -3,7 +3,7 @@ ghost use Rattle.std.specs.Prelude.{◌≡◌, ◌<◌, ◌≤◌, [], ◌∷◌
 ghost use Rattle.std.specs.List.{list_all};
 ghost use Rattle.udp_tables.specs.Primitive.{is_level};
 ghost use Rattle.udp_tables.specs.Sequential.{HasEntries};
-ghost use Rattle.row_selection.specs.Selection.{any, settled, may_go, selects, is_of, selected_row, selected_of, selected_hit, chosen};
+ghost use Rattle.row_selection.specs.Selection.{any, settled, may_go, selects, is_of, selected_row, selected_of, selected_hit, chosen, is_any, asks_nothing, ignored_by, ignored};
 
 use cell_machine::Few;
 use trit_cubes::Trit;
@@ -135,6 +135,53 @@ pub(crate) fn add_rows(
 {
     for row in udp.rows.as_slice() {
         if !add_row(rows, row, place, old, levels) {
+            return false;
+        }
+    }
+    true
+}
+
+/// Whether the entries of the inputs that stand under this number are `?`.
+fn asks_nothing(entries: &[Entry], order: &[usize], number: usize) -> bool
+    ensures { result ≡ asks_nothing number order.now entries.now }
+{
+    let Some((at, order)) = order.split_first() else {
+        return true;
+    };
+    let Some((entry, entries)) = entries.split_first() else {
+        return true;
+    };
+    (*at != number || is_any(*entry)) && asks_nothing(entries, order, number)
+}
+
+/// Whether the entry is `?`.
+fn is_any(entry: Entry) -> bool
+    ensures { result ≡ is_any entry }
+{
+    match entry {
+        Entry::Level(Level::Any) => true,
+        _ => false,
+    }
+}
+
+/// Whether the row asks nothing of the inputs that stand under this number, or may not match.
+fn ignored_by(row: &UdpRow, place: usize, old: Trit, order: &[usize], number: usize) -> bool
+    requires place { place < length row.now.inputs }
+    requires few { length row.now.inputs ≤ 32 }
+    ensures { result ≡ ignored_by place old number order.now row.now }
+{
+    asks_nothing(row.inputs.as_slice(), order, number) || !selects(row, place, old)
+}
+
+/// The same of all rows.
+pub(crate) fn ignored(udp: &Udp, place: usize, old: Trit, order: &[usize], number: usize) -> bool
+    requires table { HasEntries udp.now }
+    requires place { place < length udp.now.inputs }
+    requires few { length udp.now.inputs ≤ 32 }
+    ensures { result ≡ ignored place old number order.now udp.now.rows }
+{
+    for row in udp.rows.as_slice() {
+        if !ignored_by(row, place, old, order, number) {
             return false;
         }
     }

@@ -1,5 +1,5 @@
 -- The first of arguments that are gone through in their order.
-use Rattle.std.proofs.Common.{◌≡◌, ℕ, suc, ◌+◌, ◌-◌, ◌^◌, ◌<◌, ◌≤◌, List, [], ◌∷◌, ◌++◌, map, flat_map, None, sym, ◌∙◌, ap, arith}
+use Rattle.std.proofs.Common.{◌≡◌, ℕ, suc, ◌+◌, ◌-◌, ◌^◌, ◌<◌, ◌≤◌, List, [], ◌∷◌, map, flat_map, None, sym, ◌∙◌, ap, arith}
 use Rattle.std.specs.List.{range_with_len}
 use Rattle.std.specs.Option.{option_or}
 use Rattle.std.proofs.lemmas.List.Folds.{find-append, flat_map-map}
@@ -8,6 +8,7 @@ use Rattle.trit_cubes.specs.declared.trits.Trit.{Trit}
 use Rattle.trit_cubes.specs.Prime.{cubes_of}
 use Rattle.table_audit.specs.declared.shape.ShapeTest.{ShapeTest}
 use Rattle.table_audit.specs.declared.verdicts.ShapePart.{ShapePart}
+use Rattle.table_audit.specs.declared.verdicts.AuditPart.{AuditPart}
 use Rattle.table_audit.specs.declared.verdicts.Difference.{Difference}
 use Rattle.table_audit.specs.Lists.{list_numbered}
 use Rattle.table_audit.specs.Shape.{is_amiss, first_amiss}
@@ -70,7 +71,8 @@ pub parts_first :
     → first_amiss (flat_map f (p ∷ ps)) ≡ option_or (first_amiss (f p)) (first_amiss (flat_map f ps))
 parts_first f p ps = find-append is_amiss (f p) (flat_map f ps)
 
--- the first of two lists of arguments
-pub first_of_both :
-    (xs ys : List Difference) → first_difference (xs ++ ys) ≡ option_or (first_difference xs) (first_difference ys)
-first_of_both xs ys = find-append is_unlike xs ys
+-- the first of the arguments of parts
+pub differences_first :
+    (f : AuditPart → List Difference) (p : AuditPart) (ps : List AuditPart)
+    → first_difference (flat_map f (p ∷ ps)) ≡ option_or (first_difference (f p)) (first_difference (flat_map f ps))
+differences_first f p ps = find-append is_unlike (f p) (flat_map f ps)

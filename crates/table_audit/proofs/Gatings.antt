@@ -1,5 +1,5 @@
 -- The conditions of checks and paths, and what the shape of a module gives for their wires.
-use Rattle.std.proofs.Common.{◌≡◌, ℕ, zero, suc, ◌≤◌, Bool, List, ◌∷◌, [], not, ◌&&◌, length, Option, None, Some, slice_get, nat_lt, nat_le, IsTrue, refl, ap, arith, leb-true}
+use Rattle.std.proofs.Common.{◌≡◌, ℕ, zero, suc, ◌<◌, ◌≤◌, Bool, List, ◌∷◌, [], not, ◌&&◌, length, Option, None, Some, slice_get, slice_index_or, nat_lt, nat_le, IsTrue, refl, sym, ap, ◌∙◌, arith, leb-true}
 use Rattle.std.specs.List.{list_all}
 use Rattle.std.proofs.lemmas.Bool.{and_parts}
 use Rattle.bool_functions.specs.declared.tree.Node.{Node}
@@ -49,25 +49,33 @@ pub path_gating_is :
 path_gating_is d m i arc path e f =
     λ j. gating_of (λ (arc : Arc). arc.condition) (λ (path : VPath). gate_wire path.gate) (e j) (f j)
 
--- where a list of the module ends no condition is compared
-get-past : {X : Type 0} (xs : List X) (i : ℕ) → length xs ≤ i → slice_get xs i ≡ None
+-- an entry of a list, and none behind its end
+pub get-there : {X : Type 0} (xs : List X) (i : ℕ) (x : X) → i < length xs → x ≡ slice_index_or xs i x → slice_get xs i ≡ Some x
+get-there [] i x l e = absurd (omega (arith, l))
+get-there (y ∷ ys) zero x l e = ap Some (sym e)
+get-there (y ∷ ys) (suc i) x l e = get-there ys i x (omega (arith, l)) e
+
+pub get-past : {X : Type 0} (xs : List X) (i : ℕ) → length xs ≤ i → slice_get xs i ≡ None
 get-past [] i l = refl
 get-past (x ∷ xs) zero l = absurd (omega (arith, l))
 get-past (x ∷ xs) (suc i) l = get-past xs i (omega (arith, l))
 
-no-gating :
-    {X Y : Type 0} (condition : X → Option Node) (wire : Y → Option ℕ) (o : Option X) (p : Option Y)
-    → p ≡ None → gating_of condition wire o p ≡ None
-no-gating condition wire None p e = refl
-no-gating condition wire (Some x) p e = ap (gating_of condition wire (Some x)) e
+-- where a list of the module ends no condition is compared
+no-wire : (o : Option Node) → gating o None ≡ None
+no-wire None = refl
+no-wire (Some f) = refl
 
-pub check_gating_past : (d : CellData) (m : VModule) (i : ℕ) → length m.checks ≤ i → check_gating d m i ≡ None
-check_gating_past d m i l =
-    no-gating (λ (k : Check). k.condition) (λ (k : TimingCheck). k.condition) (slice_get d.checks i) (slice_get m.checks i) (get-past m.checks i l)
+pub check_gating_past :
+    (d : CellData) (m : VModule) (i : ℕ) (k : Check)
+    → slice_get d.checks i ≡ Some k → slice_get m.checks i ≡ None → check_gating d m i ≡ gating k.condition None
+check_gating_past d m i k e f =
+    (λ j. gating_of (λ (k : Check). k.condition) (λ (k : TimingCheck). k.condition) (e j) (f j)) ∙ sym (no-wire k.condition)
 
-pub path_gating_past : (d : CellData) (m : VModule) (i : ℕ) → length m.paths ≤ i → path_gating d m i ≡ None
-path_gating_past d m i l =
-    no-gating (λ (arc : Arc). arc.condition) (λ (path : VPath). gate_wire path.gate) (slice_get d.arcs i) (slice_get m.paths i) (get-past m.paths i l)
+pub path_gating_past :
+    (d : CellData) (m : VModule) (i : ℕ) (arc : Arc)
+    → slice_get d.arcs i ≡ Some arc → slice_get m.paths i ≡ None → path_gating d m i ≡ gating arc.condition None
+path_gating_past d m i arc e f =
+    (λ j. gating_of (λ (arc : Arc). arc.condition) (λ (path : VPath). gate_wire path.gate) (e j) (f j)) ∙ sym (no-wire arc.condition)
 
 -- the wires of a module of the cell's shape stand for the conditions
 pub check_fed : (d : CellData) (m : VModule) (i : ℕ) → HasShape d m → IsTrue (feeds_gating d m (check_gating d m i))

@@ -8,3 +8,4 @@ pub mod TableLaws
 pub mod VerdictLaws
 pub mod Gatings
 pub mod NetOrder
+pub mod StepStates

@@ -1,5 +1,5 @@
 -- All lists of trits of one length are those with the numbers from 0 on.
-use Rattle.std.proofs.Common.{◌≡◌, ℕ, zero, suc, ◌+◌, ◌-◌, ◌*◌, ◌%◌, ◌^◌, ◌<◌, ◌≤◌, List, [], ◌∷◌, ◌++◌, map, refl, sym, ◌∙◌, ap, arith, add_assoc, zero-add, append_assoc, subst, Bool, length, take, drop}
+use Rattle.std.proofs.Common.{◌≡◌, ℕ, zero, suc, ◌+◌, ◌-◌, ◌*◌, ◌/◌, ◌%◌, ◌^◌, ◌<◌, ◌≤◌, List, [], ◌∷◌, ◌++◌, map, refl, sym, ◌∙◌, ap, arith, add_assoc, zero-add, append_assoc, subst, Bool, length, take, drop}
 use Rattle.std.proofs.Math.Nat.{pow-succ', one-le-pow, pow-le-pow_right}
 use Rattle.std.proofs.lemmas.Nat.{div-mul-add, mod-mul-add}
 use Rattle.std.proofs.lemmas.Simd.{map-map}
@@ -120,3 +120,11 @@ filling-wide = filling-long
 pub list_long : (n k : ℕ) → length (list_numbered n k) ≡ n
 list_long zero k = refl
 list_long (suc n) k = ap suc (list_long n (k % 3 ^ n))
+
+-- a third of the lists of one length is the number of those of the length before
+pub third : (n w : ℕ) → 0 < n → w ≡ 3 ^ n → w / 3 ≡ 3 ^ (n - 1)
+third n w l e =
+    let is : suc (n - 1) ≡ n = omega (arith, l) in
+    let more : 3 ^ suc (n - 1) ≡ 3 * 3 ^ (n - 1) = pow-succ' 3 (n - 1) in
+    let times : 3 ^ (n - 1) * 3 + 0 ≡ 3 ^ n = omega arith ∙ sym more ∙ ap (λ k. 3 ^ k) is in
+    ap (λ k. k / 3) (e ∙ sym times) ∙ div-mul-add (3 ^ (n - 1)) 3 0 (omega arith)

@@ -12,7 +12,8 @@ use Rattle.specify_blocks.specs.declared.model.VNet.{VNet}
 use Rattle.specify_blocks.specs.declared.model.Instance.TheVariants as instance
 use Rattle.specify_blocks.specs.declared.model.VModule.{VModule}
 use Rattle.specify_blocks.specs.Nets.{same_net}
-use Rattle.table_audit.specs.Tables.{arranged, order_of, next_at, rows_next, GivesNext}
+use Rattle.table_audit.specs.Tables.{arranged, next_at}
+use Rattle.table_audit.specs.LookUps.{order_of, GivesNext}
 
 -- behind its end a list has no value
 past : (xs : List Trit) (k : ℕ) → length xs ≤ k → slice_index_or xs k Unknown ≡ Unknown

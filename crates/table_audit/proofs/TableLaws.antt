@@ -1,5 +1,5 @@
 -- No argument gives two values exactly where the tables give the cell's values.
-use Rattle.std.proofs.Common.{◌≡◌, ◌≢◌, ℕ, zero, suc, ◌+◌, ◌<◌, Bool, true, false, not, cond, List, [], ◌∷◌, ◌++◌, map, find, flat_map, length, Option, None, Some, slice_index_or, slice_get, refl, sym, ◌∙◌, ap, subst, arith, inl, inr}
+use Rattle.std.proofs.Common.{◌≡◌, ◌≢◌, ℕ, zero, suc, ◌+◌, ◌<◌, Bool, true, false, not, cond, List, [], ◌∷◌, ◌++◌, map, find, length, Option, None, Some, slice_index_or, slice_get, if◌then◌else◌, refl, sym, ◌∙◌, ap, subst, arith, inl, inr}
 use Rattle.std.specs.List.{range_with_len}
 use Rattle.std.proofs.lemmas.Bool.{true≢false}
 use Rattle.trit_cubes.specs.declared.trits.Trit.{Trit}
@@ -21,9 +21,9 @@ use Rattle.specify_blocks.specs.declared.model.VModule.{VModule}
 use Rattle.table_audit.specs.declared.verdicts.AuditPart.{AuditPart}
 use Rattle.table_audit.specs.declared.verdicts.AuditPart.TheVariants as part
 use Rattle.table_audit.specs.Shape.{Gating, gate_wire, check_gating, path_gating}
-use Rattle.table_audit.specs.Tables.{group_next, place_net, cell_step, model_step, cell_forced, model_notified, cell_condition, model_condition, cell_output, model_output, all_trits, notes, notes_before, note_after, changes_at, step_compared, steps_by_note, steps_by_state, steps_where_changed, steps_by_list, steps_by_old, steps_compared, note_compared, notes_by_list, notes_by_old, notes_compared, value_compared, conditions_compared, checks_compared, paths_compared, outputs_compared, all_notes_compared, states_compared, all_conditions_compared, compared, is_unlike, first_difference}
+use Rattle.table_audit.specs.Tables.{group_next, place_net, cell_step, model_step, cell_forced, model_notified, cell_condition, model_condition, cell_output, model_output, all_trits, notes, notes_before, note_after, changes_at, step_compared, steps_by_note, steps_by_state, steps_where_changed, steps_by_list, steps_by_old, steps_compared, note_compared, notes_by_list, notes_by_old, notes_compared, value_compared, conditions_compared, compared_count, compared_at, part_compared, compared_parts, compared, is_unlike, first_difference}
 use Rattle.table_audit.specs.Matches.{HasValues}
-use Rattle.table_audit.proofs.Searches.{append-none, none-append, flat-none, none-flat, map-none, none-map, in-range, range-in, in-trits, in-trits-from-x}
+use Rattle.table_audit.proofs.Searches.{flat-none, none-flat, map-none, none-map, in-range, range-in, in-trits, in-trits-from-x}
 use Rattle.table_audit.proofs.ShapeLaws.{gating-below}
 
 -- each list of n trits is among them
@@ -120,6 +120,14 @@ compared-notes d m g p old values s h =
     by None = likeness (cell_step d g p old values s) (model_step d m g p old values Unknown s) (h Unknown)
     by (Some note) = likeness (cell_step d g p old values s) (model_step d m g p old values note s) (h note)
 
+-- no difference where the module gives the cell's value from each state, at each value of the register
+pub states-agree :
+    (d : CellData) (m : VModule) (g p : ℕ) (old : Trit) (values : List Trit)
+    → ((note s : Trit) → model_step d m g p old values note s ≡ cell_step d g p old values s)
+    → find is_unlike (steps_by_state d m g p old values) ≡ None
+states-agree d m g p old values h =
+    none-flat is_unlike (steps_by_note d m g p old values) all_trits (λ s a. compared-notes d m g p old values s (λ note. h note s))
+
 steps-from :
     (d : CellData) (m : VModule) (g : ℕ) → find is_unlike (steps_compared d m g) ≡ None
     → (p : ℕ) (old : Trit) (values : List Trit) (note s : Trit)
@@ -173,15 +181,6 @@ from-notes d m g h =
     none-map is_unlike (note_compared d m g old values) all_trits (λ s at_state.
     likeness (cell_forced d g values) (model_notified d m g old (note_after old) values s) (h old values s (cubes_of-length n values at_list)))))
 
-notes-by :
-    (b : Bool) (d : CellData) (m : VModule)
-    → (b ≡ true → (g : ℕ) → g < length d.groups → find is_unlike (notes_compared d m g) ≡ None)
-    → find is_unlike (all_notes_compared b d m) ≡ None
-notes-by true d m h =
-    none-flat is_unlike (notes_compared d m) (range_with_len 0 (length d.groups))
-    (λ g a. h refl g (omega (arith, range-in 0 (length d.groups) g a)))
-notes-by false d m h = refl
-
 values-from :
     (p : AuditPart) (number n : ℕ) (of_cell of_model : List Trit → Trit)
     → find is_unlike (map (value_compared p number of_cell of_model) (cubes_of n)) ≡ None
@@ -222,60 +221,59 @@ check-below d m i u e = gating-below (λ (k : Check). k.condition) (λ (k : Timi
 path-below : (d : CellData) (m : VModule) (i : ℕ) (u : Gating) → path_gating d m i ≡ Some u → i < length d.arcs
 path-below d m i u e = gating-below (λ (arc : Arc). arc.condition) (λ (path : VPath). gate_wire path.gate) d.arcs (slice_get m.paths i) i u e
 
+-- the groups whose changes of the register are compared
+below-notified : (b : Bool) (n k : ℕ) → k < (if b then n else 0) → (b ≡ true) × (k < n)
+below-notified true n k l = (refl, l)
+below-notified false n k l = absurd (omega (arith, l))
+
+pub notified_group : (d : CellData) (k : ℕ) → k < compared_count d part.Notifier → k < length d.groups
+notified_group d k l = (below-notified (has_notifier d) (length d.groups) k l).1
+
+-- no difference of one that is compared
+none-of-part :
+    (d : CellData) (m : VModule) → first_difference (compared d m) ≡ None
+    → (p : AuditPart) → Among p compared_parts → (k : ℕ) → k < compared_count d p → find is_unlike (compared_at d m p k) ≡ None
+none-of-part d m h p among k l =
+    flat-none is_unlike (compared_at d m p) (range_with_len 0 (compared_count d p))
+    (flat-none is_unlike (part_compared d m) compared_parts h p among) k
+    (in-range 0 (compared_count d p) k (omega arith) (omega (arith, l)))
+
 -- Where no argument gives two values the tables give the cell's.
 pub tables-from : (d : CellData) (m : VModule) → first_difference (compared d m) ≡ None → HasValues d m
 tables-from d m h =
-    let groups = range_with_len 0 (length d.groups) in
-    let outputs = flat_map (outputs_compared d m) (range_with_len 0 (length d.outputs)) in
-    let paths = flat_map (paths_compared d m) (range_with_len 0 (length d.arcs)) in
-    let checks = flat_map (checks_compared d m) (range_with_len 0 (length d.checks)) in
-    let one = append-none is_unlike (states_compared d m) (all_conditions_compared d m ++ outputs) h in
-    let two = append-none is_unlike (flat_map (steps_compared d m) groups) (all_notes_compared (has_notifier d) d m) one.0 in
-    let three = append-none is_unlike (all_conditions_compared d m) outputs one.1 in
-    let four = append-none is_unlike checks paths three.0 in
     record {
       steps = λ g p old values note s inside.
-          steps-from d m g
-          (flat-none is_unlike (steps_compared d m) groups two.0 g (in-range 0 (length d.groups) g (omega arith) (omega (arith, inside))))
-          p old values note s;
+          steps-from d m g (none-of-part d m h part.State (inl refl) g inside) p old values note s;
       forces = λ g old values s has inside.
           notes-from d m g
-          (flat-none is_unlike (notes_compared d m) groups (subst (λ b. find is_unlike (all_notes_compared b d m) ≡ None) has two.1) g
-          (in-range 0 (length d.groups) g (omega arith) (omega (arith, inside))))
+          (none-of-part d m h part.Notifier (inr (inl refl)) g (subst (λ b. g < (if b then length d.groups else 0)) (sym has) inside))
           old values s;
       checks = λ i u values e.
           gating-from d m part.Check (i + 1) (check_gating d m i) u
-          (flat-none is_unlike (checks_compared d m) (range_with_len 0 (length d.checks)) four.0 i
-          (in-range 0 (length d.checks) i (omega arith) (omega (arith, check-below d m i u e)))) e values;
+          (none-of-part d m h part.Check (inr (inr (inl refl))) i (check-below d m i u e)) e values;
       paths = λ i u values e.
           gating-from d m part.Path (i + 1) (path_gating d m i) u
-          (flat-none is_unlike (paths_compared d m) (range_with_len 0 (length d.arcs)) four.1 i
-          (in-range 0 (length d.arcs) i (omega arith) (omega (arith, path-below d m i u e)))) e values;
+          (none-of-part d m h part.Path (inr (inr (inr (inl refl)))) i (path-below d m i u e)) e values;
       outputs = λ o values inside.
           values-from part.Output (o + 1) (length (sources_at d o)) (cell_output d o) (model_output d m o)
-          (flat-none is_unlike (outputs_compared d m) (range_with_len 0 (length d.outputs)) three.1 o
-          (in-range 0 (length d.outputs) o (omega arith) (omega (arith, inside)))) values;
+          (none-of-part d m h part.Output (inr (inr (inr (inr (inl refl))))) o inside) values;
     }
 
 -- Where they give the cell's values no argument gives two.
 pub from-tables : (d : CellData) (m : VModule) → HasValues d m → first_difference (compared d m) ≡ None
 from-tables d m v =
-    let groups = range_with_len 0 (length d.groups) in
-    let outputs = flat_map (outputs_compared d m) (range_with_len 0 (length d.outputs)) in
-    let paths = flat_map (paths_compared d m) (range_with_len 0 (length d.arcs)) in
-    let checks = flat_map (checks_compared d m) (range_with_len 0 (length d.checks)) in
-    none-append is_unlike (states_compared d m) (all_conditions_compared d m ++ outputs)
-    (none-append is_unlike (flat_map (steps_compared d m) groups) (all_notes_compared (has_notifier d) d m)
-    (none-flat is_unlike (steps_compared d m) groups
-    (λ g a. from-steps d m g (λ p old values note s. v.steps g p old values note s (omega (arith, range-in 0 (length d.groups) g a)))))
-    (notes-by (has_notifier d) d m
-    (λ has g l. from-notes d m g (λ old values s. v.forces g old values s has l))))
-    (none-append is_unlike (all_conditions_compared d m) outputs
-    (none-append is_unlike checks paths
-    (none-flat is_unlike (checks_compared d m) (range_with_len 0 (length d.checks))
-    (λ j a. from-gating d m part.Check (j + 1) (check_gating d m j) (λ u values e. v.checks j u values e)))
-    (none-flat is_unlike (paths_compared d m) (range_with_len 0 (length d.arcs))
-    (λ j a. from-gating d m part.Path (j + 1) (path_gating d m j) (λ u values e. v.paths j u values e))))
-    (none-flat is_unlike (outputs_compared d m) (range_with_len 0 (length d.outputs))
-    (λ o a. from-values part.Output (o + 1) (length (sources_at d o)) (cell_output d o) (model_output d m o)
-    (λ values. v.outputs o values (omega (arith, range-in 0 (length d.outputs) o a))))))
+    none-flat is_unlike (part_compared d m) compared_parts (λ p among.
+    none-flat is_unlike (compared_at d m p) (range_with_len 0 (compared_count d p)) (λ k within.
+    let below : k < compared_count d p = omega (arith, range-in 0 (compared_count d p) k within) in
+    by p k below))
+  where
+    by : (p : AuditPart) (k : ℕ) → k < compared_count d p → find is_unlike (compared_at d m p k) ≡ None
+    by part.State g l = from-steps d m g (λ p old values note s. v.steps g p old values note s l)
+    by part.Notifier g l =
+        let notified = below-notified (has_notifier d) (length d.groups) g l in
+        from-notes d m g (λ old values s. v.forces g old values s notified.0 notified.1)
+    by part.Check j l = from-gating d m part.Check (j + 1) (check_gating d m j) (λ u values e. v.checks j u values e)
+    by part.Path j l = from-gating d m part.Path (j + 1) (path_gating d m j) (λ u values e. v.paths j u values e)
+    by part.Output o l =
+        from-values part.Output (o + 1) (length (sources_at d o)) (cell_output d o) (model_output d m o)
+        (λ values. v.outputs o values l)

@@ -3,6 +3,7 @@ pub mod Terminals
 pub mod Shape
 pub mod ChangeInputs
 pub mod Tables
+pub mod LookUps
 pub mod Matches
 pub mod Verdict
 pub mod Laws

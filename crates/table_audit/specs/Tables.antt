@@ -1,18 +1,16 @@
 -- What the tables of a module and the functions of a cell give for the same arguments, and all arguments in the order in which
 -- they are compared. (What a table gives: IEEE 1364-2005, clause 8. The arguments and their order are this project's rule.)
-use Rattle.std.specs.Prelude.{◌≡◌, ℕ, suc, ◌+◌, ◌≤◌, Bool, true, false, not, List, [], ◌∷◌, ◌++◌, length, map, flat_map, find, position, Option, Some, None, unwrap_or, slice_get, slice_set, slice_index_or, if◌then◌else◌}
+use Rattle.std.specs.Prelude.{ℕ, ◌+◌, Bool, true, false, not, List, [], ◌∷◌, length, map, flat_map, find, position, Option, Some, None, unwrap_or, slice_get, slice_set, slice_index_or, if◌then◌else◌}
 use Rattle.std.specs.List.{range_with_len}
 use Rattle.std.specs.Option.{option_map_or}
 use Rattle.trit_cubes.specs.declared.trits.Trit.{Trit}
 use Rattle.trit_cubes.specs.declared.trits.Trit.TheVariants.{Zero, One, Unknown}
 use Rattle.trit_cubes.specs.Filling.{trit_of, same}
 use Rattle.trit_cubes.specs.Resolution.{res}
-use Rattle.trit_cubes.specs.Sets.{AreValuesOf}
 use Rattle.trit_cubes.specs.Prime.{cubes_of}
 use Rattle.bool_functions.specs.declared.tree.Node.{Node}
 use Rattle.bool_functions.specs.Support.{support_of}
-use Rattle.cell_machine.specs.Machine.{without, edge_value, machine_step, forced_at, forced}
-use Rattle.cell_machine.specs.Inputs.{numbered_value}
+use Rattle.cell_machine.specs.Machine.{without, machine_step, forced}
 use Rattle.cell_machine.specs.Outputs.{condition_at}
 use Rattle.cell_machine.specs.CellData.{CellData}
 use Rattle.cell_machine.specs.CellTrace.{support_at, step_at, sources_at, output_value_at}
@@ -27,12 +25,10 @@ use Rattle.specify_blocks.specs.declared.model.Instance.TheVariants as instance
 use Rattle.specify_blocks.specs.declared.model.VModule.{VModule}
 use Rattle.specify_blocks.specs.Nets.{same_net}
 use Rattle.specify_blocks.specs.Generated.{pin_net}
-use Rattle.row_selection.specs.declared.change_rows.ChangeRows.{ChangeRows}
-use Rattle.table_audit.specs.declared.net_rows.NetRows.{NetRows}
 use Rattle.table_audit.specs.declared.verdicts.AuditPart.{AuditPart}
 use Rattle.table_audit.specs.declared.verdicts.AuditPart.TheVariants as part
 use Rattle.table_audit.specs.declared.verdicts.Difference.{Difference}
-use Rattle.table_audit.specs.Terminals.{sequential_instances, driving, nets_feeding, group_nets, condition_nets, output_nets}
+use Rattle.table_audit.specs.Terminals.{sequential_instances, driving, group_nets, condition_nets, output_nets}
 use Rattle.table_audit.specs.Shape.{Gating, check_gating, path_gating, output_net}
 
 -- The value of a net where the first nets have the values, and those of the inputs of an instance, in their order.
@@ -54,37 +50,10 @@ next_by m nets values changed old s (instance.Primitive number output inputs) =
     (slice_get m.udps number) s
 next_by m nets values changed old s (instance.Constant output one) = s
 
--- Where the nets of a list stand among others, 10 for one that is none of them: at most ten nets have values.
-abbrev pub place_among : List VNet → VNet → ℕ
-place_among nets n = unwrap_or (position (same_net n) nets) 10
-
-abbrev pub order_of : List VNet → List VNet → List ℕ
-order_of nets inputs = map (place_among nets) inputs
-
--- The next state by rows that are selected for a change, where the inputs have these values after it; where there are none the
--- state stays.
-abbrev pub rows_next : Option ChangeRows → List Trit → Trit → Trit
-rows_next None inputs s = s
-rows_next (Some r) inputs s = udp_next r.udp.now.rows (slice_set inputs r.place r.old) inputs s
-
--- the same where the inputs stand in some order among nets with values
-abbrev pub looked_up : NetRows → List Trit → Trit → Trit
-looked_up r values s = rows_next r.rows (map (numbered_value values) r.order) s
-
--- Rows give the next state of an instance at a change of one net from an old value, whatever values the nets have.
-pub record GivesNext (m : VModule) (changed : VNet) (old : Trit) (i : Instance) (rows : Option ChangeRows) : Type 0 where
-  pub next_is :
-      (nets : List VNet) (values : List Trit) (s : Trit)
-      → rows_next rows (arranged nets values (nets_feeding i)) s ≡ next_by m nets values changed old s i
-
--- the same of the instance that stands for group g
+-- the next state of the instance that stands for group g
 abbrev pub group_next : CellData → VModule → ℕ → List Trit → VNet → Trit → Trit → Trit
 group_next d m g values changed old s =
     option_map_or (next_by m (group_nets d g) values changed old s) (slice_get (sequential_instances m) g) s
-
--- Rows give the next state of the instance that stands for group g at a change of one net from an old value.
-pub record LooksUp (d : CellData) (m : VModule) (g : ℕ) (changed : VNet) (old : Trit) (r : NetRows) : Type 0 where
-  pub next_is : (values : List Trit) (s : Trit) → length values ≤ 10 → looked_up r values s ≡ group_next d m g values changed old s
 
 -- What an instance without a state drives, where these nets have these values.
 abbrev pub value_by : VModule → List VNet → List Trit → Instance → Trit
@@ -101,10 +70,6 @@ driven_value m nets values n = option_map_or (value_by m nets values) (driving m
 abbrev pub cell_step : CellData → ℕ → ℕ → Trit → List Trit → Trit → Trit
 cell_step d g p old values s = machine_step (step_at d g) p old (slice_index_or values p Unknown) (without p values) s
 
--- the values of the step of group g at changes of the pin at place p, by the numbers of the points
-abbrev pub AreSteps : CellData → ℕ → ℕ → List Trit → Type 0
-AreSteps d g p values = AreValuesOf (suc (suc (length (support_at d g)))) (edge_value (step_at d g) p) values
-
 -- the port of the pin at a place of a support
 abbrev pub place_net : CellData → ℕ → ℕ → VNet
 place_net d g p = pin_net d.pins (slice_index_or (support_at d g) p 0)
@@ -117,10 +82,6 @@ model_step d m g p old values note s =
 -- else X, and the next state by the module.
 abbrev pub cell_forced : CellData → ℕ → List Trit → Trit
 cell_forced d g values = forced (step_at d g) values
-
--- the values to which points force the state of group g, by the numbers of the points
-abbrev pub AreForces : CellData → ℕ → List Trit → Type 0
-AreForces d g values = AreValuesOf (length (support_at d g)) (forced_at (step_at d g)) values
 
 abbrev pub model_notified : CellData → VModule → ℕ → Trit → Trit → List Trit → Trit → Trit
 model_notified d m g old note values s = group_next d m g (noted true note values) net.Notifier old s
@@ -257,7 +218,7 @@ paths_compared d m a = conditions_compared d m part.Path (a + 1) (path_gating d 
 -- how many of a part are compared, the arguments of one of them, and those of all of them in their order
 abbrev pub compared_count : CellData → AuditPart → ℕ
 compared_count d part.State = length d.groups
-compared_count d part.Notifier = length d.groups
+compared_count d part.Notifier = if has_notifier d then length d.groups else 0
 compared_count d part.Check = length d.checks
 compared_count d part.Path = length d.arcs
 compared_count d part.Output = length d.outputs
@@ -274,23 +235,11 @@ part_compared d m p = flat_map (compared_at d m p) (range_with_len 0 (compared_c
 
 -- All arguments in the order in which they are compared: the states of all groups and what the register makes of them, the
 -- conditions of checks and those of paths, and the outputs.
-abbrev pub all_notes_compared : Bool → CellData → VModule → List Difference
-all_notes_compared false d m = []
-all_notes_compared true d m = flat_map (notes_compared d m) (range_with_len 0 (length d.groups))
-
-abbrev pub states_compared : CellData → VModule → List Difference
-states_compared d m =
-    flat_map (steps_compared d m) (range_with_len 0 (length d.groups)) ++ all_notes_compared (has_notifier d) d m
-
-abbrev pub all_conditions_compared : CellData → VModule → List Difference
-all_conditions_compared d m =
-    flat_map (checks_compared d m) (range_with_len 0 (length d.checks))
-    ++ flat_map (paths_compared d m) (range_with_len 0 (length d.arcs))
+abbrev pub compared_parts : List AuditPart
+compared_parts = part.State ∷ part.Notifier ∷ part.Check ∷ part.Path ∷ part.Output ∷ []
 
 abbrev pub compared : CellData → VModule → List Difference
-compared d m =
-    states_compared d m
-    ++ (all_conditions_compared d m ++ flat_map (outputs_compared d m) (range_with_len 0 (length d.outputs)))
+compared d m = flat_map (part_compared d m) compared_parts
 
 -- the first with two values that are not the same, where there is one
 abbrev pub is_unlike : Difference → Bool

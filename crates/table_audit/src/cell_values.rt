@@ -8,12 +8,15 @@ ghost use Rattle.cell_machine.specs.Machine.{insert, edge_value, without};
 ghost use Rattle.cell_machine.specs.Outputs.{condition_at};
 ghost use Rattle.cell_machine.specs.CellData.{data_of};
 ghost use Rattle.cell_machine.specs.CellTrace.{support_at, step_at, sources_at, output_value_at};
-ghost use Rattle.table_audit.specs.Tables.{AreSteps, AreForces, cell_step, cell_forced};
+ghost use Rattle.row_selection.specs.NextStates.{next_states};
+ghost use Rattle.table_audit.specs.Tables.{cell_step, cell_forced};
+ghost use Rattle.table_audit.specs.LookUps.{AreSteps, AreForces};
 
 use crate::net_rows::NetRows;
 use crate::resolved::{resolved, values_at};
 use bool_functions::Function;
 use cell_machine::{Cell, Few, Values, boolean_step, numbered_value, output_at};
+use row_selection::NextStates;
 use trit_cubes::{Trit, resolve};
 use udp_tables::forced_at;
 
@@ -135,6 +138,8 @@ pub(crate) struct PinChange<'a> {
     pub steps: &'a [Trit],
     /// The rows of the instance that may match.
     pub rows: &'a NetRows<'a>,
+    /// Whether these are known to ask nothing of the register of the checks.
+    pub ignores_note: bool,
 }
 
 /// The places of a change: the value before and after of the pin that changes, the other pins and the state.
@@ -166,6 +171,23 @@ pub(crate) fn step_value(cell: &Cell, group: usize, change: PinChange<'_>, state
         places.as_slice(),
         &|number: u16| { numbered_value(steps, usize::from(number)) },
     )
+}
+
+/// The same from each state.
+pub(crate) fn step_values(cell: &Cell, group: usize, change: PinChange<'_>) -> NextStates
+    requires values { length change.values.now ≡ length (support_at (data_of cell.now) group) }
+    requires place { change.place < length change.values.now }
+    requires few { length change.values.now ≤ 8 }
+    requires steps { AreSteps (data_of cell.now) group change.place change.steps.now }
+    ensures { result ≡ next_states (cell_step (data_of cell.now) group change.entry.place change.entry.old change.entry.values.now) }
+{
+    let zero = step_value(cell, group, change, Trit::Zero);
+    let one = step_value(cell, group, change, Trit::One);
+    NextStates {
+        zero,
+        one,
+        unknown: zero.agreed(one),
+    }
 }
 
 /// The value of a condition at a point of its names.

@@ -1,15 +1,16 @@
 //! The comparison of a module with a cell.
-ghost use Rattle.std.specs.Prelude.{◌≡◌, ◌<◌};
+ghost use Rattle.std.specs.Prelude.{◌≡◌, ◌<◌, flat_map};
 ghost use Rattle.cell_machine.specs.CellData.{data_of};
 ghost use Rattle.specify_blocks.specs.Sound.{IsSound};
 ghost use Rattle.table_audit.specs.Matches.{HasShape};
-ghost use Rattle.table_audit.specs.Tables.{compared_count, compared_at, part_compared, states_compared, all_conditions_compared, compared, first_difference};
+ghost use Rattle.table_audit.specs.Tables.{compared_count, compared_at, part_compared, compared, first_difference};
 ghost use Rattle.table_audit.specs.Verdict.{by_tables, verdict_of};
 
+use crate::condition_wires::{of_check, of_path};
 use crate::shape::first_amiss;
 use crate::states::GroupTables;
 use crate::terminals::has_notifier;
-use crate::values::{of_check, of_output, of_path};
+use crate::values::{of_condition, of_output};
 use crate::verdicts::{AuditPart, Difference, Verdict};
 use cell_machine::Cell;
 use specify_blocks::VModule;
@@ -21,7 +22,8 @@ impl AuditPart {
     {
         match self {
             AuditPart::State => cell.groups.len(),
-            AuditPart::Notifier => cell.groups.len(),
+            AuditPart::Notifier if has_notifier(cell) => cell.groups.len(),
+            AuditPart::Notifier => 0,
             AuditPart::Check => cell.checks.len(),
             AuditPart::Path => cell.arcs.len(),
             AuditPart::Output => cell.outputs.len(),
@@ -29,17 +31,31 @@ impl AuditPart {
     }
 
     /// The first difference of the one of this part that has this number, from 0.
+    #[tactic(auto, using(crate::proofs::TableLaws::notified_group))]
     fn first_at(self, cell: &Cell, model: &VModule, number: usize) -> Option<Difference>
         requires sound { IsSound model.now }
         requires shape { HasShape (data_of cell.now) model.now }
         requires inside { number < compared_count (data_of cell.now) self }
         ensures { result ≡ first_difference (compared_at (data_of cell.now) model.now self number) }
     {
+        let _count = self.count(cell);
         match self {
             AuditPart::State => GroupTables::of(cell, model, number).steps(),
             AuditPart::Notifier => GroupTables::of(cell, model, number).notes(),
-            AuditPart::Check => of_check(cell, model, number),
-            AuditPart::Path => of_path(cell, model, number),
+            AuditPart::Check => of_condition(
+                cell,
+                model,
+                self,
+                number + 1,
+                of_check(cell, model, number),
+            ),
+            AuditPart::Path => of_condition(
+                cell,
+                model,
+                self,
+                number + 1,
+                of_path(cell, model, number),
+            ),
             AuditPart::Output => of_output(cell, model, number),
         }
     }
@@ -61,47 +77,37 @@ impl AuditPart {
     }
 }
 
-/// The first difference of the states: at changes of pins, then at changes of the register of the checks, where there is one.
-#[tactic(auto, using(crate::proofs::Firsts::first_of_both))]
-fn first_of_states(cell: &Cell, model: &VModule) -> Option<Difference>
+/// The first difference of these parts.
+#[tactic(auto, using(crate::proofs::Firsts::differences_first))]
+fn first_among(parts: &[AuditPart], cell: &Cell, model: &VModule) -> Option<Difference>
     requires sound { IsSound model.now }
     requires shape { HasShape (data_of cell.now) model.now }
-    ensures { result ≡ first_difference (states_compared (data_of cell.now) model.now) }
+    ensures { result ≡ first_difference (flat_map (part_compared (data_of cell.now) model.now) parts.now) }
 {
-    match AuditPart::State.first(cell, model) {
+    let Some((part, rest)) = parts.split_first() else {
+        return None;
+    };
+    match part.first(cell, model) {
         Some(found) => Some(found),
-        None if has_notifier(cell) => AuditPart::Notifier.first(cell, model),
-        None => None,
+        None => first_among(rest, cell, model),
     }
 }
 
-/// The first difference of the conditions: of checks, then of paths.
-#[tactic(auto, using(crate::proofs::Firsts::first_of_both))]
-fn first_of_conditions(cell: &Cell, model: &VModule) -> Option<Difference>
-    requires sound { IsSound model.now }
-    requires shape { HasShape (data_of cell.now) model.now }
-    ensures { result ≡ first_difference (all_conditions_compared (data_of cell.now) model.now) }
-{
-    match AuditPart::Check.first(cell, model) {
-        Some(found) => Some(found),
-        None => AuditPart::Path.first(cell, model),
-    }
-}
-
-/// The first difference of the tables: of states, conditions and outputs.
-#[tactic(auto, using(crate::proofs::Firsts::first_of_both))]
+/// The first difference of the tables: of states, at changes of pins and then of the register of the checks, of conditions and of
+/// outputs.
 fn first_of_tables(cell: &Cell, model: &VModule) -> Option<Difference>
     requires sound { IsSound model.now }
     requires shape { HasShape (data_of cell.now) model.now }
     ensures { result ≡ first_difference (compared (data_of cell.now) model.now) }
 {
-    if let Some(found) = first_of_states(cell, model) {
-        return Some(found);
-    }
-    match first_of_conditions(cell, model) {
-        Some(found) => Some(found),
-        None => AuditPart::Output.first(cell, model),
-    }
+    let parts = [
+        AuditPart::State,
+        AuditPart::Notifier,
+        AuditPart::Check,
+        AuditPart::Path,
+        AuditPart::Output,
+    ];
+    first_among(&parts, cell, model)
 }
 
 /// The verdict on a module of the cell's shape.

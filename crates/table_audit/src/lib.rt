@@ -4,6 +4,7 @@
 
 mod cell_values;
 mod comparison;
+mod condition_wires;
 mod laws;
 mod lists;
 mod model_tables;

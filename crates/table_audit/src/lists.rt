@@ -1,5 +1,5 @@
 //! Lists of trits by their numbers.
-ghost use Rattle.std.specs.Prelude.{◌≡◌, ◌+◌, ◌<◌, ◌≤◌, ◌^◌, ◌++◌, length};
+ghost use Rattle.std.specs.Prelude.{◌≡◌, ◌+◌, ◌-◌, ◌<◌, ◌≤◌, ◌^◌, ◌++◌, length};
 ghost use Rattle.table_audit.specs.Lists.{trit_numbered, list_numbered};
 
 use cell_machine::Few;
@@ -29,28 +29,40 @@ pub(crate) fn list_count(n: usize) -> usize
     3 * list_count(n - 1)
 }
 
-/// Adds the list of `n` values with this number.
-fn add_list(values: &mut Few<Trit, 10>, n: usize, number: usize)
-    requires { length values.old + n ≤ 10 }
+/// How many lists of `n` - 1 values there are, where there are `count` of `n` values.
+fn third(n: usize, count: usize) -> usize
+    requires some { 0 < n }
+    requires count { count ≡ 3 ^ n }
+    ensures count { result ≡ 3 ^ (n - 1) }
+    ensures some { 0 < result }
+{
+    count / 3
+}
+
+/// Adds the list of `n` values with this number; there are `count` of them.
+fn add_list(values: &mut Few<Trit, 10>, n: usize, number: usize, count: usize)
+    requires few { length values.old + n ≤ 10 }
+    requires count { count ≡ 3 ^ n }
     ensures { values.new ≡ values.old ++ list_numbered n number }
 {
     if n == 0 {
         return;
     }
-    let weight = list_count(n - 1);
+    let weight = third(n, count);
     values.push(trit_numbered(number / weight));
-    add_list(values, n - 1, number % weight);
+    add_list(values, n - 1, number % weight, weight);
 }
 
-/// The list of `n` values with this number, from 0, in their order from the left.
+/// The list of `n` values with this number, from 0, in their order from the left; there are `count` of them.
 #[tactic(auto, using(crate::proofs::ListNumbers::list_long))]
-pub(crate) fn list_numbered(n: usize, number: usize) -> Few<Trit, 10>
-    requires { n ≤ 10 }
+pub(crate) fn list_numbered(n: usize, number: usize, count: usize) -> Few<Trit, 10>
+    requires few { n ≤ 10 }
+    requires count { count ≡ 3 ^ n }
     ensures list { result ≡ list_numbered n number }
     ensures len { length result ≡ n }
 {
     let mut values = Few::new(Trit::Unknown);
-    add_list(&mut values, n, number);
+    add_list(&mut values, n, number, count);
     values
 }
 

@@ -1,17 +1,19 @@
 //! What the tables of a module give.
-ghost use Rattle.std.specs.Prelude.{◌≡◌, ◌+◌, ◌≤◌, ◌++◌, false, List, map, length, position, IsTrue};
+ghost use Rattle.std.specs.Prelude.{◌≡◌, ◌+◌, ◌≤◌, ◌++◌, true, false, List, map, length, position, IsTrue};
 ghost use Rattle.trit_cubes.specs.declared.trits.Trit.{Trit};
 ghost use Rattle.cell_machine.specs.Inputs.{numbered_value};
 ghost use Rattle.specify_blocks.specs.Nets.{same_net, has_state};
 ghost use Rattle.specify_blocks.specs.Sound.{IsSound};
+ghost use Rattle.row_selection.specs.NextStates.{next_states};
 ghost use Rattle.table_audit.specs.Terminals.{StandsIn, nets_feeding, drives_value};
 ghost use Rattle.table_audit.specs.ChangeInputs.{input_count};
-ghost use Rattle.table_audit.specs.Tables.{value_among, arranged, place_among, order_of, GivesNext, looked_up, next_by, value_by, driven_value};
+ghost use Rattle.table_audit.specs.Tables.{value_among, arranged, next_by, value_by, driven_value};
+ghost use Rattle.table_audit.specs.LookUps.{place_among, order_of, GivesNext, looked_up, IgnoresNet};
 
 use crate::net_rows::NetRows;
 use crate::terminals::{driving, nets_feeding};
 use cell_machine::{Few, numbered_value};
-use row_selection::ChangeRows;
+use row_selection::{ChangeRows, NextStates};
 use specify_blocks::{Instance, VModule, VNet};
 use trit_cubes::Trit;
 use udp_tables::{Udp, udp_level};
@@ -162,6 +164,31 @@ impl<'a> NetRows<'a> {
         };
         let inputs = values_numbered(values, self.order.as_slice());
         rows.next(state, inputs.as_slice())
+    }
+
+    /// The same from each state.
+    pub(crate) fn next_states(&self, values: &[Trit]) -> NextStates
+        ensures { result ≡ next_states (looked_up self.now values.now) }
+    {
+        let Some(rows) = &self.rows else {
+            return NextStates {
+                zero: Trit::Zero,
+                one: Trit::One,
+                unknown: Trit::Unknown,
+            };
+        };
+        let inputs = values_numbered(values, self.order.as_slice());
+        rows.next_states(inputs.as_slice())
+    }
+
+    /// Whether the rows ask nothing of the net with this number.
+    pub(crate) fn ignores(&self, number: usize) -> bool
+        ensures { result ≡ true → IgnoresNet number self.now }
+    {
+        match &self.rows {
+            Some(rows) => rows.ignores(self.order.as_slice(), number),
+            None => true,
+        }
     }
 }
 

@@ -6,8 +6,9 @@ ghost use Rattle.cell_machine.specs.CellData.{data_of};
 ghost use Rattle.udp_tables.specs.declared.models.VPort.{VPort};
 ghost use Rattle.udp_tables.specs.Ports.{is_port};
 ghost use Rattle.specify_blocks.specs.Generated.{is_conditional};
-ghost use Rattle.table_audit.specs.Shape.{same_bit, same_bits, feeds_group, both_or_neither, same_kind, same_edge, same_event, same_check, same_check_at, gated_by, same_path, same_path_at, gate_wire, feeds_gating, feeds_output, check_gating, path_gating, number_holds, part_count, part_holds, asked, tests_of, shape_tests, first_amiss};
+ghost use Rattle.table_audit.specs.Shape.{same_bit, same_bits, feeds_group, both_or_neither, same_kind, same_edge, same_event, same_check, same_check_at, gated_by, same_path, same_path_at, gate_wire, feeds_output, number_holds, part_count, part_holds, asked, tests_of, shape_tests, first_amiss};
 
+use crate::condition_wires::{of_check, of_path};
 use crate::supports::feeds_gating;
 use crate::terminals::{
     drives_value, group_nets, nets_feeding, output_net, output_nets, same_nets,
@@ -15,7 +16,7 @@ use crate::terminals::{
 };
 use crate::verdicts::ShapePart;
 use bool_functions::Function;
-use cell_machine::{Arc, Cell, Check, CheckKind, Direction, Edge, Event, Pin, entry};
+use cell_machine::{Arc, Cell, Check, CheckKind, Direction, Edge, Event, Pin};
 use specify_blocks::{Gate, VModule, VPath};
 use udp_tables::{TimingCheck, VPort, event_of, is_port, port_number};
 
@@ -209,32 +210,6 @@ pub(crate) fn gate_wire(gate: Gate) -> Option<usize>
     }
 }
 
-/// Whether the nets of the condition of a check feed the instance that drives its wire.
-#[tactic(auto, using(crate::proofs::Gatings::check_gating_past))]
-fn feeds_check(cell: &Cell, model: &VModule, check: usize) -> bool
-    requires { check < length cell.now.checks }
-    ensures { result ≡ feeds_gating (data_of cell.now) model.now (check_gating (data_of cell.now) model.now check) }
-{
-    if check >= model.checks.len() {
-        return true;
-    }
-    let timing = entry(&model.checks, check);
-    feeds_gating(cell, model, &cell.check(check).condition, timing.condition)
-}
-
-/// Whether the nets of the condition of a path feed the instance that drives its wire.
-#[tactic(auto, using(crate::proofs::Gatings::path_gating_past))]
-fn feeds_path(cell: &Cell, model: &VModule, arc: usize) -> bool
-    requires { arc < length cell.now.arcs }
-    ensures { result ≡ feeds_gating (data_of cell.now) model.now (path_gating (data_of cell.now) model.now arc) }
-{
-    if arc >= model.paths.len() {
-        return true;
-    }
-    let path = entry(&model.paths, arc);
-    feeds_gating(cell, model, &cell.arc(arc).condition, gate_wire(path.gate))
-}
-
 /// Whether the nets of an output feed the instance that drives its port.
 fn feeds_output(cell: &Cell, model: &VModule, output: usize) -> bool
     requires { output < length cell.now.outputs }
@@ -288,8 +263,8 @@ impl ShapePart {
             ShapePart::StateInputs => feeds_group(cell, model, number),
             ShapePart::Checks => same_check_at(cell, model, number),
             ShapePart::Paths => same_path_at(cell, model, number),
-            ShapePart::CheckInputs => feeds_check(cell, model, number),
-            ShapePart::PathInputs => feeds_path(cell, model, number),
+            ShapePart::CheckInputs => feeds_gating(cell, model, of_check(cell, model, number)),
+            ShapePart::PathInputs => feeds_gating(cell, model, of_path(cell, model, number)),
             ShapePart::Outputs => feeds_output(cell, model, number),
         }
     }

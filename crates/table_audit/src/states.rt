@@ -1,5 +1,5 @@
 //! The comparison of the tables of states.
-ghost use Rattle.std.specs.Prelude.{◌≡◌, ◌<◌, ◌≤◌, [], ◌∷◌, true, map, length, IsTrue};
+ghost use Rattle.std.specs.Prelude.{◌≡◌, ◌<◌, ◌≤◌, [], ◌∷◌, true, None, map, length, IsTrue};
 ghost use Rattle.cell_machine.specs.CellData.{data_of};
 ghost use Rattle.cell_machine.specs.CellTrace.{support_at};
 ghost use Rattle.udp_tables.specs.Sequential.{noted};
@@ -7,15 +7,19 @@ ghost use Rattle.specify_blocks.specs.declared.model.VNet.TheVariants as net;
 ghost use Rattle.specify_blocks.specs.Sound.{IsSound};
 ghost use Rattle.table_audit.specs.Terminals.{group_nets};
 ghost use Rattle.table_audit.specs.Shape.{feeds_group};
-ghost use Rattle.table_audit.specs.Tables.{AreSteps, AreForces, LooksUp, place_net, cell_step, model_step, cell_forced, note_after, notes, step_compared, steps_by_note, steps_by_state, steps_where_changed, steps_by_list, steps_by_old, steps_compared, note_compared, notes_by_list, notes_by_old, notes_compared, first_difference};
+ghost use Rattle.table_audit.specs.Tables.{place_net, cell_step, model_step, cell_forced, note_after, notes, step_compared, steps_by_note, steps_by_state, steps_where_changed, steps_by_list, steps_by_old, steps_compared, note_compared, notes_by_list, notes_by_old, notes_compared, first_difference};
+ghost use Rattle.table_audit.specs.LookUps.{AreSteps, AreForces, LooksUp, IgnoresNote};
 ghost use Rattle.table_audit.specs.Lists.{trit_before};
 
-use crate::cell_values::{PinChange, add_trits, edge_values, forced_by, forces, step_value};
+use crate::cell_values::{
+    PinChange, add_trits, edge_values, forced_by, forces, step_value, step_values,
+};
 use crate::lists::{cube_of, list_count, list_numbered, trit_numbered};
 use crate::net_rows::NetRows;
 use crate::terminals::{group_nets, has_notifier, pin_net, sequential_instance};
 use crate::verdicts::{AuditPart, Difference};
 use cell_machine::{Cell, Few};
+use row_selection::NextStates;
 use specify_blocks::{VModule, VNet};
 use trit_cubes::Trit;
 
@@ -52,6 +56,13 @@ fn note_before(number: usize) -> Trit
         1 => Trit::Zero,
         _ => Trit::One,
     }
+}
+
+/// Whether these are the same next states.
+fn are_same(one: NextStates, other: NextStates) -> bool
+    ensures { result ≡ true → one ≡ other }
+{
+    one.zero == other.zero && one.one == other.one && one.unknown == other.unknown
 }
 
 /// A change of the register of the checks.
@@ -152,7 +163,11 @@ impl<'a> GroupTables<'a> {
         ensures { result ≡ first_difference (step_compared (data_of self.now.cell.now) self.now.model.now self.now.group change.entry.place change.entry.old change.entry.values.now state note ∷ []) }
     {
         let _few = self.pins();
-        let difference = Difference {
+        let of_model = self.model_step(change, note.unwrap_or(Trit::Unknown), state);
+        if of_cell == of_model {
+            return None;
+        }
+        Some(Difference {
             part: AuditPart::State,
             number: self.group + 1,
             places: cube_of(change.values),
@@ -161,9 +176,8 @@ impl<'a> GroupTables<'a> {
             state: Some(state),
             notifier: note,
             of_cell,
-            of_model: self.model_step(change, note.unwrap_or(Trit::Unknown), state),
-        };
-        difference.found()
+            of_model,
+        })
     }
 
     /// The first difference at a change of a pin from one state, over the values of the register.
@@ -222,17 +236,44 @@ impl<'a> GroupTables<'a> {
         None
     }
 
-    /// The same, but none where the pin has the value that it had.
+    /// Whether rows ask nothing of the register of the checks, or there is none.
+    fn ignores_note(&self, rows: &NetRows<'_>) -> bool
+        ensures { result ≡ true → IgnoresNote (data_of self.now.cell.now) self.now.group rows.now }
+    {
+        !has_notifier(self.cell) || rows.ignores(self.pins())
+    }
+
+    /// Whether it is known, without a look at the values of the register one by one, that the module gives what the cell gives at
+    /// a change of a pin.
+    fn agrees(&self, change: PinChange<'_>) -> bool
+        requires rows { LooksUp (data_of self.now.cell.now) self.now.model.now self.now.group (place_net (data_of self.now.cell.now) self.now.group change.place) change.old change.rows.now }
+        requires place { change.place < length change.values.now }
+        requires values { length change.values.now ≡ length (support_at (data_of self.now.cell.now) self.now.group) }
+        requires steps { AreSteps (data_of self.now.cell.now) self.now.group change.place change.steps.now }
+        requires note { change.ignores_note ≡ true → IgnoresNote (data_of self.now.cell.now) self.now.group change.rows.now }
+        ensures { result ≡ true → first_difference (steps_by_state (data_of self.now.cell.now) self.now.model.now self.now.group change.entry.place change.entry.old change.entry.values.now) ≡ None }
+    {
+        let _few = self.pins();
+        if !change.ignores_note {
+            return false;
+        }
+        let values = noted(has_notifier(self.cell), Trit::Unknown, change.values);
+        let of_model = change.rows.next_states(values.as_slice());
+        are_same(step_values(self.cell, self.group, change), of_model)
+    }
+
+    /// The first difference at a change of a pin, none where the pin has the value that it had.
     fn where_changed(&self, change: PinChange<'_>) -> Option<Difference>
         requires rows { LooksUp (data_of self.now.cell.now) self.now.model.now self.now.group (place_net (data_of self.now.cell.now) self.now.group change.place) change.old change.rows.now }
         requires place { change.place < length change.values.now }
         requires values { length change.values.now ≡ length (support_at (data_of self.now.cell.now) self.now.group) }
         requires steps { AreSteps (data_of self.now.cell.now) self.now.group change.place change.steps.now }
+        requires note { change.ignores_note ≡ true → IgnoresNote (data_of self.now.cell.now) self.now.group change.rows.now }
         ensures { result ≡ first_difference (steps_where_changed (data_of self.now.cell.now) self.now.model.now self.now.group change.entry.place change.entry.old change.entry.values.now) }
     {
         let place = change.place;
         let value = change.values[place];
-        if change.old == value {
+        if change.old == value || self.agrees(change) {
             return None;
         }
         self.over_states(change)
@@ -248,9 +289,10 @@ impl<'a> GroupTables<'a> {
     {
         let pins = self.pins();
         let rows = self.rows_at(self.place_net(place), old);
+        let ignores_note = self.ignores_note(&rows);
         let count = list_count(pins);
         for k in 0..count {
-            let list = list_numbered(pins, k);
+            let list = list_numbered(pins, k, count);
             let values = list.as_slice();
             let change = PinChange {
                 place,
@@ -258,6 +300,7 @@ impl<'a> GroupTables<'a> {
                 values,
                 steps,
                 rows: &rows,
+                ignores_note,
             };
             if let Some(found) = self.where_changed(change) {
                 return Some(found);
@@ -315,7 +358,11 @@ impl<'a> GroupTables<'a> {
         let _few = self.pins();
         let note = note_after(change.old);
         let nets = noted(true, note, values);
-        let difference = Difference {
+        let of_model = change.rows.next(nets.as_slice(), state);
+        if of_cell == of_model {
+            return None;
+        }
+        Some(Difference {
             part: AuditPart::Notifier,
             number: self.group + 1,
             places: cube_of(values),
@@ -324,9 +371,8 @@ impl<'a> GroupTables<'a> {
             state: Some(state),
             notifier: Some(note),
             of_cell,
-            of_model: change.rows.next(nets.as_slice(), state),
-        };
-        difference.found()
+            of_model,
+        })
     }
 
     /// The first difference at a change of the register, over the states.
@@ -362,7 +408,7 @@ impl<'a> GroupTables<'a> {
         };
         let count = list_count(pins);
         for k in 0..count {
-            let list = list_numbered(pins, k);
+            let list = list_numbered(pins, k, count);
             if let Some(found) = self.notes_by_list(change, list.as_slice()) {
                 return Some(found);
             }

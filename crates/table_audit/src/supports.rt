@@ -7,6 +7,7 @@ ghost use Rattle.cell_machine.specs.Values.{IsBounded};
 ghost use Rattle.cell_machine.specs.CellData.{data_of};
 ghost use Rattle.table_audit.specs.Shape.{HasFewNames, gating, feeds_condition, feeds_gating};
 
+use crate::condition_wires::ConditionWire;
 use crate::terminals::{drives_value, pin_nets};
 use bool_functions::Function;
 use cell_machine::{Cell, Few};
@@ -50,17 +51,12 @@ fn feeds_condition(cell: &Cell, model: &VModule, condition: &Function, wire: usi
 }
 
 /// Whether the nets of a condition that may be absent feed the instance that drives its wire.
-pub(crate) fn feeds_gating(
-    cell: &Cell,
-    model: &VModule,
-    condition: &Option<Function>,
-    wire: Option<usize>,
-) -> bool
-    requires bounded { IsBounded condition.now }
-    requires few { HasFewNames condition.now }
-    ensures { result ≡ feeds_gating (data_of cell.now) model.now (gating condition.now wire) }
+pub(crate) fn feeds_gating(cell: &Cell, model: &VModule, of: ConditionWire<'_>) -> bool
+    requires bounded { IsBounded of.condition.now }
+    requires few { HasFewNames of.condition.now }
+    ensures { result ≡ feeds_gating (data_of cell.now) model.now (gating of.entry.condition.now of.entry.wire) }
 {
-    match (condition, wire) {
+    match (of.condition, of.wire) {
         (Some(condition), Some(wire)) => feeds_condition(cell, model, condition, wire),
         _ => true,
     }

@@ -6,20 +6,19 @@ ghost use Rattle.cell_machine.specs.Values.{IsBounded};
 ghost use Rattle.cell_machine.specs.CellData.{data_of};
 ghost use Rattle.cell_machine.specs.CellTrace.{sources_at};
 ghost use Rattle.specify_blocks.specs.Sound.{IsSound};
-ghost use Rattle.table_audit.specs.declared.verdicts.AuditPart.TheVariants as audit_part;
 ghost use Rattle.table_audit.specs.Terminals.{condition_nets};
-ghost use Rattle.table_audit.specs.Shape.{HasFewNames, gating, check_gating, path_gating, feeds_condition, feeds_gating, feeds_output};
+ghost use Rattle.table_audit.specs.Shape.{HasFewNames, gating, feeds_condition, feeds_gating, feeds_output};
 ghost use Rattle.table_audit.specs.Tables.{value_compared, cell_condition, model_condition, conditions_compared, outputs_compared, first_difference};
 
 use crate::cell_values::{condition_value, output_value};
+use crate::condition_wires::ConditionWire;
 use crate::lists::{cube_of, list_count, list_numbered};
 use crate::model_tables::driven_value;
-use crate::shape::gate_wire;
 use crate::supports::{MOST_NAMES, support_of};
 use crate::terminals::{output_net, output_nets, pin_nets};
 use crate::verdicts::{AuditPart, Difference};
 use bool_functions::Function;
-use cell_machine::{Cell, Few, entry};
+use cell_machine::{Cell, Few};
 use specify_blocks::{VModule, VNet};
 use trit_cubes::Trit;
 
@@ -130,7 +129,7 @@ impl<'a> ConditionTables<'a> {
         let places = self.places();
         let count = list_count(places);
         for k in 0..count {
-            let list = list_numbered(places, k);
+            let list = list_numbered(places, k, count);
             let values = list.as_slice();
             if let Some(found) = compared(
                 part,
@@ -148,71 +147,24 @@ impl<'a> ConditionTables<'a> {
 
 /// The first difference of a condition that may be absent and of the wire that stands for it, as one of the part with this
 /// number.
-fn of_gating(
+pub(crate) fn of_condition(
     cell: &Cell,
     model: &VModule,
     part: AuditPart,
     number: usize,
-    condition: &Option<Function>,
-    wire: Option<usize>,
+    of: ConditionWire<'_>,
 ) -> Option<Difference>
     requires sound { IsSound model.now }
-    requires bounded { IsBounded condition.now }
-    requires few { HasFewNames condition.now }
-    requires fed { IsTrue (feeds_gating (data_of cell.now) model.now (gating condition.now wire)) }
-    ensures { result ≡ first_difference (conditions_compared (data_of cell.now) model.now part number (gating condition.now wire)) }
+    requires bounded { IsBounded of.condition.now }
+    requires few { HasFewNames of.condition.now }
+    requires fed { IsTrue (feeds_gating (data_of cell.now) model.now (gating of.condition.now of.wire)) }
+    ensures { result ≡ first_difference (conditions_compared (data_of cell.now) model.now part number (gating of.entry.condition.now of.entry.wire)) }
 {
-    let (Some(condition), Some(wire)) = (condition, wire) else {
+    let (Some(condition), Some(wire)) = (of.condition, of.wire) else {
         return None;
     };
     let tables = ConditionTables::of(cell, model, condition, wire);
     tables.first(part, number)
-}
-
-/// The first difference of the condition of a check.
-#[tactic(auto, using(crate::proofs::Gatings::check_gating_past))]
-pub(crate) fn of_check(cell: &Cell, model: &VModule, check: usize) -> Option<Difference>
-    requires sound { IsSound model.now }
-    requires inside { check < length cell.now.checks }
-    requires fed { IsTrue (feeds_gating (data_of cell.now) model.now (check_gating (data_of cell.now) model.now check)) }
-    ensures { result ≡ first_difference (conditions_compared (data_of cell.now) model.now audit_part.Check (check + 1) (check_gating (data_of cell.now) model.now check)) }
-{
-    if check >= model.checks.len() {
-        return None;
-    }
-    let timing = entry(&model.checks, check);
-    let condition = &cell.check(check).condition;
-    of_gating(
-        cell,
-        model,
-        AuditPart::Check,
-        check + 1,
-        condition,
-        timing.condition,
-    )
-}
-
-/// The first difference of the condition of a path.
-#[tactic(auto, using(crate::proofs::Gatings::path_gating_past))]
-pub(crate) fn of_path(cell: &Cell, model: &VModule, arc: usize) -> Option<Difference>
-    requires sound { IsSound model.now }
-    requires inside { arc < length cell.now.arcs }
-    requires fed { IsTrue (feeds_gating (data_of cell.now) model.now (path_gating (data_of cell.now) model.now arc)) }
-    ensures { result ≡ first_difference (conditions_compared (data_of cell.now) model.now audit_part.Path (arc + 1) (path_gating (data_of cell.now) model.now arc)) }
-{
-    if arc >= model.paths.len() {
-        return None;
-    }
-    let path = entry(&model.paths, arc);
-    let condition = &cell.arc(arc).condition;
-    of_gating(
-        cell,
-        model,
-        AuditPart::Path,
-        arc + 1,
-        condition,
-        gate_wire(path.gate),
-    )
 }
 
 /// How many pins and states an output depends on.
@@ -237,7 +189,7 @@ pub(crate) fn of_output(cell: &Cell, model: &VModule, output: usize) -> Option<D
     let net = output_net(cell, output);
     let count = list_count(places);
     for k in 0..count {
-        let list = list_numbered(places, k);
+        let list = list_numbered(places, k, count);
         let values = list.as_slice();
         let of_cell = output_value(cell, output, values);
         let of_model = driven_value(model, nets.as_slice(), values, net);

@@ -1,5 +1,6 @@
 mod Examples
 pub mod Columns
+pub mod Agreement
 pub mod StepLemmas
 pub mod CellFacts
 pub mod GroupSteps

@@ -14,6 +14,7 @@ use Rattle.cell_machine.specs.declared.checks.Check.{Check}
 use Rattle.cell_machine.specs.declared.changes.Change.{Change}
 use Rattle.cell_machine.specs.declared.times.Times.{Times}
 use Rattle.cell_machine.specs.declared.shown.Shown.{Shown}
+use Rattle.cell_machine.specs.declared.cell_start.CellStart.{CellStart}
 use Rattle.cell_machine.specs.CellData.{CellData}
 use Rattle.cell_machine.specs.CellRules.{is_check}
 use Rattle.cell_machine.specs.History.{inputs_after, value_before, is_event}
@@ -24,6 +25,7 @@ use Rattle.cell_machine.specs.Each.{each}
 use Rattle.cell_machine.specs.CellTrace.{inputs_of, check_names, arc_names, input_check, input_checks, reports_of, named_from, named_groups, NamedGroup, state_step, state_after, states_after}
 use Rattle.cell_machine.specs.ShownOutputs.{shown_first, shown_step}
 use Rattle.cell_machine.specs.LibertyStands.{shown_after, Stands}
+use Rattle.cell_machine.specs.CellStarts.{IsCellStart}
 use Rattle.cell_machine.proofs.RuleLemmas.{check_parts}
 use Rattle.cell_machine.proofs.TimingFacts.{input_number-below}
 use Rattle.cell_machine.proofs.TimeLemmas.{times_decide}
@@ -39,30 +41,41 @@ states-start :
 states-start cell name [] = refl
 states-start cell name (g ∷ gs) = ap (λ r. Unknown ∷ r) (states-start cell (name + 2) gs)
 
--- Before any change.
-pub start-stands :
-    (cell : CellData) (names_of_checks names_of_arcs : List (List ℕ)) (count : ℕ) (inputs : List Trit) (times : List Times)
-    (states : List Trit) (reports : List Bool) (shown : List Shown)
-    → names_of_checks ≡ check_names cell → names_of_arcs ≡ arc_names cell
+-- What the outputs show before any change.
+pub start-shown :
+    (cell : CellData) (count : ℕ) (inputs states : List Trit) (shown : List Shown)
     → count ≡ input_number cell.pins (length cell.pins)
-    → inputs ≡ replicate count Unknown → times ≡ replicate count no_times
-    → states ≡ replicate (length cell.groups) Unknown → reports ≡ replicate (length cell.checks) false
+    → inputs ≡ replicate count Unknown → states ≡ replicate (length cell.groups) Unknown
     → shown ≡ map (shown_first cell.pins cell.groups inputs states) cell.outputs
-    → Stands cell names_of_checks names_of_arcs inputs times states reports shown []
-start-stands cell ncs nas count inputs times states reports shown cs as_ n i t s r o =
+    → shown ≡ map (shown_after cell []) cell.outputs
+start-shown cell count inputs states shown n i s o =
     let all : count ≡ inputs_of cell = n ∙ ap (count_by is_input_at) (take-length cell.pins) in
     let is : inputs ≡ inputs_after (inputs_of cell) [] = i ∙ ap (λ k. replicate k Unknown) all in
     let ss : states ≡ states_after cell [] = s ∙ states-start cell (length cell.pins) cell.groups in
+    o ∙ (λ j. map (shown_first cell.pins cell.groups (is j) (ss j)) cell.outputs)
+
+-- Before any change.
+pub start-stands :
+    (cell : CellData) (known : CellStart) (count : ℕ) (inputs : List Trit) (times : List Times)
+    (states : List Trit) (reports : List Bool) (shown : List Shown)
+    → IsCellStart cell known
+    → count ≡ input_number cell.pins (length cell.pins)
+    → inputs ≡ replicate count Unknown → times ≡ replicate count no_times
+    → states ≡ replicate (length cell.groups) Unknown → reports ≡ replicate (length cell.checks) false
+    → shown ≡ known.shown
+    → Stands cell known.check_names known.arc_names inputs times states reports shown []
+start-stands cell known count inputs times states reports shown k n i t s r o =
+    let all : count ≡ inputs_of cell = n ∙ ap (count_by is_input_at) (take-length cell.pins) in
     record {
-      check_names_are = cs;
-      arc_names_are = as_;
-      inputs_are = is;
+      check_names_are = k.check_names_are;
+      arc_names_are = k.arc_names_are;
+      inputs_are = i ∙ ap (λ k. replicate k Unknown) all;
       times_are = t ∙ ap (λ k. replicate k no_times) all;
-      states_are = ss;
+      states_are = s ∙ states-start cell (length cell.pins) cell.groups;
       reports_are =
           r ∙ ap (λ k. replicate k false) (sym (length-map cell.checks (input_check cell.pins)))
           ∙ sym (map-constant false (input_checks cell));
-      shown_are = o ∙ (λ j. map (shown_first cell.pins cell.groups (is j) (ss j)) cell.outputs);
+      shown_are = o ∙ k.shown_are;
     }
 
 -- the reports by the kept times are the reports of the history

@@ -16,6 +16,7 @@ pub mod CellTrace
 pub mod ArcDelay
 pub mod ShownOutputs
 pub mod LibertyStands
+pub mod CellStarts
 pub mod Sized
 pub mod Each
 pub mod Fillings

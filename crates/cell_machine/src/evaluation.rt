@@ -17,7 +17,7 @@ ghost use Rattle.cell_machine.specs.Supports.{StatesBelow, OutputFacts};
 use crate::cells::Cell;
 use crate::groups::{Both, GroupKind};
 use crate::outputs::{OutputPin, Source};
-use crate::over::over;
+use crate::over::filled;
 use crate::pin_values::{numbered_value, pin_value};
 use crate::pins::Pin;
 use crate::steps::both_value;
@@ -84,11 +84,11 @@ fn chosen_from(
     function: &Function,
     rest: &[Source],
     values: &Values,
-    filled: Values,
+    filled: &mut Values,
 ) -> Trit
     requires bounded { name_bound function.now ≤ 96 }
     requires states { StatesBelow (length cell.now.groups) rest.now }
-    ensures { result ≡ res (λ choice. trit_of (value_of (written filled (second_names (length cell.now.pins) rest.now) choice) function.now)) (second_trits (length cell.now.pins) cell.now.groups values.now rest.now) }
+    ensures { result ≡ res (λ choice. trit_of (value_of (written filled.old (second_names (length cell.now.pins) rest.now) choice) function.now)) (second_trits (length cell.now.pins) cell.now.groups values.now rest.now) }
 {
     let Some((first, rest)) = rest.split_first() else {
         return Trit::from(filled.value(function));
@@ -97,9 +97,10 @@ fn chosen_from(
         return chosen_from(cell, function, rest, values, filled);
     };
     let name = cell.state_name(g) + 1;
-    over!(
+    filled!(
         second_value(cell, values, g),
-        bit => chosen_from(cell, function, rest, values, filled.with(name, bit))
+        filled,
+        name => chosen_from(cell, function, rest, values, filled)
     )
 }
 
@@ -110,25 +111,27 @@ fn output_from(
     inputs: &[Trit],
     states: &[Trit],
     rest: &[Source],
-    values: Values,
+    values: &mut Values,
 ) -> Trit
     requires facts { OutputFacts (length cell.now.groups) output.now }
     requires states { StatesBelow (length cell.now.groups) rest.now }
-    ensures { result ≡ res (λ p. chosen_value (length cell.now.pins) cell.now.groups output.now (written values (map (source_name (length cell.now.pins)) rest.now) p)) (map (source_value cell.now.pins inputs.now states.now) rest.now) }
+    ensures { result ≡ res (λ p. chosen_value (length cell.now.pins) cell.now.groups output.now (written values.old (map (source_name (length cell.now.pins)) rest.now) p)) (map (source_value cell.now.pins inputs.now states.now) rest.now) }
 {
     let Some((first, rest)) = rest.split_first() else {
+        let mut filled = *values;
         return chosen_from(
             cell,
             &output.function,
             output.support.as_slice(),
-            &values,
             values,
+            &mut filled,
         );
     };
     let name = source_name(cell, *first);
-    over!(
+    filled!(
         source_value(cell.pins.as_slice(), inputs, states, *first),
-        bit => output_from(cell, output, inputs, states, rest, values.with(name, bit))
+        values,
+        name => output_from(cell, output, inputs, states, rest, values)
     )
 }
 
@@ -178,7 +181,8 @@ pub fn output_at(cell: &Cell, output: usize, point: &[bool]) -> Trit
     let output = cell.output_pin(output);
     let sources = output.support.as_slice();
     let values = values_at(cell, sources, point);
-    chosen_from(cell, &output.function, sources, &values, values)
+    let mut filled = values;
+    chosen_from(cell, &output.function, sources, &values, &mut filled)
 }
 
 /// The value of an output where the inputs and the states have these values.
@@ -186,13 +190,14 @@ pub fn output_value(cell: &Cell, output: &OutputPin, inputs: &[Trit], states: &[
     requires { OutputFacts (length cell.now.groups) output.now }
     ensures { result ≡ output_value cell.now.pins cell.now.groups inputs.now states.now output.now }
 {
+    let mut values = Values::new();
     output_from(
         cell,
         output,
         inputs,
         states,
         output.support.as_slice(),
-        Values::new(),
+        &mut values,
     )
 }
 
@@ -202,18 +207,19 @@ fn condition_from(
     pins: &[Pin],
     inputs: &[Trit],
     rest: &[usize],
-    values: Values,
+    values: &mut Values,
 ) -> Trit
     requires { name_bound condition.now ≤ 96 }
-    ensures { result ≡ res (λ p. trit_of (value_of (written values rest.now p) condition.now)) (pin_values pins.now inputs.now rest.now) }
+    ensures { result ≡ res (λ p. trit_of (value_of (written values.old rest.now p) condition.now)) (pin_values pins.now inputs.now rest.now) }
 {
     let Some((first, rest)) = rest.split_first() else {
         return Trit::from(values.value(condition));
     };
     let name = *first;
-    over!(
+    filled!(
         pin_value(pins, inputs, name),
-        bit => condition_from(condition, pins, inputs, rest, values.with(name, bit))
+        values,
+        name => condition_from(condition, pins, inputs, rest, values)
     )
 }
 
@@ -223,7 +229,8 @@ pub fn condition_value(condition: &Function, names: &[usize], pins: &[Pin], inpu
     requires names { names.now ≡ support_of condition.now }
     ensures { result ≡ condition_value pins.now inputs.now condition.now }
 {
-    condition_from(condition, pins, inputs, names, Values::new())
+    let mut values = Values::new();
+    condition_from(condition, pins, inputs, names, &mut values)
 }
 
 /// Whether a condition has this value, or there is none.

@@ -7,7 +7,7 @@ ghost use Rattle.cell_machine.specs.Step.{kind_step, KindIsBounded};
 ghost use Rattle.cell_machine.specs.Fillings.{state_filled, all_filled, change_filled, both_states, forced_after};
 
 use crate::groups::GroupKind;
-use crate::over::over;
+use crate::over::{filled, over};
 use crate::values::Values;
 use trit_cubes::Trit;
 
@@ -28,15 +28,13 @@ struct Sides {
 }
 
 impl Sides {
-    /// The same value for a name on both sides.
-    fn with(self, name: usize, value: bool) -> Sides
-        ensures before { result.before ≡ slice_set self.before name value }
-        ensures after { result.after ≡ slice_set self.after name value }
+    /// Gives a name the same value on both sides.
+    fn set(&mut self, name: usize, value: bool)
+        ensures before { self.new.before ≡ slice_set self.old.before name value }
+        ensures after { self.new.after ≡ slice_set self.old.after name value }
     {
-        Sides {
-            before: self.before.with(name, value),
-            after: self.after.with(name, value),
-        }
+        self.before.set(name, value);
+        self.after.set(name, value);
     }
 }
 
@@ -55,20 +53,20 @@ fn all_filled(
     group: NamedKind<'_>,
     names: &[usize],
     trits: &[Trit],
-    sides: Sides,
+    sides: &mut Sides,
     state: Trit,
 ) -> Trit
     requires name { group.name < 96 }
     requires bounded { KindIsBounded group.kind.now }
     requires one_each { length names.now ≡ length trits.now }
-    ensures { result ≡ all_filled group.entry.kind.now group.entry.name names.now trits.now sides.before sides.after state }
+    ensures { result ≡ all_filled group.entry.kind.now group.entry.name names.now trits.now sides.old.before sides.old.after state }
 {
     let (Some((first, names)), Some((trit, trits))) = (names.split_first(), trits.split_first())
     else {
-        return state_filled(group, &sides, state);
+        return state_filled(group, sides, state);
     };
     let first = *first;
-    over!(*trit, bit => all_filled(group, names, trits, sides.with(first, bit), state))
+    filled!(*trit, sides, first => all_filled(group, names, trits, sides, state))
 }
 
 /// The same less the name at a place, which is written before.
@@ -77,24 +75,24 @@ fn others_filled(
     place: usize,
     names: &[usize],
     trits: &[Trit],
-    sides: Sides,
+    sides: &mut Sides,
     state: Trit,
 ) -> Trit
     requires name { group.name < 96 }
     requires bounded { KindIsBounded group.kind.now }
     requires one_each { length names.now ≡ length trits.now }
-    ensures { result ≡ all_filled group.entry.kind.now group.entry.name (without place names.now) (without place trits.now) sides.before sides.after state }
+    ensures { result ≡ all_filled group.entry.kind.now group.entry.name (without place names.now) (without place trits.now) sides.old.before sides.old.after state }
 {
     let (Some((first, names)), Some((trit, trits))) = (names.split_first(), trits.split_first())
     else {
-        return state_filled(group, &sides, state);
+        return state_filled(group, sides, state);
     };
     if place == 0 {
         return all_filled(group, names, trits, sides, state);
     }
     let first = *first;
     let place = place - 1;
-    over!(*trit, bit => others_filled(group, place, names, trits, sides.with(first, bit), state))
+    filled!(*trit, sides, first => others_filled(group, place, names, trits, sides, state))
 }
 
 /// A change of a pin that stands at a place of a support.
@@ -126,8 +124,8 @@ fn at_new(
     ensures { result ≡ all_filled group.entry.kind.now group.entry.name (without change.place names.now) (without change.place trits.now) before (slice_set no_values change.pin new) state }
 {
     let after = Values::new().with(change.pin, new);
-    let sides = Sides { before, after };
-    others_filled(group, change.place, names, trits, sides, state)
+    let mut sides = Sides { before, after };
+    others_filled(group, change.place, names, trits, &mut sides, state)
 }
 
 /// The step for each filling of the changed input's new value too.
@@ -174,6 +172,9 @@ fn both_states(kind: &GroupKind, name: usize, before: &Values, after: &Values) -
     ensures { result ≡ both_states kind.now name before.now after.now }
 {
     let zero = kind.step(name, before, after, false);
+    if zero.is_unknown() {
+        return zero;
+    }
     zero.agreed(kind.step(name, before, after, true))
 }
 
@@ -183,7 +184,7 @@ fn copied(values: Values, names: &[usize], from: &Values) -> Values
 {
     let mut values = values;
     for name in names {
-        values = values.with(*name, from.get(*name));
+        values.set(*name, from.get(*name));
     }
     values
 }
@@ -205,6 +206,9 @@ fn forced_around(
     };
     let value = after.get(*first);
     let same = forced_around(kind, name, rest, before.with(*first, value), after);
+    if same.is_unknown() {
+        return same;
+    }
     let other = copied(before.with(*first, !value), rest, after);
     same.agreed(both_states(kind, name, &other, after))
 }
@@ -216,19 +220,19 @@ fn forced_from(
     support: &[usize],
     rest: &[usize],
     trits: &[Trit],
-    after: Values,
+    after: &mut Values,
 ) -> Trit
     requires name { name < 96 }
     requires bounded { KindIsBounded kind.now }
     requires one_each { length rest.now ≡ length trits.now }
-    ensures { result ≡ res (λ p. forced_after kind.now name support.now (written after rest.now p)) trits.now }
+    ensures { result ≡ res (λ p. forced_after kind.now name support.now (written after.old rest.now p)) trits.now }
 {
     let (Some((first, rest)), Some((trit, trits))) = (rest.split_first(), trits.split_first())
     else {
-        return forced_around(kind, name, support, Values::new(), &after);
+        return forced_around(kind, name, support, Values::new(), after);
     };
     let first = *first;
-    over!(*trit, bit => forced_from(kind, name, support, rest, trits, after.with(first, bit)))
+    filled!(*trit, after, first => forced_from(kind, name, support, rest, trits, after))
 }
 
 /// The value to which the inputs under `support` force the state.
@@ -238,5 +242,6 @@ pub fn forced_filled(kind: &GroupKind, name: usize, support: &[usize], trits: &[
     requires one_each { length support.now ≡ length trits.now }
     ensures { result ≡ res (λ p. forced_after kind.now name support.now (written no_values support.now p)) trits.now }
 {
-    forced_from(kind, name, support, support, trits, Values::new())
+    let mut values = Values::new();
+    forced_from(kind, name, support, support, trits, &mut values)
 }

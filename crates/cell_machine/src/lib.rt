@@ -3,6 +3,7 @@
 #![tactic(auto)]
 
 mod arcs;
+mod cell_start;
 mod cells;
 mod changes;
 mod checks;
@@ -22,6 +23,7 @@ mod over;
 mod pin_values;
 mod pins;
 mod reports;
+mod shared;
 mod shown;
 mod simulators;
 mod states;
@@ -30,6 +32,7 @@ mod times;
 mod values;
 
 pub use arcs::Arc;
+pub use cell_start::CellStart;
 pub use cells::Cell;
 pub use changes::Change;
 pub use checks::{Check, CheckKind, Edge, Event};
@@ -48,6 +51,7 @@ pub use liberty_sim::LibertySim;
 pub use outputs::{OutputPin, Source};
 pub use pin_values::numbered_value;
 pub use pins::{Direction, Pin};
+pub use shared::Shared;
 pub use shown::Shown;
 pub use simulators::{CellSim, Sizes};
 pub use times::{Times, is_within, renewed};

@@ -1,19 +1,17 @@
 //! The simulator of a cell.
-ghost use Rattle.std.specs.Prelude.{◌≡◌, [], false, length, replicate, IfOk};
-ghost use Rattle.trit_cubes.specs.declared.trits.Trit.TheVariants.{Unknown};
-ghost use Rattle.cell_machine.specs.Inputs.{input_number};
-ghost use Rattle.cell_machine.specs.Times.{no_times};
+ghost use Rattle.std.specs.Prelude.{◌≡◌, [], length, IfOk};
 ghost use Rattle.cell_machine.specs.Report.{any_true};
 ghost use Rattle.cell_machine.specs.CellData.{data_of};
 ghost use Rattle.cell_machine.specs.CellTrace.{inputs_of, cell_machine_of};
+ghost use Rattle.cell_machine.specs.CellStarts.{IsCellStart};
 ghost use Rattle.cell_machine.specs.LibertyStands.{Stands, cell_machine_sized};
 
+use crate::cell_start::{CellStart, StartValues};
 use crate::cells::Cell;
 use crate::changes::Change;
-use crate::condition_names::{arc_names, check_names};
-use crate::pin_values::input_number;
 use crate::reports::report_all;
-use crate::shown::{Shown, show_all, show_start};
+use crate::shared::Shared;
+use crate::shown::{Shown, show_all};
 use crate::simulators::{CellSim, Sizes};
 use crate::states::{SeenChange, change_states};
 use crate::times::Times;
@@ -26,8 +24,7 @@ use trit_cubes::Trit;
 #[derive(Drop)]
 pub struct LibertySim<'a> {
     cell: &'a Cell,
-    check_names: Items<Items<usize>>,
-    arc_names: Items<Items<usize>>,
+    known: Shared<CellStart>,
     inputs: Items<Trit>,
     times: Items<Times>,
     states: Items<Trit>,
@@ -40,60 +37,35 @@ pub struct LibertySim<'a> {
     ghost each_output: { length shown ≡ length cell.now.outputs },
 }
 
-/// What a cell's simulator keeps beside what its outputs show, before any change.
-#[derive(Drop)]
-struct StartValues {
-    inputs: Items<Trit>,
-    times: Items<Times>,
-    states: Items<Trit>,
-    reports: Items<bool>,
-}
-
-impl StartValues {
-    /// Those of a cell: all inputs and all states are unknown, there was no event, and no check reports.
-    fn of(alloc: Global, cell: &Cell) -> Result<StartValues, AllocError>
-        ensures inputs { IfOk result (λ start. start.inputs ≡ replicate (input_number cell.now.pins (length cell.now.pins)) Unknown) }
-        ensures times { IfOk result (λ start. start.times ≡ replicate (input_number cell.now.pins (length cell.now.pins)) no_times) }
-        ensures states { IfOk result (λ start. start.states ≡ replicate (length cell.now.groups) Unknown) }
-        ensures reports { IfOk result (λ start. start.reports ≡ replicate (length cell.now.checks) false) }
-    {
-        let count = input_number(cell.pins.as_slice(), cell.pins.len());
-        let inputs = vec![in alloc; Trit::Unknown; count]?;
-        let times = vec![in alloc; Times::none(); count]?;
-        let states = vec![in alloc; Trit::Unknown; cell.groups.len()]?;
-        let reports = vec![in alloc; false; cell.checks.len()]?;
-        Ok(StartValues {
-            inputs: Items::from_vec(inputs),
-            times: Items::from_vec(times),
-            states: Items::from_vec(states),
-            reports: Items::from_vec(reports),
-        })
-    }
-}
-
 impl<'a> LibertySim<'a> {
     /// The simulator of a cell before any change: all inputs and all states are unknown.
     pub fn start(alloc: Global, cell: &'a Cell) -> Result<LibertySim<'a>, AllocError>
         ensures machine { IfOk result (λ sim. ⟦<LibertySim<'a> as CellSim>⟧.machine sim ≡ cell_machine_of (data_of cell.now)) }
         ensures stands { IfOk result (λ sim. ⟦<LibertySim<'a> as CellSim>⟧.stands sim []) }
     {
-        let check_names = check_names(alloc, cell)?;
-        let arc_names = arc_names(alloc, cell)?;
-        let start = StartValues::of(alloc, cell)?;
-        let shown = show_start(
-            alloc,
-            cell,
-            start.inputs.as_slice(),
-            start.states.as_slice(),
-        )?;
+        let known = Shared::new(alloc, CellStart::of(alloc, cell)?)?;
+        LibertySim::start_by(alloc, cell, &known)
+    }
+
+    /// The same, by what is known of the cell before any change.
+    pub fn start_by(
+        alloc: Global,
+        cell: &'a Cell,
+        known: &Shared<CellStart>,
+    ) -> Result<LibertySim<'a>, AllocError>
+        requires { IsCellStart (data_of cell.now) known.now }
+        ensures machine { IfOk result (λ sim. ⟦<LibertySim<'a> as CellSim>⟧.machine sim ≡ cell_machine_of (data_of cell.now)) }
+        ensures stands { IfOk result (λ sim. ⟦<LibertySim<'a> as CellSim>⟧.stands sim []) }
+    {
+        let values = StartValues::of(alloc, cell)?;
+        let shown = Items::from_slice(alloc, known.get().shown.as_slice())?;
         Ok(LibertySim {
             cell,
-            check_names,
-            arc_names,
-            inputs: start.inputs,
-            times: start.times,
-            states: start.states,
-            reports: start.reports,
+            known: known.again()?,
+            inputs: values.inputs,
+            times: values.times,
+            states: values.states,
+            reports: values.reports,
             shown,
         })
     }
@@ -102,7 +74,7 @@ impl<'a> LibertySim<'a> {
 impl<'a> CellSim for LibertySim<'a> {
     ghost machine = { λ s. cell_machine_of (data_of s.cell.now) };
 
-    ghost stands = { λ s h. Stands (data_of s.cell.now) s.check_names s.arc_names s.inputs s.times s.states s.reports s.shown h };
+    ghost stands = { λ s h. Stands (data_of s.cell.now) s.known.check_names s.known.arc_names s.inputs s.times s.states s.reports s.shown h };
 
     fn sizes(&self) -> Sizes {
         Sizes {
@@ -119,7 +91,7 @@ impl<'a> CellSim for LibertySim<'a> {
         self.inputs.set(pin, to);
         let inputs = self.inputs.as_slice();
         let kept = self.times.as_slice();
-        let names = self.check_names.as_slice();
+        let names = self.known.get().check_names.as_slice();
         report_all(
             self.cell,
             names,
@@ -138,7 +110,7 @@ impl<'a> CellSim for LibertySim<'a> {
         };
         change_states(self.cell, &seen, &mut self.states);
         self.times.set(pin, times);
-        let arcs = self.arc_names.as_slice();
+        let arcs = self.known.get().arc_names.as_slice();
         let states = self.states.as_slice();
         show_all(self.cell, arcs, inputs, states, change, &mut self.shown);
     }

@@ -1,2 +1,3 @@
 pub mod ModelTraces
 pub mod WholeAnswers
+pub mod KnownThings

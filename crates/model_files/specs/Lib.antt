@@ -5,3 +5,4 @@ pub mod Limits
 pub mod FaultLines
 pub mod ModelAnswer
 pub mod StimulusAnswer
+pub mod Known

@@ -9,7 +9,7 @@ ghost use Rattle.model_files.specs.Limits.{model_limit};
 
 use crate::format::ModelFormat;
 use cell_machine::Change;
-use std::alloc::Global;
+use std::alloc::{AllocError, Global};
 use stimulus::Ports;
 use text_io::{Desk, Stop};
 use udp_tables::{ModelFault, VPort};
@@ -19,7 +19,13 @@ pub trait ModelLanguage {
     /// A model.
     type Model: Drop;
 
+    /// What is known of a model before any change, which all its runs begin with.
+    type Start: Drop;
+
     ghost language: { Language Self.Model };
+
+    /// This is known of a model before any change.
+    ghost is_start: { Self.Model → Self.Start → Type 0 };
 
     /// The format of the language's files.
     fn format() -> ModelFormat
@@ -42,6 +48,11 @@ pub trait ModelLanguage {
     fn ports(model: &Self::Model) -> &[VPort]
         ensures { result.now ≡ language.ports model.now };
 
+    /// What is known of a model before any change. `AllocError` comes only where memory is wanted and not there.
+    fn start(alloc: Global, model: &Self::Model) -> Result<Self::Start, AllocError>
+        requires { language.is_well_formed model.now }
+        ensures { IfOk result (λ start. is_start model.now start) };
+
     /// Gives the changes to a model from its start on, and appends its section to the report. The changes are of its inputs,
     /// at times that rise strictly, and there is a name for each of its inputs and outputs. After a fault a prefix of the
     /// section was appended. `Failed` comes only where a write failed.
@@ -49,10 +60,12 @@ pub trait ModelLanguage {
         alloc: Global,
         desk: &mut D,
         model: &Self::Model,
+        start: &Self::Start,
         ports: &Ports,
         changes: &[Change],
     ) -> Result<(), Stop>
         requires well_formed { language.is_well_formed model.now }
+        requires start { is_start model.now start.now }
         requires inputs { length ports.now.inputs ≡ (language.machine model.now).inputs }
         requires outputs { length ports.now.outputs ≡ (language.machine model.now).outputs }
         requires proper { IsProperFrom (language.machine model.now).inputs [] changes.now }

@@ -5,6 +5,7 @@
 mod bad_line;
 mod faults;
 mod format;
+mod known;
 mod language;
 mod limits;
 mod model_file;
@@ -13,6 +14,7 @@ mod stimulus_file;
 pub use bad_line::BadLineStop;
 pub use faults::write_stimulus_fault;
 pub use format::ModelFormat;
+pub use known::nothing_known;
 pub use language::ModelLanguage;
 pub use limits::{MODEL_LIMIT, STIMULUS_LIMIT};
 pub use model_file::read_model_file;

@@ -27,12 +27,12 @@ some_same x y e = cc
 
 -- A model with the number of a section that can be run, and the ports that the catalog has of it, are as the section wants them.
 pub record IsFound {M : Type 0} (l : Language M) (models : List M) (section : Section) (model : M) (ports : Ports) : Type 0 where
-  found : slice_get models section.cell ≡ Some model
-  named : ports ≡ ports_of (l.ports model)
-  well_formed : l.is_well_formed model
-  inputs : length ports.inputs ≡ (l.machine model).inputs
-  outputs : length ports.outputs ≡ (l.machine model).outputs
-  proper : IsProperFrom (l.machine model).inputs [] section.changes
+  pub found : slice_get models section.cell ≡ Some model
+  pub named : ports ≡ ports_of (l.ports model)
+  pub well_formed : l.is_well_formed model
+  pub inputs : length ports.inputs ≡ (l.machine model).inputs
+  pub outputs : length ports.outputs ≡ (l.machine model).outputs
+  pub proper : IsProperFrom (l.machine model).inputs [] section.changes
 
 pub is_found : {M : Type 0} (l : Language M) (models slice : List M) (catalog : NamedCells) (section : Section) (model : M) (ports : Ports) → CanBeRun l models section
     → catalog ≡ models_named l models → slice ≡ models → model ≡ get_or slice section.cell model → slice_get catalog.cells section.cell ≡ Some ports

@@ -4,6 +4,7 @@
 
 mod bad_line;
 mod catalog;
+mod known;
 mod printing;
 mod reading;
 mod run;

@@ -45,12 +45,20 @@ reports-same e n h inputs a c (k ∷ ks) are =
     report-same e n h inputs a c k (are 0 k (omega arith)) i
     ∷ reports-same e n h inputs a c ks (λ j d within. are (suc j) d (omega arith)) i
 
+-- What the outputs show before any change.
+pub entity-start-shown :
+    (e : VEntity) (run : ProcessState) (shown : List Shown)
+    → run ≡ start_state e
+    → shown ≡ map (output_first e run.inputs run.states) e.outputs
+    → shown ≡ map (output_shown e []) e.outputs
+entity-start-shown e run shown s o = o ∙ (λ j. map (output_first e (s j).inputs (s j).states) e.outputs)
+
 -- Before any change.
 pub entity-starts :
     (e : VEntity) (run : ProcessState) (reports : List Bool) (shown : List Shown)
     → run ≡ start_state e
     → reports ≡ replicate (length e.checks) false
-    → shown ≡ map (output_first e run.inputs run.states) e.outputs
+    → shown ≡ map (output_shown e []) e.outputs
     → EntityStands e run reports shown []
 entity-starts e run reports shown s r o =
     record {
@@ -63,7 +71,7 @@ entity-starts e run reports shown s r o =
           };
       stamps_are = (λ j. (s j).stamps) ∙ start-stamps e.ports (input_count e.ports) e.checks;
       reports_are = r;
-      shown_are = o ∙ (λ j. map (output_first e (s j).inputs (s j).states) e.outputs);
+      shown_are = o;
     }
 
 module _ (e : VEntity) (sound : IsSound e) (run : ProcessState) (reports : List Bool) (shown : List Shown) (h : List Change)

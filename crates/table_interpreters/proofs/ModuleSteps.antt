@@ -46,18 +46,26 @@ outputs-step f ports i port old new e is =
     ∙ ap (λ r. old ++ r) (sym (map-append f (output_by i port.input) rest))
     ∙ ap (λ ps. old ++ map f (outputs_from i ps)) (sym front)
 
+-- What the outputs show before any change.
+pub start-shown :
+    (m : VModule) (run : ModuleRun) (shown : List Shown)
+    → run ≡ start_run m
+    → shown ≡ map (shown_first m run.inputs run.states) (output_ports m.ports)
+    → shown ≡ map (shown_after m []) (output_ports m.ports)
+start-shown m run shown s o = o ∙ (λ j. map (shown_first m (s j).inputs (s j).states) (output_ports m.ports))
+
 -- Before any change.
 pub start-stands :
     (m : VModule) (run : ModuleRun) (reports : List Bool) (shown : List Shown)
     → run ≡ start_run m
     → reports ≡ replicate (length m.checks) false
-    → shown ≡ map (shown_first m run.inputs run.states) (output_ports m.ports)
+    → shown ≡ map (shown_after m []) (output_ports m.ports)
     → Stands m run reports shown []
 start-stands m run reports shown s r o =
     record {
       run_is = s;
       reports_are = r;
-      shown_are = o ∙ (λ j. map (shown_first m (s j).inputs (s j).states) (output_ports m.ports));
+      shown_are = o;
     }
 
 -- After a change.

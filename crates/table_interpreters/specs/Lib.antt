@@ -10,9 +10,11 @@ pub mod ModuleIndexed
 pub mod LeastPath
 pub mod ShownPorts
 pub mod ModuleStands
+pub mod ModuleStarts
 pub mod TableWords
 pub mod EntityIndexed
 pub mod EntityRooms
 pub mod EntitySteps
+pub mod EntityStarts
 pub mod EntitySized
 pub mod EntityProps

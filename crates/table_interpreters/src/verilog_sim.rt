@@ -3,16 +3,17 @@ ghost use Rattle.std.specs.Prelude.{◌≡◌, [], length, IfOk};
 ghost use Rattle.specify_blocks.specs.Sound.{IsSound};
 ghost use Rattle.model_traces.specs.PortNumbers.{output_ports};
 ghost use Rattle.table_interpreters.specs.ModuleIndexed.{IsModuleIndex};
+ghost use Rattle.table_interpreters.specs.ModuleStarts.{IsModuleStart};
 ghost use Rattle.table_interpreters.specs.ModuleStands.{IsReady, Stands, module_machine, module_sized};
 
-use crate::module_index::ModuleIndex;
 use crate::module_run::{change, start_run};
+use crate::module_start::ModuleStart;
 use crate::module_tables::ModuleTables;
 use crate::module_values::ModuleValues;
-use crate::shown::{Shown, first_shown, show_all};
+use crate::shown::{Shown, show_all};
 use crate::starts::{no_reports, unknown_values};
 use crate::wiring::most_nets;
-use cell_machine::{CellSim, Change, Sizes};
+use cell_machine::{CellSim, Change, Shared, Sizes};
 use model_traces::ModuleRun;
 use specify_blocks::VModule;
 use sqlite_items::Items;
@@ -23,12 +24,12 @@ use trit_cubes::Trit;
 #[derive(Drop)]
 pub struct VerilogSim<'a> {
     model: &'a VModule,
-    index: ModuleIndex,
+    known: Shared<ModuleStart>,
     run: ModuleRun,
     reports: Items<bool>,
     shown: Items<Shown>,
     room: Items<Trit>,
-    ghost indexed: { IsModuleIndex model.now index },
+    ghost indexed: { IsModuleIndex model.now known.index },
     ghost ready: { IsReady model.now run reports (length room) },
     ghost each_output: { length shown ≡ length (output_ports model.now.ports) },
 }
@@ -40,24 +41,28 @@ impl<'a> VerilogSim<'a> {
         ensures machine { IfOk result (λ sim. ⟦<VerilogSim<'a> as CellSim>⟧.machine sim ≡ module_machine model.now) }
         ensures stands { IfOk result (λ sim. ⟦<VerilogSim<'a> as CellSim>⟧.stands sim []) }
     {
-        let mut room = unknown_values(alloc, most_nets(model))?;
+        let known = Shared::new(alloc, ModuleStart::of(alloc, model)?)?;
+        VerilogSim::start_by(alloc, model, &known)
+    }
+
+    /// The same, by what is known of the module before any change.
+    pub fn start_by(
+        alloc: Global,
+        model: &'a VModule,
+        known: &Shared<ModuleStart>,
+    ) -> Result<VerilogSim<'a>, AllocError>
+        requires sound { IsSound model.now }
+        requires known { IsModuleStart model.now known.now }
+        ensures machine { IfOk result (λ sim. ⟦<VerilogSim<'a> as CellSim>⟧.machine sim ≡ module_machine model.now) }
+        ensures stands { IfOk result (λ sim. ⟦<VerilogSim<'a> as CellSim>⟧.stands sim []) }
+    {
+        let room = unknown_values(alloc, most_nets(model))?;
         let run = start_run(alloc, model)?;
         let reports = no_reports(alloc, model.checks.len())?;
-        let index = ModuleIndex::of(alloc, model)?;
-        let tables = ModuleTables {
-            model,
-            index: &index,
-        };
-        let shown = first_shown(
-            alloc,
-            &tables,
-            run.inputs.as_slice(),
-            run.states.as_slice(),
-            &mut room,
-        )?;
+        let shown = Items::from_slice(alloc, known.get().shown.as_slice())?;
         Ok(VerilogSim {
             model,
-            index,
+            known: known.again()?,
             run,
             reports,
             shown,
@@ -82,7 +87,7 @@ impl<'a> CellSim for VerilogSim<'a> {
     fn step(&mut self, at: u64, pin: usize, to: Trit) {
         let tables = ModuleTables {
             model: self.model,
-            index: &self.index,
+            index: &self.known.get().index,
         };
         change(
             &mut self.run,

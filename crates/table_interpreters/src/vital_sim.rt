@@ -3,18 +3,19 @@ ghost use Rattle.std.specs.Prelude.{◌≡◌, [], length, IfOk};
 ghost use Rattle.std.proofs.Props.{props};
 ghost use Rattle.table_interpreters.specs.EntityProps.{value_prop};
 ghost use Rattle.table_interpreters.specs.EntityIndexed.{IsEntityIndex};
+ghost use Rattle.table_interpreters.specs.EntityStarts.{IsEntityStart};
 ghost use Rattle.table_interpreters.specs.EntityRooms.{IsSound};
 ghost use Rattle.table_interpreters.specs.EntitySteps.{IsReady, EntityStands, entity_machine, entity_sized};
 
-use crate::entity_index::EntityIndex;
+use crate::entity_start::EntityStart;
 use crate::entity_tables::EntityTables;
 use crate::entity_values::EntityValues;
 use crate::process_rooms::most_columns;
 use crate::process_run::{ProcessState, start_state, take};
-use crate::process_shown::{show_entity, show_first};
+use crate::process_shown::show_entity;
 use crate::shown::Shown;
 use crate::starts::{no_reports, unknown_values};
-use cell_machine::{CellSim, Change, Sizes};
+use cell_machine::{CellSim, Change, Shared, Sizes};
 use sqlite_items::Items;
 use std::alloc::{AllocError, Global};
 use trit_cubes::Trit;
@@ -24,13 +25,13 @@ use vital_models::VEntity;
 #[derive(Drop)]
 pub struct VitalSim<'a> {
     model: &'a VEntity,
-    index: EntityIndex,
+    known: Shared<EntityStart>,
     run: ProcessState,
     reports: Items<bool>,
     shown: Items<Shown>,
     earlier: Items<Trit>,
     room: Items<Trit>,
-    ghost indexed: { IsEntityIndex model.now index },
+    ghost indexed: { IsEntityIndex model.now known.index },
     ghost ready: { IsReady model.now run reports (length earlier) (length room) } by { Prim.hlevel (props, value_prop) },
     ghost each_output: { length shown ≡ length model.now.outputs },
 }
@@ -43,26 +44,30 @@ impl<'a> VitalSim<'a> {
         ensures machine { IfOk result (λ sim. ⟦<VitalSim<'a> as CellSim>⟧.machine sim ≡ entity_machine model.now) }
         ensures stands { IfOk result (λ sim. ⟦<VitalSim<'a> as CellSim>⟧.stands sim []) }
     {
+        let known = Shared::new(alloc, EntityStart::of(alloc, model)?)?;
+        VitalSim::start_by(alloc, model, &known)
+    }
+
+    /// The same, by what is known of the entity before any change.
+    pub fn start_by(
+        alloc: Global,
+        model: &'a VEntity,
+        known: &Shared<EntityStart>,
+    ) -> Result<VitalSim<'a>, AllocError>
+        requires sound { IsSound model.now }
+        requires known { IsEntityStart model.now known.now }
+        ensures machine { IfOk result (λ sim. ⟦<VitalSim<'a> as CellSim>⟧.machine sim ≡ entity_machine model.now) }
+        ensures stands { IfOk result (λ sim. ⟦<VitalSim<'a> as CellSim>⟧.stands sim []) }
+    {
         let most = most_columns(model);
         let earlier = unknown_values(alloc, most)?;
-        let mut room = unknown_values(alloc, most)?;
+        let room = unknown_values(alloc, most)?;
         let run = start_state(alloc, model)?;
         let reports = no_reports(alloc, model.checks.len())?;
-        let index = EntityIndex::of(alloc, model)?;
-        let tables = EntityTables {
-            model,
-            index: &index,
-        };
-        let shown = show_first(
-            alloc,
-            &tables,
-            run.inputs.as_slice(),
-            run.states.as_slice(),
-            &mut room,
-        )?;
+        let shown = Items::from_slice(alloc, known.get().shown.as_slice())?;
         Ok(VitalSim {
             model,
-            index,
+            known: known.again()?,
             run,
             reports,
             shown,
@@ -88,7 +93,7 @@ impl<'a> CellSim for VitalSim<'a> {
     fn step(&mut self, at: u64, pin: usize, to: Trit) {
         let tables = EntityTables {
             model: self.model,
-            index: &self.index,
+            index: &self.known.get().index,
         };
         take(
             &mut self.run,

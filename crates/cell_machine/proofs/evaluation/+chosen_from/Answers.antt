@@ -1,4 +1,6 @@
+use Rattle.std.proofs.Common.{◌∙◌, sym}
 use Rattle.std.proofs.lemmas.List.{nil_from_length}
+use Rattle.cell_machine.proofs.Agreement.{agreed-unknown}
 use Rattle.cell_machine.proofs.evaluation.+chosen_from.Goals as goal
 
 pub returns-in_default : goal.returns-in_default
@@ -11,15 +13,21 @@ returns-in_default-first t c = rw (c.in-Some.ensures.cases.0, c.in_default-first
 pub returns-in-Zero : goal.returns-in-Zero
 returns-in-Zero t c =
     rw (c.in-Some.ensures.cases.0, c.in-State.is, ← c.in-Zero.ensures)
-    (rw (c.with.ensures, c.state_name-name.ensures.name) at c.chosen_from-in-Zero.ensures)
+    (rw (c.set.ensures, c.state_name-name.ensures.name) at c.chosen_from-in-Zero.ensures)
 
 pub returns-in-One : goal.returns-in-One
 returns-in-One t c =
     rw (c.in-Some.ensures.cases.0, c.in-State.is, ← c.in-One.ensures)
-    (rw (c.with-in-One.ensures, c.state_name-name.ensures.name) at c.chosen_from-in-One.ensures)
+    (rw (c.set-in-One.ensures, c.state_name-name.ensures.name) at c.chosen_from-in-One.ensures)
 
-pub returns-in-Unknown : goal.returns-in-Unknown
-returns-in-Unknown t c =
-    let zero = rw (c.with-in-Unknown.ensures, c.state_name-name.ensures.name) at c.chosen_from-zero.ensures in
-    let one = rw (c.with-in-Unknown-2.ensures, c.state_name-name.ensures.name) at c.chosen_from-in-Unknown.ensures in
+pub returns-then-is_unknown : goal.returns-then-is_unknown
+returns-then-is_unknown t c =
+    let zero = rw (c.set-in-Unknown.ensures, c.state_name-name.ensures.name) at c.chosen_from-zero.ensures in
+    rw (c.in-Some.ensures.cases.0, c.in-State.is, ← c.in-Unknown.ensures)
+    (agreed-unknown _ _ _ zero (sym c.is_unknown.ensures ∙ c.if-is_unknown.true))
+
+pub returns-else-is_unknown : goal.returns-else-is_unknown
+returns-else-is_unknown t c =
+    let zero = rw (c.set-in-Unknown.ensures, c.state_name-name.ensures.name) at c.chosen_from-zero.ensures in
+    let one = rw (c.set-in-Unknown-2.ensures, c.state_name-name.ensures.name) at c.chosen_from-one.ensures in
     rw (c.in-Some.ensures.cases.0, c.in-State.is, ← c.in-Unknown.ensures) (rw (zero, one) at c.agreed.ensures)

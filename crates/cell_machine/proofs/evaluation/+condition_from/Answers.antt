@@ -1,4 +1,6 @@
+use Rattle.std.proofs.Common.{◌∙◌, sym}
 use Rattle.std.proofs.lemmas.List.{nil_from_length}
+use Rattle.cell_machine.proofs.Agreement.{agreed-unknown}
 use Rattle.cell_machine.proofs.evaluation.+condition_from.Goals as goal
 
 pub returns-in_default : goal.returns-in_default
@@ -7,14 +9,20 @@ returns-in_default t c =
 
 pub returns-in-Zero : goal.returns-in-Zero
 returns-in-Zero t c =
-    rw (c.in-Some.ensures.cases.0, ← c.in-Zero.ensures) (rw c.with.ensures at c.condition_from.ensures)
+    rw (c.in-Some.ensures.cases.0, ← c.in-Zero.ensures) (rw c.set.ensures at c.condition_from.ensures)
 
 pub returns-in-One : goal.returns-in-One
 returns-in-One t c =
-    rw (c.in-Some.ensures.cases.0, ← c.in-One.ensures) (rw c.with-in-One.ensures at c.condition_from-in-One.ensures)
+    rw (c.in-Some.ensures.cases.0, ← c.in-One.ensures) (rw c.set-in-One.ensures at c.condition_from-in-One.ensures)
 
-pub returns-in-Unknown : goal.returns-in-Unknown
-returns-in-Unknown t c =
-    let zero = rw c.with-in-Unknown.ensures at c.condition_from-zero.ensures in
-    let one = rw c.with-in-Unknown-2.ensures at c.condition_from-in-Unknown.ensures in
+pub returns-then-is_unknown : goal.returns-then-is_unknown
+returns-then-is_unknown t c =
+    let zero = rw c.set-in-Unknown.ensures at c.condition_from-zero.ensures in
+    rw (c.in-Some.ensures.cases.0, ← c.in-Unknown.ensures)
+    (agreed-unknown _ _ _ zero (sym c.is_unknown.ensures ∙ c.if-is_unknown.true))
+
+pub returns-else-is_unknown : goal.returns-else-is_unknown
+returns-else-is_unknown t c =
+    let zero = rw c.set-in-Unknown.ensures at c.condition_from-zero.ensures in
+    let one = rw c.set-in-Unknown-2.ensures at c.condition_from-one.ensures in
     rw (c.in-Some.ensures.cases.0, ← c.in-Unknown.ensures) (rw (zero, one) at c.agreed.ensures)

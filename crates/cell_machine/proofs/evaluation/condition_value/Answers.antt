@@ -1,4 +1,4 @@
 use Rattle.cell_machine.proofs.evaluation.condition_value.Goals as goal
 
 pub returns : goal.returns
-returns c = rw (← c.requires.names) (rw c.new.ensures at c.condition_from.ensures)
+returns c = rw (← c.requires.names) (rw c.new-values.ensures at c.condition_from.ensures)

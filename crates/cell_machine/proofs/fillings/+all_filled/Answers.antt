@@ -1,18 +1,25 @@
+use Rattle.std.proofs.Common.{◌∙◌, sym}
+use Rattle.cell_machine.proofs.Agreement.{agreed-unknown}
 use Rattle.cell_machine.proofs.fillings.+all_filled.Goals as goal
 
 pub returns-in-Zero : goal.returns-in-Zero
 returns-in-Zero t c =
     rw (c.in-Some-Some.ensures.cases.0, c.in-Some-Some.ensures'.cases.0, c.in-Zero.is)
-    (rw (c.with.ensures.before, c.with.ensures.after) at c.all_filled.ensures)
+    (rw (c.set.ensures.before, c.set.ensures.after) at c.all_filled.ensures)
 
 pub returns-in-One : goal.returns-in-One
 returns-in-One t c =
     rw (c.in-Some-Some.ensures.cases.0, c.in-Some-Some.ensures'.cases.0, c.in-One.is)
-    (rw (c.with-in-One.ensures.before, c.with-in-One.ensures.after) at c.all_filled-in-One.ensures)
+    (rw (c.set-in-One.ensures.before, c.set-in-One.ensures.after) at c.all_filled-in-One.ensures)
 
-pub returns-in-Unknown : goal.returns-in-Unknown
-returns-in-Unknown t c =
-    let zero = rw (c.with-in-Unknown.ensures.before, c.with-in-Unknown.ensures.after) at c.all_filled-zero.ensures in
-    let one = rw (c.with-in-Unknown-2.ensures.before, c.with-in-Unknown-2.ensures.after) at c.all_filled-in-Unknown.ensures in
+pub returns-then-is_unknown : goal.returns-then-is_unknown
+returns-then-is_unknown t c =
+    let zero = rw (c.set-in-Unknown.ensures.before, c.set-in-Unknown.ensures.after) at c.all_filled-zero.ensures in
     rw (c.in-Some-Some.ensures.cases.0, c.in-Some-Some.ensures'.cases.0, c.in-Unknown.is)
-    (rw (zero, one) at c.agreed.ensures)
+    (agreed-unknown _ _ _ zero (sym c.is_unknown.ensures ∙ c.if-is_unknown.true))
+
+pub returns-else-is_unknown : goal.returns-else-is_unknown
+returns-else-is_unknown t c =
+    let zero = rw (c.set-in-Unknown.ensures.before, c.set-in-Unknown.ensures.after) at c.all_filled-zero.ensures in
+    let one = rw (c.set-in-Unknown-2.ensures.before, c.set-in-Unknown-2.ensures.after) at c.all_filled-one.ensures in
+    rw (c.in-Some-Some.ensures.cases.0, c.in-Some-Some.ensures'.cases.0, c.in-Unknown.is) (rw (zero, one) at c.agreed.ensures)

@@ -26,7 +26,7 @@ returns-clause-stands c = λ h st.
     let reported = c.any_true-reported.ensures ∙ ap any_true c.as_slice-3.ensures in
     let states = rw (reported, c.as_slice-inputs.ensures) at c.change_states.ensures.changed in
     let shown = rw (c.as_slice-inputs.ensures, c.as_slice-states.ensures) at c.show_all.ensures.stepped in
-    change-stands (data_of sim.cell.now) sim.check_names sim.arc_names sim.inputs sim.times sim.states sim.reports sim.shown h
+    change-stands (data_of sim.cell.now) sim.known.check_names sim.known.arc_names sim.inputs sim.times sim.states sim.reports sim.shown h
     (record { at = c.args.at; pin = c.args.pin; to = c.args.to }) (get_or c.as_slice.result.now c.args.pin Zero)
     c.set.new.self c.set-2.new.self c.change_states.new.states c.report_all.new.reports_of c.show_all.new.shown (checks_hold sim.cell.now) st from'
     c.set.ensures times reports states shown

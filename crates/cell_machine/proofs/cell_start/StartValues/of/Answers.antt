@@ -1,7 +1,7 @@
 use Rattle.std.proofs.Common.{◌∙◌, ap, replicate, false}
 use Rattle.trit_cubes.specs.declared.trits.Trit.TheVariants.{Unknown}
 use Rattle.cell_machine.specs.Times.{no_times}
-use Rattle.cell_machine.proofs.liberty_sim.StartValues.of.Goals as goal
+use Rattle.cell_machine.proofs.cell_start.StartValues.of.Goals as goal
 
 pub returns-clause-inputs : goal.returns-clause-inputs
 returns-clause-inputs c =

@@ -1,0 +1,81 @@
+//! A cell before any change.
+ghost use Rattle.std.specs.Prelude.{◌≡◌, false, length, replicate, IfOk};
+ghost use Rattle.trit_cubes.specs.declared.trits.Trit.TheVariants.{Unknown};
+ghost use Rattle.cell_machine.specs.Inputs.{input_number};
+ghost use Rattle.cell_machine.specs.Times.{no_times};
+ghost use Rattle.cell_machine.specs.CellData.{data_of};
+ghost use Rattle.cell_machine.specs.CellStarts.{IsCellStart};
+
+use crate::cells::Cell;
+use crate::condition_names::{arc_names, check_names};
+use crate::pin_values::input_number;
+use crate::shown::{Shown, show_start};
+use crate::times::Times;
+use sqlite_items::Items;
+use std::alloc::{AllocError, Global};
+use trit_cubes::Trit;
+
+/// What is known of a cell before any change, which all its simulators begin with.
+#[derive(Drop)]
+pub struct CellStart {
+    /// For each check the pins that its condition names.
+    pub check_names: Items<Items<usize>>,
+    /// For each arc the pins that its condition names.
+    pub arc_names: Items<Items<usize>>,
+    /// What the outputs show.
+    pub shown: Items<Shown>,
+}
+
+impl CellStart {
+    /// What is known of a cell before any change: all inputs and all states are unknown. `AllocError` comes only where memory is
+    /// wanted and not there.
+    pub fn of(alloc: Global, cell: &Cell) -> Result<CellStart, AllocError>
+        ensures { IfOk result (λ start. IsCellStart (data_of cell.now) start) }
+    {
+        let check_names = check_names(alloc, cell)?;
+        let arc_names = arc_names(alloc, cell)?;
+        let values = StartValues::of(alloc, cell)?;
+        let shown = show_start(
+            alloc,
+            cell,
+            values.inputs.as_slice(),
+            values.states.as_slice(),
+        )?;
+        Ok(CellStart {
+            check_names,
+            arc_names,
+            shown,
+        })
+    }
+}
+
+/// What a cell's simulator keeps beside what its outputs show, before any change.
+#[derive(Drop)]
+pub(crate) struct StartValues {
+    pub inputs: Items<Trit>,
+    pub times: Items<Times>,
+    pub states: Items<Trit>,
+    pub reports: Items<bool>,
+}
+
+impl StartValues {
+    /// Those of a cell: all inputs and all states are unknown, there was no event, and no check reports.
+    pub(crate) fn of(alloc: Global, cell: &Cell) -> Result<StartValues, AllocError>
+        ensures inputs { IfOk result (λ start. start.inputs ≡ replicate (input_number cell.now.pins (length cell.now.pins)) Unknown) }
+        ensures times { IfOk result (λ start. start.times ≡ replicate (input_number cell.now.pins (length cell.now.pins)) no_times) }
+        ensures states { IfOk result (λ start. start.states ≡ replicate (length cell.now.groups) Unknown) }
+        ensures reports { IfOk result (λ start. start.reports ≡ replicate (length cell.now.checks) false) }
+    {
+        let count = input_number(cell.pins.as_slice(), cell.pins.len());
+        let inputs = vec![in alloc; Trit::Unknown; count]?;
+        let times = vec![in alloc; Times::none(); count]?;
+        let states = vec![in alloc; Trit::Unknown; cell.groups.len()]?;
+        let reports = vec![in alloc; false; cell.checks.len()]?;
+        Ok(StartValues {
+            inputs: Items::from_vec(inputs),
+            times: Items::from_vec(times),
+            states: Items::from_vec(states),
+            reports: Items::from_vec(reports),
+        })
+    }
+}

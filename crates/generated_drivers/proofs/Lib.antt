@@ -1,3 +1,6 @@
 pub mod PortDirections
 pub mod Fitting
 pub mod CoreNames
+pub use Rattle.cell_machine.proofs as cell_machine
+pub use Rattle.three_state_cells.proofs as three_state_cells
+pub use Rattle.udp_tables.proofs as udp_tables

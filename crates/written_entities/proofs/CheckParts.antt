@@ -1,5 +1,6 @@
 -- The parts of calls of timing checks in a written entity are read from their tokens.
-use Rattle.std.proofs.Common.{◌≡◌, ℕ, ◌+◌, ◌≤◌, Bool, true, false, not, nat_eq, nat_lt, if◌then◌else◌, IsTrue, List, [], ◌∷◌, ◌++◌, length, flat_map, Option, Some, None, slice_get, refl, sym, ap, ◌∙◌, arith, decimal}
+use Rattle.std.proofs.Common.{◌≡◌, ℕ, ◌+◌, ◌≤◌, Bool, true, false, not, nat_eq, nat_lt, if◌then◌else◌, IsTrue, List, [], ◌∷◌}
+use Rattle.std.proofs.Common.{◌++◌, length, flat_map, Option, Some, None, slice_get, refl, sym, ap, ◌∙◌, arith, decimal}
 use Rattle.std.specs.Option.{option_map, option_map_or}
 use Rattle.std.proofs.lemmas.Bool.Decides.{nat_tests}
 use Rattle.std.proofs.lemmas.List.{length-map}
@@ -11,7 +12,8 @@ use Rattle.cell_machine.specs.CellRules.{is_one_edge}
 use Rattle.udp_tables.specs.declared.timing_checks.TimingCheck.{TimingCheck}
 use Rattle.vital_models.specs.declared.model.VEntity.{VEntity}
 use Rattle.rule_readers.specs.Words.{valued}
-use Rattle.vhdl_text.specs.VhdlChecks.{Checks, has_data, tested, referred, enabling_condition, always_enabled, enabled, reference_edge, transition, equal_to, same_number, both_limits, one_limit}
+use Rattle.vhdl_text.specs.VhdlChecks.{Checks, has_data, tested, referred, enabling_condition, always_enabled, enabled}
+use Rattle.vhdl_text.specs.VhdlChecks.{reference_edge, transition, equal_to, same_number, both_limits, one_limit}
 use Rattle.vhdl_text.specs.WellFormed.{IsNumber, IsCount, IsWellFormedEntity, conditions_of_check}
 use Rattle.grammar_phrases.proofs.Bytes.{number_is}
 use Rattle.grammar_phrases.proofs.Derivations.{Reads, gives, token, in_turn, chosen, passed}
@@ -23,7 +25,8 @@ use Rattle.written_entities.proofs.PortLookUps.{input_read}
 use Rattle.written_entities.proofs.LookUpOrder.{seen_after, seen_with_item}
 use Rattle.written_entities.proofs.ConditionReading.{scope, uses_of, Looks, condition_read}
 use Rattle.written_entities.proofs.Tests.{if_true, less}
-use Rattle.written_entities.proofs.CheckTokens.{edge_word, transition_front, tested_front, referred_front, limits_front, enabled_behind, limit_front}
+use Rattle.written_entities.proofs.CheckTokens.{edge_word, transition_front, tested_front, referred_front, limits_front}
+use Rattle.written_entities.proofs.CheckTokens.{enabled_behind, limit_front}
 use Rattle.written_entities.proofs.CheckFacts.{of_when, conditions_are}
 use Rattle.written_entities.proofs.VariableTokens.{is_period, is_period_check}
 

@@ -1,5 +1,6 @@
 -- The calls of timing checks in a written entity are read from their tokens.
-use Rattle.std.proofs.Common.{◌≡◌, ℕ, ◌+◌, true, false, ◌&&◌, nat_eq, List, [], ◌∷◌, ◌++◌, length, flat_map, ◌⊎◌, inl, inr, Some, refl, sym, ap, ◌∙◌, codes}
+use Rattle.std.proofs.Common.{◌≡◌, ℕ, ◌+◌, true, false, ◌&&◌, nat_eq, List, [], ◌∷◌, ◌++◌, length, flat_map, ◌⊎◌, inl, inr, Some}
+use Rattle.std.proofs.Common.{refl, sym, ap, ◌∙◌, codes}
 use Rattle.std.proofs.lemmas.Bool.{and_parts, eqb-true}
 use Rattle.std.proofs.lemmas.List.{length-map}
 use Rattle.grammar_rules.specs.Rule as r
@@ -13,7 +14,9 @@ use Rattle.udp_tables.specs.declared.timing_checks.TimingCheck.{TimingCheck}
 use Rattle.vital_models.specs.declared.model.VEntity.{VEntity}
 use Rattle.vital_models.specs.Sound.{has_events}
 use Rattle.rule_readers.specs.Words.{valued, begins_as}
-use Rattle.vhdl_text.specs.VhdlChecks.{procedure_of, Checks, setup_or_hold, check_with, setup_hold, recovery_or_removal, control_edge, active_low, recovery_removal, Pulse, pulse_of, pulse_check, period_pulse, check, checks}
+use Rattle.vhdl_text.specs.VhdlChecks.{procedure_of, Checks, setup_or_hold, check_with, setup_hold, recovery_or_removal}
+use Rattle.vhdl_text.specs.VhdlChecks.{control_edge, active_low, recovery_removal, Pulse, pulse_of, pulse_check, period_pulse}
+use Rattle.vhdl_text.specs.VhdlChecks.{check, checks}
 use Rattle.vhdl_text.specs.WellFormed.{IsWellFormedEntity, conditions_of_check}
 use Rattle.vhdl_writer.specs.Statements.{test_at, reference_at}
 use Rattle.grammar_phrases.proofs.Derivations.{Reads, to_same, gives, token, in_turn, no_turn, turn, turns, goes_on}
@@ -22,9 +25,12 @@ use Rattle.written_entities.proofs.Counting.{counted, over}
 use Rattle.written_entities.proofs.LookUpOrder.{seen_after}
 use Rattle.written_entities.proofs.ConditionReading.{scope, uses_of}
 use Rattle.written_entities.proofs.Tests.{equal}
-use Rattle.written_entities.proofs.CheckTokens.{high_token, setup_hold_front, recovery_token, active_token, recovery_removal_front, width_token, pulse_token, period_pulse_front, check_word, check_more, check_front}
+use Rattle.written_entities.proofs.CheckTokens.{high_token, setup_hold_front, recovery_token, active_token}
+use Rattle.written_entities.proofs.CheckTokens.{recovery_removal_front, width_token, pulse_token, period_pulse_front, check_word}
+use Rattle.written_entities.proofs.CheckTokens.{check_more, check_front}
 use Rattle.written_entities.proofs.CheckFacts.{test_pin, reference_pin, of_when, check_looks, written_check}
-use Rattle.written_entities.proofs.CheckParts.{tested_read, referred_read, enabled_read, transition_read, limits_read, limit_read, checked, with_it, of_kind}
+use Rattle.written_entities.proofs.CheckParts.{tested_read, referred_read, enabled_read, transition_read, limits_read, limit_read}
+use Rattle.written_entities.proofs.CheckParts.{checked, with_it, of_kind}
 use Rattle.written_entities.proofs.VariableTokens.{is_period, is_period_check}
 
 any_event : (v : Event) → is_any_edge v.edge ≡ true → ◌≡◌ {A = Event} (record { pin = v.pin; edge = edge.Any }) v

@@ -1,5 +1,6 @@
 -- The tokens of the calls of timing checks in a written entity.
-use Rattle.std.proofs.Common.{◌≡◌, ℕ, ◌+◌, ◌<◌, Bool, true, false, List, ◌∷◌, ◌++◌, length, Option, Some, None, refl, sym, subst, codes, decimal}
+use Rattle.std.proofs.Common.{◌≡◌, ℕ, ◌+◌, ◌<◌, Bool, true, false, List, ◌∷◌, ◌++◌, length, Option, Some, None, refl, sym, subst}
+use Rattle.std.proofs.Common.{codes, decimal}
 use Rattle.cell_machine.specs.declared.checks.CheckKind.{CheckKind}
 use Rattle.cell_machine.specs.declared.checks.CheckKind.TheVariants as check_kind
 use Rattle.cell_machine.specs.declared.checks.Edge.{Edge}
@@ -11,7 +12,9 @@ use Rattle.vhdl_text.specs.VhdlChecks as grammar
 use Rattle.vhdl_text.specs.WellFormed.{IsWellFormedEntity}
 use Rattle.vhdl_writer.specs.Joined.{numbered_texts}
 use Rattle.vhdl_writer.specs.Names.{port_at}
-use Rattle.vhdl_writer.specs.Statements.{one_text, enabled_text, test_at, reference_at, transition_text, high_word, low_word, setup_hold_text, recovery_word, active_text, recovery_removal_text, width_word, pulse_word, period_pulse_text, kind_text, check_text}
+use Rattle.vhdl_writer.specs.Statements.{one_text, enabled_text, test_at, reference_at, transition_text, high_word, low_word}
+use Rattle.vhdl_writer.specs.Statements.{setup_hold_text, recovery_word, active_text, recovery_removal_text, width_word}
+use Rattle.vhdl_writer.specs.Statements.{pulse_word, period_pulse_text, kind_text, check_text}
 use Rattle.grammar_phrases.proofs.Fronts.{Front, Anything}
 use Rattle.grammar_phrases.proofs.Spelling.{literal, joins, behind, anywhere}
 use Rattle.written_entities.proofs.Spelling.{Spells, argument}

@@ -1,5 +1,7 @@
 -- The look-ups of conditions in a written entity: their tokens and their reading.
-use Rattle.std.proofs.Common.{◌≡◌, ℕ, ◌+◌, ◌<◌, ◌≤◌, Bool, true, false, nat_eq, nat_lt, min, if◌then◌else◌, IsTrue, List, [], ◌∷◌, ◌++◌, length, map, take, Option, Some, None, slice_get, refl, sym, ap, ◌∙◌, arith, subst, codes, decimal}
+use Rattle.std.proofs.Common.{◌≡◌, ℕ, ◌+◌, ◌<◌, ◌≤◌, Bool, true, false, nat_eq, nat_lt, min, if◌then◌else◌, IsTrue, List, [], ◌∷◌}
+use Rattle.std.proofs.Common.{◌++◌, length, map, take, Option, Some, None, slice_get, refl, sym, ap, ◌∙◌, arith, subst, codes}
+use Rattle.std.proofs.Common.{decimal}
 use Rattle.std.specs.List.{AllByRecursion, IsDistinct, list_all, list_any}
 use Rattle.std.specs.Option.{option_map, option_map_or}
 use Rattle.std.proofs.lemmas.Bool.{and_parts}
@@ -18,7 +20,8 @@ use Rattle.rule_readers.specs.declared.refusal.Refusal.TheVariants.{Width}
 use Rattle.vhdl_tokens.specs.Tokens.{is_name}
 use Rattle.vhdl_text.specs.declared.scope.Scope.{Scope}
 use Rattle.vhdl_text.specs.VhdlTables.{truth_width}
-use Rattle.vhdl_text.specs.VhdlNames.{kept, input_of, listed_by, input_by, listed_input, Uses, condition_of, condition_width, first_list, stands_at, same_input, same_list, list_by, condition}
+use Rattle.vhdl_text.specs.VhdlNames.{kept, input_of, listed_by, input_by, listed_input, Uses, condition_of, condition_width}
+use Rattle.vhdl_text.specs.VhdlNames.{first_list, stands_at, same_input, same_list, list_by, condition}
 use Rattle.vhdl_text.specs.WellFormed.{IsWrittenTruth, IsWellFormedEntity, looks_up_in_order}
 use Rattle.vhdl_writer.specs.Joined.{apart_text}
 use Rattle.vhdl_writer.specs.Names.{port_at, inputs_at, input_text, inputs_text, condition_text}

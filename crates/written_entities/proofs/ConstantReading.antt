@@ -1,5 +1,6 @@
 -- The constants of a written architecture: their tokens and their reading.
-use Rattle.std.proofs.Common.{◌≡◌, ℕ, ◌+◌, ◌-◌, ◌≤◌, Bool, false, ◌&&◌, cond, nat_eq, List, [], ◌∷◌, ◌++◌, length, map, take, flat_map, Some, refl, sym, ap, ◌∙◌, arith, subst, codes, decimal, length-append}
+use Rattle.std.proofs.Common.{◌≡◌, ℕ, ◌+◌, ◌-◌, ◌≤◌, Bool, false, ◌&&◌, cond, nat_eq, List, [], ◌∷◌, ◌++◌, length, map, take}
+use Rattle.std.proofs.Common.{flat_map, Some, refl, sym, ap, ◌∙◌, arith, subst, codes, decimal, length-append}
 use Rattle.std.specs.Prelude.{count_by}
 use Rattle.std.specs.List.{AllByRecursion}
 use Rattle.std.proofs.lemmas.List.{map-append, length-map, append-nil}
@@ -23,9 +24,12 @@ use Rattle.vhdl_names.specs.Words.{is_reserved, is_used, vhdl_words, used_words}
 use Rattle.vhdl_tokens.specs.Spelling.{is_same}
 use Rattle.vhdl_text.specs.declared.scope.Tables.{Tables}
 use Rattle.vhdl_text.specs.VhdlRules.{begins}
-use Rattle.vhdl_text.specs.VhdlTables.{StateOrOutput, Condition, is_before_outputs, constant_of, assigned_truth_table, condition_constant, output_constant, state_constant, constant, constants}
-use Rattle.vhdl_text.specs.WellFormed.{IsCount, HasOneEdge, IsWrittenState, IsWrittenTruth, IsWrittenValue, IsWrittenOutput, IsWellFormedEntity}
-use Rattle.vhdl_writer.specs.Tables.{state_rows_text, truth_rows_text, state_constant_text, condition_constant_text, is_looked_up, table_number, output_table_text, value_constant_text, output_constant_text, constants_text}
+use Rattle.vhdl_text.specs.VhdlTables.{StateOrOutput, Condition, is_before_outputs, constant_of, assigned_truth_table}
+use Rattle.vhdl_text.specs.VhdlTables.{condition_constant, output_constant, state_constant, constant, constants}
+use Rattle.vhdl_text.specs.WellFormed.{IsCount, HasOneEdge, IsWrittenState, IsWrittenTruth, IsWrittenValue, IsWrittenOutput}
+use Rattle.vhdl_text.specs.WellFormed.{IsWellFormedEntity}
+use Rattle.vhdl_writer.specs.Tables.{state_rows_text, truth_rows_text, state_constant_text, condition_constant_text, is_looked_up}
+use Rattle.vhdl_writer.specs.Tables.{table_number, output_table_text, value_constant_text, output_constant_text, constants_text}
 use Rattle.grammar_phrases.proofs.Fronts.{Front, Anything}
 use Rattle.grammar_phrases.proofs.Derivations.{Reads, to_same, gives, in_turn, chosen, passed, no_turn, turn, turns}
 use Rattle.grammar_phrases.proofs.Spelling.{literal, behind, nothing}

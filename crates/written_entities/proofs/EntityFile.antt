@@ -11,9 +11,6 @@ use Rattle.vhdl_text.specs.VhdlText.{entity_names, next_entity, file, language, 
 use Rattle.vhdl_text.specs.WellFormed.{AreApart, IsWellFormedEntity, AreWellFormed}
 use Rattle.vhdl_text.proofs.VhdlAnswers.{is_answer}
 use Rattle.vhdl_writer.specs.Entity.{entity_text}
-use Rattle.section_outlines.specs.VhdlMarks.{vhdl_marks}
-use Rattle.section_outlines.specs.Outline.{with_bytes, outline}
-use Rattle.section_outlines.proofs.Passing.{kept_whole}
 use Rattle.grammar_phrases.proofs.Fronts.{Anything, each}
 use Rattle.grammar_phrases.specs.ReadBack.{ReadsBack}
 use Rattle.grammar_phrases.proofs.Derivations.{Reads, gives, in_turn, turn, through}
@@ -21,7 +18,7 @@ use Rattle.grammar_phrases.proofs.TextsReadBack.{is_text, reads_back}
 use Rattle.written_entities.specs.Laws.{entities_text, WrittenEntitiesReadBack}
 use Rattle.grammar_phrases.proofs.Spelling.{all_found, behind, nothing}
 use Rattle.written_entities.proofs.Names.{entity_named}
-use Rattle.written_entities.proofs.Spelling.{vhdl, SpellsOutside}
+use Rattle.written_entities.proofs.Spelling.{SpellsOutside}
 use Rattle.written_entities.proofs.NameReading.{is_new}
 use Rattle.written_entities.proofs.Parts.{fact_at}
 use Rattle.written_entities.proofs.EntityReading.{entity_more, entity_tokens, entity_spelled, entity_read}
@@ -29,11 +26,6 @@ use Rattle.written_entities.proofs.EntityReading.{entity_more, entity_tokens, en
 entities_spelled : (es : List VEntity) → AllByRecursion IsWellFormedEntity es → SpellsOutside Anything false (flat_map entity_text es) (each entity_tokens es) false
 entities_spelled [] h = nothing
 entities_spelled (e ∷ es) h = behind (entity_spelled e h.0) (entities_spelled es h.1)
-
--- in the text of well formed entities no section begins, whatever stands behind it
-pub entities_kept : (es : List VEntity) → AllByRecursion IsWellFormedEntity es → (r : List ℕ)
-    → outline vhdl vhdl_marks false 0 (flat_map entity_text es ++ r) ≡ with_bytes (flat_map entity_text es) (outline vhdl vhdl_marks false 0 r)
-entities_kept es h r = kept_whole vhdl vhdl_marks ((entities_spelled es h).passes r tt)
 
 file_spelled : (es : List VEntity) → AreWellFormed es → spelled (scan false 0 0 (entities_text es)) ≡ (each entity_tokens es [], false)
 unfolding entities_text

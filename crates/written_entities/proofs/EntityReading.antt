@@ -1,5 +1,6 @@
 -- A written entity is read from the tokens of its text.
-use Rattle.std.proofs.Common.{◌≡◌, ℕ, ◌+◌, ◌≤◌, Bool, true, false, cond, List, [], ◌∷◌, ◌++◌, length, map, take, filter, flat_map, Option, Some, None, refl, sym, ap, ◌∙◌, arith, subst, codes}
+use Rattle.std.proofs.Common.{◌≡◌, ℕ, ◌+◌, ◌≤◌, Bool, true, false, cond, List, [], ◌∷◌, ◌++◌, length, map, take, filter, flat_map}
+use Rattle.std.proofs.Common.{Option, Some, None, refl, sym, ap, ◌∙◌, arith, subst, codes}
 use Rattle.std.specs.List.{position_from}
 use Rattle.std.proofs.lemmas.List.{length-map}
 use Rattle.std.proofs.lemmas.Iterator.Adapters.{position_from-zero}
@@ -23,7 +24,8 @@ use Rattle.vhdl_text.specs.VhdlRules.{begins, is_among}
 use Rattle.vhdl_text.specs.VhdlDeclarations.{port_names, input_names, scope_of}
 use Rattle.vhdl_text.specs.VhdlChecks.{procedure_of}
 use Rattle.vhdl_text.specs.VhdlOutputs.{begins_line}
-use Rattle.vhdl_text.specs.VhdlText.{states_with, conditions_with, values_with, outputs_with, entity_with, last_wait, are_looked_up, entity_end, statements, entity}
+use Rattle.vhdl_text.specs.VhdlText.{states_with, conditions_with, values_with, outputs_with, entity_with, last_wait}
+use Rattle.vhdl_text.specs.VhdlText.{are_looked_up, entity_end, statements, entity}
 use Rattle.vhdl_text.specs.WellFormed.{IsWellFormedEntity, conditions_of_output}
 use Rattle.vhdl_writer.specs.Declarations.{is_input, first_input}
 use Rattle.vhdl_writer.specs.Entity.{end_text, statements_text, entity_text}
@@ -34,8 +36,10 @@ use Rattle.written_entities.proofs.Names.{entity_named}
 use Rattle.written_entities.proofs.Spelling.{Spells, SpellsOutside, outside}
 use Rattle.written_entities.proofs.NameReading.{expected, two_expected, five_expected, expected_where, newly_named}
 use Rattle.written_entities.proofs.Counting.{counted}
-use Rattle.written_entities.proofs.HeaderReading.{package_front, entity_front, architecture_front, header_spelled, packages_read, entity_header_read, architecture_header_read}
-use Rattle.written_entities.proofs.ConstantReading.{constants_front, value_tables, output_tables, constants_spelled, constants_read}
+use Rattle.written_entities.proofs.HeaderReading.{package_front, entity_front, architecture_front, header_spelled, packages_read}
+use Rattle.written_entities.proofs.HeaderReading.{entity_header_read, architecture_header_read}
+use Rattle.written_entities.proofs.ConstantReading.{constants_front, value_tables, output_tables, constants_spelled}
+use Rattle.written_entities.proofs.ConstantReading.{constants_read}
 use Rattle.written_entities.proofs.SignalReading.{signals_front, process_spelled, sensitivity_read}
 use Rattle.written_entities.proofs.VariableReading.{all_tables, variables_read}
 use Rattle.written_entities.proofs.LookUpOrder.{behind_look_ups, all_seen}
@@ -43,7 +47,8 @@ use Rattle.written_entities.proofs.ConditionReading.{scope, inputs_of_truth, use
 use Rattle.written_entities.proofs.CheckReading.{checks_read}
 use Rattle.written_entities.proofs.StateReading.{state_front, columns_for, states_spelled, states_read}
 use Rattle.written_entities.proofs.ValueReading.{value_front, assigned_by, assigned_of, values_spelled, values_read}
-use Rattle.written_entities.proofs.OutputReading.{line_front, paths_of, lines_up_to, seen_by_checks, seen_before, lines_look, lines_spelled, lines_read}
+use Rattle.written_entities.proofs.OutputReading.{line_front, paths_of, lines_up_to, seen_by_checks, seen_before, lines_look}
+use Rattle.written_entities.proofs.OutputReading.{lines_spelled, lines_read}
 use Rattle.written_entities.proofs.Tests.{equal}
 use Rattle.written_entities.proofs.ViolationReading.{violation_by, violation_front, violation_spelled, violation_read}
 use Rattle.written_entities.proofs.CheckTokens.{check_front, checks_spelled}

@@ -1,5 +1,6 @@
 -- The header of a written entity: its tokens and their reading.
-use Rattle.std.proofs.Common.{◌≡◌, ℕ, ◌+◌, Bool, true, false, nat_eq, nat_lt, if◌then◌else◌, List, [], ◌∷◌, ◌++◌, length, Some, refl, sym, ap, ◌∙◌, arith, subst, codes}
+use Rattle.std.proofs.Common.{◌≡◌, ℕ, ◌+◌, Bool, true, false, nat_eq, nat_lt, if◌then◌else◌, List, [], ◌∷◌, ◌++◌, length, Some}
+use Rattle.std.proofs.Common.{refl, sym, ap, ◌∙◌, arith, subst, codes}
 use Rattle.std.specs.List.{AllByRecursion, list_all, list_any}
 use Rattle.std.specs.Char.{is_ascii_alphabetic, is_ascii_alphanumeric}
 use Rattle.std.proofs.lemmas.Bool.{and_parts}
@@ -12,7 +13,8 @@ use Rattle.rule_readers.specs.Words.{valued}
 use Rattle.vhdl_names.specs.Words.{is_reserved, is_used, vhdl_words, used_words}
 use Rattle.vhdl_names.specs.Kept.{is_plain}
 use Rattle.vhdl_text.specs.VhdlRules.{is_among}
-use Rattle.vhdl_text.specs.VhdlDeclarations.{packages, name_of_port, port_names, has_underscore, is_input_word, next_port, port_list, ports_of, entity_header, architecture_header}
+use Rattle.vhdl_text.specs.VhdlDeclarations.{packages, name_of_port, port_names, has_underscore, is_input_word, next_port}
+use Rattle.vhdl_text.specs.VhdlDeclarations.{port_list, ports_of, entity_header, architecture_header}
 use Rattle.vhdl_text.specs.WellFormed.{IsPortName, AreApart, IsWellFormedEntity}
 use Rattle.vhdl_writer.specs.Declarations.{direction_text, port_text, some_ports_text, ports_text, header_text}
 use Rattle.grammar_phrases.proofs.Fronts.{Front, Anything}

@@ -30,3 +30,4 @@ pub mod PathReading
 pub mod OutputReading
 pub mod EntityReading
 pub mod EntityFile
+pub use Rattle.trit_cubes.proofs as trit_cubes

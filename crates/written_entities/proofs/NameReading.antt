@@ -1,5 +1,6 @@
 -- When the names of numbered parts are the same, and what the words of the grammar take of names and numbers.
-use Rattle.std.proofs.Common.{◌≡◌, ℕ, zero, suc, ◌+◌, ◌^◌, ◌<◌, Bool, true, false, not, nat_eq, List, [], ◌∷◌, ◌++◌, length, inl, inr, Option, Some, refl, sym, ap, ◌∙◌, arith, subst, codes, decimal}
+use Rattle.std.proofs.Common.{◌≡◌, ℕ, zero, suc, ◌+◌, ◌^◌, ◌<◌, Bool, true, false, not, nat_eq, List, [], ◌∷◌, ◌++◌, length, inl}
+use Rattle.std.proofs.Common.{inr, Option, Some, refl, sym, ap, ◌∙◌, arith, subst, codes, decimal}
 use Rattle.std.specs.List.{IsDistinct, list_all, list_any, position}
 use Rattle.std.specs.Str.{str_eq_ignore_ascii_case, str_to_ascii_lowercase}
 use Rattle.std.specs.Char.{is_ascii_alphabetic, is_ascii_alphanumeric, is_ascii_digit, to_ascii_lowercase}
@@ -13,12 +14,14 @@ use Rattle.rule_readers.specs.declared.refusal.Refusal.TheVariants.{Syntax}
 use Rattle.rule_readers.specs.Words.{allowed_by}
 use Rattle.vhdl_names.specs.Kept.{is_plain}
 use Rattle.vhdl_tokens.specs.Spelling.{is_same}
-use Rattle.vhdl_text.specs.VhdlRules.{expect, expect_all, expect_where, is_among, new_name, known, this_name, place_among, this_number, a_number, a_time, numbered_where}
+use Rattle.vhdl_text.specs.VhdlRules.{expect, expect_all, expect_where, is_among, new_name, known, this_name, place_among}
+use Rattle.vhdl_text.specs.VhdlRules.{this_number, a_number, a_time, numbered_where}
 use Rattle.vhdl_text.specs.WellFormed.{AreApart, IsNumber, IsCount}
 use Rattle.grammar_phrases.proofs.Bytes.{all_digits, number_is}
 use Rattle.grammar_phrases.proofs.Derivations.{Reads, gives, token, in_turn}
 use Rattle.grammar_phrases.proofs.Places.{at_place, found_behind}
-use Rattle.written_entities.proofs.Names.{IsNamed, other_second, part_named, unlike_scored, same_self, case_turned, same_letters, same_name}
+use Rattle.written_entities.proofs.Names.{IsNamed, other_second, part_named, unlike_scored, same_self, case_turned, same_letters}
+use Rattle.written_entities.proofs.Names.{same_name}
 use Rattle.written_entities.proofs.Tests.{equal_self, if_true}
 
 -- Numbered parts.

@@ -1,5 +1,6 @@
 -- The lines of outputs in a written entity: their tokens and their reading.
-use Rattle.std.proofs.Common.{◌≡◌, ℕ, zero, suc, ◌+◌, Bool, true, false, not, nat_eq, nat_lt, if◌then◌else◌, List, [], ◌∷◌, ◌++◌, length, map, flat_map, Option, Some, slice_get, refl, sym, ap, ◌∙◌, arith, subst, codes, decimal}
+use Rattle.std.proofs.Common.{◌≡◌, ℕ, zero, suc, ◌+◌, Bool, true, false, not, nat_eq, nat_lt, if◌then◌else◌, List, [], ◌∷◌, ◌++◌}
+use Rattle.std.proofs.Common.{length, map, flat_map, Option, Some, slice_get, refl, sym, ap, ◌∙◌, arith, subst, codes, decimal}
 use Rattle.std.specs.Option.{option_map, option_map_or, option_and_then}
 use Rattle.std.proofs.lemmas.List.{length-map, map-append, append-nil}
 use Rattle.std.proofs.lemmas.Option.{slice_get-map}
@@ -15,8 +16,11 @@ use Rattle.vhdl_tokens.specs.Tokens.{is_name}
 use Rattle.vhdl_tokens.specs.Spelling.{is_same}
 use Rattle.vhdl_text.specs.VhdlDeclarations.{name_of_port, output_count}
 use Rattle.vhdl_text.specs.VhdlNames.{Uses}
-use Rattle.vhdl_text.specs.VhdlOutputs.{paths, output_name, has_glitch, Lines, is_text_of, text_by, path_call_start, path_call, assigned_value, assignment, is_unpathed, assigns_so_named, call_or_assignment, begins_line, line_by, output_lines}
-use Rattle.vhdl_text.specs.WellFormed.{IsCount, IsPortName, IsWrittenOutput, IsWellFormedEntity, conditions_of_check, conditions_of_path, conditions_of_output}
+use Rattle.vhdl_text.specs.VhdlOutputs.{paths, output_name, has_glitch, Lines, is_text_of, text_by, path_call_start, path_call}
+use Rattle.vhdl_text.specs.VhdlOutputs.{assigned_value, assignment, is_unpathed, assigns_so_named, call_or_assignment}
+use Rattle.vhdl_text.specs.VhdlOutputs.{begins_line, line_by, output_lines}
+use Rattle.vhdl_text.specs.WellFormed.{IsCount, IsPortName, IsWrittenOutput, IsWellFormedEntity, conditions_of_check}
+use Rattle.vhdl_text.specs.WellFormed.{conditions_of_path, conditions_of_output}
 use Rattle.vhdl_writer.specs.Joined.{numbered_texts}
 use Rattle.vhdl_writer.specs.Names.{port_at}
 use Rattle.vhdl_writer.specs.Outputs.{path_text, paths_text, direct_text, output_line}

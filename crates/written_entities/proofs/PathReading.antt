@@ -1,5 +1,6 @@
 -- The paths of outputs in a written entity: their tokens and their reading.
-use Rattle.std.proofs.Common.{◌≡◌, ℕ, ◌+◌, ◌-◌, ◌<◌, ◌≤◌, ◌^◌, Bool, true, false, nat_lt, IsTrue, List, [], ◌∷◌, ◌++◌, length, flat_map, All, refl, sym, ap, ◌∙◌, arith, subst, codes, decimal, append_assoc}
+use Rattle.std.proofs.Common.{◌≡◌, ℕ, ◌+◌, ◌-◌, ◌<◌, ◌≤◌, ◌^◌, Bool, true, false, nat_lt, IsTrue, List, [], ◌∷◌, ◌++◌, length}
+use Rattle.std.proofs.Common.{flat_map, All, refl, sym, ap, ◌∙◌, arith, subst, codes, decimal, append_assoc}
 use Rattle.vital_models.specs.declared.model.HGate.{HGate}
 use Rattle.vital_models.specs.declared.model.HGate.TheVariants as gate
 use Rattle.vital_models.specs.declared.model.HPath.{HPath}
@@ -7,8 +8,10 @@ use Rattle.vital_models.specs.declared.model.VEntity.{VEntity}
 use Rattle.vital_models.specs.Sound.{IsPath}
 use Rattle.vhdl_names.specs.Words.{is_reserved, is_used, vhdl_words, used_words}
 use Rattle.vhdl_text.specs.VhdlRules.{this_number}
-use Rattle.vhdl_text.specs.VhdlOutputs.{next_zero, all_zero, not_zero, equals_zero, gate_of_conditions, always, gate_of, delays, next_path, paths}
-use Rattle.vhdl_text.specs.WellFormed.{IsNumber, IsWrittenPath, IsWellFormedEntity, names_condition, conditions_of_gate, conditions_of_path}
+use Rattle.vhdl_text.specs.VhdlOutputs.{next_zero, all_zero, not_zero, equals_zero, gate_of_conditions, always, gate_of, delays}
+use Rattle.vhdl_text.specs.VhdlOutputs.{next_path, paths}
+use Rattle.vhdl_text.specs.WellFormed.{IsNumber, IsWrittenPath, IsWellFormedEntity, names_condition, conditions_of_gate}
+use Rattle.vhdl_text.specs.WellFormed.{conditions_of_path}
 use Rattle.vhdl_writer.specs.Joined.{numbered_texts, apart_text}
 use Rattle.vhdl_writer.specs.Names.{port_at, condition_text}
 use Rattle.vhdl_writer.specs.Outputs.{not_zero_text, zero_text, all_zero_text, gate_text, path_text}
@@ -23,7 +26,8 @@ use Rattle.written_entities.proofs.Elements.{comma, closed}
 use Rattle.written_entities.proofs.Parts.{fact_at, place_below}
 use Rattle.written_entities.proofs.PortLookUps.{input_named, input_read}
 use Rattle.written_entities.proofs.LookUpOrder.{seen_after, behind_look_ups, seen_behind, seen_with_item, looks_at}
-use Rattle.written_entities.proofs.ConditionReading.{scope, uses_of, Looks, condition_front, condition_read, condition_spelled, looks_below}
+use Rattle.written_entities.proofs.ConditionReading.{scope, uses_of, Looks, condition_front, condition_read, condition_spelled}
+use Rattle.written_entities.proofs.ConditionReading.{looks_below}
 
 -- Tokens.
 

@@ -1,5 +1,7 @@
 -- The rows of written tables are read from their tokens.
-use Rattle.std.proofs.Common.{◌≡◌, ℕ, ◌+◌, ◌-◌, ◌≤◌, Bool, true, false, ◌&&◌, cond, nat_lt, if◌then◌else◌, List, [], ◌∷◌, ◌++◌, length, take, slice_get, inl, inr, Option, Some, None, refl, sym, ap, ◌∙◌, arith, subst, codes, append_assoc, length-append}
+use Rattle.std.proofs.Common.{◌≡◌, ℕ, ◌+◌, ◌-◌, ◌≤◌, Bool, true, false, ◌&&◌, cond, nat_lt, if◌then◌else◌, List, [], ◌∷◌, ◌++◌}
+use Rattle.std.proofs.Common.{length, take, slice_get, inl, inr, Option, Some, None, refl, sym, ap, ◌∙◌, arith, subst, codes}
+use Rattle.std.proofs.Common.{append_assoc, length-append}
 use Rattle.std.specs.Prelude.{count_by}
 use Rattle.std.specs.List.{list_any}
 use Rattle.std.specs.Option.{option_and_then}
@@ -23,12 +25,15 @@ use Rattle.vital_models.specs.declared.table.VNext.TheVariants as next
 use Rattle.vital_models.specs.declared.table.VStateRow.{VStateRow}
 use Rattle.vhdl_tokens.specs.Spelling.{is_same}
 use Rattle.vhdl_text.specs.VhdlRules.{expect, begins}
-use Rattle.vhdl_text.specs.VhdlTables.{level_of, symbol_of, is_edge, next_by, next_symbol, symbols, state_in, next_in, state_row_with, state_row_of, row_end, is_as_long_as_state_rows, state_row, next_level, levels, value_of, truth_row_with, truth_row_of, is_as_long_as_truth_rows, truth_row}
+use Rattle.vhdl_text.specs.VhdlTables.{level_of, symbol_of, is_edge, next_by, next_symbol, symbols, state_in, next_in}
+use Rattle.vhdl_text.specs.VhdlTables.{state_row_with, state_row_of, row_end, is_as_long_as_state_rows, state_row, next_level}
+use Rattle.vhdl_text.specs.VhdlTables.{levels, value_of, truth_row_with, truth_row_of, is_as_long_as_truth_rows, truth_row}
 use Rattle.vhdl_writer.specs.Tables.{level_text, symbol_text, next_text, value_text}
 use Rattle.grammar_phrases.proofs.Fronts.{each}
 use Rattle.grammar_phrases.proofs.Derivations.{Reads, from_same, to_same, gives, token, in_turn, turn, turns, no_turn}
 use Rattle.grammar_phrases.proofs.Places.{get_at}
-use Rattle.written_entities.proofs.TableTokens.{value_level, as_level, next_symbol_of, as_symbol, level_front, symbol_front, truth_row_front, state_row_front}
+use Rattle.written_entities.proofs.TableTokens.{value_level, as_level, next_symbol_of, as_symbol, level_front, symbol_front}
+use Rattle.written_entities.proofs.TableTokens.{truth_row_front, state_row_front}
 
 -- a token that must stand here
 pub expected : {text : List ℕ} {s : List (List ℕ)} → is_same text text ≡ true → Reads (expect text) (text ∷ s) tt s

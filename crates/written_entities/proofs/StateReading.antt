@@ -1,5 +1,6 @@
 -- The calls of state tables in a written entity: their tokens and their reading.
-use Rattle.std.proofs.Common.{◌≡◌, ℕ, suc, ◌+◌, ◌<◌, ◌≤◌, Bool, true, false, ◌&&◌, nat_eq, nat_lt, if◌then◌else◌, IsTrue, List, [], ◌∷◌, ◌++◌, length, map, refl, sym, ap, ◌∙◌, arith, subst, codes, decimal}
+use Rattle.std.proofs.Common.{◌≡◌, ℕ, suc, ◌+◌, ◌<◌, ◌≤◌, Bool, true, false, ◌&&◌, nat_eq, nat_lt, if◌then◌else◌, IsTrue, List}
+use Rattle.std.proofs.Common.{[], ◌∷◌, ◌++◌, length, map, refl, sym, ap, ◌∙◌, arith, subst, codes, decimal}
 use Rattle.std.specs.List.{IsDistinct, list_all}
 use Rattle.std.proofs.lemmas.Bool.Decides.{nat_tests}
 use Rattle.std.proofs.lemmas.List.{length-map, map-append}
@@ -14,14 +15,16 @@ use Rattle.vhdl_tokens.specs.Spelling.{is_same}
 use Rattle.vhdl_text.specs.declared.scope.Columns.{Columns}
 use Rattle.vhdl_text.specs.VhdlRules.{begins, elements, only_element, several_elements, more_elements}
 use Rattle.vhdl_text.specs.VhdlDeclarations.{width_at}
-use Rattle.vhdl_text.specs.VhdlNames.{violated_columns, no_columns, column_count, behind_input, takes_violation, next_column, columns_of}
+use Rattle.vhdl_text.specs.VhdlNames.{violated_columns, no_columns, column_count, behind_input, takes_violation, next_column}
+use Rattle.vhdl_text.specs.VhdlNames.{columns_of}
 use Rattle.vhdl_text.specs.VhdlChecks.{state_call_start, state_call, state_calls}
 use Rattle.vhdl_text.specs.WellFormed.{IsCount, IsWrittenState, IsWellFormedEntity}
 use Rattle.vhdl_writer.specs.Joined.{numbered_texts}
 use Rattle.vhdl_writer.specs.Names.{port_at, next_input_text, violated_text}
 use Rattle.vhdl_writer.specs.Statements.{state_text}
 use Rattle.grammar_phrases.proofs.Fronts.{Front, Anything}
-use Rattle.grammar_phrases.proofs.Derivations.{Reads, to_same, gives, token, in_turn, chosen, passed, no_turn, turn, turns, goes_on}
+use Rattle.grammar_phrases.proofs.Derivations.{Reads, to_same, gives, token, in_turn, chosen, passed, no_turn, turn, turns}
+use Rattle.grammar_phrases.proofs.Derivations.{goes_on}
 use Rattle.grammar_phrases.proofs.Spelling.{literal, joins, behind}
 use Rattle.written_entities.proofs.Names.{IsNamed, unnumbered, unlike_word}
 use Rattle.written_entities.proofs.Spelling.{Spells, argument}
@@ -32,7 +35,8 @@ use Rattle.written_entities.proofs.Elements.{names_front, comma, closed, element
 use Rattle.written_entities.proofs.Parts.{part_behind, fact_at, place_below, state_number}
 use Rattle.written_entities.proofs.PortLookUps.{input_named}
 use Rattle.written_entities.proofs.VariableReading.{all_tables, width_is}
-use Rattle.written_entities.proofs.ConditionReading.{scope, data_word, input_at, inputs_spelled, new_input, input_fits, list_end_read}
+use Rattle.written_entities.proofs.ConditionReading.{scope, data_word, input_at, inputs_spelled, new_input, input_fits}
+use Rattle.written_entities.proofs.ConditionReading.{list_end_read}
 use Rattle.written_entities.proofs.Tests.{if_true, if_false, less, equal, and_yes, and_no}
 
 -- Tokens.

@@ -8,7 +8,8 @@ use Rattle.vital_models.specs.declared.table.TruthTable.{TruthTable}
 use Rattle.vital_models.specs.declared.table.VStateRow.{VStateRow}
 use Rattle.vital_models.specs.declared.table.VStateTable.{VStateTable}
 use Rattle.vhdl_text.specs.VhdlRules.{elements, only_element, several_elements, more_elements}
-use Rattle.vhdl_text.specs.VhdlTables.{is_as_long_as_state_rows, state_row, state_table, is_as_long_as_truth_rows, truth_row, truth_table}
+use Rattle.vhdl_text.specs.VhdlTables.{is_as_long_as_state_rows, state_row, state_table, is_as_long_as_truth_rows, truth_row}
+use Rattle.vhdl_text.specs.VhdlTables.{truth_table}
 use Rattle.vhdl_text.specs.WellFormed.{HasOneEdge}
 use Rattle.grammar_phrases.proofs.Fronts.{Front, each}
 use Rattle.grammar_phrases.proofs.Derivations.{Reads, gives, in_turn, chosen, passed, turn, through}

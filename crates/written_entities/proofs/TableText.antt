@@ -17,10 +17,12 @@ use Rattle.vhdl_text.specs.WellFormed.{HasOneEdge, IsWrittenState}
 use Rattle.vhdl_writer.specs.Tables.{truth_rows_text, state_rows_text}
 use Rattle.grammar_phrases.proofs.Fronts.{Anything}
 use Rattle.grammar_phrases.proofs.Places.{none_if}
-use Rattle.written_entities.specs.Laws.{truth_table_text, state_table_text, IsTruthTableText, IsStateTableText, TruthTableReadBack, StateTableReadBack}
+use Rattle.written_entities.specs.Laws.{truth_table_text, state_table_text, IsTruthTableText, IsStateTableText}
+use Rattle.written_entities.specs.Laws.{TruthTableReadBack, StateTableReadBack}
 use Rattle.grammar_phrases.proofs.Spelling.{all_found, behind}
 use Rattle.written_entities.proofs.Spelling.{Spells}
-use Rattle.written_entities.proofs.TableTokens.{opened, closed, truth_row_front, state_row_front, rows_front, truth_rows, state_rows}
+use Rattle.written_entities.proofs.TableTokens.{opened, closed, truth_row_front, state_row_front, rows_front, truth_rows}
+use Rattle.written_entities.proofs.TableTokens.{state_rows}
 use Rattle.written_entities.proofs.TableReading.{truth_table_read, state_table_read}
 
 -- a grammar takes one value

@@ -1,5 +1,7 @@
 -- The values of outputs in a written entity: their tokens and their reading.
-use Rattle.std.proofs.Common.{◌≡◌, ℕ, ◌+◌, ◌<◌, ◌≤◌, Bool, true, false, ◌&&◌, cond, nat_eq, nat_lt, if◌then◌else◌, List, [], ◌∷◌, ◌++◌, length, map, Option, Some, None, slice_get, refl, sym, ap, ◌∙◌, arith, subst, codes, decimal, length-append}
+use Rattle.std.proofs.Common.{◌≡◌, ℕ, ◌+◌, ◌<◌, ◌≤◌, Bool, true, false, ◌&&◌, cond, nat_eq, nat_lt, if◌then◌else◌, List, [], ◌∷◌}
+use Rattle.std.proofs.Common.{◌++◌, length, map, Option, Some, None, slice_get, refl, sym, ap, ◌∙◌, arith, subst, codes, decimal}
+use Rattle.std.proofs.Common.{length-append}
 use Rattle.std.specs.List.{AllByRecursion, IsDistinct, list_all, list_any, position_from}
 use Rattle.std.specs.Option.{option_map, option_map_or}
 use Rattle.std.proofs.lemmas.Bool.Decides.{nat_tests}
@@ -30,14 +32,16 @@ use Rattle.vhdl_text.specs.VhdlRules.{begins, go_on_unnamed}
 use Rattle.vhdl_text.specs.VhdlTables.{truth_width}
 use Rattle.vhdl_text.specs.VhdlDeclarations.{port_names, output_count}
 use Rattle.vhdl_text.specs.VhdlNames.{kept, port_of, input_of, same_source, source_or_state, source_of, listed_source, sources_of}
-use Rattle.vhdl_text.specs.VhdlOutputs.{is_lookup, lookups, output_width, output_table_name, lookup, a_constant, next_value, is_this_value, begins_value, values_of}
+use Rattle.vhdl_text.specs.VhdlOutputs.{is_lookup, lookups, output_width, output_table_name, lookup, a_constant, next_value}
+use Rattle.vhdl_text.specs.VhdlOutputs.{is_this_value, begins_value, values_of}
 use Rattle.vhdl_text.specs.WellFormed.{IsCount, IsPortName, IsWrittenValue, IsWrittenOutput, IsWellFormedEntity}
 use Rattle.vhdl_writer.specs.Joined.{numbered_texts, apart_text}
 use Rattle.vhdl_writer.specs.Names.{port_at, source_name, source_text, sources_text}
 use Rattle.vhdl_writer.specs.Tables.{table_number}
 use Rattle.vhdl_writer.specs.Outputs.{lookup_text, assigned_text, value_line}
 use Rattle.grammar_phrases.proofs.Fronts.{Front, Anything}
-use Rattle.grammar_phrases.proofs.Derivations.{Reads, to_same, gives, token, in_turn, chosen, passed, no_turn, turn, turns, goes_on}
+use Rattle.grammar_phrases.proofs.Derivations.{Reads, to_same, gives, token, in_turn, chosen, passed, no_turn, turn, turns}
+use Rattle.grammar_phrases.proofs.Derivations.{goes_on}
 use Rattle.grammar_phrases.proofs.Places.{get_at}
 use Rattle.grammar_phrases.proofs.Spelling.{literal, behind}
 use Rattle.written_entities.proofs.Names.{IsNamed, part_named, unnumbered, same_self}
@@ -49,7 +53,8 @@ use Rattle.written_entities.proofs.Parts.{part_behind, fact_at, place_below, out
 use Rattle.written_entities.proofs.PortLookUps.{input_named, input_found}
 use Rattle.written_entities.proofs.ConstantReading.{output_tables, its_number, its_number_fits}
 use Rattle.written_entities.proofs.VariableReading.{all_tables, so_many_outputs}
-use Rattle.written_entities.proofs.ConditionReading.{scope, lookup_word, data_word, passes_at, new_item, listed_fits, list_end_read, truth_wide}
+use Rattle.written_entities.proofs.ConditionReading.{scope, lookup_word, data_word, passes_at, new_item, listed_fits}
+use Rattle.written_entities.proofs.ConditionReading.{list_end_read, truth_wide}
 use Rattle.written_entities.proofs.Tests.{if_true, less, no_less, equal, numbers_turned, and_yes}
 
 -- Tokens.

@@ -1,5 +1,6 @@
 -- The variables of a written process are read from their tokens.
-use Rattle.std.proofs.Common.{◌≡◌, ℕ, ◌+◌, ◌≤◌, Bool, true, false, not, ◌&&◌, nat_eq, nat_lt, List, [], ◌∷◌, ◌++◌, length, map, Option, Some, slice_get, refl, sym, ap, ◌∙◌, arith, subst, codes, decimal, length-append}
+use Rattle.std.proofs.Common.{◌≡◌, ℕ, ◌+◌, ◌≤◌, Bool, true, false, not, ◌&&◌, nat_eq, nat_lt, List, [], ◌∷◌, ◌++◌, length, map}
+use Rattle.std.proofs.Common.{Option, Some, slice_get, refl, sym, ap, ◌∙◌, arith, subst, codes, decimal, length-append}
 use Rattle.std.specs.Option.{option_map, option_map_or}
 use Rattle.std.proofs.lemmas.List.{map-append, length-map}
 use Rattle.std.proofs.lemmas.Option.{slice_get-map}
@@ -23,18 +24,23 @@ use Rattle.vhdl_text.specs.declared.scope.Tables.{Tables}
 use Rattle.vhdl_text.specs.declared.scope.Variables.{Variables}
 use Rattle.vhdl_text.specs.VhdlRules.{begins, this_number}
 use Rattle.vhdl_text.specs.VhdlTables.{state_width}
-use Rattle.vhdl_text.specs.VhdlDeclarations.{last_true, is_last_false, VariableOf, Check, Violation, State, Output, Glitch, is_before_states, awaits_violation, output_count, variable_of, variable_by, is_period_type, first_data, check_variables, violation_variable, width_at, state_variables, output_variable, glitch_variable, variable, are_declared, variables}
+use Rattle.vhdl_text.specs.VhdlDeclarations.{last_true, is_last_false, VariableOf, Check, Violation, State, Output, Glitch}
+use Rattle.vhdl_text.specs.VhdlDeclarations.{is_before_states, awaits_violation, output_count, variable_of, variable_by}
+use Rattle.vhdl_text.specs.VhdlDeclarations.{is_period_type, first_data, check_variables, violation_variable, width_at}
+use Rattle.vhdl_text.specs.VhdlDeclarations.{state_variables, output_variable, glitch_variable, variable, are_declared, variables}
 use Rattle.vhdl_text.specs.WellFormed.{IsNumber, IsCount, IsWrittenState, IsWellFormedEntity}
 use Rattle.grammar_phrases.proofs.Derivations.{Reads, to_same, gives, token, in_turn, no_turn, turn, turns, goes_on}
 use Rattle.grammar_phrases.proofs.Places.{get_at, one_longer}
 use Rattle.written_entities.proofs.Names.{IsNamed, part_named, same_self}
 use Rattle.written_entities.proofs.Words.{number}
-use Rattle.written_entities.proofs.NameReading.{expected, three_expected, five_expected, six_expected, eight_expected, so_named, this_number_read}
+use Rattle.written_entities.proofs.NameReading.{expected, three_expected, five_expected, six_expected, eight_expected, so_named}
+use Rattle.written_entities.proofs.NameReading.{this_number_read}
 use Rattle.written_entities.proofs.Counting.{counted, over}
 use Rattle.written_entities.proofs.Parts.{fact_at, place_below, output_number, state_number, check_number}
 use Rattle.written_entities.proofs.ConstantReading.{tables_up_to}
 use Rattle.written_entities.proofs.Tests.{if_true, if_false, some_items, less, no_less, equal, and_yes, and_no, and_not}
-use Rattle.written_entities.proofs.VariableTokens.{is_period, data_type, check_front, violation_front, state_front, glitch_front, output_front, variables_front, read_width, wide_at, is_period_check}
+use Rattle.written_entities.proofs.VariableTokens.{is_period, data_type, check_front, violation_front, state_front, glitch_front}
+use Rattle.written_entities.proofs.VariableTokens.{output_front, variables_front, read_width, wide_at, is_period_check}
 
 abbrev pub has_paths : VOutput → Bool
 has_paths output = nat_lt 0 (length output.paths)

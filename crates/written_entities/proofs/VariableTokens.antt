@@ -1,5 +1,6 @@
 -- The tokens of the variables of a written process.
-use Rattle.std.proofs.Common.{◌≡◌, ℕ, ◌+◌, ◌≤◌, Bool, true, false, nat_lt, if◌then◌else◌, List, [], ◌∷◌, ◌++◌, length, refl, sym, arith, subst, codes, decimal}
+use Rattle.std.proofs.Common.{◌≡◌, ℕ, ◌+◌, ◌≤◌, Bool, true, false, nat_lt, if◌then◌else◌, List, [], ◌∷◌, ◌++◌, length, refl, sym}
+use Rattle.std.proofs.Common.{arith, subst, codes, decimal}
 use Rattle.std.specs.List.{AllByRecursion}
 use Rattle.std.proofs.lemmas.List.Elements.{recursion_from_All}
 use Rattle.cell_machine.specs.declared.checks.CheckKind.{CheckKind}
@@ -15,13 +16,15 @@ use Rattle.vhdl_names.specs.Words.{is_reserved, is_used, vhdl_words, used_words}
 use Rattle.vhdl_text.specs.VhdlTables.{state_width}
 use Rattle.vhdl_text.specs.VhdlDeclarations.{first_data}
 use Rattle.vhdl_text.specs.WellFormed.{IsNumber, IsCount, IsWrittenState, IsWellFormedEntity}
-use Rattle.vhdl_writer.specs.Declarations.{data_text, check_variables_text, violation_variable_text, width_of, state_variables_text, glitch_data_text, output_variables_text, variables_text}
+use Rattle.vhdl_writer.specs.Declarations.{data_text, check_variables_text, violation_variable_text, width_of}
+use Rattle.vhdl_writer.specs.Declarations.{state_variables_text, glitch_data_text, output_variables_text, variables_text}
 use Rattle.grammar_phrases.proofs.Fronts.{Front, Anything}
 use Rattle.grammar_phrases.proofs.Spelling.{literal, joins, behind, nothing}
 use Rattle.written_entities.proofs.Spelling.{Spells}
 use Rattle.written_entities.proofs.Words.{number}
 use Rattle.written_entities.proofs.Counting.{counted, counted_anywhere}
-use Rattle.written_entities.proofs.Parts.{shown, part_behind, fact_at, place_below, output_number, state_number, check_number, IsBehind, by_kind}
+use Rattle.written_entities.proofs.Parts.{shown, part_behind, fact_at, place_below, output_number, state_number, check_number}
+use Rattle.written_entities.proofs.Parts.{IsBehind, by_kind}
 use Rattle.written_entities.proofs.Tests.{some_items}
 
 -- Tokens.

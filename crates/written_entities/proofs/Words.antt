@@ -1,12 +1,14 @@
 -- Names, words and numbers are tokens of VHDL text where no byte of a name follows.
-use Rattle.std.proofs.Common.{◌≡◌, ℕ, suc, ◌^◌, ◌<◌, ◌≤◌, Bool, true, false, ◌==◌, nat_eq, nat_le, if◌then◌else◌, List, [], ◌∷◌, ◌++◌, length, inl, inr, refl, sym, ◌∙◌, arith, subst, codes, decimal}
+use Rattle.std.proofs.Common.{◌≡◌, ℕ, suc, ◌^◌, ◌<◌, ◌≤◌, Bool, true, false, ◌==◌, nat_eq, nat_le, if◌then◌else◌, List, [], ◌∷◌}
+use Rattle.std.proofs.Common.{◌++◌, length, inl, inr, refl, sym, ◌∙◌, arith, subst, codes, decimal}
 use Rattle.std.proofs.lemmas.Bool.{and_parts, cases_Bool}
 use Rattle.std.proofs.lemmas.Bool.Decides.{nat_tests}
 use Rattle.std.proofs.lemmas.Fmt.{decimal_is_IsNumeral}
 use Rattle.std.specs.Char.{is_ascii_alphabetic, is_ascii_digit, to_ascii_lowercase}
 use Rattle.std.specs.List.{list_all, prefix_len}
 use Rattle.vhdl_names.specs.Words.{is_vhdl_word, is_reserved, is_used, vhdl_words, used_words}
-use Rattle.vhdl_tokens.specs.Tokens.{is_blank, is_mark, is_name_byte, is_name, lexis, word_length, number_length, separator_length, token_length}
+use Rattle.vhdl_tokens.specs.Tokens.{is_blank, is_mark, is_name_byte, is_name, lexis, word_length, number_length}
+use Rattle.vhdl_tokens.specs.Tokens.{separator_length, token_length}
 use Rattle.vhdl_tokens.specs.Spelling.{is_same}
 use Rattle.vhdl_text.specs.WellFormed.{is_spelled_as_name, IsNumber}
 use Rattle.grammar_phrases.proofs.Bytes.{unlike, none_of, run_ends, AreFew, short, below_word, few}

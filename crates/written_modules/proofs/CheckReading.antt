@@ -1,5 +1,6 @@
 -- The timing checks of a written module are read from their tokens.
-use Rattle.std.proofs.Common.{◌≡◌, ℕ, true, ◌&&◌, nat_eq, IsTrue, List, [], ◌∷◌, ◌++◌, Option, Some, None, is_some, slice_get, refl, sym, ap, ◌∙◌, subst, codes, decimal}
+use Rattle.std.proofs.Common.{◌≡◌, ℕ, true, ◌&&◌, nat_eq, IsTrue, List, [], ◌∷◌, ◌++◌, Option, Some, None, is_some, slice_get}
+use Rattle.std.proofs.Common.{refl, sym, ap, ◌∙◌, subst, codes, decimal}
 use Rattle.std.specs.List.{AllByRecursion}
 use Rattle.std.specs.Option.{option_map}
 use Rattle.std.proofs.lemmas.Bool.{and_parts, eqb-true}
@@ -18,11 +19,16 @@ use Rattle.udp_tables.specs.Ports.{is_input_port}
 use Rattle.specify_blocks.specs.Sound.{has_written_events, is_enabling, IsCheck}
 use Rattle.specify_blocks.specs.WellFormed.{IsName, IsNumber}
 use Rattle.specify_blocks.specs.VerilogModules.{port_name}
-use Rattle.specify_blocks.specs.VerilogBlocks.{edge_of, any_edge, an_event, an_edge_event, condition_name, condition, check_end, ordered_check, turned_check, opposite, width_check, same_condition, equal_to, same_number, second_period, period_check, check_of, check_of_kind, check, next_check}
+use Rattle.specify_blocks.specs.VerilogBlocks.{edge_of, any_edge, an_event, an_edge_event, condition_name, condition, check_end}
+use Rattle.specify_blocks.specs.VerilogBlocks.{ordered_check, turned_check, opposite, width_check, same_condition, equal_to}
+use Rattle.specify_blocks.specs.VerilogBlocks.{same_number, second_period, period_check, check_of, check_of_kind, check}
+use Rattle.specify_blocks.specs.VerilogBlocks.{next_check}
 use Rattle.rule_readers.specs.Words.{begins_as}
 use Rattle.verilog_writer.specs.Nets.{port_at, wire_at, notifier_in}
 use Rattle.written_modules.proofs.Words.{unlike_word}
-use Rattle.written_modules.proofs.TimingTokens.{IsNamedCondition, IsNamedCheck, edge_tokens, event_tokens, condition_tokens, end_tokens, ordered_tokens, turned_tokens, width_tokens, period_tokens, check_word, check_more, check_tokens}
+use Rattle.written_modules.proofs.TimingTokens.{IsNamedCondition, IsNamedCheck, edge_tokens, event_tokens, condition_tokens}
+use Rattle.written_modules.proofs.TimingTokens.{end_tokens, ordered_tokens, turned_tokens, width_tokens, period_tokens}
+use Rattle.written_modules.proofs.TimingTokens.{check_word, check_more, check_tokens}
 use Rattle.grammar_phrases.proofs.Bytes.{number_is}
 use Rattle.grammar_phrases.proofs.Derivations.{Reads, to_same, gives, token, in_turn, chosen, passed, Turn, turn}
 use Rattle.written_modules.proofs.NameReading.{expected, so_named}
@@ -30,7 +36,8 @@ use Rattle.grammar_phrases.proofs.Places.{at_place}
 use Rattle.written_modules.proofs.RowReading.{same_number as equal_numbers}
 use Rattle.written_modules.proofs.NetReading.{IsKnown, named_net, input_known, register_known}
 use Rattle.written_modules.proofs.InstanceReading.{IsWritten}
-use Rattle.written_modules.proofs.PathReading.{joined, input_name, input_read, condition_known, condition_named, wire_read, number_read}
+use Rattle.written_modules.proofs.PathReading.{joined, input_name, input_read, condition_known, condition_named, wire_read}
+use Rattle.written_modules.proofs.PathReading.{number_read}
 
 -- Events.
 

@@ -1,16 +1,19 @@
 -- The declarations of a written module are read from their tokens.
-use Rattle.std.proofs.Common.{◌≡◌, ℕ, Bool, true, false, not, List, [], ◌∷◌, ◌++◌, Option, Some, None, refl, sym, ap, ◌∙◌, subst, codes, append_assoc}
+use Rattle.std.proofs.Common.{◌≡◌, ℕ, Bool, true, false, not, List, [], ◌∷◌, ◌++◌, Option, Some, None, refl, sym, ap, ◌∙◌, subst}
+use Rattle.std.proofs.Common.{codes, append_assoc}
 use Rattle.std.specs.List.{AllByRecursion}
 use Rattle.std.specs.Str.{bytes_eq}
 use Rattle.grammar_rules.specs.Rule.{Stops}
 use Rattle.udp_tables.specs.declared.models.VPort.{VPort}
 use Rattle.udp_tables.specs.VerilogRules.{begins}
-use Rattle.specify_blocks.specs.VerilogModules.{port_names, declared_wire, declared_wires, declared_notifier, notifier, declarations}
+use Rattle.specify_blocks.specs.VerilogModules.{port_names, declared_wire, declared_wires, declared_notifier, notifier}
+use Rattle.specify_blocks.specs.VerilogModules.{declarations}
 use Rattle.specify_blocks.specs.declared.model.VModule.{VModule}
 use Rattle.specify_blocks.specs.WellFormed.{IsName, AreApart, register_names}
 use Rattle.grammar_phrases.proofs.Fronts.{Front, each}
 use Rattle.written_modules.proofs.PrimitiveTokens.{declared}
-use Rattle.written_modules.proofs.ModuleTokens.{IsNamedPort, IsNamed, listed, declared_where, output_tokens, register_tokens, declaration_tokens}
+use Rattle.written_modules.proofs.ModuleTokens.{IsNamedPort, IsNamed, listed, declared_where, output_tokens, register_tokens}
+use Rattle.written_modules.proofs.ModuleTokens.{declaration_tokens}
 use Rattle.grammar_phrases.proofs.Derivations.{Reads, gives, in_turn, chosen, passed, Turn, turn, through}
 use Rattle.written_modules.proofs.NameReading.{expected, newly_named, is_new}
 use Rattle.grammar_phrases.proofs.Places.{at_place}

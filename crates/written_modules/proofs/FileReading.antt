@@ -9,7 +9,9 @@ use Rattle.verilog_tokens.specs.Tokens.{scan_of}
 use Rattle.verilog_tokens.specs.Separators.{spelled}
 use Rattle.udp_tables.specs.VerilogRules.{begins, is_among}
 use Rattle.specify_blocks.specs.declared.model.VModule.{VModule}
-use Rattle.specify_blocks.specs.VerilogText.{Before, with_primitive, next_primitive, next_module, more_primitives, primitives_and_module, is_design_start, design, designs, prelude, file, language, IsVerilogText, verilog_text}
+use Rattle.specify_blocks.specs.VerilogText.{Before, with_primitive, next_primitive, next_module, more_primitives}
+use Rattle.specify_blocks.specs.VerilogText.{primitives_and_module, is_design_start, design, designs, prelude, file, language}
+use Rattle.specify_blocks.specs.VerilogText.{IsVerilogText, verilog_text}
 use Rattle.specify_blocks.specs.WellFormed.{AreApart, IsWellFormedUdp, IsWellFormedModule, udp_names, outer_names, AreWellFormed}
 use Rattle.specify_blocks.proofs.VerilogAnswers.{is_answer}
 use Rattle.rule_readers.specs.Words.{begins_by}

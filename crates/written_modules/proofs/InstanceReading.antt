@@ -1,5 +1,6 @@
 -- The instances of a written module are read from their tokens.
-use Rattle.std.proofs.Common.{◌≡◌, ℕ, ◌+◌, ◌≤◌, Bool, true, false, not, ◌||◌, ◌==◌, nat_eq, nat_lt, cond, if◌then◌else◌, List, [], ◌∷◌, ◌++◌, length, Option, Some, slice_get, refl, sym, ap, ◌∙◌, arith, subst, codes, append_assoc}
+use Rattle.std.proofs.Common.{◌≡◌, ℕ, ◌+◌, ◌≤◌, Bool, true, false, not, ◌||◌, ◌==◌, nat_eq, nat_lt, cond, if◌then◌else◌, List, []}
+use Rattle.std.proofs.Common.{◌∷◌, ◌++◌, length, Option, Some, slice_get, refl, sym, ap, ◌∙◌, arith, subst, codes, append_assoc}
 use Rattle.std.specs.List.{AllByRecursion, list_any, list_all}
 use Rattle.std.specs.Str.{bytes_eq}
 use Rattle.std.proofs.lemmas.Bool.{and_parts}
@@ -15,9 +16,12 @@ use Rattle.specify_blocks.specs.declared.model.VNet.TheVariants as net
 use Rattle.specify_blocks.specs.declared.model.Instance.{Instance}
 use Rattle.specify_blocks.specs.declared.model.Instance.TheVariants as instance
 use Rattle.specify_blocks.specs.declared.model.VModule.{VModule}
-use Rattle.specify_blocks.specs.Nets.{same_net, are_apart, is_sequential, is_driven, holds_state, net_driven, feeds_state, feeds_value, drivers}
+use Rattle.specify_blocks.specs.Nets.{same_net, are_apart, is_sequential, is_driven, holds_state, net_driven, feeds_state}
+use Rattle.specify_blocks.specs.Nets.{feeds_value, drivers}
 use Rattle.specify_blocks.specs.Sound.{IsInstance, AreInstances, IsSound}
-use Rattle.specify_blocks.specs.VerilogModules.{net_of, terminal_by, terminal, may_drive, is_driven_already, driven_terminal, may_feed, feeding_terminal, next_input, more_inputs, input_count, call, bit, constant, of_primitive, begins_instance, one_instance, instances}
+use Rattle.specify_blocks.specs.VerilogModules.{net_of, terminal_by, terminal, may_drive, is_driven_already, driven_terminal}
+use Rattle.specify_blocks.specs.VerilogModules.{may_feed, feeding_terminal, next_input, more_inputs, input_count, call, bit}
+use Rattle.specify_blocks.specs.VerilogModules.{constant, of_primitive, begins_instance, one_instance, instances}
 use Rattle.specify_blocks.specs.WellFormed.{IsName, IsWellFormedUdp, AreApart, udp_names}
 use Rattle.rule_readers.specs.declared.refusal.Refusal.TheVariants.{Width}
 use Rattle.rule_readers.specs.Words.{valued}
@@ -29,7 +33,8 @@ use Rattle.written_modules.proofs.NameReading.{expected, expected_where}
 use Rattle.written_modules.proofs.RowReading.{same_number}
 use Rattle.written_modules.proofs.ModuleTokens.{next_terminal, bit_text, instance_more, instance_tokens}
 use Rattle.written_modules.proofs.DeclarationReading.{AreDeclared, bare}
-use Rattle.written_modules.proofs.NetReading.{position_is, IsKnown, named_net, net_read, driven_known, state_driven, DrivesNet, feeding_value_known, feeding_state_known}
+use Rattle.written_modules.proofs.NetReading.{position_is, IsKnown, named_net, net_read, driven_known, state_driven, DrivesNet}
+use Rattle.written_modules.proofs.NetReading.{feeding_value_known, feeding_state_known}
 use Rattle.grammar_phrases.proofs.Places.{all_at}
 
 -- a module whose instances up to some place are read

@@ -1,5 +1,6 @@
 -- A written module is read from the tokens of its text.
-use Rattle.std.proofs.Common.{◌≡◌, ℕ, ◌+◌, ◌<◌, Bool, true, false, not, nat_lt, if◌then◌else◌, List, [], ◌∷◌, ◌++◌, length, Option, Some, None, refl, sym, ap, ◌∙◌, arith, subst, codes, append_assoc}
+use Rattle.std.proofs.Common.{◌≡◌, ℕ, ◌+◌, ◌<◌, Bool, true, false, not, nat_lt, if◌then◌else◌, List, [], ◌∷◌, ◌++◌, length}
+use Rattle.std.proofs.Common.{Option, Some, None, refl, sym, ap, ◌∙◌, arith, subst, codes, append_assoc}
 use Rattle.std.specs.List.{AllByRecursion, list_all}
 use Rattle.std.specs.Option.{option_map_or}
 use Rattle.std.specs.Str.{bytes_eq}
@@ -17,9 +18,11 @@ use Rattle.specify_blocks.specs.declared.model.Instance.TheVariants as instance
 use Rattle.specify_blocks.specs.declared.model.VModule.{VModule}
 use Rattle.specify_blocks.specs.Nets.{is_output_port, is_driven, feeds_state, feeds_value}
 use Rattle.specify_blocks.specs.Sound.{IsPath, IsCheck, IsInstance, AreInstances}
-use Rattle.specify_blocks.specs.VerilogModules.{port_names, begins_instance, is_driven_already, output_nets, wire_nets, are_all_driven}
+use Rattle.specify_blocks.specs.VerilogModules.{port_names, begins_instance, is_driven_already, output_nets, wire_nets}
+use Rattle.specify_blocks.specs.VerilogModules.{are_all_driven}
 use Rattle.specify_blocks.specs.VerilogText.{one_module}
-use Rattle.specify_blocks.specs.WellFormed.{IsName, AreApart, IsWellFormedUdp, IsWellFormedModule, HasNumbers, register_names, udp_names}
+use Rattle.specify_blocks.specs.WellFormed.{IsName, AreApart, IsWellFormedUdp, IsWellFormedModule, HasNumbers, register_names}
+use Rattle.specify_blocks.specs.WellFormed.{udp_names}
 use Rattle.rule_readers.specs.declared.refusal.Refusal.TheVariants.{Undriven}
 use Rattle.verilog_writer.specs.Timing.{has_block}
 use Rattle.verilog_writer.specs.Model.{module_only_text}
@@ -31,11 +34,13 @@ use Rattle.grammar_phrases.proofs.Derivations.{Reads, gives, in_turn}
 use Rattle.written_modules.proofs.NameReading.{expected_where, newly_named}
 use Rattle.written_modules.proofs.PrimitiveReading.{both}
 use Rattle.grammar_phrases.proofs.Places.{get_at, one_longer, all_at}
-use Rattle.written_modules.proofs.ModuleTokens.{IsNamedPort, IsNamed, IsNamedNet, AreNamed, listed, declaration_tokens, instance_tokens, header_spelled, declarations_spelled, instance_spelled}
+use Rattle.written_modules.proofs.ModuleTokens.{IsNamedPort, IsNamed, IsNamedNet, AreNamed, listed, declaration_tokens}
+use Rattle.written_modules.proofs.ModuleTokens.{instance_tokens, header_spelled, declarations_spelled, instance_spelled}
 use Rattle.written_modules.proofs.TimingTokens.{block_by, block_tokens, block_spelled}
 use Rattle.written_modules.proofs.DeclarationReading.{AreDeclared, Other, EndsDeclarations, declarations_read}
 use Rattle.written_modules.proofs.NetReading.{named_net, driven_known, DrivesNet}
-use Rattle.written_modules.proofs.InstanceReading.{IsWritten, drives_by, drives_net, feeding_known, primitive_name, instances_read}
+use Rattle.written_modules.proofs.InstanceReading.{IsWritten, drives_by, drives_net, feeding_known, primitive_name}
+use Rattle.written_modules.proofs.InstanceReading.{instances_read}
 use Rattle.written_modules.proofs.PathReading.{path_named}
 use Rattle.written_modules.proofs.CheckReading.{HasNumber, check_named}
 use Rattle.written_modules.proofs.BlockReading.{AreTimed, specify_read}

@@ -1,5 +1,6 @@
 -- The tokens of a written module's header, declarations and instances.
-use Rattle.std.proofs.Common.{ℕ, Bool, true, false, not, if◌then◌else◌, List, [], ◌∷◌, ◌++◌, Option, Some, None, refl, codes, flat_map}
+use Rattle.std.proofs.Common.{ℕ, Bool, true, false, not, if◌then◌else◌, List, [], ◌∷◌, ◌++◌, Option, Some, None, refl, codes}
+use Rattle.std.proofs.Common.{flat_map}
 use Rattle.std.specs.List.{AllByRecursion}
 use Rattle.udp_tables.specs.declared.models.VPort.{VPort}
 use Rattle.specify_blocks.specs.declared.model.VNet.{VNet}
@@ -8,7 +9,9 @@ use Rattle.specify_blocks.specs.declared.model.Instance.TheVariants as instance
 use Rattle.specify_blocks.specs.declared.model.VModule.{VModule}
 use Rattle.specify_blocks.specs.WellFormed.{IsName}
 use Rattle.verilog_writer.specs.Nets.{primitive_at, net_at}
-use Rattle.verilog_writer.specs.Model.{module_opening_text, next_port_text, ports_text, module_header_text, input_port_text, output_port_text, wire_text, register_text, declarations_text, terminal_text, driver_text, call_text, constant_text, instance_text}
+use Rattle.verilog_writer.specs.Model.{module_opening_text, next_port_text, ports_text, module_header_text, input_port_text}
+use Rattle.verilog_writer.specs.Model.{output_port_text, wire_text, register_text, declarations_text, terminal_text, driver_text}
+use Rattle.verilog_writer.specs.Model.{call_text, constant_text, instance_text}
 use Rattle.grammar_phrases.proofs.Spelling.{literal, joins, behind, nothing, each_spelled}
 use Rattle.written_modules.proofs.Spelling.{Spells, Ends}
 use Rattle.grammar_phrases.proofs.Fronts.{Front, Anything, each, each_begins}

@@ -1,5 +1,7 @@
 -- The nets of a written module: their names, and the nets that these names stand for.
-use Rattle.std.proofs.Common.{◌≡◌, ℕ, zero, suc, ◌+◌, Bool, true, false, not, ◌&&◌, ◌||◌, nat_lt, cond, IsTrue, List, [], ◌∷◌, ◌++◌, length, map, Option, Some, None, is_some, slice_get, refl, sym, ap, ◌∙◌, arith, subst, append_assoc}
+use Rattle.std.proofs.Common.{◌≡◌, ℕ, zero, suc, ◌+◌, Bool, true, false, not, ◌&&◌, ◌||◌, nat_lt, cond, IsTrue, List, [], ◌∷◌}
+use Rattle.std.proofs.Common.{◌++◌, length, map, Option, Some, None, is_some, slice_get, refl, sym, ap, ◌∙◌, arith, subst}
+use Rattle.std.proofs.Common.{append_assoc}
 use Rattle.std.specs.List.{AllByRecursion, list_any, position, position_from}
 use Rattle.std.specs.Option.{option_map_or}
 use Rattle.std.specs.Str.{bytes_eq}
@@ -14,7 +16,8 @@ use Rattle.specify_blocks.specs.declared.model.VNet.{VNet}
 use Rattle.specify_blocks.specs.declared.model.VNet.TheVariants as net
 use Rattle.specify_blocks.specs.declared.model.Instance.{Instance}
 use Rattle.specify_blocks.specs.declared.model.VModule.{VModule}
-use Rattle.specify_blocks.specs.Nets.{same_net, is_output_port, is_driven, holds_state, net_driven, has_state, is_value, feeds_state, feeds_value}
+use Rattle.specify_blocks.specs.Nets.{same_net, is_output_port, is_driven, holds_state, net_driven, has_state, is_value}
+use Rattle.specify_blocks.specs.Nets.{feeds_state, feeds_value}
 use Rattle.udp_tables.specs.Ports.{is_input_port}
 use Rattle.specify_blocks.specs.VerilogModules.{port_name, port_names, net_by, net_of}
 use Rattle.specify_blocks.specs.WellFormed.{IsName, AreApart, register_names}

@@ -1,5 +1,6 @@
 -- The paths of a written module are read from their tokens.
-use Rattle.std.proofs.Common.{◌≡◌, ℕ, Bool, true, IsTrue, List, [], ◌∷◌, ◌++◌, Some, slice_get, refl, sym, ap, ◌∙◌, subst, decimal}
+use Rattle.std.proofs.Common.{◌≡◌, ℕ, Bool, true, IsTrue, List, [], ◌∷◌, ◌++◌, Some, slice_get, refl, sym, ap, ◌∙◌, subst}
+use Rattle.std.proofs.Common.{decimal}
 use Rattle.std.specs.List.{AllByRecursion, position}
 use Rattle.std.specs.Str.{bytes_eq}
 use Rattle.grammar_rules.specs.Rule.{Fits}
@@ -14,7 +15,8 @@ use Rattle.udp_tables.specs.Ports.{is_input_port}
 use Rattle.specify_blocks.specs.Sound.{is_gate, IsPath}
 use Rattle.specify_blocks.specs.WellFormed.{IsNumber, HasNumbers, register_names}
 use Rattle.specify_blocks.specs.VerilogModules.{port_name}
-use Rattle.specify_blocks.specs.VerilogBlocks.{a_number, kept, port_of, an_input, an_output, a_condition, is_path_start, if_gate, ifnone_gate, path_gate, path, next_path}
+use Rattle.specify_blocks.specs.VerilogBlocks.{a_number, kept, port_of, an_input, an_output, a_condition, is_path_start, if_gate}
+use Rattle.specify_blocks.specs.VerilogBlocks.{ifnone_gate, path_gate, path, next_path}
 use Rattle.rule_readers.specs.declared.refusal.Refusal.TheVariants.{Syntax}
 use Rattle.rule_readers.specs.Words.{begins_by, allowed_by}
 use Rattle.verilog_writer.specs.Nets.{port_at, wire_at}
@@ -23,7 +25,8 @@ use Rattle.grammar_phrases.proofs.Bytes.{number_is}
 use Rattle.grammar_phrases.proofs.Derivations.{Reads, gives, token, in_turn, Turn, turn}
 use Rattle.written_modules.proofs.NameReading.{expected, known_as}
 use Rattle.grammar_phrases.proofs.Places.{at_place}
-use Rattle.written_modules.proofs.NetReading.{position_is, IsKnown, named_net, wire_position, input_known, output_known, value_known}
+use Rattle.written_modules.proofs.NetReading.{position_is, IsKnown, named_net, wire_position, input_known, output_known}
+use Rattle.written_modules.proofs.NetReading.{value_known}
 use Rattle.written_modules.proofs.InstanceReading.{so_far, IsWritten, all_drive}
 
 -- the module whose instances are read

@@ -1,5 +1,7 @@
 -- The header and the ports of a written module are read from their tokens.
-use Rattle.std.proofs.Common.{◌≡◌, ℕ, zero, suc, ◌+◌, ◌≤◌, Bool, true, false, not, ◌||◌, cond, List, [], ◌∷◌, ◌++◌, length, map, drop, Option, Some, None, is_some, slice_get, slice_set, refl, sym, ap, ◌∙◌, arith, subst, codes, append_assoc}
+use Rattle.std.proofs.Common.{◌≡◌, ℕ, zero, suc, ◌+◌, ◌≤◌, Bool, true, false, not, ◌||◌, cond, List, [], ◌∷◌, ◌++◌, length, map}
+use Rattle.std.proofs.Common.{drop, Option, Some, None, is_some, slice_get, slice_set, refl, sym, ap, ◌∙◌, arith, subst, codes}
+use Rattle.std.proofs.Common.{append_assoc}
 use Rattle.std.specs.List.{AllByRecursion, list_any, position_from}
 use Rattle.std.specs.Option.{option_map}
 use Rattle.std.specs.Str.{bytes_eq}
@@ -9,11 +11,14 @@ use Rattle.grammar_rules.specs.Rule.{Verdict, Fits, Stops}
 use Rattle.grammar_rules.specs.Rule as r
 use Rattle.udp_tables.specs.declared.models.VPort.{VPort}
 use Rattle.udp_tables.specs.VerilogRules.{begins, is_among, place_from}
-use Rattle.specify_blocks.specs.VerilogModules.{port_name, port_names, plain_port, input_port, next_port, more_ports, some_ports, header, Inputs, with_input, input_at, declared_input, declared_inputs, output_place, name_at, place_behind, declared_output, declared_outputs}
+use Rattle.specify_blocks.specs.VerilogModules.{port_name, port_names, plain_port, input_port, next_port, more_ports, some_ports}
+use Rattle.specify_blocks.specs.VerilogModules.{header, Inputs, with_input, input_at, declared_input, declared_inputs}
+use Rattle.specify_blocks.specs.VerilogModules.{output_place, name_at, place_behind, declared_output, declared_outputs}
 use Rattle.specify_blocks.specs.WellFormed.{IsName, AreApart}
 use Rattle.grammar_phrases.proofs.Fronts.{each}
 use Rattle.written_modules.proofs.Words.{name_is}
-use Rattle.grammar_phrases.proofs.Derivations.{goes_on, Reads, from_same, gives, in_turn, chosen, passed, no_turn, Turn, turn, turns, through}
+use Rattle.grammar_phrases.proofs.Derivations.{goes_on, Reads, from_same, gives, in_turn, chosen, passed, no_turn, Turn, turn}
+use Rattle.grammar_phrases.proofs.Derivations.{turns, through}
 use Rattle.grammar_phrases.proofs.Places.{get_at, one_longer, at_place, same_bytes, found_behind}
 use Rattle.written_modules.proofs.ModuleTokens.{IsNamedPort, listed, input_tokens, output_tokens}
 use Rattle.written_modules.proofs.ModuleTokens as tokens

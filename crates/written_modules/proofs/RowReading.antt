@@ -1,5 +1,6 @@
 -- The rows of a written primitive are read from its tokens.
-use Rattle.std.proofs.Common.{◌≡◌, ℕ, ◌≤◌, Bool, true, false, not, ◌&&◌, ◌||◌, ◌==◌, cond, List, [], ◌∷◌, ◌++◌, length, inl, inr, None, refl, sym, arith, subst, codes}
+use Rattle.std.proofs.Common.{◌≡◌, ℕ, ◌≤◌, Bool, true, false, not, ◌&&◌, ◌||◌, ◌==◌, cond, List, [], ◌∷◌, ◌++◌, length, inl, inr}
+use Rattle.std.proofs.Common.{None, refl, sym, arith, subst, codes}
 use Rattle.std.specs.Prelude.{count_by}
 use Rattle.std.specs.List.{list_all}
 use Rattle.std.proofs.lemmas.Bool.{and_parts, cases_Bool}
@@ -15,7 +16,9 @@ use Rattle.udp_tables.specs.declared.table.UdpRow.{UdpRow}
 use Rattle.udp_tables.specs.Primitive.{is_level}
 use Rattle.rule_readers.specs.Words.{valued}
 use Rattle.rule_readers.specs.declared.refusal.Refusal.TheVariants.{Width}
-use Rattle.udp_tables.specs.VerilogPrimitives.{symbol, next_by, a_level, begins_change, begins_entry, pair, entry_after, has_change, begins_next_entry, next_entry, more_entries, state_and_next, output_level, row_end, row}
+use Rattle.udp_tables.specs.VerilogPrimitives.{symbol, next_by, a_level, begins_change, begins_entry, pair, entry_after}
+use Rattle.udp_tables.specs.VerilogPrimitives.{has_change, begins_next_entry, next_entry, more_entries, state_and_next}
+use Rattle.udp_tables.specs.VerilogPrimitives.{output_level, row_end, row}
 use Rattle.verilog_writer.specs.Symbols.{level_text, next_text}
 use Rattle.grammar_phrases.proofs.Fronts.{each}
 use Rattle.written_modules.proofs.PrimitiveTokens.{entry_start, entry_more, entry_tokens, outcome_tokens, row_tokens}

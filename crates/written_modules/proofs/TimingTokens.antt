@@ -13,7 +13,9 @@ use Rattle.udp_tables.specs.declared.timing_checks.TimingCheck.{TimingCheck}
 use Rattle.specify_blocks.specs.declared.model.VModule.{VModule}
 use Rattle.specify_blocks.specs.WellFormed.{IsName, IsNumber}
 use Rattle.verilog_writer.specs.Nets.{port_at, wire_at, notifier_in}
-use Rattle.verilog_writer.specs.Timing.{gate_text, path_line, delays_text, path_text, edge_text, joint_text, condition_text, ordered_text, turned_text, width_text, period_line, period_text, kind_text, check_text, has_block, lines_text, block_text}
+use Rattle.verilog_writer.specs.Timing.{gate_text, path_line, delays_text, path_text, edge_text, joint_text, condition_text}
+use Rattle.verilog_writer.specs.Timing.{ordered_text, turned_text, width_text, period_line, period_text, kind_text, check_text}
+use Rattle.verilog_writer.specs.Timing.{has_block, lines_text, block_text}
 use Rattle.grammar_phrases.proofs.Spelling.{literal, joins, behind, nothing, each_spelled}
 use Rattle.written_modules.proofs.Spelling.{Spells, Ends}
 use Rattle.grammar_phrases.proofs.Fronts.{Front, Anything, each}

@@ -1,5 +1,6 @@
 -- Names and numbers are tokens where a blank or a mark follows.
-use Rattle.std.proofs.Common.{◌≡◌, ℕ, suc, ◌<◌, ◌≤◌, Bool, true, false, not, ◌&&◌, ◌||◌, ◌==◌, nat_eq, nat_le, if◌then◌else◌, List, [], ◌∷◌, ◌++◌, length, inl, inr, refl, sym, ap, arith, subst, codes, decimal}
+use Rattle.std.proofs.Common.{◌≡◌, ℕ, suc, ◌<◌, ◌≤◌, Bool, true, false, not, ◌&&◌, ◌||◌, ◌==◌, nat_eq, nat_le, if◌then◌else◌}
+use Rattle.std.proofs.Common.{List, [], ◌∷◌, ◌++◌, length, inl, inr, refl, sym, ap, arith, subst, codes, decimal}
 use Rattle.std.proofs.lemmas.Bool.{and_parts, and_from, cases_Bool}
 use Rattle.std.proofs.lemmas.Bool.Decides.{nat_tests}
 use Rattle.std.proofs.lemmas.Slice.Eq.{bytes_eq-Decides}
@@ -9,7 +10,8 @@ use Rattle.std.specs.Str.{bytes_eq}
 use Rattle.std.specs.List.{list_all, list_any, prefix_len}
 use Rattle.verilog_tokens.specs.Kept.{is_identifier, is_name_byte}
 use Rattle.verilog_tokens.specs.Words.{is_verilog_word, verilog_words}
-use Rattle.verilog_tokens.specs.Tokens.{is_blank, is_mark, is_one_of, begins_with, begins_word, word_length, number_length, sign_length, is_open_after, is_name, separator_length, token_length}
+use Rattle.verilog_tokens.specs.Tokens.{is_blank, is_mark, is_one_of, begins_with, begins_word, word_length, number_length}
+use Rattle.verilog_tokens.specs.Tokens.{sign_length, is_open_after, is_name, separator_length, token_length}
 use Rattle.specify_blocks.specs.WellFormed.{IsName, IsNumber}
 use Rattle.grammar_phrases.proofs.Bytes.{unlike, none_of, run_ends, AreFew, short, below_word, few}
 use Rattle.grammar_phrases.proofs.Spelling.{one_token}

@@ -1,4 +1,0 @@
-mod CellPins
-mod VerilogDrivers
-pub mod VitalDrivers
-pub mod ReadCells

@@ -1,4 +1,0 @@
-pub mod DriverOutlines
-pub mod KeptApart
-pub mod ReadBack
-pub mod ApartDrivers

@@ -1,0 +1,58 @@
+-- The text of a well formed driver is a section that is read as this driver.
+use Rattle.std.proofs.Common.{◌≡◌, ℕ, false, List, [], ◌∷◌, ◌++◌, refl, sym, ap, ◌∙◌, codes, append_assoc}
+use Rattle.written_modules.specs.token_spans.Tokens.{scan}
+use Rattle.written_modules.specs.token_spans.Separators.{spelled}
+use Rattle.written_modules.specs.verilog_tokens.Tokens.{lexis}
+use Rattle.written_modules.specs.rule_readers.Texts.{IsText}
+use Rattle.driven_files.specs.driver_models.declared.model.DriverModel.{DriverModel}
+use Rattle.driven_files.specs.driver_models.Cores.{Core}
+use Rattle.driven_files.specs.verilog_drivers.DriverText.{driver_before, driver_section, driver_text}
+use Rattle.driven_files.specs.verilog_drivers.DriverSections.{section_language, section_text}
+use Rattle.driven_files.specs.verilog_drivers.WellFormed.{IsWellFormedDriver}
+use Rattle.driven_files.proofs.verilog_drivers.SoundDrivers.{section_answer}
+use Rattle.written_modules.proofs.grammar_phrases.Fronts.{Front, Anything, in_front}
+use Rattle.written_modules.proofs.grammar_phrases.Passages.{Barred}
+use Rattle.written_modules.proofs.grammar_phrases.Spelling.{SpellsBy, literal, behind, barred_less, found_is}
+use Rattle.written_modules.proofs.grammar_phrases.TextsReadBack.{is_text, reads_back}
+use Rattle.written_driven_models.specs.WrittenDrivers.{IsSectionOf, WrittenDriversReadBack}
+use Rattle.written_driven_models.specs.VerilogDrivers.{verilog_drivers}
+use Rattle.written_driven_models.proofs.VerilogTokens.{IsNamedDriver, inner_text, inner_tokens, inner_spelled, before_is}
+use Rattle.written_driven_models.proofs.VerilogPorts.{driver_named}
+use Rattle.written_driven_models.proofs.VerilogReading.{section_read}
+
+-- no token is barred
+abbrev Nothing : Barred
+Nothing t x r = false
+
+abbrev section_tokens : DriverModel → Front
+section_tokens m s = codes "`celldefine" ∷ inner_tokens m s
+
+first_line : SpellsBy lexis Nothing Anything false (codes "`celldefine\n") (λ s. codes "`celldefine" ∷ s) false
+first_line = literal (λ r. refl) refl
+
+front_spelled : (m : DriverModel) → IsNamedDriver m → SpellsBy lexis Nothing Anything false (codes "`celldefine\n" ++ inner_text m) (section_tokens m) false
+front_spelled m h = behind first_line (barred_less (λ t x s e. refl) (inner_spelled m h))
+
+-- the tokens of a driver with these bytes for its last line
+section_spelled : (m : DriverModel) (end : List ℕ) → IsNamedDriver m → spelled (scan lexis false 0 0 end) ≡ (codes "`endcelldefine" ∷ [], false) →
+    spelled (scan lexis false 0 0 (driver_before (codes "endmodule\n" ++ end) m)) ≡ (section_tokens m (codes "`endcelldefine" ∷ []), false)
+section_spelled m end h e =
+    ap (λ (s : List ℕ). spelled (scan lexis false 0 0 s)) (before_is m end ∙ sym (append_assoc (codes "`celldefine\n") (inner_text m) end))
+    ∙ found_is (front_spelled m h) end tt ∙ ap (in_front (section_tokens m)) e
+
+module _ (names : List (List ℕ)) (cores : List Core) (m : DriverModel) (h : IsWellFormedDriver names cores m) where
+  is_section : (end : List ℕ) → spelled (scan lexis false 0 0 end) ≡ (codes "`endcelldefine" ∷ [], false) → IsSectionOf verilog_drivers names cores (driver_before (codes "endmodule\n" ++ end) m) m
+  unfolding section_text
+  is_section end e =
+      let bytes : List ℕ = driver_before (codes "endmodule\n" ++ end) m in
+      reads_back (section_text names cores) (IsText (section_language names cores)) bytes m (section_answer names cores bytes).value
+      (is_text (section_language names cores) bytes m (section_tokens m (codes "`endcelldefine" ∷ []))
+      (section_spelled m end (driver_named names cores m h) e) (section_read names cores m h))
+
+-- what is well formed reads back
+pub read_back : WrittenDriversReadBack verilog_drivers
+unfolding driver_section driver_text
+read_back names cores m h = record {
+  section = is_section names cores m h (codes "`endcelldefine") refl;
+  text = is_section names cores m h (codes "`endcelldefine\n") refl;
+}

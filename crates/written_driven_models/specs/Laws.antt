@@ -1,0 +1,55 @@
+-- Written models and drivers keep apart, and read back, in any language of models. (That sections hold drivers is this project's
+-- rule.)
+use Rattle.std.specs.Prelude.{◌≡◌, ℕ, List, [], ◌∷◌, ◌++◌, map, Ok}
+use Rattle.std.specs.List.{AllByRecursion}
+use Rattle.driven_files.specs.token_spans.declared.span.Span.{Span}
+use Rattle.driven_files.specs.driver_models.declared.model.DriverModel.{DriverModel}
+use Rattle.driven_files.specs.driver_models.Cores.{Core}
+use Rattle.driven_files.specs.driver_sections.Sections as sections
+use Rattle.driven_files.specs.sectioned_texts.DrivenModels.{taken_names, rest_of, driven_models}
+use Rattle.written_modules.specs.grammar_phrases.ReadBack.{ReadsBack}
+use Rattle.written_driven_models.specs.Texts.{WrittenLanguage, WrittenModel, models_of, drivers_of, written_text, models_text}
+
+-- the sections of a text
+abbrev pub sections_of : {M : Type 0} → WrittenLanguage M → List ℕ → List Span
+sections_of w text = sections.sections w.language.vocabulary w.language.marks text
+
+-- the bytes of each section
+abbrev pub section_texts : {M : Type 0} → WrittenLanguage M → List ℕ → List (List ℕ)
+section_texts w text = map (sections.text_of text) (sections_of w text)
+
+-- The sections of a text are those of these drivers, and around them it is the text of these models, and of no others.
+pub record HoldsApart {M : Type 0} (w : WrittenLanguage M) (text : List ℕ) (ms : List M) (drivers : List DriverModel) : Type 0 where
+  pub sections : section_texts w text ≡ map w.driver_section drivers
+  pub models : ReadsBack w.language.text w.IsText (rest_of w.language text) ms
+
+-- Which models of a language are well formed together, which drivers a section can declare, and which where some names are taken and
+-- some models may be their cores.
+pub record WellFormedness (M : Type 0) : Type 1 where
+  pub AreWellFormed : List M → Type 0
+  pub CanBeDeclared : DriverModel → Type 0
+  pub IsWellFormedDriver : List (List ℕ) → List Core → DriverModel → Type 0
+
+module _ {M : Type 0} (w : WrittenLanguage M) (r : WellFormedness M) where
+  -- the text of well formed models and drivers keeps them apart
+  abbrev pub WrittenDriversKeepApart : Type 0
+  WrittenDriversKeepApart =
+      (xs : List (WrittenModel M)) → r.AreWellFormed (models_of xs) → AllByRecursion r.CanBeDeclared (drivers_of xs)
+      → HoldsApart w (written_text w xs) (models_of xs) (drivers_of xs)
+
+  -- the text of well formed models alone has no section
+  abbrev pub WrittenModelsHaveNoSections : Type 0
+  WrittenModelsHaveNoSections = (ms : List M) → r.AreWellFormed ms → sections_of w (models_text w ms) ≡ []
+
+  -- Each of these drivers can be declared by a section of a text with these models, behind the drivers before it.
+  abbrev pub AreWellFormedDrivers : List M → List DriverModel → List DriverModel → Type 0
+  AreWellFormedDrivers ms done [] = Unit {0}
+  AreWellFormedDrivers ms done (driver ∷ drivers) =
+      r.IsWellFormedDriver (taken_names w.language ms done) (map w.language.core ms) driver
+      × AreWellFormedDrivers ms (done ++ driver ∷ []) drivers
+
+  -- well formed models and drivers read back from what is written of them
+  abbrev pub WrittenModelsReadBack : Type 0
+  WrittenModelsReadBack =
+      (xs : List (WrittenModel M)) → r.AreWellFormed (models_of xs) → AreWellFormedDrivers (models_of xs) [] (drivers_of xs)
+      → driven_models w.language (written_text w xs) ≡ Ok (record { models = models_of xs; drivers = drivers_of xs })

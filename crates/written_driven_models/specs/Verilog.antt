@@ -1,0 +1,31 @@
+-- Verilog as it is written. (IEEE 1364-2005, A.1, source text, and 19.1, `celldefine; that a driver stands behind the module that is
+-- its core is this project's layout.)
+use Rattle.std.specs.Prelude.{ℕ, List}
+use Rattle.driven_files.specs.specify_blocks.declared.model.VModule.{VModule}
+use Rattle.driven_files.specs.specify_blocks.VerilogText.{IsVerilogText}
+use Rattle.driven_files.specs.specify_blocks.WellFormed.{AreWellFormed}
+use Rattle.written_modules.specs.verilog_writer.Model.{prelude_text, module_text}
+use Rattle.driven_files.specs.driver_models.declared.model.DriverModel.{DriverModel}
+use Rattle.driven_files.specs.driver_models.Cores.{Core}
+use Rattle.driven_files.specs.verilog_drivers.DriverText.{driver_section, driver_text}
+use Rattle.driven_files.specs.verilog_drivers.WellFormed.{IsWellFormedDriver}
+use Rattle.driven_files.specs.Verilog.{verilog_sections}
+use Rattle.written_driven_models.specs.Texts.{WrittenLanguage}
+use Rattle.written_driven_models.specs.Laws.{WellFormedness}
+
+-- a driver that a section can declare, where some names are taken and some models may be its core
+abbrev pub CanBeDeclared : DriverModel → Type 0
+CanBeDeclared driver = (names : List (List ℕ)) × ((cores : List Core) × IsWellFormedDriver names cores driver)
+
+abbrev pub written_verilog : WrittenLanguage VModule
+written_verilog = record {
+  language = verilog_sections;
+  front = prelude_text;
+  model_text = module_text;
+  driver_section = driver_section;
+  driver_text = driver_text;
+  IsText = IsVerilogText;
+}
+
+abbrev pub well_formed_verilog : WellFormedness VModule
+well_formed_verilog = record { AreWellFormed = AreWellFormed; CanBeDeclared = CanBeDeclared; IsWellFormedDriver = IsWellFormedDriver }

@@ -1,0 +1,26 @@
+-- VHDL as it is written. (IEEE 1076-1993, 11.1, design files, and 10.4, use clauses; that a driver stands behind the entity that is
+-- its core is this project's layout.)
+use Rattle.std.specs.Prelude.{[]}
+use Rattle.driven_files.specs.vital_models.declared.model.VEntity.{VEntity}
+use Rattle.driven_files.specs.vhdl_text.VhdlText.{IsVhdlText}
+use Rattle.driven_files.specs.vhdl_text.WellFormed.{AreWellFormed}
+use Rattle.written_entities.specs.vhdl_writer.Entity.{entity_text}
+use Rattle.driven_files.specs.vhdl_drivers.DriverSection.{driver_section}
+use Rattle.driven_files.specs.vhdl_drivers.DriverText.{driver_text}
+use Rattle.driven_files.specs.vhdl_drivers.WellFormed.{IsWrittenDriver, IsWellFormedDriver}
+use Rattle.driven_files.specs.Vital.{vital_sections}
+use Rattle.written_driven_models.specs.Texts.{WrittenLanguage}
+use Rattle.written_driven_models.specs.Laws.{WellFormedness}
+
+abbrev pub written_vital : WrittenLanguage VEntity
+written_vital = record {
+  language = vital_sections;
+  front = [];
+  model_text = entity_text;
+  driver_section = driver_section;
+  driver_text = driver_text;
+  IsText = IsVhdlText;
+}
+
+abbrev pub well_formed_vital : WellFormedness VEntity
+well_formed_vital = record { AreWellFormed = AreWellFormed; CanBeDeclared = IsWrittenDriver; IsWellFormedDriver = IsWellFormedDriver }

@@ -1,3 +1,0 @@
-pub mod DriverOutlines
-pub mod KeptApart
-pub mod ReadBack

@@ -1,3 +1,0 @@
-pub mod Texts
-pub mod Laws
-pub use Rattle.driven_files.specs.Verilog as Sections

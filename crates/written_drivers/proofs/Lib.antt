@@ -1,6 +1,0 @@
-pub mod Languages
-pub mod NumberedDrives
-pub mod DriverPorts
-pub mod WireReading
-pub mod TerminalReading
-pub mod PathEndReading

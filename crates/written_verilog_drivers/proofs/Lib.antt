@@ -1,4 +1,0 @@
-pub mod DriverTokens
-pub mod PortsAndPaths
-pub mod DriverReading
-pub mod SectionReading
